@@ -130,7 +130,7 @@ class Distances:
         for number, nearest in self.nearest.items():
             flow = self._flows[number - 1]
             jitter = f" and its jitter {flow.jitter} ms" if flow.jitter else ""
-            text = f"{milliseconds(nearest.distance)} ms behind the one before, its period is {flow.period} ms{jitter}"
+            text = f"{milliseconds(nearest.distance)} ms after the one before, its period is {flow.period} ms{jitter}"
             yield nearest.line, f"{self.name(number)}: {text}", nearest.count
         for number, longest in self.longest.items():
             limits = self._limits[number]

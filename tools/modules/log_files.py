@@ -1,4 +1,4 @@
-"""A log as the tools read it: one file, or several of one drive behind one another, from a disk or from a pipe; of all its interfaces, or
+"""A log as the tools read it: one file, or several of one drive after one another, from a disk or from a pipe; of all its interfaces, or
 of one."""
 
 import argparse

@@ -129,10 +129,10 @@ class Asked:
         for (number, word), (line, count) in self._refused.items():
             yield line, f"{self._named(number)}: {DONE[word]}", count
         for number, late in self._late.items():
-            text = f"answered {milliseconds(late.behind)} ms behind it, later than {milliseconds(PROMPT)} ms"
+            text = f"answered {milliseconds(late.behind)} ms after it, later than {milliseconds(PROMPT)} ms"
             yield late.line, f"{self._named(number)}: {text}", late.count
         for number, near in self._near.items():
-            text = f"{milliseconds(near.behind)} ms behind the one before, its period is {self._requests[number].period} ms"
+            text = f"{milliseconds(near.behind)} ms after the one before, its period is {self._requests[number].period} ms"
             yield near.line, f"{self._named(number)}: {text}", near.count
 
     def _named(self, number: int) -> str:

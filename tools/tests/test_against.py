@@ -363,7 +363,7 @@ class Against(InFolder):
         """The least distance of the messages of a flow, with its line; exactly the period is no deviation."""
         times = ["5.000000", "5.010000", "5.019999", "5.029000", "5.028000", "5.038", "6"]
         log = [(time, "18FEEE00#7DFFFFFFFFFFFFFF") for time in times]
-        said = "flow 1, ET1 from ENGINE to all: {} ms behind the one before, its period is {} ms"
+        said = "flow 1, ET1 from ENGINE to all: {} ms after the one before, its period is {} ms"
         self.assertEqual(self.periods(log), ["L:4: " + said.format("9.001", 10) + "  (2 times)"])
         self.assertEqual(self.periods(log, "--jitter", "0.999"), [])
         self.assertEqual(self.periods(log, "--jitter", "0.998999"), ["L:4: " + said.format("9.001", 10)])
@@ -377,7 +377,7 @@ class Against(InFolder):
         self.assertEqual(self.periods(late + soon), [])
         broken = [("1.012", VI[0]), ("1.013", VI[1])]
         self.assertEqual(self.periods(late + broken + [(f"1.02{number}", frame) for number, frame in enumerate(VI)]), [])
-        said = "flow 3, VI from ENGINE to all: 10 ms behind the one before, its period is 11 ms"
+        said = "flow 3, VI from ENGINE to all: 10 ms after the one before, its period is 11 ms"
         self.assertEqual(self.periods(late + soon, period=11), [f"L:5: {said}"])
 
     def test_periods_without_times(self):
@@ -480,7 +480,7 @@ class Against(InFolder):
         plan, log = example("service_requests.toml"), example("service_requests.start.log")
         silent, late, refused = (
             f"{log}:17: request 1, VI from TOOL to ENGINE: no answer within 1250 ms",
-            f"{log}:13: request 2, HOURS from TOOL to ENGINE: answered 350 ms behind it, later than 200 ms",
+            f"{log}:13: request 2, HOURS from TOOL to ENGINE: answered 350 ms after it, later than 200 ms",
             f"{log}:15: request 3, ERC1 from TOOL to RETARDER: is refused")
         self.assertEqual(run("against.py", plan, log), (1, "".join(f"{line}\n" for line in (late, refused, silent, "deviations 3")), ""))
         lines = text_of(log).splitlines()
@@ -495,7 +495,7 @@ class Against(InFolder):
         self.assertIn("request 3, ERC1 from TOOL to RETARDER: is told that it can't be answered now", run("against.py", plan, busy)[1])
 
     def test_who_is_guessed_in_a_contest_is_not_heard(self):
-        """What comes behind a claim of an address is told as of the smaller NAME, which need not be on: nothing was heard of it yet."""
+        """What comes after a claim of an address is told as of the smaller NAME, which need not be on: nothing was heard of it yet."""
         plan = self.write("plan.toml", RIVALS % "PUMP")
 
         def found(*lines):

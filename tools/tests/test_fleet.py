@@ -17,7 +17,7 @@ from tests.support import TOOLS, InFolder, example, run, text_of
 
 PLAN, LOG = example("two_units_one_address.toml"), example("two_units_one_address.drive.log")
 
-# A claim by a NAME that no unit of the plan has, behind the drive. The drive has a deviation of its own: RIGHT sends 240 ms behind its claim.
+# A claim by a NAME that no unit of the plan has, behind the drive. The drive has a deviation of its own: RIGHT sends 240 ms after its claim.
 FOREIGN = "(17.7) can0 18EEFF05#0100000000000080\n"
 
 # So long is waited for what is to come, in seconds: machines may be busy.

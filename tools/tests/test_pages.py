@@ -162,6 +162,15 @@ class Names(InFolder):
         self.assertGreaterEqual(len(homes), 1200)
         self.assertEqual({name: files for name, files in sorted(homes.items()) if len(files) > 1}, {})
 
+    def test_a_module_of_definitions_has_one_home(self):
+        """No two crates have a module of specs/, specs/inside/ included, of one name."""
+        homes = {}
+        for file in glob.glob("crates/*/specs/**/*.antt", root_dir=TOP, recursive=True):
+            homes.setdefault(os.path.basename(file), []).append(file)
+        self.assertGreaterEqual(len(homes), 150)
+        shared = {name: sorted(files) for name, files in homes.items() if len(files) > 1}
+        self.assertEqual({name: files for name, files in shared.items() if name not in ("Lib.antt", "inside.antt")}, {})
+
     def test_each_form_of_a_definition_is_seen(self):
         for crate, module, text in (
             ("lower", "One", "abbrev pub shared : ℕ\nshared = 1\n\nunfoldable pub own : ℕ\nown = shared\n"),
@@ -226,7 +235,7 @@ def proved_sections():
 
 def promises(source):
     """What clauses of a source promise: the names of its clauses, and the facts of the records of commands that it cites."""
-    commands = text_of(os.path.join(TOP, "crates", "j39_stream", "specs", "Commands.antt"))
+    commands = text_of(os.path.join(TOP, "crates", "j39_stream", "specs", "CommandEnds.antt"))
     records = re.findall(r"\npub record (\w+) (.*?)(?=\n\n|$)", commands, re.DOTALL)
     facts = [re.findall(r"^  pub (\w+) :", body, re.MULTILINE) for name, body in records if re.search(rf"ensures .*\b{name}\b", source)]
     return set(re.findall(r"ensures (\w+)\b", source)).union(*facts)

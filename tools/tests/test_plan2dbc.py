@@ -50,7 +50,7 @@ def said(plan):
 
 
 def random_signals(chance, length):
-    """Signals behind one another in a group."""
+    """Signals after one another in a group."""
     signals, at = [], 0
     while True:
         kind = chance.choice(list(KINDS))

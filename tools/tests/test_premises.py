@@ -158,7 +158,7 @@ class Premises(InFolder):
     def test_jitter(self):
         """Messages may come nearer by it than the period."""
         plan = timed("broadcast_gap = 50").replace("period = 10\n", "period = 10\njitter = 2\n", 1)
-        said = "flow 1, ET1 from ENGINE to all: 7.999 ms behind the one before, its period is 10 ms and its jitter 2 ms"
+        said = "flow 1, ET1 from ENGINE to all: 7.999 ms after the one before, its period is 10 ms and its jitter 2 ms"
         self.assertEqual(self.told(("1.0", ET1), ("1.008", ET1), plan=plan), [])
         self.assertEqual(self.told(("1.0", ET1), ("1.007999", ET1), plan=plan), [f"L:2: {said}"])
 

@@ -2,7 +2,7 @@
 ghost use Rattle.std.specs.Prelude.{◌<◌, ◌≤◌, length};
 
 use crate::attempt::{Given, NEVER, attempted};
-use j39_app::{Fault, Pieces, Stop, Verdict, frame_text, load};
+use j39_app::{Fault, Pieces, Stop, Verdict, frame_text, read_whole};
 use j39_vectors::{Command, RUN_OF_A_BROADCAST};
 use std::alloc::{AllocError, Global};
 
@@ -19,7 +19,7 @@ fn loaded(alloc: Global, length: usize, piece: usize) -> Result<Result<usize, Fa
     requires { 0 < piece }
 {
     let mut source = Pieces::new(alloc, vec![in alloc; b' '; length]?, 0, piece, Stop::Never)?;
-    Ok(load(alloc, &mut source).map(|input| input.len()))
+    Ok(read_whole(alloc, &mut source).map(|input| input.len()))
 }
 
 /// The last call tells the end, so one call less moves bytes.

@@ -14,7 +14,7 @@ ghost use Rattle.j39_stream.specs.Streams.{HasFailed, log_limits, plan_limits};
 
 use crate::{
     Fault, Folder, Order, Sink, Source, Verdict, addresses_text, check_text, follow_text,
-    frame_text, input_text, plan_text, put_all, read_text, run_planned, show_text, timing_text,
+    frame_text, input_text, load_text, plan_text, put_all, read_text, run_planned, show_text,
 };
 use j39_findings::Plan;
 use std::alloc::Global;
@@ -78,7 +78,7 @@ fn load_file<F: Folder, W: Sink>(
     ensures { EndsByFile (IsOfBytes IsLoadText) (λ known. IsOfSome (IsOfBytes IsLoadText known)) (Unit {0}) plan_limits
         (F.stays_shut files.now) (F.bytes_of files.now) F.File.state plan.now W.state sink.old sink.new result }
 {
-    timing_text(alloc, &mut files.open(plan)?, sink)
+    load_text(alloc, &mut files.open(plan)?, sink)
 }
 
 fn run_by<F: Folder, W: Sink>(

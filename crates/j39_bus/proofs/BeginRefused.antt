@@ -13,7 +13,7 @@ use Rattle.j39_findings.specs.declared.plan.Plan.{Plan}
 use Rattle.j39_bus.specs.inside.Network.{IsNetwork, IsOfPlan, world_in}
 use Rattle.j39_world.specs.Run.{begin_refusal, begin_refusals, is_nothing_undelivered}
 use Rattle.j39_world.proofs.Refusals.{none_hold}
-use Rattle.j39_bus.specs.inside.Traffic.{IsFlow}
+use Rattle.j39_bus.specs.inside.KeptMessages.{IsFlow}
 use Rattle.j39_world.specs.World.{World}
 use Rattle.j39_bus.proofs.Opened.{got}
 use Rattle.j39_bus.proofs.Outside.{each_list}

@@ -1,7 +1,7 @@
 -- What is sent first of a message.
 use Rattle.std.proofs.Common.{◌≡◌, Bool, true, false, ℕ, List, length, refl, if◌then◌else◌}
 use Rattle.j39_tp.specs.Sender.{announcement}
-use Rattle.j39_bus.specs.inside.Traffic.{item_frame}
+use Rattle.j39_bus.specs.inside.KeptMessages.{item_frame}
 use Rattle.j39_world.specs.Flows.{dest_of, is_short}
 use Rattle.j39_world.specs.declared.flow.Flow.{Flow}
 use Rattle.j39_world.specs.SentTransfers.{address_of, destination_of, packet_frame, short_frame}

@@ -5,7 +5,7 @@ use Rattle.std.specs.Option.{option_and_then}
 use Rattle.j39_tp.specs.declared.packet.Packet.{Packet}
 use Rattle.j39_tp.specs.declared.sending.stage.Stage.{Stage}
 use Rattle.j39_bus.specs.BusState.{session_at}
-use Rattle.j39_bus.specs.inside.Traffic.{AreSessions, IsSession, at_stage}
+use Rattle.j39_bus.specs.inside.KeptMessages.{AreSessions, IsSession, at_stage}
 use Rattle.j39_world.specs.Transfers.{Outgoing}
 use Rattle.j39_world.specs.TransferSteps.{session_after, outgoing_hears}
 use Rattle.j39_world.specs.World.{changed}

@@ -17,7 +17,7 @@ use Rattle.j39_world.specs.Transfers.{Outgoing}
 use Rattle.j39_bus.specs.BusState.{session_at}
 use Rattle.j39_bus.specs.Stations.{unstarted, station_at}
 use Rattle.j39_bus.specs.inside.Network.{IsWellFormed, planned_units}
-use Rattle.j39_bus.specs.inside.Traffic.{AreSessions}
+use Rattle.j39_bus.specs.inside.KeptMessages.{AreSessions}
 use Rattle.j39_bus.proofs.ChangedSessions.{none_some}
 use Rattle.j39_queues.specs.Queued.{IsTable}
 

@@ -10,7 +10,7 @@ use Rattle.j39_findings.specs.declared.plan.Plan.{Plan}
 use Rattle.j39_bus.specs.inside.Network.{IsNetwork, IsOfPlan, world_in}
 use Rattle.j39_world.specs.Run.{send_refusal, send_refusals}
 use Rattle.j39_world.proofs.Refusals.{none_hold}
-use Rattle.j39_bus.specs.inside.Traffic.{IsFlow}
+use Rattle.j39_bus.specs.inside.KeptMessages.{IsFlow}
 use Rattle.j39_world.specs.World.{World}
 use Rattle.j39_bus.proofs.Opened.{got}
 

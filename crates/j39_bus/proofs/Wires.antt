@@ -10,7 +10,7 @@ use Rattle.j39_world.specs.declared.wired.Wired.TheVariants as wired
 use Rattle.j39_queues.specs.Queued.{IsTable, Queued, changed_in, one_at, room_at}
 use Rattle.j39_world.specs.Sent.{Sent}
 use Rattle.j39_world.specs.SentTransfers.{address_of, packet_frame}
-use Rattle.j39_bus.specs.inside.Traffic.{AreUnits, HasRoomAlong, HasRoomTo, GoesToUnits, at_stage}
+use Rattle.j39_bus.specs.inside.KeptMessages.{AreUnits, HasRoomAlong, HasRoomTo, GoesToUnits, at_stage}
 use Rattle.j39_findings.specs.declared.plan.to.To.{To}
 use Rattle.j39_findings.specs.declared.plan.to.To.TheVariants.{All as ToAll, One as ToOne}
 use Rattle.j39_tp.specs.declared.sending.stage.Stage.{Stage}

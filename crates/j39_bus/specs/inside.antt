@@ -3,5 +3,5 @@ pub mod SendableGroups
 pub mod Claims
 pub mod Content
 pub mod Receivers
-pub mod Traffic
+pub mod KeptMessages
 pub mod Network

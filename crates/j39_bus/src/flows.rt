@@ -2,7 +2,7 @@
 ghost use Rattle.std.specs.Prelude.{◌≡◌, ◌<◌, ◌≤◌, length, All, IfOk};
 ghost use Rattle.j39_id.specs.Limits.{message_bytes};
 ghost use Rattle.j39_world.specs.Flows.{flow_of, flows_of};
-ghost use Rattle.j39_bus.specs.inside.Traffic.{IsFlow};
+ghost use Rattle.j39_bus.specs.inside.KeptMessages.{IsFlow};
 ghost use Rattle.j39_findings.specs.PlannedGroups.{IsSendable};
 
 use j39_findings::{FlowPlan, GroupPlan, Plan};

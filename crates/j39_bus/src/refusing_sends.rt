@@ -5,7 +5,7 @@ ghost use Rattle.j39_bus.specs.BusState.{Histories};
 ghost use Rattle.j39_bus.specs.inside.Network.{IsNetwork, IsRefusal, world_in};
 ghost use Rattle.j39_world.specs.Flows.{has_length, is_short};
 ghost use Rattle.j39_world.specs.Run.{send_refusal};
-ghost use Rattle.j39_bus.specs.inside.Traffic.{IsFlow};
+ghost use Rattle.j39_bus.specs.inside.KeptMessages.{IsFlow};
 
 use crate::network::Network;
 use crate::refusing::{can_be_sent, fits};

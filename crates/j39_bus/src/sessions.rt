@@ -3,7 +3,7 @@ ghost use Rattle.std.specs.Prelude.{◌≡◌, ◌<◌, is_some, length};
 ghost use Rattle.std.specs.List.{list_any};
 ghost use Rattle.std.specs.Option.{option_and_then};
 ghost use Rattle.j39_bus.specs.BusState.{session_at};
-ghost use Rattle.j39_bus.specs.inside.Traffic.{at_stage};
+ghost use Rattle.j39_bus.specs.inside.KeptMessages.{at_stage};
 ghost use Rattle.j39_tp.specs.Sender.{data_next, after_packet, timeout_packet, after_timeout};
 ghost use Rattle.j39_world.specs.Flows.{dest_of};
 ghost use Rattle.j39_world.specs.Run.{can_emit, is_of_group, is_waiting};

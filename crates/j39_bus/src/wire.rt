@@ -3,7 +3,7 @@ ghost use Rattle.std.specs.Prelude.{◌≡◌, ◌<◌, [], ◌∷◌, drop, not
 ghost use Rattle.std.specs.List.{list_all};
 ghost use Rattle.j39_queues.specs.Queued.{IsTable, pair_in};
 ghost use Rattle.j39_world.specs.Resting.{is_of_sender, is_of_receiver};
-ghost use Rattle.j39_bus.specs.inside.Traffic.{AreUnits, HasRoomTo};
+ghost use Rattle.j39_bus.specs.inside.KeptMessages.{AreUnits, HasRoomTo};
 ghost use Rattle.j39_world.specs.Transfers.{added};
 
 use j39_queues::Queues;

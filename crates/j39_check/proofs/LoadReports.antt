@@ -14,7 +14,7 @@ use Rattle.j39_load.specs.Ages.{old_needs}
 use Rattle.j39_load.specs.Delays.{TellDelays}
 use Rattle.j39_load.specs.LoadFindings.{AreLoadFindings, AsksOfBus, all_findings, load_findings, overload, lateness, without_period}
 use Rattle.j39_load.specs.Asked.{Asked, asked_of, total_load}
-use Rattle.j39_load.specs.Places.{told_from}
+use Rattle.j39_load.specs.LineLists.{lines_of_each}
 use Rattle.j39_load.specs.Standing.{TellsWhoStays}
 use Rattle.j39_check.specs.CheckText.{IsReport, findings_text}
 use Rattle.j39_check.specs.LoadText.{IsLoadReport, have_periods, load_verdict}
@@ -27,8 +27,8 @@ first_none [] ys none = refl
 first_none (x ∷ xs) ys none = cc
 
 -- where no flow without a period is found, each has one
-known : (place : ℕ) (delays : List (Option Delay)) → told_from without_period place delays ≡ [] → have_periods delays ≡ true
-unfolding told_from
+known : (place : ℕ) (delays : List (Option Delay)) → lines_of_each without_period place delays ≡ [] → have_periods delays ≡ true
+unfolding lines_of_each
 known place [] none = refl
 known place (None ∷ delays) none = cc
 known place (Some delay ∷ delays) none = known (place + 1) delays none
@@ -36,7 +36,7 @@ known place (Some delay ∷ delays) none = known (place + 1) delays none
 pub have_periods_where_none : (plan : Plan) (timing : Timing) (load : ℕ) (delays : List (Option Delay)) → all_findings plan timing load delays ≡ []
     → have_periods delays ≡ true
 have_periods_where_none plan timing load delays none =
-    known 0 delays (first_none _ (overload timing load ++ told_from lateness 0 delays)
+    known 0 delays (first_none _ (overload timing load ++ lines_of_each lateness 0 delays)
     (first_none (load_findings timing load delays) (old_needs timing plan.requests.items plan.flows.items delays plan.needs.items) none))
 
 module _ (plan : Plan) (timing : Timing) (is : plan.timing ≡ Some timing) (stays : UnitPlan → Bool) (asked : Asked)

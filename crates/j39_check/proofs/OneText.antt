@@ -9,7 +9,7 @@ use Rattle.j39_plan.specs.declared.reading.fault.Fault.{Fault}
 use Rattle.j39_plan.specs.declared.reading.plan_error.PlanError.{PlanError}
 use Rattle.j39_plan.specs.declared.reading.plan_error.PlanError.TheVariants as errors
 use Rattle.j39_plan.specs.Described.{Reads, tree_of}
-use Rattle.j39_plan.specs.Faults.{faults}
+use Rattle.j39_plan.specs.PlanFaults.{faults}
 use Rattle.j39_plan.specs.Outcome.{first}
 use Rattle.j39_findings.specs.declared.plan.timing.Timing.{Timing}
 use Rattle.j39_findings.specs.Found.{found}

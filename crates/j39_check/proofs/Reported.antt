@@ -2,7 +2,7 @@
 use Rattle.std.proofs.Common.{◌≡◌, List, ℕ, Option, Some, None, Result, Ok, Err, inl, inr, refl}
 use Rattle.j39_findings.specs.declared.plan.Plan.{Plan}
 use Rattle.j39_check.specs.PlanText.{IsPlanText, IsRefusedText, IsReportedText}
-use Rattle.j39_stream.specs.Commands.{AnswersWhole, IsOfAny, PutsText}
+use Rattle.j39_stream.specs.CommandEnds.{AnswersWhole, IsOfAny, PutsText}
 use Rattle.j39_stream.specs.Streams.{SinkState, SourceState}
 use Rattle.j39_stream.specs.declared.fault.Fault.{Fault}
 use Rattle.j39_stream.specs.declared.limits.Limits.{Limits}

@@ -18,7 +18,7 @@ use Rattle.j39_load.specs.Ages.{least_age}
 use Rattle.j39_load.specs.Asked.{Asked, total_load}
 use Rattle.j39_load.specs.LoadFindings.{load_finding_number}
 use Rattle.j39_load.specs.Loads.{bits_of_ms, bits_of_second}
-use Rattle.j39_load.specs.Places.{told_from}
+use Rattle.j39_load.specs.LineLists.{lines_of_each}
 use Rattle.j39_check.specs.FindingLines.{is_between}
 use Rattle.j39_text.specs.Labels.{group_label, signal_label, unit_label}
 use Rattle.j39_text.specs.Texts.{field, place_field}
@@ -40,7 +40,7 @@ load_finding_part from below finding = if is_between from below (load_finding_nu
 
 -- those of the findings whose numbers are between these
 abbrev pub load_finding_lines : ℕ → ℕ → List LoadFinding → List ℕ
-load_finding_lines from below = told_from (λ _. load_finding_part from below) 0
+load_finding_lines from below = lines_of_each (λ _. load_finding_part from below) 0
 
 -- ---- delays
 
@@ -126,6 +126,6 @@ need_line plan timing delays place need = option_map_or
 
 -- each flow with its delay, each need that asks for an age with it, and the load
 unfoldable pub loads_text : Plan → Timing → Asked → List (Option Delay) → List ℕ
-loads_text plan timing asked delays = told_from (flow_line plan timing.bitrate asked.flows delays) 0 plan.flows.items
-    ++ (told_from (need_line plan timing delays) 0 plan.needs.items
+loads_text plan timing asked delays = lines_of_each (flow_line plan timing.bitrate asked.flows delays) 0 plan.flows.items
+    ++ (lines_of_each (need_line plan timing delays) 0 plan.needs.items
     ++ (field (codes "load ") (total_load timing asked) ++ (field (codes " of ") (bits_of_second timing.bitrate) ++ 10 ∷ [])))

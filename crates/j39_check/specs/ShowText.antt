@@ -31,7 +31,7 @@ use Rattle.j39_findings.specs.declared.plan.to.To.TheVariants.{All, One}
 use Rattle.j39_findings.specs.declared.plan.unit_plan.UnitPlan.{UnitPlan}
 use Rattle.j39_findings.specs.declared.plan.way.Way.{Way}
 use Rattle.j39_findings.specs.declared.plan.way.Way.TheVariants.{Lowest, Upward}
-use Rattle.j39_load.specs.Places.{told_from}
+use Rattle.j39_load.specs.LineLists.{lines_of_each}
 use Rattle.j39_plan.specs.Words.{word_of}
 use Rattle.j39_plan.specs.declared.reading.key.Key.{Key}
 use Rattle.j39_plan.specs.declared.reading.key.Key.TheVariants as key
@@ -153,7 +153,7 @@ name_of_value_line table value = value_line table key.Values (decimal value.raw 
 unfoldable pub signal_meaning_lines : Table → Option Meaning → List ℕ
 signal_meaning_lines table None = []
 signal_meaning_lines table (Some meaning) =
-    optional_line decimal table key.Spn meaning.spn ++ told_from (λ _ value. name_of_value_line table value) 0 meaning.values.items
+    optional_line decimal table key.Spn meaning.spn ++ lines_of_each (λ _ value. name_of_value_line table value) 0 meaning.values.items
 
 -- where its bits are; bytes and bits are counted from 1
 unfoldable pub signal_place_lines : Table → SignalParts → List ℕ
@@ -195,7 +195,7 @@ group_form_lines table group =
 unfoldable pub group_lines : ℕ → GroupPlan → List ℕ
 group_lines g group =
     group_head_lines (at.Group g) group ++ (group_form_lines (at.Group g) group
-    ++ (told_from (signal_at_lines g group) 0 group.signals.items ++ told_from (planned_text_lines g) 0 group.texts.items))
+    ++ (lines_of_each (signal_at_lines g group) 0 group.signals.items ++ lines_of_each (planned_text_lines g) 0 group.texts.items))
 
 -- ---- flows, needs and requests
 
@@ -241,9 +241,9 @@ top_lines plan =
 
 unfoldable pub show_text : Plan → List ℕ
 show_text plan =
-    top_lines plan ++ (told_from unit_value_lines 0 plan.units.items ++ (told_from group_lines 0 plan.groups.items
-    ++ (told_from (flow_lines plan) 0 plan.flows.items ++ (told_from (need_lines plan) 0 plan.needs.items
-    ++ told_from (request_lines plan) 0 plan.requests.items))))
+    top_lines plan ++ (lines_of_each unit_value_lines 0 plan.units.items ++ (lines_of_each group_lines 0 plan.groups.items
+    ++ (lines_of_each (flow_lines plan) 0 plan.flows.items ++ (lines_of_each (need_lines plan) 0 plan.needs.items
+    ++ lines_of_each (request_lines plan) 0 plan.requests.items))))
 
 -- what is written for a plan, whatever is wrong with it
 abbrev pub IsShowReport : Plan → List ℕ → Verdict → Type 0

@@ -1,6 +1,6 @@
 //! What the check command writes.
 ghost use Rattle.j39_check.specs.CheckText.{IsCheckText};
-ghost use Rattle.j39_stream.specs.Commands.{AnswersWhole, IsOfAny};
+ghost use Rattle.j39_stream.specs.CommandEnds.{AnswersWhole, IsOfAny};
 ghost use Rattle.j39_stream.specs.Streams.{plan_limits};
 
 use crate::plan_report::report;

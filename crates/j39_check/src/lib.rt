@@ -6,6 +6,7 @@ mod certificate;
 mod check;
 mod finding_lines;
 mod laws;
+mod load;
 mod load_lines;
 mod load_report;
 mod plan_file;
@@ -15,7 +16,6 @@ mod show;
 mod show_lines;
 mod stays_lines;
 mod stays_report;
-mod timing;
 
 pub use addresses::addresses_text;
 pub use certificate::certify_with_load;
@@ -24,6 +24,6 @@ pub use laws::{
     addresses_have_one_text, check_has_one_text, load_has_one_text, written_runs_read_back,
     written_runs_show_the_conflict,
 };
+pub use load::load_text;
 pub use plan_file::plan_text;
 pub use show::show_text;
-pub use timing::timing_text;

@@ -4,7 +4,7 @@ ghost use Rattle.j39_check.specs.LoadLines.{age_text, bit_microseconds, delay_te
 ghost use Rattle.j39_check.specs.LoadLines.{load_finding_line, load_finding_lines, load_finding_part, load_finding_text, loads_text};
 ghost use Rattle.j39_check.specs.LoadLines.{microseconds_field, need_line, need_signal_text, need_text, receiver_text, time_text, whole_text, within_text};
 ghost use Rattle.j39_load.specs.Asked.{asked_by};
-ghost use Rattle.j39_load.specs.Places.{told_from};
+ghost use Rattle.j39_load.specs.LineLists.{lines_of_each};
 
 use crate::finding_lines::is_between;
 use j39_findings::{Bitrate, FlowPlan, NeedPlan, Plan, Timing, To};
@@ -52,7 +52,7 @@ fn write_load_finding_part(
 }
 
 /// Writes a line for each finding whose number is between these.
-#[tactic(auto, unfolding(j39_load::specs::Places::told_from))]
+#[tactic(auto, unfolding(j39_load::specs::LineLists::lines_of_each))]
 pub(super) fn write_load_findings(
     text: &mut TextBuffer,
     findings: &[LoadFinding],
@@ -236,7 +236,7 @@ fn write_flow_line(
     text.end_line()
 }
 
-#[tactic(auto, unfolding(j39_load::specs::Places::told_from))]
+#[tactic(auto, unfolding(j39_load::specs::LineLists::lines_of_each))]
 fn write_flows(
     text: &mut TextBuffer,
     plan: &Plan,
@@ -246,7 +246,7 @@ fn write_flows(
     requires loads { length loads.now.flows.items ≡ length plan.now.flows.items }
     requires delays { length delays.now ≡ length plan.now.flows.items }
     ensures { OnOk result (text.new ≡ text.old
-        ++ told_from (flow_line plan.now loads.now.timing.bitrate loads.now.flows.items delays.now) 0 plan.now.flows.items) }
+        ++ lines_of_each (flow_line plan.now loads.now.timing.bitrate loads.now.flows.items delays.now) 0 plan.now.flows.items) }
 {
     for (place, flow) in plan.flows.iter().enumerate() {
         write_flow_line(text, plan, loads, delays, place, flow)?;
@@ -318,7 +318,7 @@ fn write_need_line(
     text.end_line()
 }
 
-#[tactic(auto, unfolding(j39_load::specs::Places::told_from))]
+#[tactic(auto, unfolding(j39_load::specs::LineLists::lines_of_each))]
 fn write_needs(
     text: &mut TextBuffer,
     plan: &Plan,
@@ -326,7 +326,7 @@ fn write_needs(
     delays: &[Option<Delay>],
 ) -> Result<(), AllocError>
     requires { length delays.now ≡ length plan.now.flows.items }
-    ensures { OnOk result (text.new ≡ text.old ++ told_from (need_line plan.now timing delays.now) 0 plan.now.needs.items) }
+    ensures { OnOk result (text.new ≡ text.old ++ lines_of_each (need_line plan.now timing delays.now) 0 plan.now.needs.items) }
 {
     for (place, need) in plan.needs.iter().enumerate() {
         write_need_line(text, plan, timing, delays, place, need)?;

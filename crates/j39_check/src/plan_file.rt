@@ -1,14 +1,14 @@
 //! What is written of a plan file.
 ghost use Rattle.std.specs.Prelude.{◌≡◌, IfOk, OnSome};
 ghost use Rattle.j39_check.specs.PlanText.{IsPlanText, IsRefusedText, RefusesPlan};
-ghost use Rattle.j39_stream.specs.Commands.{AnswersWhole, PutsText};
+ghost use Rattle.j39_stream.specs.CommandEnds.{AnswersWhole, PutsText};
 ghost use Rattle.j39_stream.specs.Streams.{plan_limits};
 
 mod refusals;
 
 use j39_findings::Plan;
 use j39_plan::{PlanError, read_plan};
-use j39_stream::{Fault, Sink, Source, load, put_all};
+use j39_stream::{Fault, Sink, Source, put_all, read_whole};
 use refusals::refusal;
 pub(crate) use refusals::write_table;
 use std::alloc::Global;
@@ -31,7 +31,7 @@ pub fn plan_text<S: Source, W: Sink>(
     ensures answers { AnswersWhole IsPlanText IsRefusedText plan_limits (S.state source.old) (S.state source.new) W.state sink.old sink.new result }
     ensures silent { IfOk result (λ plan. OnSome plan (sink.new ≡ sink.old)) }
 {
-    let input = load(alloc, source)?;
+    let input = read_whole(alloc, source)?;
     match read_plan(alloc, input.as_slice()) {
         Ok(plan) => Ok(Some(plan)),
         Err(error) => refuse(alloc, &error, sink),

@@ -1,6 +1,6 @@
 //! What is written of a plan file, and of the plan that it describes.
 ghost use Rattle.j39_check.specs.PlanText.{IsReportedText};
-ghost use Rattle.j39_stream.specs.Commands.{AnswersWhole, IsOfAny, PutsText};
+ghost use Rattle.j39_stream.specs.CommandEnds.{AnswersWhole, IsOfAny, PutsText};
 ghost use Rattle.j39_stream.specs.Streams.{plan_limits};
 
 use crate::plan_file::plan_text;

@@ -1,6 +1,6 @@
 //! What the show command writes.
 ghost use Rattle.j39_check.specs.ShowText.{IsShowText};
-ghost use Rattle.j39_stream.specs.Commands.{AnswersWhole, IsOfAny};
+ghost use Rattle.j39_stream.specs.CommandEnds.{AnswersWhole, IsOfAny};
 ghost use Rattle.j39_stream.specs.Streams.{plan_limits};
 
 use crate::report_text::{Report, report_text};

@@ -55,7 +55,7 @@ HasBit g place behind bit =
 abbrev pub HasBitsOnce : GroupPlan → Type 0
 HasBitsOnce g = (i j k l bit : ℕ) → HasBit g i k bit → HasBit g j l bit → (i ≡ j) × (k ≡ l)
 
--- a text begins inside the shortest message or right behind it, and ends inside the longest
+-- a text begins inside the shortest message or right after it, and ends inside the longest
 pub record LiesInside (g : GroupPlan) (t : TextPlan) : Type 0 where
   pub begins : t.byte ≤ g.length + 1
   pub ends : last_byte t ≤ g.most

@@ -13,7 +13,7 @@ pub mod PlannedGroups
 pub mod PrivateGroups
 pub mod Records
 pub mod Refused
-pub mod Requests
+pub mod PlannedRequests
 pub mod SignalPlaces
 pub mod SoundSignals
 pub mod TextPlaces

@@ -11,7 +11,7 @@ use Rattle.j39_findings.specs.declared.plan.request_plan.RequestPlan.{RequestPla
 use Rattle.j39_findings.specs.declared.plan.unit_plan.UnitPlan.{UnitPlan}
 use Rattle.j39_follow.specs.FollowText.{AreUnitLines, IsUnitLine, flow_end, flow_ends, group_end, group_ends, is_of_flow, is_without_flow, others_of_number, rest_line, flow_sent_line}
 use Rattle.j39_follow.specs.FollowText.{met_by, need_end, need_ends, need_met_line, request_end, request_end_line, request_ends, times_met}
-use Rattle.j39_follow.specs.Requests.{times_answered, times_asked}
+use Rattle.j39_follow.specs.LoggedRequests.{times_answered, times_asked}
 use Rattle.j39_follow.specs.declared.event.Event.{Event}
 use Rattle.j39_follow.specs.declared.exchange.Exchange.{Exchange}
 use Rattle.j39_follow.specs.declared.message.Sort.{Sort}

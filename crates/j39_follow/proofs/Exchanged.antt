@@ -10,7 +10,7 @@ use Rattle.std.proofs.lemmas.Slice.Zip.{length-zip}
 use Rattle.j39_findings.specs.PlanLimits.{request_limit}
 use Rattle.j39_findings.specs.declared.plan.Plan.{Plan}
 use Rattle.j39_findings.specs.declared.plan.request_plan.RequestPlan.{RequestPlan}
-use Rattle.j39_follow.specs.Requests.{answers, asks_request as asks, concerns, refuses, times_answered, times_asked, times_refused}
+use Rattle.j39_follow.specs.LoggedRequests.{answers, asks_request as asks, concerns, refuses, times_answered, times_asked, times_refused}
 use Rattle.j39_follow.specs.declared.event.Event.{Event}
 use Rattle.j39_follow.specs.declared.exchange.Exchange.{Exchange}
 use Rattle.j39_follow.specs.inside.Exchanging.{IsAfter, IsExchange, IsHeardBelow, ends_asking, exchange_at, nothing_asked}
@@ -23,7 +23,7 @@ false_true e = cc
 abbrev pub one_if : Bool → ℕ
 one_if b = cond b 1 0
 
--- how often an event of this kind stands right behind a question
+-- how often an event of this kind stands right after a question
 abbrev behind_asking : ℕ → (Event → Bool) → List Event → ℕ
 behind_asking place q own = count_by (λ (t : Event × Event). asks place t.0 && q t.1) (zip own (drop 1 own))
 

@@ -25,7 +25,7 @@ pub is_no_group : (plan : Plan) (log : List Timed) (front : List ℕ) (m : Messa
 is_no_group plan log front m sort text sent (Some g) sending of grouped e = absurd (false_true (sym e ∙ ap is_grouped grouped.0))
 is_no_group plan log front m sort text sent None sending of grouped e = (sent, sending, of)
 
--- three texts behind one another
+-- three texts after one another
 pub three_texts : (old a b c first second third : List ℕ) → first ≡ old ++ a → second ≡ first ++ b → third ≡ second ++ c
     → third ≡ old ++ (a ++ (b ++ c))
 three_texts old a b c first second third x y z =

@@ -17,7 +17,7 @@ use Rattle.j39_follow.specs.Contests.{Timed}
 use Rattle.j39_follow.specs.Fits.{IsSentGroup, fitting_flow}
 use Rattle.j39_follow.specs.FollowReports.{AreTold, IsAnswerWay, IsAsked, IsGroupOfMessage, IsGrouped, IsMessageReport, IsNotice, IsSendingOf, IsWay, Message, aim_at, answer_way_text, in_frame, is_to_all, message_line, notice_text, told_events}
 use Rattle.j39_follow.specs.FollowText.{HeardSince, IsCarriedReport, IsFollowedAs, IsPacketReport, Parts}
-use Rattle.j39_follow.specs.Requests.{asked_request, told_address}
+use Rattle.j39_follow.specs.LoggedRequests.{asked_request, told_address}
 use Rattle.j39_follow.specs.Who.{unit_of, who_text}
 use Rattle.j39_follow.specs.declared.event.Event.{Event}
 use Rattle.j39_follow.specs.declared.message.Sort.{Sort}

@@ -20,7 +20,7 @@ use Rattle.j39_follow.specs.Holders.{HoldsByFrames, IsTold}
 use Rattle.j39_follow.specs.LogLines.{IsElsewhere, IsReadPart, IsTimeText, NamesInterface, interface_behind}
 use Rattle.j39_follow.specs.declared.event.Event.{Event}
 use Rattle.j39_follow.specs.declared.message.Sort.{Sort}
-use Rattle.j39_follow.specs.inside.Recalling.{behind_reports}
+use Rattle.j39_follow.specs.inside.FollowedSoFar.{behind_reports}
 use Rattle.j39_follow.proofs.FirstWords.{one_first_word}
 use Rattle.j39_follow.proofs.HolderLaws.{one_address}
 use Rattle.j39_follow.proofs.OneFrame.{one_heard_as, one_message_report, one_notice, one_packet_report, one_told}

@@ -6,7 +6,7 @@ use Rattle.j39_findings.specs.declared.plan.Plan.{Plan}
 use Rattle.j39_follow.specs.FollowText.{FollowedPast, one_line_more, with_bad_line}
 use Rattle.j39_follow.specs.LogLines.{IsInterface, NamesInterface}
 use Rattle.j39_follow.specs.declared.reading.Reading.{Reading}
-use Rattle.j39_follow.specs.inside.Recalling.{CountsWithin, RecallsPast}
+use Rattle.j39_follow.specs.inside.FollowedSoFar.{CountsWithin, RecallsPast}
 
 pub within_more : (reading : Reading) (m n : ℕ) → m ≤ n → CountsWithin reading m → CountsWithin reading n
 within_more reading m n more within =

@@ -10,7 +10,7 @@ use Rattle.j39_findings.specs.declared.plan.Plan.{Plan}
 use Rattle.j39_id.specs.FrameMeaning.{requested_group, requests_group}
 use Rattle.j39_follow.specs.Contests.{IsTaken, Timed}
 use Rattle.j39_follow.specs.FollowReports.{AreTold, IsAnswerWay, IsAsked, IsSendingOf, aim_at, answer_aim, answer_way_text, in_frame, is_to_all, notice_events, reply_of, told_events}
-use Rattle.j39_follow.specs.Requests.{acknowledged_group, acknowledges, asked_request, asker_address, is_refusal, counted_number as number_of, told_address}
+use Rattle.j39_follow.specs.LoggedRequests.{acknowledged_group, acknowledges, asked_request, asker_address, is_refusal, counted_number as number_of, told_address}
 use Rattle.j39_follow.specs.Who.{unit_of}
 use Rattle.j39_follow.specs.declared.event.Event.{Event}
 use Rattle.j39_follow.specs.declared.event.Event.TheVariants.{Asked, Brought, Refused}

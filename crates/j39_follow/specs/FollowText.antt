@@ -29,7 +29,7 @@ use Rattle.j39_stream.specs.declared.verdict.Verdict.{Verdict}
 use Rattle.j39_stream.specs.declared.verdict.Verdict.TheVariants.{Done, Findings, Refused, Unreadable}
 use Rattle.j39_follow.specs.Contests.{Timed}
 use Rattle.j39_follow.specs.FollowReports.{AreTold, IsGroupOfMessage, IsMessageReport, IsNotice, in_frame, stamp}
-use Rattle.j39_follow.specs.Requests.{times_answered, times_asked, times_refused}
+use Rattle.j39_follow.specs.LoggedRequests.{times_answered, times_asked, times_refused}
 use Rattle.j39_follow.specs.declared.event.Event.{Event}
 use Rattle.j39_follow.specs.declared.message.Sort.{Sort}
 use Rattle.j39_follow.specs.declared.message.Sort.TheVariants.{Grouped, Other}

@@ -6,6 +6,6 @@ pub mod FollowText
 pub mod GroupLines
 pub mod Holders
 pub mod LogLines
-pub mod Requests
+pub mod LoggedRequests
 pub mod Who
 pub mod inside

@@ -4,7 +4,7 @@ pub mod Exchanging
 pub mod FrameWriting
 pub mod Hearing
 pub mod Likeliest
-pub mod Recalling
+pub mod FollowedSoFar
 pub mod Recounting
 pub mod Reporting
 pub mod Splitting

@@ -3,7 +3,7 @@ ghost use Rattle.std.specs.Prelude.{◌≡◌, ◌++◌, ℕ, List, length, true
 ghost use Rattle.std.specs.Option.{option_copied};
 ghost use Rattle.j39_follow.specs.Contests.{Timed};
 ghost use Rattle.j39_follow.specs.FollowReports.{IsAnswerWay, answer_line, answer_text, answer_way_text};
-ghost use Rattle.j39_follow.specs.Requests.{acknowledged_group, acknowledges, asker_address, control_of, control_word, is_acknowledgement, is_refusal, told_address};
+ghost use Rattle.j39_follow.specs.LoggedRequests.{acknowledged_group, acknowledges, asker_address, control_of, control_word, is_acknowledgement, is_refusal, told_address};
 ghost use Rattle.j39_follow.specs.inside.Contesting.{ShowsAsker, ShowsParties};
 ghost use Rattle.j39_follow.specs.inside.Recounting.{HasNames, party_at};
 ghost use Rattle.j39_follow.specs.inside.Reporting.{front_of};
@@ -78,7 +78,7 @@ pub(crate) fn acknowledged_group(frame: &Frame) -> u32
 }
 
 // What an acknowledgement says, if it is known.
-#[tactic(auto, unfolding(crate::specs::Requests::control_word))]
+#[tactic(auto, unfolding(crate::specs::LoggedRequests::control_word))]
 fn control_word(control: u8) -> Option<&'static str>
     ensures { option_copied result ≡ control_word control }
 {

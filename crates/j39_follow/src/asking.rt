@@ -1,6 +1,6 @@
 //! What frames ask for, by the requests of the plan.
 ghost use Rattle.std.specs.Prelude.{◌≡◌, ◌<◌, ◌++◌, length, OnOk};
-ghost use Rattle.j39_follow.specs.Requests.{asked_number, asked_request, asked_text, is_aimed_so, is_asked_by, number_of_group};
+ghost use Rattle.j39_follow.specs.LoggedRequests.{asked_number, asked_request, asked_text, is_aimed_so, is_asked_by, number_of_group};
 
 use crate::sending::{Aim, Sending, is_sender};
 use j39_findings::{Plan, RequestPlan, To};
@@ -56,7 +56,7 @@ pub(crate) fn asked_request(plan: &Plan, number: u32, sent: Sending) -> Option<u
 }
 
 /// Writes which request of the plan a frame asks, if one fits.
-#[tactic(auto, unfolding(crate::specs::Requests::asked_text))]
+#[tactic(auto, unfolding(crate::specs::LoggedRequests::asked_text))]
 pub(crate) fn write_asked(text: &mut TextBuffer, asked: Option<usize>) -> Result<(), AllocError>
     ensures { OnOk result (text.new ≡ text.old ++ asked_text asked) }
 {

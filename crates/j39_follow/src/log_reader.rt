@@ -16,7 +16,7 @@ pub(crate) struct LogReader<'a> {
 impl<'a> LineReader for LogReader<'a> {
     ghost use Rattle.std.specs.Prelude.{◌≡◌, true};
     ghost use Rattle.j39_follow.specs.FollowText.{IsFollowedLog};
-    ghost use Rattle.j39_follow.specs.inside.Recalling.{CountsWithin, HasFollowedLines};
+    ghost use Rattle.j39_follow.specs.inside.FollowedSoFar.{CountsWithin, HasFollowedLines};
     ghost use Rattle.j39_stream.specs.declared.verdict.Verdict.TheVariants.{Done};
 
     ghost text = { λ reader. reader.reading.text };

@@ -1,6 +1,6 @@
 //! What the follow command writes.
 ghost use Rattle.j39_follow.specs.FollowText.{IsFollowText};
-ghost use Rattle.j39_stream.specs.Commands.{AnswersInPieces};
+ghost use Rattle.j39_stream.specs.CommandEnds.{AnswersInPieces};
 ghost use Rattle.j39_stream.specs.Streams.{log_limits};
 
 use crate::log_reader::LogReader;

@@ -1,6 +1,6 @@
 //! What events are to the requests of a plan.
 ghost use Rattle.std.specs.Prelude.{◌≡◌};
-ghost use Rattle.j39_follow.specs.Requests.{answers, asks_request as asks, is_of_asked, is_for_one_unit as is_to_one, reaches_asker, refuses, replies_to, was_asked};
+ghost use Rattle.j39_follow.specs.LoggedRequests.{answers, asks_request as asks, is_of_asked, is_for_one_unit as is_to_one, reaches_asker, refuses, replies_to, was_asked};
 
 use crate::asking::asked_number;
 use crate::event::{Event, Reply};

@@ -3,7 +3,7 @@ ghost use Rattle.std.specs.Prelude.{◌≡◌, ◌+◌, ◌^◌, ◌<◌, ◌∷
 ghost use Rattle.std.specs.Option.{option_to_list};
 ghost use Rattle.j39_follow.specs.Contests.{Timed};
 ghost use Rattle.j39_follow.specs.FollowReports.{aim_at as aim_at_unit, answer_aim as aim_of_answer, notice_events, refusal_events, reply_of};
-ghost use Rattle.j39_follow.specs.Requests.{asked_request as asked_request_of, counted_number as number_that_counts};
+ghost use Rattle.j39_follow.specs.LoggedRequests.{asked_request as asked_request_of, counted_number as number_that_counts};
 ghost use Rattle.j39_id.specs.FrameMeaning.{requested_group};
 ghost use Rattle.j39_follow.specs.Who.{unit_of};
 ghost use Rattle.j39_follow.specs.declared.event.Event.{Event as AnEvent};

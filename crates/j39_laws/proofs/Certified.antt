@@ -6,7 +6,7 @@ use Rattle.j39_claim.specs.declared.item.Item.{Item}
 use Rattle.j39_claim.specs.declared.item.Item.TheVariants.{Told}
 use Rattle.j39_findings.specs.Findings.{Clean}
 use Rattle.j39_findings.specs.Needs.{AreNeedsMet}
-use Rattle.j39_findings.specs.Requests.{AreAnsweredWell, AreRequestsServed}
+use Rattle.j39_findings.specs.PlannedRequests.{AreAnsweredWell, AreRequestsServed}
 use Rattle.j39_findings.specs.SoundSignals.{SoundSignals}
 use Rattle.j39_findings.specs.declared.plan.Plan.{Plan}
 use Rattle.j39_findings.specs.declared.steps.Step.{Step}

@@ -24,12 +24,12 @@ use Rattle.j39_load.specs.FreshNeeds.{AreNeedsFresh, IsNeedFresh}
 use Rattle.j39_load.specs.LoadFindings.{AreLoadFindings, AsksOfBus, load_findings}
 use Rattle.j39_load.specs.Asked.{asked_of, total_load}
 use Rattle.j39_load.specs.Loads.{bits_of_ms, load_of_flow, loads_of}
-use Rattle.j39_load.specs.Places.{told_from}
+use Rattle.j39_load.specs.LineLists.{lines_of_each}
 use Rattle.j39_load.proofs.BoundedFlows.{bounded}
 use Rattle.j39_load.proofs.LeastKnown.{least_of_both}
 use Rattle.j39_load.proofs.StreamsBefore.{none_of_two, told_nothing}
 use Rattle.j39_timing.proofs.Ages.{fresh}
-use Rattle.j39_timing.specs.Ages.{IsFresh}
+use Rattle.j39_timing.specs.FreshFrames.{IsFresh}
 use Rattle.j39_findings.specs.ListPlaces.{SomeMeets}
 
 -- ---- the least of some numbers
@@ -81,14 +81,14 @@ module _ (timing : Timing) (age : ℕ) where
 
   module _ (requests : List RequestPlan) (delays : List (Option Delay)) (need : NeedPlan) where
     -- it is that of a flow
-    of_flow : (place : ℕ) (flows : List FlowPlan) → least (told_from (ages_for timing requests delays need) place flows) ≡ Some age
+    of_flow : (place : ℕ) (flows : List FlowPlan) → least (lines_of_each (ages_for timing requests delays need) place flows) ≡ Some age
         → (k : ℕ) × (flow : FlowPlan) × (slice_get flows k ≡ Some flow) × (least (ages_for timing requests delays need (place + k) flow) ≡ Some age)
-    unfolding told_from
+    unfolding lines_of_each
     of_flow place [] is = absurd (none-some age is)
     of_flow place (flow ∷ flows) is =
         let tell = ages_for timing requests delays need in
-        elim (one_of_smaller (least (tell place flow)) (least (told_from tell (place + 1) flows)) age
-        (sym (least_of_both (tell place flow) (told_from tell (place + 1) flows)) ∙ is)) [
+        elim (one_of_smaller (least (tell place flow)) (least (lines_of_each tell (place + 1) flows)) age
+        (sym (least_of_both (tell place flow) (lines_of_each tell (place + 1) flows)) ∙ is)) [
           | inl here ↦ (0, flow, refl, ap (λ (n : ℕ). least (tell n flow)) (omega arith) ∙ here)
           | inr behind ↦
               let (k, other, at, its) = of_flow (place + 1) flows behind in

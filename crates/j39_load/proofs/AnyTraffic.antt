@@ -15,7 +15,7 @@ use Rattle.j39_load.specs.Ages.{least, smaller_known}
 use Rattle.j39_load.specs.AnyQueues.{AreAtMost, IsCompanyLevel, IsCompanyWait, IsHeldFor, IsOffer, Offer, TellWaits, are_of_unit, held_at, is_member, is_of_company, keep_order, later_frames, least_of, leasts_of, may_be_passed, offered, own_least, unheld_at, with_unplanned}
 use Rattle.j39_load.specs.Damage.{damage_frames}
 use Rattle.j39_load.specs.Delays.{need_of}
-use Rattle.j39_load.specs.Places.{told_from}
+use Rattle.j39_load.specs.LineLists.{lines_of_each}
 use Rattle.j39_load.specs.PlannedFrames.{AreFramesInAnyOrder, KeepToCompany, company_of, no_frames, others_of, planned_at, traffic_of}
 use Rattle.j39_load.proofs.LeastKnown.{least_of_both}
 use Rattle.j39_load.proofs.CompanyStreams.{company_room}
@@ -27,8 +27,8 @@ use Rattle.j39_timing.specs.AnyOrder.{AreBegunWithin, Controllers, HaveWaits, Is
 use Rattle.j39_timing.specs.Companies.{Company, IsTrafficOfCompany, is_with_company}
 use Rattle.j39_timing.specs.FrameBits.{longest_frame}
 use Rattle.j39_timing.specs.Messages.{AreSentWithin}
-use Rattle.j39_timing.specs.Schedule.{Schedule}
-use Rattle.j39_timing.specs.Streams.{Origins}
+use Rattle.j39_timing.specs.TimedFrames.{Schedule}
+use Rattle.j39_timing.specs.FrameStreams.{Origins}
 use Rattle.j39_timing.specs.Sums.{total}
 use Rattle.j39_timing.specs.Traffic.{AreQueuedBehind, AreSteady, HasRoom, IsSingle, IsStreamInTime, delay_of, others_before}
 use Rattle.j39_timing.specs.Waits.{share}
@@ -49,18 +49,18 @@ smaller_right None (Some y) a n is le = let same : y ≡ n = same_Some y n is in
 smaller_right (Some x) (Some y) a n is le = let same : y ≡ n = same_Some y n is in (min x y, refl, omega (arith, same, le))
 
 least_within : (tell : ℕ → Option FlowFrames → List ℕ) (place : ℕ) (xs : List (Option FlowFrames)) (k a : ℕ) → k < length xs
-    → least (tell (place + k) (get_or xs k None)) ≡ Some a → (n : ℕ) × (least (told_from tell place xs) ≡ Some n) × (n ≤ a)
-unfolding told_from
+    → least (tell (place + k) (get_or xs k None)) ≡ Some a → (n : ℕ) × (least (lines_of_each tell place xs) ≡ Some n) × (n ≤ a)
+unfolding lines_of_each
 least_within tell place [] k a below is = absurd (omega arith)
 least_within tell place (x ∷ xs) zero a below is =
-    let (n, told, le) = smaller_left (least (tell place x)) (least (told_from tell (place + 1) xs)) a
+    let (n, told, le) = smaller_left (least (tell place x)) (least (lines_of_each tell (place + 1) xs)) a
     (ap (λ (m : ℕ). least (tell m x)) (omega arith) ∙ is) in
-    (n, least_of_both (tell place x) (told_from tell (place + 1) xs) ∙ told, le)
+    (n, least_of_both (tell place x) (lines_of_each tell (place + 1) xs) ∙ told, le)
 least_within tell place (x ∷ xs) (suc k) a below is =
     let (n, rest, few) = least_within tell (place + 1) xs k a (omega (arith, below))
     (ap (λ (m : ℕ). least (tell m (get_or xs k None))) (omega arith) ∙ is) in
-    let (m, told, le) = smaller_right (least (tell place x)) (least (told_from tell (place + 1) xs)) a n rest few in
-    (m, least_of_both (tell place x) (told_from tell (place + 1) xs) ∙ told, le)
+    let (m, told, le) = smaller_right (least (tell place x)) (least (lines_of_each tell (place + 1) xs)) a n rest few in
+    (m, least_of_both (tell place x) (lines_of_each tell (place + 1) xs) ∙ told, le)
 
 -- ---- units of frames
 

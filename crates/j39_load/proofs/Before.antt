@@ -2,7 +2,7 @@
 use Rattle.std.proofs.Common.{◌≡◌, ◌≢◌, ℕ, zero, suc, ◌+◌, ◌<◌, List, [], ◌∷◌, ◌++◌, length, take, get_or, append_assoc, refl, sym, ap, ◌∙◌, arith}
 use Rattle.std.proofs.Math.Seq.{take-suc}
 use Rattle.std.proofs.lemmas.List.{append-nil, length-take-le}
-use Rattle.j39_load.specs.Places.{told_from}
+use Rattle.j39_load.specs.LineLists.{lines_of_each}
 
 pub some_left : {Y : Type 0} (xs ys : List Y) → xs ≢ [] → xs ++ ys ≢ []
 some_left [] ys some = absurd (some refl)
@@ -14,33 +14,33 @@ some_right (x ∷ xs) ys some = λ none. cc
 
 module _ {X Y : Type 0} (tell : ℕ → X → List Y) where
   -- one more
-  one_more : (place : ℕ) (xs : List X) (x : X) → told_from tell place (xs ++ x ∷ []) ≡ told_from tell place xs ++ tell (place + length xs) x
-  unfolding told_from
+  one_more : (place : ℕ) (xs : List X) (x : X) → lines_of_each tell place (xs ++ x ∷ []) ≡ lines_of_each tell place xs ++ tell (place + length xs) x
+  unfolding lines_of_each
   one_more place [] x = append-nil (tell place x) ∙ ap (λ (n : ℕ). tell n x) (omega arith)
   one_more place (first ∷ xs) x =
       ap (λ (ys : List Y). tell place first ++ ys)
-      (one_more (place + 1) xs x ∙ ap (λ (n : ℕ). told_from tell (place + 1) xs ++ tell n x) (omega arith))
-      ∙ sym (append_assoc (tell place first) (told_from tell (place + 1) xs) _)
+      (one_more (place + 1) xs x ∙ ap (λ (n : ℕ). lines_of_each tell (place + 1) xs ++ tell n x) (omega arith))
+      ∙ sym (append_assoc (tell place first) (lines_of_each tell (place + 1) xs) _)
 
   -- up to the next place of these
   pub more : (k : ℕ) (xs : List X) (d : X) → k < length xs
-      → told_from tell 0 (take (k + 1) xs) ≡ told_from tell 0 (take k xs) ++ tell k (get_or xs k d)
+      → lines_of_each tell 0 (take (k + 1) xs) ≡ lines_of_each tell 0 (take k xs) ++ tell k (get_or xs k d)
   more k xs d inside =
       let next : k + 1 ≡ suc k = omega arith in
-      ap (λ (n : ℕ). told_from tell 0 (take n xs)) next
-      ∙ ap (told_from tell 0) (take-suc xs k d inside) ∙ one_more 0 (take k xs) (get_or xs k d)
-      ∙ ap (λ (n : ℕ). told_from tell 0 (take k xs) ++ tell n (get_or xs k d)) (omega (arith, length-take-le k xs (omega arith)))
+      ap (λ (n : ℕ). lines_of_each tell 0 (take n xs)) next
+      ∙ ap (lines_of_each tell 0) (take-suc xs k d inside) ∙ one_more 0 (take k xs) (get_or xs k d)
+      ∙ ap (λ (n : ℕ). lines_of_each tell 0 (take k xs) ++ tell n (get_or xs k d)) (omega (arith, length-take-le k xs (omega arith)))
 
-  some_behind : (k place : ℕ) (xs : List X) (d : X) → k < length xs → tell (place + k) (get_or xs k d) ≢ [] → told_from tell place xs ≢ []
-  unfolding told_from
+  some_behind : (k place : ℕ) (xs : List X) (d : X) → k < length xs → tell (place + k) (get_or xs k d) ≢ [] → lines_of_each tell place xs ≢ []
+  unfolding lines_of_each
   some_behind k place [] d inside some = absurd (omega arith)
   some_behind zero place (x ∷ xs) d inside some =
-      some_left (tell place x) (told_from tell (place + 1) xs) (λ none. some (ap (λ (n : ℕ). tell n x) (omega arith) ∙ none))
+      some_left (tell place x) (lines_of_each tell (place + 1) xs) (λ none. some (ap (λ (n : ℕ). tell n x) (omega arith) ∙ none))
   some_behind (suc k) place (x ∷ xs) d inside some =
-      some_right (tell place x) (told_from tell (place + 1) xs)
+      some_right (tell place x) (lines_of_each tell (place + 1) xs)
       (some_behind k (place + 1) xs d (omega (arith, inside)) (λ none. some (ap (λ (n : ℕ). tell n (get_or xs k d)) (omega arith) ∙ none)))
 
   -- something is told of these, where something is told at one place
-  pub some_told : (k : ℕ) (xs : List X) (d : X) → k < length xs → tell k (get_or xs k d) ≢ [] → told_from tell 0 xs ≢ []
+  pub some_told : (k : ℕ) (xs : List X) (d : X) → k < length xs → tell k (get_or xs k d) ≢ [] → lines_of_each tell 0 xs ≢ []
   some_told k xs d inside some =
       some_behind k 0 xs d inside (λ none. some (ap (λ (n : ℕ). tell n (get_or xs k d)) (omega arith) ∙ none))

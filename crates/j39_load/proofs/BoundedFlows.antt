@@ -21,7 +21,7 @@ use Rattle.j39_load.specs.Damage.{damage_frames}
 use Rattle.j39_load.specs.Delays.{HasDelay, IsDelay, IsDelayOf, IsFrameDelay, IsShortDelay, IsWaitIn, IsWaitOf, any_delay}
 use Rattle.j39_load.specs.LoadFindings.{AsksOfBus, lateness, load_findings, overload, without_period}
 use Rattle.j39_load.specs.Loads.{loads_of}
-use Rattle.j39_load.specs.Places.{told_from}
+use Rattle.j39_load.specs.LineLists.{lines_of_each}
 use Rattle.j39_load.specs.PlannedFrames.{AreAllOrdered, AreDelaysBounds, AreFramesInAnyOrder, AreFramesOfPlan, AreShortFlowsBounded, ComeInAnyOrder, IsBounded, IsInTimeInAnyOrder, IsInTimeOnEveryBus, no_frames, planned_at}
 use Rattle.j39_load.proofs.AnyTraffic.{any_in_time, any_sent, ordered_bound, ordered_sent, wait_of_company}
 use Rattle.j39_load.proofs.PositivePeriods.{ArePaced, HasPeriod, of_loads, all_paced}
@@ -29,8 +29,8 @@ use Rattle.j39_load.proofs.Sending.{IsSent, all_sent}
 use Rattle.j39_load.proofs.StreamsBefore.{none_of_two, own_read, told_nothing}
 use Rattle.j39_timing.specs.AnyOrder.{Controllers, IsLegalInAnyOrder}
 use Rattle.j39_timing.specs.Messages.{AreSentWithin}
-use Rattle.j39_timing.specs.Schedule.{Schedule, IsLegal}
-use Rattle.j39_timing.specs.Streams.{Origins}
+use Rattle.j39_timing.specs.TimedFrames.{Schedule, IsLegal}
+use Rattle.j39_timing.specs.FrameStreams.{Origins}
 use Rattle.j39_timing.specs.Traffic.{IsSingle, delay_of}
 
 -- ---- buses on which every unit keeps order
@@ -263,10 +263,10 @@ module _ (plan : Plan) (timing : Timing) (stays : UnitPlan → Bool) (delays : L
 
 -- where nothing is found each flow has a period, and none is late
 pub nothing_found : (timing : Timing) (load : ℕ) (delays : List (Option Delay)) → load_findings timing load delays ≡ []
-    → (told_from without_period 0 delays ≡ []) × (told_from lateness 0 delays ≡ [])
+    → (lines_of_each without_period 0 delays ≡ []) × (lines_of_each lateness 0 delays ≡ [])
 nothing_found timing load delays none =
-    let two = none_of_two (told_from without_period 0 delays) (overload timing load ++ told_from lateness 0 delays) none in
-    (two.0, (none_of_two (overload timing load) (told_from lateness 0 delays) two.1).1)
+    let two = none_of_two (lines_of_each without_period 0 delays) (overload timing load ++ lines_of_each lateness 0 delays) none in
+    (two.0, (none_of_two (overload timing load) (lines_of_each lateness 0 delays) two.1).1)
 
 pub short_bounded : (plan : Plan) (timing : Timing) (stays : UnitPlan → Bool) (delays : List (Option Delay)) → AsksOfBus plan timing stays delays
     → load_findings timing (total_load timing (asked_of timing plan stays)) delays ≡ [] → AreShortFlowsBounded timing (asked_of timing plan stays) delays
@@ -276,7 +276,7 @@ short_bounded plan timing stays delays asks none flow load frames its short =
     let below = slice_get_within (loads_of timing plan stays) flow (Some load) its in
     go paced on_time (get_or delays flow None) (slice_get-get_or delays flow None (omega (arith, count, below)))
   where
-    go : told_from without_period 0 delays ≡ [] → told_from lateness 0 delays ≡ [] → (delay : Option Delay) → slice_get delays flow ≡ Some delay
+    go : lines_of_each without_period 0 delays ≡ [] → lines_of_each lateness 0 delays ≡ [] → (delay : Option Delay) → slice_get delays flow ≡ Some delay
         → (bits : ℕ) × (slice_get delays flow ≡ Some (Some (Within bits))) × IsBounded timing (asked_of timing plan stays) flow bits
     go paced on_time None at = absurd (let told = told_nothing without_period 0 delays paced flow None at in
         let some : 1 ≡ 0 = ap length told in omega arith)

@@ -7,7 +7,7 @@ use Rattle.j39_findings.specs.declared.plan.timing.Timing.{Timing}
 use Rattle.j39_load.specs.declared.flow_frames.FlowFrames.{FlowFrames}
 use Rattle.j39_load.specs.AnyQueues.{blocking_with, is_of_company, leasts_of, stream_with, streams_with, with_unplanned}
 use Rattle.j39_load.specs.Damage.{damage_frames, damage_streams, first_of_all}
-use Rattle.j39_load.specs.Places.{told_from}
+use Rattle.j39_load.specs.LineLists.{lines_of_each}
 use Rattle.j39_load.specs.PlannedFrames.{company_of, no_frames, planned_at, traffic_of}
 use Rattle.j39_load.proofs.Before.{more}
 use Rattle.j39_load.proofs.StreamsBefore.{told_of_two}
@@ -20,21 +20,21 @@ use Rattle.j39_timing.specs.declared.stream.Stream.{Stream}
 -- what each place takes is within what is told of it, and so is all of it
 module _ (tell : ℕ → Option FlowFrames → List Stream) (span : ℕ) (taken : ℕ → ℕ) (all : List (Option FlowFrames))
     (each : (k : ℕ) → k < length all → taken k ≤ sum_by (share span) (tell k (get_or all k None))) where
-  up_to : (k : ℕ) → k ≤ length all → total k taken ≤ sum_by (share span) (told_from tell 0 (take k all))
+  up_to : (k : ℕ) → k ≤ length all → total k taken ≤ sum_by (share span) (lines_of_each tell 0 (take k all))
   unfolding total
   up_to zero le = omega arith
   up_to (suc k) le =
-      let before : total k taken ≤ sum_by (share span) (told_from tell 0 (take k all)) = up_to k (omega arith) in
+      let before : total k taken ≤ sum_by (share span) (lines_of_each tell 0 (take k all)) = up_to k (omega arith) in
       let this : taken k ≤ sum_by (share span) (tell k (get_or all k None)) = each k (omega arith) in
-      let both : sum_by (share span) (told_from tell 0 (take (k + 1) all))
-      ≡ sum_by (share span) (told_from tell 0 (take k all)) + sum_by (share span) (tell k (get_or all k None)) =
+      let both : sum_by (share span) (lines_of_each tell 0 (take (k + 1) all))
+      ≡ sum_by (share span) (lines_of_each tell 0 (take k all)) + sum_by (share span) (tell k (get_or all k None)) =
       ap (sum_by (share span)) (more tell k all None (omega arith))
-      ∙ sum_by-append (share span) (told_from tell 0 (take k all)) (tell k (get_or all k None)) in
+      ∙ sum_by-append (share span) (lines_of_each tell 0 (take k all)) (tell k (get_or all k None)) in
       let next : k + 1 ≡ suc k = omega arith in
-      subst (λ (n : ℕ). total k taken + taken k ≤ sum_by (share span) (told_from tell 0 (take n all))) next (omega (arith, before, this, both))
+      subst (λ (n : ℕ). total k taken + taken k ≤ sum_by (share span) (lines_of_each tell 0 (take n all))) next (omega (arith, before, this, both))
 
-  pub taken_within : total (length all) taken ≤ sum_by (share span) (told_from tell 0 all)
-  taken_within = subst (λ (xs : List (Option FlowFrames)). total (length all) taken ≤ sum_by (share span) (told_from tell 0 xs))
+  pub taken_within : total (length all) taken ≤ sum_by (share span) (lines_of_each tell 0 all)
+  taken_within = subst (λ (xs : List (Option FlowFrames)). total (length all) taken ≤ sum_by (share span) (lines_of_each tell 0 xs))
       (take_all (length all) all (omega arith)) (up_to (length all) (omega arith))
 
 module _ (timing : Timing) (asked : List (Option FlowFrames)) (own : FlowFrames) (level span : ℕ) where
@@ -71,16 +71,16 @@ module _ (timing : Timing) (asked : List (Option FlowFrames)) (own : FlowFrames)
 
   -- of the frames that are asked for the same is told
   same_told : (place : ℕ) (xs : List (Option FlowFrames)) → ((k : ℕ) → k < length xs → get_or xs k None ≡ get_or asked (place + k) None)
-      → told_from tell place xs ≡ filter_map (stream_with leasts own_too level) xs
-  unfolding told_from
+      → lines_of_each tell place xs ≡ filter_map (stream_with leasts own_too level) xs
+  unfolding lines_of_each
   same_told place [] same = refl
   same_told place (x ∷ xs) same =
       let rest = same_told (place + 1) xs (λ k below. same (suc k) (omega (arith, below)) ∙ ap (λ (n : ℕ). get_or asked n None) (omega arith)) in
       go x (same 0 (omega arith) ∙ ap (λ (n : ℕ). get_or asked n None) (omega arith)) rest
     where
       go : (frames : Option FlowFrames) → frames ≡ get_or asked place None
-          → told_from tell (place + 1) xs ≡ filter_map (stream_with leasts own_too level) xs
-          → tell place frames ++ told_from tell (place + 1) xs ≡ cons_option (stream_with leasts own_too level frames) (filter_map (stream_with leasts own_too level) xs)
+          → lines_of_each tell (place + 1) xs ≡ filter_map (stream_with leasts own_too level) xs
+          → tell place frames ++ lines_of_each tell (place + 1) xs ≡ cons_option (stream_with leasts own_too level frames) (filter_map (stream_with leasts own_too level) xs)
       go None is rest = rest
       go (Some f) is rest =
           rw (sym is, rest) (elim (is_of_company leasts own_too level f || ltb f.least_ident level)
@@ -90,13 +90,13 @@ module _ (timing : Timing) (asked : List (Option FlowFrames)) (own : FlowFrames)
             | false ↦ refl
           ])
 
-  damage_most : (place : ℕ) (streams : List Stream) → sum_by (share span) (told_from tell place (map first_of_all streams)) ≤ sum_by (share span) streams
-  unfolding told_from
+  damage_most : (place : ℕ) (streams : List Stream) → sum_by (share span) (lines_of_each tell place (map first_of_all streams)) ≤ sum_by (share span) streams
+  unfolding lines_of_each
   damage_most place [] = omega arith
   damage_most place (stream ∷ streams) =
       let first : sum_by (share span) (tell place (first_of_all stream)) ≤ share span stream = go (has place || ltb 0 level) in
       let rest = damage_most (place + 1) streams in
-      let parts = sum_by-append (share span) (tell place (first_of_all stream)) (told_from tell (place + 1) (map first_of_all streams)) in
+      let parts = sum_by-append (share span) (tell place (first_of_all stream)) (lines_of_each tell (place + 1) (map first_of_all streams)) in
       let one = sum_by-cons (share span) stream streams in
       omega (arith, first, rest, parts, one)
     where
@@ -108,7 +108,7 @@ module _ (timing : Timing) (asked : List (Option FlowFrames)) (own : FlowFrames)
   company_taken =
       let whole = taken_within tell span taken all (λ k below. taken_most k (get_or all k None) refl) in
       let two = ap (sum_by (share span)) (told_of_two tell 0 asked (damage_frames timing)) in
-      let parts = sum_by-append (share span) (told_from tell 0 asked) (told_from tell (0 + length asked) (damage_frames timing)) in
+      let parts = sum_by-append (share span) (lines_of_each tell 0 asked) (lines_of_each tell (0 + length asked) (damage_frames timing)) in
       let same = ap (sum_by (share span)) (same_told 0 asked (λ k below. ap (λ (n : ℕ). get_or asked n None) (omega arith))) in
       let damage = damage_most (0 + length asked) (damage_streams timing) in
       let needed = sum_by-append (share span) (damage_streams timing) (filter_map (stream_with leasts own_too level) asked) in

@@ -21,7 +21,7 @@ use Rattle.j39_findings.proofs.PrivateGroups.{one_fits}
 use Rattle.j39_load.specs.Loads.{destination_at, group_ident}
 use Rattle.j39_id.specs.Services.{claim_priority, request as request_group}
 use Rattle.j39_load.specs.Ranks.{AreHeldApart, IsAskedBetween, IsShortFlow}
-use Rattle.j39_load.specs.Requests.{request_ident}
+use Rattle.j39_load.specs.RequestLoads.{request_ident}
 
 -- an identifier tells its group, its source, and in PDU1 its destination
 tells : (p q n m d e s t : ℕ) → n < 131072 → m < 131072 → d < 256 → e < 256 → s < 256 → t < 256 → (pf_of n < 240 → n % 256 ≡ 0)

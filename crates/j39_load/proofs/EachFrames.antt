@@ -21,7 +21,7 @@ use Rattle.j39_load.specs.declared.unit_load.UnitLoad.{UnitLoad}
 use Rattle.j39_load.specs.Asked.{announcements_of_unit, asked_of, frames_asked, frames_of_flow, frames_of_request, own_frames, packets_of_unit, singles_of_flow}
 use Rattle.j39_load.specs.Broadcasts.{broadcast_frames, broadcasts_by, known_unit_load, least_packets, unit_loads_of}
 use Rattle.j39_load.specs.Loads.{has_short, is_always_short, load_of_flow, loads_of, long_messages, packet_frames, single_frames}
-use Rattle.j39_load.specs.Requests.{load_of_request, request_load, request_loads_of}
+use Rattle.j39_load.specs.RequestLoads.{load_of_request, request_load, request_loads_of}
 use Rattle.j39_tp.specs.Chunks.{packets_of}
 
 module _ (timing : Timing) (plan : Plan) (stays : UnitPlan → Bool) (P : FlowFrames → Type 0)

@@ -8,7 +8,7 @@ use Rattle.std.specs.Prelude.{IfOk}
 use Rattle.j39_findings.specs.declared.plan.timing.Timing.{Timing}
 use Rattle.j39_load.specs.declared.flow_frames.FlowFrames.{FlowFrames}
 use Rattle.j39_load.specs.AnyQueues.{IsCompanyWait, IsHeldFor, held_at, keep_order, later_frames, leasts_of, offered}
-use Rattle.j39_load.specs.Places.{told_from}
+use Rattle.j39_load.specs.LineLists.{lines_of_each}
 
 -- what holds of the first so many, and of one more
 pub one_more : {X : Type 0} (Is : ℕ → Option X → Type 0) (xs : List (Option X)) (x : Option X) (n : ℕ) → length xs ≡ n
@@ -23,15 +23,15 @@ one_more Is xs x n count told is k below = elim (cases_lt k n) [
 
 -- one is told of each place
 each_one : {X Y : Type 0} (f : ℕ → X → Y) (place : ℕ) (xs : List X) (k : ℕ) (d : X) (e : Y) → k < length xs
-    → get_or (told_from (λ p x. f p x ∷ []) place xs) k e ≡ f (place + k) (get_or xs k d)
-unfolding told_from
+    → get_or (lines_of_each (λ p x. f p x ∷ []) place xs) k e ≡ f (place + k) (get_or xs k d)
+unfolding lines_of_each
 each_one f place [] k d e below = absurd (omega arith)
 each_one f place (x ∷ xs) zero d e below = ap (λ (n : ℕ). f n x) (omega arith)
 each_one f place (x ∷ xs) (suc k) d e below =
     each_one f (place + 1) xs k d e (omega (arith, below)) ∙ ap (λ (n : ℕ). f n (get_or xs k d)) (omega arith)
 
-pub one_each : {X Y : Type 0} (f : ℕ → X → Y) (place : ℕ) (xs : List X) → length (told_from (λ p x. f p x ∷ []) place xs) ≡ length xs
-unfolding told_from
+pub one_each : {X Y : Type 0} (f : ℕ → X → Y) (place : ℕ) (xs : List X) → length (lines_of_each (λ p x. f p x ∷ []) place xs) ≡ length xs
+unfolding lines_of_each
 one_each f place [] = refl
 one_each f place (x ∷ xs) = ap suc (one_each f (place + 1) xs)
 

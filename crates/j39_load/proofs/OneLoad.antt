@@ -34,7 +34,7 @@ use Rattle.j39_load.specs.Broadcasts.{broadcast_frames, broadcasts_by, known_uni
 use Rattle.j39_load.specs.Delays.{HasDelayBy, IsDelay, IsDelayOf, IsFrameDelay, IsLeastWait, IsShortDelay, IsTurnTimeBy, IsWaitIn, IsWaitOf, IsWholeTime, TellDelays, announcements_place, any_delay, known_turn_time, need_of, packets_place, whole_time}
 use Rattle.j39_load.specs.LoadFindings.{AsksOfBus}
 use Rattle.j39_load.specs.Loads.{destination_at, flow_load, group_ident, load_of_flow, loads_of, long_messages, of_unit, packet_frames, packet_ident, session_ident, single_frames}
-use Rattle.j39_load.specs.Requests.{load_of_request, request_ident, request_load, request_loads_of}
+use Rattle.j39_load.specs.RequestLoads.{load_of_request, request_ident, request_load, request_loads_of}
 use Rattle.j39_load.specs.Standing.{TellsWhoStays}
 use Rattle.j39_timing.specs.Traffic.{delay_of}
 use Rattle.j39_timing.specs.Waits.{HaveNoRoom, need}

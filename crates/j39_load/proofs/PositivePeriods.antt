@@ -30,7 +30,7 @@ use Rattle.j39_load.specs.Asked.{announcements_of_unit, asked_of, frames_asked, 
 use Rattle.j39_load.specs.Broadcasts.{broadcast_by, broadcast_from, broadcasts_by, known_unit_load, least_packets, unit_loads_of}
 use Rattle.j39_load.specs.Damage.{damage_frames, damage_stream, first_of_all}
 use Rattle.j39_load.specs.Loads.{bits_per_ms, deadline_of, flow_load, has_short, is_always_short, load_of_flow, load_of_messages, loads_of, long_messages, single_frames, time_limit}
-use Rattle.j39_load.specs.Requests.{load_of_request, request_load, request_loads_of}
+use Rattle.j39_load.specs.RequestLoads.{load_of_request, request_load, request_loads_of}
 use Rattle.j39_timing.specs.FrameBits.{error_frame, longest_frame}
 use Rattle.j39_timing.specs.Traffic.{IsSingle}
 

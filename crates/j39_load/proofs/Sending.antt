@@ -25,7 +25,7 @@ use Rattle.j39_load.specs.AnyQueues.{are_of_unit, keep_order}
 use Rattle.j39_load.specs.Asked.{asked_of, frames_asked}
 use Rattle.j39_load.specs.Broadcasts.{broadcast_frames}
 use Rattle.j39_load.specs.Loads.{any_unit, destination_at, greatest_address, is_always_short, is_any, least_address, may_move, most_bytes, of_unit, packet_frames, single_frames}
-use Rattle.j39_load.specs.Requests.{request_load}
+use Rattle.j39_load.specs.RequestLoads.{request_load}
 use Rattle.j39_timing.specs.FrameBits.{longest_frame}
 use Rattle.j39_load.specs.PlannedFrames.{AreAllOrdered, no_frames, planned_at}
 use Rattle.j39_load.proofs.EachFrames.{each_fits}

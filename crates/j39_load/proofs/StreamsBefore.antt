@@ -14,7 +14,7 @@ use Rattle.j39_load.specs.declared.unit_load.UnitLoad.{UnitLoad}
 use Rattle.j39_load.specs.Asked.{all_frames, announcements_of_unit, frames_of_flow, frames_of_request, packets_of_unit, singles_of_flow}
 use Rattle.j39_load.specs.Damage.{damage_frames, damage_streams, first_of_all}
 use Rattle.j39_load.specs.Delays.{frames_before, going_before, streams_before}
-use Rattle.j39_load.specs.Places.{told_from}
+use Rattle.j39_load.specs.LineLists.{lines_of_each}
 use Rattle.j39_load.specs.PlannedFrames.{no_frames, planned_at, traffic_of}
 use Rattle.j39_load.proofs.Before.{more}
 use Rattle.j39_timing.specs.Sums.{total}
@@ -27,15 +27,15 @@ pub none_of_two : {X : Type 0} (xs ys : List X) → xs ++ ys ≡ [] → (xs ≡ 
 none_of_two [] ys none = (refl, none)
 none_of_two (x ∷ xs) ys none = absurd (let some : suc (length (xs ++ ys)) ≡ 0 = ap length none in omega arith)
 
-pub told_nothing : {X Y : Type 0} (tell : ℕ → X → List Y) (place : ℕ) (xs : List X) → told_from tell place xs ≡ [] → (k : ℕ) (x : X)
+pub told_nothing : {X Y : Type 0} (tell : ℕ → X → List Y) (place : ℕ) (xs : List X) → lines_of_each tell place xs ≡ [] → (k : ℕ) (x : X)
     → slice_get xs k ≡ Some x → tell (place + k) x ≡ []
-unfolding told_from
+unfolding lines_of_each
 told_nothing tell place [] none k x at = absurd (none-some x at)
 told_nothing tell place (first ∷ xs) none zero x at =
-    let head = (none_of_two (tell place first) (told_from tell (place + 1) xs) none).0 in
+    let head = (none_of_two (tell place first) (lines_of_each tell (place + 1) xs) none).0 in
     ap (λ (n : ℕ). tell n x) (omega arith) ∙ ap (tell place) (sym (same_Some first x at)) ∙ head
 told_nothing tell place (first ∷ xs) none (suc k) x at =
-    let tail = (none_of_two (tell place first) (told_from tell (place + 1) xs) none).1 in
+    let tail = (none_of_two (tell place first) (lines_of_each tell (place + 1) xs) none).1 in
     ap (λ (n : ℕ). tell n x) (omega arith) ∙ told_nothing tell (place + 1) xs tail k x at
 
 -- ---- the streams before
@@ -61,44 +61,44 @@ module _ (all : List (Option FlowFrames)) (i ident span : ℕ) where
             ]
       ])
 
-  all_taken : (k : ℕ) → k ≤ length all → total k taken ≤ sum_by (share span) (told_from (going_before i ident) 0 (take k all))
+  all_taken : (k : ℕ) → k ≤ length all → total k taken ≤ sum_by (share span) (lines_of_each (going_before i ident) 0 (take k all))
   unfolding total
   all_taken zero le = omega arith
   all_taken (suc k) le =
-      let before : total k taken ≤ sum_by (share span) (told_from (going_before i ident) 0 (take k all)) = all_taken k (omega arith) in
+      let before : total k taken ≤ sum_by (share span) (lines_of_each (going_before i ident) 0 (take k all)) = all_taken k (omega arith) in
       let this : taken k ≤ sum_by (share span) (going_before i ident k (get_or all k None)) = taken_most k (get_or all k None) refl in
-      let both : sum_by (share span) (told_from (going_before i ident) 0 (take (k + 1) all))
-      ≡ sum_by (share span) (told_from (going_before i ident) 0 (take k all)) + sum_by (share span) (going_before i ident k (get_or all k None)) =
+      let both : sum_by (share span) (lines_of_each (going_before i ident) 0 (take (k + 1) all))
+      ≡ sum_by (share span) (lines_of_each (going_before i ident) 0 (take k all)) + sum_by (share span) (going_before i ident k (get_or all k None)) =
       ap (sum_by (share span)) (more (going_before i ident) k all None (omega arith))
-      ∙ sum_by-append (share span) (told_from (going_before i ident) 0 (take k all)) (going_before i ident k (get_or all k None)) in
+      ∙ sum_by-append (share span) (lines_of_each (going_before i ident) 0 (take k all)) (going_before i ident k (get_or all k None)) in
       let next : k + 1 ≡ suc k = omega arith in
-      subst (λ (n : ℕ). total k taken + taken k ≤ sum_by (share span) (told_from (going_before i ident) 0 (take n all))) next
+      subst (λ (n : ℕ). total k taken + taken k ≤ sum_by (share span) (lines_of_each (going_before i ident) 0 (take n all))) next
       (omega (arith, before, this, both))
 
-  whole_taken : total (length all) taken ≤ sum_by (share span) (told_from (going_before i ident) 0 all)
-  whole_taken = subst (λ (xs : List (Option FlowFrames)). total (length all) taken ≤ sum_by (share span) (told_from (going_before i ident) 0 xs))
+  whole_taken : total (length all) taken ≤ sum_by (share span) (lines_of_each (going_before i ident) 0 all)
+  whole_taken = subst (λ (xs : List (Option FlowFrames)). total (length all) taken ≤ sum_by (share span) (lines_of_each (going_before i ident) 0 xs))
       (take_all (length all) all (omega arith)) (all_taken (length all) (omega arith))
 
--- what is told of two lists, one behind the other
+-- what is told of two lists, one after the other
 pub told_of_two : {X Y : Type 0} (tell : ℕ → X → List Y) (place : ℕ) (xs ys : List X)
-    → told_from tell place (xs ++ ys) ≡ told_from tell place xs ++ told_from tell (place + length xs) ys
-unfolding told_from
-told_of_two tell place [] ys = ap (λ (n : ℕ). told_from tell n ys) (omega arith)
+    → lines_of_each tell place (xs ++ ys) ≡ lines_of_each tell place xs ++ lines_of_each tell (place + length xs) ys
+unfolding lines_of_each
+told_of_two tell place [] ys = ap (λ (n : ℕ). lines_of_each tell n ys) (omega arith)
 told_of_two tell place (x ∷ xs) ys =
     ap (λ zs. tell place x ++ zs) (told_of_two tell (place + 1) xs ys)
-    ∙ ap (λ (n : ℕ). tell place x ++ (told_from tell (place + 1) xs ++ told_from tell n ys)) (omega arith)
-    ∙ sym (append_assoc (tell place x) (told_from tell (place + 1) xs) (told_from tell (place + length (x ∷ xs)) ys))
+    ∙ ap (λ (n : ℕ). tell place x ++ (lines_of_each tell (place + 1) xs ++ lines_of_each tell n ys)) (omega arith)
+    ∙ sym (append_assoc (tell place x) (lines_of_each tell (place + 1) xs) (lines_of_each tell (place + length (x ∷ xs)) ys))
 
 module _ (i ident span : ℕ) where
   damage_most : (place : ℕ) (streams : List Stream)
-      → sum_by (share span) (told_from (going_before i ident) place (map first_of_all streams)) ≤ sum_by (share span) streams
-  unfolding told_from
+      → sum_by (share span) (lines_of_each (going_before i ident) place (map first_of_all streams)) ≤ sum_by (share span) streams
+  unfolding lines_of_each
   damage_most place [] = omega arith
   damage_most place (stream ∷ streams) =
       let first : sum_by (share span) (going_before i ident place (first_of_all stream)) ≤ share span stream = go (eqb place i) (ltb 0 ident) in
       let rest = damage_most (place + 1) streams in
       let parts = sum_by-append (share span) (going_before i ident place (first_of_all stream))
-      (told_from (going_before i ident) (place + 1) (map first_of_all streams)) in
+      (lines_of_each (going_before i ident) (place + 1) (map first_of_all streams)) in
       let one = sum_by-cons (share span) stream streams in
       omega (arith, first, rest, parts, one)
     where
@@ -114,9 +114,9 @@ module _ (i ident span : ℕ) where
   all_before timing all =
       let whole = whole_taken (all ++ damage_frames timing) i ident span in
       let two = ap (sum_by (share span)) (told_of_two (going_before i ident) 0 all (damage_frames timing)) in
-      let parts = sum_by-append (share span) (told_from (going_before i ident) 0 all) (told_from (going_before i ident) (0 + length all) (damage_frames timing)) in
+      let parts = sum_by-append (share span) (lines_of_each (going_before i ident) 0 all) (lines_of_each (going_before i ident) (0 + length all) (damage_frames timing)) in
       let damage = damage_most (0 + length all) (damage_streams timing) in
-      let needed = sum_by-append (share span) (damage_streams timing) (told_from (going_before i ident) 0 all) in
+      let needed = sum_by-append (share span) (damage_streams timing) (lines_of_each (going_before i ident) 0 all) in
       omega (arith, whole, two, parts, damage, needed)
 
 -- where something is read there is a place

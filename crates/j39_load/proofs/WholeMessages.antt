@@ -30,7 +30,7 @@ use Rattle.j39_load.specs.Broadcasts.{broadcasts_by, known_unit_load, unit_loads
 use Rattle.j39_load.specs.Delays.{IsDelayOf, IsTurnTimeBy, IsWaitIn, IsWholeTime, announcements_place, known_turn_time, longest_pause, packet_time, packets_place, turn_time, whole_time}
 use Rattle.j39_load.specs.LoadFindings.{AreLoadFindings, AsksOfBus, is_whole_late, lateness, load_findings, without_period}
 use Rattle.j39_load.specs.Loads.{bits_of_ms}
-use Rattle.j39_load.specs.Places.{told_from}
+use Rattle.j39_load.specs.LineLists.{lines_of_each}
 use Rattle.j39_load.specs.PlannedFrames.{AreAllOrdered, AreDeadlinesKept, AreMessagesOf, ArePlannedFramesInTime, AreTimesBounds, AreWholeInAnyOrder, AreWholeOnEveryBus, AreWholeWithin, ComeInAnyOrder, ComeInTurn, IsOneTurn}
 use Rattle.j39_load.proofs.BoundedFlows.{all_in_order, delay_at, known_in_order, legal_in_order, never_whole, nothing_found, sent_in_any_order, short_bounded, told_of}
 use Rattle.j39_load.proofs.PositivePeriods.{all_paced}
@@ -268,7 +268,7 @@ module _ (plan : Plan) (timing : Timing) (stays : UnitPlan → Bool) where
         let below = slice_get_within asked.flows flow (Some load) its in
         go paced on_time (get_or delays flow None) (slice_get-get_or delays flow None (omega (arith, count, below)))
       where
-        go : told_from without_period 0 delays ≡ [] → told_from lateness 0 delays ≡ [] → (delay : Option Delay) → slice_get delays flow ≡ Some delay
+        go : lines_of_each without_period 0 delays ≡ [] → lines_of_each lateness 0 delays ≡ [] → (delay : Option Delay) → slice_get delays flow ≡ Some delay
             → (whole : WholeTime) × (bits : ℕ) × (slice_get delays flow ≡ Some (Some (Whole whole))) × (bits ≤ limit)
             × AreWholeWithin timing asked flow whole bits
         go paced on_time None at = absurd (let told = told_nothing without_period 0 delays paced flow None at in

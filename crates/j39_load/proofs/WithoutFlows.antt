@@ -16,8 +16,8 @@ use Rattle.j39_load.specs.Broadcasts.{unit_loads_of}
 use Rattle.j39_load.specs.Damage.{load_of_damage}
 use Rattle.j39_load.specs.LoadFindings.{load_findings, overload}
 use Rattle.j39_load.specs.Loads.{bits_of_second, load_of_flow}
-use Rattle.j39_load.specs.Places.{told_from}
-use Rattle.j39_load.specs.Requests.{load_of_request}
+use Rattle.j39_load.specs.LineLists.{lines_of_each}
+use Rattle.j39_load.specs.RequestLoads.{load_of_request}
 
 -- a list without elements is empty
 pub none_of_length : {X : Type 0} (xs : List X) → length xs ≡ 0 → xs ≡ []
@@ -26,13 +26,13 @@ none_of_length (x ∷ xs) none = absurd (omega (arith, none))
 
 -- no need is too old that nothing meets
 no_old : (timing : Timing) (requests : List RequestPlan) (place : ℕ) (needs : List NeedPlan)
-    → told_from (oldness timing requests [] []) place needs ≡ []
-unfolding told_from
+    → lines_of_each (oldness timing requests [] []) place needs ≡ []
+unfolding lines_of_each
 no_old timing requests place [] = refl
 no_old timing requests place (need ∷ needs) = one need.within refl (no_old timing requests (place + 1) needs)
   where
-    one : (within : Option ℕ) → need.within ≡ within → told_from (oldness timing requests [] []) (place + 1) needs ≡ []
-        → told_from (oldness timing requests [] []) place (need ∷ needs) ≡ []
+    one : (within : Option ℕ) → need.within ≡ within → lines_of_each (oldness timing requests [] []) (place + 1) needs ≡ []
+        → lines_of_each (oldness timing requests [] []) place (need ∷ needs) ≡ []
     one None is rest = rw (is) rest
     one (Some w) is rest = rw (is) rest
 
@@ -48,7 +48,7 @@ by_flows : (timing : Timing) (plan : Plan) (stays : UnitPlan → Bool) (flows : 
     → load_findings timing (total_load timing (asked_by_both timing plan stays flows requests)) delays
     ++ old_needs timing requests flows delays needs ≢ []
     → bits_of_second timing.bitrate < load_of_damage timing
-unfolding told_from
+unfolding lines_of_each
 by_flows timing plan stays (f ∷ fs) requests needs delays none silent empty some =
     absurd (let one : suc (length fs) ≡ 0 = ap length none in omega arith)
 by_flows timing plan stays [] (r ∷ rs) needs delays none silent empty some =
@@ -62,8 +62,8 @@ by_flows timing plan stays [] [] needs [] none silent empty some =
           let load : ℕ = load_of_damage timing + (0 + (0 + 0)) in
           let over : overload timing load ≡ [] =
           ap (λ (b : Bool). if b then Overload load ∷ [] else []) (le-ltb (bits_of_second timing.bitrate) load (omega arith)) in
-          let all : (overload timing load ++ []) ++ told_from (oldness timing [] [] []) 0 needs ≡ [] =
-          ap (λ (xs : List LoadFinding). (xs ++ []) ++ told_from (oldness timing [] [] []) 0 needs) over ∙ no_old timing [] 0 needs in
+          let all : (overload timing load ++ []) ++ lines_of_each (oldness timing [] [] []) 0 needs ≡ [] =
+          ap (λ (xs : List LoadFinding). (xs ++ []) ++ lines_of_each (oldness timing [] [] []) 0 needs) over ∙ no_old timing [] 0 needs in
           absurd (some all)
     ]
 

@@ -12,7 +12,7 @@ use Rattle.j39_load.specs.declared.delay.Delay.TheVariants.{Within}
 use Rattle.j39_load.specs.declared.load_finding.LoadFinding.{LoadFinding}
 use Rattle.j39_load.specs.declared.load_finding.LoadFinding.TheVariants.{NeedTooOld}
 use Rattle.j39_load.specs.Loads.{bits_of_ms}
-use Rattle.j39_load.specs.Places.{told_from}
+use Rattle.j39_load.specs.LineLists.{lines_of_each}
 
 -- the age of what a flow brings, in bits: that of one with a pause and with a delay that is told, which isn't sent as an answer
 abbrev pub ages_of : Timing → FlowPlan → Option Delay → List ℕ
@@ -38,7 +38,7 @@ least (x ∷ xs) = smaller_known (Some x) (least xs)
 
 -- how old what a unit needs is at most: by that of the flows that meet the need of which it is youngest
 abbrev pub least_age : Timing → List RequestPlan → List FlowPlan → List (Option Delay) → NeedPlan → Option ℕ
-least_age timing requests flows delays need = least (told_from (ages_for timing requests delays need) 0 flows)
+least_age timing requests flows delays need = least (lines_of_each (ages_for timing requests delays need) 0 flows)
 
 -- a time is known, and within so many bits
 abbrev pub is_in_limit : ℕ → Option ℕ → Bool
@@ -57,4 +57,4 @@ oldness timing requests flows delays place need =
 
 -- what is wrong with the ages of what units need
 abbrev pub old_needs : Timing → List RequestPlan → List FlowPlan → List (Option Delay) → List NeedPlan → List LoadFinding
-old_needs timing requests flows delays needs = told_from (oldness timing requests flows delays) 0 needs
+old_needs timing requests flows delays needs = lines_of_each (oldness timing requests flows delays) 0 needs

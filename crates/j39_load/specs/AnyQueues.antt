@@ -9,7 +9,7 @@ use Rattle.j39_load.specs.declared.flow_frames.FlowFrames.{FlowFrames}
 use Rattle.j39_load.specs.Ages.{least}
 use Rattle.j39_load.specs.Damage.{damage_streams}
 use Rattle.j39_load.specs.Loads.{longest_wait}
-use Rattle.j39_load.specs.Places.{told_from}
+use Rattle.j39_load.specs.LineLists.{lines_of_each}
 use Rattle.j39_timing.specs.AnyOrder.{later_by}
 use Rattle.j39_timing.specs.FrameBits.{longest_frame}
 use Rattle.j39_timing.specs.Waits.{HaveNoRoom, need}
@@ -33,7 +33,7 @@ own_least u place (Some frames) = if are_of_unit frames u then frames.least_iden
 
 -- that of all frames of the unit, where it keeps no order and has some
 abbrev pub least_of : List (Option FlowFrames) → ℕ → Option ℕ
-least_of all u = least (told_from (own_least u) 0 all)
+least_of all u = least (lines_of_each (own_least u) 0 all)
 
 -- the same of each unit
 abbrev pub leasts_of : List (Option FlowFrames) → List (Option ℕ)
@@ -145,7 +145,7 @@ offered_at waits place frames = option_map (later_frames (held_at waits place)) 
 
 -- all frames, queued where they are offered for good
 abbrev pub offered : List (Option ℕ) → List (Option FlowFrames) → List (Option FlowFrames)
-offered waits all = told_from (offered_at waits) 0 all
+offered waits all = lines_of_each (offered_at waits) 0 all
 
 abbrev pub unheld_at : List (Option ℕ) → ℕ → Option FlowFrames → List ℕ
 unheld_at waits place None = []
@@ -153,7 +153,7 @@ unheld_at waits place (Some frames) = if is_some (slice_index_or waits place Non
 
 -- the least identifier of frames of which no wait is known
 abbrev pub unheld : List (Option ℕ) → List (Option FlowFrames) → Option ℕ
-unheld waits all = least (told_from (unheld_at waits) 0 all)
+unheld waits all = least (lines_of_each (unheld_at waits) 0 all)
 
 -- all frames where they are offered for good
 pub record Offer : Type 0 where

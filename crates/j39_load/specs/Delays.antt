@@ -18,7 +18,7 @@ use Rattle.j39_load.specs.AnyQueues.{IsOffer, Offer, keep_order, may_be_passed}
 use Rattle.j39_load.specs.Asked.{Asked, frames_asked}
 use Rattle.j39_load.specs.Damage.{damage_streams}
 use Rattle.j39_load.specs.Loads.{bits_of_ms, frames_to_all, longest_wait}
-use Rattle.j39_load.specs.Places.{told_from}
+use Rattle.j39_load.specs.LineLists.{lines_of_each}
 use Rattle.j39_timing.specs.FrameBits.{longest_frame}
 use Rattle.j39_timing.specs.Traffic.{delay_of}
 use Rattle.j39_timing.specs.Waits.{HaveNoRoom, need}
@@ -43,7 +43,7 @@ going_before i ident place (Some frames) = if place == i then [] else frames_bef
 
 -- those of all frames, and of what comes of damage
 abbrev pub streams_before : Timing → ℕ → ℕ → List (Option FlowFrames) → List Stream
-streams_before timing i ident frames = damage_streams timing ++ told_from (going_before i ident) 0 frames
+streams_before timing i ident frames = damage_streams timing ++ lines_of_each (going_before i ident) 0 frames
 
 -- what a wait of so many bits of a frame of these, at their place among all, has to have room for
 abbrev pub need_of : Timing → List (Option FlowFrames) → ℕ → FlowFrames → ℕ → ℕ
@@ -110,7 +110,7 @@ packet_time timing load sent = bits_of_ms timing timing.broadcast_gap_most + (se
 abbrev pub longest_pause : Timing → ℕ
 longest_pause timing = bits_of_ms timing 750
 
--- the time of the longest message of each flow of the unit, one behind the other, where announcements and packets wait
+-- the time of the longest message of each flow of the unit, one after the other, where announcements and packets wait
 -- for so long
 abbrev pub turn_time : Timing → UnitLoad → ℕ → ℕ → ℕ
 turn_time timing load announced sent =

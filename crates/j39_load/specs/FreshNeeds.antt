@@ -13,10 +13,10 @@ use Rattle.j39_load.specs.Asked.{Asked, asked_of, frames_asked}
 use Rattle.j39_load.specs.LoadFindings.{AsksOfBus}
 use Rattle.j39_load.specs.Loads.{bits_of_ms}
 use Rattle.j39_load.specs.PlannedFrames.{AreAllOrdered, AreFramesInAnyOrder, AreFramesOfPlan, IsBounded}
-use Rattle.j39_timing.specs.Ages.{IsFresh, KeepsComing}
+use Rattle.j39_timing.specs.FreshFrames.{IsFresh, KeepsComing}
 use Rattle.j39_timing.specs.AnyOrder.{Controllers, IsLegalInAnyOrder}
-use Rattle.j39_timing.specs.Schedule.{Schedule, IsLegal}
-use Rattle.j39_timing.specs.Streams.{Origins}
+use Rattle.j39_timing.specs.TimedFrames.{Schedule, IsLegal}
+use Rattle.j39_timing.specs.FrameStreams.{Origins}
 use Rattle.j39_timing.specs.declared.stream.Stream.{Stream}
 
 -- In every legal schedule of such frames: while a frame of the flow has had its moment in the last `pause` bits, from its delay on a frame of

@@ -7,10 +7,10 @@ pub mod Delays
 pub mod FreshNeeds
 pub mod LoadFindings
 pub mod Loads
-pub mod Places
+pub mod LineLists
 pub mod PlannedFrames
 pub mod Ranks
-pub mod Requests
+pub mod RequestLoads
 pub mod SoundLoads
 pub mod Standing
 pub mod inside

@@ -15,7 +15,7 @@ use Rattle.j39_load.specs.Asked.{asked_of, total_load}
 use Rattle.j39_load.specs.Damage.{load_of_damage}
 use Rattle.j39_load.specs.Delays.{TellDelays}
 use Rattle.j39_load.specs.Loads.{bits_of_second}
-use Rattle.j39_load.specs.Places.{told_from}
+use Rattle.j39_load.specs.LineLists.{lines_of_each}
 use Rattle.j39_load.specs.Standing.{TellsWhoStays}
 
 -- the number under which a finding is known
@@ -46,7 +46,7 @@ abbrev pub overload : Timing → ℕ → List LoadFinding
 overload timing load = if nat_lt (bits_of_second timing.bitrate) load then Overload load ∷ [] else []
 
 abbrev pub load_findings : Timing → ℕ → List (Option Delay) → List LoadFinding
-load_findings timing load delays = told_from without_period 0 delays ++ (overload timing load ++ told_from lateness 0 delays)
+load_findings timing load delays = lines_of_each without_period 0 delays ++ (overload timing load ++ lines_of_each lateness 0 delays)
 
 -- what comes of damaged frames alone is more than the bus carries
 abbrev pub IsFullOfDamage : Option Timing → Type 0

@@ -22,8 +22,8 @@ use Rattle.j39_timing.specs.AnyOrder.{Controllers, IsLegalInAnyOrder, IsUnordere
 use Rattle.j39_timing.specs.Companies.{Company, CompanyWaits, unplanned_queued}
 use Rattle.j39_timing.specs.FrameBits.{longest_frame}
 use Rattle.j39_timing.specs.Messages.{AreSentInTurn, IsBroadcast, LongMessage, all_whole_at}
-use Rattle.j39_timing.specs.Schedule.{Schedule, IsLegal, Waits}
-use Rattle.j39_timing.specs.Streams.{Origins}
+use Rattle.j39_timing.specs.TimedFrames.{Schedule, IsLegal, Waits}
+use Rattle.j39_timing.specs.FrameStreams.{Origins}
 use Rattle.j39_timing.specs.Traffic.{Traffic, Others, AreQueuedBehind, AreSteady, IsPlannedTraffic, IsQueuedAt, IsStreamInTime, delay_of}
 
 -- frames of which none is ever queued
@@ -143,7 +143,7 @@ AreShortFlowsBounded timing asked delays = (flow : ℕ) (load : FlowLoad) (frame
 
 -- ---- long messages to all
 
--- the frames of one of the two streams of a unit's broadcasts: it sends one message at a time, so each is queued behind
+-- the frames of one of the two streams of a unit's broadcasts: it sends one message at a time, so each is queued after
 -- the end of the one before; and while planned frames that may go before them wait without a break it doesn't change
 -- its address, so they have one identifier
 pub record ComeInTurn (timing : Timing) (all : List (Option FlowFrames)) (s : Schedule) (planned : ℕ → Bool) (of : Origins)
@@ -173,7 +173,7 @@ pub record IsOneTurn (broadcasts : List Broadcast) (messages : List LongMessage)
   pub order : IsPermutation messages (filter_map (λ m. m) each)
 
 -- in every legal schedule of such frames the messages of the unit at a place, of each flow one at most, are all whole
--- so many bits behind the moment: where the announcement of the first is queued no more than `late` bits behind it,
+-- so many bits after the moment: where the announcement of the first is queued no more than `late` bits after it,
 -- that of each other one at the end of the message before, and each packet no more than the longest gap behind the end
 -- of the frame before
 abbrev pub AreWholeOnEveryBus : Timing → Asked → ℕ → ℕ → ℕ → Type 0

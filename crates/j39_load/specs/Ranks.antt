@@ -11,7 +11,7 @@ use Rattle.j39_findings.specs.declared.plan.timing.Timing.{Timing}
 use Rattle.j39_findings.specs.declared.plan.to.To.TheVariants.{One}
 use Rattle.j39_findings.specs.declared.plan.unit_plan.UnitPlan.{UnitPlan}
 use Rattle.j39_load.specs.Loads.{broadcast_ident, greatest_address, group_ident, is_always_short, least_address, of_unit, packet_ident}
-use Rattle.j39_load.specs.Requests.{request_ident}
+use Rattle.j39_load.specs.RequestLoads.{request_ident}
 use Rattle.j39_world.specs.PlannedUnits.{unit_at, units_of}
 use Rattle.j39_world.specs.Staying.{StaysBeside}
 

@@ -1,7 +1,7 @@
 -- What only private contracts and proofs need.
 pub mod Broadcasting
 pub mod Extremes
-pub mod Faults
+pub mod FlowSearch
 pub mod FewFrames
 pub mod FramesBy
 pub mod Offers

@@ -55,7 +55,7 @@ fn age_for(
 }
 
 /// How old what a unit needs is at most, in bits, by these delays of the flows: none where of no flow that brings it an age is known.
-#[tactic(auto, unfolding(crate::specs::Places::told_from))]
+#[tactic(auto, unfolding(crate::specs::LineLists::lines_of_each))]
 pub fn least_age(
     timing: Timing,
     requests: &[RequestPlan],
@@ -121,7 +121,7 @@ fn oldness(
 }
 
 /// Adds what is wrong with the ages of what units need.
-#[tactic(auto, unfolding(crate::specs::Places::told_from))]
+#[tactic(auto, unfolding(crate::specs::LineLists::lines_of_each))]
 pub(crate) fn find_old_needs(
     findings: &mut Vec<LoadFinding>,
     timing: Timing,

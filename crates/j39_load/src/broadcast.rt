@@ -11,7 +11,7 @@ pub struct Broadcast {
     pub least_packets: u8,
     /// How far apart the moments at which one is wanted are at least, in milliseconds.
     pub period: u16,
-    /// A message is ready to be sent at most so many bits behind its moment.
+    /// A message is ready to be sent at most so many bits after its moment.
     pub late: u32,
     /// Within so many bits of its moment each has to be whole, where a deadline is written.
     pub deadline: Option<u32>,

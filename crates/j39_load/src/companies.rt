@@ -52,7 +52,7 @@ fn own_least(unit: usize, frames: &Option<FlowFrames>) -> Option<u64>
 }
 
 // The least identifier of all frames of the unit at a place, where it keeps no order and has some.
-#[tactic(auto, unfolding(crate::specs::Places::told_from))]
+#[tactic(auto, unfolding(crate::specs::LineLists::lines_of_each))]
 fn least_of(all: &[Option<FlowFrames>], unit: usize) -> Option<u64>
     ensures { result ≡ least_of all.now unit }
 {

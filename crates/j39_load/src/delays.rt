@@ -71,7 +71,7 @@ fn add_other(
 }
 
 // The streams of what comes of damage, and of all frames but those at a place of which one may go before one of this identifier.
-#[tactic(auto, unfolding(crate::specs::Places::told_from))]
+#[tactic(auto, unfolding(crate::specs::LineLists::lines_of_each))]
 fn streams_before(
     alloc: Global,
     timing: Timing,

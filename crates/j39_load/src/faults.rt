@@ -2,8 +2,8 @@
 ghost use Rattle.std.specs.Prelude.{◌≡◌, ◌≢◌, ◌⊎◌, ◌∷◌, ◌++◌, [], None, length, IfOk, IfSome, IfNone, OnOk, OnErr};
 ghost use Rattle.j39_load.specs.LoadFindings.{AreLoadFindings, IsFullOfDamage, all_findings, is_whole_late, load_findings};
 ghost use Rattle.j39_load.specs.Loads.{bits_of_second};
-ghost use Rattle.j39_load.specs.Places.{told_from};
-ghost use Rattle.j39_load.specs.inside.Faults.{found_at};
+ghost use Rattle.j39_load.specs.LineLists.{lines_of_each};
+ghost use Rattle.j39_load.specs.inside.FlowSearch.{found_at};
 
 use crate::ages::{find_old_needs, is_in_limit};
 use crate::delay::Delay;
@@ -46,14 +46,14 @@ fn finding_at(fault: Fault, flow: usize, delay: Option<Delay>) -> Option<LoadFin
 }
 
 // Adds what is found at the flows of these delays.
-#[tactic(auto, unfolding(crate::specs::Places::told_from))]
+#[tactic(auto, unfolding(crate::specs::LineLists::lines_of_each))]
 fn find_each(
     findings: &mut Vec<LoadFinding>,
     fault: Fault,
     delays: &[Option<Delay>],
 ) -> Result<(), AllocError>
-    ensures found { OnOk result (findings.new.items ≡ findings.old.items ++ told_from (found_at fault) 0 delays.now) }
-    ensures memory { OnErr result (told_from (found_at fault) 0 delays.now ≢ []) }
+    ensures found { OnOk result (findings.new.items ≡ findings.old.items ++ lines_of_each (found_at fault) 0 delays.now) }
+    ensures memory { OnErr result (lines_of_each (found_at fault) 0 delays.now ≢ []) }
 {
     for (flow, delay) in delays.iter().enumerate() {
         if let Some(finding) = finding_at(fault, flow, *delay) {

@@ -16,7 +16,7 @@ ghost use Rattle.j39_load.specs.Loads.{group_ident};
 ghost use Rattle.j39_load.specs.Asked.{asked_of, frames_asked, total_load};
 ghost use Rattle.j39_load.specs.PlannedFrames.{AreAllOrdered, AreDeadlinesKept, AreDelaysBounds, AreShortFlowsBounded, AreTimesBounds, ArePlannedFramesInTime};
 ghost use Rattle.j39_load.specs.Ranks.{AreHeldApart, AreHeldByPlan, AreUnitsPlanned, IsAskedBetween, IsShortFlow, LieBetween, RequestLiesBetween};
-ghost use Rattle.j39_load.specs.Requests.{request_ident};
+ghost use Rattle.j39_load.specs.RequestLoads.{request_ident};
 ghost use Rattle.j39_load.specs.Standing.{TellsWhoStays};
 
 /// The delays of a plan bound the time of its frames. A delay that `Loads::delays` tells holds in every schedule whose

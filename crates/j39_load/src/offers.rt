@@ -145,7 +145,7 @@ fn offered_at(
 }
 
 // All frames, queued where they are offered for good.
-#[tactic(auto, unfolding(crate::specs::Places::told_from))]
+#[tactic(auto, unfolding(crate::specs::LineLists::lines_of_each))]
 fn offered(
     alloc: Global,
     waits: &[Option<u32>],
@@ -177,7 +177,7 @@ fn unheld_at(waits: &[Option<u32>], place: usize, frames: &Option<FlowFrames>) -
 }
 
 // The least identifier of frames of which no wait is known.
-#[tactic(auto, unfolding(crate::specs::Places::told_from))]
+#[tactic(auto, unfolding(crate::specs::LineLists::lines_of_each))]
 fn unheld(waits: &[Option<u32>], all: &[Option<FlowFrames>]) -> Option<u64>
     requires { length waits.now ≡ length all.now }
     ensures { result ≡ unheld waits.now all.now }

@@ -1,7 +1,7 @@
 //! What the requests of a plan ask of its bus.
 ghost use Rattle.std.specs.Prelude.{◌≡◌, ◌≢◌, [], ◌<◌, ℕ, All, length, IfOk, OnErr};
 ghost use Rattle.j39_findings.specs.declared.plan.to.To.TheVariants.{One};
-ghost use Rattle.j39_load.specs.Requests.{load_of_request, request_loads_of};
+ghost use Rattle.j39_load.specs.RequestLoads.{load_of_request, request_loads_of};
 ghost use Rattle.j39_load.specs.SoundLoads.{IsSoundIfAsked};
 ghost use Rattle.j39_load.specs.Standing.{stays_of};
 

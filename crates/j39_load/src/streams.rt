@@ -1,7 +1,7 @@
 //! The frames of a flow.
 ghost use Rattle.std.specs.Prelude.{◌≡◌, ◌<◌, ◌≤◌, ◌*◌, ◌^◌, length};
 ghost use Rattle.j39_load.specs.Broadcasts.{bits_each, spaced_stream};
-ghost use Rattle.j39_load.specs.Requests.{request_stream};
+ghost use Rattle.j39_load.specs.RequestLoads.{request_stream};
 ghost use Rattle.j39_load.specs.Loads.{bits_of_ms, bits_per_ms, frames_to_all, frames_to_one, load_of, most_bytes, packet_stream, single_stream};
 ghost use Rattle.j39_timing.specs.Waits.{IsStream};
 

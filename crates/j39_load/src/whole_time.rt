@@ -5,7 +5,7 @@
 pub struct WholeTime {
     /// How many frames the longest has.
     pub frames: u16,
-    /// So long behind the moment at which one is wanted each receiver has it whole at most, where that is known.
+    /// So long after the moment at which one is wanted each receiver has it whole at most, where that is known.
     pub bits: Option<u64>,
     /// Within so long of this moment each has to be whole, where a deadline is written.
     pub limit: Option<u32>,

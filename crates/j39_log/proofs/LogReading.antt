@@ -6,7 +6,7 @@ use Rattle.j39_findings.specs.declared.plan.Plan.{Plan}
 use Rattle.j39_log.specs.ReadText.{IsLogText, Past, ReadsLines, count_line, counts_line, nothing_yet}
 use Rattle.j39_stream.specs.LineReading.{HasLines, IsSoFar}
 use Rattle.j39_stream.specs.declared.verdict.Verdict.TheVariants.{Done}
-use Rattle.j39_log.specs.inside.Recalling.{HasReadLines, Recalls}
+use Rattle.j39_log.specs.inside.ReadSoFar.{HasReadLines, Recalls}
 use Rattle.j39_log.specs.declared.log_reading.Reading.{Reading}
 
 -- ---- lines after lines

@@ -2,6 +2,6 @@
 pub mod FirstFlows
 pub mod Listening
 pub mod NameTables
-pub mod Recalling
+pub mod ReadSoFar
 pub mod ReportHeads
 pub mod ValueLines

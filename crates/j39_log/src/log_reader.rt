@@ -16,7 +16,7 @@ pub(crate) struct LogReader<'a> {
 impl<'a> LineReader for LogReader<'a> {
     ghost use Rattle.std.specs.Prelude.{◌≡◌, ◌≤◌, true};
     ghost use Rattle.j39_log.specs.ReadText.{IsLogText};
-    ghost use Rattle.j39_log.specs.inside.Recalling.{HasReadLines, counted};
+    ghost use Rattle.j39_log.specs.inside.ReadSoFar.{HasReadLines, counted};
     ghost use Rattle.j39_stream.specs.declared.verdict.Verdict.TheVariants.{Done};
 
     ghost text = { λ reader. reader.reading.text };

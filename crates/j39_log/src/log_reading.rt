@@ -3,7 +3,7 @@ ghost use Rattle.std.specs.Prelude.{◌≡◌, ◌+◌, ◌^◌, ◌<◌, ◌≤
 ghost use Rattle.j39_id.specs.Lines.{Short, tells};
 ghost use Rattle.j39_tp.specs.Packets.{InRange};
 ghost use Rattle.j39_log.specs.inside.Listening.{AreAllInRange, HaveHeard, IsInRange};
-ghost use Rattle.j39_log.specs.inside.Recalling.{Recalls, counted};
+ghost use Rattle.j39_log.specs.inside.ReadSoFar.{Recalls, counted};
 ghost use Rattle.j39_log.specs.LogFrames.{IsHeardAs, planned};
 ghost use Rattle.j39_log.specs.LogPairs.{Seen};
 ghost use Rattle.j39_log.specs.ReadText.{IsFrameReport, IsGroupReport, Past, ReadsFrame, ReadsLine, ReadsLines, counts_line, nothing_yet, passed_over};

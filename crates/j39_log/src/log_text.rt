@@ -1,7 +1,7 @@
 //! What the read command writes.
 ghost use Rattle.std.specs.Prelude.{◌≡◌, IfOk};
 ghost use Rattle.j39_log.specs.ReadText.{IsReadText, IsRefused, refused_plan_line};
-ghost use Rattle.j39_stream.specs.Commands.{AnswersInPieces, PutsText};
+ghost use Rattle.j39_stream.specs.CommandEnds.{AnswersInPieces, PutsText};
 ghost use Rattle.j39_stream.specs.Streams.{log_limits};
 
 use crate::catalog::CatalogError;

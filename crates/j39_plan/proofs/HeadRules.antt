@@ -1,7 +1,7 @@
 -- The versions of a plan file.
 use Rattle.std.proofs.Common.{◌≡◌, true, false, Bool, ◌||◌, refl}
 use Rattle.toml.specs.Data.{Members}
-use Rattle.j39_plan.specs.Faults.{may_keep, knows_third, knows_fourth}
+use Rattle.j39_plan.specs.PlanFaults.{may_keep, knows_third, knows_fourth}
 
 either_true : (a b : Bool) → b ≡ true → (a || b) ≡ true
 either_true true b h = refl

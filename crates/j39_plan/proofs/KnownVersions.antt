@@ -9,7 +9,7 @@ use Rattle.j39_plan.specs.Words.{word_of}
 use Rattle.j39_plan.specs.Schema.{integer_in, natural, number_of}
 use Rattle.j39_plan.specs.TableFaults.{standing_cause, key_faults}
 use Rattle.j39_plan.specs.Elements.{Each}
-use Rattle.j39_plan.specs.Faults.{version_rule, may_keep, knows_third, knows_fourth}
+use Rattle.j39_plan.specs.PlanFaults.{version_rule, may_keep, knows_third, knows_fourth}
 
 no_version : (n : ℕ) → 1 ≤ n → 0 ≡ n → ⊥
 no_version n some is = omega (arith, is)

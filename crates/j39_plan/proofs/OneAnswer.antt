@@ -31,7 +31,7 @@ use Rattle.j39_plan.specs.NeedTables.{IsNeedOf, need_signal_rule, signals_at}
 use Rattle.j39_plan.specs.RequestTables.{IsRequestOf}
 use Rattle.j39_plan.specs.TimingTables.{TellsBus, TellsErrors, TellsTiming, errors_table}
 use Rattle.j39_plan.specs.Schema.{tables_of, found_text}
-use Rattle.j39_plan.specs.Faults.{faults, units_rule, groups_rule, flows_rule, timing_table, need_tables, request_tables, unit_labels, group_labels, group_signals, knows_third, knows_fourth}
+use Rattle.j39_plan.specs.PlanFaults.{faults, units_rule, groups_rule, flows_rule, timing_table, need_tables, request_tables, unit_labels, group_labels, group_signals, knows_third, knows_fourth}
 use Rattle.j39_plan.specs.Described.{TellsPlan, Described, Reads}
 use Rattle.j39_plan.specs.OnePlan.{AreOneUnit, AreOneSignal, AreOneValueName, AreOneMeaning, AreOneText, AreOneGroup, AreOneErrorRate, AreOneBus, AreOneTiming, AreOnePace, AreOneFlowPlan, AreOneNeed, AreOneRequest, AreOnePlan, AreOneAnswer}
 

@@ -13,7 +13,7 @@ use Rattle.j39_plan.specs.declared.reading.place.Table.{Table}
 use Rattle.j39_plan.specs.Words.{word_of}
 use Rattle.j39_plan.specs.Schema.{Rule, natural, standing, number_of, table_of, tables_of, addresses_of}
 use Rattle.j39_plan.specs.TableFaults.{has_only, key_faults}
-use Rattle.j39_plan.specs.Faults.{version_rule}
+use Rattle.j39_plan.specs.PlanFaults.{version_rule}
 use Rattle.j39_plan.specs.Versions.{with_version}
 
 -- the word of the version

@@ -6,7 +6,7 @@ use Rattle.j39_findings.specs.declared.plan.Plan.{Plan}
 use Rattle.j39_plan.specs.declared.reading.plan_error.PlanError.{PlanError}
 use Rattle.j39_plan.specs.declared.reading.plan_error.PlanError.TheVariants as errors
 use Rattle.j39_plan.specs.Outcome.{first}
-use Rattle.j39_plan.specs.Faults.{faults}
+use Rattle.j39_plan.specs.PlanFaults.{faults}
 use Rattle.j39_plan.specs.Described.{TellsPlan, Described, Reads}
 use Rattle.j39_plan.specs.Versions.{ReadAlike}
 use Rattle.j39_plan.proofs.Absent.{Alike, alike_none}

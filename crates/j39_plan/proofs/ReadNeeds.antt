@@ -15,7 +15,7 @@ use Rattle.j39_plan.specs.Schema.{tables_of, items_count}
 use Rattle.j39_plan.specs.SignalTables.{IsSignalOf}
 use Rattle.j39_plan.specs.GroupTables.{IsGroupOf, signal_rule}
 use Rattle.j39_plan.specs.declared.reading.key.Key.TheVariants as key
-use Rattle.j39_plan.specs.Faults.{need_tables_of}
+use Rattle.j39_plan.specs.PlanFaults.{need_tables_of}
 use Rattle.j39_plan.specs.NeedTables.{IsNeedOf, signals_at, signals_of_groups}
 use Rattle.j39_plan.proofs.NoFaults.{All-from_Each, labels_told, tables_count}
 use Rattle.j39_plan.proofs.ReadPlans.{group_texts, unit_texts, placed}

@@ -10,7 +10,7 @@ use Rattle.j39_findings.specs.declared.plan.request_plan.RequestPlan.{RequestPla
 use Rattle.j39_plan.specs.Elements.{Each}
 use Rattle.j39_plan.specs.Schema.{items_count}
 use Rattle.j39_plan.specs.declared.reading.key.Key.TheVariants as key
-use Rattle.j39_plan.specs.Faults.{request_tables_of}
+use Rattle.j39_plan.specs.PlanFaults.{request_tables_of}
 use Rattle.j39_plan.specs.RequestTables.{IsRequestOf}
 use Rattle.j39_plan.proofs.NoFaults.{All-from_Each, tables_count}
 use Rattle.j39_plan.proofs.ReadPlans.{group_texts, unit_texts, placed, received}

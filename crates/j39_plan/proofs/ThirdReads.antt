@@ -12,7 +12,7 @@ use Rattle.j39_plan.specs.TableFaults.{key_faults, keys_faults, is_key_word, has
 use Rattle.j39_plan.specs.Elements.{each_faults, label_in}
 use Rattle.j39_plan.specs.GroupTables.{IsGroupOf, group_faults}
 use Rattle.j39_plan.specs.FlowTables.{IsFlowOf, flow_faults}
-use Rattle.j39_plan.specs.Faults.{version_rule, keep_free_rule, strangers_of, strangers_faults, timing_rule, units_rule, groups_rule, flows_rule, knows_fourth, head_faults, timing_faults, array_rules, top_faults, unit_labels, group_labels, units_faults, groups_faults, flows_faults, needs_faults, requests_faults, no_label, faults}
+use Rattle.j39_plan.specs.PlanFaults.{version_rule, keep_free_rule, strangers_of, strangers_faults, timing_rule, units_rule, groups_rule, flows_rule, knows_fourth, head_faults, timing_faults, array_rules, top_faults, unit_labels, group_labels, units_faults, groups_faults, flows_faults, needs_faults, requests_faults, no_label, faults}
 use Rattle.j39_plan.specs.Described.{keep_free_of, TellsPlan}
 use Rattle.j39_plan.specs.Versions.{with_version, Lacks, IsSecondGroup, IsSecondFlow, IsSecondPlan, ReadAlike}
 use Rattle.j39_plan.proofs.Absent.{lacked, IsNone, only_same, Alike, alike_both, alike_unknown, alike_each, told_alike}

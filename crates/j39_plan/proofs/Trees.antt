@@ -16,7 +16,7 @@ use Rattle.j39_plan.specs.Outcome.{GivesGrowing, FailsGrowing}
 use Rattle.j39_plan.specs.Growing.{PlanGrows}
 use Rattle.j39_plan.specs.Schema.{number_of}
 use Rattle.j39_plan.specs.TableFaults.{unknown_faults, key_faults}
-use Rattle.j39_plan.specs.Faults.{faults, top_faults, may_keep}
+use Rattle.j39_plan.specs.PlanFaults.{faults, top_faults, may_keep}
 use Rattle.j39_plan.specs.Described.{TellsPlan, tree_of, Reads, MayAskForRoom}
 
 pub reads_tree : (r : Result Plan PlanError) (t : Members) (tree : Option Members) → tree ≡ Some t → GivesGrowing (PlanGrows t) r (faults t) (TellsPlan t)

@@ -18,8 +18,8 @@ use Rattle.j39_plan.specs.FlowTables.{IsFlowOf}
 use Rattle.j39_plan.specs.NeedTables.{IsNeedOf}
 use Rattle.j39_plan.specs.RequestTables.{IsRequestOf}
 use Rattle.j39_plan.specs.TimingTables.{TellsTiming}
-use Rattle.j39_plan.specs.Faults.{faults, may_keep, knows_third, knows_fourth, keep_free_rule, timing_table, units_rule, groups_rule, flows_rule}
-use Rattle.j39_plan.specs.Faults.{strangers_of, need_tables, request_tables, unit_labels, group_labels, group_signals}
+use Rattle.j39_plan.specs.PlanFaults.{faults, may_keep, knows_third, knows_fourth, keep_free_rule, timing_table, units_rule, groups_rule, flows_rule}
+use Rattle.j39_plan.specs.PlanFaults.{strangers_of, need_tables, request_tables, unit_labels, group_labels, group_signals}
 
 -- the addresses that a tree keeps free: none, where its version keeps none
 abbrev pub keep_free_of : Members → FinSet nat_cmp

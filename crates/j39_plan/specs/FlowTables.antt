@@ -49,7 +49,7 @@ period_rule fourth ms = period_of (asks_for_period fourth ms)
 abbrev pub deadline_rule : Rule
 deadline_rule = optional key.Deadline 1 65535
 
--- a message is queued at most so many milliseconds behind its moment: fewer than its period has
+-- a message is queued at most so many milliseconds after its moment: fewer than its period has
 abbrev pub jitter_most : Option ℕ → ℕ
 jitter_most None = 65535
 jitter_most (Some period) = period - 1

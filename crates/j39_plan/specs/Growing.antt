@@ -13,8 +13,8 @@ use Rattle.j39_plan.specs.TextTables.{text_faults}
 use Rattle.j39_plan.specs.FlowTables.{flow_faults}
 use Rattle.j39_plan.specs.NeedTables.{need_faults}
 use Rattle.j39_plan.specs.RequestTables.{request_faults}
-use Rattle.j39_plan.specs.Faults.{top_faults, units_rule, groups_rule, flows_rule, units_faults, groups_faults, flows_faults, needs_faults, need_tables, request_tables}
-use Rattle.j39_plan.specs.Faults.{group_labels, group_signals, unit_labels, knows_third, knows_fourth}
+use Rattle.j39_plan.specs.PlanFaults.{top_faults, units_rule, groups_rule, flows_rule, units_faults, groups_faults, flows_faults, needs_faults, need_tables, request_tables}
+use Rattle.j39_plan.specs.PlanFaults.{group_labels, group_signals, unit_labels, knows_third, knows_fourth}
 
 -- the reader of an element asks for none
 abbrev pub NeverGrows : ℕ → Data → Type 0

@@ -1,6 +1,6 @@
 pub mod Described
 pub mod Elements
-pub mod Faults
+pub mod PlanFaults
 pub mod FlowTables
 pub mod GroupTables
 pub mod Growing

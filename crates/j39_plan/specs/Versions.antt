@@ -13,7 +13,7 @@ use Rattle.j39_plan.specs.SignalTables.{kind_rule}
 use Rattle.j39_plan.specs.GroupTables.{signal_rule}
 use Rattle.j39_plan.specs.FlowTables.{has_key}
 use Rattle.j39_plan.specs.TimingTables.{bitrate_rule}
-use Rattle.j39_plan.specs.Faults.{version_rule, timing_rule, units_rule, groups_rule, flows_rule}
+use Rattle.j39_plan.specs.PlanFaults.{version_rule, timing_rule, units_rule, groups_rule, flows_rule}
 use Rattle.j39_plan.specs.Described.{Reads}
 
 -- the same tree with this number at the version

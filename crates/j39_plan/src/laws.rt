@@ -6,7 +6,7 @@ ghost use Rattle.j39_plan.specs.SignalTables.{OlderSignalRules};
 ghost use Rattle.j39_plan.specs.FlowTables.{OlderFlowRules};
 ghost use Rattle.j39_plan.specs.TimingTables.{OlderTimingRules};
 ghost use Rattle.j39_plan.specs.UnitTables.{OlderUnitRules};
-ghost use Rattle.j39_plan.specs.Faults.{OlderArrays, OlderStrangers};
+ghost use Rattle.j39_plan.specs.PlanFaults.{OlderArrays, OlderStrangers};
 ghost use Rattle.j39_plan.specs.Versions.{FourthReadsAsThird, ThirdReadsAsSecond};
 
 /// But for want of memory, the definition allows one answer for a file: it describes one plan, or it has one first fault, or it

@@ -3,7 +3,7 @@ ghost use Rattle.std.specs.Prelude.{IsErrOf};
 ghost use Rattle.toml.specs.View.{table_view};
 ghost use Rattle.j39_plan.specs.Outcome.{GivesGrowing};
 ghost use Rattle.j39_plan.specs.Growing.{PlanGrows};
-ghost use Rattle.j39_plan.specs.Faults.{faults};
+ghost use Rattle.j39_plan.specs.PlanFaults.{faults};
 ghost use Rattle.j39_plan.specs.Described.{TellsPlan, tree_of, Reads, MayAskForRoom};
 
 mod cause;

@@ -5,7 +5,7 @@ use Rattle.std.specs.Io.KnownBytes.{Appends}
 use Rattle.j39_findings.specs.declared.plan.Plan.{Plan}
 use Rattle.j39_world.specs.declared.bus_error.BusError.{BusError}
 use Rattle.j39_world.specs.Opening.{CanOpen, IsNotOpened}
-use Rattle.j39_stream.specs.Commands.{AnswersInPieces, PutsText}
+use Rattle.j39_stream.specs.CommandEnds.{AnswersInPieces, PutsText}
 use Rattle.j39_stream.specs.Streams.{SinkState, SourceState, plan_limits}
 use Rattle.j39_stream.specs.declared.fault.Fault.{Fault}
 use Rattle.j39_stream.specs.declared.verdict.Verdict.{Verdict}

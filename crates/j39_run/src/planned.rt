@@ -2,7 +2,7 @@
 ghost use Rattle.std.specs.Prelude.{◌≡◌, ◌⊎◌, ℕ, List, length, IfOk, Some};
 ghost use Rattle.std.specs.Io.KnownBytes.{Appends};
 ghost use Rattle.j39_run.specs.RunText.{IsRunText};
-ghost use Rattle.j39_stream.specs.Commands.{AnswersInPieces};
+ghost use Rattle.j39_stream.specs.CommandEnds.{AnswersInPieces};
 ghost use Rattle.j39_world.specs.Opening.{CanOpen};
 ghost use Rattle.j39_stream.specs.Streams.{plan_limits};
 

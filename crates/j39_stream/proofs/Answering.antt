@@ -2,7 +2,7 @@
 use Rattle.std.proofs.Common.{◌≡◌, List, ℕ, [], Result, Ok, Err, inl, inr, refl, arith}
 use Rattle.std.specs.Prelude.{IsErr, IsErrOf}
 use Rattle.std.specs.Io.KnownBytes.{Appends, Consumes, IsAtEnd}
-use Rattle.j39_stream.specs.Commands.{AnswersInPieces, AnswersWhole, PutsText}
+use Rattle.j39_stream.specs.CommandEnds.{AnswersInPieces, AnswersWhole, PutsText}
 use Rattle.j39_stream.specs.Streams.{AppendsPart, HasFailed, KeepsLimits, PassesLimits, SinkState, SourceState}
 use Rattle.j39_stream.specs.declared.fault.Fault.{Fault}
 use Rattle.j39_stream.specs.declared.fault.Fault.TheVariants.{Memory, Device, TooLong}

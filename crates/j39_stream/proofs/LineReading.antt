@@ -8,7 +8,7 @@ use Rattle.j39_id.specs.Lines.{Line, Pending, answer_to_end, at_start, behind_al
 use Rattle.j39_id.specs.declared.cut.Cut.{Cut}
 use Rattle.j39_id.specs.declared.cut.Cut.TheVariants as cuts
 use Rattle.j39_id.proofs.CutLines.{tells_lines, told-append}
-use Rattle.j39_stream.specs.Commands.{AnswersInPieces}
+use Rattle.j39_stream.specs.CommandEnds.{AnswersInPieces}
 use Rattle.j39_stream.specs.Intakes.{Counts, EndsWithItsPiece, HasRead, piece_bytes}
 use Rattle.j39_stream.specs.LineReading.{AreTextsOf, HasLines, HasReadInput, IsCutOff, IsSoFar}
 use Rattle.j39_stream.specs.Streams.{AppendsPart, HasFailed, KeepsLimits, PassesLimits, SinkState, SourceState}
@@ -61,7 +61,7 @@ all_told input cut p line at answered gave =
     ap (λ (l : List Line). told at_start input ++ l) (tells_end cut p line answered gave)
     ∙ ap (λ (r : Pending). told at_start input ++ told_at_end r) at ∙ tells_lines input
 
--- what was read behind which these lines stand, whatever comes behind it
+-- what was read behind which these lines stand, whatever comes after it
 pub lines_from : (seen tail : List ℕ) → (rest : List Line) × (lines (seen ++ tail) ≡ told at_start seen ++ rest)
 lines_from seen tail =
     let end : List Line = told_at_end (behind_all at_start (seen ++ tail)) in (

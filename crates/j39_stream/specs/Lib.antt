@@ -1,4 +1,4 @@
-pub mod Commands
+pub mod CommandEnds
 pub mod Intakes
 pub mod LineReading
 pub mod Streams

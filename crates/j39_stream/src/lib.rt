@@ -23,7 +23,7 @@ pub use intake::{Intake, PIECE_BYTES};
 pub use limits::{LOG_LIMITS, Limits, PLAN_LIMITS};
 pub use line_reader::LineReader;
 pub use line_reading::read_lines;
-pub use loading::load;
+pub use loading::read_whole;
 pub use pieces::{Pieces, Stop};
 pub use sink::Sink;
 pub use source::Source;

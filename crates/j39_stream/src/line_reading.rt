@@ -2,7 +2,7 @@
 ghost use Rattle.std.specs.Prelude.{◌≡◌, ◌+◌, ◌≤◌, ◌^◌, ◌++◌, ℕ, List, [], length, IfErr, IfOk, OnOk, Some};
 ghost use Rattle.std.specs.Io.KnownBytes.{Appends};
 ghost use Rattle.j39_id.specs.Lines.{Line, behind_all, told};
-ghost use Rattle.j39_stream.specs.Commands.{AnswersInPieces};
+ghost use Rattle.j39_stream.specs.CommandEnds.{AnswersInPieces};
 ghost use Rattle.j39_stream.specs.Intakes.{EndsWithItsPiece};
 ghost use Rattle.j39_stream.specs.LineReading.{AreTextsOf, HasReadInput, IsCutOff, IsSoFar};
 

@@ -9,7 +9,7 @@ use std::alloc::Global;
 const PIECE: usize = 16_384;
 
 /// All of the bytes that are left, within the limits of a plan.
-pub fn load<S: Source>(alloc: Global, source: &mut S) -> Result<Vec<u8>, Fault>
+pub fn read_whole<S: Source>(alloc: Global, source: &mut S) -> Result<Vec<u8>, Fault>
     ensures whole { IfOk result (λ input. Consumes (S.state source.old).left (S.state source.new).left input.items × IsAtEnd (S.state source.new).left) }
     ensures limit { IfOk result (λ input. vec_len input ≤ plan_limits.bytes) }
     ensures limits { OnOk result (KeepsLimits plan_limits (S.state source.old) (S.state source.new)) }

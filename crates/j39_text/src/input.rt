@@ -3,11 +3,11 @@ ghost use Rattle.std.specs.Prelude.{◌≡◌};
 ghost use Rattle.std.specs.List.{before_first, position};
 ghost use Rattle.j39_text.specs.FrameText.{IsInputText};
 ghost use Rattle.j39_id.specs.Lines.{is_line_feed};
-ghost use Rattle.j39_stream.specs.Commands.{AnswersWhole, IsOfAny};
+ghost use Rattle.j39_stream.specs.CommandEnds.{AnswersWhole, IsOfAny};
 ghost use Rattle.j39_stream.specs.Streams.{plan_limits};
 
 use crate::frame_text;
-use j39_stream::{Fault, Sink, Source, Verdict, load};
+use j39_stream::{Fault, Sink, Source, Verdict, read_whole};
 use std::alloc::Global;
 
 // Where the first line feed stands.
@@ -36,6 +36,6 @@ pub fn input_text<S: Source, W: Sink>(
 ) -> Result<Verdict, Fault>
     ensures { AnswersWhole IsInputText (IsOfAny IsInputText) plan_limits (S.state source.old) (S.state source.new) W.state sink.old sink.new result }
 {
-    let input = load(alloc, source)?;
+    let input = read_whole(alloc, source)?;
     frame_text(alloc, first_line(input.as_slice()), sink)
 }

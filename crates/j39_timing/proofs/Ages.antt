@@ -1,10 +1,10 @@
 -- A frame that is queued often enough and sent in time is never old where it is received.
 use Rattle.std.proofs.Common.{ℕ, ◌+◌, ◌-◌, ◌<◌, Bool, arith}
-use Rattle.j39_timing.specs.Schedule.{Schedule}
-use Rattle.j39_timing.specs.Streams.{Origins}
+use Rattle.j39_timing.specs.TimedFrames.{Schedule}
+use Rattle.j39_timing.specs.FrameStreams.{Origins}
 use Rattle.j39_timing.specs.Traffic.{IsStreamInTime, delay_of}
 use Rattle.j39_timing.specs.declared.stream.Stream.{Stream}
-use Rattle.j39_timing.specs.Ages.{KeepsComing, IsFresh}
+use Rattle.j39_timing.specs.FreshFrames.{KeepsComing, IsFresh}
 
 pub fresh : (s : Schedule) (planned : ℕ → Bool) (of : Origins) (i : ℕ) (stream : Stream) (wait pause from to : ℕ) → IsStreamInTime s planned of i stream wait
     → KeepsComing s planned of i pause from to → to + (stream.late + wait) < s.now

@@ -5,9 +5,9 @@ use Rattle.std.specs.Int.{div_ceil}
 use Rattle.std.proofs.lemmas.Bool.{and_parts, and_from, cases_lt, cases_eq, cases_Bool, or_cases, or_left, or_right, le-leb, lt-ltb, ltb-true, eqb-true, eq-eqb, both_ways}
 use Rattle.std.proofs.lemmas.Grind.{div_ceil_times}
 use Rattle.j39_timing.specs.Sums.{total}
-use Rattle.j39_timing.specs.Schedule.{Schedule, Waits, demand}
+use Rattle.j39_timing.specs.TimedFrames.{Schedule, Waits, demand}
 use Rattle.j39_timing.specs.declared.stream.Stream.{Stream}
-use Rattle.j39_timing.specs.Streams.{Origins, AreOfStreams}
+use Rattle.j39_timing.specs.FrameStreams.{Origins, AreOfStreams}
 use Rattle.j39_timing.specs.Traffic.{Traffic, IsQueuedAt, IsStreamInTime}
 use Rattle.j39_timing.specs.Waits.{share}
 use Rattle.j39_timing.specs.AnyOrder.{AreBegunWithin, Controllers, IsLegalInAnyOrder}

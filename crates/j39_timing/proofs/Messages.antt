@@ -3,8 +3,8 @@ use Rattle.std.proofs.Common.{◌≡◌, ℕ, ◌+◌, ◌*◌, ◌<◌, ◌≤�
 use Rattle.std.proofs.lemmas.List.Elements.{All-head, All-tail}
 use Rattle.std.proofs.lemmas.List.Sums.{sum_by-cons}
 use Rattle.j39_timing.specs.declared.stream.Stream.{Stream}
-use Rattle.j39_timing.specs.Schedule.{Schedule}
-use Rattle.j39_timing.specs.Streams.{Origins}
+use Rattle.j39_timing.specs.TimedFrames.{Schedule}
+use Rattle.j39_timing.specs.FrameStreams.{Origins}
 use Rattle.j39_timing.specs.Messages.{LongMessage, AreSentInTurn, AreSentWithin, FollowInTurn, IsBroadcast, IsOf, all_whole_at, frame_end, packets_end, time_of_message, time_of_messages, whole_at}
 
 module _ (s : Schedule) (planned : ℕ → Bool) (of : Origins) (a d gap wait_a wait_d : ℕ) (stream_a stream_d : Stream)

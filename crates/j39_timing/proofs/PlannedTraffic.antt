@@ -5,9 +5,9 @@ use Rattle.std.specs.Int.{div_ceil}
 use Rattle.std.proofs.lemmas.Bool.{and_parts, and_from, cases_lt, cases_Bool, le-leb, lt-ltb, leb-true, ltb-true, eqb-true, eq-eqb, both_ways}
 use Rattle.std.proofs.lemmas.Grind.{div_ceil_times}
 use Rattle.j39_timing.specs.Sums.{total}
-use Rattle.j39_timing.specs.Schedule.{Schedule, IsLegal, demand}
+use Rattle.j39_timing.specs.TimedFrames.{Schedule, IsLegal, demand}
 use Rattle.j39_timing.specs.declared.stream.Stream.{Stream}
-use Rattle.j39_timing.specs.Streams.{Origins, AreOfStreams}
+use Rattle.j39_timing.specs.FrameStreams.{Origins, AreOfStreams}
 use Rattle.j39_timing.specs.Traffic.{Traffic, Others, IsPlannedTraffic, IsSingle, HasRoom, IsStreamInTime, PlannedFramesWait, AreQueuedBehind, AreSteady, delay_of}
 use Rattle.j39_timing.specs.Traffic.{may_go_before, others_before, others_queued, is_other_queued}
 use Rattle.j39_timing.specs.Messages.{AreSentWithin}
@@ -244,7 +244,7 @@ module _ (s : Schedule) (traffic : Traffic) (others : Others) (longest : ℕ) (p
       low : c ≤ traffic.greatest i
       low = let (is, same) = own_parts x is_x in known.to_greatest x in_x is same
 
-      -- how many times their distance it is queued behind the beginning
+      -- how many times their distance it is queued after the beginning
       abbrev k : ℕ
       k = (s.queued x - begin) / distance
 
@@ -367,7 +367,7 @@ module _ (s : Schedule) (traffic : Traffic) (others : Others) (longest : ℕ) (p
         let most : s.bits p ≤ (traffic.stream i).bits = subst (λ j. s.bits p ≤ (traffic.stream j).bits) same (known.of_streams.keeps p in_p is).bits_at_most in
         (begins, omega arith)
 
-  -- ---- frames of which each is queued behind the end of the one before
+  -- ---- frames of which each is queued after the end of the one before
 
   module _ (behind : AreQueuedBehind s planned of i) (steady : AreSteady s planned of i) where
     module _ (x : ℕ) (in_x : x < s.count) (is_x : own x ≡ true) (late : s.queued x + wait < s.start x) (begin : ℕ) (early : begin ≤ s.queued x)

@@ -1,7 +1,7 @@
 -- A frame of a greater identifier has just begun, and the frame waits for all of it.
 use Rattle.std.proofs.Common.{◌*◌, ◌-◌, arith, inl, inr}
 use Rattle.std.proofs.lemmas.Bool.{cases_lt}
-use Rattle.j39_timing.specs.Schedule.{Schedule, IsLegal}
+use Rattle.j39_timing.specs.TimedFrames.{Schedule, IsLegal}
 
 abbrev pub two : Schedule
 two = record { count = 2; queued = λ p. 0; start = λ p. p * 160; bits = λ p. 160; ident = λ p. 1 - p; now = 1000 }

@@ -2,8 +2,8 @@
 use Rattle.std.proofs.Common.{◌≡◌, ℕ, ◌+◌, ◌-◌, ◌<◌, Bool, true, not, ◌&&◌, cond, eqb, ltb, leb, refl, arith, inl, inr}
 use Rattle.std.proofs.lemmas.Bool.{and_parts, both_ways, cases_Bool, cases_eq, eq-eqb, eqb-true, ltb-true}
 use Rattle.j39_timing.specs.Sums.{total}
-use Rattle.j39_timing.specs.Schedule.{Schedule, IsLegal}
-use Rattle.j39_timing.specs.Streams.{Origins}
+use Rattle.j39_timing.specs.TimedFrames.{Schedule, IsLegal}
+use Rattle.j39_timing.specs.FrameStreams.{Origins}
 use Rattle.j39_timing.specs.Traffic.{Traffic, Others, IsPlannedTraffic, HasRoom, is_other_queued, others_queued}
 use Rattle.j39_timing.proofs.Reached.{two, two_legal}
 use Rattle.j39_timing.proofs.Sums.{total-none}

@@ -2,7 +2,7 @@
 use Rattle.std.proofs.Common.{◌≡◌, ◌≢◌, ℕ, zero, suc, ◌+◌, ◌*◌, ◌-◌, ◌<◌, ◌≤◌, ◌⊎◌, Bool, true, false, not, cond, ◌&&◌, ◌||◌, ltb, leb, refl, ap, arith, inl, inr}
 use Rattle.std.proofs.lemmas.Bool.{and_parts, and_from, cases_lt, cases_eq, cases_Bool, le-leb, lt-ltb, leb-true, ltb-true, both_ways}
 use Rattle.j39_timing.specs.Sums.{total}
-use Rattle.j39_timing.specs.Schedule.{Schedule, IsLegal, IsOnBusAt, Waits}
+use Rattle.j39_timing.specs.TimedFrames.{Schedule, IsLegal, IsOnBusAt, Waits}
 use Rattle.j39_timing.specs.Traffic.{PlannedFramesWait, others_queued}
 use Rattle.j39_timing.proofs.Overlaps.{covers, covered}
 use Rattle.j39_timing.proofs.Searching.{any_below, any-found, any-none, last_false}

@@ -2,8 +2,8 @@
 -- which the oldest frame goes first, few mailboxes, one buffer).
 use Rattle.std.specs.Prelude.{◌≡◌, ℕ, zero, suc, ◌+◌, ◌<◌, ◌≤◌, Bool, true, false, ◌&&◌, cond, nat_lt, nat_le}
 use Rattle.j39_timing.specs.declared.stream.Stream.{Stream}
-use Rattle.j39_timing.specs.Schedule.{Schedule, IsOnBusAt, Waits}
-use Rattle.j39_timing.specs.Streams.{Origins}
+use Rattle.j39_timing.specs.TimedFrames.{Schedule, IsOnBusAt, Waits}
+use Rattle.j39_timing.specs.FrameStreams.{Origins}
 use Rattle.j39_timing.specs.Traffic.{Traffic, IsQueuedAt, may_go_before}
 
 -- who sends the frames of a schedule

@@ -1,8 +1,8 @@
 -- The frames that may go before one that waits in a unit without order: those of its company, and those that may go before these.
 use Rattle.std.specs.Prelude.{◌≡◌, ℕ, ◌+◌, ◌*◌, ◌<◌, ◌≤◌, Bool, true, not, ◌&&◌, ◌||◌, cond, nat_lt, nat_le}
 use Rattle.j39_timing.specs.Sums.{total}
-use Rattle.j39_timing.specs.Schedule.{Schedule, Waits}
-use Rattle.j39_timing.specs.Streams.{Origins, AreOfStreams}
+use Rattle.j39_timing.specs.TimedFrames.{Schedule, Waits}
+use Rattle.j39_timing.specs.FrameStreams.{Origins, AreOfStreams}
 use Rattle.j39_timing.specs.Traffic.{Traffic, IsQueuedAt}
 use Rattle.j39_timing.specs.Waits.{share}
 use Rattle.j39_timing.specs.AnyOrder.{Controllers, IsUnordered}

@@ -2,7 +2,7 @@
 use Rattle.std.specs.Prelude.{◌≡◌, ℕ, suc, ◌+◌, ◌-◌, ◌<◌, ◌≤◌, ◌⊎◌, ◌||◌, cond, nat_eq, nat_lt}
 use Rattle.j39_timing.specs.FrameBits.{error_frame}
 use Rattle.j39_timing.specs.AnyOrder.{Controllers, MayBeOffered}
-use Rattle.j39_timing.specs.Schedule.{Schedule, IsOnBusAt, Waits}
+use Rattle.j39_timing.specs.TimedFrames.{Schedule, IsOnBusAt, Waits}
 
 -- attempts to send frames of a schedule that were damaged
 pub record Damaged : Type 0 where

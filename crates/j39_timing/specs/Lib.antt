@@ -1,12 +1,12 @@
 pub mod Sums
 pub mod FrameBits
-pub mod Schedule
-pub mod Streams
+pub mod TimedFrames
+pub mod FrameStreams
 pub mod Waits
 pub mod Traffic
 pub mod AnyOrder
 pub mod Errors
 pub mod Companies
-pub mod Ages
+pub mod FreshFrames
 pub mod Messages
 pub mod Rounds

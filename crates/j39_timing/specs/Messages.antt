@@ -1,8 +1,8 @@
--- Messages of several frames that a unit sends one at a time, each frame queued behind the end of the one before: when they are whole.
+-- Messages of several frames that a unit sends one at a time, each frame queued after the end of the one before: when they are whole.
 use Rattle.std.specs.Prelude.{◌≡◌, ℕ, ◌+◌, ◌*◌, ◌<◌, ◌≤◌, Bool, true, List, [], ◌∷◌, All, length, sum_by}
 use Rattle.j39_timing.specs.declared.stream.Stream.{Stream}
-use Rattle.j39_timing.specs.Schedule.{Schedule}
-use Rattle.j39_timing.specs.Streams.{Origins}
+use Rattle.j39_timing.specs.TimedFrames.{Schedule}
+use Rattle.j39_timing.specs.FrameStreams.{Origins}
 
 -- a message: its announcement and its packets in order, by their places in a schedule
 pub record LongMessage : Type 0 where
@@ -13,7 +13,7 @@ pub record LongMessage : Type 0 where
 abbrev pub frame_end : Schedule → ℕ → ℕ
 frame_end s p = s.start p + s.bits p
 
--- each packet is queued at most `gap` bits behind the end of the frame before, the first one behind this frame
+-- each packet is queued at most `gap` bits after the end of the frame before, the first one behind this frame
 unfoldable pub FollowInTurn : Schedule → ℕ → ℕ → List ℕ → Type 0
 FollowInTurn s gap p [] = Unit {0}
 FollowInTurn s gap p (q ∷ qs) = (s.queued q ≤ frame_end s p + gap) × FollowInTurn s gap q qs

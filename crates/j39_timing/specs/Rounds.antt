@@ -1,9 +1,9 @@
 -- A bus on which units send long messages to all without a pause: in each round each of them sends the next frame of its messages, which
--- stand one behind the other, each an announcement and so many packets.
+-- stand one after the other, each an announcement and so many packets.
 use Rattle.std.specs.Prelude.{ℕ, ◌+◌, ◌*◌, ◌-◌, ◌/◌, ◌%◌, ◌<◌, ◌≤◌, Bool, true, cond, nat_eq, nat_lt}
 use Rattle.j39_timing.specs.declared.stream.Stream.{Stream}
-use Rattle.j39_timing.specs.Schedule.{Schedule}
-use Rattle.j39_timing.specs.Streams.{Origins}
+use Rattle.j39_timing.specs.TimedFrames.{Schedule}
+use Rattle.j39_timing.specs.FrameStreams.{Origins}
 use Rattle.j39_timing.specs.Traffic.{Traffic, Others}
 
 pub record Senders : Type 0 where

@@ -2,8 +2,8 @@
 use Rattle.j39_timing.specs.declared.stream.Stream.{Stream}
 use Rattle.std.specs.Prelude.{◌≡◌, ◌≢◌, ℕ, ◌+◌, ◌*◌, ◌<◌, ◌≤◌, ◌⊎◌, Bool, true, false, not, ◌&&◌, cond, nat_eq, nat_lt, nat_le}
 use Rattle.j39_timing.specs.Sums.{total}
-use Rattle.j39_timing.specs.Schedule.{Schedule, Waits}
-use Rattle.j39_timing.specs.Streams.{Origins, AreOfStreams}
+use Rattle.j39_timing.specs.TimedFrames.{Schedule, Waits}
+use Rattle.j39_timing.specs.FrameStreams.{Origins, AreOfStreams}
 use Rattle.j39_timing.specs.Waits.{share}
 
 -- streams of planned frames, by their places, with their identifiers, which may change
@@ -79,7 +79,7 @@ HasRoom traffic others longest i wait =
     longest * (1 + others_before others (traffic.greatest i))
     + total traffic.count (λ j. cond (may_go_before traffic i j) (share (wait + 1) (traffic.stream j)) 0) ≤ wait
 
--- how many bits behind its moment a frame of the stream has been sent at most, where it waits for so many
+-- how many bits after its moment a frame of the stream has been sent at most, where it waits for so many
 abbrev pub delay_of : Stream → ℕ → ℕ
 delay_of stream wait = stream.late + (wait + stream.bits)
 
@@ -88,7 +88,7 @@ abbrev pub IsStreamInTime : Schedule → (ℕ → Bool) → Origins → ℕ → 
 IsStreamInTime s planned of i stream wait = (p : ℕ) → p < s.count → planned p ≡ true → of.source p ≡ i → of.since p + (stream.late + wait) < s.now
     → (s.start p ≤ s.queued p + wait) × (s.start p + s.bits p ≤ of.since p + delay_of stream wait)
 
--- of two frames of the stream each is queued behind the end of the other, or the other way round
+-- of two frames of the stream each is queued after the end of the other, or the other way round
 abbrev pub AreQueuedBehind : Schedule → (ℕ → Bool) → Origins → ℕ → Type 0
 AreQueuedBehind s planned of i = (p q : ℕ) → p < s.count → q < s.count → p ≢ q → planned p ≡ true → planned q ≡ true
     → of.source p ≡ i → of.source q ≡ i → (s.start p + s.bits p ≤ s.queued q) ⊎ (s.start q + s.bits q ≤ s.queued p)

@@ -1,10 +1,10 @@
 //! Laws of schedules.
 ghost use Rattle.std.specs.Prelude.{◌≡◌, ℕ, Bool, true, ◌+◌, ◌<◌, ◌≤◌, List, All};
-ghost use Rattle.j39_timing.specs.Schedule.{Schedule, IsLegal};
-ghost use Rattle.j39_timing.specs.Streams.{Origins};
+ghost use Rattle.j39_timing.specs.TimedFrames.{Schedule, IsLegal};
+ghost use Rattle.j39_timing.specs.FrameStreams.{Origins};
 ghost use Rattle.j39_timing.specs.Errors.{Damaged, IsLegalInAnyOrderWithErrors, IsLegalWithErrors, damage_ordered, with_errors};
 ghost use Rattle.j39_timing.specs.Messages.{LongMessage, AreSentInTurn, AreSentWithin, IsBroadcast, all_whole_at, time_of_messages};
-ghost use Rattle.j39_timing.specs.Ages.{KeepsComing, IsFresh};
+ghost use Rattle.j39_timing.specs.FreshFrames.{KeepsComing, IsFresh};
 ghost use Rattle.j39_timing.specs.AnyOrder.{AreBegunWithin, Controllers, HaveWaits, IsLegalInAnyOrder, IsFromOrdered, IsOrderedStream, IsUnordered, as_offered, offered_traffic};
 ghost use Rattle.j39_timing.specs.Companies.{Company, HasRoomInCompany, IsTrafficOfCompany};
 ghost use Rattle.j39_timing.specs.declared.stream.Stream.{Stream as TheStream};
@@ -39,7 +39,7 @@ pub fn a_bus_with_errors_is_legal()
         → IsLegalInAnyOrder (with_errors s damaged) (damage_ordered s controllers) }
 {}
 
-/// Where each frame of a stream is queued behind the end of the one before, however late this is, each begins within a wait that has room
+/// Where each frame of a stream is queued after the end of the one before, however late this is, each begins within a wait that has room
 /// for what `planned_frames_are_in_time` names, and has been sent within it and its own length.
 pub fn frames_behind_one_another_are_in_time()
     ensures sent { (s : Schedule) (traffic : Traffic) (others : Others) (longest : ℕ) (planned : ℕ → Bool) (of : Origins) → IsLegal s
@@ -50,7 +50,7 @@ pub fn frames_behind_one_another_are_in_time()
 
 /// Messages of several frames that are sent in turn are whole within the times of all their frames, with the pauses between them: the
 /// announcement of the first is queued by some bit, that of each other one by the end of the message before, and each packet at most
-/// `gap` bits behind the end of the frame before.
+/// `gap` bits after the end of the frame before.
 pub fn messages_in_turn_are_whole_in_time()
     ensures whole { (s : Schedule) (planned : ℕ → Bool) (of : Origins) (a p gap wait more : ℕ) (announcements packets : TheStream)
         → AreSentWithin s planned of a announcements wait → AreSentWithin s planned of p packets more
@@ -83,7 +83,7 @@ pub fn a_bound_of_a_company_is_reached()
 
 /// The premises of broadcasts can be met: there is a legal schedule of any length in which each unit sends long messages to all, one behind
 /// the other, its frames a gap apart, and which keeps what is asked of the packets and of the announcements of each; so it does what is
-/// asked of frames of which each is queued behind the end of the one before.
+/// asked of frames of which each is queued after the end of the one before.
 pub fn broadcasts_can_be_sent()
     ensures legal { (senders : Senders) → AreSenders senders → (count : ℕ) → IsLegal (in_rounds senders count) }
     ensures planned { (senders : Senders) → AreSenders senders → (count i : ℕ)
@@ -116,7 +116,7 @@ pub fn frames_of_a_company_are_in_time()
 /// Beside units that keep no order each frame is one of a legal schedule from the bit on from which it is offered for good (`legal`), which is
 /// where it is ready if its unit keeps order (`ready`). So what is known of frames of such units holds, where a frame of another unit counts
 /// as queued so many bits later as it may wait: frames of a stream of single frames are in time (`in_time`), and so are
-/// those of which each is queued behind the end of the one before (`sent`). Of each stream that may go before there has to be such a wait.
+/// those of which each is queued after the end of the one before (`sent`). Of each stream that may go before there has to be such a wait.
 pub fn frames_beside_any_order_are_in_time()
     ensures legal { (s : Schedule) (controllers : Controllers) → IsLegalInAnyOrder s controllers → IsLegal (as_offered s) }
     ensures ready { (s : Schedule) (controllers : Controllers) → IsLegalInAnyOrder s controllers

@@ -1,8 +1,8 @@
 //! Commands, by what they read.
 use crate::Command;
 use j39_app::{
-    Fault, Sink, Source, Verdict, addresses_text, check_text, input_text, plan_text, read_text,
-    run_planned, show_text, timing_text,
+    Fault, Sink, Source, Verdict, addresses_text, check_text, input_text, load_text, plan_text,
+    read_text, run_planned, show_text,
 };
 use std::alloc::Global;
 
@@ -19,7 +19,7 @@ pub fn perform<P: Source, S: Source, W: Sink>(
         Command::Check => return check_text(alloc, plan, sink),
         Command::Show => return show_text(alloc, plan, sink),
         Command::Addresses => return addresses_text(alloc, plan, sink),
-        Command::Load => return timing_text(alloc, plan, sink),
+        Command::Load => return load_text(alloc, plan, sink),
         Command::Run | Command::Read => {}
     }
     let Some(plan) = plan_text(alloc, plan, sink)? else {

@@ -4,7 +4,7 @@
 -- sent to them, and reads there as it was written.
 use Rattle.std.specs.Prelude.{◌≡◌, ℕ, ◌<◌, false, List, length, Some}
 use Rattle.j39_findings.specs.Needs.{AreNeedsMet}
-use Rattle.j39_findings.specs.Requests.{AreAnsweredWell, AreRequestsServed}
+use Rattle.j39_findings.specs.PlannedRequests.{AreAnsweredWell, AreRequestsServed}
 use Rattle.j39_findings.specs.SoundSignals.{SoundSignals}
 use Rattle.j39_findings.specs.declared.plan.Plan.{Plan}
 use Rattle.j39_findings.specs.declared.plan.unit_plan.UnitPlan.{UnitPlan}

@@ -23,7 +23,7 @@ use Rattle.j39_bus.specs.Stations.{absent_unit, station_at}
 use Rattle.j39_bus.specs.BusState.{BusState, Histories, session_at, world_of}
 use Rattle.j39_bus.specs.Reports.{reported_of}
 use Rattle.j39_bus.specs.Stands.{HoldTaken, IsPlannedBy}
-use Rattle.j39_bus.specs.inside.Traffic.{IsTraffic}
+use Rattle.j39_bus.specs.inside.KeptMessages.{IsTraffic}
 use Rattle.j39_queues.specs.Queued.{IsTable, pair_in}
 
 abbrev pub planned_units : List ClaimerValue → List PlannedUnit

@@ -6,7 +6,7 @@ ghost use Rattle.j39_findings.specs.declared.steps.Step.TheVariants.{Begin};
 ghost use Rattle.j39_bus.specs.BusState.{Histories};
 ghost use Rattle.j39_bus.specs.Stations.{station_at};
 ghost use Rattle.j39_bus.specs.inside.Network.{IsAllowed, IsNetwork, IsSameNetwork, KeepsPlan, has_begun, world_in, Steps};
-ghost use Rattle.j39_bus.specs.inside.Traffic.{HasRoomTo, IsFlow, item_frame};
+ghost use Rattle.j39_bus.specs.inside.KeptMessages.{HasRoomTo, IsFlow, item_frame};
 ghost use Rattle.j39_world.specs.Sent.{sent_of};
 ghost use Rattle.j39_world.specs.TransferSteps.{begins, targets_of};
 ghost use Rattle.j39_world.specs.World.{is_other_on};

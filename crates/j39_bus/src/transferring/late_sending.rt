@@ -4,7 +4,7 @@ ghost use Rattle.j39_findings.specs.declared.steps.Step.TheVariants.{LateSender}
 ghost use Rattle.j39_bus.specs.inside.Network.{IsAllowed, IsNetwork, IsSameNetwork, KeepsPlan, world_in, Steps};
 ghost use Rattle.j39_bus.specs.BusState.{Histories, session_at};
 ghost use Rattle.j39_world.specs.Run.{is_waiting};
-ghost use Rattle.j39_bus.specs.inside.Traffic.{HasRoomAlong};
+ghost use Rattle.j39_bus.specs.inside.KeptMessages.{HasRoomAlong};
 ghost use Rattle.j39_world.specs.TransferSteps.{SenderTimesOut};
 
 use crate::network::Network;

@@ -4,7 +4,7 @@ ghost use Rattle.j39_findings.specs.declared.steps.Step.TheVariants.{Send};
 ghost use Rattle.j39_bus.specs.BusState.{Histories};
 ghost use Rattle.j39_bus.specs.Stations.{station_at};
 ghost use Rattle.j39_bus.specs.inside.Network.{IsAllowed, IsNetwork, IsSameNetwork, KeepsPlan, has_sent, world_in, Steps};
-ghost use Rattle.j39_bus.specs.inside.Traffic.{HasRoomTo, IsFlow};
+ghost use Rattle.j39_bus.specs.inside.KeptMessages.{HasRoomTo, IsFlow};
 ghost use Rattle.j39_world.specs.TransferSteps.{sends_alone, targets_of};
 
 use super::{destination, source};

@@ -6,7 +6,7 @@ ghost use Rattle.j39_tp.specs.Receiver.{is_complete};
 ghost use Rattle.j39_tp.specs.Carried.{Carried};
 ghost use Rattle.j39_bus.specs.BusState.{Histories};
 ghost use Rattle.j39_bus.specs.inside.Network.{HasHeld, IsAllowed, IsNetwork, IsSameNetwork, KeepsPlan, TakesOldest, has_taken, world_in, Steps};
-ghost use Rattle.j39_bus.specs.inside.Traffic.{packet_heard};
+ghost use Rattle.j39_bus.specs.inside.KeptMessages.{packet_heard};
 ghost use Rattle.j39_world.specs.TransferSteps.{alone_report, hearing, packets_in, reaction_of, receiver_replies, report, sender_replies};
 
 use crate::network::Network;

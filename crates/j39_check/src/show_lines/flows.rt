@@ -1,7 +1,7 @@
 //! The lines of flows, needs and requests.
 ghost use Rattle.std.specs.Prelude.{◌≡◌, ◌++◌, OnOk};
 ghost use Rattle.j39_check.specs.ShowText.{flow_lines, need_from_line, need_lines, need_signal_line, pace_lines, request_lines, receivers_text as to_text};
-ghost use Rattle.j39_load.specs.Places.{told_from};
+ghost use Rattle.j39_load.specs.LineLists.{lines_of_each};
 
 use super::values::{write_number, write_optional, write_truth, write_word};
 use j39_findings::{FlowPlan, NeedPlan, Pace, Plan, RequestPlan, To};
@@ -52,9 +52,9 @@ fn write_flow(
 }
 
 /// Writes each flow.
-#[tactic(auto, unfolding(j39_load::specs::Places::told_from))]
+#[tactic(auto, unfolding(j39_load::specs::LineLists::lines_of_each))]
 pub(super) fn write_flows(text: &mut TextBuffer, plan: &Plan) -> Result<(), AllocError>
-    ensures { OnOk result (text.new ≡ text.old ++ told_from (flow_lines plan.now) 0 plan.now.flows.items) }
+    ensures { OnOk result (text.new ≡ text.old ++ lines_of_each (flow_lines plan.now) 0 plan.now.flows.items) }
 {
     for (place, flow) in plan.flows.iter().enumerate() {
         write_flow(text, plan, place, flow)?;
@@ -119,9 +119,9 @@ fn write_need(
 }
 
 /// Writes each need.
-#[tactic(auto, unfolding(j39_load::specs::Places::told_from))]
+#[tactic(auto, unfolding(j39_load::specs::LineLists::lines_of_each))]
 pub(super) fn write_needs(text: &mut TextBuffer, plan: &Plan) -> Result<(), AllocError>
-    ensures { OnOk result (text.new ≡ text.old ++ told_from (need_lines plan.now) 0 plan.now.needs.items) }
+    ensures { OnOk result (text.new ≡ text.old ++ lines_of_each (need_lines plan.now) 0 plan.now.needs.items) }
 {
     for (place, need) in plan.needs.iter().enumerate() {
         write_need(text, plan, place, need)?;
@@ -146,9 +146,9 @@ fn write_request(
 }
 
 /// Writes each request.
-#[tactic(auto, unfolding(j39_load::specs::Places::told_from))]
+#[tactic(auto, unfolding(j39_load::specs::LineLists::lines_of_each))]
 pub(super) fn write_requests(text: &mut TextBuffer, plan: &Plan) -> Result<(), AllocError>
-    ensures { OnOk result (text.new ≡ text.old ++ told_from (request_lines plan.now) 0 plan.now.requests.items) }
+    ensures { OnOk result (text.new ≡ text.old ++ lines_of_each (request_lines plan.now) 0 plan.now.requests.items) }
 {
     for (place, request) in plan.requests.iter().enumerate() {
         write_request(text, plan, place, request)?;

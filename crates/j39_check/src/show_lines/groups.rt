@@ -4,7 +4,7 @@ ghost use Rattle.std.specs.List.{slice_get};
 ghost use Rattle.std.specs.Option.{option_copied};
 ghost use Rattle.j39_check.specs.ShowText.{group_form_lines, group_head_lines, group_lines, kind_text, signal_meaning_lines as meaning_lines, name_of_value_line, signal_at_lines, signal_value_lines as signal_lines};
 ghost use Rattle.j39_check.specs.ShowText.{signal_place_lines, signal_scale_lines, planned_text_lines as text_lines};
-ghost use Rattle.j39_load.specs.Places.{told_from};
+ghost use Rattle.j39_load.specs.LineLists.{lines_of_each};
 
 use super::values::{
     write_front, write_number, write_optional, write_text, write_truth, write_word,
@@ -44,13 +44,13 @@ fn write_value_name(
     text.end_line()
 }
 
-#[tactic(auto, unfolding(j39_load::specs::Places::told_from))]
+#[tactic(auto, unfolding(j39_load::specs::LineLists::lines_of_each))]
 fn write_value_names(
     text: &mut TextBuffer,
     table: Table,
     values: &[ValueName],
 ) -> Result<(), AllocError>
-    ensures { OnOk result (text.new ≡ text.old ++ told_from (λ _ value. name_of_value_line table value) 0 values.now) }
+    ensures { OnOk result (text.new ≡ text.old ++ lines_of_each (λ _ value. name_of_value_line table value) 0 values.now) }
 {
     for value in values {
         write_value_name(text, table, value)?;
@@ -131,9 +131,9 @@ fn write_signal_at(
     write_meaning(text, table, group.meanings.get(at))
 }
 
-#[tactic(auto, unfolding(j39_load::specs::Places::told_from))]
+#[tactic(auto, unfolding(j39_load::specs::LineLists::lines_of_each))]
 fn write_signals(text: &mut TextBuffer, place: usize, group: &GroupPlan) -> Result<(), AllocError>
-    ensures { OnOk result (text.new ≡ text.old ++ told_from (signal_at_lines place group.now) 0 group.now.signals.items) }
+    ensures { OnOk result (text.new ≡ text.old ++ lines_of_each (signal_at_lines place group.now) 0 group.now.signals.items) }
 {
     for (at, signal) in group.signals.iter().enumerate() {
         write_signal_at(text, place, group, at, signal)?;
@@ -156,9 +156,9 @@ fn write_planned_text(
     write_optional(text, table, Key::Bytes, planned.bytes)
 }
 
-#[tactic(auto, unfolding(j39_load::specs::Places::told_from))]
+#[tactic(auto, unfolding(j39_load::specs::LineLists::lines_of_each))]
 fn write_texts(text: &mut TextBuffer, place: usize, group: &GroupPlan) -> Result<(), AllocError>
-    ensures { OnOk result (text.new ≡ text.old ++ told_from (text_lines place) 0 group.now.texts.items) }
+    ensures { OnOk result (text.new ≡ text.old ++ lines_of_each (text_lines place) 0 group.now.texts.items) }
 {
     for (at, planned) in group.texts.iter().enumerate() {
         write_planned_text(text, place, at, planned)?;
@@ -205,9 +205,9 @@ fn write_group(text: &mut TextBuffer, place: usize, group: &GroupPlan) -> Result
 }
 
 /// Writes each group.
-#[tactic(auto, unfolding(j39_load::specs::Places::told_from))]
+#[tactic(auto, unfolding(j39_load::specs::LineLists::lines_of_each))]
 pub(super) fn write_groups(text: &mut TextBuffer, plan: &Plan) -> Result<(), AllocError>
-    ensures { OnOk result (text.new ≡ text.old ++ told_from group_lines 0 plan.now.groups.items) }
+    ensures { OnOk result (text.new ≡ text.old ++ lines_of_each group_lines 0 plan.now.groups.items) }
 {
     for (place, group) in plan.groups.iter().enumerate() {
         write_group(text, place, group)?;

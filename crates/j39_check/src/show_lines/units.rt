@@ -2,7 +2,7 @@
 ghost use Rattle.std.specs.Prelude.{◌≡◌, ◌++◌, OnOk};
 ghost use Rattle.j39_check.specs.ShowText.{chooser_text, lower_name_lines, name_field_lines as name_lines, queue_text, unit_value_lines as unit_lines};
 ghost use Rattle.j39_check.specs.ShowText.{unit_way_lines, upper_name_lines};
-ghost use Rattle.j39_load.specs.Places.{told_from};
+ghost use Rattle.j39_load.specs.LineLists.{lines_of_each};
 
 use super::values::{write_number, write_truth, write_word};
 use j39_findings::{Plan, Queue, UnitPlan, Way};
@@ -89,9 +89,9 @@ fn write_unit(text: &mut TextBuffer, place: usize, unit: &UnitPlan) -> Result<()
 }
 
 /// Writes each unit.
-#[tactic(auto, unfolding(j39_load::specs::Places::told_from))]
+#[tactic(auto, unfolding(j39_load::specs::LineLists::lines_of_each))]
 pub(super) fn write_units(text: &mut TextBuffer, plan: &Plan) -> Result<(), AllocError>
-    ensures { OnOk result (text.new ≡ text.old ++ told_from unit_lines 0 plan.now.units.items) }
+    ensures { OnOk result (text.new ≡ text.old ++ lines_of_each unit_lines 0 plan.now.units.items) }
 {
     for (place, unit) in plan.units.iter().enumerate() {
         write_unit(text, place, unit)?;

@@ -9,7 +9,7 @@ pub struct Pace {
     pub period: u16,
     /// As it is written: without one it is the period.
     pub deadline: Option<u16>,
-    /// A message is queued at most so long behind its moment.
+    /// A message is queued at most so long after its moment.
     pub jitter: u16,
     pub ghost period_positive: { 1 ≤ period },
     pub ghost deadline_positive: { ForSome deadline (λ n. 1 ≤ n) },

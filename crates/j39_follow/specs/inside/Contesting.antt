@@ -8,7 +8,7 @@ use Rattle.j39_findings.specs.declared.plan.Plan.{Plan}
 use Rattle.j39_findings.specs.declared.plan.unit_plan.UnitPlan.{UnitPlan}
 use Rattle.j39_id.specs.FrameMeaning.{claims_address}
 use Rattle.j39_follow.specs.Contests.{Begins, IsContest, IsContested, IsNameBehind, IsTaken, Timed, claim_wait, likely_named}
-use Rattle.j39_follow.specs.Requests.{told_address}
+use Rattle.j39_follow.specs.LoggedRequests.{told_address}
 use Rattle.j39_follow.specs.declared.contest.Contest.{Contest}
 use Rattle.j39_follow.specs.declared.contests.Contests.{Contests}
 use Rattle.j39_follow.specs.declared.known_parties.Parties.{Parties}

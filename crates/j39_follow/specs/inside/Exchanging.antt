@@ -7,7 +7,7 @@ use Rattle.j39_findings.specs.declared.plan.Plan.{Plan}
 use Rattle.j39_findings.specs.declared.plan.request_plan.RequestPlan.{RequestPlan}
 use Rattle.j39_follow.specs.Contests.{Timed}
 use Rattle.j39_follow.specs.FollowReports.{AreTold}
-use Rattle.j39_follow.specs.Requests.{asks_request as asks, concerns, times_answered, times_asked, times_refused}
+use Rattle.j39_follow.specs.LoggedRequests.{asks_request as asks, concerns, times_answered, times_asked, times_refused}
 use Rattle.j39_follow.specs.declared.event.Event.{Event}
 use Rattle.j39_follow.specs.declared.exchange.Exchange.{Exchange}
 use Rattle.j39_follow.specs.declared.exchanges.Exchanges.{Exchanges}

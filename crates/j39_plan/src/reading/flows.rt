@@ -258,7 +258,7 @@ fn flow(
 
 impl ReadElement<FlowPlan> for Flows<'_> {
     ghost use Rattle.j39_plan.specs.Growing.{NeverGrows};
-    ghost use Rattle.j39_plan.specs.Faults.{no_label};
+    ghost use Rattle.j39_plan.specs.PlanFaults.{no_label};
     ghost use Rattle.j39_plan.specs.FlowTables.{flow_faults, IsFlowOf};
 
     ghost label_bytes = { λ _. [] };

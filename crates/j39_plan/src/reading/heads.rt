@@ -6,7 +6,7 @@ ghost use Rattle.j39_id.specs.Addresses.{in_pool, pool_size};
 ghost use Rattle.j39_plan.specs.declared.reading.place.Table.TheVariants as at;
 ghost use Rattle.j39_plan.specs.Schema.{addresses_of, number_in, numbers_in};
 ghost use Rattle.j39_plan.specs.TableFaults.{address_cause, addresses_cause, key_faults, keys_faults, unknown_faults};
-ghost use Rattle.j39_plan.specs.Faults.{may_keep, knows_third, knows_fourth, version_rule, keep_free_rule, strangers_rules, strangers_of, array_rules, head_faults};
+ghost use Rattle.j39_plan.specs.PlanFaults.{may_keep, knows_third, knows_fourth, version_rule, keep_free_rule, strangers_rules, strangers_of, array_rules, head_faults};
 ghost use Rattle.j39_plan.specs.Described.{keep_free_of};
 ghost use Rattle.j39_plan.specs.Outcome.{Gives};
 
@@ -115,7 +115,7 @@ fn keep_free(members: &toml::Table) -> Result<AddressSet, PlanError>
 }
 
 /// Whether the version is the second, the third or the fourth.
-#[tactic(auto, unfolding(crate::specs::Faults::may_keep, crate::specs::Schema::number_of))]
+#[tactic(auto, unfolding(crate::specs::PlanFaults::may_keep, crate::specs::Schema::number_of))]
 fn may_keep(members: &toml::Table) -> bool
     ensures { result ≡ may_keep (table_view members.now) }
 {
@@ -129,7 +129,7 @@ fn may_keep(members: &toml::Table) -> bool
 }
 
 /// Whether the version is the third or the fourth.
-#[tactic(auto, unfolding(crate::specs::Faults::knows_third, crate::specs::Schema::number_of))]
+#[tactic(auto, unfolding(crate::specs::PlanFaults::knows_third, crate::specs::Schema::number_of))]
 pub fn knows_third(members: &toml::Table) -> bool
     ensures { result ≡ knows_third (table_view members.now) }
 {
@@ -143,7 +143,7 @@ pub fn knows_third(members: &toml::Table) -> bool
 }
 
 /// Whether the version is the fourth.
-#[tactic(auto, unfolding(crate::specs::Faults::knows_fourth, crate::specs::Schema::number_of))]
+#[tactic(auto, unfolding(crate::specs::PlanFaults::knows_fourth, crate::specs::Schema::number_of))]
 pub fn knows_fourth(members: &toml::Table) -> bool
     ensures { result ≡ knows_fourth (table_view members.now) }
 {

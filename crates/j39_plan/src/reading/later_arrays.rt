@@ -4,7 +4,7 @@ ghost use Rattle.toml.specs.View.{items_view, table_view};
 ghost use Rattle.j39_plan.specs.declared.reading.place.Table.TheVariants as at;
 ghost use Rattle.j39_plan.specs.TableFaults.{keys_faults};
 ghost use Rattle.j39_plan.specs.Outcome.{Gives};
-ghost use Rattle.j39_plan.specs.Faults.{later_array_rules, need_tables_of, request_tables_of};
+ghost use Rattle.j39_plan.specs.PlanFaults.{later_array_rules, need_tables_of, request_tables_of};
 
 use super::tables::array;
 use super::{Key, PlanError, Table};

@@ -108,7 +108,7 @@ fn need(
 
 impl ReadElement<NeedPlan> for Needs<'_> {
     ghost use Rattle.j39_plan.specs.Growing.{NeverGrows};
-    ghost use Rattle.j39_plan.specs.Faults.{no_label};
+    ghost use Rattle.j39_plan.specs.PlanFaults.{no_label};
     ghost use Rattle.j39_plan.specs.NeedTables.{need_faults, IsNeedOf};
 
     ghost label_bytes = { λ _. [] };

@@ -53,7 +53,7 @@ fn request(
 
 impl ReadElement<RequestPlan> for Requests<'_> {
     ghost use Rattle.j39_plan.specs.Growing.{NeverGrows};
-    ghost use Rattle.j39_plan.specs.Faults.{no_label};
+    ghost use Rattle.j39_plan.specs.PlanFaults.{no_label};
     ghost use Rattle.j39_plan.specs.RequestTables.{request_faults, IsRequestOf};
 
     ghost label_bytes = { λ _. [] };

@@ -6,7 +6,7 @@ ghost use Rattle.j39_plan.specs.declared.reading.place.Table.TheVariants as at;
 ghost use Rattle.j39_plan.specs.Schema as schema;
 ghost use Rattle.j39_plan.specs.TableFaults.{key_faults, keys_faults, unknown_faults};
 ghost use Rattle.j39_plan.specs.TimingTables as spec;
-ghost use Rattle.j39_plan.specs.Faults.{knows_third, knows_fourth, timing_faults, timing_table};
+ghost use Rattle.j39_plan.specs.PlanFaults.{knows_third, knows_fourth, timing_faults, timing_table};
 ghost use Rattle.j39_plan.specs.Outcome.{Gives};
 
 use super::tables::{only, optional_inner};

@@ -5,7 +5,7 @@ use Rattle.j39_findings.specs.declared.plan.to.To.{To}
 use Rattle.j39_findings.specs.declared.plan.to.To.TheVariants.{All as ToAll, One}
 use Rattle.j39_world.specs.Flows.{flow_of}
 use Rattle.j39_world.specs.declared.flow.Flow.{Flow}
-use Rattle.j39_bus.specs.inside.Traffic.{GoesToUnits, IsFlow}
+use Rattle.j39_bus.specs.inside.KeptMessages.{GoesToUnits, IsFlow}
 use Rattle.j39_bus.proofs.Opened.{mapped_more}
 use Rattle.j39_bus.proofs.flows.flows_of.Goals as goal
 

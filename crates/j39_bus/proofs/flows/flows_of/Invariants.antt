@@ -1,6 +1,6 @@
 use Rattle.std.proofs.Common.{◌≡◌, ◌≤◌, map, take, length, All, vec_len, vec_capacity}
 use Rattle.j39_world.specs.Flows.{flow_of}
-use Rattle.j39_bus.specs.inside.Traffic.{IsFlow}
+use Rattle.j39_bus.specs.inside.KeptMessages.{IsFlow}
 use Rattle.j39_bus.proofs.flows.flows_of.Given as goal
 
 abbrev pub invariant-loop-flow : goal.invariant-loop-flow

@@ -7,7 +7,7 @@ use Rattle.j39_bus.specs.BusState.{session_at}
 use Rattle.j39_bus.specs.Reports.{reported_of}
 use Rattle.j39_bus.specs.Stations.{station_at, unstarted}
 use Rattle.j39_bus.specs.inside.Network.{planned_units}
-use Rattle.j39_bus.specs.inside.Traffic.{IsTraffic}
+use Rattle.j39_bus.specs.inside.KeptMessages.{IsTraffic}
 use Rattle.j39_world.specs.Sent.{sent_of}
 use Rattle.j39_bus.proofs.Opened.{planned_units-unstarted, length_opened, none_sent, sessions_first, station_unstarted, well_opened}
 use Rattle.j39_bus.proofs.opening.network_of.Goals as goal

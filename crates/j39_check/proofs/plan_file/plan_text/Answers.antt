@@ -7,7 +7,7 @@ use Rattle.j39_check.proofs.plan_file.plan_text.Goals as goal
 
 pub returns-in_err-input-clause-answers : goal.returns-in_err-input-clause-answers
 returns-in_err-input-clause-answers g c =
-    not_read _ c.from_residual.ensures.0 (λ e. c.load.ensures.long (search rules)) (λ e. c.load.ensures.device (search rules))
+    not_read _ c.from_residual.ensures.0 (λ e. c.read_whole.ensures.long (search rules)) (λ e. c.read_whole.ensures.device (search rules))
 
 pub returns-in-Ok-clause-answers : goal.returns-in-Ok-clause-answers
 returns-in-Ok-clause-answers g c =

@@ -3,7 +3,7 @@ use Rattle.std.specs.Option.{option_copied, option_map_or}
 use Rattle.std.proofs.lemmas.List.{append-nil}
 use Rattle.std.proofs.lemmas.Result.{IfOk-weaker}
 use Rattle.j39_follow.specs.FollowReports.{answer_text, answer_way_text}
-use Rattle.j39_follow.specs.Requests.{asker_address, control_of, control_word, told_address}
+use Rattle.j39_follow.specs.LoggedRequests.{asker_address, control_of, control_word, told_address}
 use Rattle.j39_follow.specs.inside.Recounting.{party_at}
 use Rattle.j39_follow.specs.inside.Reporting.{front_of}
 use Rattle.j39_follow.proofs.Told.{an_answer_way}

@@ -2,7 +2,7 @@ use Rattle.std.proofs.Common.{[], refl, sym, subst}
 use Rattle.j39_findings.specs.declared.plan.Plan.{Plan}
 use Rattle.j39_stream.proofs.Answering.{not_begun, put_unread, said_of}
 use Rattle.j39_follow.specs.FollowText.{IsFollowedLog, nothing_followed}
-use Rattle.j39_follow.specs.inside.Recalling.{RecallsPast}
+use Rattle.j39_follow.specs.inside.FollowedSoFar.{RecallsPast}
 use Rattle.j39_follow.proofs.LinesRead.{begun, so_far}
 use Rattle.j39_follow.proofs.log_text.follow_text.Goals as goal
 

@@ -2,7 +2,7 @@ use Rattle.std.proofs.Common.{◌++◌, [], ℕ, refl, sym, ap, ◌∙◌}
 use Rattle.std.proofs.lemmas.List.{append-nil}
 use Rattle.std.proofs.lemmas.Result.{IfOk-weaker}
 use Rattle.j39_follow.specs.FollowReports.{cannot_line, cannot_text, claim_line, claim_text}
-use Rattle.j39_follow.specs.Requests.{acknowledges}
+use Rattle.j39_follow.specs.LoggedRequests.{acknowledges}
 use Rattle.j39_follow.specs.inside.Reporting.{front_of}
 use Rattle.j39_id.specs.FrameMeaning.{cannot_claim, claims_address, requests_group}
 use Rattle.j39_follow.proofs.Told.{an_answer_way, an_asked}

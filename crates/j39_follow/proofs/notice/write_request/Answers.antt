@@ -3,7 +3,7 @@ use Rattle.std.proofs.lemmas.Result.{IfOk-weaker}
 use Rattle.j39_id.specs.FrameMeaning.{requested_group}
 use Rattle.j39_text.specs.Texts.{field}
 use Rattle.j39_follow.specs.FollowReports.{IsSendingOf, Message, asked_line as request_line}
-use Rattle.j39_follow.specs.Requests.{asked_request, asked_text}
+use Rattle.j39_follow.specs.LoggedRequests.{asked_request, asked_text}
 use Rattle.j39_follow.specs.inside.Contesting.{ShowsParties}
 use Rattle.j39_follow.specs.inside.Reporting.{front_of}
 use Rattle.j39_follow.proofs.notice.write_request.Goals as goal

@@ -1,7 +1,7 @@
 use Rattle.std.proofs.Common.{◌≡◌, ℕ, Some, None, sym, ap, ◌∙◌}
 use Rattle.std.specs.Prelude.{option_map}
 use Rattle.j39_id.specs.FrameMeaning.{requested_group}
-use Rattle.j39_follow.specs.Requests.{asked_request}
+use Rattle.j39_follow.specs.LoggedRequests.{asked_request}
 use Rattle.j39_follow.specs.declared.event.Event.TheVariants.{Asked}
 use Rattle.j39_follow.proofs.telling.asked.Goals as goal
 

@@ -3,7 +3,7 @@ use Rattle.std.specs.Option.{option_to_list}
 use Rattle.std.proofs.lemmas.List.{length-append, length_push}
 use Rattle.j39_follow.specs.Contests.{IsTaken}
 use Rattle.j39_follow.specs.FollowReports.{IsSendingOf, Message, notice_events, reply_of, told_events}
-use Rattle.j39_follow.specs.Requests.{counted_number as number_of, told_address}
+use Rattle.j39_follow.specs.LoggedRequests.{counted_number as number_of, told_address}
 use Rattle.j39_follow.specs.declared.event.Event.{Event}
 use Rattle.j39_follow.specs.declared.event.Event.TheVariants.{Brought}
 use Rattle.j39_follow.specs.declared.message.Sort.{Sort}

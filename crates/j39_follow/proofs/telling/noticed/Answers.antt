@@ -1,7 +1,7 @@
 use Rattle.std.proofs.Common.{refl, sym, ap, ◌∙◌}
 use Rattle.std.specs.Option.{option_to_list}
 use Rattle.j39_id.specs.FrameMeaning.{requests_group}
-use Rattle.j39_follow.specs.Requests.{acknowledges}
+use Rattle.j39_follow.specs.LoggedRequests.{acknowledges}
 use Rattle.j39_follow.proofs.Ways.{if_not, if_so}
 use Rattle.j39_follow.proofs.telling.noticed.Goals as goal
 

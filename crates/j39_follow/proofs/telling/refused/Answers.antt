@@ -1,6 +1,6 @@
 use Rattle.std.proofs.Common.{◌≡◌, ◌∷◌, [], ℕ, refl, sym, ap, ◌∙◌}
 use Rattle.j39_follow.specs.FollowReports.{answer_aim, reply_of}
-use Rattle.j39_follow.specs.Requests.{acknowledged_group, is_refusal, told_address}
+use Rattle.j39_follow.specs.LoggedRequests.{acknowledged_group, is_refusal, told_address}
 use Rattle.j39_follow.specs.declared.event.Event.TheVariants.{Refused}
 use Rattle.j39_follow.specs.declared.event.Reply.{Reply}
 use Rattle.j39_follow.specs.declared.sending.Aim.{Aim}

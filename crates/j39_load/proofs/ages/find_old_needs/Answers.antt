@@ -2,7 +2,7 @@ use Rattle.std.proofs.Common.{rules, ◌≡◌, ◌≢◌, ◌++◌, ◌∷◌, 
 use Rattle.std.proofs.lemmas.List.{append-nil}
 use Rattle.j39_findings.specs.declared.plan.need_plan.NeedPlan.{NeedPlan}
 use Rattle.j39_load.specs.Ages.{oldness}
-use Rattle.j39_load.specs.Places.{told_from}
+use Rattle.j39_load.specs.LineLists.{lines_of_each}
 use Rattle.j39_load.specs.declared.load_finding.LoadFinding.{LoadFinding}
 use Rattle.j39_load.proofs.Before.{more, some_told}
 use Rattle.j39_load.proofs.ages.find_old_needs.Goals.{in-Some+in_ok-push, in_default}
@@ -15,7 +15,7 @@ loop-place-preserved c =
     let need = c.index-needs-place.result in
     let tell = oldness c.args.timing c.args.requests.now c.args.flows.now c.args.delays.now in
     let old = c.args.findings.now.items in
-    let before : List LoadFinding = told_from tell 0 (take k needs) in
+    let before : List LoadFinding = lines_of_each tell 0 (take k needs) in
     let step = more tell k needs need c.loop-place-test.true in
     let here = ap (λ (n : NeedPlan). old ++ (before ++ tell k n)) c.index-needs-place.is in
     record {
@@ -37,7 +37,7 @@ returns-in_err-push-clause-memory c =
     let tell = oldness c.args.timing c.args.requests.now c.args.flows.now c.args.delays.now in
     let at : tell c.loop-place.place c.index-needs-place.result ≢ [] = λ none.
     let never : c.in-Some.finding ∷ [] ≡ [] = sym (c.in-Some.ensures {u = tt}).some ∙ none in cc in
-    let some : told_from tell 0 c.args.needs.now ≢ [] =
+    let some : lines_of_each tell 0 c.args.needs.now ≢ [] =
     some_told tell c.loop-place.place c.args.needs.now c.index-needs-place.result c.loop-place-test.true
     (λ none. at (ap (tell c.loop-place.place) c.index-needs-place.is ∙ none)) in
     search rules

@@ -1,7 +1,7 @@
 use Rattle.std.proofs.Common.{◌++◌, ℕ, List, take, Option, sym, ap, ◌∙◌}
 use Rattle.j39_findings.specs.declared.plan.flow_plan.FlowPlan.{FlowPlan}
 use Rattle.j39_load.specs.Ages.{ages_for, least, smaller_known}
-use Rattle.j39_load.specs.Places.{told_from}
+use Rattle.j39_load.specs.LineLists.{lines_of_each}
 use Rattle.j39_load.proofs.Before.{more}
 use Rattle.j39_load.proofs.LeastKnown.{least_of_both}
 use Rattle.j39_load.proofs.ages.least_age.Goals as goal
@@ -12,7 +12,7 @@ loop-place-preserved c =
     let flows = c.args.flows.now in
     let flow = c.index-flows-place.result in
     let tell = ages_for c.args.timing c.args.requests.now c.args.delays.now c.args.need.now in
-    let before : List ℕ = told_from tell 0 (take k flows) in
+    let before : List ℕ = lines_of_each tell 0 (take k flows) in
     c.smaller-least.ensures
     ∙ ap (λ (o : Option ℕ). smaller_known o c.age_for.result) c.loop-place.invariant
     ∙ ap (smaller_known (least before)) c.age_for.ensures

@@ -1,8 +1,8 @@
 use Rattle.std.proofs.Common.{rules, ◌≡◌, ◌≢◌, ◌++◌, ◌∷◌, [], List, take, append_assoc, None, sym, ap, ◌∙◌}
 use Rattle.std.proofs.lemmas.List.{append-nil}
-use Rattle.j39_load.specs.Places.{told_from}
+use Rattle.j39_load.specs.LineLists.{lines_of_each}
 use Rattle.j39_load.specs.declared.load_finding.LoadFinding.{LoadFinding}
-use Rattle.j39_load.specs.inside.Faults.{found_at}
+use Rattle.j39_load.specs.inside.FlowSearch.{found_at}
 use Rattle.j39_load.proofs.Before.{more, some_told}
 use Rattle.j39_load.proofs.faults.find_each.Goals.{in-Some+in_ok-push, in_default}
 use Rattle.j39_load.proofs.faults.find_each.Goals as goal
@@ -12,7 +12,7 @@ loop-flow-preserved c =
     let k = c.loop-flow.flow in
     let delays = c.args.delays.now in
     let old = c.args.findings.now.items in
-    let before : List LoadFinding = told_from (found_at c.args.fault) 0 (take k delays) in
+    let before : List LoadFinding = lines_of_each (found_at c.args.fault) 0 (take k delays) in
     let step = more (found_at c.args.fault) k delays None c.loop-flow-test.true in
     record {
       found = elim (c.match-finding_at.branch) [
@@ -29,7 +29,7 @@ loop-flow-preserved c =
 
 pub returns-in_err-push-clause-memory : goal.returns-in_err-push-clause-memory
 returns-in_err-push-clause-memory c =
-    let some : told_from (found_at c.args.fault) 0 c.args.delays.now ≢ [] =
+    let some : lines_of_each (found_at c.args.fault) 0 c.args.delays.now ≢ [] =
     some_told (found_at c.args.fault) c.loop-flow.flow c.args.delays.now None c.loop-flow-test.true
     (λ none. let never : c.in-Some.finding ∷ [] ≡ [] = sym (c.in-Some.ensures {u = tt}).some ∙ none in cc) in
     search rules

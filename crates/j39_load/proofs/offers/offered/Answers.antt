@@ -2,7 +2,7 @@ use Rattle.std.proofs.Common.{◌++◌, ◌∷◌, [], List, Option, take, lengt
 use Rattle.std.proofs.lemmas.List.Elements.{All-append, All-cons}
 use Rattle.j39_load.specs.declared.flow_frames.FlowFrames.{FlowFrames}
 use Rattle.j39_load.specs.AnyQueues.{offered_at}
-use Rattle.j39_load.specs.Places.{told_from}
+use Rattle.j39_load.specs.LineLists.{lines_of_each}
 use Rattle.j39_load.specs.SoundLoads.{FitIfAny}
 use Rattle.j39_load.proofs.Before.{more}
 use Rattle.j39_load.proofs.offers.offered.Goals as goal
@@ -18,7 +18,7 @@ loop-place-preserved c =
     record {
       frames = c.in_ok-push.ensures.items
           ∙ ap (λ (xs : List (Option FlowFrames)). xs ++ one ∷ []) old.frames
-          ∙ ap (λ (xs : List (Option FlowFrames)). told_from tell 0 (take k all) ++ xs) c.offered_at.ensures.frames
+          ∙ ap (λ (xs : List (Option FlowFrames)). lines_of_each tell 0 (take k all) ++ xs) c.offered_at.ensures.frames
           ∙ sym (more tell k all None c.loop-place-test.true);
       fit = rw (c.in_ok-push.ensures.items)
           (All-append FitIfAny later (one ∷ []) old.fit

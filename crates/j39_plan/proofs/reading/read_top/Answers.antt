@@ -10,7 +10,7 @@ use Rattle.j39_plan.specs.Outcome.{FailsGrowing}
 use Rattle.j39_plan.specs.FlowTables.{flow_faults, IsFlowOf}
 use Rattle.j39_plan.specs.NeedTables.{need_faults, IsNeedOf}
 use Rattle.j39_plan.specs.RequestTables.{request_faults, IsRequestOf}
-use Rattle.j39_plan.specs.Faults.{no_label}
+use Rattle.j39_plan.specs.PlanFaults.{no_label}
 use Rattle.j39_plan.proofs.FirstFaults.{fails_on, first-append}
 use Rattle.j39_plan.proofs.NoFaults.{tables_count, length-Each}
 use Rattle.j39_plan.proofs.ReadPlans.{units_apart, groups_apart, unit_texts_told, group_texts_told, unit_texts, group_texts}

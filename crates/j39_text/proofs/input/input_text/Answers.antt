@@ -7,7 +7,7 @@ use Rattle.j39_text.proofs.input.input_text.Goals as goal
 
 pub returns-in_err-input : goal.returns-in_err-input
 returns-in_err-input g c =
-    not_read _ c.from_residual.ensures.0 (λ e. c.load.ensures.long (search rules)) (λ e. c.load.ensures.device (search rules))
+    not_read _ c.from_residual.ensures.0 (λ e. c.read_whole.ensures.long (search rules)) (λ e. c.read_whole.ensures.device (search rules))
 
 pub returns : goal.returns
 returns g c =

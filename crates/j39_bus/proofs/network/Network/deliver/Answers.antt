@@ -8,7 +8,7 @@ use Rattle.j39_bus.specs.inside.Network.{world_in, planned_units, has_unit_named
 use Rattle.j39_bus.proofs.Delivered.{delivered, planned_units_heard}
 use Rattle.j39_bus.proofs.Room.{can_note_all, named}
 use Rattle.j39_bus.specs.declared.network.Network.{Network}
-use Rattle.j39_bus.specs.inside.Traffic.{IsTraffic}
+use Rattle.j39_bus.specs.inside.KeptMessages.{IsTraffic}
 use Rattle.j39_bus.proofs.Steady.{told_traffic}
 use Rattle.j39_bus.proofs.WellFormed.{well_told, well_heard}
 use Rattle.j39_bus.proofs.Worlds.{any_default, world, told_nothing}

@@ -6,7 +6,7 @@ use Rattle.j39_findings.specs.declared.steps.Step.TheVariants.{Down}
 use Rattle.j39_bus.specs.declared.network.Network.{Network}
 use Rattle.j39_queues.specs.Queued.{pair_in}
 use Rattle.j39_bus.specs.inside.Network.{world_in}
-use Rattle.j39_bus.specs.inside.Traffic.{IsTraffic}
+use Rattle.j39_bus.specs.inside.KeptMessages.{IsTraffic}
 use Rattle.j39_world.specs.Sent.{sent_of}
 use Rattle.j39_bus.proofs.Steady.{steps_same, wired_traffic}
 use Rattle.j39_bus.proofs.SwitchedOn.{planned_units_off, off_planned_unit, switched_off_world}

@@ -8,7 +8,7 @@ use Rattle.j39_bus.specs.Stands.{HoldTaken}
 use Rattle.j39_bus.specs.declared.network.Network.{Network}
 use Rattle.j39_bus.specs.inside.Network.{has_taken, world_in}
 use Rattle.j39_tp.specs.Receiver.{is_complete}
-use Rattle.j39_bus.specs.inside.Traffic.{packet_heard}
+use Rattle.j39_bus.specs.inside.KeptMessages.{packet_heard}
 use Rattle.j39_world.specs.Transfers.{Reported}
 use Rattle.j39_world.specs.World.{World}
 use Rattle.j39_world.specs.TransferSteps.{TakenFrom, hearing, packets_in, reaction_of, receiver_replies, replied, report, sender_replies}

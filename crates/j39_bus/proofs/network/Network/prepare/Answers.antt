@@ -1,6 +1,6 @@
 use Rattle.std.proofs.Common.{◌∙◌, length, sym, ap, subst}
 use Rattle.j39_bus.specs.Stations.{station_at}
-use Rattle.j39_bus.specs.inside.Traffic.{AreUnits}
+use Rattle.j39_bus.specs.inside.KeptMessages.{AreUnits}
 use Rattle.j39_world.specs.TransferSteps.{targets_of}
 use Rattle.j39_bus.proofs.Wires.{targets_units}
 use Rattle.j39_bus.proofs.network.Network.prepare.Goals as goal

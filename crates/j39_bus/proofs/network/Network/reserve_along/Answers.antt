@@ -1,6 +1,6 @@
 use Rattle.std.proofs.Common.{◌≡◌, ◌<◌, length, Some, None, arith, sym, ◌∙◌, subst}
 use Rattle.j39_bus.specs.BusState.{session_at}
-use Rattle.j39_bus.specs.inside.Traffic.{AreUnits}
+use Rattle.j39_bus.specs.inside.KeptMessages.{AreUnits}
 use Rattle.j39_bus.proofs.Worlds.{any_default}
 use Rattle.j39_bus.proofs.network.Network.reserve_along.Goals as goal
 

@@ -4,7 +4,7 @@ use Rattle.j39_bus.specs.BusState.{Histories}
 use Rattle.j39_bus.specs.Stands.{HoldTaken}
 use Rattle.j39_bus.specs.inside.Network.{has_sent, world_in}
 use Rattle.j39_world.specs.Run.{count_of}
-use Rattle.j39_bus.specs.inside.Traffic.{IsFlow}
+use Rattle.j39_bus.specs.inside.KeptMessages.{IsFlow}
 use Rattle.j39_world.specs.TransferSteps.{SendsAt, sends_alone}
 use Rattle.j39_bus.proofs.SendRefused.{is_short_enough, planned_flow, flow_fits}
 use Rattle.j39_bus.proofs.Rested.{units_count}

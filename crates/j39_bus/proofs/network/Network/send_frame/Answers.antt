@@ -2,7 +2,7 @@ use Rattle.std.proofs.Common.{◌≡◌, ◌∷◌, [], ◌++◌, ℕ, List, len
 use Rattle.std.proofs.lemmas.List.{map-append}
 use Rattle.j39_bus.specs.Stations.{station_at}
 use Rattle.j39_bus.specs.inside.Network.{world_in}
-use Rattle.j39_bus.specs.inside.Traffic.{AreUnits}
+use Rattle.j39_bus.specs.inside.KeptMessages.{AreUnits}
 use Rattle.j39_bus.proofs.Wires.{as_table, targets_units}
 use Rattle.j39_queues.specs.Queued.{pair_in}
 use Rattle.j39_world.specs.declared.flow.Flow.{Flow}

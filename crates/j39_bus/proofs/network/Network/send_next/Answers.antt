@@ -2,7 +2,7 @@ use Rattle.std.proofs.Common.{◌≡◌, ap, sym, ◌∙◌, subst, length, Some
 use Rattle.j39_tp.specs.Sender.{after_packet, data_next}
 use Rattle.j39_bus.specs.BusState.{session_at}
 use Rattle.j39_bus.specs.inside.Network.{world_in}
-use Rattle.j39_bus.specs.inside.Traffic.{HasRoomAlong, at_stage}
+use Rattle.j39_bus.specs.inside.KeptMessages.{HasRoomAlong, at_stage}
 use Rattle.j39_world.specs.Flows.{dest_of}
 use Rattle.j39_world.specs.Transfers.{Outgoing}
 use Rattle.j39_world.specs.TransferSteps.{sent_to_receivers}

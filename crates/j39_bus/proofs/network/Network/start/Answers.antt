@@ -4,7 +4,7 @@ use Rattle.std.proofs.lemmas.List.{map-append}
 use Rattle.j39_bus.specs.BusState.{session_at}
 use Rattle.j39_bus.specs.Stations.{station_at}
 use Rattle.j39_bus.specs.inside.Network.{world_in}
-use Rattle.j39_bus.specs.inside.Traffic.{AreUnits, IsSession, item_frame}
+use Rattle.j39_bus.specs.inside.KeptMessages.{AreUnits, IsSession, item_frame}
 use Rattle.j39_bus.proofs.Begun.{first_framed}
 use Rattle.j39_bus.proofs.ChangedSessions.{session_set, sessions_changed, some_is}
 use Rattle.j39_bus.proofs.Wires.{as_table, targets_units}

@@ -9,7 +9,7 @@ use Rattle.j39_bus.proofs.WellFormed.{well_on, well_told}
 use Rattle.j39_bus.proofs.SwitchedOn.{planned_units_on, on_planned_unit, switched}
 use Rattle.j39_queues.specs.Queued.{pair_in}
 use Rattle.j39_bus.specs.inside.Network.{planned_units, world_in}
-use Rattle.j39_bus.specs.inside.Traffic.{IsTraffic}
+use Rattle.j39_bus.specs.inside.KeptMessages.{IsTraffic}
 use Rattle.j39_bus.proofs.Worlds.{told_nothing, world}
 use Rattle.j39_bus.proofs.network.Network.switch_on.Goals as goal
 

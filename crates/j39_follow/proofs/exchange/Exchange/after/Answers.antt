@@ -1,6 +1,6 @@
 use Rattle.std.proofs.Common.{◌+◌, ◌-◌, ◌^◌, ◌&&◌, ◌||◌, not, Bool, if◌then◌else◌, ap, ◌∙◌}
 use Rattle.std.specs.Prelude.{min}
-use Rattle.j39_follow.specs.Requests.{answers, asks_request as asks}
+use Rattle.j39_follow.specs.LoggedRequests.{answers, asks_request as asks}
 use Rattle.j39_follow.specs.declared.exchange.Exchange.{Exchange}
 use Rattle.j39_follow.proofs.Exchanged.{after_event}
 use Rattle.j39_follow.proofs.exchange.Exchange.after.Goals as goal

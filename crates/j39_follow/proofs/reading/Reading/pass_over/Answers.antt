@@ -3,7 +3,7 @@ use Rattle.j39_id.specs.declared.line_error.LineError.{LineError}
 use Rattle.j39_id.specs.declared.line_error.LineError.TheVariants.{Empty, NoHash, ShortIdent, BadIdent, TooLong, BadData}
 use Rattle.j39_follow.specs.FollowText.{FollowedPast, line_passed_over, with_bad_line}
 use Rattle.j39_follow.specs.declared.reading.Reading.{Reading}
-use Rattle.j39_follow.specs.inside.Recalling.{RecallsPast}
+use Rattle.j39_follow.specs.inside.FollowedSoFar.{RecallsPast}
 use Rattle.j39_follow.proofs.Recalls.{one_more_bad, one_more_skipped}
 use Rattle.j39_follow.proofs.reading.Reading.pass_over.Goals as goal
 

@@ -9,7 +9,7 @@ use Rattle.j39_follow.specs.FollowReports.{IsMessageReport, IsNotice, in_frame, 
 use Rattle.j39_follow.specs.FollowText.{IsPacketReport, FollowedPast, lines_with}
 use Rattle.j39_follow.specs.LogLines.{interface_behind}
 use Rattle.j39_follow.specs.declared.message.Sort.{Sort}
-use Rattle.j39_follow.specs.inside.Recalling.{interface_of}
+use Rattle.j39_follow.specs.inside.FollowedSoFar.{interface_of}
 use Rattle.j39_follow.specs.inside.Recounting.{Knows}
 use Rattle.j39_follow.proofs.Heard.{frames_more}
 use Rattle.j39_follow.proofs.Told.{few_events}

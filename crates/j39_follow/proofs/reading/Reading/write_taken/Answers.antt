@@ -3,7 +3,7 @@ use Rattle.std.proofs.lemmas.Result.{IfOk-weaker}
 use Rattle.j39_id.specs.declared.frame.Frame.{Frame}
 use Rattle.j39_findings.specs.declared.plan.Plan.{Plan}
 use Rattle.j39_follow.specs.Contests.{IsTaken, Timed, frames_of}
-use Rattle.j39_follow.specs.Requests.{told_address}
+use Rattle.j39_follow.specs.LoggedRequests.{told_address}
 use Rattle.j39_follow.specs.declared.contests.Contests.{Contests}
 use Rattle.j39_follow.specs.declared.directory.Directory.{Directory}
 use Rattle.j39_follow.specs.declared.known_parties.Parties.{Parties}

@@ -1,7 +1,7 @@
 use Rattle.std.proofs.Common.{◌≡◌, true, false, sym, ◌∙◌}
 use Rattle.std.proofs.lemmas.List.{append-nil}
 use Rattle.toml.specs.View.{table_view}
-use Rattle.j39_plan.specs.Faults.{knows_third, knows_fourth}
+use Rattle.j39_plan.specs.PlanFaults.{knows_third, knows_fourth}
 use Rattle.j39_plan.proofs.HeadRules.{third_may_keep, fourth_knows_third}
 use Rattle.j39_plan.proofs.reading.heads.head.Goals as goal
 

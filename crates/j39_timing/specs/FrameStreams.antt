@@ -2,7 +2,7 @@
 -- period.
 use Rattle.std.specs.Prelude.{◌≡◌, ◌≢◌, ℕ, ◌+◌, ◌<◌, ◌≤◌, ◌⊎◌}
 use Rattle.j39_timing.specs.declared.stream.Stream.{Stream}
-use Rattle.j39_timing.specs.Schedule.{Schedule}
+use Rattle.j39_timing.specs.TimedFrames.{Schedule}
 
 -- what a frame is of its stream
 pub record Origins : Type 0 where
@@ -19,7 +19,7 @@ pub record KeepsStream (s : Schedule) (count : ℕ) (stream : ℕ → Stream) (o
   -- it is as long as the stream's frames at most, and has its turn in a message: no message has more frames than the stream says
   pub bits_at_most : s.bits p ≤ (stream (of.source p)).bits
   pub turns : of.turn p < (stream (of.source p)).frames
-  -- it is queued at the moment of its message, or so many bits behind it at most
+  -- it is queued at the moment of its message, or so many bits after it at most
   pub moment_first : of.since p ≤ s.queued p
   pub late_at_most : s.queued p ≤ of.since p + (stream (of.source p)).late
 

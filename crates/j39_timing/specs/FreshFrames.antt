@@ -1,7 +1,7 @@
 -- How old the newest of a stream's frames is that has ended.
 use Rattle.std.specs.Prelude.{◌≡◌, ℕ, ◌+◌, ◌<◌, ◌≤◌, Bool, true}
-use Rattle.j39_timing.specs.Schedule.{Schedule}
-use Rattle.j39_timing.specs.Streams.{Origins}
+use Rattle.j39_timing.specs.TimedFrames.{Schedule}
+use Rattle.j39_timing.specs.FrameStreams.{Origins}
 
 -- from one bit to another, a frame of the stream has had its moment less than `pause` bits ago
 abbrev pub KeepsComing : Schedule → (ℕ → Bool) → Origins → ℕ → ℕ → ℕ → ℕ → Type 0

@@ -1,7 +1,7 @@
 use Rattle.std.proofs.Common.{◌≡◌, ◌-◌}
 use Rattle.j39_stream.specs.Intakes.{HasRead}
 use Rattle.j39_stream.specs.Streams.{plan_limits}
-use Rattle.j39_stream.proofs.loading.load.Given as goal
+use Rattle.j39_stream.proofs.loading.read_whole.Given as goal
 
 abbrev pub invariant-loop-input : goal.invariant-loop-input
 invariant-loop-input g l =

@@ -3,7 +3,7 @@ use Rattle.std.specs.Prelude.{IsErrOf}
 use Rattle.j39_stream.specs.Intakes.{HasRead}
 use Rattle.j39_stream.specs.declared.fault.Fault.TheVariants.{TooLong}
 use Rattle.j39_stream.specs.Streams.{plan_limits}
-use Rattle.j39_stream.proofs.loading.load.Goals as goal
+use Rattle.j39_stream.proofs.loading.read_whole.Goals as goal
 
 pub returns-in_err-count-clause-long : goal.returns-in_err-count-clause-long
 returns-in_err-count-clause-long g c err =

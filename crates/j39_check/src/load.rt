@@ -1,6 +1,6 @@
 //! What the load command writes.
 ghost use Rattle.j39_check.specs.LoadText.{IsLoadText};
-ghost use Rattle.j39_stream.specs.Commands.{AnswersWhole, IsOfAny};
+ghost use Rattle.j39_stream.specs.CommandEnds.{AnswersWhole, IsOfAny};
 ghost use Rattle.j39_stream.specs.Streams.{plan_limits};
 
 use crate::load_report::load_report;
@@ -26,7 +26,7 @@ impl Report for LoadReport {
 /// Writes of each flow of the plan that a file describes how long its frames wait at most, or that they aren't shown to be in time, and
 /// how much of the bus all flows take; of a plan with findings of another kind, or with a flow without a period, what `check_text` writes;
 /// that nothing is known of its bus; or why the file describes no plan.
-pub fn timing_text<S: Source, W: Sink>(
+pub fn load_text<S: Source, W: Sink>(
     alloc: Global,
     source: &mut S,
     sink: &mut W,
