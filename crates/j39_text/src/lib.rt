@@ -13,7 +13,7 @@ mod text_buffer;
 pub use frame::{frame_text, write_destination};
 pub use input::input_text;
 pub use labels::{
-    group_label, group_pgn, signal_bits, signal_end, signal_label, text_end, text_label,
+    group_label, group_pgn, group_selector_end, signal_bits, signal_end, signal_label, text_end, text_label,
     unit_address, unit_label, write_group, write_units,
 };
 pub use laws::{

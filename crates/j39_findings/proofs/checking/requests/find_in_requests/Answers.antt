@@ -16,8 +16,15 @@ unfolding request_findings each
 returns-in_err-find_each-3 c =
     refuses _ _ _ _ _ c.from_residual-in_err-find_each-3.ensures.1 (some_right _ _ (some_right _ _ (some_left _ _ c.in_err-find_each-3.ensures)))
 
+pub returns-in_err-find_each-4 : goal.returns-in_err-find_each-4
+unfolding request_findings each
+returns-in_err-find_each-4 c =
+    refuses _ _ _ _ _ c.from_residual-in_err-find_each-4.ensures.1
+    (some_right _ _ (some_right _ _ (some_right _ _ (some_left _ _ c.in_err-find_each-4.ensures))))
+
 pub returns : goal.returns
 unfolding request_findings each
 returns c =
     adds_behind _ _ _ _ _ _ c.in_ok-find_each.ensures
-    (adds_behind _ _ _ _ _ _ c.in_ok-find_each-2.ensures (adds_behind _ _ _ _ _ _ c.in_ok-find_each-3.ensures c.find_pairs.ensures))
+    (adds_behind _ _ _ _ _ _ c.in_ok-find_each-2.ensures (adds_behind _ _ _ _ _ _ c.in_ok-find_each-3.ensures
+    (adds_behind _ _ _ _ _ _ c.in_ok-find_each-4.ensures c.find_pairs.ensures)))
