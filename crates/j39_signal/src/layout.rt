@@ -1,5 +1,5 @@
 //! Layouts.
-ghost use Rattle.std.specs.Prelude.{◌≡◌, ◌≢◌, ◌↔◌, ◌<◌, ◌≤◌, length, None, All, IsSome, IsTrue, IfOk, IfErr, IfSome, IfNone, OnOk, OnErr};
+ghost use Rattle.std.specs.Prelude.{◌≡◌, ◌≢◌, ◌↔◌, ℕ, ◌+◌, ◌*◌, ◌<◌, ◌≤◌, length, None, Some, All, IsSome, IsTrue, IfOk, IfErr, IfSome, IfNone, OnOk, OnErr};
 ghost use Rattle.std.specs.List.{HoldsAt};
 ghost use Rattle.j39_id.specs.FirstFault.{first_fault};
 ghost use Rattle.j39_signal.specs.Bits.{Put, raw_of, all_ones};
@@ -62,6 +62,7 @@ fn fault_after(before: &[Signal], signal: &Signal, length: u16) -> Option<Layout
 }
 
 // Whether the bits of a selector end inside so many bytes.
+#[tactic(auto, using(crate::proofs::Blanks::ends_by, crate::proofs::Blanks::ends_not_by, crate::proofs::Blanks::ends_of_none))]
 fn ends_inside(when: Option<Selector>, length: u16) -> bool
     ensures { IsTrue result ↔ EndsInside length when }
 {
@@ -69,6 +70,21 @@ fn ends_inside(when: Option<Selector>, length: u16) -> bool
         Some(selector) => selector.end() <= 8 * u32::from(length),
         None => true,
     }
+}
+
+// So many bytes in which every bit is 1.
+fn all_ones(alloc: Global, bytes: u16) -> Result<Vec<u8>, AllocError>
+    ensures { IfOk result (λ payload. payload.items ≡ blank bytes) }
+{
+    vec![in alloc; 255; usize::from(bytes)]
+}
+
+// Sets the bits of a selector to its value.
+fn select(payload: &mut [u8], selector: Selector)
+    requires { selector.start + selector.bits ≤ 8 * length payload.old }
+    ensures { (bytes : ℕ) → payload.old ≡ blank bytes → IsBlank (Some selector) payload.new }
+{
+    set_bits(payload, selector.start, selector.bits, selector.value);
 }
 
 // Whether each of these that isn't optional ends within so many bytes.
@@ -111,12 +127,15 @@ impl Layout {
 
     /// The layout of payloads of `length` bytes and more, up to the longest that it lays out.
     ///
-    /// None where the length is 0 or above that of the longest, or where a signal ends behind it that isn't optional.
+    /// None where the length is 0 or above that of the longest, or where a signal that isn't optional or the selector ends behind it.
     pub fn from_length(self, length: u16) -> Option<Self>
-        ensures valid { IsSome result ↔ ((1 ≤ length) × (length ≤ self.most) × All (IsAlwaysInside length) self.signals) }
+        ensures valid { IsSome result ↔ ((1 ≤ length) × (length ≤ self.most) × All (IsAlwaysInside length) self.signals × EndsInside length self.when) }
         ensures shorter { IfSome result (λ l. l ≡ record self { length = length }) }
     {
-        let fits = 1 <= length && length <= self.most && are_always_inside(&self.signals, length);
+        let fits = 1 <= length
+            && length <= self.most
+            && are_always_inside(&self.signals, length)
+            && ends_inside(self.when, length);
         if fits {
             Some(Layout {
                 bytes: length,
@@ -181,15 +200,16 @@ impl Layout {
     }
 
     /// The same of so many bytes.
+    #[tactic(auto, using(crate::proofs::Blanks::ends_in))]
     pub fn blank_of(&self, alloc: Global, bytes: u16) -> Result<Vec<u8>, AllocError>
         requires { (self.now.length ≤ bytes) × (bytes ≤ self.now.most) }
         ensures length { IfOk result (λ payload. length payload.items ≡ bytes) }
         ensures blank { IfOk result (λ payload. IsBlank self.now.when payload.items) }
         ensures ones { self.now.when ≡ None → IfOk result (λ payload. payload.items ≡ blank bytes) }
     {
-        let mut payload = vec![in alloc; 255; usize::from(bytes)]?;
+        let mut payload = all_ones(alloc, bytes)?;
         if let Some(selector) = self.when {
-            set_bits(&mut payload, selector.start, selector.bits, selector.value);
+            select(&mut payload, selector);
         }
         Ok(payload)
     }
