@@ -40,4 +40,7 @@ BITRATE_ATTRIBUTE = "Baudrate"
 # it comes again in each further record; of a text how many bytes it has, 0 for one that goes to the end.
 MOST_ATTRIBUTE, EVERY_ATTRIBUTE, REPEATED_ATTRIBUTE, BYTES_ATTRIBUTE = "PlanMost", "PlanEvery", "PlanRepeated", "PlanBytes"
 
+# What the groups are called that a multiplexed message becomes, where it isn't as the message with the value: `1 PRESSURE, 2 HEAT`.
+GROUPS_ATTRIBUTE = "PlanGroups"
+
 NOBODY = "Vector__XXX"

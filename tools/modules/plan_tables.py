@@ -11,6 +11,7 @@ from .toml_places import Place, Places
 # What numbers are where they aren't said.
 WINDOW = default_of("unit", "window")
 BIT, STEP, PER = (default_of("signal", key) for key in ("bit", "step", "per"))
+FIRST_BIT = default_of("when", "bit")
 PACE = {key: default_of("timing", key) for key in ("unplanned_priority", "transport_priority", "broadcast_gap", "broadcast_gap_most")}
 
 
@@ -89,8 +90,24 @@ class Text:
 
 
 @dataclass(frozen=True)
+class When:
+    """Bits of a group's data, from a byte and a bit in it on, both counted from 1, and the number that they have in each message of it."""
+
+    byte: int
+    bit: int
+    bits: int
+    value: int
+
+    def takes(self, data: bytes) -> bool:
+        """Whether data has the bits, and they have the number."""
+        start = 8 * (self.byte - 1) + self.bit - 1
+        number = int.from_bytes(data, "little") >> start & (1 << self.bits) - 1
+        return start + self.bits <= 8 * len(data) and number == self.value
+
+
+@dataclass(frozen=True)
 class Group:
-    """A planned group."""
+    """A planned group; where it is told from others of its number by its data, with what that has."""
 
     label: str
     pgn: int
@@ -101,6 +118,11 @@ class Group:
     every: int | None
     signals: list[Signal]
     texts: list[Text]
+    when: When | None = None
+
+    def takes(self, data: bytes) -> bool:
+        """Whether data can be that of a message of it."""
+        return self.length <= len(data) <= self.most and (self.when is None or self.when.takes(data))
 
     def records(self, length: int) -> int:
         """How many records data of this length has: those of which all signals end inside it."""
@@ -257,7 +279,11 @@ class Tables:
         most = self._number(place, "most", length)
         every = self._places.number(place + ("every",))
         texts = [self._text_of(other) for other in self._places.elements(place + ("text",))]
-        return Group(self._text(place, "label"), pgn, priority, length, private, most, every, signals, texts)
+        return Group(self._text(place, "label"), pgn, priority, length, private, most, every, signals, texts, self._when(place + ("when",)))
+
+    def _when(self, place: Place) -> When | None:
+        byte, bits, value = (self._number(place, key) for key in ("byte", "bits", "value"))
+        return When(byte, self._number(place, "bit", FIRST_BIT), bits, value) if place in self._places.lines else None
 
     def _flow(self, place: Place) -> Flow:
         group, sender, to = (self._text(place, key) for key in ("group", "from", "to"))
