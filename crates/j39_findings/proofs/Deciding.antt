@@ -1,6 +1,6 @@
 -- Each test decides its statement.
-use Rattle.std.proofs.Common.{◌≡◌, ℕ, zero, suc, ◌+◌, ◌<◌, ◌≤◌, ◌==◌, ◌⊎◌, List, [], ◌∷◌, Bool, true, false, cond, not, ◌||◌, ◌&&◌}
-use Rattle.std.proofs.Common.{nat_le, Option, Some, None, Contains, Decides, refl, sym, ◌∙◌, inl, inr, subst, ◌%◌, arith}
+use Rattle.std.proofs.Common.{◌≡◌, ℕ, zero, suc, ◌+◌, ◌*◌, ◌<◌, ◌≤◌, ◌==◌, ◌⊎◌, List, [], ◌∷◌, Bool, true, false, cond, not, ◌||◌, ◌&&◌}
+use Rattle.std.proofs.Common.{nat_le, nat_lt, Option, Some, None, Contains, Decides, refl, sym, ◌∙◌, inl, inr, subst, ◌%◌, arith}
 use Rattle.std.specs.List.{count_by, slice_get, list_any}
 use Rattle.std.specs.FinSet.{contains}
 use Rattle.std.proofs.lemmas.List.Sums.{sum_by-cons}

@@ -1,8 +1,11 @@
 -- Which planned groups can be sent and read, and why another can't.
-use Rattle.std.specs.Prelude.{ℕ, ◌⊎◌, List, take, All}
+use Rattle.std.specs.Prelude.{◌≢◌, ℕ, ◌⊎◌, List, take, All}
 use Rattle.j39_id.specs.Pgn.{IsPgn}
 use Rattle.j39_signal.specs.LayoutParts.{LayoutParts}
-use Rattle.j39_signal.specs.Places.{LaysOutFrom}
+use Rattle.j39_signal.specs.Places.{IsAlwaysInside, LaysOutFrom}
+use Rattle.j39_signal.specs.Refusals.{HasLayoutFault}
+use Rattle.j39_signal.specs.declared.layout_error.LayoutError.{LayoutError}
+use Rattle.j39_signal.specs.declared.layout_error.LayoutError.TheVariants.{Memory as NoMemory}
 use Rattle.j39_findings.specs.Findings.{IsSelectorInside}
 use Rattle.j39_findings.specs.ListPlaces.{ValueAt}
 use Rattle.j39_findings.specs.declared.plan.group_plan.GroupPlan.{GroupPlan}
@@ -19,9 +22,13 @@ pub record IsSendable (group : GroupPlan) : Type 0 where
   pub layout : LaysOutFrom group.length group.most group.signals.items
   pub selector : IsSelectorInside group
 
--- its number is no group's, its signals don't lay out its payloads, or its selector ends outside
+-- its number is no group's, there is a fault that keeps its signals from laying out its longest payloads, one of them that isn't optional ends
+-- behind the shortest, or a bit of its selector lies behind it
 abbrev pub IsRefusedGroup : GroupPlan → Type 0
-IsRefusedGroup group = (¬ IsPgn group.pgn) ⊎ ((¬ LaysOutFrom group.length group.most group.signals.items) ⊎ (¬ IsSelectorInside group))
+IsRefusedGroup group =
+    (¬ IsPgn group.pgn)
+    ⊎ (((e : LayoutError) × (e ≢ NoMemory) × HasLayoutFault group.most group.signals.items e)
+    ⊎ ((¬ All (IsAlwaysInside group.length) group.signals.items) ⊎ (¬ IsSelectorInside group)))
 
 -- what keeps a group from having a layout; where it is memory alone, it could have one
 abbrev pub HasGroupFault : GroupPlan → GroupFault → Type 0
