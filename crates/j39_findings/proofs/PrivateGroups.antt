@@ -55,7 +55,7 @@ together plan g h sender to (i, f) (j, k) = (
 )
 
 -- no payload is taken by two selectors that differ in the value alone
-not_both_taken : (v w : Option Selector) (bytes : List ℕ) → is_selected v bytes ≡ true → is_selected w bytes ≡ true → ¬ DifferInValue v w
+pub not_both_taken : (v w : Option Selector) (bytes : List ℕ) → is_selected v bytes ≡ true → is_selected w bytes ≡ true → ¬ DifferInValue v w
 not_both_taken None w bytes first second differ = absurd differ
 not_both_taken (Some v) None bytes first second differ = absurd differ
 not_both_taken (Some v) (Some w) bytes first second (start, bits, value) =
