@@ -1,6 +1,5 @@
 -- Plans without groups that are told by their data.
-use Rattle.std.proofs.Common.{◌≡◌, ℕ, None, sym, subst, ◌∙◌}
-use Rattle.std.specs.List.{slice_get}
+use Rattle.std.proofs.Common.{◌≡◌, None, sym, subst, ◌∙◌}
 use Rattle.std.proofs.lemmas.Option.{none-some}
 use Rattle.j39_signal.specs.Selectors.{DifferInValue}
 use Rattle.j39_findings.specs.WithoutSelectors.{HasNoSelectors, IsWithoutSelectors}
