@@ -7,8 +7,8 @@ ghost use Rattle.j39_check.specs.FindingLines.{finding_line, finding_lines, find
 use j39_findings::{Finding, Plan, bad_run};
 use j39_schedule::write_steps;
 use j39_text::{
-    TextBuffer, group_label, group_pgn, group_selector_end, signal_bits, signal_end, signal_label, text_end,
-    text_label, unit_address, unit_label, write_group, write_units,
+    TextBuffer, group_label, group_pgn, group_selector_end, signal_bits, signal_end, signal_label,
+    text_end, text_label, unit_address, unit_label, write_group, write_units,
 };
 use std::alloc::{AllocError, Global};
 

@@ -195,11 +195,7 @@ fn write_group_form(
 
 // The bits that tell a group's messages, if any do.
 #[tactic(auto, unfolding(crate::specs::ShowText::when_lines))]
-fn write_when(
-    text: &mut TextBuffer,
-    table: Table,
-    when: Option<Selector>,
-) -> Result<(), AllocError>
+fn write_when(text: &mut TextBuffer, table: Table, when: Option<Selector>) -> Result<(), AllocError>
     ensures { OnOk result (text.new ≡ text.old ++ when_lines table when) }
 {
     let Some(selector) = when else {
