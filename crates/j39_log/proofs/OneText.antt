@@ -10,6 +10,7 @@ use Rattle.j39_id.specs.declared.frame.Frame.{Frame}
 use Rattle.j39_id.specs.declared.ident.Ident.{Ident}
 use Rattle.j39_id.specs.declared.line_error.LineError.{LineError}
 use Rattle.j39_findings.specs.ListPlaces.{ValueAt}
+use Rattle.j39_signal.proofs.LaidOut.{no_fault}
 use Rattle.j39_findings.specs.PlannedGroups.{IsSendable, IsRefusedGroup, IsFirstRefused}
 use Rattle.j39_findings.specs.declared.plan.Plan.{Plan}
 use Rattle.j39_findings.specs.declared.plan.group_plan.GroupPlan.{GroupPlan}
@@ -113,8 +114,10 @@ one_log_text plan log t u a b =
 
 not_both_ways : (group : GroupPlan) → IsSendable group → IsRefusedGroup group → ⊥
 not_both_ways group sendable (inl number) = number sendable.number
-not_both_ways group sendable (inr (inl layout)) = layout sendable.layout
-not_both_ways group sendable (inr (inr selector)) = selector sendable.selector
+not_both_ways group sendable (inr (inl layout)) =
+    no_fault group.most group.signals.items layout.0 layout.1 sendable.layout.longest layout.2
+not_both_ways group sendable (inr (inr (inl behind))) = behind sendable.layout.always
+not_both_ways group sendable (inr (inr (inr selector))) = selector sendable.selector
 
 -- where the first groups are sendable, none of them is refused
 unrefused : (groups : List GroupPlan) (n g : ℕ) → All IsSendable (take n groups) → g < n → ValueAt IsRefusedGroup groups g → ⊥

@@ -150,13 +150,13 @@ fn later_keys(
 
 // The tables of signals and of texts.
 #[derive(Clone, Copy)]
-struct Arrays<'a> {
+struct Inside<'a> {
     signals: &'a [Value],
     texts: &'a [Value],
 }
 
 #[tactic(auto, using(crate::proofs::FirstFaults::faults_after))]
-fn arrays(third: bool, members: &toml::Table, table: Table) -> Result<Arrays, PlanError>
+fn arrays(third: bool, members: &toml::Table, table: Table) -> Result<Inside, PlanError>
     ensures { Gives result (keys_faults table (table_view members.now) (last_rules third))
         (λ arrays. (items_view arrays.signals.now ≡ tables_of signal_rule (table_view members.now))
         × (items_view arrays.texts.now ≡ text_tables_of third (table_view members.now))) }
@@ -164,9 +164,9 @@ fn arrays(third: bool, members: &toml::Table, table: Table) -> Result<Arrays, Pl
     let signals = array(members, table, Key::Signal, SIGNAL_LIMIT)?;
     if third {
         let texts = array(members, table, Key::Text, TEXT_LIMIT)?;
-        Ok(Arrays { signals, texts })
+        Ok(Inside { signals, texts })
     } else {
-        Ok(Arrays {
+        Ok(Inside {
             signals,
             texts: &[],
         })

@@ -12,8 +12,8 @@ use Rattle.j39_log.specs.NamedReports.{raw_text, named_signal_line, named_state_
 use Rattle.j39_log.specs.inside.NameTables.{names_in}
 use Rattle.j39_log.proofs.named_lines.write_single.Goals as goal
 
-pub show-requires-clause-there : goal.show-requires-clause-there
-show-requires-clause-there c d =
+pub show-shown-requires-clause-there : goal.show-shown-requires-clause-there
+show-shown-requires-clause-there c d =
     let s : SignalParts = c.args.signal.now in
     let n = length c.args.bytes.now in
     let stands : stands_once n s ≡ true = sym c.stands_once.ensures ∙ c.if-stands_once.true in
