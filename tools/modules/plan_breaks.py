@@ -197,7 +197,10 @@ class Breaks:
         same = self._groups[group.label]
         heard = [other for other in groups.values() if other["pgn"] == group["pgn"] and not are_apart(group, other)]
         if not heard:
-            if same is not None and same.label in groups:
+            if same is not None and same.label in groups and same["pgn"] == group["pgn"]:
+                why = f"it is told by {plan_scales.shown_when(same)}, and not by {plan_scales.shown_when(group)}"
+                yield self._lost(flow, receiver, group, why, same.line("when"))
+            elif same is not None and same.label in groups:
                 yield self._lost(flow, receiver, group, f"its number is {same['pgn']}, and not {group['pgn']}", same.line("pgn"))
             else:
                 yield self._lost(flow, receiver, group, "no flow sends it any more", None)
