@@ -163,8 +163,7 @@ group_keys_alike : (g : ℕ) (ms : Members) → IsThirdGroup ms → Alike (group
 group_keys_alike g ms third =
     let at : Table = at.Group g in
     alike_both _ _ _ _ (alike_unknown at _ _ ms ms (only_same later_group_keys older_group_keys (key.When ∷ []) group_words ms third.keys))
-    (alike_both _ _ _ _ (rw (when_unfaulted at ms third) refl)
-    (rw (when_is ms third) refl))
+    (rw (when_unfaulted at ms third, when_is ms third) refl)
 
 pub group_alike : (g : ℕ) (seen : List (List ℕ)) (d : Data) → IsThirdGroup (inside d) → Alike (group_faults true true g seen d) (group_faults true false g seen d)
 unfolding group_faults group_table_faults

@@ -52,12 +52,12 @@ abbrev pub first_rules : Bool → Bool → Members → List Rule
 first_rules third fourth ms = label_rule ∷ pgn_rule ∷ priority_rule ∷ length_rule ∷ later_rules third fourth (number_of length_rule ms)
 
 -- the arrays
-abbrev pub last_rules : Bool → List Rule
-last_rules true = signal_rule ∷ text_rule ∷ []
-last_rules false = signal_rule ∷ []
+abbrev pub inner_rules : Bool → List Rule
+inner_rules true = signal_rule ∷ text_rule ∷ []
+inner_rules false = signal_rule ∷ []
 
 abbrev pub group_rules : Bool → Bool → Members → List Rule
-group_rules third fourth ms = first_rules third fourth ms ++ last_rules third
+group_rules third fourth ms = first_rules third fourth ms ++ inner_rules third
 
 -- whether the number is a maker's own: it isn't in a version that doesn't know it
 abbrev pub private_of : Bool → Members → Bool
@@ -121,7 +121,7 @@ abbrev pub group_keys_faults : Bool → Bool → ℕ → Members → List Fault
 group_keys_faults third fourth g ms =
     unknown_faults (at.Group g) (map (λ r. r.key) (group_rules third fourth ms)) ms
     ++ (keys_faults (at.Group g) ms (first_rules third fourth ms)
-    ++ (when_faults (third && fourth) g ms ++ keys_faults (at.Group g) ms (last_rules third)))
+    ++ (when_faults (third && fourth) g ms ++ keys_faults (at.Group g) ms (inner_rules third)))
 
 unfoldable pub group_table_faults : Bool → Bool → ℕ → Members → List Fault
 group_table_faults third fourth g ms =

@@ -14,17 +14,17 @@ abbrev pub selector_bits_rule : Rule
 selector_bits_rule = number key.Bits 1 32 None
 
 -- a number that so many bits hold
-abbrev pub value_rule : ℕ → Rule
-value_rule bits = number key.Value 0 (2 ^ bits - 1) None
+abbrev pub selector_value_rule : ℕ → Rule
+selector_value_rule bits = number key.Value 0 (2 ^ bits - 1) None
 
 abbrev pub selector_rules : Members → List Rule
-selector_rules ms = byte_rule ∷ bit_rule ∷ selector_bits_rule ∷ value_rule (number_of selector_bits_rule ms) ∷ []
+selector_rules ms = byte_rule ∷ bit_rule ∷ selector_bits_rule ∷ selector_value_rule (number_of selector_bits_rule ms) ∷ []
 
 -- the selector that a table tells
 pub record TellsSelector (ms : Members) (w : Selector) : Type 0 where
   pub has_start : w.start ≡ start_of (number_of byte_rule ms) (number_of bit_rule ms)
   pub has_bits : w.bits ≡ number_of selector_bits_rule ms
-  pub has_value : w.value ≡ number_of (value_rule (number_of selector_bits_rule ms)) ms
+  pub has_value : w.value ≡ number_of (selector_value_rule (number_of selector_bits_rule ms)) ms
 
 unfoldable pub selector_table_faults : ℕ → Members → List Fault
 selector_table_faults g ms = table_faults (at.GroupWhen g) (selector_rules ms) ms

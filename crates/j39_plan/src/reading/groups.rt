@@ -7,7 +7,7 @@ ghost use Rattle.j39_plan.specs.TableFaults.{keys_faults, unknown_faults};
 ghost use Rattle.j39_plan.specs.Outcome.{Gives, GivesGrowing};
 ghost use Rattle.j39_plan.specs.Growing.{GroupGrows};
 ghost use Rattle.j39_plan.specs.SelectorTables.{when_rules, when_table};
-ghost use Rattle.j39_plan.specs.GroupTables.{every_of, group_rules, group_table_faults, last_rules, later_rules, most_of, private_of, signal_rule, text_tables_of, TellsGroup};
+ghost use Rattle.j39_plan.specs.GroupTables.{every_of, group_rules, group_table_faults, inner_rules, later_rules, most_of, private_of, signal_rule, text_tables_of, TellsGroup};
 
 use super::elements::{ReadElement, read_each};
 use super::labels::untaken;
@@ -157,7 +157,7 @@ struct Inside<'a> {
 
 #[tactic(auto, using(crate::proofs::FirstFaults::faults_after))]
 fn arrays(third: bool, members: &toml::Table, table: Table) -> Result<Inside, PlanError>
-    ensures { Gives result (keys_faults table (table_view members.now) (last_rules third))
+    ensures { Gives result (keys_faults table (table_view members.now) (inner_rules third))
         (λ arrays. (items_view arrays.signals.now ≡ tables_of signal_rule (table_view members.now))
         × (items_view arrays.texts.now ≡ text_tables_of third (table_view members.now))) }
 {
