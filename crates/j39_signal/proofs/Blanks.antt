@@ -33,16 +33,16 @@ pub selector_blank : (w : Selector) (old new : List ℕ) (bytes : ℕ) → old �
     → ((j : ℕ) → (j < w.start) ⊎ (w.start + w.bits ≤ j) → bit new j ≡ bit old j) → IsBlank (Some w) new
 selector_blank w old new bytes ones same inside written others =
     let ones_at : (j : ℕ) → j < 8 * length new → bit old j ≡ 1 = λ j h.
-        ap (λ (p : List ℕ). bit p j) ones
-        ∙ blank_bit bytes j (omega (arith, h, same, ap (length {A = ℕ}) ones, length-replicate {A = ℕ} bytes 255)) in
+    ap (λ (p : List ℕ). bit p j) ones
+    ∙ blank_bit bytes j (omega (arith, h, same, ap (length {A = ℕ}) ones, length-replicate {A = ℕ} bytes 255)) in
     record {
       selected = selected w new (omega (arith, inside, same)) written;
       others = λ j h free. elim (cases_lt j w.start) [
         | inl before ↦ others j (inl before) ∙ ones_at j h
         | inr from ↦ elim (cases_lt j (w.start + w.bits)) [
-            | inl within ↦ absurd (free (from, within))
-            | inr behind ↦ others j (inr behind) ∙ ones_at j h
-          ]
+          | inl within ↦ absurd (free (from, within))
+          | inr behind ↦ others j (inr behind) ∙ ones_at j h
+        ]
       ];
     }
 

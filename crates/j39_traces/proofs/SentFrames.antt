@@ -111,13 +111,16 @@ module _ (plan : Plan) (w : World) (told : AreTold plan w) where
       let d : ℕ = destination_of w.stations flow.to in
       let s : ℕ = address_of w.stations flow.sender in
       let frame = the_frame w after log f sent (short_frame d s flow bytes) (ap (λ (x : World). x.frames) e) in
-      let parts = and_parts (has_length flow (length bytes)) (is_short (length bytes)) (not-false _ long) in
-      (flow, refl, record {
-        payload = ap (λ (x : Sent). x.payload) frame;
-        allowed = parts.0;
-        selected = not-false _ taken;
-        short = parts.1;
-      })
+      let parts = and_parts (has_length flow (length bytes)) (is_short (length bytes)) (not-false _ long) in (
+        flow,
+        refl,
+        record {
+          payload = ap (λ (x : Sent). x.payload) frame;
+          allowed = parts.0;
+          selected = not-false _ taken;
+          short = parts.1;
+        },
+      )
 
 -- ---- numbers that are planned
 
