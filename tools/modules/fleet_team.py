@@ -10,7 +10,8 @@ import subprocess
 import sys
 import threading
 from collections.abc import Callable, Iterable, Iterator
-from concurrent.futures import ThreadPoolExecutor, as_completed
+from concurrent.futures import Future, ThreadPoolExecutor
+from queue import Empty, SimpleQueue
 from typing import Any
 
 from . import program
@@ -19,8 +20,8 @@ from .fleet_drives import Drive, empty
 # How often a task is begun whose process is ended.
 TRIES = 3
 
-# How long a scheduler and its workers are waited for, in seconds.
-PATIENCE = 60
+# How long a scheduler and its workers are waited for, in seconds, and how long an answer at a time.
+PATIENCE, MOMENT = 60, 0.5
 
 # What a task is done with: the text of the plan and what `show` answers of it, what the log is called and where it lies, and the options of
 # `against`.
@@ -51,34 +52,55 @@ class Worker:
         self._process.wait()
 
 
+def next_of(answers: SimpleQueue[Future[Drive]]) -> Future[Drive]:
+    """The next answer. An interrupt that comes right before a wait begins is seen at its end, so no wait is long."""
+    while True:
+        try:
+            return answers.get(timeout=MOMENT)
+        except Empty:
+            continue
+
+
 class Processors:
     """Processes of this machine, each with a thread that hands it tasks. One that is ended costs no other its task, and its own is done again."""
 
     def __init__(self, processes: int) -> None:
         self._processes, self._mine = processes, threading.local()
         self._workers: list[Worker] = []
-        self._is_over = False
+        self._is_over, self._changing = False, threading.Lock()
 
     def done(self, tasks: Iterable[Task]) -> Iterator[Drive]:
         """What the tasks answer, each as soon as it does."""
-        threads = ThreadPoolExecutor(self._processes)
+        threads, answers = ThreadPoolExecutor(self._processes), SimpleQueue[Future[Drive]]()
         try:
-            for future in as_completed([threads.submit(self._do, task) for task in tasks]):
-                yield future.result()
+            futures = [threads.submit(self._do, task) for task in tasks]
+            for future in futures:
+                future.add_done_callback(answers.put)
+            for _ in futures:
+                yield next_of(answers).result()
         finally:
-            self._is_over = True
+            with self._changing:
+                self._is_over = True
             threads.shutdown(wait=False, cancel_futures=True)
             for worker in self._workers:
                 worker.end()
 
-    def _do(self, task: Task) -> Drive:
-        for _ in range(TRIES):
+    def _worker(self) -> Worker | None:
+        """This thread's process, a new one where it has none; None where all is over."""
+        with self._changing:
             if self._is_over:
-                break
-            worker = getattr(self._mine, "worker", None)
+                return None
+            worker: Worker | None = getattr(self._mine, "worker", None)
             if worker is None:
                 worker = self._mine.worker = Worker()
                 self._workers.append(worker)
+            return worker
+
+    def _do(self, task: Task) -> Drive:
+        for _ in range(TRIES):
+            worker = self._worker()
+            if worker is None:
+                break
             try:
                 return worker.do(task)
             except (EOFError, OSError, ValueError, pickle.UnpicklingError):

@@ -200,7 +200,7 @@ class Tasks(Fleets):
         started = subprocess.Popen(words, stdout=subprocess.PIPE, stderr=subprocess.PIPE, env={**os.environ, "J39PLAN": script}, text=True,
                                    start_new_session=True, preexec_fn=lambda: signal.signal(signal.SIGINT, signal.SIG_DFL))
         end = time.monotonic() + PATIENCE
-        while len(self.processes(started.pid)) < 5 and time.monotonic() < end:
+        while len(self.processes(started.pid)) < 7 and time.monotonic() < end:  # its own, two workers, and of each the script and its sleep
             time.sleep(0.1)
         os.killpg(started.pid, signal.SIGINT)
         answer, said = started.communicate(timeout=PATIENCE)
