@@ -1,7 +1,9 @@
 #!/usr/bin/env python3
-"""Looks for a frame that is later than `load` says, where units keep no order: any_order.py [PLANS [SEED [ANSWERS]]]
+"""Looks for a frame that is later than `load` says, where units keep no order, or flows have one identifier:
+any_order.py [PLANS [SEED [ANSWERS]]]
 
-Each of so many plans (300) has some units whose controllers keep no order. It is played on a bus of its own, by none of the program's
+Each of so many plans (300) has some units whose controllers keep no order, and most have twins: flows of one unit whose groups are told by
+their data alone, of which any may go first. It is played on a bus of its own, by none of the program's
 definitions: arbitration bit for bit comes down to the smallest identifier, and such a unit offers what came first, what came last, what is
 least urgent, or any frame. What is queued keeps the premises of the times (docs/GUIDE.md), mostly all at once. ANSWERS is a file with what
 `load` writes of each plan behind a line `== NAME`; else ./j39plan is asked. The status is 1 where a frame is later than told.
@@ -28,6 +30,7 @@ class Flow(NamedTuple):
     length: int
     period: int
     jitter: int
+    is_twin: bool
 
 
 class Network(NamedTuple):
@@ -62,7 +65,13 @@ def network(chance: random.Random) -> Network:
         period = chance.choice([100, 200, 500] if long else [5, 8, 10, 10, 20, 20, 50, 100])
         jitter = min(chance.choice([0, 0, 0, chance.randint(1, 4)]), period - 1)
         pgn = (0x1000 + number * 256) if to_one else 0xFE00 + number
-        flows.append(Flow(number, sender, receiver, chance.choice([0, 2, 3, 3, 3, 6, 6, 6, 7]), pgn, length, period, jitter))
+        flow = Flow(number, sender, receiver, chance.choice([0, 2, 3, 3, 3, 6, 6, 6, 7]), pgn, length, period, jitter, False)
+        others = [other for other in flows if other.length <= 8 and length <= 8]
+        if others and chance.random() < 0.3:
+            other = chance.choice(others)
+            flow = other._replace(number=number, length=length, period=period, jitter=jitter, is_twin=True)
+            flows[other.number - 1] = other._replace(is_twin=True)
+        flows.append(flow)
     return Network(chance.sample(range(120), len(units)), keeps_order, flows, chance.choice([0, 0, 0, 1, 2]))
 
 
@@ -74,6 +83,7 @@ def plan_text(net: Network) -> Iterator[str]:
         yield f'[[unit]]\nlabel = "U{unit}"\naddress = {address}\nqueue = "{queue}"\nname = {{ identity = {unit + 1} }}\n'
     for flow in net.flows:
         yield f'[[group]]\nlabel = "G{flow.number}"\npgn = {flow.pgn}\npriority = {flow.priority}\nlength = {flow.length}\n'
+        yield f"when = {{ byte = 1, bits = 8, value = {flow.number} }}\n" if flow.is_twin else ""
     for flow in net.flows:
         to = "all" if flow.receiver is None else f"U{flow.receiver}"
         yield f'[[flow]]\ngroup = "G{flow.number}"\nfrom = "U{flow.sender}"\nto = "{to}"\nperiod = {flow.period}\njitter = {flow.jitter}\n'
@@ -119,8 +129,9 @@ def queued_frames(net: Network, chance: random.Random) -> list[Frame]:
 
 
 def ends(frames: list[Frame], net: Network, chance: random.Random) -> Iterator[tuple[Frame, int]]:
-    """Each frame with the bit at which it has been sent. A unit behind the planned ones keeps order."""
-    offers = [chance.choice(["first", "last", "least urgent", "least urgent", "any"]) for _ in net.addresses]
+    """Each frame with the bit at which it has been sent. A unit behind the planned ones keeps order; of frames of one identifier
+    such a unit offers any."""
+    offers = [chance.choice(["first", "last", "least urgent", "least urgent", "any"]) for _ in [*net.addresses, None]]
     by_order = {"first": lambda some: min(some, key=lambda frame: frame.queued), "last": lambda some: max(some, key=lambda frame: frame.queued),
                 "least urgent": lambda some: max(some, key=lambda frame: frame.identifier), "any": chance.choice}
     waiting: dict[int, list[Frame]] = {}
@@ -132,8 +143,10 @@ def ends(frames: list[Frame], net: Network, chance: random.Random) -> Iterator[t
             place += 1
         offered = []
         for unit, some in waiting.items():
-            in_order = unit >= len(net.addresses) or net.keeps_order[unit]
-            offered.append(min(some, key=lambda frame: frame.identifier) if in_order else by_order[offers[unit]](some))
+            if unit >= len(net.addresses) or net.keeps_order[unit]:
+                least = min(frame.identifier for frame in some)
+                some = [frame for frame in some if frame.identifier == least]
+            offered.append(by_order[offers[unit]](some))
         frame = min(offered, key=lambda frame: frame.identifier)
         waiting[frame.unit].remove(frame)
         if not waiting[frame.unit]:

@@ -177,8 +177,8 @@ class Comparison:
         self.passes(line, at, mark.identifier, f"PGN {mark.pgn} from {sender.shown}")
         if group is None:
             self.nobody(line, mark, sender)
-        elif not group.length <= mark.length <= group.most:
-            self.another_length(line, group, mark, sender)
+        elif not group.length <= mark.length <= group.most or group.when is not None:
+            self.another_layout(line, group, mark, sender)
             self.asked.answers(line, at, sender, to, mark.pgn)
             way = group.label, sender.label or "", to.shown
             if way in self.sent:
@@ -188,6 +188,13 @@ class Comparison:
         """A message of no group."""
         if mark.pgn not in UNPLANNED:
             self.tell(line, f"PGN {mark.pgn} from {sender.shown}: no group has it")
+
+    def another_layout(self, line: int, group: Group, mark: Mark, sender: Who) -> None:
+        """A frame of a number that has groups which are told by their data, or are as long: it is none of them."""
+        if group.length <= mark.length <= group.most:
+            self.tell(line, f"PGN {mark.pgn} from {sender.shown}: its bits are those of no group's 'when'")
+        else:
+            self.another_length(line, group, mark, sender)
 
     def another_length(self, line: int, group: Group, mark: Mark, sender: Who) -> None:
         """A message of a group that isn't as long as it may be."""

@@ -1,8 +1,8 @@
 #!/usr/bin/python3
 """Writes a plan as a DBC, as canmatrix reads it.
 
-Each group is a message for each unit that sends it, and where its identifier has a destination for each unit that it goes to. What
-a DBC can't say is listed on standard error.
+Each group is a message for each unit that sends it, and where its identifier has a destination for each unit that it goes to. Groups
+that are told by the same bits are one multiplexed message. What a DBC can't say is listed on standard error.
 """
 
 from __future__ import annotations
@@ -16,9 +16,9 @@ from dataclasses import dataclass, field
 from modules import dbc_remarks, need_hints, program
 from modules.dbc_names import (
     ADDRESS_ATTRIBUTE, ARBITRARY_ATTRIBUTE, BITRATE_ATTRIBUTE, BYTES_ATTRIBUTE, CODE_CONTENT, CONTENT_ATTRIBUTE, CONTENTS, CYCLE_ATTRIBUTE,
-    DELAY_ATTRIBUTE, EVERY_ATTRIBUTE, FAST_ATTRIBUTE, GROUP_ATTRIBUTE, IDENTITY_ATTRIBUTE, KIND_ATTRIBUTE, LONG_MESSAGE, LONG_SIGNAL,
-    MOST_ATTRIBUTE, NAME_ATTRIBUTES, NOBODY, REPEATED_ATTRIBUTE, SEND_ATTRIBUTE, SIGNAL_ATTRIBUTE, SIGNAL_CYCLE_ATTRIBUTE, SPN_ATTRIBUTE,
-    TEXT_CONTENT, UNIT_ATTRIBUTE,
+    DELAY_ATTRIBUTE, EVERY_ATTRIBUTE, FAST_ATTRIBUTE, GROUP_ATTRIBUTE, GROUPS_ATTRIBUTE, IDENTITY_ATTRIBUTE, KIND_ATTRIBUTE, LONG_MESSAGE,
+    LONG_SIGNAL, MOST_ATTRIBUTE, NAME_ATTRIBUTES, NOBODY, REPEATED_ATTRIBUTE, SELECTOR_KIND, SEND_ATTRIBUTE, SIGNAL_ATTRIBUTE,
+    SIGNAL_CYCLE_ATTRIBUTE, SPN_ATTRIBUTE, TEXT_CONTENT, UNIT_ATTRIBUTE,
 )
 from modules.dbc_text import Names, decimal, definitions, in_quotes
 from modules.j1939 import GLOBAL_ADDRESS, NULL_ADDRESS
@@ -36,16 +36,20 @@ BITRATE = re.compile(r"# bitrate = (\d+)")
 # How a DBC spells a number.
 NUMBER = re.compile(r"[0-9.+\-eE]+")
 
+# What stands for the bits that tell groups, where no group has a signal of them.
+SELECTOR = "Selector"
+
 EXTENDED = 1 << 31
 
 
 @dataclass
 class Message:
-    """A message of the DBC: its identifier, its group's place and label, how many bytes it has, its name and the one that is too long for a
-    name, who sends it, whom it goes to, and who else receives it, how far apart its flows are sent, in ms, and what is said beside them."""
+    """A message of the DBC: its identifier, the places of its groups, of which it has several where it is multiplexed, and the label of the
+    first, how many bytes it has, its name and the one that is too long for a name, who sends it, whom it goes to, and who else receives it, how
+    far apart its flows are sent, in ms, and what is said beside them."""
 
     identifier: int
-    group: Place
+    groups: list[Place]
     label: str
     length: int
     name: str
@@ -55,10 +59,30 @@ class Message:
     periods: set[int] = field(default_factory=set)
     told: list[dbc_remarks.Remark] = field(default_factory=list)
 
+    @property
+    def group(self) -> Place:
+        """Its first group."""
+        return self.groups[0]
+
+
+@dataclass(frozen=True)
+class When:
+    """The bits by which a group is told, where they begin, counted from 0, and how many they are, and their value; none of other groups."""
+
+    start: int
+    bits: int
+    value: int
+
+    @property
+    def place(self) -> tuple[int, int]:
+        """Where the bits are."""
+        return self.start, self.bits
+
 
 @dataclass
 class Part:
-    """A signal or a text of a message: its place, its name and the one that is too long for a name, and what is said beside it."""
+    """A signal or a text of a message: its place, its name and the one that is too long for a name, what is said beside it, and how it is
+    multiplexed: `M` of what tells the groups, `m3` of what only the group of 3 has."""
 
     place: Place
     label: str
@@ -66,6 +90,7 @@ class Part:
     long: str
     told: dbc_remarks.Remark
     is_text: bool
+    multiplexed: str = ""
 
 
 class Dbc:
@@ -81,9 +106,9 @@ class Dbc:
         self.used: set[Place] = set()  # groups that have a message
         self.attributes: list[str] = []
         self.ways: dict[str, int] = {}  # by what messages are sent
-        self.parts: dict[Place, list[Part]] = {}
-        self.carried: list[tuple[Place | None, Message]] = []  # flows, None of a group without one, with their messages
-        self.needed: dict[tuple[int, str], list[str]] = {}  # who needs a message, or a signal of it
+        self.parts: dict[tuple[Place, ...], list[Part]] = {}
+        self.carried: list[tuple[str, Place | None, Message]] = []  # groups with their flows, None of one without, and messages
+        self.needed: dict[tuple[int, str, str], list[str]] = {}  # who needs a group of a message, or a signal of it
         self.add_messages()
         self.add_needs()
 
@@ -107,20 +132,50 @@ class Dbc:
             flows.setdefault(self.places.texts[flow + ("group",)], []).append(flow)
         groups = self.places.elements(("group",))
         wanted = {self.label(group): self.wanted(group, flows.get(self.label(group), [])) for group in groups}
-        first = {label: self.taken.label(wanted[label]) for label in sorted(wanted, key=lambda label: not Names.fits(wanted[label]))}
+        first, together = {}, dict[object, str]()
+        for group in sorted(groups, key=lambda group: not Names.fits(wanted[self.label(group)])):
+            label, when = self.label(group), self.when(group)
+            name = wanted[label]
+            first[label] = together.get((self.pgn(group), when.place, name)) if when else None
+            first[label] = first[label] or self.taken.label(name)
+            if when:
+                together[self.pgn(group), when.place, name] = first[label]
         for group in groups:
             label = self.label(group)
             for flow in flows.get(label, []):
                 self.add_flow(group, first[label], flow)
             alone = self.add(group, first[label], NULL_ADDRESS, GLOBAL_ADDRESS) if label not in flows else None
             if alone:
-                alone.length = self.length_of(group, self.told(group))
-                self.carried.append((None, alone))
+                alone.length = max(alone.length, self.length_of(group, self.told(group)))
+                self.carried.append((label, None, alone))
+        for message in self.messages.values():
+            if len({self.places.integer(group + ("length",)) for group in message.groups}) > 1:
+                self.notes.say(f"message {message.name}", "its groups have several lengths: it has the greatest one")
 
     def wanted(self, group: Place, flows: list[Place]) -> str:
-        """What the first message of a group is called: by its first flow, else as the group."""
-        named = self.told(flows[0], "group").messages if flows else []
-        return next(iter([*named, *self.told(group).names]), self.label(group))
+        """What the first message of a group is called: by its first flow, else as the group, without the value by which it is told."""
+        named, when = self.told(flows[0], "group").messages if flows else [], self.when(group)
+        name = next(iter([*named, *self.told(group).names]), self.label(group))
+        return name.removesuffix(f"_m{when.value}") if when else name
+
+    def pgn(self, group: Place) -> int:
+        """The number of a group."""
+        return self.places.integer(group + ("pgn",))
+
+    def when(self, group: Place) -> When | None:
+        """The bits by which a group is told, if it is."""
+        place = group + ("when",)
+        if place not in self.places.lines:
+            return None
+        byte, bits, value = (self.places.integer(place + (key,)) for key in ("byte", "bits", "value"))
+        return When(8 * (byte - 1) + self.number(place, "bit", 1) - 1, bits, value)
+
+    def is_one_message(self, message: Message, group: Place) -> bool:
+        """Whether a group is one of a message's, or can be one more of it, being told by the same bits."""
+        if group in message.groups:
+            return True
+        when, others = self.when(group), [self.when(other) for other in message.groups]
+        return when is not None and all(other is not None and other.place == when.place and other.value != when.value for other in others)
 
     def add_flow(self, group: Place, name: str, flow: Place) -> None:
         """The message of a flow."""
@@ -131,7 +186,7 @@ class Dbc:
         if message is None:
             self.notes.say(f"flow of {self.label(group)} from {sender} to {receiver}", "another group's message has its identifier")
             return
-        self.carried.append((flow, message))
+        self.carried.append((self.label(group), flow, message))
         if self.names[sender] not in message.senders:
             message.senders.append(self.names[sender])
         named = [receiver] if receiver != "all" else []
@@ -149,7 +204,7 @@ class Dbc:
 
     def add(self, group: Place, name: str, source: int, destination: int, told: dbc_remarks.Remark | None = None) -> Message | None:
         """The message of a group with this source and destination, unless one of another group has its identifier."""
-        pgn, priority = (self.places.integer(group + (key,)) for key in ("pgn", "priority"))
+        pgn, priority = self.pgn(group), self.places.integer(group + ("priority",))
         identifier = priority << 26 | (pgn & 0x3FFFF) << 8 | source
         if pgn >> 8 & 0xFF < 240:
             identifier |= destination << 8
@@ -159,12 +214,16 @@ class Dbc:
             other = self.taken.label(wanted or name) if group in self.used else name
             self.used.add(group)
             long = wanted if wanted and not Names.fits(wanted) else ""
-            self.messages[identifier] = Message(identifier, group, self.label(group), 0, other, long)
+            self.messages[identifier] = Message(identifier, [group], self.label(group), 0, other, long)
         message = self.messages[identifier]
-        if message.group == group:
-            message.told.append(told)
-            message.length = max(message.length, self.length_of(group, told))
-        return message if message.group == group else None
+        if not self.is_one_message(message, group):
+            return None
+        if group not in message.groups:
+            message.groups.append(group)
+        self.used.add(group)
+        message.told.append(told)
+        message.length = max(message.length, self.length_of(group, told))
+        return message
 
     def length_of(self, group: Place, told: dbc_remarks.Remark) -> int:
         """How long a message of a group is: as is said beside its flow, else as the shortest ones, which go in one frame if any does."""
@@ -177,20 +236,21 @@ class Dbc:
         flows or signals receives it as it stands there."""
         for need in self.places.elements(("need",)):
             unit, group = (self.places.texts[need + (key,)] for key in ("unit", "group"))
-            met = [message for flow, message in self.carried if message.label == group and (flow is None or need_hints.meets(self.places, flow, need))]
+            met = [message for label, flow, message in self.carried if label == group and (flow is None or need_hints.meets(self.places, flow, need))]
             what = f"need {need[-1]} of {group} by {unit}"
             if not met:
                 self.notes.say(what, "no message of it goes there")
             if unit not in self.told_receivers(group):
                 for message in met:
-                    self.needed.setdefault((message.identifier, self.places.texts.get(need + ("signal",), "")), []).append(self.names[unit])
+                    signal = self.places.texts.get(need + ("signal",), "")
+                    self.needed.setdefault((message.identifier, group, signal), []).append(self.names[unit])
             lost = [key for key in ("from", "within") if need + (key,) in self.places.lines]
             if lost:
                 self.notes.say(what, f"a DBC has no {' and no '.join(lost)} of a need")
 
     def told_receivers(self, group: str) -> set[str]:
         """Who is named as a receiver beside the flows or signals of a group."""
-        messages = [message for _, message in self.carried if message.label == group]
+        messages = [message for label, _, message in self.carried if label == group]
         told = [one for message in messages for one in (*message.told, *(part.told for part in self.parts_in(message)))]
         return {label for one in told for label in one.receivers or ()}
 
@@ -211,30 +271,73 @@ class Dbc:
 
     def parts_in(self, message: Message) -> list[Part]:
         """The signals and texts that a message has."""
-        return [part for part in self.parts_of(message.group) if self.first_length(message.group, part.place, part.is_text) <= message.length]
+        parts = self.parts_of(tuple(message.groups))
+        return [part for part in parts if self.first_length(part.place[:2], part.place, part.is_text) <= message.length]
 
-    def parts_of(self, group: Place) -> list[Part]:
-        """The signals and texts of a group that some message of it has, with their names; of others that is said."""
-        if group not in self.parts:
-            most = max(message.length for message in self.messages.values() if message.group == group)
-            found = []
-            for key in ("signal", "text"):
-                for place in self.places.elements(group + (key,)):
-                    if self.first_length(group, place, key == "text") <= most:
-                        found.append((place, key == "text"))
-                    else:
-                        self.notes.say(f"{key} {self.label(place)} of {self.label(group)}", f"the group's messages end with byte {most}")
-            parts = [self.part(place, is_text) for place, is_text in found]
+    def parts_of(self, groups: tuple[Place, ...]) -> list[Part]:
+        """The signals and texts of groups of one message that some such message has, with their names; of others that is said."""
+        if groups not in self.parts:
+            parts = self.multiplexed(groups) if self.when(groups[0]) else self.part_list(groups[0])
             names = Names()
             for part in sorted(parts, key=lambda part: not Names.fits(part.name)):  # those first that can be names as they are
                 part.long = "" if part.name == part.label or Names.fits(part.name) else part.name
                 part.name = names.label(part.name)
-            self.parts[group] = parts
-        return self.parts[group]
+            self.parts[groups] = parts
+        return self.parts[groups]
+
+    def part_list(self, group: Place) -> list[Part]:
+        """The signals and texts of a group that some message of it has; of others that is said."""
+        most = max(message.length for message in self.messages.values() if group in message.groups)
+        found = []
+        for key in ("signal", "text"):
+            for place in self.places.elements(group + (key,)):
+                if self.first_length(group, place, key == "text") <= most:
+                    found.append(self.part(place, key == "text"))
+                else:
+                    self.notes.say(f"{key} {self.label(place)} of {self.label(group)}", f"the group's messages end with byte {most}")
+        return found
+
+    def multiplexed(self, groups: tuple[Place, ...]) -> list[Part]:
+        """The signals and texts of a multiplexed message: what each of its groups has is so once, and is no multiplexed one; among it is what
+        tells the groups, which has a signal of its own where no group has one."""
+        several = [{(part.label, self.meaning(part)): part for part in self.part_list(group)} for group in groups]
+        shared = [key for key in several[0] if all(key in parts for parts in several)]
+        plain = [several[0][key] for key in shared]
+        first = self.when(groups[0])
+        assert first is not None
+        selector = next((part for part in plain if not part.is_text and self.bits_of(part) == first.place), None)
+        if selector is None:
+            selector = Part(groups[0] + ("when",), "", SELECTOR, "", dbc_remarks.Remark(), False)
+            self.notes.say(f"message {self.label(groups[0])}", f"no signal has the bits that tell its groups: {SELECTOR} stands for them")
+            plain.insert(0, selector)
+        selector.multiplexed = "M"
+        for group, parts in zip(groups, several, strict=True):
+            when = self.when(group)
+            assert when is not None
+            for key, part in parts.items():
+                if key not in shared:
+                    part.multiplexed = f"m{when.value}"
+                    plain.append(part)
+        return plain
+
+    def meaning(self, part: Part) -> object:
+        """What is said of a signal or text, but for its place in the file."""
+        keys = [key for key in self.places.keys(part.place) if key != "values"]
+        values = part.place + ("values",)
+        named = {key: self.places.texts[values + (key,)] for key in self.places.keys(values)} if values in self.places.lines else {}
+        said = [(key, self.places.texts.get(part.place + (key,), self.places.spelled.get(part.place + (key,)))) for key in keys]
+        return part.is_text, tuple(sorted(said)), tuple(sorted(named.items()))
+
+    def bits_of(self, part: Part) -> tuple[int, int]:
+        """Where the bits of a signal begin, counted from 0, and how many they are."""
+        byte, bits = (self.places.integer(part.place + (key,)) for key in ("byte", "bits"))
+        return 8 * (byte - 1) + self.number(part.place, "bit", 1) - 1, bits
 
     def first_length(self, group: Place, part: Place, is_text: bool) -> int:
         """From which length on messages of a group have something of a text, or a signal, which only an optional one can lack."""
         byte = self.places.integer(part + ("byte",))
+        if part[-1] == "when":
+            return 0
         if is_text or self.places.spelled.get(part + ("optional",)) != "true":
             return byte if is_text else self.places.integer(group + ("length",))
         bits = 8 * (byte - 1) + self.number(part, "bit", 1) - 1 + self.places.integer(part + ("bits",))
@@ -251,7 +354,8 @@ class Dbc:
         yield f"BO_ {message.identifier | EXTENDED} {message.name}: {message.length} {sender}"
         for part in self.parts_in(message):
             spelled = self.spelled_text(message, part) if part.is_text else self.spelled_signal(part)
-            yield f" SG_ {part.name} : {spelled} {','.join(self.receivers(message, part)) or NOBODY}"
+            multiplexed = f" {part.multiplexed}" if part.multiplexed else ""
+            yield f" SG_ {part.name}{multiplexed} : {spelled} {','.join(self.receivers(message, part)) or NOBODY}"
 
     def receivers(self, message: Message, part: Part) -> list[str]:
         """Who receives a signal: of those who receive the message the ones that are named beside the signal, if some are; and who needs it."""
@@ -259,8 +363,14 @@ class Dbc:
         if part.told.receivers is not None:
             named = [self.names[label] for label in part.told.receivers if label in self.names]
             received = [name for name in named if name in message.receivers or not message.receivers]
-        needed = (self.needed.get((message.identifier, label), []) for label in ("", part.label))
-        return list(dict.fromkeys([*received, *(name for names in needed for name in names)]))
+        return list(dict.fromkeys([*received, *self.needed_by(message, part)]))
+
+    def needed_by(self, message: Message, part: Part) -> Iterator[str]:
+        """Who needs a signal of a message; of one that each group of a multiplexed one has those who need it of all of them."""
+        groups = message.groups if part.multiplexed in ("", "M") else [part.place[:2]]
+        for label in ("", part.label):
+            several = [self.needed.get((message.identifier, self.label(group), label), []) for group in groups]
+            yield from (name for name in several[0] if all(name in names for names in several))
 
     def spelled_signal(self, part: Part) -> str:
         """Where a signal lies, and what it means: in a unit of measurement without a fraction."""
@@ -271,7 +381,7 @@ class Dbc:
         least, greatest = (decimal(offset + step * raw, per) for raw in values_of(kind, bits))
         if part.told.range and all(map(NUMBER.fullmatch, part.told.range)):
             least, greatest = part.told.range
-        start, sign = 8 * (byte - 1) + self.number(place, "bit", 1) - 1, "-" if kind == "signed" else "+"
+        start, sign = self.bits_of(part)[0], "-" if kind == "signed" else "+"
         return f"{start}|{bits}@1{sign} ({decimal(step, per)},{decimal(offset, per)}) [{least}|{greatest}] {in_quotes(scale.unit)}"
 
     def bytes_in(self, message: Message, part: Part) -> int:
@@ -285,8 +395,8 @@ class Dbc:
         return f'{start}|{8 * self.bytes_in(message, part)}@1+ (1,0) [0|0] ""'
 
     def kind(self, part: Part) -> str:
-        """The kind of a signal; none of a text."""
-        return self.places.texts.get(part.place + ("kind",), "")
+        """The kind of a signal, or that it only stands for the bits that tell groups; none of a text."""
+        return self.places.texts.get(part.place + ("kind",), "" if part.is_text else SELECTOR_KIND)
 
     def comments(self) -> Iterator[str]:
         """The comments behind the first keys of units, groups, flows and signals."""
@@ -344,7 +454,9 @@ class Dbc:
         """Of which groups the messages are, of which lengths, how far apart they are sent, and what their signals are."""
         for message in self.messages.values():
             what = f"BO_ {message.identifier | EXTENDED}"
-            if message.name != message.label:
+            if self.when(message.group):
+                yield from self.told_groups(message, what)
+            elif message.name != message.label:
                 yield f'BA_ "{GROUP_ATTRIBUTE}" {what} "{message.label}";'
             if message.long:
                 yield f'BA_ "{LONG_MESSAGE}" {what} {in_quotes(message.long)};'
@@ -354,6 +466,15 @@ class Dbc:
             yield from (f'BA_ "{attribute}" {what} {number};' for attribute, number in self.times(message))
             for part in self.parts_in(message):
                 yield from self.part_attributes(message, part)
+
+    def told_groups(self, message: Message, what: str) -> Iterator[str]:
+        """What the groups of a multiplexed message are called, where they aren't called as it is, with their values; and where one of them has
+        no signal of its own, so that the message tells of its value so."""
+        values = [(when.value, self.label(group)) for group in message.groups if (when := self.when(group))]
+        own = {part.multiplexed for part in self.parts_in(message)}
+        if any(label != f"{message.name}_m{value}" or f"m{value}" not in own for value, label in values):
+            named = ", ".join(f"{value} {label}" for value, label in values)
+            yield f'BA_ "{GROUPS_ATTRIBUTE}" {what} {in_quotes(named)};'
 
     def times(self, message: Message) -> Iterator[tuple[str, int]]:
         """The attributes on how far apart a message's frames are."""
@@ -371,7 +492,7 @@ class Dbc:
     def part_attributes(self, message: Message, part: Part) -> Iterator[str]:
         """The attributes of a signal or text."""
         what = f"SG_ {message.identifier | EXTENDED} {part.name}"
-        if part.name != part.label:
+        if part.name != part.label and part.label:
             yield f'BA_ "{SIGNAL_ATTRIBUTE}" {what} "{part.label}";'
         if part.long:
             yield f'BA_ "{LONG_SIGNAL}" {what} {in_quotes(part.long)};'

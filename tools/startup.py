@@ -115,8 +115,19 @@ def settled(plan: str, schedule: Schedule) -> list[str]:
     return [line for line in lines if line.startswith(("unit ", "settled"))]
 
 
+def blank(places: Places, group: Place) -> bytes:
+    """The shortest message of a group, of bytes FF but for the bits that tell it from others."""
+    length, when = places.integer(group + ("length",)), group + ("when",)
+    number = (1 << 8 * length) - 1
+    if when in places.lines:
+        start = 8 * (places.integer(when + ("byte",)) - 1) + (places.number(when + ("bit",)) or default_of("when", "bit")) - 1
+        bits = (1 << places.integer(when + ("bits",))) - 1
+        number = number & ~(bits << start) | places.integer(when + ("value",)) << start
+    return number.to_bytes(length, "little")
+
+
 class Message:
-    """The shortest message of a flow, of bytes FF: which flow it is, who sends it and who hears it."""
+    """The shortest message of a flow: which flow it is, who sends it and who hears it."""
 
     def __init__(self, places: Places, number: int, flow: Place, labels: list[str]) -> None:
         self.number = number
@@ -124,18 +135,18 @@ class Message:
         is_to_all = self.to == "all"
         self.receivers = [label for label in labels if label != self.sender] if is_to_all else [self.to]
         of = next(place for place in places.elements(("group",)) if places.texts[place + ("label",)] == group)
-        self.length = places.integer(of + ("length",))
-        most = places.number(of + ("most",)) or self.length
+        self.data = blank(places, of)
+        most = places.number(of + ("most",)) or len(self.data)
         is_pdu2 = places.integer(of + ("pgn",)) >> 8 & 0xFF >= 240
         self.can_go = is_to_all or (self.to != self.sender and not (is_pdu2 and most <= FRAME_BYTES))
 
     def steps(self, windows: dict[str, int]) -> list[str]:
         """The steps by which it is sent and heard: a frame at once, to all by a broadcast, to one unit by what this one permits."""
-        data = f"{self.number} {'FF' * self.length}"
+        data = f"{self.number} {self.data.hex().upper()}"
         heard = [f"take {self.sender} {receiver}" for receiver in self.receivers]
-        if self.length <= FRAME_BYTES:
+        if len(self.data) <= FRAME_BYTES:
             return [f"send {data}", *heard]
-        packets = -(-self.length // PACKET_BYTES)
+        packets = -(-len(self.data) // PACKET_BYTES)
         emit, rest = f"emit {self.sender}", f"rest {self.sender}"
         if self.to == "all":
             return [f"begin {data}", *heard, *[emit, *heard] * packets, rest]

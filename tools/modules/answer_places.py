@@ -23,7 +23,7 @@ DECIMAL = re.compile(r"[+-]?[0-9_]{1,20}(?:\.[0-9_]{1,20})?(?:[eE][+-]?[0-9]{1,2
 # What the schema can't say of a key.
 WORDS = {
     "per": ", a product of 2s and 5s", "most": ", at least the length", "broadcast_gap_most": ", at least broadcast_gap",
-    "jitter": ", below the period", "pause": ", at least the period", "claims": ", and true where the NAME is arbitrary",
+    "value": ", which the bits hold", "jitter": ", below the period", "pause": ", at least the period", "claims": ", and true where the NAME is arbitrary",
     "values": " of raw numbers, as decimal numbers that the signal's bits hold, with labels, and none of a dtc",
 }
 
@@ -44,6 +44,7 @@ KEYS = {
     "F12": ("unit", "address", "kept free: a unit with arbitrary = true may not hold it"),
     "F13": ("group", "private", "no flow sends this group"),
     "F15": ("text", "byte", "the text ends behind the group's longest messages, or begins behind what follows its shortest"),
+    "F24": ("group", "when", "its bits end behind the group's length"),
     "F27": ("unit", "address", "one of 128..247, which others may choose: a unit that never claims it can't defend it"),
     "F16": ("flow", "period", "it isn't there, and a plan with timing asks for it"),
     "F18": ("flow", "period", "within the deadline, or the period, there isn't room for all that may go before it: load shows the delays"),
@@ -360,8 +361,19 @@ def of_two(plan: Plan, number: str, words: list[str]) -> Told:
         flow = ("flow", int(words[1]))
         return plan.line(flow), f"{flow_named(plan, flow)}: the same as at line {plan.line(('flow', int(words[0])))}"
     kind, key = PAIR_KEYS[number]
-    first, second = (plan.labelled((kind,), label) + (key,) for label in words[:2])
-    return plan.line(second), f"key {key}: the same as of {words[0]} at line {plan.line(first)}"
+    first, second = (plan.labelled((kind,), label) for label in words[:2])
+    told = told_apart(plan, first, second) if number == "F5" else ""
+    return plan.line(second + (key,)), f"key {key}: the same as of {words[0]} at line {plan.line(first + (key,))}{told}"
+
+
+def told_apart(plan: Plan, first: Place, second: Place) -> str:
+    """Why two groups of one number aren't told apart by their data, where one of them has a key for that."""
+    whens = [place + ("when",) for place in (first, second)]
+    without = [plan.places.texts.get(when[:-1] + ("label",), "") for when in whens if when not in plan.places.lines]
+    if without:
+        return f", and {without[0]} has no key when" if len(without) == 1 else ""
+    bits = [[plan.places.number(when + (key,)) or default for key, default in (("byte", 1), ("bit", 1), ("bits", 1))] for when in whens]
+    return ", and when names other bits" if bits[0] != bits[1] else ", and when has the same value"
 
 
 def finding(plan: Plan, line: str) -> Told:

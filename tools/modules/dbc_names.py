@@ -15,8 +15,10 @@ IDENTITY_ATTRIBUTE = ("NmJ1939IdentityNumber", _MOST["identity"])
 ADDRESS_ATTRIBUTE = "NmStationAddress"
 ARBITRARY_ATTRIBUTE = "NmJ1939AAC"
 
-# The labels of units, groups and signals whose names in the DBC are others, and the kind of a signal.
+# The labels of units, groups and signals whose names in the DBC are others, and the kind of a signal: this one where it is none of a plan, and
+# stands for the bits by which groups are told.
 UNIT_ATTRIBUTE, GROUP_ATTRIBUTE, SIGNAL_ATTRIBUTE, KIND_ATTRIBUTE = "PlanUnit", "PlanGroup", "PlanSignal", "PlanKind"
+SELECTOR_KIND = "selector"
 
 # How far apart a message's frames are, in ms: as a rule, while what it tells is active, and at least, where it isn't sent by a cycle
 # alone; and by what it is sent.
@@ -39,5 +41,8 @@ BITRATE_ATTRIBUTE = "Baudrate"
 # What a group of several lengths has that a message can't say: the greatest length, how far apart records are, and of a signal whether
 # it comes again in each further record; of a text how many bytes it has, 0 for one that goes to the end.
 MOST_ATTRIBUTE, EVERY_ATTRIBUTE, REPEATED_ATTRIBUTE, BYTES_ATTRIBUTE = "PlanMost", "PlanEvery", "PlanRepeated", "PlanBytes"
+
+# What the groups are called that a multiplexed message becomes, where it isn't as the message with the value: `1 PRESSURE, 2 HEAT`.
+GROUPS_ATTRIBUTE = "PlanGroups"
 
 NOBODY = "Vector__XXX"

@@ -24,10 +24,10 @@ class Note(NamedTuple):
 
 class Notes:
     """What could not be carried over as it is, each with its reason, on standard error. `file` is the one that is looked at, where
-    there are several."""
+    there are several; with `are_new` what was said already isn't said again."""
 
     def __init__(self) -> None:
-        self.file = ""
+        self.file, self.are_new = "", False
         self.said: list[Note] = []
 
     @property
@@ -38,6 +38,8 @@ class Notes:
     def say(self, what: str, why: object) -> None:
         """Lists a thing with its reason."""
         note = Note(plain(self.file), plain(what), plain(why))
+        if self.are_new and note in self.said:
+            return
         self.said.append(note)
         print(": ".join(filter(None, note)), file=sys.stderr)
 

@@ -133,8 +133,9 @@ class Feed:
             return self._mark_of_another(number, line)
         self._last = line
         identifier, data = int(found.group(1), 16), bytes.fromhex(found.group(2).decode())
-        if self._is_reported(identifier, len(data)):
-            self._reported.update([key] if end[-1:] not in DIRECTIONS and pgn_in(identifier) != ADDRESS_CLAIMED else [])
+        if self._is_reported(identifier, data):
+            is_sure = pgn_in(identifier) != ADDRESS_CLAIMED and not self._is_told_by_data(pgn_in(identifier))
+            self._reported.update([key] if end[-1:] not in DIRECTIONS and is_sure else [])
             return b"\n"
         mark = mark_of(identifier, data)
         if mark is None or not self._is_wanted(mark):
@@ -160,14 +161,18 @@ class Feed:
             mark = Mark(Kind.ERROR, identifier & ~ERROR_FLAG, 0, 8, data=bytes.fromhex(found.group(2).decode()))
         return self._put(number, mark, line[:found.start(1)] + b"%08X#00EE00\n" % NOBODY)
 
-    def _is_reported(self, identifier: int, length: int) -> bool:
+    def _is_told_by_data(self, pgn: int) -> bool:
+        """Whether some group of this number is told by its data."""
+        return any(group.when is not None for group in self._groups.get(pgn, ()))
+
+    def _is_reported(self, identifier: int, data: bytes) -> bool:
         """Whether `follow` reports a frame, or the tool has nothing to say of it."""
-        pgn = pgn_in(identifier)
+        pgn, length = pgn_in(identifier), len(data)
         if pgn == ADDRESS_CLAIMED:
             self._managing.clear()
         if identifier >> 25 & 1 or pgn in (ADDRESS_CLAIMED, DATA_TRANSFER) or pgn == REQUEST and length == 3:
             return self._timing is None or self._is_usual(identifier, pgn)
-        return any(not group.private and group.length <= length <= group.most for group in self._groups.get(pgn, ()))
+        return any(not group.private and group.takes(data) for group in self._groups.get(pgn, ()))
 
     def _is_usual(self, identifier: int, pgn: int) -> bool:
         """Whether it is a claim or a request of a priority of what isn't planned."""

@@ -31,11 +31,19 @@ class Node:
 
 
 class Sent(NamedTuple):
-    """A frame, the bus that it is of, and the name of its file where there are several."""
+    """A frame, the bus that it is of, and the name of its file where there are several. Where it is one of those that a multiplexed message is
+    taken apart into, also the bits by which it is told, and what its group is called."""
 
     frame: canmatrix.Frame
     matrix: canmatrix.CanMatrix
     file: str
+    when: dict[str, int] | None = None
+    name: str = ""
+
+    @property
+    def told_by(self) -> tuple[int, int | None]:
+        """The number of its group, and the value of the bits by which it is told."""
+        return self.frame.arbitration_id.pgn, None if self.when is None else self.when["value"]
 
 
 class Network:

@@ -16,6 +16,7 @@ from .dbc_names import (
 from .dbc_remarks import long, milliseconds, quoted, received_by, remark
 from .j1939 import GLOBAL_ADDRESS, NULL_ADDRESS, PROPRIETARY, SERVICES
 from .left_out import LeftOut, Notes, plain
+from .matrix_layouts import Layouts, are_apart
 from .matrix_merge import Network, Node, Sent
 from .matrix_signals import BYTES, Signals
 from .matrix_times import Times, number_of, times_of
@@ -103,9 +104,9 @@ def check_frame(frame: canmatrix.Frame, version: int) -> None:
         raise LeftOut(f"it has {frame.size} bytes")
 
 
-def called(frame: canmatrix.Frame) -> str:
-    """What a frame's group is called: by the frame, unless this says that it is one of several of a group."""
-    return plain(frame.attributes.get(GROUP_ATTRIBUTE) or frame.name or "")
+def called(sent: Sent) -> str:
+    """What a frame's group is called: by the frame, unless this says that it is one of several of a group, or it is one of a multiplexed message."""
+    return sent.name or plain(sent.frame.attributes.get(GROUP_ATTRIBUTE) or sent.frame.name or "")
 
 
 def common_name(names: Iterable[str]) -> str:
@@ -115,22 +116,24 @@ def common_name(names: Iterable[str]) -> str:
     return "_".join(words[0] for words in common) or "_".join(first)
 
 
-def names_of_groups(frames: Iterable[canmatrix.Frame]) -> dict[int, str]:
-    """What the groups are called that are no makers' own ones: by what all frames of a number have in common."""
-    names: dict[int, dict[str, None]] = {}
-    for frame in frames:
-        if frame.arbitration_id.extended and frame.arbitration_id.pgn not in PROPRIETARY:
-            names.setdefault(frame.arbitration_id.pgn, {})[called(frame)] = None
-    return {pgn: common_name(several) for pgn, several in names.items()}
+def names_of_groups(sent: Iterable[Sent]) -> dict[tuple[int, int | None], str]:
+    """What the groups are called that are no makers' own ones: by what all frames of one have in common; those of a multiplexed message as its
+    first one."""
+    names: dict[tuple[int, int | None], dict[str, None]] = {}
+    for one in sent:
+        if one.frame.arbitration_id.extended and one.frame.arbitration_id.pgn not in PROPRIETARY:
+            names.setdefault(one.told_by, {})[called(one)] = None
+    return {told: common_name(several) if told[1] is None else next(iter(several)) for told, several in names.items()}
 
 
-def lengths_of_groups(frames: Iterable[canmatrix.Frame]) -> dict[int, range]:
-    """The lengths of the frames of each number that is no maker's own one, from the least to the greatest."""
-    lengths: dict[int, set[int]] = defaultdict(set)
-    for frame in frames:
+def lengths_of_groups(sent: Iterable[Sent]) -> dict[tuple[int, int | None], range]:
+    """The lengths of the frames of each group that is no maker's own one, from the least to the greatest."""
+    lengths: dict[tuple[int, int | None], set[int]] = defaultdict(set)
+    for one in sent:
+        frame = one.frame
         if frame.arbitration_id.extended and frame.arbitration_id.pgn not in PROPRIETARY and not frame.is_fd and 1 <= frame.size <= BYTES:
-            lengths[frame.arbitration_id.pgn].add(frame.size)
-    return {pgn: range(min(several), max(several) + 1) for pgn, several in lengths.items()}
+            lengths[one.told_by].add(frame.size)
+    return {told: range(min(several), max(several) + 1) for told, several in lengths.items()}
 
 
 def attribute_in(frame: canmatrix.Frame, attribute: str, numbers: range) -> int | None:
@@ -188,8 +191,8 @@ class Plan:
         self.flows: dict[tuple[str, str, str], Flow] = {}
         self.periods = PERIODS if knows(version, ("flow", "period")) else range(0)
         self.unit_labels, self.group_labels = Labels({"all"}), Labels()
-        self.names: dict[int, str] = {}
-        self.lengths: dict[int, range] = {}
+        self.names: dict[tuple[int, int | None], str] = {}
+        self.lengths: dict[tuple[int, int | None], range] = {}
 
     def tables(self) -> Iterator[Table]:
         """The tables of the plan, in the order of its file."""
@@ -233,9 +236,9 @@ class Plan:
         frame = sent.frame
         check_frame(frame, self.version)
         pgn = frame.arbitration_id.pgn
-        others = [group for group in self.groups if group.table.keys["pgn"] == pgn]
+        others = [group for group in self.groups if group.table.keys["pgn"] == pgn and not are_apart(group.made_by.when, sent.when)]
         if pgn in PROPRIETARY:
-            others = self.private_ones(frame, others)
+            others = self.private_ones(sent, others)
         group = others[0] if others else self.new_group(sent)
         if others:
             self.compare(frame, group)
@@ -247,46 +250,49 @@ class Plan:
         if len(self.groups) == GROUPS:
             raise LeftOut(f"a plan has at most {GROUPS} groups: choose some by --sender or --group")
         pgn = frame.arbitration_id.pgn
-        name, is_private = self.names.get(pgn) or called(frame), pgn in PROPRIETARY
+        name, is_private = self.names.get(sent.told_by) or called(sent), pgn in PROPRIETARY
         label = self.group_labels.label(name)
-        lengths = self.lengths_of(frame)
+        lengths = self.lengths_of(sent)
         most = max(attribute_in(frame, MOST_ATTRIBUTE, range(frame.size, BYTES + 1)) or 0, lengths[-1])
         keys = {"most": most if most > lengths[0] else None, "every": attribute_in(frame, EVERY_ATTRIBUTE, DISTANCES)}
         told = {key: number for key, number in keys.items() if number and knows(self.version, ("group", key))}
         comment = quoted(frame.comment)
         table = Table("group", {
             "label": label, "pgn": pgn, "priority": frame.arbitration_id.j1939_priority, "length": lengths[0], "private": is_private, **told,
+            **({"when": sent.when} if sent.when else {}),
         }, remark(name, label, comment))
         signals = Signals(lengths, self.notes, self.strict, self.version, is_private, "every" in told)
-        group = Group(called(frame), table, signals, sent, comment)
+        group = Group(called(sent), table, signals, sent, comment)
         self.groups.append(group)
         return group
 
-    def lengths_of(self, frame: canmatrix.Frame) -> range:
+    def lengths_of(self, sent: Sent) -> range:
         """The lengths of the messages that a frame's group has: its own alone, unless the plan can say which signals only longer ones have."""
-        own_length = range(frame.size, frame.size + 1)
-        return self.lengths.get(frame.arbitration_id.pgn, own_length) if knows(self.version, ("signal", "optional")) else own_length
+        own_length = range(sent.frame.size, sent.frame.size + 1)
+        return self.lengths.get(sent.told_by, own_length) if knows(self.version, ("signal", "optional")) else own_length
 
-    def private_ones(self, frame: canmatrix.Frame, others: list[Group]) -> list[Group]:
+    def private_ones(self, sent: Sent, others: list[Group]) -> list[Group]:
         """Of the makers' own groups of a frame's number the one that the frame is of, if there is one already. It is told from
         others by who sends it to whom, so it needs a flow, and no other one may meet its flows."""
+        frame = sent.frame
         flows, pgn = self.flows_of(frame), frame.arbitration_id.pgn
         if not flows:
             raise LeftOut(f"PGN {pgn} is proprietary, and no unit in the plan sends it to another one")
         if len(self.flows) == FLOWS:
             raise LeftOut(f"PGN {pgn} is proprietary, and a plan has at most {FLOWS} flows")
         met = [group for group in others if any(self.is_met(group, *flow) for flow in flows)]
-        same = [group for group in others if group in met and self.is_one_message(frame, group)] or [
-            group for group in others if group.signals.are_those_of(frame) and (group in met or group.name == called(frame))]
+        alike = [group for group in others if group.made_by.when == sent.when]
+        same = [group for group in alike if group in met and self.is_one_message(sent, group)] or [
+            group for group in alike if group.signals.are_those_of(frame) and (group in met or group.name == called(sent))]
         for group in met:
             if group not in same[:1]:
                 raise LeftOut(f"{group.label} has the same PGN {pgn} from the same unit to the same receiver, and is another group")
         return same[:1]
 
-    def is_one_message(self, frame: canmatrix.Frame, group: Group) -> bool:
+    def is_one_message(self, sent: Sent, group: Group) -> bool:
         """Whether a frame is the message that has made a group, as another file has it."""
-        made_by = group.made_by.frame
-        return bool((frame.arbitration_id.id, frame.size, called(frame)) == (made_by.arbitration_id.id, made_by.size, group.name))
+        frame, made_by = sent.frame, group.made_by.frame
+        return bool((frame.arbitration_id.id, frame.size, called(sent)) == (made_by.arbitration_id.id, made_by.size, group.name))
 
     def is_met(self, group: Group, sender: str, receiver: str) -> bool:
         """Whether a unit sends a group to a receiver, or to all where this one goes to one."""
@@ -428,17 +434,19 @@ class Plan:
             if (unit, group) not in met:
                 self.notes.say(f"need of {group} by {unit}", "no unit of the plan sends it there")
 
-    def add_frames(self, sent: list[Sent]) -> None:
-        """The groups of the frames, their flows, and who needs them."""
-        self.names, self.lengths = names_of_groups(one.frame for one in sent), lengths_of_groups(one.frame for one in sent)
+    def add_frames(self, frames: list[Sent]) -> None:
+        """The groups of the frames, their flows, and who needs them. What is to be noted of a multiplexed message is noted once."""
+        layouts = Layouts(frames, self.version, self.notes)
+        sent = [part for one in frames for part in layouts.of(one)]
+        self.names, self.lengths = names_of_groups(sent), lengths_of_groups(sent)
         for one in sent:
-            self.notes.file = one.file
+            self.notes.file, self.notes.are_new = one.file, one.when is not None
             try:
                 group, contradicted = self.group_of(one)
                 self.add_flows(one, group, contradicted)
                 if self.has_needs:
                     self.add_needs(one.frame, group)
             except LeftOut as why:
-                self.notes.say(f"group {one.frame.name}", why)
-        self.notes.file = ""
+                self.notes.say(f"group {one.name or one.frame.name}", why)
+        self.notes.file, self.notes.are_new = "", False
         self.say_unmet()

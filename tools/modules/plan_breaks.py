@@ -41,6 +41,14 @@ def lengths(group: Part) -> range:
     return range(length, (most if isinstance(most, int) else length) + 1)
 
 
+def are_apart(one: Part, other: Part) -> bool:
+    """Whether no message of one group is taken for one of another of its number: they are told by the same bits, which have other numbers."""
+    bits, others = one["when"], other["when"]
+    if not isinstance(bits, dict) or not isinstance(others, dict):
+        return False
+    return bits["value"] != others["value"] and all(bits[key] == others[key] for key in ("byte", "bit", "bits"))
+
+
 def shown(some: range) -> str:
     """Lengths as a text."""
     return f"{some[0]} bytes" if len(some) == 1 else f"{some[0]} to {some[-1]} bytes"
@@ -119,6 +127,8 @@ class Layouts:
         if not set(before) & set(now):
             yield old, new, "", "lost", f"it has {shown(now)}, and not {shown(before)}"
             return
+        if old["when"] not in (None, new["when"]):
+            yield old, new, "", "lost", f"only messages are read that are told by {plan_scales.shown_when(old)}"
         if not set(now) <= set(before):
             yield old, new, "", "lost", f"it has {shown(now)}, and only messages of {shown(before)} are read"
         for table, judge in (("signal", of_signal), ("text", of_text)):
@@ -185,16 +195,19 @@ class Breaks:
         flows = [other for other in self._new_flows.get(sender.label, []) if other.text("to") in ("all", new_receiver)]
         groups = {other.text("group"): self._new_groups[other.text("group")] for other in flows}
         same = self._groups[group.label]
-        heard = [other for other in groups.values() if other["pgn"] == group["pgn"]]
+        heard = [other for other in groups.values() if other["pgn"] == group["pgn"] and not are_apart(group, other)]
         if not heard:
-            if same is not None and same.label in groups:
+            if same is not None and same.label in groups and same["pgn"] == group["pgn"]:
+                why = f"it is told by {plan_scales.shown_when(same)}, and not by {plan_scales.shown_when(group)}"
+                yield self._lost(flow, receiver, group, why, same.line("when"))
+            elif same is not None and same.label in groups:
                 yield self._lost(flow, receiver, group, f"its number is {same['pgn']}, and not {group['pgn']}", same.line("pgn"))
             else:
                 yield self._lost(flow, receiver, group, "no flow sends it any more", None)
             return
-        taken = same if same in heard else heard[0]
-        assert taken is not None
-        yield from self._of_layout(group, taken, flow.text("from"), receiver)
+        first = same if same in heard else heard[0]
+        for taken in (other for other in heard if other is first or other["when"] is not None):
+            yield from self._of_layout(group, taken, flow.text("from"), receiver)
 
     def _of_layout(self, group: Part, taken: Part, sender: str, receiver: str) -> Iterator[Break]:
         """What a receiver gets wrong that takes a group of the new plan for one that it knows by the old one."""
@@ -207,7 +220,8 @@ class Breaks:
         for other in self._by_number.get(group["pgn"], []) if not group["private"] else []:
             sender, taken = other.text("from"), self._new_groups[other.text("group")]
             known = self._old_labels.get(sender, sender)
-            is_heard = other.text("to") in ("all", new_receiver) and sender != new_receiver and not taken["private"]
+            is_for_it = other.text("to") in ("all", new_receiver) and not are_apart(group, taken)
+            is_heard = is_for_it and sender != new_receiver and not taken["private"]
             if is_heard and known != flow.text("from") and (group.label, known) not in self._planned:
                 yield from self._of_layout(group, taken, known, receiver)
 

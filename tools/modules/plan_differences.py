@@ -77,7 +77,7 @@ class Matched:
     def __init__(self, old: Source, new: Source) -> None:
         self.old, self.new = old, new
         self.units = pairs_of(old["unit"], new["unit"], label_of, name_key)
-        self.groups = pairs_of(old["group"], new["group"], label_of, lambda group: group["pgn"])
+        self.groups = pairs_of(old["group"], new["group"], label_of, lambda group: (group["pgn"], spelled(group["when"])), lambda group: group["pgn"])
         self._renamed = {
             (table, old.label): new.label for table, pairs in (("unit", self.units), ("group", self.groups))
             for old, new in pairs if old is not None and new is not None

@@ -208,7 +208,10 @@ class Join:
                 self._inside(here, key, part)
 
     def _is_one(self, merged: Merged, group: Part) -> bool:
-        """Whether a group of the same number is this one. A maker's own one is told by who sends it to whom, else by label and signals."""
+        """Whether a group of the same number is this one, of which each is told by its data where they have such keys. A maker's own one is told
+        by who sends it to whom, else by label and signals."""
+        if merged.first["when"] != group["when"]:
+            return False
         if group["pgn"] not in PROPRIETARY or not (group["private"] and merged.first["private"]):
             return True
         ways = [(self._here(group.source, "unit", flow.text("from")), self._here(group.source, "unit", flow.text("to")))

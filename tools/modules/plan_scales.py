@@ -67,3 +67,9 @@ def meaning(signal: Part) -> Hashable:
     """Where a signal lies and what it means: of two with the same one each reads what is written by the other."""
     step, offset, unit = scale(signal)
     return place(signal), signal["kind"], step, offset, normal(unit), signal["repeated"], signal["optional"]
+
+
+def shown_when(group: Part) -> str:
+    """By which bits the messages of a group are told, and what these are."""
+    when = group["when"]
+    return f"{when['bits']} bits from {when['byte']}.{when['bit']} on, which are {when['value']}" if isinstance(when, dict) else "no bits"

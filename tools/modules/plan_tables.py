@@ -13,7 +13,7 @@ from .toml_places import Places
 
 # A line of `show`: a table, a key of it, and the value, which may have spaces.
 LINE = re.compile(
-    r"(top|timing(?: errors)?|unit \d+(?: name)?|group \d+(?: (?:signal|text) \d+)?|(?:flow|need|request) \d+) (\w+) (.*)"
+    r"(top|timing(?: errors)?|unit \d+(?: name)?|group \d+(?: (?:signal|text) \d+| when)?|(?:flow|need|request) \d+) (\w+) (.*)"
 )
 
 
@@ -92,8 +92,24 @@ class Text:
 
 
 @dataclass(frozen=True)
+class When:
+    """Bits of a group's data, from a byte and a bit in it on, both counted from 1, and the number that they have in each message of it."""
+
+    byte: int
+    bit: int
+    bits: int
+    value: int
+
+    def takes(self, data: bytes) -> bool:
+        """Whether data has the bits, and they have the number."""
+        start = 8 * (self.byte - 1) + self.bit - 1
+        number = int.from_bytes(data, "little") >> start & (1 << self.bits) - 1
+        return start + self.bits <= 8 * len(data) and number == self.value
+
+
+@dataclass(frozen=True)
 class Group:
-    """A planned group."""
+    """A planned group; where it is told from others of its number by its data, with what that has."""
 
     label: str
     pgn: int
@@ -104,6 +120,11 @@ class Group:
     every: int | None
     signals: list[Signal]
     texts: list[Text]
+    when: When | None = None
+
+    def takes(self, data: bytes) -> bool:
+        """Whether data can be that of a message of it."""
+        return self.length <= len(data) <= self.most and (self.when is None or self.when.takes(data))
 
     def records(self, length: int) -> int:
         """How many records data of this length has: those of which all signals end inside it."""
@@ -272,7 +293,12 @@ class Tables:
         pgn, priority, length, most = (group.number(key) for key in ("pgn", "priority", "length", "most"))
         signals = [self._signal(other) for other in self._elements(f"{words} signal")]
         texts = [self._text(other) for other in self._elements(f"{words} text")]
-        return Group(group.text("label"), pgn, priority, length, group.is_true("private"), most, group.number_if_any("every"), signals, texts)
+        every, when = group.number_if_any("every"), self._when(f"{words} when")
+        return Group(group.text("label"), pgn, priority, length, group.is_true("private"), most, every, signals, texts, when)
+
+    def _when(self, words: str) -> When | None:
+        when = self._shown.get(words)
+        return When(*(when.number(key) for key in ("byte", "bit", "bits", "value"))) if when else None
 
     def _signal(self, words: str) -> Signal:
         signal = self._shown[words]

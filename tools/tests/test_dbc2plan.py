@@ -273,6 +273,92 @@ class Groups(WithDbc):
         self.assertEqual(said[-1], f"2 units 5 groups 7 flows 6 needs, notes {len(said) - 1}")
 
 
+# A multiplexor, a signal that each message has, one of the messages of 1, one of those of 2 and 3, and one that another one selects.
+AXLE, STATE = 'AXLE M : 0|4@1+ (1,0) [0|0] "" RETARDER', 'STATE : 4|2@1+ (1,0) [0|0] "" RETARDER'
+LEFT, RIGHT = 'LEFT m1 : 8|8@1+ (1,0) [0|0] "" RETARDER', 'RIGHT m2 : 8|16@1+ (1,0) [0|0] "" RETARDER'
+DEEP = 'PAGE m3M : 8|8@1+ (1,0) [0|0] "" RETARDER', 'DEEP m4 : 16|8@1+ (1,0) [0|0] "" RETARDER'
+
+
+@needs("canmatrix", "python3-canmatrix")
+class Multiplexed(WithDbc):
+    def groups(self, *signals, identifier=FROM_0, name="EEC1", more="", words=()):
+        """What the groups are called, the value by which each is told, and its signals; and what is said of groups and signals."""
+        plan, said = self.plan(*words, data=NODES + message(identifier, name, "ENGINE", *signals) + more)
+        shown = [(group["label"], group.get("when", {}).get("value"), [signal["label"] for signal in group.get("signal", [])])
+                 for group in plan["group"]]
+        return shown, [line for line in said if line.startswith(("group ", "signal "))]
+
+    def test_a_group_for_each_value(self):
+        shown, said = self.groups(AXLE, STATE, LEFT, RIGHT)
+        self.assertEqual(shown, [("EEC1_m1", 1, ["AXLE", "STATE", "LEFT"]), ("EEC1_m2", 2, ["AXLE", "STATE", "RIGHT"])])
+        self.assertEqual(said, [])
+
+    def test_its_keys(self):
+        plan, _ = self.plan(data=NODES + message(FROM_0, "EEC1", "ENGINE", STATE, LEFT, AXLE.replace("0|4", "28|3")))
+        self.assertEqual(plan["group"][0]["when"], {"byte": 4, "bit": 5, "bits": 3, "value": 1})
+        self.assertEqual(plan["flow"], [{"group": "EEC1_m1", "from": "ENGINE", "to": "all"}])
+        self.assertEqual(plan["need"], [{"unit": "RETARDER", "group": "EEC1_m1"}])
+
+    def test_ranges_of_values(self):
+        more = f"SG_MUL_VAL_ {FROM_0 | 1 << 31} RIGHT AXLE 2-3, 5-5;\n"
+        shown, _ = self.groups(AXLE, RIGHT, LEFT, more=more)
+        self.assertEqual([(label, signals) for label, _, signals in shown], [
+            ("EEC1_m1", ["AXLE", "LEFT"]), ("EEC1_m2", ["AXLE", "RIGHT"]), ("EEC1_m3", ["AXLE", "RIGHT"]), ("EEC1_m5", ["AXLE", "RIGHT"])])
+
+    def test_what_another_signal_selects(self):
+        more = "".join(f"SG_MUL_VAL_ {FROM_0 | 1 << 31} {one};\n" for one in ("LEFT AXLE 1-1", "PAGE AXLE 3-3", "DEEP PAGE 4-4"))
+        shown, said = self.groups(AXLE, LEFT, *DEEP, more=more)
+        self.assertEqual(shown, [("EEC1_m1", 1, ["AXLE", "LEFT"]), ("EEC1_m3", 3, ["AXLE", "PAGE"])])
+        self.assertEqual(said, ["signal DEEP of EEC1: it is multiplexed by PAGE, which not each message has"])
+
+    def test_multiplexors_that_can_not_be(self):
+        for selector, why in (
+            (AXLE.replace("1+", "1-"), "its multiplexor AXLE can't be one: it is signed"),
+            (AXLE.replace("0|4", "62|4"), "its multiplexor AXLE can't be one: it lies outside of the 8 bytes"),
+            (STATE, "no signal of it is its multiplexor"),
+        ):
+            shown, said = self.groups(selector, LEFT)
+            self.assertEqual([(label, value) for label, value, _ in shown], [("EEC1", None)], why)
+            self.assertIn(f"group EEC1: {why}", said)
+            self.assertIn("signal LEFT of EEC1: it is multiplexed", said)
+
+    def test_a_value_that_the_bits_do_not_hold(self):
+        shown, said = self.groups(AXLE, LEFT, RIGHT.replace("m2", "m16"))
+        self.assertEqual([label for label, _, _ in shown], ["EEC1_m1"])
+        self.assertEqual(said, ["group EEC1: its multiplexor AXLE of 4 bits is never 16"])
+
+    def test_more_than_a_plan_can_have(self):
+        signals = [f'S{value} m{value} : 16|8@1+ (1,0) [0|0] "" RETARDER' for value in range(300)]
+        shown, said = self.groups(AXLE.replace("0|4", "0|16"), *signals)
+        self.assertEqual([value for _, value, _ in shown], list(range(256)))
+        self.assertEqual(said, ["group EEC1: a plan has at most 256 groups: taken are the first values of AXLE"])
+
+    def test_a_message_of_its_number_that_is_not_so(self):
+        more = message(FROM_15, "EEC1_R", "RETARDER", STATE)
+        shown, said = self.groups(AXLE, LEFT, more=more)
+        self.assertEqual([(label, value) for label, value, _ in shown], [("EEC1", None)])
+        self.assertIn("group EEC1: it is multiplexed, and not all messages of its number are so by the same bits", said)
+
+    def test_one_of_two_senders(self):
+        more = message(FROM_15, "EEC1_R", "RETARDER", AXLE, RIGHT)
+        shown, _ = self.groups(AXLE, LEFT, more=more)
+        self.assertEqual([label for label, _, _ in shown], ["EEC1_m1", "EEC1_R_m2"])
+
+    def test_a_makers_own_one(self):
+        shown, said = self.groups(AXLE, LEFT, RIGHT, identifier=0x0CEFFF00, name="M" * 32)
+        self.assertEqual([label for label, _, _ in shown], ["M" * 29 + "_m1", "M" * 29 + "_m2"])
+        self.assertEqual(said, [])
+
+    def test_what_is_left_out_is_said_once(self):
+        _, said = self.groups(AXLE, LEFT, RIGHT, 'BIG : 32|16@0+ (1,0) [0|0] "" RETARDER')
+        self.assertEqual(said, ["signal BIG of EEC1: its most significant byte comes first"])
+
+    def test_its_cycle_time(self):
+        more = f'BA_DEF_ BO_ "GenMsgCycleTime" INT 0 65535;\nBA_ "GenMsgCycleTime" BO_ {FROM_0 | 1 << 31} 100;\n'
+        _, said = self.groups(AXLE, LEFT, RIGHT, more=more)
+        self.assertEqual(said, ["group EEC1: each of the 2 groups that it becomes has its cycle time of 100 ms"])
+
+
 @needs("canmatrix", "python3-canmatrix")
 class Signals(WithDbc):
     def test_exact_factors(self):
@@ -365,7 +451,8 @@ class Signals(WithDbc):
         self.assertEqual(kinds, [("SPN695", "discrete"), ("SPN897", "raw"), ("SPN518", "measured")])
 
     def test_a_selector_is_a_signal(self):
-        plan, said = self.plan(data=NODES + message(
+        """In a version whose groups aren't told by their data."""
+        plan, said = self.plan("--version", "3", data=NODES + message(
             FROM_0, "EEC1", "ENGINE", 'PAGE M : 0|8@1+ (1,0) [0|0] "" RETARDER', 'FIRST m0 : 8|8@1+ (1,0) [0|0] "" RETARDER',
             'SECOND m1M : 8|8@1+ (1,0) [0|0] "" RETARDER'))
         self.assertEqual(plan["group"][0]["signal"], [{"label": "PAGE", "byte": 1, "bits": 8, "kind": "raw"}])

@@ -36,7 +36,8 @@ def said(plan):
     units = {unit["label"]: (unit["address"], {key: part for key, part in unit["name"].items() if part})
              for unit in plan.get("unit", [])}
     groups = {
-        group["label"]: (group["pgn"], group["priority"], group["length"], group.get("most"), group.get("every"), group.get("private", False), [
+        group["label"]: (group["pgn"], group["priority"], group["length"], group.get("most"), group.get("every"), group.get("private", False),
+                         {"bit": 1, **group.get("when", {})}, [
             (signal["label"], signal["byte"], signal.get("bit", 1), signal["bits"], signal["kind"], scale(signal), signal.get("repeated", False))
             for signal in group.get("signal", [])], [(text["label"], text["byte"], text.get("bytes")) for text in group.get("text", [])])
         for group in plan.get("group", [])
@@ -113,6 +114,109 @@ class WithPlans(InFolder):
         status, text, told = run("dbc2plan.py", self.made(plan)[0])
         self.assertEqual(status, 0, told)
         return tomllib.loads(text)
+
+
+# Groups that are told by their data: two by four bits, one of these without a signal of its own.
+TOLD = """version = 4
+[[unit]]
+label = "TIRES"
+address = 51
+name = {{ identity = 1 }}
+[[unit]]
+label = "DASH"
+address = 23
+name = {{ identity = 2 }}
+[[group]]
+label = "{0}"
+pgn = 65268
+priority = 6
+length = 8
+when = {{ byte = 1, bit = 5, bits = 4, value = 1 }}
+[[group.signal]]
+label = "AXLE"
+byte = 1
+bit = 5
+bits = 4
+kind = "raw"
+[[group.signal]]
+label = "PRESSURE"
+byte = 2
+bits = 8
+kind = "measured"
+[[group]]
+label = "{1}"
+pgn = 65268
+priority = 6
+length = 8
+when = {{ byte = 1, bit = 5, bits = 4, value = 2 }}
+[[group.signal]]
+label = "AXLE"
+byte = 1
+bit = 5
+bits = 4
+kind = "raw"
+"""
+FLOWS = """[[flow]]
+group = "{0}"
+from = "TIRES"
+to = "all"
+[[flow]]
+group = "{1}"
+from = "TIRES"
+to = "all"
+[[need]]
+unit = "DASH"
+group = "{0}"
+"""
+
+
+@needs("canmatrix", "python3-canmatrix")
+class Multiplexed(WithPlans):
+    def dbc(self, text, *labels):
+        """The DBC of a plan with these labels of its two groups, what is said of it, and whether the plan comes back."""
+        plan = self.write("plan.toml", text.format(*labels))
+        name, told = self.made(plan)
+        return text_of(name), told, said(self.back(plan)) == said(tomllib.loads(text_of(plan)))
+
+    def test_groups_of_one_message(self):
+        dbc, told, is_back = self.dbc(TOLD + FLOWS, "TIRE_m1", "TIRE_m2")
+        self.assertTrue(is_back)
+        self.assertIn(" TIRE: 8 TIRES\n SG_ AXLE M : 4|4@1+ ", dbc)
+        self.assertIn(" SG_ PRESSURE m1 : 8|8@1+ ", dbc)
+        self.assertEqual(dbc.count("\nBO_ "), 1)
+        self.assertEqual(told, "2 nodes 1 messages, notes 0\n")
+
+    def test_a_group_without_a_signal_of_its_own(self):
+        """The message names it."""
+        dbc, _, _ = self.dbc(TOLD + FLOWS, "TIRE_m1", "TIRE_m2")
+        self.assertIn('BA_ "PlanGroups" BO_ 2566845491 "1 TIRE_m1, 2 TIRE_m2";', dbc)
+
+    def test_other_labels(self):
+        dbc, _, is_back = self.dbc(TOLD + FLOWS, "LEFT", "RIGHT")
+        self.assertTrue(is_back)
+        self.assertIn('"1 LEFT, 2 RIGHT";', dbc)
+
+    def test_groups_that_nobody_sends(self):
+        self.assertTrue(self.dbc(TOLD, "LEFT", "RIGHT")[2])
+
+    def test_bits_that_are_no_signal(self):
+        text = (TOLD + FLOWS).replace('label = "AXLE"\nbyte = 1\nbit = 5', 'label = "AXLE"\nbyte = 8\nbit = 5')
+        dbc, told, is_back = self.dbc(text, "TIRE_m1", "TIRE_m2")
+        self.assertTrue(is_back)
+        self.assertIn(" SG_ Selector M : 4|4@1+ ", dbc)
+        self.assertIn("message TIRE_m1: no signal has the bits that tell its groups: Selector stands for them\n", told)
+
+    def test_groups_by_other_bits(self):
+        text = (TOLD + FLOWS).replace("bits = 4, value = 2", "bits = 3, value = 2")
+        dbc, told, _ = self.dbc(text, "LEFT", "RIGHT")
+        self.assertIn("flow of RIGHT from TIRES to all: another group's message has its identifier\n", told)
+        self.assertEqual(dbc.count("\nBO_ "), 1)
+
+    def test_several_lengths(self):
+        text = (TOLD + FLOWS).replace("length = 8", "length = 7", 1)
+        dbc, told, _ = self.dbc(text, "TIRE_m1", "TIRE_m2")
+        self.assertIn(" TIRE: 8 TIRES\n", dbc)
+        self.assertIn("message TIRE: its groups have several lengths: it has the greatest one\n", told)
 
 
 @needs("canmatrix", "python3-canmatrix")

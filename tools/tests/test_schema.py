@@ -14,17 +14,17 @@ SCHEMA = json.loads(text_of(os.path.join(TOOLS, "plan.schema.json")))
 
 # What the page's headings call the tables.
 TABLES = {"Top": None, "`[timing]`": "timing", "`timing.errors`": "errors", "`[[unit]]`": "unit", "`unit.name`": "name", "`[[group]]`": "group",
-          "`[[group.signal]]`": "signal", "`[[group.text]]`": "text", "`[[flow]]`": "flow", "`[[need]]`": "need",
+          "`group.when`": "when", "`[[group.signal]]`": "signal", "`[[group.text]]`": "text", "`[[flow]]`": "flow", "`[[need]]`": "need",
           "`[[request]]`": "request"}
 
 # Refusals that a schema can't say.
 UNSAID = ("Text", "Repeated", "UnknownLabel")
 UNSAID_CASES = ("most_below_length", "most_float", "per_3", "broadcast_gap_most_below_gap", "broadcast_gap_most_below_gap_by_default",
                 "jitter_of_the_period", "jitter_before_pause", "pause_below_the_period", "values_256_of_8_bits", "values_4_of_2_bits",
-                "values_above_32_bits", "values_above_32_bits_of_64")
+                "values_above_32_bits", "values_above_32_bits_of_64", "when_value_256_of_8_bits")
 
 # Keys whose range is another one beside some other key.
-FITTED = (("timing", "broadcast_gap_most"), ("flow", "jitter"), ("flow", "pause"))
+FITTED = (("timing", "broadcast_gap_most"), ("flow", "jitter"), ("flow", "pause"), ("when", "value"))
 
 # A plan of a version with a signal of a kind.
 SIGNAL = """version = {}
@@ -183,7 +183,7 @@ class Validated(InFolder):
             "version": 4,
             "timing": {"bitrate": 250000, "unplanned": 0, "errors": {"count": 1, "every": 10}},
             "unit": [{"label": "A", "address": 0, "name": {"identity": 1}}],
-            "group": [{"label": "G", "pgn": 65262, "priority": 6, "length": 1,
+            "group": [{"label": "G", "pgn": 65262, "priority": 6, "length": 1, "when": {"byte": 1, "bits": 8, "value": 1},
                        "signal": [{"label": "S", "byte": 1, "bits": 8, "kind": "raw"}], "text": [{"label": "T", "byte": 1}]}],
             "flow": [{"group": "G", "from": "A", "to": "all", "period": 10, "deadline": 10}], "need": [{"unit": "A", "group": "G", "within": 10}],
             "request": [{"group": "G", "from": "A", "to": "all", "period": 10}],
@@ -202,7 +202,8 @@ def changed(plan, table, key, value):
     """The plan with another value of a key in its first such table."""
     plan = json.loads(json.dumps(plan))
     group, unit = plan["group"][0], plan["unit"][0]
-    inner = {"timing": plan["timing"], "errors": plan["timing"]["errors"], "name": unit["name"], "signal": group["signal"][0], "text": group["text"][0]}
+    inner = {"timing": plan["timing"], "errors": plan["timing"]["errors"], "name": unit["name"], "signal": group["signal"][0], "text": group["text"][0],
+             "when": group["when"]}
     (inner.get(table) or plan[table][0])[key] = value
     return plan
 

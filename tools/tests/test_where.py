@@ -425,6 +425,26 @@ class Where(InFolder):
         early = "12: refused UnknownKey group 1 signal 1  (key repeated: only from version = 3 on)"
         self.assertEqual(self.answer(plan.replace("version = 3", "version = 2").replace("every = 3\n", "")), (2, [early]))
 
+    def test_groups_told_by_their_data(self):
+        """Why two of one number aren't told apart, where the bits of one end, and keys of the table."""
+        group = '[[group]]\nlabel = "{}"\npgn = 65268\npriority = 6\nlength = 1\n{}\n'
+        plan = "version = 4\n" + group.format("G", "when = {{ byte = 1, bits = {}, value = 1 }}") + group.format("H", "{}")
+        for other, answer, line, hint in (
+            ("", "F5 SamePgn G H 65268", 10, "key pgn: the same as of G at line 4, and H has no key when"),
+            ("when = { byte = 1, bit = 2, bits = 4, value = 2 }", "F5 SamePgn G H 65268", 10,
+             "key pgn: the same as of G at line 4, and when names other bits"),
+            ("when = { byte = 1, bit = 1, bits = 4, value = 1 }", "F5 SamePgn G H 65268", 10,
+             "key pgn: the same as of G at line 4, and when has the same value"),
+            ("when = { byte = 2, bits = 4, value = 2 }", "F24 WhenOutside H 12", 13, "key when: its bits end behind the group's length"),
+            ("when = { byte = 1, bits = 4, value = 16 }", "refused Range group 2 when key value", 13,
+             "value = 16: integer 0..4294967295, which the bits hold"),
+            ("when = { byte = 1, value = 1 }", "refused Missing group 2 when key bits", 13, "key bits isn't there: integer 1..32"),
+            ("when = { byte = 1, bits = 1, valeu = 1 }", "refused UnknownKey group 2 when", 13, "key valeu; did you mean value?"),
+            ("when = 1", "refused WrongType group 2 key when", 13, "when = 1: a table"),
+        ):
+            (placed,) = answer_places.placed(plan.format(4, other).encode(), answer + "\n")
+            self.assertEqual((placed.line, placed.text), (line, f"{answer}  ({hint})"))
+
     def test_optional_signals(self):
         """Where one ends, that one which is repeated is none, and from which version on they are known."""
         plan = (

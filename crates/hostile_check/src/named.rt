@@ -32,7 +32,7 @@ const UNREADABLE_LINE: [&str; 6] = [
 ];
 
 // Words behind `refused line N` where the step is refused.
-const REFUSED_STEP: [&str; 12] = [
+const REFUSED_STEP: [&str; 13] = [
     "NoSuchFlow",
     "NotStarted",
     "AlreadyStarted",
@@ -42,16 +42,17 @@ const REFUSED_STEP: [&str; 12] = [
     "NoAddress",
     "Busy",
     "WrongLength",
+    "WrongSelector",
     "NothingToSend",
     "NoSession",
     "CannotRest",
 ];
 
 // The first words of lines of check, and of lines of read.
-const CHECK: [&str; 30] = [
+const CHECK: [&str; 31] = [
     "ok", "findings", "F1", "F2", "F3", "F4", "F5", "F6", "F7", "F8", "F9", "F10", "F11", "F12",
-    "F13", "F14", "F15", "F16", "F17", "F18", "F19", "F20", "F21", "F22", "F23", "F25", "F26",
-    "F27", "", "refused",
+    "F13", "F14", "F15", "F16", "F17", "F18", "F19", "F20", "F21", "F22", "F23", "F24", "F25",
+    "F26", "F27", "", "refused",
 ];
 
 // Those of show.

@@ -62,11 +62,11 @@ own_first ((e, false) ∷ rest) own = own_first rest own.1
 
 own_by_flow : (count : ℕ) (w : World) (flow : Option Flow) (bytes : List ℕ) → AreOwn (begin_refusals count w flow bytes)
 own_by_flow count w None bytes = (refl, tt)
-own_by_flow count w (Some flow) bytes = (refl, (refl, (refl, (refl, (refl, (refl, tt))))))
+own_by_flow count w (Some flow) bytes = (refl, (refl, (refl, (refl, (refl, (refl, (refl, tt)))))))
 
 own_by_send : (count : ℕ) (w : World) (flow : Option Flow) (bytes : List ℕ) → AreOwn (send_refusals count w flow bytes)
 own_by_send count w None bytes = (refl, tt)
-own_by_send count w (Some flow) bytes = (refl, (refl, (refl, (refl, (refl, (refl, tt))))))
+own_by_send count w (Some flow) bytes = (refl, (refl, (refl, (refl, (refl, (refl, (refl, tt)))))))
 
 own_by_step : (count : ℕ) (flows : List Flow) (w : World) (step : Step) → AreOwn (step_refusals count flows w step)
 own_by_step count flows w (Up u) = (refl, (refl, (refl, tt)))

@@ -27,6 +27,7 @@ fn flow_of(groups: &[GroupPlan], flow: &FlowPlan) -> Flow
         priority: group.priority,
         length: group.length,
         most: group.most,
+        when: group.when,
         sender: flow.sender,
         to: flow.to,
     }

@@ -14,6 +14,7 @@ use crate::network::Network;
 use crate::{StepError, sessions};
 use j39_findings::{Step, To};
 use j39_id::limits::FRAME_BYTES;
+use j39_signal::is_selected;
 use j39_world::Flow;
 
 /// Whether a flow to one unit goes to another one, and its group can be sent to one.
@@ -163,6 +164,9 @@ impl Network {
         }
         if !fits(flow, bytes) {
             return Some(StepError::WrongLength);
+        }
+        if !is_selected(flow.when, bytes) {
+            return Some(StepError::WrongSelector);
         }
         None
     }

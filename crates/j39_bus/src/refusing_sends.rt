@@ -11,6 +11,7 @@ use crate::network::Network;
 use crate::refusing::{can_be_sent, fits};
 use crate::{StepError, sessions};
 use j39_id::limits::FRAME_BYTES;
+use j39_signal::is_selected;
 use j39_world::Flow;
 
 impl Network {
@@ -48,6 +49,9 @@ impl Network {
         }
         if !fits_one_frame(flow, bytes) {
             return Some(StepError::WrongLength);
+        }
+        if !is_selected(flow.when, bytes) {
+            return Some(StepError::WrongSelector);
         }
         None
     }

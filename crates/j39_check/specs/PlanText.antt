@@ -4,7 +4,7 @@ use Rattle.j39_findings.specs.declared.plan.Plan.{Plan}
 use Rattle.j39_plan.specs.declared.reading.fault.Fault.{Fault}
 use Rattle.j39_plan.specs.declared.reading.key.Key.{Key}
 use Rattle.j39_plan.specs.declared.reading.place.Table.{Table}
-use Rattle.j39_plan.specs.declared.reading.place.Table.TheVariants.{Top, Timing, TimingErrors, Unit as AUnit, UnitName, Group, Signal, Text, Flow, Need, Request}
+use Rattle.j39_plan.specs.declared.reading.place.Table.TheVariants.{Top, Timing, TimingErrors, Unit as AUnit, UnitName, Group, GroupWhen, Signal, Text, Flow, Need, Request}
 use Rattle.j39_plan.specs.declared.reading.plan_error.PlanError.{PlanError}
 use Rattle.j39_plan.specs.declared.reading.plan_error.PlanError.TheVariants as errors
 use Rattle.j39_plan.specs.Words.{word_of, cause_word}
@@ -21,6 +21,7 @@ table_text TimingErrors = codes "timing errors"
 table_text (AUnit i) = place_field (codes "unit ") i
 table_text (UnitName i) = place_field (codes "unit ") i ++ codes " name"
 table_text (Group g) = place_field (codes "group ") g
+table_text (GroupWhen g) = place_field (codes "group ") g ++ codes " when"
 table_text (Signal g s) = place_field (codes "group ") g ++ place_field (codes " signal ") s
 table_text (Text g t) = place_field (codes "group ") g ++ place_field (codes " text ") t
 table_text (Flow f) = place_field (codes "flow ") f

@@ -11,6 +11,7 @@ use Rattle.j39_id.specs.declared.name_fields.NameFields.{NameFields}
 use Rattle.j39_signal.specs.Parts.{SignalParts}
 use Rattle.j39_signal.specs.declared.kind.Kind.{Kind}
 use Rattle.j39_signal.specs.declared.kind.Kind.TheVariants as kinds
+use Rattle.j39_signal.specs.declared.selector.Selector.{Selector}
 use Rattle.j39_findings.specs.declared.plan.Plan.{Plan}
 use Rattle.j39_findings.specs.declared.plan.flow_plan.FlowPlan.{FlowPlan}
 use Rattle.j39_findings.specs.declared.plan.group_plan.GroupPlan.{GroupPlan}
@@ -191,11 +192,18 @@ group_form_lines table group =
     truth_line table key.Private group.private
     ++ (value_line table key.Most (decimal group.most) ++ optional_line decimal table key.Every group.every)
 
+-- the bits that tell a group's messages, if any do, by the table that they have in it
+unfoldable pub when_lines : Table → Option Selector → List ℕ
+when_lines table None = []
+when_lines table (Some w) =
+    value_line table key.Byte (decimal (w.start / 8 + 1)) ++ (value_line table key.Bit (decimal (w.start % 8 + 1))
+    ++ (value_line table key.Bits (decimal w.bits) ++ value_line table key.Value (decimal w.value)))
+
 -- a group, with its signals and its texts
 unfoldable pub group_lines : ℕ → GroupPlan → List ℕ
 group_lines g group =
-    group_head_lines (at.Group g) group ++ (group_form_lines (at.Group g) group
-    ++ (lines_of_each (signal_at_lines g group) 0 group.signals.items ++ lines_of_each (planned_text_lines g) 0 group.texts.items))
+    group_head_lines (at.Group g) group ++ (group_form_lines (at.Group g) group ++ (when_lines (at.GroupWhen g) group.when
+    ++ (lines_of_each (signal_at_lines g group) 0 group.signals.items ++ lines_of_each (planned_text_lines g) 0 group.texts.items)))
 
 -- ---- flows, needs and requests
 

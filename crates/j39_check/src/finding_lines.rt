@@ -1,14 +1,14 @@
 //! The lines of findings.
 ghost use Rattle.std.specs.Prelude.{◌≡◌, ◌++◌, OnOk};
-ghost use Rattle.j39_findings.specs.declared.checking.finding.Finding.TheVariants.{SameFixedAddress, BadPgn, SamePgn, SignalWidth, SignalOutside, SignalOverlap, FlowRepeated, KeptAddress, RecordOverlap, TextOutside, RequestRepeated};
+ghost use Rattle.j39_findings.specs.declared.checking.finding.Finding.TheVariants.{SameFixedAddress, BadPgn, SamePgn, SignalWidth, SignalOutside, SignalOverlap, FlowRepeated, KeptAddress, RecordOverlap, TextOutside, WhenOutside, RequestRepeated};
 ghost use Rattle.j39_findings.specs.declared.checking.finding.Finding.TheVariants.{SilentAddress, SilentInPool};
 ghost use Rattle.j39_check.specs.FindingLines.{finding_line, finding_lines, finding_part, finding_report, finding_text, is_between, run_lines, signal_text};
 
 use j39_findings::{Finding, Plan, bad_run};
 use j39_schedule::write_steps;
 use j39_text::{
-    TextBuffer, group_label, group_pgn, signal_bits, signal_end, signal_label, text_end,
-    text_label, unit_address, unit_label, write_group, write_units,
+    TextBuffer, group_label, group_pgn, group_selector_end, signal_bits, signal_end, signal_label,
+    text_end, text_label, unit_address, unit_label, write_group, write_units,
 };
 use std::alloc::{AllocError, Global};
 
@@ -157,6 +157,14 @@ fn write_text_outside(
 }
 
 #[tactic(auto, unfolding(crate::specs::FindingLines::finding_text))]
+fn write_when_outside(text: &mut TextBuffer, plan: &Plan, group: usize) -> Result<(), AllocError>
+    ensures { OnOk result (text.new ≡ text.old ++ finding_text plan.now (WhenOutside group)) }
+{
+    write_group(text, "F24 WhenOutside ", plan, group)?;
+    text.field(" ", group_selector_end(plan, group))
+}
+
+#[tactic(auto, unfolding(crate::specs::FindingLines::finding_text))]
 fn write_request_repeated(
     text: &mut TextBuffer,
     plan: &Plan,
@@ -215,6 +223,7 @@ fn write_finding(text: &mut TextBuffer, plan: &Plan, finding: Finding) -> Result
         Finding::RequestUnanswered(r) => text.place("F21 RequestUnanswered ", r),
         Finding::RequestUnheard(r) => text.place("F22 RequestUnheard ", r),
         Finding::AnswerAstray(r) => text.place("F23 AnswerAstray ", r),
+        Finding::WhenOutside(g) => write_when_outside(text, plan, g),
         Finding::RequestRepeated(r, s) => write_request_repeated(text, plan, r, s),
         Finding::SilentAddress(u, v) => write_silent_address(text, plan, u, v),
         Finding::SilentInPool(u) => write_silent_in_pool(text, plan, u),

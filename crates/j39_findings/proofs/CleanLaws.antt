@@ -15,10 +15,11 @@ use Rattle.j39_findings.specs.declared.plan.unit_plan.UnitPlan.{UnitPlan}
 use Rattle.j39_findings.specs.declared.plan.text_plan.TextPlan.{TextPlan}
 use Rattle.j39_findings.specs.declared.checking.finding.Finding.TheVariants.{SameName, SameFixedAddress, TooFewAddresses, BadPgn, SamePgn, SignalWidth}
 use Rattle.j39_findings.specs.declared.checking.finding.Finding.TheVariants.{SignalOutside, SignalOverlap, FlowToOne, FlowToSelf, FlowRepeated, KeptAddress, PrivateUnsent, RecordOverlap, TextOutside, NeedUnmet}
-use Rattle.j39_findings.specs.declared.checking.finding.Finding.TheVariants.{RequestUnanswered, RequestUnheard, AnswerAstray, RequestRepeated}
+use Rattle.j39_findings.specs.declared.checking.finding.Finding.TheVariants.{RequestUnanswered, RequestUnheard, AnswerAstray, WhenOutside, RequestRepeated}
 use Rattle.j39_findings.specs.ListPlaces.{ValueAt, PairAt}
-use Rattle.j39_findings.specs.Findings.{EndsOutside, IsProprietary, HasBadPgn, IsOutside, Clean}
+use Rattle.j39_findings.specs.Findings.{EndsOutside, IsSelectorInside, IsProprietary, HasBadPgn, IsOutside, Clean}
 use Rattle.j39_findings.specs.SignalPlaces.{room_of_signal}
+use Rattle.j39_signal.specs.Selectors.{selector_end}
 use Rattle.j39_findings.specs.Findings.{IsServed, GoesUnanswered, GoesUnheard, IsAnsweredAstray, AskTheSame}
 use Rattle.j39_findings.specs.CleanParts.{CanBePlanned, IsAnsweredWell, LiesInside, CleanParts}
 use Rattle.j39_findings.specs.declared.checking.finding.Finding.TheVariants.{SilentAddress, SilentInPool}
@@ -28,7 +29,7 @@ use Rattle.j39_findings.specs.Lengths.{IsLengthOf}
 use Rattle.j39_findings.specs.TextPlaces.{last_byte}
 use Rattle.j39_findings.specs.Records.{signals_in}
 use Rattle.j39_findings.proofs.RecordBits.{IsApart, bits_once, laid_with_records}
-use Rattle.j39_findings.proofs.Deciding.{Decides-is_pgn, Decides-is_proprietary, Decides-sends_some, Decides-some_meets}
+use Rattle.j39_findings.proofs.Deciding.{Decides-differ_in_value, Decides-is_pgn, Decides-is_proprietary, Decides-sends_some, Decides-some_meets}
 use Rattle.j39_findings.proofs.Deciding.{Decides-is_served, Decides-is_served_to_one, Decides-is_served_to_all, asks_one_or_all, served_to_one, served_to_all}
 
 none_at : {A : Type 0} (P : A → Type 0) (xs : List A) → ((i : ℕ) → ¬ ValueAt P xs i) → All (λ x. ¬ P x) xs
@@ -119,6 +120,10 @@ layout plan clean g d less =
           inside_shortest signal.optional signal group.length group.most refl always (ends s e in_group);
     }
 
+selector_inside : (g : GroupPlan) → ¬ (¬ IsSelectorInside g) → IsSelectorInside g
+selector_inside g h = λ w is.
+    elim (cases_lt (8 * g.length) (selector_end w)) [ inl over ↦ absurd (h (λ inside. omega (arith, over, inside w is))) | inr within ↦ within ]
+
 lies_inside : (g : GroupPlan) (t : TextPlan) → ¬ IsOutside g t → LiesInside g t
 lies_inside g t h = record {
   begins = elim (cases_lt (g.length + 1) t.byte) [ inl over ↦ absurd (h (inl over)) | inr is ↦ is ];
@@ -187,9 +192,9 @@ parts_of plan clean = record {
   pgns = λ g h d below less.
       let none = no_pair_at _ plan.groups.items (λ k l. clean (SamePgn k l)) g h d below less in
       record {
-        first = λ shared same. none (same, inl shared);
-        second = λ shared same. none (same, inr (inl shared));
-        apart = λ same together. none (same, inr (inr together));
+        first = λ shared same. by_test _ _ (Decides-differ_in_value _ _) (λ alike. none (same, alike, inl shared));
+        second = λ shared same. by_test _ _ (Decides-differ_in_value _ _) (λ alike. none (same, alike, inr (inl shared)));
+        apart = λ same together. by_test _ _ (Decides-differ_in_value _ _) (λ alike. none (same, alike, inr (inr together)));
       };
   layouts = layout plan clean;
   to_one = λ f d less to_one lost. none_at _ plan.flows.items (λ k. clean (FlowToOne k)) f d less (to_one, lost);
@@ -208,6 +213,8 @@ parts_of plan clean = record {
       (λ none. none_at _ plan.needs.items (λ k. clean (NeedUnmet k)) n d less none);
   requests = served plan clean;
   answers = answered plan clean;
+  selectors = λ g d less. selector_inside (get_or plan.groups.items g d)
+      (none_at (λ group. ¬ IsSelectorInside group) plan.groups.items (λ k. clean (WhenOutside k)) g d less);
   asked_once = no_pair_at (AskTheSame plan.groups.items) plan.requests.items (λ r s. clean (RequestRepeated r s));
   silent_addresses = λ i j d below less silent same.
       no_pair_at _ plan.units.items (λ k l. clean (SilentAddress k l)) i j d below less (same, silent);

@@ -10,7 +10,7 @@ use Rattle.j39_findings.specs.declared.plan.unit_plan.UnitPlan.{UnitPlan}
 use Rattle.j39_findings.specs.declared.checking.finding.Finding.{Finding}
 use Rattle.j39_findings.specs.declared.checking.finding.Finding.TheVariants.{SameName, SameFixedAddress, TooFewAddresses, BadPgn, SamePgn, SignalWidth}
 use Rattle.j39_findings.specs.declared.checking.finding.Finding.TheVariants.{SignalOutside, SignalOverlap, FlowToOne, FlowToSelf, FlowRepeated, KeptAddress, PrivateUnsent, RecordOverlap, TextOutside, NeedUnmet}
-use Rattle.j39_findings.specs.declared.checking.finding.Finding.TheVariants.{RequestUnanswered, RequestUnheard, AnswerAstray, RequestRepeated}
+use Rattle.j39_findings.specs.declared.checking.finding.Finding.TheVariants.{RequestUnanswered, RequestUnheard, AnswerAstray, WhenOutside, RequestRepeated}
 use Rattle.j39_findings.specs.declared.checking.finding.Finding.TheVariants.{SilentAddress, SilentInPool}
 use Rattle.j39_findings.specs.declared.steps.Step.{Step}
 use Rattle.j39_findings.specs.Findings.{HaveSameFixedAddress}
@@ -100,6 +100,7 @@ sound plan (NeedUnmet n) steps is = cc
 sound plan (RequestUnanswered r) steps is = cc
 sound plan (RequestUnheard r) steps is = cc
 sound plan (AnswerAstray r) steps is = cc
+sound plan (WhenOutside g) steps is = cc
 sound plan (RequestRepeated r s) steps is = cc
 sound plan (SilentAddress u v) steps is = cc
 sound plan (SilentInPool u) steps is = cc

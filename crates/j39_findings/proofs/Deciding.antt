@@ -1,6 +1,6 @@
 -- Each test decides its statement.
-use Rattle.std.proofs.Common.{◌≡◌, ℕ, zero, suc, ◌+◌, ◌<◌, ◌≤◌, ◌==◌, ◌⊎◌, List, [], ◌∷◌, Bool, true, false, cond, not, ◌||◌, ◌&&◌}
-use Rattle.std.proofs.Common.{nat_le, Option, Some, None, Contains, Decides, refl, sym, ◌∙◌, inl, inr, subst, ◌%◌, arith}
+use Rattle.std.proofs.Common.{◌≡◌, ℕ, zero, suc, ◌+◌, ◌*◌, ◌<◌, ◌≤◌, ◌==◌, ◌⊎◌, List, [], ◌∷◌, Bool, true, false, cond, not, ◌||◌, ◌&&◌}
+use Rattle.std.proofs.Common.{nat_le, nat_lt, Option, Some, None, Contains, Decides, refl, sym, ◌∙◌, inl, inr, subst, ◌%◌, arith}
 use Rattle.std.specs.List.{count_by, slice_get, list_any}
 use Rattle.std.specs.FinSet.{contains}
 use Rattle.std.proofs.lemmas.List.Sums.{sum_by-cons}
@@ -36,6 +36,11 @@ use Rattle.j39_findings.specs.Findings.{IsWronglyPrivate, HasBadPgn, Sends, DoRe
 use Rattle.j39_findings.specs.Findings.{IsToOne, Serves, IsServed, IsServedToOne, IsServedToAll, AsksOne, AsksAll, GoesUnanswered, GoesUnheard, MayNameReceiver, IsAnsweredAstray, AskForOneNumber, AskTheSame, IsAskedFor}
 use Rattle.j39_findings.specs.Found.{have_same_name, have_same_fixed_address, needs_pool_address, prefers_kept, is_for_no_plan, is_wrongly_private}
 use Rattle.j39_findings.specs.SignalPlaces.{room_of_signal}
+use Rattle.j39_signal.specs.Selectors.{DifferInValue, differ_in_value, selector_end}
+use Rattle.j39_signal.specs.declared.selector.Selector.{Selector}
+use Rattle.std.specs.Option.{ForSome, option_map_or}
+use Rattle.j39_findings.specs.Findings.{IsSelectorInside}
+use Rattle.j39_findings.specs.Found.{is_selector_outside}
 use Rattle.j39_findings.specs.Found.{has_bad_pgn, sends, do_receivers_meet, sends_beside, are_sent_together, have_same_pgn, is_private_unsent, has_other_width, ends_outside, is_one_frame_to_all, may_be_one_frame_to_all, is_group_of}
 use Rattle.j39_findings.specs.Found.{is_to_one, is_to, have_same_receiver, cannot_go_to_one, goes_to_its_sender, are_one_flow, lies_outside}
 use Rattle.j39_findings.specs.Found.{is_from, is_reached, meets, is_unmet}
@@ -259,10 +264,30 @@ Decides-are_sent_together gs fs g h =
     (λ f. Decides-and _ _ (Decides-sends gs g f)
     (some_decides (λ k. (k.sender ≡ f.sender) × Sends gs h k × DoReceiversMeet g h f k) (beside_decides gs g h f) fs)) fs
 
+pub Decides-differ_in_value : (v w : Option Selector) → Decides (differ_in_value v w) (DifferInValue v w)
+Decides-differ_in_value None w = (λ e. absurd (false≢true e), λ h. absurd h)
+Decides-differ_in_value (Some v) None = (λ e. absurd (false≢true e), λ h. absurd h)
+Decides-differ_in_value (Some v) (Some w) =
+    Decides-like _ (λ p. (p.0, p.1.0, p.1.1)) (λ p. (p.0, (p.1, p.2)))
+    (Decides-and _ _ (Decides-eqb v.start w.start) (Decides-and _ _ (Decides-eqb v.bits w.bits) (Decides-not _ (Decides-eqb v.value w.value))))
+
 pub Decides-have_same_pgn : (gs : List GroupPlan) (fs : List FlowPlan) (g h : GroupPlan) → Decides (have_same_pgn gs fs g h) (HaveSamePgn gs fs g h)
 Decides-have_same_pgn gs fs g h =
-    Decides-and _ _ (Decides-eqb g.pgn h.pgn)
-    (Decides-or _ _ (not_is g.private) (Decides-or _ _ (not_is h.private) (Decides-are_sent_together gs fs g h)))
+    Decides-like _ (λ p. (p.0, p.1.0, p.1.1)) (λ p. (p.0, (p.1, p.2)))
+    (Decides-and _ _ (Decides-eqb g.pgn h.pgn) (Decides-and _ _ (Decides-not _ (Decides-differ_in_value g.when h.when))
+    (Decides-or _ _ (not_is g.private) (Decides-or _ _ (not_is h.private) (Decides-are_sent_together gs fs g h)))))
+
+selector_inside : (n : ℕ) (w : Option Selector) → Decides (option_map_or (λ v. nat_lt n (selector_end v)) w false) (¬ ForSome w (λ v. selector_end v ≤ n))
+selector_inside n None = (λ e. absurd (false≢true e), λ h. absurd (h (λ v is. absurd (none-some _ is))))
+selector_inside n (Some w) =
+    Decides-like _ (λ over inside. absurd (omega (arith, over, inside w refl)))
+    (λ outside. elim (cases_lt n (selector_end w)) [
+      | inl over ↦ over
+      | inr within ↦ absurd (outside (λ v is. subst (λ u. selector_end u ≤ n) (same_Some _ _ is) within))
+    ]) (Decides-ltb n (selector_end w))
+
+pub Decides-is_selector_outside : (g : GroupPlan) → Decides (is_selector_outside g) (¬ IsSelectorInside g)
+Decides-is_selector_outside g = selector_inside (8 * g.length) g.when
 
 pub Decides-sends_some : (gs : List GroupPlan) (fs : List FlowPlan) (g : GroupPlan) → Decides (list_any (sends gs g) fs) (SomeMeets (Sends gs g) fs)
 Decides-sends_some gs fs g = some_decides (Sends gs g) (Decides-sends gs g) fs

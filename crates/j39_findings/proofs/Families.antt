@@ -12,13 +12,13 @@ use Rattle.j39_findings.specs.declared.plan.group_plan.GroupPlan.{GroupPlan}
 use Rattle.j39_findings.specs.declared.checking.finding.Finding.{Finding}
 use Rattle.j39_findings.specs.declared.checking.finding.Finding.TheVariants.{SameName, SameFixedAddress, TooFewAddresses, BadPgn, SamePgn, SignalWidth}
 use Rattle.j39_findings.specs.declared.checking.finding.Finding.TheVariants.{SignalOutside, SignalOverlap, FlowToOne, FlowToSelf, FlowRepeated, KeptAddress, PrivateUnsent, RecordOverlap, TextOutside, NeedUnmet}
-use Rattle.j39_findings.specs.declared.checking.finding.Finding.TheVariants.{RequestUnanswered, RequestUnheard, AnswerAstray, RequestRepeated}
+use Rattle.j39_findings.specs.declared.checking.finding.Finding.TheVariants.{RequestUnanswered, RequestUnheard, AnswerAstray, WhenOutside, RequestRepeated}
 use Rattle.j39_findings.specs.declared.checking.finding.Finding.TheVariants.{SilentAddress, SilentInPool}
 use Rattle.j39_findings.specs.ListPlaces.{found_if, in_each, each, pairs, ValueAt, PairAt}
 use Rattle.j39_claim.specs.AddressSets.{free_count}
 use Rattle.j39_findings.specs.Findings.{HaveSameName, HaveSameFixedAddress, HasBadPgn, HaveSamePgn, CannotGoToOne}
 use Rattle.j39_findings.specs.Findings.{EndsOutside, GoesToItsSender, AreOneFlow, Holds, PrefersKept, IsPrivateUnsent, IsOutside, IsUnmet, IsBefore, IsBelow, finding_number, places_of}
-use Rattle.j39_findings.specs.Findings.{GoesUnanswered, GoesUnheard, IsAnsweredAstray, AskTheSame}
+use Rattle.j39_findings.specs.Findings.{GoesUnanswered, GoesUnheard, IsAnsweredAstray, AskTheSame, IsSelectorInside}
 use Rattle.j39_findings.specs.Findings.{HaveSilentAddress, IsSilentInPool}
 use Rattle.j39_findings.specs.Records.{record_count}
 use Rattle.j39_findings.specs.Found.{silent_findings}
@@ -31,7 +31,7 @@ use Rattle.j39_findings.proofs.Deciding.{Decides-have_same_name, Decides-have_sa
 use Rattle.j39_findings.proofs.Deciding.{Decides-have_silent_address, Decides-is_silent_in_pool}
 use Rattle.j39_findings.proofs.Deciding.{Decides-have_same_pgn, Decides-has_other_width, Decides-ends_outside, Decides-shares_bit}
 use Rattle.j39_findings.proofs.Deciding.{Decides-cannot_go_to_one, Decides-goes_to_its_sender, Decides-are_one_flow, Decides-prefers_kept, Decides-is_private_unsent, Decides-lies_outside, Decides-is_unmet}
-use Rattle.j39_findings.proofs.Deciding.{Decides-goes_unanswered, Decides-goes_unheard, Decides-is_answered_astray, Decides-ask_the_same}
+use Rattle.j39_findings.proofs.Deciding.{Decides-goes_unanswered, Decides-goes_unheard, Decides-is_answered_astray, Decides-ask_the_same, Decides-is_selector_outside}
 
 -- findings of numbers from low to high that hold, in order
 pub record Covers (plan : Plan) (low high : ℕ) (findings : List Finding) : Type 0 where
@@ -328,11 +328,14 @@ requests_covered plan =
     (Covers-append plan 22 22 23 25 _ _ (omega arith) (omega arith) (omega arith)
     (each_family plan 22 (GoesUnheard flows) (Decides-goes_unheard flows) RequestUnheard requests (λ i h. h)
     (λ i. record { number = refl; places = refl }))
-    (Covers-append plan 23 23 25 25 _ _ (omega arith) (omega arith) (omega arith)
+    (Covers-append plan 23 23 24 25 _ _ (omega arith) (omega arith) (omega arith)
     (each_family plan 23 (IsAnsweredAstray groups flows) (Decides-is_answered_astray groups flows) AnswerAstray requests (λ i h. h)
     (λ i. record { number = refl; places = refl }))
+    (Covers-append plan 24 24 25 25 _ _ (omega arith) (omega arith) (omega arith)
+    (each_family plan 24 (λ group. ¬ IsSelectorInside group) Decides-is_selector_outside WhenOutside groups (λ i h. h)
+    (λ i. record { number = refl; places = refl }))
     (pairs_family plan 25 (AskTheSame groups) (Decides-ask_the_same groups) RequestRepeated requests (λ i j h. h)
-    (λ i j. record { number = refl; places = refl }))))
+    (λ i j. record { number = refl; places = refl })))))
 
 -- ---- units that never claim
 

@@ -9,14 +9,15 @@ use Rattle.j39_findings.specs.declared.plan.group_plan.GroupPlan.{GroupPlan}
 use Rattle.j39_findings.specs.declared.checking.finding.Finding.{Finding}
 use Rattle.j39_findings.specs.declared.checking.finding.Finding.TheVariants.{SameName, SameFixedAddress, TooFewAddresses, BadPgn, SamePgn, SignalWidth}
 use Rattle.j39_findings.specs.declared.checking.finding.Finding.TheVariants.{SignalOutside, SignalOverlap, FlowToOne, FlowToSelf, FlowRepeated, KeptAddress, PrivateUnsent, RecordOverlap, TextOutside, NeedUnmet}
-use Rattle.j39_findings.specs.declared.checking.finding.Finding.TheVariants.{RequestUnanswered, RequestUnheard, AnswerAstray, RequestRepeated}
+use Rattle.j39_findings.specs.declared.checking.finding.Finding.TheVariants.{RequestUnanswered, RequestUnheard, AnswerAstray, WhenOutside, RequestRepeated}
 use Rattle.j39_findings.specs.declared.checking.finding.Finding.TheVariants.{SilentAddress, SilentInPool}
 use Rattle.j39_findings.specs.ListPlaces.{in_each, each, pairs}
 use Rattle.j39_claim.specs.AddressSets.{free_count}
 use Rattle.j39_findings.specs.Findings.{HaveSameName, HaveSameFixedAddress, HasBadPgn, HaveSamePgn, CannotGoToOne}
 use Rattle.j39_findings.specs.Findings.{EndsOutside, GoesToItsSender, AreOneFlow, PrefersKept, IsPrivateUnsent, IsOutside, IsUnmet, Holds, IsBefore, AreFindings, Clean}
 use Rattle.j39_findings.specs.Findings.{GoesUnanswered, GoesUnheard, IsAnsweredAstray, AskTheSame}
-use Rattle.j39_findings.specs.Found.{goes_unanswered, goes_unheard, is_answered_astray, ask_the_same, request_findings}
+use Rattle.j39_findings.specs.Found.{goes_unanswered, goes_unheard, is_answered_astray, is_selector_outside, ask_the_same, request_findings}
+use Rattle.j39_findings.specs.Findings.{IsSelectorInside}
 use Rattle.j39_findings.specs.Found.{have_same_name, have_same_fixed_address, needed_addresses, too_few_addresses, unit_findings, has_bad_pgn, have_same_pgn}
 use Rattle.j39_findings.specs.Found.{group_findings, width_findings, outside_findings, overlap_findings, signal_findings, cannot_go_to_one}
 use Rattle.j39_findings.specs.Found.{goes_to_its_sender, are_one_flow, flow_findings, prefers_kept, kept_findings, is_private_unsent, unsent_findings, group_overlaps, record_findings, outside_text_findings, text_findings, is_unmet, need_findings, found}
@@ -29,7 +30,7 @@ use Rattle.j39_findings.proofs.Deciding.{Decides-have_same_name, Decides-have_sa
 use Rattle.j39_findings.proofs.Deciding.{Decides-have_silent_address, Decides-is_silent_in_pool}
 use Rattle.j39_findings.proofs.Deciding.{Decides-have_same_pgn, Decides-has_other_width, Decides-ends_outside, Decides-shares_bit}
 use Rattle.j39_findings.proofs.Deciding.{Decides-cannot_go_to_one, Decides-goes_to_its_sender, Decides-are_one_flow, Decides-prefers_kept, Decides-is_private_unsent, Decides-lies_outside, Decides-is_unmet}
-use Rattle.j39_findings.proofs.Deciding.{Decides-goes_unanswered, Decides-goes_unheard, Decides-is_answered_astray, Decides-ask_the_same}
+use Rattle.j39_findings.proofs.Deciding.{Decides-goes_unanswered, Decides-goes_unheard, Decides-is_answered_astray, Decides-ask_the_same, Decides-is_selector_outside}
 use Rattle.j39_findings.proofs.Families.{Covers, Covers-append, units_covered, groups_covered, signals_covered, flows_covered, kept_covered, unsent_covered, records_covered, texts_covered, needs_covered, requests_covered, silent_covered}
 
 found_covered : (plan : Plan) → Covers plan 1 27 (found plan)
@@ -167,6 +168,12 @@ of_four : (xs ys zs us : List Finding) (f : Finding) → Contains xs f ⊎ (Cont
 of_four xs ys zs us f (inl one) = Contains-append_left xs (ys ++ (zs ++ us)) f one
 of_four xs ys zs us f (inr more) = Contains-append_right xs (ys ++ (zs ++ us)) f (of_three ys zs us f more)
 
+-- in one of its five
+of_five : (xs ys zs us vs : List Finding) (f : Finding)
+    → Contains xs f ⊎ (Contains ys f ⊎ (Contains zs f ⊎ (Contains us f ⊎ Contains vs f))) → Contains (xs ++ (ys ++ (zs ++ (us ++ vs)))) f
+of_five xs ys zs us vs f (inl one) = Contains-append_left xs (ys ++ (zs ++ (us ++ vs))) f one
+of_five xs ys zs us vs f (inr more) = Contains-append_right xs (ys ++ (zs ++ (us ++ vs))) f (of_four ys zs us vs f more)
+
 unit_found : (plan : Plan) (f : Finding)
     → Contains (pairs have_same_name SameName plan.units.items) f
     ⊎ (Contains (pairs have_same_fixed_address SameFixedAddress plan.units.items) f ⊎ Contains (too_few_addresses plan.keep_free plan.strangers plan.units.items) f)
@@ -209,7 +216,8 @@ request_found : (plan : Plan) (f : Finding)
     → Contains (each (goes_unanswered plan.flows.items) RequestUnanswered 0 plan.requests.items) f
     ⊎ (Contains (each (goes_unheard plan.flows.items) RequestUnheard 0 plan.requests.items) f
     ⊎ (Contains (each (is_answered_astray plan.groups.items plan.flows.items) AnswerAstray 0 plan.requests.items) f
-    ⊎ Contains (pairs (ask_the_same plan.groups.items) RequestRepeated plan.requests.items) f))
+    ⊎ (Contains (each is_selector_outside WhenOutside 0 plan.groups.items) f
+    ⊎ Contains (pairs (ask_the_same plan.groups.items) RequestRepeated plan.requests.items) f)))
     → Contains (found plan) f
 unfolding request_findings
 request_found plan f h =
@@ -219,7 +227,8 @@ request_found plan f h =
     let unanswered = each (goes_unanswered flows) RequestUnanswered 0 requests in
     let unheard = each (goes_unheard flows) RequestUnheard 0 requests in
     let astray = each (is_answered_astray groups flows) AnswerAstray 0 requests in
-    in_requests plan f (of_four unanswered unheard astray (pairs (ask_the_same groups) RequestRepeated requests) f h)
+    let selectors = each is_selector_outside WhenOutside 0 groups in
+    in_requests plan f (of_five unanswered unheard astray selectors (pairs (ask_the_same groups) RequestRepeated requests) f h)
 
 found_of : (plan : Plan) (f : Finding) → Holds plan f → Contains (found plan) f
 found_of plan (SameName i j) h = unit_found plan _ (inl (pairs_of HaveSameName Decides-have_same_name SameName plan.units.items i j h))
@@ -269,9 +278,12 @@ found_of plan (RequestUnheard r) h =
 found_of plan (AnswerAstray r) h =
     request_found plan _ (inr (inr (inl (each_of (IsAnsweredAstray plan.groups.items plan.flows.items)
     (Decides-is_answered_astray plan.groups.items plan.flows.items) AnswerAstray plan.requests.items r h))))
+found_of plan (WhenOutside g) h =
+    request_found plan _ (inr (inr (inr (inl (each_of (λ group. ¬ IsSelectorInside group) Decides-is_selector_outside WhenOutside
+    plan.groups.items g h)))))
 found_of plan (RequestRepeated r s) h =
-    request_found plan _ (inr (inr (inr (pairs_of (AskTheSame plan.groups.items) (Decides-ask_the_same plan.groups.items) RequestRepeated
-    plan.requests.items r s h))))
+    request_found plan _ (inr (inr (inr (inr (pairs_of (AskTheSame plan.groups.items) (Decides-ask_the_same plan.groups.items) RequestRepeated
+    plan.requests.items r s h)))))
 found_of plan (SilentAddress u v) h =
     silent_found plan _ (inl (pairs_of HaveSilentAddress Decides-have_silent_address SilentAddress plan.units.items u v h))
 found_of plan (SilentInPool u) h =

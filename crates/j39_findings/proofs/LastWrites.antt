@@ -3,9 +3,9 @@ use Rattle.std.proofs.Common.{◌≡◌, ◌≢◌, ℕ, ◌<◌, List, [], ◌�
 use Rattle.std.proofs.Common.{get_or, set, map, All, refl, sym, ◌∙◌, ap, arith}
 use Rattle.std.proofs.lemmas.List.{get_or-map, get_or-set_other, get_or-set_same, length-map, length-set}
 use Rattle.std.proofs.lemmas.List.Elements.{All-tail}
-use Rattle.j39_signal.specs.Bits.{all_ones, raw_of}
+use Rattle.j39_signal.specs.Bits.{raw_of}
 use Rattle.j39_signal.specs.Parts.{SignalParts}
-use Rattle.j39_signal.specs.Laid.{Write, Chain, blank, last_raws, last_payload, KeepsWrites}
+use Rattle.j39_signal.specs.Laid.{Write, Chain, last_raws, last_payload, KeepsWrites}
 use Rattle.j39_signal.specs.State.{state_of}
 use Rattle.j39_findings.specs.SoundSignals.{LeaveAlone, ReadsBack, ReadsLastGiven}
 
@@ -26,27 +26,28 @@ in_range signals payload [] after w chain = chain.0.0
 in_range signals payload (b ∷ before) after w chain = in_range signals b.payload before after w chain.1
 
 -- the raw number that a signal ends with
-ends_with : (bytes : ℕ) (signals : List SignalParts) → KeepsWrites bytes signals → (before after : List Write) (w : Write)
-    → Chain signals (blank bytes) (before ++ w ∷ after) → LeaveAlone after w.place
-    → (d : SignalParts) → raw_of (last_payload (blank bytes) (before ++ w ∷ after)) (get_or signals w.place d) ≡ w.raw
-ends_with bytes signals keeps before after w chain alone d =
-    let less = in_range signals (blank bytes) before after w chain in
-    (keeps (before ++ w ∷ after) chain).held w.place less d ∙ last_put (map all_ones signals) before after w (rw length-map less) alone
+ends_with : (start : List ℕ) (signals : List SignalParts) → KeepsWrites start signals → (before after : List Write) (w : Write)
+    → Chain signals start (before ++ w ∷ after) → LeaveAlone after w.place
+    → (d : SignalParts) → raw_of (last_payload start (before ++ w ∷ after)) (get_or signals w.place d) ≡ w.raw
+ends_with start signals keeps before after w chain alone d =
+    let less = in_range signals start before after w chain in
+    (keeps (before ++ w ∷ after) chain).held w.place less d ∙ last_put (map (raw_of start) signals) before after w (rw length-map less) alone
 
-ends_unset : (bytes : ℕ) (signals : List SignalParts) → KeepsWrites bytes signals → (writes : List Write) (place : ℕ)
-    → Chain signals (blank bytes) writes → LeaveAlone writes place → place < length signals
-    → (d : SignalParts) → raw_of (last_payload (blank bytes) writes) (get_or signals place d) ≡ all_ones (get_or signals place d)
-ends_unset bytes signals keeps writes place chain alone less d =
-    (keeps writes chain).held place less d ∙ (untouched (map all_ones signals) writes place alone ∙ get_or-map all_ones signals place d 0 less)
+ends_untouched : (start : List ℕ) (signals : List SignalParts) → KeepsWrites start signals → (writes : List Write) (place : ℕ)
+    → Chain signals start writes → LeaveAlone writes place → place < length signals
+    → (d : SignalParts) → raw_of (last_payload start writes) (get_or signals place d) ≡ raw_of start (get_or signals place d)
+ends_untouched start signals keeps writes place chain alone less d =
+    (keeps writes chain).held place less d
+    ∙ (untouched (map (raw_of start) signals) writes place alone ∙ get_or-map (raw_of start) signals place d 0 less)
 
-pub reads_last : (bytes : ℕ) (signals : List SignalParts) → KeepsWrites bytes signals → All ReadsBack signals → ReadsLastGiven bytes signals
-reads_last bytes signals keeps reads = record {
+pub reads_last : (start : List ℕ) (signals : List SignalParts) → KeepsWrites start signals → All ReadsBack signals → ReadsLastGiven start signals
+reads_last start signals keeps reads = record {
   given = λ before after w chain alone value d is.
-      let less = in_range signals (blank bytes) before after w chain in
-      ap (state_of (get_or signals w.place d)) (ends_with bytes signals keeps before after w chain alone d) ∙ (reads w.place d less).values value w.raw is;
+      let less = in_range signals start before after w chain in
+      ap (state_of (get_or signals w.place d)) (ends_with start signals keeps before after w chain alone d) ∙ (reads w.place d less).values value w.raw is;
   given_up = λ before after w chain alone d ones.
-      let less = in_range signals (blank bytes) before after w chain in
-      ap (state_of (get_or signals w.place d)) (ends_with bytes signals keeps before after w chain alone d ∙ ones) ∙ (reads w.place d less).given_up;
+      let less = in_range signals start before after w chain in
+      ap (state_of (get_or signals w.place d)) (ends_with start signals keeps before after w chain alone d ∙ ones) ∙ (reads w.place d less).given_up;
   never_given = λ writes place chain alone less d.
-      ap (state_of (get_or signals place d)) (ends_unset bytes signals keeps writes place chain alone less d) ∙ (reads place d less).given_up;
+      ap (state_of (get_or signals place d)) (ends_untouched start signals keeps writes place chain alone less d);
 }

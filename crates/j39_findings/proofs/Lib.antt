@@ -14,3 +14,4 @@ pub mod PrivateGroups
 pub mod RecordBits
 pub mod RecordCounts
 pub mod Rising
+pub mod Selectors

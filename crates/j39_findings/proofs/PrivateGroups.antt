@@ -1,7 +1,10 @@
 -- Whose a message is, and plans without private groups.
-use Rattle.std.proofs.Common.{List, ◌≡◌, ℕ, ◌<◌, ◌⊎◌, Bool, true, false, All as AllOf, Some, sym, ◌∙◌, inl, inr, arith}
+use Rattle.std.proofs.Common.{List, ◌≡◌, ℕ, ◌<◌, ◌⊎◌, Bool, true, false, All as AllOf, Some, None, Option, sym, ap, ◌∙◌, inl, inr, arith}
 use Rattle.std.specs.List.{slice_get}
-use Rattle.std.proofs.lemmas.Bool.{false≢true, cases_lt}
+use Rattle.j39_signal.specs.Bits.{number_at}
+use Rattle.j39_signal.specs.Selectors.{DifferInValue, is_selected}
+use Rattle.j39_signal.specs.declared.selector.Selector.{Selector}
+use Rattle.std.proofs.lemmas.Bool.{false≢true, and_parts, cases_lt, eqb-true}
 use Rattle.j39_findings.specs.ListPlaces.{ValueAt, SomeMeets}
 use Rattle.j39_findings.specs.Findings.{IsForNoPlan, IsProprietary, HasBadPgn, AreSentTogether, DoReceiversMeet, Clean}
 use Rattle.j39_findings.specs.PrivateGroups.{Fits, CanBe, OneGroupFits, HasNoPrivate, IsFoundAsBefore}
@@ -51,26 +54,47 @@ together plan g h sender to (i, f) (j, k) = (
   },
 )
 
-in_order : (plan : Plan) → Clean plan → (pgn sender : ℕ) (to : To) (g h : ℕ) → g < h → ValueAt (CanBe plan pgn sender to) plan.groups.items g
-    → ValueAt (CanBe plan pgn sender to) plan.groups.items h → ⊥
-in_order plan clean pgn sender to g h less a b = clean (SamePgn g h) (record {
-  first = a.value;
-  second = b.value;
-  below = less;
-  first_is = a.value_is;
-  second_is = b.value_is;
-  related = (a.meets.number ∙ sym b.meets.number, inr (inr (together plan a.value b.value sender to a.meets.fits b.meets.fits)));
-})
+-- no payload is taken by two selectors that differ in the value alone
+pub not_both_taken : (v w : Option Selector) (bytes : List ℕ) → is_selected v bytes ≡ true → is_selected w bytes ≡ true → ¬ DifferInValue v w
+not_both_taken None w bytes first second differ = absurd differ
+not_both_taken (Some v) None bytes first second differ = absurd differ
+not_both_taken (Some v) (Some w) bytes first second (start, bits, value) =
+    let one = eqb-true _ _ (and_parts _ _ first).1 in
+    let other = eqb-true _ _ (and_parts _ _ second).1 in
+    let same = ap (λ (n : ℕ). number_at bytes n v.bits) start ∙ ap (number_at bytes w.start) bits in
+    value (sym one ∙ same ∙ other)
+
+-- two groups of one number that the unit sends there are one, unless their selectors differ in the value alone
+module _ (plan : Plan) (clean : Clean plan) (sender : ℕ) (to : To) where
+  in_order : (g h : ℕ) (group second : GroupPlan) → g < h → slice_get plan.groups.items g ≡ Some group → slice_get plan.groups.items h ≡ Some second
+      → group.pgn ≡ second.pgn → ¬ DifferInValue group.when second.when → SomeMeets (Fits plan group sender to) plan.flows.items
+      → SomeMeets (Fits plan second sender to) plan.flows.items → ⊥
+  in_order g h group second less at_g at_h number alike a b = clean (SamePgn g h) (record {
+    first = group;
+    second = second;
+    below = less;
+    first_is = at_g;
+    second_is = at_h;
+    related = (number, alike, inr (inr (together plan group second sender to a b)));
+  })
+
+  pub one_unless_apart : (g h : ℕ) (group second : GroupPlan) → slice_get plan.groups.items g ≡ Some group → slice_get plan.groups.items h ≡ Some second
+      → group.pgn ≡ second.pgn → ¬ DifferInValue group.when second.when → ¬ DifferInValue second.when group.when
+      → SomeMeets (Fits plan group sender to) plan.flows.items → SomeMeets (Fits plan second sender to) plan.flows.items → g ≡ h
+  one_unless_apart g h group second at_g at_h number alike likewise a b =
+      elim (cases_lt g h) [
+        | inl less ↦ absurd (in_order g h group second less at_g at_h number alike a b)
+        | inr most ↦ elim (cases_lt h g) [
+          | inl more ↦ absurd (in_order h g second group more at_h at_g (sym number) likewise b a)
+          | inr least ↦ omega arith
+        ]
+      ]
 
 pub one_fits : (plan : Plan) → Clean plan → OneGroupFits plan
-one_fits plan clean pgn sender to g h a b =
-    elim (cases_lt g h) [
-      | inl less ↦ absurd (in_order plan clean pgn sender to g h less a b)
-      | inr most ↦ elim (cases_lt h g) [
-        | inl more ↦ absurd (in_order plan clean pgn sender to h g more b a)
-        | inr least ↦ omega arith
-      ]
-    ]
+one_fits plan clean pgn bytes sender to g h a b =
+    one_unless_apart plan clean sender to g h a.value b.value a.value_is b.value_is (a.meets.number ∙ sym b.meets.number)
+    (not_both_taken a.value.when b.value.when bytes a.meets.selected b.meets.selected)
+    (not_both_taken b.value.when a.value.when bytes b.meets.selected a.meets.selected) a.meets.fits b.meets.fits
 
 -- ---- plans without private groups
 
@@ -111,7 +135,7 @@ found_as_before plan none = record {
       below = p.below;
       first_is = p.first_is;
       second_is = p.second_is;
-      related = p.related.0;
+      related = (p.related.0, p.related.1);
     },
     λ p. record {
       first = p.first;
@@ -119,7 +143,7 @@ found_as_before plan none = record {
       below = p.below;
       first_is = p.first_is;
       second_is = p.second_is;
-      related = (p.related, inl (shared_at plan.groups.items none g p.first p.first_is));
+      related = (p.related.0, p.related.1, inl (shared_at plan.groups.items none g p.first p.first_is));
     },
   );
   unsent = λ g v. not_both (shared_at plan.groups.items none g v.value v.value_is) v.meets.0;

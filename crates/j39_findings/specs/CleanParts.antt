@@ -7,10 +7,11 @@ use Rattle.j39_id.specs.Name.{is_arbitrary}
 use Rattle.j39_id.specs.Pgn.{IsPgn, extended_page}
 use Rattle.j39_id.specs.Services.{service_groups}
 use Rattle.j39_signal.specs.Places.{Covers, LaysOutFrom, further}
+use Rattle.j39_signal.specs.Selectors.{DifferInValue}
 use Rattle.j39_findings.specs.ListPlaces.{ValueAt, SomeMeets}
 use Rattle.j39_findings.specs.Records.{record_count}
 use Rattle.j39_findings.specs.TextPlaces.{last_byte}
-use Rattle.j39_findings.specs.Findings.{IsFixed, AreNeeded, IsProprietary, IsToOne, IsOneFrameToAll, AreOneFlow, Sends, AreSentTogether, Meets}
+use Rattle.j39_findings.specs.Findings.{IsFixed, IsSelectorInside, AreNeeded, IsProprietary, IsToOne, IsOneFrameToAll, AreOneFlow, Sends, AreSentTogether, Meets}
 use Rattle.j39_findings.specs.Findings.{AskTheSame, AsksAll, AsksOne, IsServed, IsServedToAll, IsServedToOne, MayNameReceiver}
 use Rattle.j39_findings.specs.declared.plan.Plan.{Plan}
 use Rattle.j39_findings.specs.declared.plan.group_plan.GroupPlan.{GroupPlan}
@@ -38,11 +39,11 @@ pub record CanBePlanned (g : GroupPlan) : Type 0 where
   pub own : (g.private ≡ true) ↔ IsProprietary g.pgn
   pub not_service : ¬ Contains service_groups g.pgn
 
--- two groups of one number are both private, and no unit sends both to receivers that meet
+-- two groups of one number whose selectors don't differ in the value alone are both private, and no unit sends both to receivers that meet
 pub record HaveOwnPgn (plan : Plan) (g h : GroupPlan) : Type 0 where
-  pub first : g.private ≡ false → g.pgn ≢ h.pgn
-  pub second : h.private ≡ false → g.pgn ≢ h.pgn
-  pub apart : g.pgn ≡ h.pgn → ¬ AreSentTogether plan.groups.items plan.flows.items g h
+  pub first : g.private ≡ false → g.pgn ≡ h.pgn → DifferInValue g.when h.when
+  pub second : h.private ≡ false → g.pgn ≡ h.pgn → DifferInValue g.when h.when
+  pub apart : g.pgn ≡ h.pgn → AreSentTogether plan.groups.items plan.flows.items g h → DifferInValue g.when h.when
 
 -- the bit belongs to the signal at this place of the group, in the record so many behind the first, as the longest messages have it; a
 -- signal that isn't repeated stands once
@@ -83,6 +84,7 @@ pub record CleanParts (plan : Plan) : Type 0 where
   pub needs : All (λ d. SomeMeets (Meets plan.requests.items d) plan.flows.items) plan.needs.items
   pub requests : All (IsServed plan.flows.items) plan.requests.items
   pub answers : All (IsAnsweredWell plan) plan.requests.items
+  pub selectors : All IsSelectorInside plan.groups.items
   pub asked_once : AllPairs (λ r s. ¬ AskTheSame plan.groups.items r s) plan.requests.items
   pub silent_addresses : AllPairs IsApartFromSilent plan.units.items
   pub unreached : All (λ u. u.claims ≡ false → IsUnreached plan u) plan.units.items

@@ -12,6 +12,7 @@ use Rattle.j39_id.specs.Pgn.{IsPgn, extended_page, pdu2_first, pf_of}
 use Rattle.j39_id.specs.Proprietary.{proprietary_a, proprietary_a2, proprietary_b_first, proprietary_b_last, proprietary_b2_first, proprietary_b2_last}
 use Rattle.j39_id.specs.Services.{service_groups}
 use Rattle.std.specs.List.{slice_get}
+use Rattle.j39_signal.specs.Selectors.{DifferInValue, EndsInside}
 use Rattle.j39_signal.specs.Parts.{SignalParts}
 use Rattle.j39_signal.specs.Places.{Covers, WidthFits, IsInside, SharesBit, further}
 use Rattle.j39_findings.specs.ListPlaces.{ValueAt, PairAt, SomeMeets, SoManyMeet}
@@ -29,7 +30,7 @@ use Rattle.j39_findings.specs.declared.plan.to.To.TheVariants.{All, One}
 use Rattle.j39_findings.specs.declared.checking.finding.Finding.{Finding}
 use Rattle.j39_findings.specs.declared.checking.finding.Finding.TheVariants.{SameName, SameFixedAddress, TooFewAddresses, BadPgn, SamePgn, SignalWidth}
 use Rattle.j39_findings.specs.declared.checking.finding.Finding.TheVariants.{SignalOutside, SignalOverlap, FlowToOne, FlowToSelf, FlowRepeated, KeptAddress, PrivateUnsent, RecordOverlap, TextOutside, NeedUnmet}
-use Rattle.j39_findings.specs.declared.checking.finding.Finding.TheVariants.{RequestUnanswered, RequestUnheard, AnswerAstray, RequestRepeated}
+use Rattle.j39_findings.specs.declared.checking.finding.Finding.TheVariants.{RequestUnanswered, RequestUnheard, AnswerAstray, WhenOutside, RequestRepeated}
 use Rattle.j39_findings.specs.declared.checking.finding.Finding.TheVariants.{SilentAddress, SilentInPool}
 
 -- ---- units
@@ -110,9 +111,14 @@ abbrev pub AreSentTogether : List GroupPlan → List FlowPlan → GroupPlan → 
 AreSentTogether groups flows g h =
     SomeMeets (λ f. Sends groups g f × SomeMeets (λ k. (k.sender ≡ f.sender) × Sends groups h k × DoReceiversMeet g h f k) flows) flows
 
--- of two private groups it counts only where a unit sends both to receivers that meet
+-- it counts unless their selectors differ in the value alone, and of two private groups only where a unit sends both to receivers that meet
 abbrev pub HaveSamePgn : List GroupPlan → List FlowPlan → GroupPlan → GroupPlan → Type 0
-HaveSamePgn groups flows g h = (g.pgn ≡ h.pgn) × ((g.private ≡ false) ⊎ ((h.private ≡ false) ⊎ AreSentTogether groups flows g h))
+HaveSamePgn groups flows g h = (g.pgn ≡ h.pgn) × (¬ DifferInValue g.when h.when)
+    × ((g.private ≡ false) ⊎ ((h.private ≡ false) ⊎ AreSentTogether groups flows g h))
+
+-- the bits of its selector lie inside each of its messages
+abbrev pub IsSelectorInside : GroupPlan → Type 0
+IsSelectorInside group = EndsInside group.length group.when
 
 abbrev pub IsPrivateUnsent : List GroupPlan → List FlowPlan → GroupPlan → Type 0
 IsPrivateUnsent groups flows group = (group.private ≡ true) × (¬ SomeMeets (Sends groups group) flows)
@@ -265,6 +271,7 @@ Holds plan (NeedUnmet n) = ValueAt (IsUnmet plan.requests.items plan.flows.items
 Holds plan (RequestUnanswered r) = ValueAt (GoesUnanswered plan.flows.items) plan.requests.items r
 Holds plan (RequestUnheard r) = ValueAt (GoesUnheard plan.flows.items) plan.requests.items r
 Holds plan (AnswerAstray r) = ValueAt (IsAnsweredAstray plan.groups.items plan.flows.items) plan.requests.items r
+Holds plan (WhenOutside g) = ValueAt (λ group. ¬ IsSelectorInside group) plan.groups.items g
 Holds plan (RequestRepeated r s) = PairAt (AskTheSame plan.groups.items) plan.requests.items r s
 Holds plan (SilentAddress u v) = PairAt HaveSilentAddress plan.units.items u v
 Holds plan (SilentInPool u) = ValueAt (IsSilentInPool plan.keep_free plan.strangers) plan.units.items u
@@ -296,6 +303,7 @@ finding_number (NeedUnmet n) = 19
 finding_number (RequestUnanswered r) = 21
 finding_number (RequestUnheard r) = 22
 finding_number (AnswerAstray r) = 23
+finding_number (WhenOutside g) = 24
 finding_number (RequestRepeated r s) = 25
 finding_number (SilentAddress u v) = 26
 finding_number (SilentInPool u) = 27
@@ -321,6 +329,7 @@ places_of (NeedUnmet n) = n ∷ []
 places_of (RequestUnanswered r) = r ∷ []
 places_of (RequestUnheard r) = r ∷ []
 places_of (AnswerAstray r) = r ∷ []
+places_of (WhenOutside g) = g ∷ []
 places_of (RequestRepeated r s) = r ∷ s ∷ []
 places_of (SilentAddress u v) = u ∷ v ∷ []
 places_of (SilentInPool u) = u ∷ []

@@ -12,6 +12,7 @@ use Rattle.j39_id.specs.Name.{is_arbitrary}
 use Rattle.j39_id.specs.Pgn.{is_pgn, is_pdu2, extended_page}
 use Rattle.j39_id.specs.Proprietary.{is_proprietary}
 use Rattle.j39_id.specs.Services.{is_service}
+use Rattle.j39_signal.specs.Selectors.{differ_in_value, selector_end}
 use Rattle.j39_signal.specs.Parts.{SignalParts}
 use Rattle.j39_signal.specs.Places.{width_fits, is_inside, shares_bit, end_of, further}
 use Rattle.j39_findings.specs.ListPlaces.{found_if, each, pairs, in_each}
@@ -30,7 +31,7 @@ use Rattle.j39_findings.specs.declared.plan.to.To.TheVariants.{All, One}
 use Rattle.j39_findings.specs.declared.checking.finding.Finding.{Finding}
 use Rattle.j39_findings.specs.declared.checking.finding.Finding.TheVariants.{SameName, SameFixedAddress, TooFewAddresses, BadPgn, SamePgn, SignalWidth}
 use Rattle.j39_findings.specs.declared.checking.finding.Finding.TheVariants.{SignalOutside, SignalOverlap, FlowToOne, FlowToSelf, FlowRepeated, KeptAddress, PrivateUnsent, RecordOverlap, TextOutside, NeedUnmet}
-use Rattle.j39_findings.specs.declared.checking.finding.Finding.TheVariants.{RequestUnanswered, RequestUnheard, AnswerAstray, RequestRepeated}
+use Rattle.j39_findings.specs.declared.checking.finding.Finding.TheVariants.{RequestUnanswered, RequestUnheard, AnswerAstray, WhenOutside, RequestRepeated}
 use Rattle.j39_findings.specs.declared.checking.finding.Finding.TheVariants.{SilentAddress, SilentInPool}
 
 -- ---- units
@@ -123,7 +124,8 @@ abbrev pub are_sent_together : List GroupPlan → List FlowPlan → GroupPlan �
 are_sent_together groups flows g h = list_any (sends_first groups flows g h) flows
 
 abbrev pub have_same_pgn : List GroupPlan → List FlowPlan → GroupPlan → GroupPlan → Bool
-have_same_pgn groups flows g h = g.pgn == h.pgn && (not g.private || (not h.private || are_sent_together groups flows g h))
+have_same_pgn groups flows g h =
+    g.pgn == h.pgn && (not (differ_in_value g.when h.when) && (not g.private || (not h.private || are_sent_together groups flows g h)))
 
 unfoldable pub group_findings : List GroupPlan → List FlowPlan → List Finding
 group_findings groups flows = each has_bad_pgn BadPgn 0 groups ++ pairs (have_same_pgn groups flows) SamePgn groups
@@ -264,11 +266,17 @@ ask_for_one_number groups r s = is_group_of (λ g. is_group_of (λ h. g.pgn == h
 abbrev pub ask_the_same : List GroupPlan → RequestPlan → RequestPlan → Bool
 ask_the_same groups r s = ask_for_one_number groups r s && (r.sender == s.sender && have_same_receiver r.to s.to)
 
+-- the bits of a group's selector end behind its shortest messages
+abbrev pub is_selector_outside : GroupPlan → Bool
+is_selector_outside group = option_map_or (λ w. nat_lt (8 * group.length) (selector_end w)) group.when false
+
+-- of requests, and among them by its number of groups whose selectors end outside
 unfoldable pub request_findings : List GroupPlan → List FlowPlan → List RequestPlan → List Finding
 request_findings groups flows requests =
     each (goes_unanswered flows) RequestUnanswered 0 requests
     ++ (each (goes_unheard flows) RequestUnheard 0 requests
-    ++ (each (is_answered_astray groups flows) AnswerAstray 0 requests ++ pairs (ask_the_same groups) RequestRepeated requests))
+    ++ (each (is_answered_astray groups flows) AnswerAstray 0 requests
+    ++ (each is_selector_outside WhenOutside 0 groups ++ pairs (ask_the_same groups) RequestRepeated requests)))
 
 -- ---- needs that no flow meets
 

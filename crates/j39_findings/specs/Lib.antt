@@ -19,3 +19,4 @@ pub mod SoundSignals
 pub mod TextPlaces
 pub mod WithoutOptional
 pub mod WithoutRecords
+pub mod WithoutSelectors

@@ -6,6 +6,7 @@ use Rattle.j39_signal.specs.Places.{IsAlwaysInside, LaysOutFrom}
 use Rattle.j39_signal.specs.Refusals.{HasLayoutFault}
 use Rattle.j39_signal.specs.declared.layout_error.LayoutError.{LayoutError}
 use Rattle.j39_signal.specs.declared.layout_error.LayoutError.TheVariants.{Memory as NoMemory}
+use Rattle.j39_findings.specs.Findings.{IsSelectorInside}
 use Rattle.j39_findings.specs.ListPlaces.{ValueAt}
 use Rattle.j39_findings.specs.declared.plan.group_plan.GroupPlan.{GroupPlan}
 use Rattle.j39_findings.specs.declared.planned_groups.GroupFault.{GroupFault}
@@ -13,20 +14,21 @@ use Rattle.j39_findings.specs.declared.planned_groups.GroupFault.TheVariants.{Re
 
 -- the layout of a group
 abbrev pub layout_of : GroupPlan → LayoutParts
-layout_of group = record { length = group.length; most = group.most; signals = group.signals.items }
+layout_of group = record { length = group.length; most = group.most; when = group.when; signals = group.signals.items }
 
--- the group's number is one of a group, and its signals lay out its payloads
+-- the group's number is one of a group, its signals lay out its payloads, and the bits of its selector lie inside each of them
 pub record IsSendable (group : GroupPlan) : Type 0 where
   pub number : IsPgn group.pgn
   pub layout : LaysOutFrom group.length group.most group.signals.items
+  pub selector : IsSelectorInside group
 
--- its number is no group's, there is a fault that keeps its signals from laying out its longest payloads, or one of them that isn't optional
--- ends behind the shortest
+-- its number is no group's, there is a fault that keeps its signals from laying out its longest payloads, one of them that isn't optional ends
+-- behind the shortest, or a bit of its selector lies behind it
 abbrev pub IsRefusedGroup : GroupPlan → Type 0
 IsRefusedGroup group =
     (¬ IsPgn group.pgn)
     ⊎ (((e : LayoutError) × (e ≢ NoMemory) × HasLayoutFault group.most group.signals.items e)
-    ⊎ (¬ All (IsAlwaysInside group.length) group.signals.items))
+    ⊎ ((¬ All (IsAlwaysInside group.length) group.signals.items) ⊎ (¬ IsSelectorInside group)))
 
 -- what keeps a group from having a layout; where it is memory alone, it could have one
 abbrev pub HasGroupFault : GroupPlan → GroupFault → Type 0

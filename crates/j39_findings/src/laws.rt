@@ -8,6 +8,7 @@ mod optional;
 mod private_groups;
 mod records;
 mod requests;
+mod selectors;
 mod signals;
 mod texts;
 
@@ -19,5 +20,6 @@ pub use optional::plans_without_optional_signals;
 pub use private_groups::{one_group_fits, plans_without_private_groups};
 pub use records::{plans_without_records, records_are_counted};
 pub use requests::{plans_without_requests, requests_are_served};
+pub use selectors::plans_without_selectors;
 pub use signals::signals_are_sound;
 pub use texts::plans_without_texts;

@@ -1,6 +1,7 @@
 //! The layouts of planned groups.
 ghost use Rattle.std.specs.Prelude.{◌≡◌, ◌↔◌, All, IsTrue, IfOk, IfErr, OnOk};
 ghost use Rattle.j39_signal.specs.Places.{IsAlwaysInside};
+ghost use Rattle.j39_findings.specs.Findings.{IsSelectorInside};
 ghost use Rattle.j39_findings.specs.PlannedGroups.{HasGroupFault, IsSendable, layout_of as parts_of};
 
 use crate::GroupPlan;
@@ -11,7 +12,7 @@ use std::alloc::Global;
 /// Why a planned group has no layout.
 #[derive(Clone, Copy, Debug, PartialEq, Eq)]
 pub enum GroupFault {
-    /// Its number is no group's, or its signals don't lay out its payloads.
+    /// Its number is no group's, its signals don't lay out its payloads, or its selector ends outside.
     Refused,
     /// Memory was refused, and nothing but that stands against the group.
     Memory,
@@ -22,6 +23,16 @@ fn are_always_inside(group: &GroupPlan) -> bool
     ensures { IsTrue result ↔ All (IsAlwaysInside group.now.length) group.now.signals.items }
 {
     group.signals.iter().all(|signal| signal.is_optional() || signal.is_inside(group.length))
+}
+
+// Whether the bits of its selector lie inside each of its messages.
+fn is_selector_inside(group: &GroupPlan) -> bool
+    ensures { IsTrue result ↔ IsSelectorInside group.now }
+{
+    match group.when {
+        Some(selector) => selector.end() <= 8 * u32::from(group.length),
+        None => true,
+    }
 }
 
 /// The layout of a planned group whose number is one of a group: of all its messages, from the shortest to the longest.
@@ -36,12 +47,18 @@ pub fn layout_of(alloc: Global, group: &GroupPlan) -> Result<Layout, GroupFault>
     if !are_always_inside(group) {
         return Err(GroupFault::Refused);
     }
+    if !is_selector_inside(group) {
+        return Err(GroupFault::Refused);
+    }
     let layout = match Layout::new(alloc, group.most, group.signals.as_slice()) {
         Ok(layout) => layout,
         Err(LayoutError::Memory) => return Err(GroupFault::Memory),
         Err(_other) => return Err(GroupFault::Refused),
     };
-    match layout.from_length(group.length) {
+    let Some(layout) = layout.from_length(group.length) else {
+        unreachable!()
+    };
+    match layout.with_selector(group.when) {
         Some(layout) => Ok(layout),
         None => unreachable!(),
     }

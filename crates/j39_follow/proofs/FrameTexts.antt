@@ -1,5 +1,5 @@
 -- What a frame is, and what is written at it.
-use Rattle.std.proofs.Common.{◌≡◌, ◌++◌, ℕ, true, false, List, length, Option, Some, None, sym, ap, ◌∙◌, append_assoc}
+use Rattle.std.proofs.Common.{◌≡◌, ◌++◌, ℕ, true, false, List, Option, Some, None, sym, ap, ◌∙◌, append_assoc}
 use Rattle.j39_findings.specs.declared.plan.Plan.{Plan}
 use Rattle.j39_follow.specs.Contests.{Timed}
 use Rattle.j39_follow.specs.Fits.{IsSentGroup}
@@ -13,14 +13,14 @@ false_true e = cc
 
 -- what counts as of a group is one
 pub is_a_group : (plan : Plan) (log : List Timed) (front : List ℕ) (m : Message) (sort : Sort) (text : List ℕ) (sent : Sending) (group : Option ℕ)
-    → IsSendingOf plan log m sent → IsSentGroup plan m.pgn (length m.bytes) sent group → IsGrouped plan log front m sent group sort text
+    → IsSendingOf plan log m sent → IsSentGroup plan m.pgn m.bytes sent group → IsGrouped plan log front m sent group sort text
     → is_grouped sort ≡ true → (g : ℕ) × IsGroupOfMessage plan log m (Some g)
 is_a_group plan log front m sort text sent (Some g) sending of grouped e = (g, (sent, sending, of))
 is_a_group plan log front m sort text sent None sending of grouped e = absurd (false_true (sym (ap is_grouped grouped.0) ∙ e))
 
 -- and what doesn't is none
 pub is_no_group : (plan : Plan) (log : List Timed) (front : List ℕ) (m : Message) (sort : Sort) (text : List ℕ) (sent : Sending) (group : Option ℕ)
-    → IsSendingOf plan log m sent → IsSentGroup plan m.pgn (length m.bytes) sent group → IsGrouped plan log front m sent group sort text
+    → IsSendingOf plan log m sent → IsSentGroup plan m.pgn m.bytes sent group → IsGrouped plan log front m sent group sort text
     → is_grouped sort ≡ false → IsGroupOfMessage plan log m None
 is_no_group plan log front m sort text sent (Some g) sending of grouped e = absurd (false_true (sym e ∙ ap is_grouped grouped.0))
 is_no_group plan log front m sort text sent None sending of grouped e = (sent, sending, of)

@@ -1,6 +1,6 @@
 -- What `follow` and `read` write of the groups of one log, line after line.
 use Rattle.std.proofs.Common.{◌≡◌, ◌⊎◌, ◌+◌, ◌-◌, ◌<◌, ◌≤◌, ◌==◌, ◌&&◌, ℕ, zero, suc, Bool, true, false, not, List, [], ◌∷◌, ◌++◌, length}
-use Rattle.std.proofs.Common.{Option, Some, None, inl, inr, refl, sym, ap, subst, ◌∙◌, arith, append_assoc, eq-eqb, eqb-true, get_or}
+use Rattle.std.proofs.Common.{Option, Some, None, inl, inr, refl, sym, ap, subst, ◌∙◌, arith, append_assoc, eq-eqb, eqb-true, get_or, nat_le}
 use Rattle.std.specs.List.{All, slice_get}
 use Rattle.std.proofs.lemmas.Bool.{cases_Bool, true≢false}
 use Rattle.std.proofs.lemmas.List.{append-nil, length-append, map-append}
@@ -18,16 +18,17 @@ use Rattle.j39_findings.specs.declared.plan.Plan.{Plan}
 use Rattle.j39_findings.specs.declared.plan.group_plan.GroupPlan.{GroupPlan}
 use Rattle.j39_log.proofs.Indexes.{first_place, no_place}
 use Rattle.j39_log.proofs.OneText.{one_packet}
-use Rattle.j39_log.specs.LogFrames.{IsHeardAs, is_planned_as, planned, planned_group}
+use Rattle.j39_log.specs.LogFrames.{IsHeardAs, is_planned_as, is_shared_as, planned, planned_group}
 use Rattle.j39_log.specs.LogPairs.{Seen, heard, heard_of}
 use Rattle.j39_log.specs.NamedReports.{named_report}
 use Rattle.j39_log.specs.ReadText.{IsFrameReport, IsGroupReport, Past, ReadsFrame, ReadsLine, ReadsLines, nothing_yet, passed_over}
+use Rattle.j39_signal.specs.Selectors.{is_selected}
 use Rattle.j39_tp.proofs.Tracking.{one_message, one_pgn}
 use Rattle.j39_tp.specs.Carried.{Carried}
 use Rattle.j39_tp.specs.declared.packet.Packet.{Packet}
 use Rattle.j39_follow.specs.Alike.{IsUndirected}
 use Rattle.j39_follow.specs.Contests.{Timed}
-use Rattle.j39_follow.specs.Fits.{IsPlannedAs, IsSentGroup, MayBeGroup, fitting_flow, may_have_bytes}
+use Rattle.j39_follow.specs.Fits.{IsPlannedAs, IsSentGroup, MayBeGroup, fitting_flow}
 use Rattle.j39_follow.specs.FollowReports.{IsGroupOfMessage, IsGrouped, IsMessageReport, Message, in_frame, stamp}
 use Rattle.j39_follow.specs.FollowText.{FollowedPast, FollowsFrame, FollowsLine, FollowsLines, FollowsPart, HeardSince, IsFollowedAs, IsPacketReport}
 use Rattle.j39_follow.specs.FollowText.{frames_seen, line_passed_over, lines_with, nothing_followed, one_line_more}
@@ -42,21 +43,36 @@ both_true : (a b : Bool) → (a && b) ≡ true → (a ≡ true) × (b ≡ true)
 both_true true b e = (refl, e)
 both_true false b e = absurd (true≢false (sym e))
 
--- of a group that isn't private, to be planned so asks no more than its number and its lengths
-planned_so : (plan : Plan) (pgn bytes : ℕ) (sent : Sending) (place : ℕ) (group : GroupPlan) → group.private ≡ false
+all_true : (a b : Bool) → a ≡ true → b ≡ true → (a && b) ≡ true
+all_true a b x y = ap (λ (c : Bool). c && b) x ∙ y
+
+-- of a group that isn't private, to be planned so asks no more than its number, its lengths and its selector
+planned_so : (plan : Plan) (pgn : ℕ) (bytes : List ℕ) (sent : Sending) (place : ℕ) (group : GroupPlan) → group.private ≡ false
     → IsPlannedAs plan pgn bytes sent place group → is_planned_as pgn bytes group ≡ true
 planned_so plan pgn bytes sent place group shared is =
-    ap (λ (b : Bool). (not b && group.pgn == pgn) && may_have_bytes group bytes) shared
-    ∙ ap (λ (b : Bool). b && may_have_bytes group bytes) (eq-eqb group.pgn pgn is.number) ∙ is.length
+    let n : ℕ = length bytes in
+    let lengths = both_true (nat_le group.length n) (nat_le n group.most) is.length in
+    let own : is_shared_as pgn group ≡ true =
+    ap (λ (b : Bool). not b && group.pgn == pgn) shared ∙ eq-eqb group.pgn pgn is.number in
+    all_true (is_shared_as pgn group) _ own (all_true (nat_le group.length n) _ lengths.0
+    (all_true (nat_le n group.most) (is_selected group.when bytes) lengths.1 is.selected))
 
-may_be_planned : (plan : Plan) (pgn bytes : ℕ) (sent : Sending) (place : ℕ) (group : GroupPlan) → group.private ≡ false
+may_be_planned : (plan : Plan) (pgn : ℕ) (bytes : List ℕ) (sent : Sending) (place : ℕ) (group : GroupPlan) → group.private ≡ false
     → is_planned_as pgn bytes group ≡ true → IsPlannedAs plan pgn bytes sent place group
 may_be_planned plan pgn bytes sent place group shared is =
-    let parts = both_true (not group.private && group.pgn == pgn) (may_have_bytes group bytes) is in
+    let n : ℕ = length bytes in
+    let parts = both_true (is_shared_as pgn group) _ is in
     let number = both_true (not group.private) (group.pgn == pgn) parts.0 in
-    record { number = eqb-true group.pgn pgn number.1; length = parts.1; own = inl shared }
+    let least = both_true (nat_le group.length n) _ parts.1 in
+    let most = both_true (nat_le n group.most) (is_selected group.when bytes) least.1 in
+    record {
+      number = eqb-true group.pgn pgn number.1;
+      length = all_true (nat_le group.length n) (nat_le n group.most) least.0 most.0;
+      selected = most.1;
+      own = inl shared;
+    }
 
-not_planned : (plan : Plan) → HasNoPrivate plan → (pgn bytes : ℕ) (sent : Sending) (k : ℕ) (d : GroupPlan) → k < length plan.groups.items
+not_planned : (plan : Plan) → HasNoPrivate plan → (pgn : ℕ) (bytes : List ℕ) (sent : Sending) (k : ℕ) (d : GroupPlan) → k < length plan.groups.items
     → ¬ MayBeGroup plan pgn bytes sent k → is_planned_as pgn bytes (get_or plan.groups.items k d) ≡ false
 not_planned plan shared pgn bytes sent k d inside none =
     let group = get_or plan.groups.items k d in
@@ -69,8 +85,8 @@ not_planned plan shared pgn bytes sent k d inside none =
       | inr other ↦ other
     ]
 
--- so the group that a message is told as is the one that is planned by its number and its length
-same_group : (plan : Plan) → HasNoPrivate plan → (pgn bytes : ℕ) (sent : Sending) (place : Option ℕ) → IsSentGroup plan pgn bytes sent place
+-- so the group that a message is told as is the one that is planned by its number and its bytes
+same_group : (plan : Plan) → HasNoPrivate plan → (pgn : ℕ) (bytes : List ℕ) (sent : Sending) (place : Option ℕ) → IsSentGroup plan pgn bytes sent place
     → planned plan pgn bytes ≡ place
 same_group plan shared pgn bytes sent (Some place) is =
     let groups = plan.groups.items in
@@ -183,7 +199,7 @@ none_some x e = cc
 
 planned_there : (plan : Plan) → HasNoPrivate plan → (log : List Timed) (f : Frame) (group : Option ℕ) → IsGroupOfMessage plan log (in_frame f) group
     → planned_group plan f ≡ group
-planned_there plan shared log f group is = same_group plan shared (pgn_of f.ident) (length f.payload.items) is.0 group is.2
+planned_there plan shared log f group is = same_group plan shared (pgn_of f.ident) f.payload.items is.0 group is.2
 
 same_packet : (plan : Plan) → HasNoPrivate plan → (log : List Timed) (f : Frame) (p q : Option Packet) → IsFollowedAs plan log f p
     → IsHeardAs plan f q → p ≡ q
@@ -218,9 +234,9 @@ grouped_alike plan log front m sent (Some g) sort t u a b =
     })
 
 message_alike : (plan : Plan) → HasNoPrivate plan → (log : List Timed) (front : List ℕ) (m : Message) (sort : Sort) (t u : List ℕ)
-    → IsMessageReport plan log front m sort t → IsGroupReport plan (planned plan m.pgn (length m.bytes)) m.ident m.bytes u → OneOrNone plan t u
+    → IsMessageReport plan log front m sort t → IsGroupReport plan (planned plan m.pgn m.bytes) m.ident m.bytes u → OneOrNone plan t u
 message_alike plan shared log front m sort t u a b =
-    let same = same_group plan shared m.pgn (length m.bytes) a.0 a.1 a.3 in
+    let same = same_group plan shared m.pgn m.bytes a.0 a.1 a.3 in
     grouped_alike plan log front m a.0 a.1 sort t u a.4 (subst (λ (g : Option ℕ). IsGroupReport plan g m.ident m.bytes u) same b)
 
 -- what `follow` writes of a group at a frame is nothing, or of the message that `read` tells; and where no address changed hands before,
@@ -244,10 +260,10 @@ carried_alike plan shared before log front f p sorts t u (h, since, inl (pgn, by
       | inl (other, words, also, text) ↦
           let number : other ≡ pgn = one_pgn (all ++ p ∷ []) (length all) other pgn words bytes also there in
           let same : words ≡ bytes = one_message (all ++ p ∷ []) (length all) other pgn words bytes also there in
-          let at_number : IsGroupReport plan (planned plan pgn (length words)) f.ident words u =
-          subst (λ (n : ℕ). IsGroupReport plan (planned plan n (length words)) f.ident words u) number text in
-          let at_bytes : IsGroupReport plan (planned plan pgn (length bytes)) f.ident bytes u =
-          subst (λ (w : List ℕ). IsGroupReport plan (planned plan pgn (length w)) f.ident w u) same at_number in
+          let at_number : IsGroupReport plan (planned plan pgn words) f.ident words u =
+          subst (λ (n : ℕ). IsGroupReport plan (planned plan n words) f.ident words u) number text in
+          let at_bytes : IsGroupReport plan (planned plan pgn bytes) f.ident bytes u =
+          subst (λ (w : List ℕ). IsGroupReport plan (planned plan pgn w) f.ident w u) same at_number in
           one_or_none plan before t u
           (message_alike plan shared log front (record { pgn = pgn; bytes = bytes; ident = f.ident; framed = None }) sort t u report at_bytes)
       | inr (none, empty) ↦ absurd (none pgn bytes there)

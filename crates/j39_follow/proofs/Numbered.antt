@@ -15,7 +15,7 @@ false_true : false ≡ true → ⊥
 false_true e = cc
 
 -- a group of another number
-unnumbered : (plan : Plan) (pgn bytes : ℕ) (sent : Sending) (place : ℕ)
+unnumbered : (plan : Plan) (pgn : ℕ) (bytes : List ℕ) (sent : Sending) (place : ℕ)
     → ((d : GroupPlan) → place < length plan.groups.items → has_number pgn (get_or plan.groups.items place d) ≡ false)
     → ¬ MayBeGroup plan pgn bytes sent place
 unnumbered plan pgn bytes sent place other may =
@@ -24,11 +24,11 @@ unnumbered plan pgn bytes sent place other may =
     let is = get_or_from_slice_get groups place may.value may.value may.value_is in
     false_true (sym (other may.value within) ∙ ap (has_number pgn) is ∙ eq-eqb may.value.pgn pgn may.meets.number)
 
-pub not_outside : (plan : Plan) (pgn bytes : ℕ) (sent : Sending) (span : Span) → HasAllOf plan.groups.items pgn span → (place : ℕ)
+pub not_outside : (plan : Plan) (pgn : ℕ) (bytes : List ℕ) (sent : Sending) (span : Span) → HasAllOf plan.groups.items pgn span → (place : ℕ)
     → (place < span.first) ⊎ (span.end ≤ place) → ¬ MayBeGroup plan pgn bytes sent place
 not_outside plan pgn bytes sent span all place out = unnumbered plan pgn bytes sent place (λ d less. all.others place d less out)
 
-pub none_numbered : (plan : Plan) (pgn bytes : ℕ) (sent : Sending) → IsSpanOf plan.groups.items pgn None → (place : ℕ)
+pub none_numbered : (plan : Plan) (pgn : ℕ) (bytes : List ℕ) (sent : Sending) → IsSpanOf plan.groups.items pgn None → (place : ℕ)
     → ¬ MayBeGroup plan pgn bytes sent place
 none_numbered plan pgn bytes sent none place = unnumbered plan pgn bytes sent place (λ d less. none place d less)
 

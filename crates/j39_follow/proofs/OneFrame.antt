@@ -106,7 +106,7 @@ one_told plan log f sorts a b x y =
 
 -- ---- groups
 
-one_group : (plan : Plan) (pgn bytes : ℕ) (sent : Sending) (a b : Option ℕ) → IsSentGroup plan pgn bytes sent a → IsSentGroup plan pgn bytes sent b → a ≡ b
+one_group : (plan : Plan) (pgn : ℕ) (bytes : List ℕ) (sent : Sending) (a b : Option ℕ) → IsSentGroup plan pgn bytes sent a → IsSentGroup plan pgn bytes sent b → a ≡ b
 one_group plan pgn bytes sent (Some g) (Some h) x y = elim (cases_order g h) [
   | inl same ↦ ap Some same
   | inr (inl less) ↦ absurd (y.1 g less x.0)
@@ -120,7 +120,7 @@ one_group_of_message : (plan : Plan) (log : List Timed) (m : Message) (a b : Opt
     → IsGroupOfMessage plan log m b → a ≡ b
 one_group_of_message plan log m a b x y =
     let same = one_sending plan log m x.0 y.0 x.1 y.1 in
-    one_group plan m.pgn (length m.bytes) y.0 a b (subst (λ (s : Sending). IsSentGroup plan m.pgn (length m.bytes) s a) same x.2) y.2
+    one_group plan m.pgn m.bytes y.0 a b (subst (λ (s : Sending). IsSentGroup plan m.pgn m.bytes s a) same x.2) y.2
 
 one_grouped : (plan : Plan) (log : List Timed) (front : List ℕ) (m : Message) (sent : Sending) (group : Option ℕ) (s z : Sort) (t u : List ℕ)
     → IsGrouped plan log front m sent group s t → IsGrouped plan log front m sent group z u → (s ≡ z) × (t ≡ u)
@@ -139,8 +139,8 @@ pub one_message_report : (plan : Plan) (log : List Timed) (front : List ℕ) (m 
     → IsMessageReport plan log front m s t → IsMessageReport plan log front m z u → (s ≡ z) × (t ≡ u)
 one_message_report plan log front m s z t u a b =
     let sent = one_sending plan log m a.0 b.0 a.2 b.2 in
-    let of = subst (λ (x : Sending). IsSentGroup plan m.pgn (length m.bytes) x a.1) sent a.3 in
-    let group = one_group plan m.pgn (length m.bytes) b.0 a.1 b.1 of b.3 in
+    let of = subst (λ (x : Sending). IsSentGroup plan m.pgn m.bytes x a.1) sent a.3 in
+    let group = one_group plan m.pgn m.bytes b.0 a.1 b.1 of b.3 in
     one_grouped plan log front m b.0 b.1 s z t u
     (subst (λ (g : Option ℕ). IsGrouped plan log front m b.0 g s t) group
     (subst (λ (x : Sending). IsGrouped plan log front m x a.1 s t) sent a.4)) b.4

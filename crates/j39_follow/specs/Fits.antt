@@ -1,7 +1,8 @@
 -- The group and the flow of a message: by its number and length, by who sent it, and to whom it went.
-use Rattle.std.specs.Prelude.{◌≡◌, ◌≢◌, ◌<◌, ◌⊎◌, ℕ, nat_le, ◌==◌, ◌&&◌, Bool, true, false, Option, Some, None}
+use Rattle.std.specs.Prelude.{◌≡◌, ◌≢◌, ◌<◌, ◌⊎◌, ℕ, nat_le, ◌==◌, ◌&&◌, Bool, true, false, List, length as count, Option, Some, None}
 use Rattle.std.specs.List.{position}
 use Rattle.std.specs.Option.{option_or}
+use Rattle.j39_signal.specs.Selectors.{is_selected}
 use Rattle.j39_findings.specs.ListPlaces.{ValueAt}
 use Rattle.j39_findings.specs.declared.plan.Plan.{Plan}
 use Rattle.j39_findings.specs.declared.plan.flow_plan.FlowPlan.{FlowPlan}
@@ -45,17 +46,18 @@ fitting_flow plan group sent = option_or (position (fits_all group sent) plan.fl
 abbrev pub may_have_bytes : GroupPlan → ℕ → Bool
 may_have_bytes group bytes = nat_le group.length bytes && nat_le bytes group.most
 
--- the group at this place has the number and so many bytes, and isn't private, or a flow of it fits
-pub record IsPlannedAs (plan : Plan) (pgn bytes : ℕ) (sent : Sending) (place : ℕ) (group : GroupPlan) : Type 0 where
+-- the group at this place has the number and so many bytes, its selector takes them, and it isn't private, or a flow of it fits
+pub record IsPlannedAs (plan : Plan) (pgn : ℕ) (bytes : List ℕ) (sent : Sending) (place : ℕ) (group : GroupPlan) : Type 0 where
   pub number : group.pgn ≡ pgn
-  pub length : may_have_bytes group bytes ≡ true
+  pub length : may_have_bytes group (count bytes) ≡ true
+  pub selected : is_selected group.when bytes ≡ true
   pub own : (group.private ≡ false) ⊎ (fitting_flow plan place sent ≢ None)
 
-abbrev pub MayBeGroup : Plan → ℕ → ℕ → Sending → ℕ → Type 0
+abbrev pub MayBeGroup : Plan → ℕ → List ℕ → Sending → ℕ → Type 0
 MayBeGroup plan pgn bytes sent place = ValueAt (IsPlannedAs plan pgn bytes sent place) plan.groups.items place
 
--- the group of so many bytes of this number: the first that it may be
-abbrev pub IsSentGroup : Plan → ℕ → ℕ → Sending → Option ℕ → Type 0
+-- the group of these bytes of this number: the first that it may be
+abbrev pub IsSentGroup : Plan → ℕ → List ℕ → Sending → Option ℕ → Type 0
 IsSentGroup plan pgn bytes sent (Some place) =
     MayBeGroup plan pgn bytes sent place × ((earlier : ℕ) → earlier < place → ¬ MayBeGroup plan pgn bytes sent earlier)
 IsSentGroup plan pgn bytes sent None = (place : ℕ) → ¬ MayBeGroup plan pgn bytes sent place

@@ -1,6 +1,6 @@
 -- The lines that report what a frame tells, and what was sent.
 use Rattle.std.specs.Prelude.{◌≡◌, ℕ, ◌==◌, ◌||◌, ◌&&◌, Bool, if◌then◌else◌, List, []}
-use Rattle.std.specs.Prelude.{◌∷◌, ◌++◌, codes, decimal, length, map, is_some, option_map, Option, Some, None}
+use Rattle.std.specs.Prelude.{◌∷◌, ◌++◌, codes, decimal, map, is_some, option_map, Option, Some, None}
 use Rattle.std.specs.Option.{option_map_or, option_to_list}
 use Rattle.hex.specs.Hex.{encode_upper}
 use Rattle.j39_id.specs.Addresses.{global_address}
@@ -201,9 +201,9 @@ IsGrouped plan log front m sent None sort text = (sort ≡ Other m.pgn) × (text
 -- the group of a message, as what was sent tells it
 abbrev pub IsGroupOfMessage : Plan → List Timed → Message → Option ℕ → Type 0
 IsGroupOfMessage plan log m group =
-    (sent : Sending) × IsSendingOf plan log m sent × IsSentGroup plan m.pgn (length m.bytes) sent group
+    (sent : Sending) × IsSendingOf plan log m sent × IsSentGroup plan m.pgn m.bytes sent group
 
 abbrev pub IsMessageReport : Plan → List Timed → List ℕ → Message → Sort → List ℕ → Type 0
 IsMessageReport plan log front m sort text =
-    (sent : Sending) × (group : Option ℕ) × IsSendingOf plan log m sent × IsSentGroup plan m.pgn (length m.bytes) sent group
+    (sent : Sending) × (group : Option ℕ) × IsSendingOf plan log m sent × IsSentGroup plan m.pgn m.bytes sent group
     × IsGrouped plan log front m sent group sort text

@@ -132,7 +132,7 @@ pub(crate) fn write_message(
         × (text.new ≡ text.old ++ piece)) }
 {
     let sent = sending_of(parties, message);
-    let Some(group) = group_of(groups, message.pgn, message.bytes.len(), sent) else {
+    let Some(group) = group_of(groups, message.pgn, message.bytes, sent) else {
         return Ok(Sort::Other(message.pgn));
     };
     let flow = flow_of(groups, group, sent);

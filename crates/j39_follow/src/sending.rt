@@ -8,6 +8,7 @@ ghost use Rattle.j39_follow.specs.Fits.{IsSentGroup, MayBeGroup, fits, fits_all,
 
 use j39_findings::{FlowPlan, GroupPlan, To};
 use j39_log::{Groups, Span};
+use j39_signal::is_selected;
 
 /// Whom a message went to. Units are given by their places, from 0.
 #[derive(Clone, Copy, Debug, PartialEq, Eq)]
@@ -136,16 +137,19 @@ fn has_length(group: &GroupPlan, bytes: usize) -> bool
     usize::from(group.length) <= bytes && bytes <= usize::from(group.most)
 }
 
-// Whether a group may be that of so many bytes of this number, as they were sent.
-fn may_be_group(groups: &Groups<'_>, place: usize, pgn: u32, bytes: usize, sent: Sending) -> bool
+// Whether a group may be that of these bytes of this number, as they were sent.
+fn may_be_group(groups: &Groups<'_>, place: usize, pgn: u32, bytes: &[u8], sent: Sending) -> bool
     requires { place < length groups.now.groups.items }
-    ensures { IsTrue result ↔ MayBeGroup groups.now pgn bytes sent place }
+    ensures { IsTrue result ↔ MayBeGroup groups.now pgn bytes.now sent place }
 {
     let group = groups.group(place);
     if group.pgn != pgn {
         return false;
     }
-    if !has_length(group, bytes) {
+    if !has_length(group, bytes.len()) {
+        return false;
+    }
+    if !is_selected(group.when, bytes) {
         return false;
     }
     if !group.private {
@@ -155,9 +159,9 @@ fn may_be_group(groups: &Groups<'_>, place: usize, pgn: u32, bytes: usize, sent:
 }
 
 // The first such group, which stands in the span of its number.
-fn group_in(groups: &Groups<'_>, span: Span, pgn: u32, bytes: usize, sent: Sending) -> Option<usize>
+fn group_in(groups: &Groups<'_>, span: Span, pgn: u32, bytes: &[u8], sent: Sending) -> Option<usize>
     requires { HasAllOf groups.now.groups.items pgn span }
-    ensures { IsSentGroup groups.now pgn bytes sent result }
+    ensures { IsSentGroup groups.now pgn bytes.now sent result }
 {
     for place in span.first..span.end {
         if may_be_group(groups, place, pgn, bytes, sent) {
@@ -167,9 +171,10 @@ fn group_in(groups: &Groups<'_>, span: Span, pgn: u32, bytes: usize, sent: Sendi
     None
 }
 
-/// The group of so many bytes of a number, by its place: the first that isn't private, or that a flow of it fits.
-pub fn group_of(groups: &Groups<'_>, pgn: u32, bytes: usize, sent: Sending) -> Option<usize>
-    ensures { IsSentGroup groups.now pgn bytes sent result }
+/// The group of these bytes of a number, by its place: the first that has so many and whose selector takes them, if it isn't private, or
+/// a flow of it fits.
+pub fn group_of(groups: &Groups<'_>, pgn: u32, bytes: &[u8], sent: Sending) -> Option<usize>
+    ensures { IsSentGroup groups.now pgn bytes.now sent result }
 {
     let Some(span) = groups.span(pgn) else {
         return None;

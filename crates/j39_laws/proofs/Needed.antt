@@ -1,11 +1,11 @@
 -- What a unit needs arrives.
-use Rattle.std.proofs.Common.{◌≡◌, ◌≢◌, ℕ, zero, suc, ◌+◌, ◌<◌, ◌≤◌, ◌⊎◌, ℤ, Bool, true, false, cond, ◌||◌, eqb, List, [], ◌∷◌, ◌++◌, get_or, All}
+use Rattle.std.proofs.Common.{◌≡◌, ◌≢◌, ℕ, zero, suc, ◌+◌, ◌<◌, ◌≤◌, ◌⊎◌, ℤ, Bool, true, false, cond, ◌||◌, eqb, List, [], ◌∷◌, ◌++◌, length, get_or, All}
 use Rattle.std.proofs.Common.{Some, option_map, refl, sym, ap, ◌∙◌, subst, inl, inr, arith}
 use Rattle.std.proofs.lemmas.Bool.{cases_eq, eq-eqb, ne_eqb}
 use Rattle.std.proofs.lemmas.Option.{get_or_from_slice_get, same_Some, slice_get-map, slice_get_within}
 use Rattle.std.specs.List.{HoldsAt, filter, range_with_len, slice_get}
 use Rattle.j39_signal.specs.Bits.{all_ones, raw_of}
-use Rattle.j39_signal.specs.Laid.{Chain, Write, blank, last_payload}
+use Rattle.j39_signal.specs.Laid.{Chain, Write, last_payload}
 use Rattle.j39_signal.specs.Parts.{SignalParts}
 use Rattle.j39_signal.specs.Places.{WidthFits}
 use Rattle.j39_signal.specs.State.{IsRawOf, state_of}
@@ -13,8 +13,7 @@ use Rattle.j39_signal.proofs.Writes.{keeps_writes, ones_read, value_read}
 use Rattle.j39_signal.specs.declared.state.State.TheVariants.{Value}
 use Rattle.j39_findings.specs.Findings.{Clean}
 use Rattle.j39_findings.specs.Records.{signals_in}
-use Rattle.j39_findings.specs.SoundSignals.{ReadsBack, ReadsLastGiven, unset_state}
-use Rattle.j39_findings.specs.Lengths.{IsLengthOf}
+use Rattle.j39_findings.specs.SoundSignals.{IsBlankOf, ReadsBack, ReadsLastGiven, unset_state}
 use Rattle.j39_findings.proofs.CleanLaws.{lays_out_each}
 use Rattle.j39_findings.proofs.LastWrites.{reads_last}
 use Rattle.j39_findings.specs.declared.plan.Plan.{Plan}
@@ -70,34 +69,35 @@ read_back : (s : SignalParts) → WidthFits s → ReadsBack s
 read_back s fits = record { values = value_read s; given_up = ones_read s fits }
 
 -- writes into a message of a clean plan read back
-reads_last_given : (plan : Plan) → Clean plan → All (λ g. (bytes : ℕ) → IsLengthOf g bytes → ReadsLastGiven bytes (signals_in g bytes)) plan.groups.items
-reads_last_given plan clean g d less bytes of =
-    let laid = lays_out_each plan clean g d less bytes of in
-    reads_last _ _ (keeps_writes _ _ laid) (λ s e in_message. read_back _ (laid.widths s e in_message))
+reads_last_given : (plan : Plan) → Clean plan
+    → All (λ g. (start : List ℕ) → IsBlankOf g start → ReadsLastGiven start (signals_in g (length start))) plan.groups.items
+reads_last_given plan clean g d less start of =
+    let laid = lays_out_each plan clean g d less (length start) of.length in
+    reads_last start _ (keeps_writes start _ laid) (λ s e in_message. read_back _ (laid.widths s e in_message))
 
 -- the signals of a message of some group of the plan
-reads_at : (plan : Plan) → Clean plan → (m : NeededMessage plan) → ReadsLastGiven m.count (signals_in m.group m.count)
+reads_at : (plan : Plan) → Clean plan → (m : NeededMessage plan) → ReadsLastGiven m.start (signals_in m.group (length m.start))
 reads_at plan clean m =
     let here : get_or plan.groups.items m.flow.group m.group ≡ m.group = get_or_from_slice_get plan.groups.items m.flow.group m.group m.group m.of in
     let less = slice_get_within plan.groups.items m.flow.group m.group m.of in
-    let all : (bytes : ℕ) → IsLengthOf m.group bytes → ReadsLastGiven bytes (signals_in m.group bytes) =
-    subst (λ (g : GroupPlan). (bytes : ℕ) → IsLengthOf g bytes → ReadsLastGiven bytes (signals_in g bytes)) here
+    let all : (start : List ℕ) → IsBlankOf m.group start → ReadsLastGiven start (signals_in m.group (length start)) =
+    subst (λ (g : GroupPlan). (start : List ℕ) → IsBlankOf g start → ReadsLastGiven start (signals_in g (length start))) here
     (reads_last_given plan clean m.flow.group m.group less) in
-    all m.count m.length
+    all m.start m.blank
 
 -- the signal of a write, read behind these writes, has the value that this one gave it, or is unset where it gave it up
-abbrev ReadsBehind : List SignalParts → ℕ → Write → List Write → Type 0
-ReadsBehind signals count x writes = HoldsAt
-    (λ s. ((value : ℤ) → IsRawOf s value x.raw → state_of s (raw_of (last_payload (blank count) writes) s) ≡ Value value)
-    × (x.raw ≡ all_ones s → state_of s (raw_of (last_payload (blank count) writes) s) ≡ unset_state s)) signals x.place
+abbrev ReadsBehind : List SignalParts → List ℕ → Write → List Write → Type 0
+ReadsBehind signals start x writes = HoldsAt
+    (λ s. ((value : ℤ) → IsRawOf s value x.raw → state_of s (raw_of (last_payload start writes) s) ≡ Value value)
+    × (x.raw ≡ all_ones s → state_of s (raw_of (last_payload start writes) s) ≡ unset_state s)) signals x.place
 
 pub is_read : (plan : Plan) → Clean plan → (m : NeededMessage plan) (x : LastWrite m) → ReadsAsWritten m x x.write.place
 is_read plan clean m x =
-    let chain : Chain (signals_in m.group m.count) (blank m.count) (x.earlier ++ x.write ∷ x.later) = rw x.among at m.chain in
+    let chain : Chain (signals_in m.group (length m.start)) m.start (x.earlier ++ x.write ∷ x.later) = rw x.among at m.chain in
     let read = reads_at plan clean m in
-    let behind : ReadsBehind (signals_in m.group m.count) m.count x.write (x.earlier ++ x.write ∷ x.later) =
+    let behind : ReadsBehind (signals_in m.group (length m.start)) m.start x.write (x.earlier ++ x.write ∷ x.later) =
     λ d. (λ value. read.given x.earlier x.later x.write chain x.last value d, read.given_up x.earlier x.later x.write chain x.last d) in
-    subst (ReadsBehind (signals_in m.group m.count) m.count x.write) (sym x.among) behind
+    subst (ReadsBehind (signals_in m.group (length m.start)) m.start x.write) (sym x.among) behind
 
 -- ---- what is reported
 

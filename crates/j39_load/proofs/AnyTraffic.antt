@@ -1,6 +1,6 @@
 -- A bus whose units keep no order keeps to the premises of its companies; so frames are in time there for which the wait that is told has room.
 use Rattle.std.proofs.Common.{◌≡◌, ℕ, zero, suc, ◌+◌, ◌*◌, ◌-◌, ◌^◌, ◌<◌, ◌≤◌, ◌⊎◌, Bool, true, false, not, cond, ◌&&◌, ◌||◌, eqb, ltb, if◌then◌else◌, List, [], ◌∷◌, ◌++◌, length, get_or, min, All, IfSome, unwrap_or, is_some, Option, Some, None, refl, sym, ap, ◌∙◌, subst, inl, inr, option_map, arith}
-use Rattle.std.proofs.lemmas.Bool.{and_parts, cases_Bool, cases_lt, eq-eqb, eqb-true, false≢true, lt-ltb, ltb-true, or_cases, or_left, or_right, true≢false}
+use Rattle.std.proofs.lemmas.Bool.{and_parts, both_ways, cases_Bool, cases_lt, eq-eqb, eqb-true, false≢true, lt-ltb, ltb-true, or_cases, or_left, or_right, true≢false}
 use Rattle.std.proofs.lemmas.Bool.Decides.{eqb_tells}
 use Rattle.std.proofs.lemmas.List.{get_or-append-add, get_or_append_left, get_or_past}
 use Rattle.std.proofs.lemmas.List.FromFn.{get_or-map-range_with_len}
@@ -17,6 +17,7 @@ use Rattle.j39_load.specs.Damage.{damage_frames}
 use Rattle.j39_load.specs.Delays.{need_of}
 use Rattle.j39_load.specs.LineLists.{lines_of_each}
 use Rattle.j39_load.specs.PlannedFrames.{AreFramesInAnyOrder, KeepToCompany, company_of, no_frames, others_of, planned_at, traffic_of}
+use Rattle.j39_load.specs.Twins.{are_twins, is_same, may_precede}
 use Rattle.j39_load.proofs.LeastKnown.{least_of_both}
 use Rattle.j39_load.proofs.CompanyStreams.{company_room}
 use Rattle.j39_load.proofs.Offering.{offered_read, one_each}
@@ -324,24 +325,24 @@ module _ (timing : Timing) (asked : List (Option FlowFrames)) (paced : All HasPe
 
   -- ---- room beside them
 
-  module _ (waits : List (Option ℕ)) (count : length waits ≡ length asked) (i ident span : ℕ) where
+  module _ (waits : List (Option ℕ)) (count : length waits ≡ length asked) (i : ℕ) (own : FlowFrames) (span : ℕ) where
     abbrev later : List (Option FlowFrames)
     later = offered waits asked ++ damage_frames timing
 
     abbrev part : FlowFrames → ℕ → ℕ → ℕ
-    part f w j = cond (not (eqb j i) && ltb f.least_ident ident) (share span (later_by w f.stream)) 0
+    part f w j = cond (not (eqb j i) && may_precede own f) (share span (later_by w f.stream)) 0
 
     length_offered : length (offered waits asked) ≡ length asked
     length_offered = one_each (λ (p : ℕ) (x : Option FlowFrames). option_map (later_frames (held_at waits p)) x) 0 asked
 
     none_part : (w j : ℕ) → part no_frames w j ≤ 0
-    none_part w j = elim (not (eqb j i) && ltb 0 ident) as (λ e. cond e (share span (later_by w no_frames.stream)) 0 ≤ 0) [
+    none_part w j = elim (not (eqb j i) && may_precede own no_frames) as (λ e. cond e (share span (later_by w no_frames.stream)) 0 ≤ 0) [
       | true ↦ omega arith
       | false ↦ omega arith
     ]
 
     front : (j : ℕ) (o : Option FlowFrames) → j < length asked → get_or asked j None ≡ o
-        → part (planned_at all j) (held_at waits j) j ≤ taken later i ident span j
+        → part (planned_at all j) (held_at waits j) j ≤ taken later i own span j
     front j None below at =
         let here : planned_at all j ≡ no_frames =
         ap (λ (x : Option FlowFrames). unwrap_or x no_frames) (get_or_append_left asked (damage_frames timing) None j below ∙ at) in
@@ -354,12 +355,12 @@ module _ (timing : Timing) (asked : List (Option FlowFrames)) (paced : All HasPe
         ap (λ (f : Option FlowFrames). unwrap_or f no_frames)
         (get_or_append_left (offered waits asked) (damage_frames timing) None j (omega (arith, below, length_offered))
         ∙ offered_read waits asked j below ∙ ap (option_map (later_frames (held_at waits j))) at) in
-        subst (λ (f : FlowFrames). part f (held_at waits j) j ≤ taken later i ident span j) (sym here)
-        (subst (λ (f : FlowFrames). part x (held_at waits j) j ≤ cond (not (eqb j i) && ltb f.least_ident ident) (share span f.stream) 0) (sym there)
+        subst (λ (f : FlowFrames). part f (held_at waits j) j ≤ taken later i own span j) (sym here)
+        (subst (λ (f : FlowFrames). part x (held_at waits j) j ≤ cond (not (eqb j i) && may_precede own f) (share span f.stream) 0) (sym there)
         (omega arith))
 
     behind : (n : ℕ) → part (planned_at all (length asked + n)) (held_at waits (length asked + n)) (length asked + n)
-        ≤ taken later i ident span (length asked + n)
+        ≤ taken later i own span (length asked + n)
     behind n =
         let j : ℕ = length asked + n in
         let here : get_or all (length asked + n) None ≡ get_or (damage_frames timing) n None = get_or-append-add asked (damage_frames timing) n None in
@@ -371,10 +372,10 @@ module _ (timing : Timing) (asked : List (Option FlowFrames)) (paced : All HasPe
         ap (λ (x : Option ℕ). unwrap_or x 0) (get_or_past waits (length asked + n) None (omega (arith, count))) in
         let f : FlowFrames = planned_at all (length asked + n) in
         subst (λ (g : FlowFrames). part (planned_at all (length asked + n)) (held_at waits (length asked + n)) (length asked + n)
-        ≤ cond (not (eqb (length asked + n) i) && ltb g.least_ident ident) (share span g.stream) 0) (sym same)
+        ≤ cond (not (eqb (length asked + n) i) && may_precede own g) (share span g.stream) 0) (sym same)
         (subst (λ (w : ℕ). part (planned_at all (length asked + n)) w (length asked + n)
-        ≤ cond (not (eqb (length asked + n) i) && ltb (planned_at all (length asked + n)).least_ident ident) (share span (planned_at all (length asked + n)).stream) 0)
-        (sym none) (no_later (planned_at all (length asked + n)) (not (eqb (length asked + n) i) && ltb (planned_at all (length asked + n)).least_ident ident)))
+        ≤ cond (not (eqb (length asked + n) i) && may_precede own (planned_at all (length asked + n))) (share span (planned_at all (length asked + n)).stream) 0)
+        (sym none) (no_later (planned_at all (length asked + n)) (not (eqb (length asked + n) i) && may_precede own (planned_at all (length asked + n)))))
       where
         no_later : (f : FlowFrames) (e : Bool) → cond e (share span (later_by 0 f.stream)) 0 ≤ cond e (share span f.stream) 0
         no_later f true =
@@ -384,20 +385,20 @@ module _ (timing : Timing) (asked : List (Option FlowFrames)) (paced : All HasPe
             omega (arith, equal)
         no_later f false = omega arith
 
-    each_part : (j : ℕ) → part (planned_at all j) (held_at waits j) j ≤ taken later i ident span j
+    each_part : (j : ℕ) → part (planned_at all j) (held_at waits j) j ≤ taken later i own span j
     each_part j = elim (cases_lt j (length asked)) [
       | inl below ↦ front j (get_or asked j None) below refl
       | inr past ↦
           let place : length asked + (j - length asked) ≡ j = omega arith in
-          subst (λ (n : ℕ). part (planned_at all n) (held_at waits n) n ≤ taken later i ident span n) place (behind (j - length asked))
+          subst (λ (n : ℕ). part (planned_at all n) (held_at waits n) n ≤ taken later i own span n) place (behind (j - length asked))
     ]
 
-    pub offered_parts : total (length all) (λ j. part (planned_at all j) (held_at waits j) j) ≤ total (length later) (taken later i ident span)
+    pub offered_parts : total (length all) (λ j. part (planned_at all j) (held_at waits j) j) ≤ total (length later) (taken later i own span)
     offered_parts =
-        let most = total-le (length all) (λ j. part (planned_at all j) (held_at waits j) j) (taken later i ident span) (λ j below. each_part j) in
+        let most = total-le (length all) (λ j. part (planned_at all j) (held_at waits j) j) (taken later i own span) (λ j below. each_part j) in
         let same : length later ≡ length all =
         append_same (offered waits asked) asked (damage_frames timing) length_offered in
-        subst (λ (n : ℕ). total (length all) (λ j. part (planned_at all j) (held_at waits j) j) ≤ total n (taken later i ident span)) (sym same) most
+        subst (λ (n : ℕ). total (length all) (λ j. part (planned_at all j) (held_at waits j) j) ≤ total n (taken later i own span)) (sym same) most
       where
         append_same : (xs ys zs : List (Option FlowFrames)) → length xs ≡ length ys → length (xs ++ zs) ≡ length (ys ++ zs)
         append_same [] [] zs same = refl
@@ -417,10 +418,10 @@ module _ (timing : Timing) (asked : List (Option FlowFrames)) (paced : All HasPe
     room =
         let needed : need_of timing (offered offer.waits asked) i frames wait ≤ wait =
         subst (λ (xs : List (Option FlowFrames)). need_of timing xs i frames wait ≤ wait) offers.frames enough in
-        let most = all_before i frames.greatest_ident (wait + 1) timing (offered offer.waits asked) in
-        let parts = offered_parts offer.waits offers.held.count i frames.greatest_ident (wait + 1) in
+        let most = all_before i frames (wait + 1) timing (offered offer.waits asked) in
+        let parts = offered_parts offer.waits offers.held.count i frames (wait + 1) in
         subst (λ (own : FlowFrames). longest_frame 8 * (1 + others_before (others_of timing) own.greatest_ident)
-        + total (length all) (λ j. cond (not (eqb j i) && ltb (planned_at all j).least_ident own.greatest_ident)
+        + total (length all) (λ j. cond (not (eqb j i) && may_precede own (planned_at all j))
         (share (wait + 1) (later_by (held_at offer.waits j) (planned_at all j).stream)) 0) ≤ wait) (sym placed)
         (omega (arith, needed, most, parts))
 
@@ -456,6 +457,18 @@ module _ (timing : Timing) (asked : List (Option FlowFrames)) (paced : All HasPe
             absurd (true≢false (sym ordered ∙ unordered_of frames.any_sender frames.any_receiver (controllers.unit p) own))
       ]
 
+      -- a twin's unit keeps order too
+      no_twin : (j : ℕ) (x : FlowFrames) → get_or asked j None ≡ Some x → keep_order x ≡ false
+          → are_twins (planned_at all i) (planned_at all j) ≡ true → ⊥
+      no_twin j x found_at kept twins =
+          let its : are_twins frames x ≡ true =
+          subst (λ (f : FlowFrames). are_twins f x ≡ true) placed
+          (subst (λ (f : FlowFrames). are_twins (planned_at all i) f ≡ true) (with_damage timing asked j x found_at) twins) in
+          elim (or_cases (keep_order x) (not (keep_order frames)) (and_parts (is_same frames.twin_ident x.twin_ident) (keep_order x || not (keep_order frames)) its).1) [
+            | inl keeps ↦ true≢false (sym keeps ∙ kept)
+            | inr loses ↦ both_ways (not (keep_order frames)) (ap not ordered) loses
+          ]
+
       have : HaveWaits s controllers (traffic_of all) planned of i (held_at offer.waits)
       have p in_p is goes un seen =
           let j = of.source p in
@@ -467,7 +480,12 @@ module _ (timing : Timing) (asked : List (Option FlowFrames)) (paced : All HasPe
           unordered_of x.any_sender x.any_receiver (controllers.unit p)
           (subst (λ (f : FlowFrames). are_of_unit f (controllers.unit p) ≡ true) here its) in
           let low : (planned_at all (of.source p)).least_ident < (planned_at all i).greatest_ident =
-          ltb-true _ _ (and_parts (not (eqb (of.source p) i)) (ltb ((traffic_of all).least (of.source p)) ((traffic_of all).greatest i)) goes).1 in
+          elim (or_cases (ltb (planned_at all (of.source p)).least_ident (planned_at all i).greatest_ident)
+          (are_twins (planned_at all i) (planned_at all (of.source p)))
+          (and_parts (not (eqb (of.source p) i)) (may_precede (planned_at all i) (planned_at all (of.source p))) goes).1) [
+            | inl less ↦ ltb-true _ _ less
+            | inr twins ↦ absurd (no_twin (of.source p) x found_at kept twins)
+          ] in
           let less : x.least_ident < frames.greatest_ident =
           subst (λ (f : FlowFrames). x.least_ident < f.greatest_ident) placed
           (subst (λ (f : FlowFrames). f.least_ident < (planned_at all i).greatest_ident) (with_damage timing asked (of.source p) x found_at) low) in
@@ -488,8 +506,12 @@ module _ (timing : Timing) (asked : List (Option FlowFrames)) (paced : All HasPe
           (held_at offer.waits) have room (subst (λ (own : FlowFrames). IsSingle own.stream) (sym placed) single)
           (subst (λ (own : FlowFrames). delay_of own.stream wait ≤ own.stream.period) (sym placed) fits))
 
-      pub ordered_sent : AreQueuedBehind s planned of i → AreSteady s planned of i → AreSentWithin s planned of i frames.stream wait
-      ordered_sent after steady =
+      pub ordered_sent : frames.twin_ident ≡ None → AreQueuedBehind s planned of i → AreSteady s planned of i → AreSentWithin s planned of i frames.stream wait
+      ordered_sent single after steady =
           subst (λ (own : FlowFrames). AreSentWithin s planned of i own.stream wait) placed
           (ordered_behind s controllers legal (traffic_of all) (others_of timing) (longest_frame 8) planned of i wait known.known positive own_ordered
-          (held_at offer.waits) have room after steady)
+          (held_at offer.waits) have room alone after steady)
+        where
+          alone : (j : ℕ) → (traffic_of all).are_twins i j ≡ false
+          alone j = subst (λ (f : FlowFrames). are_twins f (planned_at all j) ≡ false) (sym placed)
+              (ap (λ (o : Option ℕ). is_same o (planned_at all j).twin_ident && (keep_order (planned_at all j) || not (keep_order frames))) single)

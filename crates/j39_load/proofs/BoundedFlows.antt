@@ -182,7 +182,7 @@ never_long timing offer flow frames limit count told = go (keep_order frames) (m
 module _ (timing : Timing) (asked : List (Option FlowFrames)) (paced : All HasPeriod (asked ++ damage_frames timing))
     (sent : All (λ (f : Option FlowFrames). IfSome f IsSent) asked) (offer : Offer) (is : IsOffer timing asked offer) (place : ℕ) (frames : FlowFrames)
     (at : get_or asked place None ≡ Some frames) (wait : ℕ) (s : Schedule) (controllers : Controllers) (planned : ℕ → Bool) (of : Origins)
-    (legal : IsLegalInAnyOrder s controllers) (turn : ComeInAnyOrder timing asked s controllers planned of place) where
+    (legal : IsLegalInAnyOrder s controllers) (turn : ComeInAnyOrder timing asked s controllers planned of place) (single : frames.twin_ident ≡ None) where
   here : planned_at asked place ≡ frames
   here = ap (λ (o : Option FlowFrames). unwrap_or o no_frames) at
 
@@ -191,7 +191,7 @@ module _ (timing : Timing) (asked : List (Option FlowFrames)) (paced : All HasPe
   ordered_turn ordered true passed told = absurd (none-some wait (sym told))
   ordered_turn ordered false passed told =
       let keeps : keep_order (planned_at asked place) ≡ true = subst (λ (f : FlowFrames). keep_order f ≡ true) (sym here) ordered in
-      ordered_sent timing asked paced sent offer is place frames at ordered passed wait told.1 s controllers planned of legal turn.known
+      ordered_sent timing asked paced sent offer is place frames at ordered passed wait told.1 s controllers planned of legal turn.known single
       (turn.behind keeps) (turn.steady keeps)
 
   unordered_turn : keep_order frames ≡ false → Some wait ≡ get_or offer.waits place None → AreSentWithin s planned of place frames.stream wait

@@ -9,33 +9,12 @@ use Rattle.j39_load.specs.AnyQueues.{blocking_with, is_of_company, leasts_of, st
 use Rattle.j39_load.specs.Damage.{damage_frames, damage_streams, first_of_all}
 use Rattle.j39_load.specs.LineLists.{lines_of_each}
 use Rattle.j39_load.specs.PlannedFrames.{company_of, no_frames, planned_at, traffic_of}
-use Rattle.j39_load.proofs.Before.{more}
-use Rattle.j39_load.proofs.StreamsBefore.{told_of_two}
+use Rattle.j39_load.proofs.StreamsBefore.{taken_within, told_of_two}
 use Rattle.j39_timing.specs.Companies.{HasRoomInCompany}
 use Rattle.j39_timing.specs.FrameBits.{longest_frame}
 use Rattle.j39_timing.specs.Sums.{total}
 use Rattle.j39_timing.specs.Waits.{need, share}
 use Rattle.j39_timing.specs.declared.stream.Stream.{Stream}
-
--- what each place takes is within what is told of it, and so is all of it
-module _ (tell : ℕ → Option FlowFrames → List Stream) (span : ℕ) (taken : ℕ → ℕ) (all : List (Option FlowFrames))
-    (each : (k : ℕ) → k < length all → taken k ≤ sum_by (share span) (tell k (get_or all k None))) where
-  up_to : (k : ℕ) → k ≤ length all → total k taken ≤ sum_by (share span) (lines_of_each tell 0 (take k all))
-  unfolding total
-  up_to zero le = omega arith
-  up_to (suc k) le =
-      let before : total k taken ≤ sum_by (share span) (lines_of_each tell 0 (take k all)) = up_to k (omega arith) in
-      let this : taken k ≤ sum_by (share span) (tell k (get_or all k None)) = each k (omega arith) in
-      let both : sum_by (share span) (lines_of_each tell 0 (take (k + 1) all))
-      ≡ sum_by (share span) (lines_of_each tell 0 (take k all)) + sum_by (share span) (tell k (get_or all k None)) =
-      ap (sum_by (share span)) (more tell k all None (omega arith))
-      ∙ sum_by-append (share span) (lines_of_each tell 0 (take k all)) (tell k (get_or all k None)) in
-      let next : k + 1 ≡ suc k = omega arith in
-      subst (λ (n : ℕ). total k taken + taken k ≤ sum_by (share span) (lines_of_each tell 0 (take n all))) next (omega (arith, before, this, both))
-
-  pub taken_within : total (length all) taken ≤ sum_by (share span) (lines_of_each tell 0 all)
-  taken_within = subst (λ (xs : List (Option FlowFrames)). total (length all) taken ≤ sum_by (share span) (lines_of_each tell 0 xs))
-      (take_all (length all) all (omega arith)) (up_to (length all) (omega arith))
 
 module _ (timing : Timing) (asked : List (Option FlowFrames)) (own : FlowFrames) (level span : ℕ) where
   abbrev leasts : List (Option ℕ)

@@ -1,6 +1,6 @@
--- Two flows of a clean plan whose messages go in one frame have two identifiers, while units hold different addresses; and no request has that
--- of such a flow.
-use Rattle.std.proofs.Common.{◌≡◌, ◌≢◌, ℕ, ◌+◌, ◌*◌, ◌^◌, ◌%◌, ◌<◌, ◌≤◌, Bool, true, false, if◌then◌else◌, inl, inr, Some}
+-- Two flows of a clean plan whose messages go in one frame have two identifiers, while units hold different addresses, unless they are twins;
+-- and no request has that of such a flow.
+use Rattle.std.proofs.Common.{◌≡◌, ◌≢◌, ℕ, ◌+◌, ◌*◌, ◌^◌, ◌%◌, ◌<◌, ◌≤◌, Bool, true, false, if◌then◌else◌, inl, inr, Option, Some, None}
 use Rattle.std.proofs.Common.{refl, sym, ap, ◌∙◌, subst, arith}
 use Rattle.std.proofs.lemmas.Bool.{cases_eq, cases_lt, leb-false, leb-true, true≢false}
 use Rattle.std.proofs.lemmas.Option.{get_or_from_slice_get, slice_get_within}
@@ -9,6 +9,10 @@ use Rattle.j39_id.specs.Ident.{identifier_of}
 use Rattle.j39_id.specs.Pgn.{is_pdu2, pf_of}
 use Rattle.j39_findings.specs.CleanParts.{CanBePlanned}
 use Rattle.j39_findings.specs.Findings.{Clean}
+use Rattle.j39_findings.specs.ListPlaces.{SomeMeets}
+use Rattle.j39_findings.specs.PrivateGroups.{Fits}
+use Rattle.j39_signal.specs.Selectors.{DifferInValue}
+use Rattle.j39_signal.specs.declared.selector.Selector.{Selector}
 use Rattle.j39_findings.specs.declared.checking.finding.Finding.TheVariants.{FlowRepeated, FlowToOne}
 use Rattle.j39_findings.specs.declared.plan.Plan.{Plan}
 use Rattle.j39_findings.specs.declared.plan.flow_plan.FlowPlan.{FlowPlan}
@@ -17,21 +21,21 @@ use Rattle.j39_findings.specs.declared.plan.request_plan.RequestPlan.{RequestPla
 use Rattle.j39_findings.specs.declared.plan.to.To.{To}
 use Rattle.j39_findings.specs.declared.plan.to.To.TheVariants.{All as ToAll, One}
 use Rattle.j39_findings.proofs.CleanLaws.{parts_of}
-use Rattle.j39_findings.proofs.PrivateGroups.{one_fits}
+use Rattle.j39_findings.proofs.PrivateGroups.{one_unless_apart}
 use Rattle.j39_load.specs.Loads.{destination_at, group_ident}
 use Rattle.j39_id.specs.Services.{claim_priority, request as request_group}
-use Rattle.j39_load.specs.Ranks.{AreHeldApart, IsAskedBetween, IsShortFlow}
+use Rattle.j39_load.specs.Ranks.{AreHeldApart, AreTwinFlows, IsAskedBetween, IsShortFlow}
 use Rattle.j39_load.specs.RequestLoads.{request_ident}
 
 -- an identifier tells its group, its source, and in PDU1 its destination
 tells : (p q n m d e s t : ℕ) → n < 131072 → m < 131072 → d < 256 → e < 256 → s < 256 → t < 256 → (pf_of n < 240 → n % 256 ≡ 0)
-    → (pf_of m < 240 → m % 256 ≡ 0) → identifier_of p n d s ≡ identifier_of q m e t → (n ≡ m) × (s ≡ t) × (is_pdu2 n ≡ false → d ≡ e)
+    → (pf_of m < 240 → m % 256 ≡ 0) → identifier_of p n d s ≡ identifier_of q m e t → (p ≡ q) × (n ≡ m) × (s ≡ t) × (is_pdu2 n ≡ false → d ≡ e)
 tells p q n m d e s t n_few m_few d_few e_few s_few t_few n_low m_low = go (is_pdu2 n) (is_pdu2 m) refl refl
   where
     go : (a b : Bool) → is_pdu2 n ≡ a → is_pdu2 m ≡ b
         → p * 2 ^ 26 + n * 2 ^ 8 + (if a then 0 else d * 2 ^ 8) + s ≡ q * 2 ^ 26 + m * 2 ^ 8 + (if b then 0 else e * 2 ^ 8) + t
-        → (n ≡ m) × (s ≡ t) × (a ≡ false → d ≡ e)
-    go true true is_n is_m same = (omega arith, omega arith, λ no. absurd (true≢false no))
+        → (p ≡ q) × (n ≡ m) × (s ≡ t) × (a ≡ false → d ≡ e)
+    go true true is_n is_m same = (omega arith, omega arith, omega arith, λ no. absurd (true≢false no))
     go true false is_n is_m same =
         let high : 240 ≤ pf_of n = leb-true 240 (pf_of n) is_n in
         let below : pf_of m < 240 = leb-false 240 (pf_of m) is_m in
@@ -49,7 +53,12 @@ tells p q n m d e s t n_few m_few d_few e_few s_few t_few n_low m_low = go (is_p
         let low_m : m % 256 ≡ 0 = m_low (leb-false 240 (pf_of m) is_m) in
         let whole : n + d ≡ m + e = omega (arith, same, n_few, m_few, d_few, e_few, s_few, t_few) in
         let sources : s ≡ t = omega (arith, same, whole, s_few, t_few) in
-        (omega (arith, low_n, low_m, whole, d_few, e_few), sources, λ _. omega (arith, low_n, low_m, whole, d_few, e_few))
+        let numbers : n ≡ m = omega (arith, low_n, low_m, whole, d_few, e_few) in
+        (omega (arith, same, numbers, sources, n_few, whole), numbers, sources, λ _. omega (arith, whole, numbers))
+
+no_second : (w : Option Selector) → DifferInValue w None → ⊥
+no_second None none = none
+no_second (Some w) none = none
 
 module _ (plan : Plan) (clean : Clean plan) (on : ℕ → Bool) (held : ℕ → ℕ) (apart : AreHeldApart on held) where
   planned : (g : ℕ) (group : GroupPlan) → slice_get plan.groups.items g ≡ Some group → CanBePlanned group
@@ -89,7 +98,7 @@ module _ (plan : Plan) (clean : Clean plan) (on : ℕ → Bool) (held : ℕ → 
 
   module _ (f h : ℕ) (flow other : FlowPlan) (group second : GroupPlan) (is : IsShortFlow plan on f flow group)
       (its : IsShortFlow plan on h other second) (same : group_ident held group flow ≡ group_ident held second other) where
-    told : (group.pgn ≡ second.pgn) × (held flow.sender ≡ held other.sender)
+    told : (group.priority ≡ second.priority) × (group.pgn ≡ second.pgn) × (held flow.sender ≡ held other.sender)
         × (is_pdu2 group.pgn ≡ false → destination_at held flow.to ≡ destination_at held other.to)
     told =
         let can = planned flow.group group is.sent in
@@ -105,81 +114,82 @@ module _ (plan : Plan) (clean : Clean plan) (on : ℕ → Bool) (held : ℕ → 
       where
         go : (b : Bool) → is_pdu2 group.pgn ≡ b → flow.to ≡ other.to
         go true pdu2 = to_all f flow group is pdu2 flow.to refl
-            ∙ sym (to_all h other second its (ap is_pdu2 (sym told.0) ∙ pdu2) other.to refl)
-        go false pdu1 = one_receiver flow.to other.to is.receiver its.receiver (told.2 pdu1)
+            ∙ sym (to_all h other second its (ap is_pdu2 (sym told.1) ∙ pdu2) other.to refl)
+        go false pdu1 = one_receiver flow.to other.to is.receiver its.receiver (told.3 pdu1)
 
     senders : flow.sender ≡ other.sender
-    senders = one_unit flow.sender other.sender is.sender its.sender told.1
+    senders = one_unit flow.sender other.sender is.sender its.sender told.2
 
-    groups : flow.group ≡ other.group
-    groups = one_fits plan clean group.pgn flow.sender flow.to flow.group other.group
-        (record {
-          value = group;
-          value_is = is.sent;
-          meets = record {
-            number = refl;
-            fits = (
-              f,
-              record {
-                value = flow;
-                value_is = is.its;
-                meets = record {
-                  sends = record { value = group; value_is = is.sent; meets = refl };
-                  from = refl;
-                  reaches = inl refl;
-                };
-              },
-            );
-          };
-        })
-        (record {
-          value = second;
-          value_is = its.sent;
-          meets = record {
-            number = sym told.0;
-            fits = (
-              h,
-              record {
-                value = other;
-                value_is = its.its;
-                meets = record {
-                  sends = record { value = second; value_is = its.sent; meets = refl };
-                  from = sym senders;
-                  reaches = inl (sym to_one_place);
-                };
-              },
-            );
-          };
-        })
+    sent : (at : ℕ) (one : FlowPlan) (its_group : GroupPlan) → IsShortFlow plan on at one its_group → one.sender ≡ flow.sender → one.to ≡ flow.to
+        → SomeMeets (Fits plan its_group flow.sender flow.to) plan.flows.items
+    sent at one its_group short from goes = (
+      at,
+      record {
+        value = one;
+        value_is = short.its;
+        meets = record {
+          sends = record { value = its_group; value_is = short.sent; meets = refl };
+          from = from;
+          reaches = inl goes;
+        };
+      },
+    )
+
+    -- unless both groups are told by their data they are one
+    groups : ¬ DifferInValue group.when second.when → ¬ DifferInValue second.when group.when → flow.group ≡ other.group
+    groups alike likewise =
+        one_unless_apart plan clean flow.sender flow.to flow.group other.group group second is.sent its.sent told.1 alike likewise
+        (sent f flow group is refl refl) (sent h other second its (sym senders) (sym to_one_place))
+
+    -- and their frames have one identifier wherever the units are
+    same_twins : (v w : Selector) → group.when ≡ Some v → second.when ≡ Some w → AreTwinFlows group flow second other
+    same_twins v w first_when second_when =
+        let by_places : group_ident (λ u. u) second other ≡ group_ident (λ u. u) group flow =
+        ap (λ (n : ℕ). identifier_of n second.pgn (destination_at (λ u. u) other.to) other.sender) (sym told.0)
+        ∙ ap (λ (n : ℕ). identifier_of group.priority n (destination_at (λ u. u) other.to) other.sender) (sym told.1)
+        ∙ ap (λ (to : To). identifier_of group.priority group.pgn (destination_at (λ u. u) to) other.sender) (sym to_one_place)
+        ∙ ap (λ (n : ℕ). identifier_of group.priority group.pgn (destination_at (λ u. u) flow.to) n) (sym senders) in (
+          group_ident (λ u. u) group flow,
+          rw (first_when) refl,
+          rw (second_when) (ap Some by_places),
+        )
+
+    -- one flow isn't planned twice
+    only_twins : f ≢ h → AreTwinFlows group flow second other
+    only_twins differ = go group.when second.when refl refl
+      where
+        planned_twice : (v w : Option Selector) → group.when ≡ v → second.when ≡ w → ¬ DifferInValue v w → ¬ DifferInValue w v → ⊥
+        planned_twice v w first_when second_when alike likewise =
+            let one_group : flow.group ≡ other.group =
+            groups (subst (λ (o : Option Selector). ¬ DifferInValue o second.when) (sym first_when) (subst (λ (o : Option Selector). ¬ DifferInValue v o) (sym second_when) alike))
+            (subst (λ (o : Option Selector). ¬ DifferInValue o group.when) (sym second_when) (subst (λ (o : Option Selector). ¬ DifferInValue w o) (sym first_when) likewise)) in
+            elim (cases_lt f h) [
+              | inl before ↦ clean (FlowRepeated f h) (record {
+                first = flow;
+                second = other;
+                below = before;
+                first_is = is.its;
+                second_is = its.its;
+                related = (one_group, senders, to_one_place);
+              })
+              | inr after ↦ clean (FlowRepeated h f) (record {
+                first = other;
+                second = flow;
+                below = omega (arith, after, differ);
+                first_is = its.its;
+                second_is = is.its;
+                related = (sym one_group, sym senders, sym to_one_place);
+              })
+            ]
+
+        go : (v w : Option Selector) → group.when ≡ v → second.when ≡ w → AreTwinFlows group flow second other
+        go (Some v) (Some w) first_when second_when = same_twins v w first_when second_when
+        go None w first_when second_when = absurd (planned_twice None w first_when second_when (λ none. none) (λ none. no_second w none))
+        go (Some v) None first_when second_when = absurd (planned_twice (Some v) None first_when second_when (λ none. none) (λ none. none))
 
   pub different : (f h : ℕ) (flow other : FlowPlan) (group second : GroupPlan) → f ≢ h → IsShortFlow plan on f flow group
-      → IsShortFlow plan on h other second → group_ident held group flow ≢ group_ident held second other
-  different f h flow other group second apart is its same = elim (cases_lt f h) [
-    | inl before ↦ clean (FlowRepeated f h) (record {
-      first = flow;
-      second = other;
-      below = before;
-      first_is = is.its;
-      second_is = its.its;
-      related = (
-        groups f h flow other group second is its same,
-        senders f h flow other group second is its same,
-        to_one_place f h flow other group second is its same,
-      );
-    })
-    | inr after ↦ clean (FlowRepeated h f) (record {
-      first = other;
-      second = flow;
-      below = omega (arith, after, apart);
-      first_is = its.its;
-      second_is = is.its;
-      related = (
-        sym (groups f h flow other group second is its same),
-        sym (senders f h flow other group second is its same),
-        sym (to_one_place f h flow other group second is its same),
-      );
-    })
-  ]
+      → IsShortFlow plan on h other second → group_ident held group flow ≡ group_ident held second other → AreTwinFlows group flow second other
+  different f h flow other group second differ is its same = only_twins f h flow other group second is its same differ
 
   -- requests are a service of the network, which no group of the plan is
   pub other_than_requests : (f : ℕ) (flow : FlowPlan) (group : GroupPlan) → IsShortFlow plan on f flow group → (request : RequestPlan)
@@ -191,4 +201,4 @@ module _ (plan : Plan) (clean : Clean plan) (on : ℕ → Bool) (held : ℕ → 
       let told = tells group.priority claim_priority group.pgn request_group (destination_at held flow.to) (destination_at held request.to)
       (held flow.sender) (held request.sender) can.page (omega arith) (few flow.to is.receiver) (few request.to asked.receiver) (omega (arith, low))
       (omega (arith, less)) can.group.low (λ _. refl) same in
-      can.not_service (1, omega arith, sym told.0)
+      can.not_service (1, omega arith, sym told.1)

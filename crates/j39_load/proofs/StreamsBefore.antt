@@ -1,5 +1,5 @@
 -- The streams that may go before frames take no more than what is told of their places.
-use Rattle.std.proofs.Common.{◌≡◌, ℕ, zero, suc, ◌+◌, ◌<◌, ◌≤◌, Bool, true, false, not, cond, ◌&&◌, eqb, ltb, if◌then◌else◌, List, [], ◌∷◌, ◌++◌, length, take, get_or, map, sum_by, unwrap_or, Option, Some, None}
+use Rattle.std.proofs.Common.{◌≡◌, ℕ, zero, suc, ◌+◌, ◌<◌, ◌≤◌, Bool, true, false, not, cond, ◌&&◌, eqb, if◌then◌else◌, List, [], ◌∷◌, ◌++◌, length, take, get_or, map, sum_by, unwrap_or, Option, Some, None}
 use Rattle.std.proofs.Common.{refl, sym, ap, ◌∙◌, subst, arith, option_map, append_assoc}
 use Rattle.std.proofs.lemmas.List.{get_or_append_left, length-map, take_all}
 use Rattle.std.proofs.lemmas.List.Sums.{sum_by-append, sum_by-cons}
@@ -12,10 +12,11 @@ use Rattle.j39_load.specs.declared.messages.Messages.TheVariants.{Short}
 use Rattle.j39_load.specs.declared.request_load.RequestLoad.{RequestLoad}
 use Rattle.j39_load.specs.declared.unit_load.UnitLoad.{UnitLoad}
 use Rattle.j39_load.specs.Asked.{all_frames, announcements_of_unit, frames_of_flow, frames_of_request, packets_of_unit, singles_of_flow}
-use Rattle.j39_load.specs.Damage.{damage_frames, damage_streams, first_of_all}
+use Rattle.j39_load.specs.Damage.{damage_frames, damage_streams, first_frames, first_of_all}
 use Rattle.j39_load.specs.Delays.{frames_before, going_before, streams_before}
 use Rattle.j39_load.specs.LineLists.{lines_of_each}
-use Rattle.j39_load.specs.PlannedFrames.{no_frames, planned_at, traffic_of}
+use Rattle.j39_load.specs.PlannedFrames.{no_frames, planned_at}
+use Rattle.j39_load.specs.Twins.{may_precede}
 use Rattle.j39_load.proofs.Before.{more}
 use Rattle.j39_timing.specs.Sums.{total}
 use Rattle.j39_timing.specs.Waits.{share}
@@ -40,44 +41,49 @@ told_nothing tell place (first ∷ xs) none (suc k) x at =
 
 -- ---- the streams before
 
-module _ (all : List (Option FlowFrames)) (i ident span : ℕ) where
+-- what each place takes is within what is told of it, and so is all of it
+module _ (tell : ℕ → Option FlowFrames → List Stream) (span : ℕ) (taken : ℕ → ℕ) (all : List (Option FlowFrames))
+    (each : (k : ℕ) → k < length all → taken k ≤ sum_by (share span) (tell k (get_or all k None))) where
+  up_to : (k : ℕ) → k ≤ length all → total k taken ≤ sum_by (share span) (lines_of_each tell 0 (take k all))
+  unfolding total
+  up_to zero le = omega arith
+  up_to (suc k) le =
+      let before : total k taken ≤ sum_by (share span) (lines_of_each tell 0 (take k all)) = up_to k (omega arith) in
+      let this : taken k ≤ sum_by (share span) (tell k (get_or all k None)) = each k (omega arith) in
+      let both : sum_by (share span) (lines_of_each tell 0 (take (k + 1) all))
+      ≡ sum_by (share span) (lines_of_each tell 0 (take k all)) + sum_by (share span) (tell k (get_or all k None)) =
+      ap (sum_by (share span)) (more tell k all None (omega arith))
+      ∙ sum_by-append (share span) (lines_of_each tell 0 (take k all)) (tell k (get_or all k None)) in
+      let next : k + 1 ≡ suc k = omega arith in
+      subst (λ (n : ℕ). total k taken + taken k ≤ sum_by (share span) (lines_of_each tell 0 (take n all))) next (omega (arith, before, this, both))
+
+  pub taken_within : total (length all) taken ≤ sum_by (share span) (lines_of_each tell 0 all)
+  taken_within = subst (λ (xs : List (Option FlowFrames)). total (length all) taken ≤ sum_by (share span) (lines_of_each tell 0 xs))
+      (take_all (length all) all (omega arith)) (up_to (length all) (omega arith))
+
+module _ (all : List (Option FlowFrames)) (i : ℕ) (own : FlowFrames) (span : ℕ) where
   -- what the stream at a place takes
   abbrev pub taken : ℕ → ℕ
-  taken j = cond (not (eqb j i) && ltb ((traffic_of all).least j) ident) (share span ((traffic_of all).stream j)) 0
+  taken j = cond (not (eqb j i) && may_precede own (planned_at all j)) (share span (planned_at all j).stream) 0
 
-  taken_most : (j : ℕ) (frames : Option FlowFrames) → get_or all j None ≡ frames → taken j ≤ sum_by (share span) (going_before i ident j frames)
-  taken_most j None is = rw (is) (elim (not (eqb j i) && ltb 0 ident) as (λ e. cond e (share span no_frames.stream) 0 ≤ sum_by (share span) []) [
+  taken_most : (j : ℕ) (frames : Option FlowFrames) → get_or all j None ≡ frames → taken j ≤ sum_by (share span) (going_before i own j frames)
+  taken_most j None is = rw (is) (elim (not (eqb j i) && may_precede own no_frames) as (λ e. cond e (share span no_frames.stream) 0 ≤ sum_by (share span) []) [
     | true ↦ omega arith
     | false ↦ omega arith
   ])
   taken_most j (Some frames) is = rw (is) (elim (eqb j i)
-      as (λ e. cond (not e && ltb frames.least_ident ident) (share span frames.stream) 0
-      ≤ sum_by (share span) (if e then [] else frames_before ident frames)) [
+      as (λ e. cond (not e && may_precede own frames) (share span frames.stream) 0
+      ≤ sum_by (share span) (if e then [] else frames_before own frames)) [
         | true ↦ omega arith
-        | false ↦ elim (ltb frames.least_ident ident)
+        | false ↦ elim (may_precede own frames)
             as (λ e. cond e (share span frames.stream) 0 ≤ sum_by (share span) (cond e (frames.stream ∷ []) [])) [
               | true ↦ rw (sum_by-cons (share span) frames.stream []) (omega arith)
               | false ↦ omega arith
             ]
       ])
 
-  all_taken : (k : ℕ) → k ≤ length all → total k taken ≤ sum_by (share span) (lines_of_each (going_before i ident) 0 (take k all))
-  unfolding total
-  all_taken zero le = omega arith
-  all_taken (suc k) le =
-      let before : total k taken ≤ sum_by (share span) (lines_of_each (going_before i ident) 0 (take k all)) = all_taken k (omega arith) in
-      let this : taken k ≤ sum_by (share span) (going_before i ident k (get_or all k None)) = taken_most k (get_or all k None) refl in
-      let both : sum_by (share span) (lines_of_each (going_before i ident) 0 (take (k + 1) all))
-      ≡ sum_by (share span) (lines_of_each (going_before i ident) 0 (take k all)) + sum_by (share span) (going_before i ident k (get_or all k None)) =
-      ap (sum_by (share span)) (more (going_before i ident) k all None (omega arith))
-      ∙ sum_by-append (share span) (lines_of_each (going_before i ident) 0 (take k all)) (going_before i ident k (get_or all k None)) in
-      let next : k + 1 ≡ suc k = omega arith in
-      subst (λ (n : ℕ). total k taken + taken k ≤ sum_by (share span) (lines_of_each (going_before i ident) 0 (take n all))) next
-      (omega (arith, before, this, both))
-
-  whole_taken : total (length all) taken ≤ sum_by (share span) (lines_of_each (going_before i ident) 0 all)
-  whole_taken = subst (λ (xs : List (Option FlowFrames)). total (length all) taken ≤ sum_by (share span) (lines_of_each (going_before i ident) 0 xs))
-      (take_all (length all) all (omega arith)) (all_taken (length all) (omega arith))
+  whole_taken : total (length all) taken ≤ sum_by (share span) (lines_of_each (going_before i own) 0 all)
+  whole_taken = taken_within (going_before i own) span taken all (λ k below. taken_most k (get_or all k None) refl)
 
 -- what is told of two lists, one after the other
 pub told_of_two : {X Y : Type 0} (tell : ℕ → X → List Y) (place : ℕ) (xs ys : List X)
@@ -89,34 +95,35 @@ told_of_two tell place (x ∷ xs) ys =
     ∙ ap (λ (n : ℕ). tell place x ++ (lines_of_each tell (place + 1) xs ++ lines_of_each tell n ys)) (omega arith)
     ∙ sym (append_assoc (tell place x) (lines_of_each tell (place + 1) xs) (lines_of_each tell (place + length (x ∷ xs)) ys))
 
-module _ (i ident span : ℕ) where
+module _ (i : ℕ) (own : FlowFrames) (span : ℕ) where
   damage_most : (place : ℕ) (streams : List Stream)
-      → sum_by (share span) (lines_of_each (going_before i ident) place (map first_of_all streams)) ≤ sum_by (share span) streams
+      → sum_by (share span) (lines_of_each (going_before i own) place (map first_of_all streams)) ≤ sum_by (share span) streams
   unfolding lines_of_each
   damage_most place [] = omega arith
   damage_most place (stream ∷ streams) =
-      let first : sum_by (share span) (going_before i ident place (first_of_all stream)) ≤ share span stream = go (eqb place i) (ltb 0 ident) in
+      let first : sum_by (share span) (going_before i own place (first_of_all stream)) ≤ share span stream =
+      go (eqb place i) (may_precede own (first_frames stream)) in
       let rest = damage_most (place + 1) streams in
-      let parts = sum_by-append (share span) (going_before i ident place (first_of_all stream))
-      (lines_of_each (going_before i ident) (place + 1) (map first_of_all streams)) in
+      let parts = sum_by-append (share span) (going_before i own place (first_of_all stream))
+      (lines_of_each (going_before i own) (place + 1) (map first_of_all streams)) in
       let one = sum_by-cons (share span) stream streams in
       omega (arith, first, rest, parts, one)
     where
-      go : (same less : Bool) → sum_by (share span) (if same then [] else (if less then stream ∷ [] else [])) ≤ share span stream
-      go true less = omega arith
+      go : (same goes : Bool) → sum_by (share span) (if same then [] else (if goes then stream ∷ [] else [])) ≤ share span stream
+      go true goes = omega arith
       go false true = rw (sum_by-cons (share span) stream []) (omega arith)
       go false false = omega arith
 
   -- with what comes of damage
   pub all_before : (timing : Timing) (all : List (Option FlowFrames))
-      → total (length (all ++ damage_frames timing)) (taken (all ++ damage_frames timing) i ident span)
-      ≤ sum_by (share span) (streams_before timing i ident all)
+      → total (length (all ++ damage_frames timing)) (taken (all ++ damage_frames timing) i own span)
+      ≤ sum_by (share span) (streams_before timing i own all)
   all_before timing all =
-      let whole = whole_taken (all ++ damage_frames timing) i ident span in
-      let two = ap (sum_by (share span)) (told_of_two (going_before i ident) 0 all (damage_frames timing)) in
-      let parts = sum_by-append (share span) (lines_of_each (going_before i ident) 0 all) (lines_of_each (going_before i ident) (0 + length all) (damage_frames timing)) in
+      let whole = whole_taken (all ++ damage_frames timing) i own span in
+      let two = ap (sum_by (share span)) (told_of_two (going_before i own) 0 all (damage_frames timing)) in
+      let parts = sum_by-append (share span) (lines_of_each (going_before i own) 0 all) (lines_of_each (going_before i own) (0 + length all) (damage_frames timing)) in
       let damage = damage_most (0 + length all) (damage_streams timing) in
-      let needed = sum_by-append (share span) (damage_streams timing) (lines_of_each (going_before i ident) 0 all) in
+      let needed = sum_by-append (share span) (damage_streams timing) (lines_of_each (going_before i own) 0 all) in
       omega (arith, whole, two, parts, damage, needed)
 
 -- where something is read there is a place

@@ -76,14 +76,20 @@ module _ (announcement gap packet : ℕ) where
 by_broadcasts : (timing : Timing) (units : List UnitPlan) (stays : UnitPlan → Bool) (u : ℕ) (broadcasts : List Broadcast) (load : UnitLoad)
     → known_unit_load timing units stays u broadcasts ≡ Some load
     → (load.flows ≡ length broadcasts) × (load.all_packets ≡ sum_by (λ (b : Broadcast). b.packets) broadcasts)
+    × (load.announcements.twin_ident ≡ None) × (load.packets.twin_ident ≡ None)
 by_broadcasts timing units stays u [] load is = absurd (none-some load is)
 by_broadcasts timing units stays u (b ∷ bs) load is =
-    let same = same_Some _ load is in
-    (sym (ap (λ (l : UnitLoad). l.flows) same), sym (ap (λ (l : UnitLoad). l.all_packets) same))
+    let same = same_Some _ load is in (
+      sym (ap (λ (l : UnitLoad). l.flows) same),
+      sym (ap (λ (l : UnitLoad). l.all_packets) same),
+      sym (ap (λ (l : UnitLoad). l.announcements.twin_ident) same),
+      sym (ap (λ (l : UnitLoad). l.packets.twin_ident) same),
+    )
 
 of_unit_load : (timing : Timing) (units : List UnitPlan) (stays : UnitPlan → Bool) (flows : List (Option FlowLoad)) (u : ℕ) (load : UnitLoad)
     → get_or (unit_loads_of timing units stays flows) u None ≡ Some load
     → (load.flows ≡ length (broadcasts_by u flows)) × (load.all_packets ≡ sum_by (λ (b : Broadcast). b.packets) (broadcasts_by u flows))
+    × (load.announcements.twin_ident ≡ None) × (load.packets.twin_ident ≡ None)
 of_unit_load timing units stays [] u load is = absurd (none-some load is)
 of_unit_load timing units stays (flow ∷ flows) u load is =
     let tell : ℕ → Option UnitLoad = λ v. known_unit_load timing units stays v (broadcasts_by v (flow ∷ flows)) in
@@ -159,11 +165,11 @@ module _ (plan : Plan) (timing : Timing) (stays : UnitPlan → Bool) where
           let a = announcements_place asked u in
           let p = packets_place asked u in
           let gap = bits_of_ms timing timing.broadcast_gap_most in
-          let announcements = sent_in_any_order timing (frames_asked asked) (all_paced timing plan stays) (all_sent timing plan stays) offer is_offer
-          a load.announcements (announcements_read asked u load its) announced s controllers planned of legal of_announcements first in
-          let packets = sent_in_any_order timing (frames_asked asked) (all_paced timing plan stays) (all_sent timing plan stays) offer is_offer
-          p load.packets (packets_read asked u load its) sent s controllers planned of legal of_packets rest in
           let counts = of_unit_load timing plan.units.items stays asked.flows u load its in
+          let announcements = sent_in_any_order timing (frames_asked asked) (all_paced timing plan stays) (all_sent timing plan stays) offer is_offer
+          a load.announcements (announcements_read asked u load its) announced s controllers planned of legal of_announcements counts.2 first in
+          let packets = sent_in_any_order timing (frames_asked asked) (all_paced timing plan stays) (all_sent timing plan stays) offer is_offer
+          p load.packets (packets_read asked u load its) sent s controllers planned of legal of_packets counts.3 rest in
           let most : time_of_messages (announced + load.announcements.stream.bits) gap (sent + load.packets.stream.bits) messages
           ≤ turn_time timing load announced sent =
           subst (λ (n : ℕ). time_of_messages (announced + load.announcements.stream.bits) gap (sent + load.packets.stream.bits) messages

@@ -78,6 +78,7 @@ with_unplanned timing own = record {
   any_sender = own.any_sender;
   any_receiver = own.any_receiver;
   last_ident = if timing.unplanned == 0 then own.last_ident else 2 ^ 29;
+  twin_ident = own.twin_ident;
 }
 
 -- ---- waits
@@ -134,6 +135,7 @@ later_frames more frames = record {
   any_sender = frames.any_sender;
   any_receiver = frames.any_receiver;
   last_ident = frames.last_ident;
+  twin_ident = frames.twin_ident;
 }
 
 -- the wait at a place, where it is known

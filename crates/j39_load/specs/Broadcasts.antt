@@ -54,6 +54,7 @@ broadcast_frames timing units stays pgn u gaps = record {
   any_sender = any_unit units u;
   any_receiver = None;
   last_ident = broadcast_ident timing pgn (of_unit units (greatest_address stays)) u;
+  twin_ident = None;
 }
 
 -- the bits that so many frames take in a second at most, which are sent again after so many milliseconds

@@ -20,9 +20,19 @@ damage_streams timing =
     option_map_or (λ rate. damage_stream timing rate (longest_frame frame_bytes) ∷ damage_stream timing rate error_frame ∷ []) timing.errors []
 
 -- as frames of the least identifier
+abbrev pub first_frames : Stream → FlowFrames
+first_frames stream = record {
+  stream = stream;
+  least_ident = 0;
+  greatest_ident = 0;
+  any_sender = None;
+  any_receiver = None;
+  last_ident = 0;
+  twin_ident = None;
+}
+
 abbrev pub first_of_all : Stream → Option FlowFrames
-first_of_all stream =
-    Some (record { stream = stream; least_ident = 0; greatest_ident = 0; any_sender = None; any_receiver = None; last_ident = 0 })
+first_of_all stream = Some (first_frames stream)
 
 abbrev pub damage_frames : Timing → List (Option FlowFrames)
 damage_frames timing = map first_of_all (damage_streams timing)

@@ -1,6 +1,6 @@
 -- How long the messages of each flow take, from their moments: the waits of frames (Davis, Burns, Bril, Lukkien,
 -- Real-Time Systems 35, 2007), and when a long message to all is whole.
-use Rattle.std.specs.Prelude.{◌≡◌, ℕ, ◌+◌, ◌*◌, ◌^◌, ◌<◌, ◌≤◌, ◌==◌, nat_le, nat_lt, if◌then◌else◌, List, [], ◌∷◌, ◌++◌, length, slice_index_or, Option, Some, None}
+use Rattle.std.specs.Prelude.{◌≡◌, ℕ, ◌+◌, ◌*◌, ◌^◌, ◌<◌, ◌≤◌, ◌==◌, nat_le, if◌then◌else◌, List, [], ◌∷◌, ◌++◌, length, slice_index_or, Option, Some, None}
 use Rattle.std.specs.Bool.{MatchBool}
 use Rattle.std.specs.List.{slice_get}
 use Rattle.std.specs.Option.{option_map}
@@ -19,6 +19,7 @@ use Rattle.j39_load.specs.Asked.{Asked, frames_asked}
 use Rattle.j39_load.specs.Damage.{damage_streams}
 use Rattle.j39_load.specs.Loads.{bits_of_ms, frames_to_all, longest_wait}
 use Rattle.j39_load.specs.LineLists.{lines_of_each}
+use Rattle.j39_load.specs.Twins.{may_precede}
 use Rattle.j39_timing.specs.FrameBits.{longest_frame}
 use Rattle.j39_timing.specs.Traffic.{delay_of}
 use Rattle.j39_timing.specs.Waits.{HaveNoRoom, need}
@@ -32,26 +33,26 @@ unplanned_idents timing = timing.unplanned_priority * 2 ^ 26
 abbrev pub blocking : Timing → ℕ → ℕ
 blocking timing ident = longest_frame 8 * (1 + (if nat_le (unplanned_idents timing) ident then timing.unplanned else 0))
 
--- the stream of these frames, where one of them may go before one of this identifier, whatever addresses the units come to hold
-abbrev pub frames_before : ℕ → FlowFrames → List Stream
-frames_before ident frames = if nat_lt frames.least_ident ident then frames.stream ∷ [] else []
+-- the stream of these frames, where one of them may go before one of those
+abbrev pub frames_before : FlowFrames → FlowFrames → List Stream
+frames_before own frames = if may_precede own frames then frames.stream ∷ [] else []
 
 -- that of the frames at this place, where they are others than those at a place
-abbrev pub going_before : ℕ → ℕ → ℕ → Option FlowFrames → List Stream
-going_before i ident place None = []
-going_before i ident place (Some frames) = if place == i then [] else frames_before ident frames
+abbrev pub going_before : ℕ → FlowFrames → ℕ → Option FlowFrames → List Stream
+going_before i own place None = []
+going_before i own place (Some frames) = if place == i then [] else frames_before own frames
 
 -- those of all frames, and of what comes of damage
-abbrev pub streams_before : Timing → ℕ → ℕ → List (Option FlowFrames) → List Stream
-streams_before timing i ident frames = damage_streams timing ++ lines_of_each (going_before i ident) 0 frames
+abbrev pub streams_before : Timing → ℕ → FlowFrames → List (Option FlowFrames) → List Stream
+streams_before timing i own all = damage_streams timing ++ lines_of_each (going_before i own) 0 all
 
 -- what a wait of so many bits of a frame of these, at their place among all, has to have room for
 abbrev pub need_of : Timing → List (Option FlowFrames) → ℕ → FlowFrames → ℕ → ℕ
-need_of timing all i frames wait = need (blocking timing frames.greatest_ident) (streams_before timing i frames.greatest_ident all) wait
+need_of timing all i frames wait = need (blocking timing frames.greatest_ident) (streams_before timing i frames all) wait
 
 -- and that no shorter wait has
 abbrev pub IsLeastWait : Timing → List (Option FlowFrames) → ℕ → FlowFrames → ℕ → Type 0
-IsLeastWait timing all i frames wait = HaveNoRoom (blocking timing frames.greatest_ident) (streams_before timing i frames.greatest_ident all) wait
+IsLeastWait timing all i frames wait = HaveNoRoom (blocking timing frames.greatest_ident) (streams_before timing i frames all) wait
 
 -- the wait has room, and its delay is within the limit
 pub record IsInTime (timing : Timing) (all : List (Option FlowFrames)) (i : ℕ) (frames : FlowFrames) (limit wait : ℕ) : Type 0 where

@@ -13,4 +13,5 @@ pub mod Ranks
 pub mod RequestLoads
 pub mod SoundLoads
 pub mod Standing
+pub mod Twins
 pub mod inside

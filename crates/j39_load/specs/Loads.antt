@@ -141,6 +141,11 @@ abbrev pub session_ident : Timing → (ℕ → ℕ) → FlowPlan → ℕ → ℕ
 session_ident timing held flow v = max (transport_ident timing connection_management (held v) (held flow.sender))
     (transport_ident timing connection_management (held flow.sender) (held v))
 
+-- where the group is told by its data, the identifier that the flow's frames would have if each unit's address was its place: flows with one
+-- such number are those whose frames have one identifier
+abbrev pub twin_ident : GroupPlan → FlowPlan → Option ℕ
+twin_ident group flow = option_map (λ _. group_ident (λ u. u) group flow) group.when
+
 -- ---- flows
 
 -- within so many milliseconds each frame of the flow has to be on the bus: those that are written, or its period
@@ -164,6 +169,7 @@ single_frames timing units stays flow pace group = record {
   any_sender = any_unit units flow.sender;
   any_receiver = None;
   last_ident = group_ident (of_unit units (greatest_address stays)) group flow;
+  twin_ident = twin_ident group flow;
 }
 
 -- those of its long messages to the unit at a place, each of so many packets
@@ -175,6 +181,7 @@ packet_frames timing units stays flow v pace packets = record {
   any_sender = any_unit units flow.sender;
   any_receiver = any_unit units v;
   last_ident = session_ident timing (of_unit units (greatest_address stays)) flow v;
+  twin_ident = None;
 }
 
 -- its long messages to all, by its sender. Those of the transport protocol have two packets at least

@@ -18,6 +18,7 @@ use Rattle.j39_load.specs.Damage.{damage_frames}
 use Rattle.j39_load.specs.Delays.{IsFrameDelay, IsWholeTime, announcements_place, packets_place, unplanned_idents}
 use Rattle.j39_load.specs.LoadFindings.{AsksOfBus}
 use Rattle.j39_load.specs.Loads.{bits_of_ms}
+use Rattle.j39_load.specs.Twins.{are_twins}
 use Rattle.j39_timing.specs.AnyOrder.{Controllers, IsLegalInAnyOrder, IsUnordered}
 use Rattle.j39_timing.specs.Companies.{Company, CompanyWaits, unplanned_queued}
 use Rattle.j39_timing.specs.FrameBits.{longest_frame}
@@ -35,6 +36,7 @@ no_frames = record {
   any_sender = None;
   any_receiver = None;
   last_ident = 0;
+  twin_ident = None;
 }
 
 -- the frames at a place
@@ -48,6 +50,7 @@ traffic_of all = record {
   stream = λ j. (planned_at all j).stream;
   least = λ j. (planned_at all j).least_ident;
   greatest = λ j. (planned_at all j).greatest_ident;
+  are_twins = λ i j. are_twins (planned_at all i) (planned_at all j);
 }
 
 -- what is of no planned flow has the priority that is told of it

@@ -10,7 +10,7 @@ use Rattle.j39_findings.specs.declared.plan.request_plan.RequestPlan.{RequestPla
 use Rattle.j39_findings.specs.declared.plan.timing.Timing.{Timing}
 use Rattle.j39_findings.specs.declared.plan.to.To.TheVariants.{One}
 use Rattle.j39_findings.specs.declared.plan.unit_plan.UnitPlan.{UnitPlan}
-use Rattle.j39_load.specs.Loads.{broadcast_ident, greatest_address, group_ident, is_always_short, least_address, of_unit, packet_ident}
+use Rattle.j39_load.specs.Loads.{broadcast_ident, greatest_address, group_ident, is_always_short, least_address, of_unit, packet_ident, twin_ident}
 use Rattle.j39_load.specs.RequestLoads.{request_ident}
 use Rattle.j39_world.specs.PlannedUnits.{unit_at, units_of}
 use Rattle.j39_world.specs.Staying.{StaysBeside}
@@ -55,6 +55,10 @@ pub record IsShortFlow (plan : Plan) (on : ℕ → Bool) (place : ℕ) (flow : F
   pub short : is_always_short group ≡ true
   pub sender : on flow.sender ≡ true
   pub receiver : (v : ℕ) → flow.to ≡ One v → on v ≡ true
+
+-- the groups of two flows are told by their data, and their frames have one identifier wherever the units are
+abbrev pub AreTwinFlows : GroupPlan → FlowPlan → GroupPlan → FlowPlan → Type 0
+AreTwinFlows group flow second other = (n : ℕ) × (twin_ident group flow ≡ Some n) × (twin_ident second other ≡ Some n)
 
 -- a request of a unit that is on, to one that is on or to all
 pub record IsAskedBetween (on : ℕ → Bool) (request : RequestPlan) : Type 0 where

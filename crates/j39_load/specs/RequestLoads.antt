@@ -33,6 +33,7 @@ request_load timing units stays request period = record {
     any_sender = any_unit units request.sender;
     any_receiver = None;
     last_ident = request_ident (of_unit units (greatest_address stays)) request;
+    twin_ident = None;
   };
   bits_per_second = load_of (request_stream timing period) period;
 }

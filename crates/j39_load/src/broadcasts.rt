@@ -149,6 +149,7 @@ fn broadcast_frames(
         any_sender: any_unit(units, unit),
         any_receiver: None,
         last_ident: greatest_ident,
+        twin_ident: None,
     }
 }
 

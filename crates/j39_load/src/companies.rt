@@ -177,6 +177,7 @@ fn with_unplanned(timing: Timing, own: &FlowFrames) -> FlowFrames
         any_sender: own.any_sender,
         any_receiver: own.any_receiver,
         last_ident,
+        twin_ident: own.twin_ident,
     }
 }
 

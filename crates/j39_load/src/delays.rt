@@ -16,6 +16,7 @@ use crate::flow_load::FlowLoad;
 use crate::messages::Messages;
 use crate::offers::Offers;
 use crate::streams::{bits_of_ms, frames_to_all};
+use crate::twins::may_precede;
 use crate::whole_time::WholeTime;
 use j39_findings::Timing;
 use j39_timing::{Stream, frame_bits, least_wait};
@@ -33,15 +34,19 @@ fn blocking(timing: Timing, ident: u64) -> u32
     u32::from(frame_bits(8)) * (1 + unplanned)
 }
 
-// Adds the stream of these frames, where one of them may go before one of this identifier.
-fn add_frames(streams: &mut Vec<Stream>, ident: u64, frames: &FlowFrames) -> Result<(), AllocError>
+// Adds the stream of these frames, where one of them may go before one of those.
+fn add_frames(
+    streams: &mut Vec<Stream>,
+    own: &FlowFrames,
+    frames: &FlowFrames,
+) -> Result<(), AllocError>
     requires frames { IsStream frames.now.stream }
     requires streams { All IsStream streams.old.items }
-    ensures streams { OnOk result (streams.new.items ≡ streams.old.items ++ frames_before ident frames.now) }
+    ensures streams { OnOk result (streams.new.items ≡ streams.old.items ++ frames_before own.now frames.now) }
     ensures fit { OnOk result (All IsStream streams.new.items) }
     ensures few { OnOk result (length streams.new.items ≤ length streams.old.items + 1) }
 {
-    if frames.least_ident < ident {
+    if may_precede(own, frames) {
         streams.push(frames.stream)?;
     }
     Ok(())
@@ -51,13 +56,13 @@ fn add_frames(streams: &mut Vec<Stream>, ident: u64, frames: &FlowFrames) -> Res
 fn add_other(
     streams: &mut Vec<Stream>,
     i: usize,
-    ident: u64,
+    own: &FlowFrames,
     place: usize,
     frames: &Option<FlowFrames>,
 ) -> Result<(), AllocError>
     requires frames { FitIfAny frames.now }
     requires streams { All IsStream streams.old.items }
-    ensures streams { OnOk result (streams.new.items ≡ streams.old.items ++ going_before i ident place frames.now) }
+    ensures streams { OnOk result (streams.new.items ≡ streams.old.items ++ going_before i own.now place frames.now) }
     ensures fit { OnOk result (All IsStream streams.new.items) }
     ensures few { OnOk result (length streams.new.items ≤ length streams.old.items + 1) }
 {
@@ -67,27 +72,27 @@ fn add_other(
     if place == i {
         return Ok(());
     }
-    add_frames(streams, ident, frames)
+    add_frames(streams, own, frames)
 }
 
-// The streams of what comes of damage, and of all frames but those at a place of which one may go before one of this identifier.
+// The streams of what comes of damage, and of all frames but those at a place of which one may go before one of these.
 #[tactic(auto, unfolding(crate::specs::LineLists::lines_of_each))]
 fn streams_before(
     alloc: Global,
     timing: Timing,
     all: &[Option<FlowFrames>],
     i: usize,
-    ident: u64,
+    own: &FlowFrames,
 ) -> Result<Vec<Stream>, AllocError>
     requires { All FitIfAny all.now }
-    ensures streams { IfOk result (λ streams. streams.items ≡ streams_before timing i ident all.now) }
+    ensures streams { IfOk result (λ streams. streams.items ≡ streams_before timing i own.now all.now) }
     ensures fit { IfOk result (λ streams. All IsStream streams.items) }
     ensures few { IfOk result (λ streams. length streams.items ≤ length all.now + 2) }
 {
     let mut streams = Vec::new(alloc);
     add_damage(&mut streams, timing)?;
     for (place, frames) in all.iter().enumerate() {
-        add_other(&mut streams, i, ident, place, frames)?;
+        add_other(&mut streams, i, own, place, frames)?;
     }
     Ok(streams)
 }
@@ -105,7 +110,7 @@ fn wait_of(
     ensures wait { IfOk result (IsWaitOf timing all.now place frames.now) }
     ensures short { IfOk result (λ wait. ForSome wait (λ bits. bits < 2 ^ 27)) }
 {
-    let streams = streams_before(alloc, timing, all, place, frames.greatest_ident)?;
+    let streams = streams_before(alloc, timing, all, place, frames)?;
     let blocking = blocking(timing, frames.greatest_ident);
     let most = bits_of_ms(timing, 65_535);
     match least_wait(blocking, streams.as_slice(), most) {
@@ -156,7 +161,7 @@ fn short_delay(
     if limit < own {
         return Ok(Delay::Late);
     }
-    let streams = streams_before(alloc, timing, all, flow, frames.greatest_ident)?;
+    let streams = streams_before(alloc, timing, all, flow, frames)?;
     let blocking = blocking(timing, frames.greatest_ident);
     match least_wait(blocking, streams.as_slice(), limit - own) {
         Some(wait) => Ok(Delay::Within(wait + own)),

@@ -16,4 +16,6 @@ pub struct FlowFrames {
     pub any_receiver: Option<usize>,
     /// No frame has a larger identifier, answers included.
     pub last_ident: u64,
+    /// What only frames have in common whose identifiers are the same on every bus, where they are of a group that is told by its data.
+    pub twin_ident: Option<u64>,
 }

@@ -2,6 +2,7 @@
 ghost use Rattle.std.specs.Prelude.{◌≡◌, ◌≢◌, [], ◌^◌, ◌<◌, ◌≤◌, ℕ, max, All, length, IfOk, OnErr};
 ghost use Rattle.j39_findings.specs.declared.plan.to.To.TheVariants.{One};
 ghost use Rattle.std.specs.Option.{option_map};
+ghost use Rattle.j39_id.specs.Limits.{unit_limit};
 ghost use Rattle.j39_load.specs.Loads.{bits_of_ms as bits_in_ms, broadcast_of, flow_load, load_of_flow, load_of_messages, loads_of, messages_of, packet_frames};
 ghost use Rattle.j39_load.specs.Loads.{single_frames, singles_of, time_limit};
 ghost use Rattle.j39_load.specs.SoundLoads.{AreSound, AreSoundIfAny, AreSoundMessages, IsSoundBroadcast, IsSoundIfKnown, IsSoundLoad};
@@ -13,7 +14,7 @@ use crate::broadcast::Broadcast;
 use crate::extreme::Extreme;
 use crate::flow_frames::FlowFrames;
 use crate::flow_load::FlowLoad;
-use crate::identifiers::{any_unit, group_ident, packet_ident, session_ident};
+use crate::identifiers::{any_unit, group_ident, packet_ident, session_ident, twin_ident};
 use crate::messages::Messages;
 use crate::standing::Standing;
 use crate::streams::{bits_of_ms, load, packet_stream, single_stream};
@@ -42,6 +43,7 @@ fn single_frames(
 ) -> FlowFrames
     requires sender { flow.now.sender < length units.now }
     requires receiver { (v : ℕ) → flow.now.to ≡ One v → v < length units.now }
+    requires units { length units.now ≤ unit_limit }
     ensures frames { result ≡ single_frames timing units.now (stays_of standing.now) flow.now pace group.now }
     ensures fits { AreSound result }
     ensures few { result.stream.frames ≤ 512 }
@@ -54,6 +56,7 @@ fn single_frames(
         any_sender: any_unit(units, flow.sender),
         any_receiver: None,
         last_ident: greatest_ident,
+        twin_ident: twin_ident(group, flow),
     }
 }
 
@@ -81,6 +84,7 @@ fn packet_frames(
         any_sender: any_unit(units, flow.sender),
         any_receiver: any_unit(units, unit),
         last_ident: session_ident(timing, units, standing, Extreme::Greatest, flow, unit),
+        twin_ident: None,
     }
 }
 
@@ -137,6 +141,7 @@ fn messages_of(
 ) -> Messages
     requires sender { flow.now.sender < length units.now }
     requires receiver { (v : ℕ) → flow.now.to ≡ One v → v < length units.now }
+    requires units { length units.now ≤ unit_limit }
     ensures messages { result ≡ messages_of timing units.now (stays_of standing.now) flow.now pace group.now }
     ensures sound { AreSoundMessages result }
     ensures few { HaveFewFrames result }
@@ -165,6 +170,7 @@ fn singles_of(
 ) -> Option<FlowFrames>
     requires sender { flow.now.sender < length units.now }
     requires receiver { (v : ℕ) → flow.now.to ≡ One v → v < length units.now }
+    requires units { length units.now ≤ unit_limit }
     ensures singles { result ≡ singles_of timing units.now (stays_of standing.now) flow.now pace group.now }
     ensures fits { AreSoundIfAny result }
 {
@@ -200,6 +206,7 @@ fn flow_load(
 ) -> FlowLoad
     requires sender { flow.now.sender < length units.now }
     requires receiver { (v : ℕ) → flow.now.to ≡ One v → v < length units.now }
+    requires units { length units.now ≤ unit_limit }
     ensures load { result ≡ flow_load timing units.now (stays_of standing.now) flow.now pace group.now }
     ensures sound { IsSoundLoad result }
 {

@@ -1,8 +1,9 @@
 //! Identifiers of the frames of a flow, and of requests.
 ghost use Rattle.std.specs.Prelude.{◌≡◌, ◌<◌, ℕ, length, max};
 ghost use Rattle.j39_id.specs.Ident.{identifier_of};
+ghost use Rattle.j39_id.specs.Limits.{unit_limit};
 ghost use Rattle.j39_findings.specs.declared.plan.to.To.TheVariants.{One};
-ghost use Rattle.j39_load.specs.Loads.{any_unit, broadcast_ident, destination_at, group_ident, of_unit, packet_ident, session_ident};
+ghost use Rattle.j39_load.specs.Loads.{any_unit, broadcast_ident, destination_at, group_ident, of_unit, packet_ident, session_ident, twin_ident};
 ghost use Rattle.j39_load.specs.RequestLoads.{request_ident};
 ghost use Rattle.j39_load.specs.Standing.{stays_of};
 ghost use Rattle.j39_load.specs.inside.Extremes.{extreme_address};
@@ -54,6 +55,35 @@ pub(crate) fn group_ident(
         destination(units, standing, extreme, flow.to),
         extreme.address(standing, &units[flow.sender]),
     )
+}
+
+// Where a message goes to, each unit having its place as its address.
+fn destination_place(to: To) -> u8
+    requires { (v : ℕ) → to ≡ One v → v < unit_limit }
+    ensures { result ≡ destination_at (λ u. u) to }
+{
+    match to {
+        To::All => GLOBAL_ADDRESS,
+        To::One(unit) => unit as u8,
+    }
+}
+
+/// What tells the frames of a flow from all but its twins, where its group is told by its data: the number that their identifier would be if
+/// each unit's address was its place.
+pub(crate) fn twin_ident(group: &GroupPlan, flow: &FlowPlan) -> Option<u64>
+    requires sender { flow.now.sender < unit_limit }
+    requires receiver { (v : ℕ) → flow.now.to ≡ One v → v < unit_limit }
+    ensures { result ≡ twin_ident group.now flow.now }
+{
+    match group.when {
+        Some(_selector) => Some(identifier(
+            group.priority,
+            group.pgn,
+            destination_place(flow.to),
+            flow.sender as u8,
+        )),
+        None => None,
+    }
 }
 
 /// That of the data packets of its long messages.

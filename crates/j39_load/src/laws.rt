@@ -15,7 +15,7 @@ ghost use Rattle.j39_load.specs.LoadFindings.{AreLoadFindings, AsksOfBus, load_f
 ghost use Rattle.j39_load.specs.Loads.{group_ident};
 ghost use Rattle.j39_load.specs.Asked.{asked_of, frames_asked, total_load};
 ghost use Rattle.j39_load.specs.PlannedFrames.{AreAllOrdered, AreDeadlinesKept, AreDelaysBounds, AreShortFlowsBounded, AreTimesBounds, ArePlannedFramesInTime};
-ghost use Rattle.j39_load.specs.Ranks.{AreHeldApart, AreHeldByPlan, AreUnitsPlanned, IsAskedBetween, IsShortFlow, LieBetween, RequestLiesBetween};
+ghost use Rattle.j39_load.specs.Ranks.{AreHeldApart, AreHeldByPlan, AreTwinFlows, AreUnitsPlanned, IsAskedBetween, IsShortFlow, LieBetween, RequestLiesBetween};
 ghost use Rattle.j39_load.specs.RequestLoads.{request_ident};
 ghost use Rattle.j39_load.specs.Standing.{TellsWhoStays};
 
@@ -65,11 +65,12 @@ pub fn identifiers_lie_between()
 {}
 
 /// While units hold different addresses, frames of two flows of a clean plan between units that are on, each message of which goes in
-/// one frame, have two identifiers (`flows`); and no request between units that are on has that of such a frame (`requests`).
+/// one frame, have two identifiers, unless both groups are told by their data: then they have one wherever the units are (`flows`). And no
+/// request between units that are on has that of such a frame (`requests`).
 pub fn short_flows_have_different_identifiers()
     ensures flows { (plan : Plans) → Clean plan → (on : ℕ → Bool) (held : ℕ → ℕ) → AreHeldApart on held
         → (f h : ℕ) (flow other : PlannedFlows) (group second : PlannedGroups) → f ≢ h → IsShortFlow plan on f flow group
-        → IsShortFlow plan on h other second → group_ident held group flow ≢ group_ident held second other }
+        → IsShortFlow plan on h other second → group_ident held group flow ≡ group_ident held second other → AreTwinFlows group flow second other }
     ensures requests { (plan : Plans) → Clean plan → (on : ℕ → Bool) (held : ℕ → ℕ) → AreHeldApart on held
         → (f : ℕ) (flow : PlannedFlows) (group : PlannedGroups) → IsShortFlow plan on f flow group
         → (request : PlannedRequests) → IsAskedBetween on request → group_ident held group flow ≢ request_ident held request }

@@ -25,6 +25,7 @@ mod requests;
 mod standing;
 mod streams;
 mod turns;
+mod twins;
 mod unit_load;
 mod whole_time;
 

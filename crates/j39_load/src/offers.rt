@@ -124,6 +124,7 @@ fn later_frames(frames: &FlowFrames, more: u32) -> FlowFrames
         any_sender: frames.any_sender,
         any_receiver: frames.any_receiver,
         last_ident: frames.last_ident,
+        twin_ident: frames.twin_ident,
     }
 }
 

@@ -39,6 +39,7 @@ fn load_of_request(
             any_sender: any_unit(units, request.sender),
             any_receiver: None,
             last_ident: greatest_ident,
+            twin_ident: None,
         },
         bits_per_second: load(stream, period),
     })

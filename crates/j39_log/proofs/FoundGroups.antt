@@ -45,13 +45,15 @@ pub of_group : {A : Type 0} (f : GroupPlan → A) (groups : List GroupPlan) (pla
 of_group f groups place group value here at = sym (at group) ∙ ap f (here group)
 
 -- the place that is found is within the groups, and its group has messages of this length
-pub planned_there : (plan : Plan) (pgn bytes place : ℕ) (group : GroupPlan) → planned plan pgn bytes ≡ Some place
-    → HoldsAt (λ (g : GroupPlan). g ≡ group) plan.groups.items place → (place < length plan.groups.items) × IsLengthOf group bytes
+pub planned_there : (plan : Plan) (pgn : ℕ) (bytes : List ℕ) (place : ℕ) (group : GroupPlan) → planned plan pgn bytes ≡ Some place
+    → HoldsAt (λ (g : GroupPlan). g ≡ group) plan.groups.items place → (place < length plan.groups.items) × IsLengthOf group (length bytes)
 planned_there plan pgn bytes place group found here =
     let at = position-Some (is_planned_as pgn bytes) plan.groups.items place group found in
     let passes : is_planned_as pgn bytes group ≡ true = ap (is_planned_as pgn bytes) (sym (here group)) ∙ at.1 in
-    let lengths = and_parts (nat_le group.length bytes) (nat_le bytes group.most) (and_parts (is_shared_as pgn group) _ passes).1 in
-    (at.0, (leb-true group.length bytes lengths.0, leb-true bytes group.most lengths.1))
+    let n : ℕ = length bytes in
+    let least = and_parts (nat_le group.length n) _ (and_parts (is_shared_as pgn group) _ passes).1 in
+    let most = and_parts (nat_le n group.most) _ least.1 in
+    (at.0, (leb-true group.length n least.0, leb-true n group.most most.0))
 
 -- its report is that of the place
 pub report_there : (plan : Plan) (place : ℕ) (group : GroupPlan) (i : Ident) (bytes : List ℕ) → place < length plan.groups.items
@@ -64,9 +66,9 @@ report_there plan place group i bytes less here = record {
 
 -- the group that is found for a frame's number and its bytes
 pub found_for : (plan : Plan) (f : Frame) (pgn : ℕ) (bytes : List ℕ) (place : Option ℕ) → pgn ≡ pgn_of f.ident → bytes ≡ f.payload.items
-    → place ≡ planned plan pgn (length bytes) → place ≡ planned_group plan f
+    → place ≡ planned plan pgn bytes → place ≡ planned_group plan f
 found_for plan f pgn bytes place number payload found =
-    found ∙ ap (λ (n : ℕ). planned plan n (length bytes)) number ∙ ap (λ (xs : List ℕ). planned plan (pgn_of f.ident) (length xs)) payload
+    found ∙ ap (λ (n : ℕ). planned plan n bytes) number ∙ ap (planned plan (pgn_of f.ident)) payload
 
 -- the names of a group's place are those of the group
 pub named_there : (plan : Plan) (place : ℕ) (group : GroupPlan) (names : Option GroupNames) → HoldsAt (λ (g : GroupPlan). g ≡ group) plan.groups.items place

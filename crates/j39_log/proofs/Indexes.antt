@@ -47,7 +47,7 @@ no_place p xs none = position_from-zero p xs ∙ none_from p 0 xs none
 
 -- ---- groups of a number
 
-pub unplanned : (pgn bytes : ℕ) (group : GroupPlan) → has_number pgn group ≡ false → is_planned_as pgn bytes group ≡ false
+pub unplanned : (pgn : ℕ) (bytes : List ℕ) (group : GroupPlan) → has_number pgn group ≡ false → is_planned_as pgn bytes group ≡ false
 unplanned pgn bytes group other = rw (and_right (not group.private) (group.pgn == pgn) other) refl
 
 -- ---- the step

@@ -8,6 +8,8 @@ use Rattle.std.proofs.lemmas.List.{append-nil}
 use Rattle.std.proofs.lemmas.List.Elements.{All-head, All-tail}
 use Rattle.j39_signal.specs.declared.kind.Kind.{Kind}
 use Rattle.j39_signal.specs.Parts.{SignalParts}
+use Rattle.j39_signal.specs.Selectors.{is_selected}
+use Rattle.j39_signal.specs.declared.selector.Selector.{Selector}
 use Rattle.j39_findings.proofs.Lengths.{same_length}
 use Rattle.j39_findings.specs.Records.{single_signals}
 use Rattle.j39_findings.specs.declared.plan.group_plan.GroupPlan.{GroupPlan}
@@ -20,25 +22,35 @@ use Rattle.j39_log.specs.LogReports.{all_records_lines, group_line, group_report
 use Rattle.j39_log.specs.TextLines.{text_lines}
 use Rattle.j39_log.specs.OlderPlans.{GroupsAreFoundByNumber, IsOlderKind, SignalsAlone, ValuesAreShownWhole, has_number_and_length}
 
-shared : (group : GroupPlan) (pgn bytes : ℕ) → group.private ≡ false → group.most ≡ group.length → is_planned_as pgn bytes group ≡ has_number_and_length pgn bytes group
-shared group pgn bytes own one =
-    ap (λ (b : Bool). (not b && group.pgn == pgn) && (nat_le group.length bytes && nat_le bytes group.most)) own
-    ∙ ap (λ (n : ℕ). group.pgn == pgn && (nat_le group.length bytes && nat_le bytes n)) one
-    ∙ ap (λ (b : Bool). group.pgn == pgn && b) (same_length group.length bytes)
+and_all : (b : Bool) → (b && true) ≡ b
+and_all true = refl
+and_all false = refl
 
-found_from : (pgn bytes i : ℕ) (groups : List GroupPlan) → AllOf (λ (group : GroupPlan). group.private ≡ false) groups
-    → AllOf (λ (group : GroupPlan). group.most ≡ group.length) groups
-    → position_from (is_planned_as pgn bytes) i groups ≡ position_from (has_number_and_length pgn bytes) i groups
-found_from pgn bytes i [] none one = refl
-found_from pgn bytes i (group ∷ groups) none one =
-    ap (λ (b : Bool). cond b (Some i) (position_from (is_planned_as pgn bytes) (i + 1) groups)) (shared group pgn bytes (none 0 group (omega arith)) (one 0 group (omega arith)))
-    ∙ ap (λ (o : Option ℕ). cond (has_number_and_length pgn bytes group) (Some i) o) (found_from pgn bytes (i + 1) groups
-    (λ k d less. none (suc k) d (omega (arith, less))) (λ k d less. one (suc k) d (omega (arith, less))))
+shared : (group : GroupPlan) (pgn : ℕ) (bytes : List ℕ) → group.private ≡ false → group.when ≡ None → group.most ≡ group.length
+    → is_planned_as pgn bytes group ≡ has_number_and_length pgn (length bytes) group
+shared group pgn bytes own any one =
+    let n : ℕ = length bytes in
+    ap (λ (b : Bool). (not b && group.pgn == pgn) && (nat_le group.length n && (nat_le n group.most && is_selected group.when bytes))) own
+    ∙ ap (λ (w : Option Selector). group.pgn == pgn && (nat_le group.length n && (nat_le n group.most && is_selected w bytes))) any
+    ∙ ap (λ (b : Bool). group.pgn == pgn && (nat_le group.length n && b)) (and_all (nat_le n group.most))
+    ∙ ap (λ (m : ℕ). group.pgn == pgn && (nat_le group.length n && nat_le n m)) one
+    ∙ ap (λ (b : Bool). group.pgn == pgn && b) (same_length group.length n)
+
+found_from : (pgn : ℕ) (bytes : List ℕ) (i : ℕ) (groups : List GroupPlan) → AllOf (λ (group : GroupPlan). group.private ≡ false) groups
+    → AllOf (λ (group : GroupPlan). group.when ≡ None) groups → AllOf (λ (group : GroupPlan). group.most ≡ group.length) groups
+    → position_from (is_planned_as pgn bytes) i groups ≡ position_from (has_number_and_length pgn (length bytes)) i groups
+found_from pgn bytes i [] none any one = refl
+found_from pgn bytes i (group ∷ groups) none any one =
+    ap (λ (b : Bool). cond b (Some i) (position_from (is_planned_as pgn bytes) (i + 1) groups))
+    (shared group pgn bytes (none 0 group (omega arith)) (any 0 group (omega arith)) (one 0 group (omega arith)))
+    ∙ ap (λ (o : Option ℕ). cond (has_number_and_length pgn (length bytes) group) (Some i) o) (found_from pgn bytes (i + 1) groups
+    (λ k d less. none (suc k) d (omega (arith, less))) (λ k d less. any (suc k) d (omega (arith, less)))
+    (λ k d less. one (suc k) d (omega (arith, less))))
 
 pub by_number : GroupsAreFoundByNumber
-by_number plan pgn bytes none one =
-    position_from-zero (is_planned_as pgn bytes) plan.groups.items ∙ found_from pgn bytes 0 plan.groups.items none one
-    ∙ sym (position_from-zero (has_number_and_length pgn bytes) plan.groups.items)
+by_number plan pgn bytes none any one =
+    position_from-zero (is_planned_as pgn bytes) plan.groups.items ∙ found_from pgn bytes 0 plan.groups.items none any one
+    ∙ sym (position_from-zero (has_number_and_length pgn (length bytes)) plan.groups.items)
 
 scaled : (kind : Kind) (per : ℕ) (unit : List ℕ) (v : ℤ) → IsOlderKind kind → value_text kind per unit v ≡ scaled_text per unit v
 unfolding value_text

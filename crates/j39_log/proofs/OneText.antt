@@ -59,10 +59,10 @@ one_message_text : (plan : Plan) (h : List Packet) (place : ℕ) (i : Ident) (t 
 one_message_text plan h place i t u (inl a) (inl b) =
     let pgn : a.0 ≡ b.0 = one_pgn h place a.0 b.0 a.1 b.1 a.2 b.2 in
     let bytes : a.1 ≡ b.1 = one_message h place a.0 b.0 a.1 b.1 a.2 b.2 in
-    let there : IsGroupReport plan (planned plan b.0 (length b.1)) i b.1 t =
-    subst (λ (m : List ℕ). IsGroupReport plan (planned plan b.0 (length m)) i m t) bytes
-    (subst (λ (n : ℕ). IsGroupReport plan (planned plan n (length a.1)) i a.1 t) pgn a.3) in
-    one_group_report plan (planned plan b.0 (length b.1)) i b.1 t u there b.3
+    let there : IsGroupReport plan (planned plan b.0 b.1) i b.1 t =
+    subst (λ (m : List ℕ). IsGroupReport plan (planned plan b.0 m) i m t) bytes
+    (subst (λ (n : ℕ). IsGroupReport plan (planned plan n a.1) i a.1 t) pgn a.3) in
+    one_group_report plan (planned plan b.0 b.1) i b.1 t u there b.3
 one_message_text plan h place i t u (inl a) (inr b) = absurd (b.0 a.0 a.1 a.2)
 one_message_text plan h place i t u (inr a) (inl b) = absurd (a.0 b.0 b.1 b.2)
 one_message_text plan h place i t u (inr a) (inr b) = a.1 ∙ sym b.1
@@ -116,7 +116,8 @@ not_both_ways : (group : GroupPlan) → IsSendable group → IsRefusedGroup grou
 not_both_ways group sendable (inl number) = number sendable.number
 not_both_ways group sendable (inr (inl layout)) =
     no_fault group.most group.signals.items layout.0 layout.1 sendable.layout.longest layout.2
-not_both_ways group sendable (inr (inr behind)) = behind sendable.layout.always
+not_both_ways group sendable (inr (inr (inl behind))) = behind sendable.layout.always
+not_both_ways group sendable (inr (inr (inr selector))) = selector sendable.selector
 
 -- where the first groups are sendable, none of them is refused
 unrefused : (groups : List GroupPlan) (n g : ℕ) → All IsSendable (take n groups) → g < n → ValueAt IsRefusedGroup groups g → ⊥

@@ -1,10 +1,11 @@
 -- What a frame of a log is for its reader: a planned group, else a transport packet, else nothing that is looked at.
-use Rattle.std.specs.Prelude.{◌≡◌, ◌≢◌, ℕ, ◌⊎◌, ◌==◌, ◌&&◌, Bool, not, nat_le, length, Option, Some, None}
+use Rattle.std.specs.Prelude.{◌≡◌, ◌≢◌, ℕ, ◌⊎◌, ◌==◌, ◌&&◌, Bool, not, nat_le, List, length, Option, Some, None}
 use Rattle.std.specs.List.{position}
 use Rattle.j39_id.specs.Addresses.{global_address}
 use Rattle.j39_id.specs.Ident.{pgn_of}
 use Rattle.j39_id.specs.Services.{connection_management, data_transfer}
 use Rattle.j39_id.specs.declared.frame.Frame.{Frame}
+use Rattle.j39_signal.specs.Selectors.{is_selected}
 use Rattle.j39_findings.specs.declared.plan.Plan.{Plan}
 use Rattle.j39_findings.specs.declared.plan.group_plan.GroupPlan.{GroupPlan}
 use Rattle.j39_tp.specs.Packets.{ManagementReads, DataReads}
@@ -15,17 +16,18 @@ use Rattle.j39_tp.specs.declared.packet.Packet.TheVariants.{Rts, Bam}
 abbrev pub is_shared_as : ℕ → GroupPlan → Bool
 is_shared_as pgn group = not group.private && group.pgn == pgn
 
--- and it has messages of so many bytes
-abbrev pub is_planned_as : ℕ → ℕ → GroupPlan → Bool
-is_planned_as pgn bytes group = is_shared_as pgn group && (nat_le group.length bytes && nat_le bytes group.most)
+-- and it has messages of these bytes: of so many, which its selector takes
+abbrev pub is_planned_as : ℕ → List ℕ → GroupPlan → Bool
+is_planned_as pgn bytes group =
+    is_shared_as pgn group && (nat_le group.length (length bytes) && (nat_le (length bytes) group.most && is_selected group.when bytes))
 
 -- the place of the first such group
-abbrev pub planned : Plan → ℕ → ℕ → Option ℕ
+abbrev pub planned : Plan → ℕ → List ℕ → Option ℕ
 planned plan pgn bytes = position (is_planned_as pgn bytes) plan.groups.items
 
 -- the first group that is planned as the frame is sent
 abbrev pub planned_group : Plan → Frame → Option ℕ
-planned_group plan f = planned plan (pgn_of f.ident) (length f.payload.items)
+planned_group plan f = planned plan (pgn_of f.ident) f.payload.items
 
 -- an announcement to all goes to the global address, and one to a unit to another address
 abbrev pub IsSentTo : Packet → ℕ → Type 0

@@ -1,5 +1,5 @@
 -- What a plan without the keys of version 3 makes of a log: the groups and the texts of values that versions 1 and 2 have.
-use Rattle.std.specs.Prelude.{◌≡◌, ℕ, ◌⊎◌, ◌==◌, ◌&&◌, ℤ, Bool, false, List, [], ◌++◌, All, None, codes}
+use Rattle.std.specs.Prelude.{◌≡◌, ℕ, ◌⊎◌, ◌==◌, ◌&&◌, ℤ, Bool, false, List, [], ◌++◌, length, All, None, codes}
 use Rattle.std.specs.Fmt.{signed_decimal}
 use Rattle.std.specs.List.{position}
 use Rattle.j39_id.specs.declared.ident.Ident.{Ident}
@@ -9,6 +9,7 @@ use Rattle.j39_signal.specs.declared.kind.Kind.TheVariants.{Measured, Discrete, 
 use Rattle.j39_signal.specs.declared.state.State.TheVariants.{Value}
 use Rattle.j39_findings.specs.Lengths.{HasOneLengthEach}
 use Rattle.j39_findings.specs.PrivateGroups.{HasNoPrivate}
+use Rattle.j39_findings.specs.WithoutSelectors.{HasNoSelectors}
 use Rattle.j39_findings.specs.declared.plan.Plan.{Plan}
 use Rattle.j39_findings.specs.declared.plan.group_plan.GroupPlan.{GroupPlan}
 use Rattle.j39_log.specs.LogFrames.{planned}
@@ -19,10 +20,10 @@ use Rattle.j39_text.specs.Texts.{field_text}
 abbrev pub has_number_and_length : ℕ → ℕ → GroupPlan → Bool
 has_number_and_length pgn bytes group = group.pgn == pgn && group.length == bytes
 
--- where no group is private and each has one length, that of a frame or message is the first of its number and length
+-- where no group is private or told by its data and each has one length, that of a frame or message is the first of its number and length
 abbrev pub GroupsAreFoundByNumber : Type 0
-GroupsAreFoundByNumber = (plan : Plan) (pgn bytes : ℕ) → HasNoPrivate plan → HasOneLengthEach plan
-    → planned plan pgn bytes ≡ position (has_number_and_length pgn bytes) plan.groups.items
+GroupsAreFoundByNumber = (plan : Plan) (pgn : ℕ) (bytes : List ℕ) → HasNoPrivate plan → HasNoSelectors plan → HasOneLengthEach plan
+    → planned plan pgn bytes ≡ position (has_number_and_length pgn (length bytes)) plan.groups.items
 
 abbrev pub IsOlderKind : Kind → Type 0
 IsOlderKind kind = (kind ≡ Measured) ⊎ (kind ≡ Discrete) ⊎ (kind ≡ Raw)

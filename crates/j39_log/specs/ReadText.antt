@@ -33,7 +33,7 @@ CarriesNone h place = (pgn : ℕ) (message : List ℕ) → ¬ Carried h place pg
 -- what is written at the last packet of a list: the report of the message that the list carries there
 abbrev pub IsMessageText : Plan → List Packet → ℕ → Ident → List ℕ → Type 0
 IsMessageText plan h place i text =
-    ((pgn : ℕ) × (message : List ℕ) × Carried h place pgn message × IsGroupReport plan (planned plan pgn (length message)) i message text)
+    ((pgn : ℕ) × (message : List ℕ) × Carried h place pgn message × IsGroupReport plan (planned plan pgn message) i message text)
     ⊎ (CarriesNone h place × (text ≡ []))
 
 -- the packets that the pair of a packet's addresses heard before it

@@ -16,7 +16,7 @@ use crate::names::GroupNames;
 use crate::value_line::ValueLine;
 use j39_findings::limits::GROUP_LIMIT;
 use j39_findings::{GroupPlan, Plan};
-use j39_signal::Layout;
+use j39_signal::{Layout, is_selected};
 use std::alloc::Global;
 use std::marker::Model;
 
@@ -43,18 +43,19 @@ impl<'a> Model for Groups<'a> {
     ghost invariant = { λ g. IsCatalogOf g.plan.now g.catalog };
 }
 
-// Whether the group has this number, isn't private, and has messages of so many bytes.
-fn is_planned_as(group: &GroupPlan, pgn: u32, bytes: usize) -> bool
-    ensures { result ≡ is_planned_as pgn bytes group.now }
+// Whether the group has this number, isn't private, and has messages of these bytes.
+fn is_planned_as(group: &GroupPlan, pgn: u32, bytes: &[u8]) -> bool
+    ensures { result ≡ is_planned_as pgn bytes.now group.now }
 {
     (!group.private && group.pgn == pgn)
-        && (usize::from(group.length) <= bytes && bytes <= usize::from(group.most))
+        && (usize::from(group.length) <= bytes.len()
+            && (bytes.len() <= usize::from(group.most) && is_selected(group.when, bytes)))
 }
 
 // The place of the first such group, which stands in the span of its number.
-fn place_in(groups: &[GroupPlan], span: Span, pgn: u32, bytes: usize) -> Option<usize>
+fn place_in(groups: &[GroupPlan], span: Span, pgn: u32, bytes: &[u8]) -> Option<usize>
     requires { HasAllOf groups.now pgn span }
-    ensures { result ≡ position (is_planned_as pgn bytes) groups.now }
+    ensures { result ≡ position (is_planned_as pgn bytes.now) groups.now }
 {
     for place in span.first..span.end {
         if is_planned_as(&groups[place], pgn, bytes) {
@@ -89,11 +90,11 @@ impl<'a> Groups<'a> {
         self.catalog.spans.get(&pgn).copied()
     }
 
-    /// The place of the first group of this number that isn't private and has messages of so many bytes. It is looked for
+    /// The place of the first group of this number that isn't private and has messages of these bytes. It is looked for
     /// at each frame.
     #[inline(always)]
-    pub fn place(&self, pgn: u32, bytes: usize) -> Option<usize>
-        ensures { result ≡ planned self.now pgn bytes }
+    pub fn place(&self, pgn: u32, bytes: &[u8]) -> Option<usize>
+        ensures { result ≡ planned self.now pgn bytes.now }
     {
         match self.span(pgn) {
             Some(span) => place_in(self.plan.groups.as_slice(), span, pgn, bytes),

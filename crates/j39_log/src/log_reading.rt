@@ -37,7 +37,7 @@ fn write_group(
     ident: Ident,
     bytes: &[u8],
 ) -> Result<(), AllocError>
-    requires { (pgn : ℕ) × (planned groups.now pgn (length bytes.now) ≡ Some place) }
+    requires { (pgn : ℕ) × (planned groups.now pgn bytes.now ≡ Some place) }
     ensures { OnOk result ((piece : List ℕ) × IsGroupReport groups.now (Some place) ident bytes.now piece × (text.new ≡ text.old ++ piece)) }
 {
     write_report(
@@ -60,10 +60,10 @@ fn write_planned(
     pgn: u32,
     bytes: &[u8],
 ) -> Result<(), AllocError>
-    ensures { OnOk result ((piece : List ℕ) × IsGroupReport groups.now (planned groups.now pgn (length bytes.now)) ident bytes.now piece
+    ensures { OnOk result ((piece : List ℕ) × IsGroupReport groups.now (planned groups.now pgn bytes.now) ident bytes.now piece
         × (text.new ≡ text.old ++ piece)) }
 {
-    match groups.place(pgn, bytes.len()) {
+    match groups.place(pgn, bytes) {
         Some(place) => write_group(text, groups, place, ident, bytes),
         None => Ok(()),
     }
@@ -108,7 +108,7 @@ fn write_frame(
         × (text.new ≡ text.old ++ piece)) }
 {
     let bytes = frame.payload.as_slice();
-    if let Some(place) = groups.place(frame.ident.pgn().number(), bytes.len()) {
+    if let Some(place) = groups.place(frame.ident.pgn().number(), bytes) {
         return write_group(text, groups, place, frame.ident, bytes);
     }
     match transport_packet(frame) {

@@ -16,7 +16,8 @@ use Rattle.j39_plan.specs.TableFaults.{key_faults, table_faults, table_only_faul
 use Rattle.j39_plan.specs.Elements.{inside, label_in, repeated_faults}
 use Rattle.j39_plan.specs.MeaningTables.{optional_rule, spn_rule, values_rule, meaning_rules, optional_of, spn_of, name_table, AreValueNames}
 use Rattle.j39_plan.specs.SignalTables.{bits_rule, is_code, place_rules, scale_rules, repeated_of, signal_table_faults, signal_faults, IsMeaningOf, IsSignalOf}
-use Rattle.j39_plan.specs.GroupTables.{signal_rule, has_records, signals_faults, group_table_faults, group_faults, IsGroupOf}
+use Rattle.j39_plan.specs.SelectorTables.{TellsWhen, when_rule, when_table}
+use Rattle.j39_plan.specs.GroupTables.{signal_rule, has_records, signals_faults, group_keys_faults, group_table_faults, group_faults, IsGroupOf}
 use Rattle.j39_plan.specs.Versions.{IsThirdSignal, IsThirdGroup}
 use Rattle.j39_plan.proofs.Absent.{lacked, IsNone, only_same, Alike, alike_both, alike_between, alike_unknown, alike_inside, alike_each, told_alike}
 
@@ -135,7 +136,34 @@ signals_alike : (g : ℕ) (ms : Members) → IsThirdGroup ms → Alike (signals_
 signals_alike g ms third =
     let records = has_records true ms in
     alike_each IsThirdSignal (signal_faults true true records g) (signal_faults true false records g) (signal_alike records g)
-    label_in 0 [] (tables_of signal_rule ms) third
+    label_in 0 [] (tables_of signal_rule ms) third.signals
+
+no_when : (ms : Members) → IsThirdGroup ms → get_member (word_of key.When) ms ≡ None
+no_when ms third = lacked key.When ms (third.keys 0 key.When (omega arith))
+
+when_unfaulted : (at : Table) (ms : Members) → IsThirdGroup ms → key_faults at ms when_rule ≡ []
+unfolding key_faults
+when_unfaulted at ms third = rw (no_when ms third)
+
+when_is : (ms : Members) → IsThirdGroup ms → when_table true ms ≡ None
+unfolding table_of
+when_is ms third = rw (no_when ms third)
+
+abbrev older_group_keys : List Key
+older_group_keys = key.Label ∷ key.Pgn ∷ key.Priority ∷ key.Length ∷ key.Private ∷ key.Most ∷ key.Every ∷ key.Signal ∷ key.Text ∷ []
+
+abbrev later_group_keys : List Key
+later_group_keys =
+    key.Label ∷ key.Pgn ∷ key.Priority ∷ key.Length ∷ key.Private ∷ key.Most ∷ key.Every ∷ key.When ∷ key.Signal ∷ key.Text ∷ []
+
+group_words : (l : List ℕ) → IsNone (key.When ∷ []) l → is_key_word later_group_keys l ≡ is_key_word older_group_keys l
+group_words l none = rw (none 0 key.When (omega arith))
+
+group_keys_alike : (g : ℕ) (ms : Members) → IsThirdGroup ms → Alike (group_keys_faults true true g ms) (group_keys_faults true false g ms)
+group_keys_alike g ms third =
+    let at : Table = at.Group g in
+    alike_both _ _ _ _ (alike_unknown at _ _ ms ms (only_same later_group_keys older_group_keys (key.When ∷ []) group_words ms third.keys))
+    (rw (when_unfaulted at ms third, when_is ms third) refl)
 
 pub group_alike : (g : ℕ) (seen : List (List ℕ)) (d : Data) → IsThirdGroup (inside d) → Alike (group_faults true true g seen d) (group_faults true false g seen d)
 unfolding group_faults group_table_faults
@@ -145,7 +173,7 @@ group_alike g seen d older =
     alike_between (table_only_faults (at.Group g) d) (option_map_or fourth (as_table d) []) (option_map_or third (as_table d) [])
     (repeated_faults (at.Group g) texts.Label seen (label_in d))
     (alike_inside fourth third d
-    (alike_both _ _ _ _ refl
+    (alike_both _ _ _ _ (group_keys_alike g (inside d) older)
     (alike_both _ _ _ _ (signals_alike g (inside d) older) refl)))
 
 pub third_group : (d : Data) (g : GroupPlan) → IsThirdGroup (inside d) → IsGroupOf true true d g → IsGroupOf true false d g
@@ -157,10 +185,11 @@ third_group d g older told = record {
   has_private = told.has_private;
   has_most = told.has_most;
   has_every = told.has_every;
+  has_when = subst (λ t. TellsWhen t g.when) (when_is (inside d) older) told.has_when;
   has_signals = told_alike IsThirdSignal (IsSignalOf true true) (IsSignalOf true false) third_signal
-      (tables_of signal_rule (inside d)) g.signals.items older told.has_signals;
+      (tables_of signal_rule (inside d)) g.signals.items older.signals told.has_signals;
   has_meanings = told_alike IsThirdSignal (IsMeaningOf true true) (IsMeaningOf true false) third_meaning
-      (tables_of signal_rule (inside d)) g.meanings.items older told.has_meanings;
+      (tables_of signal_rule (inside d)) g.meanings.items older.signals told.has_meanings;
   has_texts = told.has_texts;
 }
 
@@ -173,9 +202,10 @@ fourth_group d g older told = record {
   has_private = told.has_private;
   has_most = told.has_most;
   has_every = told.has_every;
+  has_when = subst (λ t. TellsWhen t g.when) (sym (when_is (inside d) older)) told.has_when;
   has_signals = told_alike IsThirdSignal (IsSignalOf true false) (IsSignalOf true true) fourth_signal
-      (tables_of signal_rule (inside d)) g.signals.items older told.has_signals;
+      (tables_of signal_rule (inside d)) g.signals.items older.signals told.has_signals;
   has_meanings = told_alike IsThirdSignal (IsMeaningOf true false) (IsMeaningOf true true) fourth_meaning
-      (tables_of signal_rule (inside d)) g.meanings.items older told.has_meanings;
+      (tables_of signal_rule (inside d)) g.meanings.items older.signals told.has_meanings;
   has_texts = told.has_texts;
 }

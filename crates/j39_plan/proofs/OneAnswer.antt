@@ -22,6 +22,8 @@ use Rattle.j39_plan.specs.declared.reading.plan_error.PlanError.TheVariants as e
 use Rattle.j39_plan.specs.Elements.{Each, inside}
 use Rattle.j39_plan.specs.Outcome.{first}
 use Rattle.j39_plan.specs.UnitTables.{IsUnitOf}
+use Rattle.j39_signal.specs.declared.selector.Selector.{Selector}
+use Rattle.j39_plan.specs.SelectorTables.{TellsWhen, when_table}
 use Rattle.j39_plan.specs.SignalTables.{IsMeaningOf, IsSignalOf}
 use Rattle.j39_plan.specs.MeaningTables.{AreValueNames, name_table}
 use Rattle.j39_plan.specs.TextTables.{IsTextOf}
@@ -33,7 +35,7 @@ use Rattle.j39_plan.specs.TimingTables.{TellsBus, TellsErrors, TellsTiming, erro
 use Rattle.j39_plan.specs.Schema.{tables_of, found_text}
 use Rattle.j39_plan.specs.PlanFaults.{faults, units_rule, groups_rule, flows_rule, timing_table, need_tables, request_tables, unit_labels, group_labels, group_signals, knows_third, knows_fourth}
 use Rattle.j39_plan.specs.Described.{TellsPlan, Described, Reads}
-use Rattle.j39_plan.specs.OnePlan.{AreOneUnit, AreOneSignal, AreOneValueName, AreOneMeaning, AreOneText, AreOneGroup, AreOneErrorRate, AreOneBus, AreOneTiming, AreOnePace, AreOneFlowPlan, AreOneNeed, AreOneRequest, AreOnePlan, AreOneAnswer}
+use Rattle.j39_plan.specs.OnePlan.{AreOneUnit, AreOneSelector, AreOneSignal, AreOneValueName, AreOneMeaning, AreOneText, AreOneGroup, AreOneErrorRate, AreOneBus, AreOneTiming, AreOnePace, AreOneFlowPlan, AreOneNeed, AreOneRequest, AreOnePlan, AreOneAnswer}
 
 -- what elements tell is one, where what each tells is
 one_each : {T : Type 0} (Is : Data → T → Type 0) (One : T → T → Type 0) (one : (d : Data) (x y : T) → Is d x → Is d y → One x y)
@@ -94,6 +96,14 @@ one_meaning third fourth d m n a b = record {
   values = one_names (name_table (third && fourth) (inside d)) m.values.items n.values.items a.has_values b.has_values;
 }
 
+one_selector : (found : Option Members) (v w : Option Selector) → TellsWhen found v → TellsWhen found w → AreOneSelector v w
+one_selector None None None a b = tt
+one_selector None None (Some w) a b = absurd b
+one_selector None (Some v) w a b = absurd a
+one_selector (Some ms) None w a b = absurd a
+one_selector (Some ms) (Some v) None a b = absurd b
+one_selector (Some ms) (Some v) (Some w) a b = (a.has_start ∙ sym b.has_start, a.has_bits ∙ sym b.has_bits, a.has_value ∙ sym b.has_value)
+
 one_group : (third fourth : Bool) (d : Data) (g h : GroupPlan) → IsGroupOf third fourth d g → IsGroupOf third fourth d h → AreOneGroup g h
 one_group third fourth d g h a b = record {
   labels = a.has_label ∙ sym b.has_label;
@@ -103,6 +113,7 @@ one_group third fourth d g h a b = record {
   privates = a.has_private ∙ sym b.has_private;
   mosts = a.has_most ∙ sym b.has_most;
   everys = a.has_every ∙ sym b.has_every;
+  whens = one_selector (when_table (third && fourth) (inside d)) g.when h.when a.has_when b.has_when;
   signals = one_each (IsSignalOf third fourth) AreOneSignal (one_signal third fourth) (tables_of signal_rule (inside d)) _ _ a.has_signals b.has_signals;
   meanings = one_each (IsMeaningOf third fourth) AreOneMeaning (one_meaning third fourth) (tables_of signal_rule (inside d)) _ _ a.has_meanings b.has_meanings;
   texts = one_each IsTextOf AreOneText one_text (text_tables_of third (inside d)) _ _ a.has_texts b.has_texts;

@@ -14,10 +14,10 @@ use Rattle.j39_plan.specs.declared.reading.place.Table.TheVariants as at
 use Rattle.j39_plan.specs.declared.reading.text_kind.TextKind.TheVariants as texts
 use Rattle.j39_plan.specs.Words.{word_of}
 use Rattle.j39_plan.specs.Schema.{integer_in, natural, standing, number_of, given_number, flag_of, tables_of}
-use Rattle.j39_plan.specs.TableFaults.{fault, standing_cause, key_faults, table_faults, table_only_faults, is_key_word}
+use Rattle.j39_plan.specs.TableFaults.{fault, standing_cause, key_faults, keys_faults, table_only_faults, is_key_word, table_faults}
 use Rattle.j39_plan.specs.Elements.{inside, label_in, label_rule, repeated_faults, Each}
 use Rattle.j39_plan.specs.SignalTables.{signal_faults, IsMeaningOf, IsSignalOf}
-use Rattle.j39_plan.specs.GroupTables.{pgn_rule, priority_rule, length_rule, private_rule, private_of, most_rule, most_of, every_rule, every_of, signal_rule, text_rule, text_tables_of, group_rules, signals_faults, texts_faults, group_table_faults, group_faults, IsGroupOf}
+use Rattle.j39_plan.specs.GroupTables.{pgn_rule, priority_rule, length_rule, private_rule, private_of, most_rule, most_of, every_rule, every_of, signal_rule, text_rule, text_tables_of, first_rules, inner_rules, signals_faults, texts_faults, group_keys_faults, group_table_faults, group_faults, IsGroupOf}
 use Rattle.j39_plan.specs.TextTables.{IsTextOf}
 use Rattle.j39_plan.specs.FlowTables.{has_key, period_of, given_period, deadline_rule, flow_rules, flow_table_faults, flow_faults, IsFlowOf}
 use Rattle.j39_plan.specs.Versions.{third_group_keys, IsSecondSignal, IsSecondGroup, IsSecondFlow}
@@ -94,16 +94,26 @@ unfolding key_faults number_of
 length_at_most at ms none = at_most 1 message_bytes at key.Length (standing length_rule ms) none
 
 group_keys_alike : (at : Table) (ms : Members) → IsSecondGroup ms
-    → Alike (table_faults at (group_rules true ms) ms) (table_faults at (group_rules false ms) ms)
+    → Alike (keys_faults at ms (first_rules true false ms)) (keys_faults at ms (first_rules false false ms))
 group_keys_alike at ms second =
     let w = without ms second in
     let length = number_of length_rule ms in
-    alike_both _ _ _ _ (alike_unknown at _ _ ms ms (only_same later_keys first_keys third_group_keys group_words ms second.keys))
-    (alike_both (key_faults at ms label_rule) _ (key_faults at ms label_rule) _ refl
+    alike_both (key_faults at ms label_rule) _ (key_faults at ms label_rule) _ refl
     (alike_both (key_faults at ms pgn_rule) _ (key_faults at ms pgn_rule) _ refl
     (alike_both (key_faults at ms priority_rule) _ (key_faults at ms priority_rule) _ refl
     (alike_behind (key_faults at ms length_rule) _ _
-    (λ none. rw (private_unfaulted at ms w, most_unfaulted at ms length (length_at_most at ms none) w, every_unfaulted at ms w, text_unfaulted at ms w) refl)))))
+    (λ none. rw (private_unfaulted at ms w, most_unfaulted at ms length (length_at_most at ms none) w, every_unfaulted at ms w) refl))))
+
+group_arrays_alike : (at : Table) (ms : Members) → IsSecondGroup ms
+    → Alike (keys_faults at ms (inner_rules true)) (keys_faults at ms (inner_rules false))
+group_arrays_alike at ms second =
+    alike_both (key_faults at ms signal_rule) _ (key_faults at ms signal_rule) _ refl (rw (text_unfaulted at ms (without ms second)) refl)
+
+all_keys_alike : (g : ℕ) (ms : Members) → IsSecondGroup ms → Alike (group_keys_faults true false g ms) (group_keys_faults false false g ms)
+all_keys_alike g ms second =
+    let at : Table = at.Group g in
+    alike_both _ _ _ _ (alike_unknown at _ _ ms ms (only_same later_keys first_keys third_group_keys group_words ms second.keys))
+    (alike_both _ _ _ _ (group_keys_alike at ms second) (group_arrays_alike at ms second))
 
 no_every : (ms : Members) → IsSecondGroup ms → every_of true ms ≡ None
 unfolding given_number
@@ -129,7 +139,7 @@ group_alike g seen d second =
     alike_between (table_only_faults (at.Group g) d) (option_map_or third (as_table d) []) (option_map_or older (as_table d) [])
     (repeated_faults (at.Group g) texts.Label seen (label_in d))
     (alike_inside third older d
-    (alike_both _ _ _ _ (group_keys_alike (at.Group g) (inside d) second)
+    (alike_both _ _ _ _ (all_keys_alike g (inside d) second)
     (alike_both _ _ _ _ (signals_alike g (inside d) second) (texts_alike g (inside d) second))))
 
 private_is : (ms : Members) → IsSecondGroup ms → private_of true ms ≡ false
@@ -149,6 +159,7 @@ second_group d g second told = record {
   has_private = told.has_private ∙ private_is (inside d) second;
   has_most = told.has_most ∙ most_is (number_of length_rule (inside d)) (inside d) second;
   has_every = told.has_every ∙ no_every (inside d) second;
+  has_when = told.has_when;
   has_signals = told_alike IsSecondSignal (IsSignalOf true false) (IsSignalOf false false) second_signal (tables_of signal_rule (inside d)) g.signals.items second.signals told.has_signals;
   has_meanings = Each-weaken (IsMeaningOf true false) (IsMeaningOf false false) (λ d m is. is) _ _ told.has_meanings;
   has_texts = subst (λ ds. Each IsTextOf ds g.texts.items) (no_texts (inside d) second) told.has_texts;
@@ -163,6 +174,7 @@ third_group d g second told = record {
   has_private = told.has_private ∙ sym (private_is (inside d) second);
   has_most = told.has_most ∙ sym (most_is (number_of length_rule (inside d)) (inside d) second);
   has_every = told.has_every ∙ sym (no_every (inside d) second);
+  has_when = told.has_when;
   has_signals = told_alike IsSecondSignal (IsSignalOf false false) (IsSignalOf true false) third_signal (tables_of signal_rule (inside d)) g.signals.items second.signals told.has_signals;
   has_meanings = Each-weaken (IsMeaningOf false false) (IsMeaningOf true false) (λ d m is. is) _ _ told.has_meanings;
   has_texts = subst (λ ds. Each IsTextOf ds g.texts.items) (sym (no_texts (inside d) second)) told.has_texts;

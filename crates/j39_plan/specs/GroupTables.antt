@@ -1,6 +1,6 @@
 -- The tables of groups. The third version knows whether a group's number is a maker's own, the length of its longest messages, how far apart
 -- its records stand, and texts.
-use Rattle.std.specs.Prelude.{◌≡◌, ℕ, List, [], ◌++◌, ◌∷◌, Bool, true, false, Option, Some, None, is_some}
+use Rattle.std.specs.Prelude.{◌≡◌, ℕ, List, [], ◌++◌, ◌∷◌, map, Bool, true, false, ◌&&◌, Option, Some, None, is_some}
 use Rattle.std.specs.Option.{option_map_or}
 use Rattle.toml.specs.Data.{Data, Items, no_items, Members, as_table}
 use Rattle.j39_id.specs.Limits.{message_bytes}
@@ -11,8 +11,9 @@ use Rattle.j39_plan.specs.declared.reading.place.Table.TheVariants as at
 use Rattle.j39_plan.specs.declared.reading.fault.Fault.{Fault}
 use Rattle.j39_plan.specs.declared.reading.text_kind.TextKind.TheVariants as texts
 use Rattle.j39_plan.specs.Schema.{Rule, number, optional, flag, tables, number_of, given_number, flag_of, text_of, tables_of}
-use Rattle.j39_plan.specs.TableFaults.{table_faults, table_only_faults}
+use Rattle.j39_plan.specs.TableFaults.{keys_faults, table_only_faults, unknown_faults}
 use Rattle.j39_plan.specs.Elements.{inside, repeated_faults, each_faults, labels_of, Each, label_in, label_rule}
+use Rattle.j39_plan.specs.SelectorTables.{TellsWhen, when_faults, when_rules, when_table}
 use Rattle.j39_plan.specs.SignalTables.{IsMeaningOf, IsSignalOf, signal_faults}
 use Rattle.j39_plan.specs.TextTables.{IsTextOf, text_faults}
 
@@ -42,13 +43,21 @@ signal_rule = tables key.Signal signal_limit
 abbrev pub text_rule : Rule
 text_rule = tables key.Text text_limit
 
--- behind the length, in the third version and in another
-abbrev pub later_rules : Bool → ℕ → List Rule
-later_rules true length = private_rule ∷ most_rule length ∷ every_rule ∷ signal_rule ∷ text_rule ∷ []
-later_rules false length = signal_rule ∷ []
+-- behind the length, in the third version and in another; the fourth version knows selectors too
+abbrev pub later_rules : Bool → Bool → ℕ → List Rule
+later_rules true fourth length = private_rule ∷ most_rule length ∷ every_rule ∷ when_rules fourth
+later_rules false fourth length = []
 
-abbrev pub group_rules : Bool → Members → List Rule
-group_rules third ms = label_rule ∷ pgn_rule ∷ priority_rule ∷ length_rule ∷ later_rules third (number_of length_rule ms)
+abbrev pub first_rules : Bool → Bool → Members → List Rule
+first_rules third fourth ms = label_rule ∷ pgn_rule ∷ priority_rule ∷ length_rule ∷ later_rules third fourth (number_of length_rule ms)
+
+-- the arrays
+abbrev pub inner_rules : Bool → List Rule
+inner_rules true = signal_rule ∷ text_rule ∷ []
+inner_rules false = signal_rule ∷ []
+
+abbrev pub group_rules : Bool → Bool → Members → List Rule
+group_rules third fourth ms = first_rules third fourth ms ++ inner_rules third
 
 -- whether the number is a maker's own: it isn't in a version that doesn't know it
 abbrev pub private_of : Bool → Members → Bool
@@ -82,13 +91,14 @@ pub record TellsGroup (third fourth : Bool) (ms : Members) (g : GroupPlan) : Typ
   pub has_private : g.private ≡ private_of third ms
   pub has_most : g.most ≡ most_of third (number_of length_rule ms) ms
   pub has_every : g.every ≡ every_of third ms
+  pub has_when : TellsWhen (when_table (third && fourth) ms) g.when
   pub has_signals : Each (IsSignalOf third fourth) (tables_of signal_rule ms) g.signals.items
   pub has_meanings : Each (IsMeaningOf third fourth) (tables_of signal_rule ms) g.meanings.items
   pub has_texts : Each IsTextOf (text_tables_of third ms) g.texts.items
 
 -- but in the third version a group has these keys, and its messages have one length and no records
 abbrev pub OlderGroupRules : Type 0
-OlderGroupRules = (ms : Members) → group_rules false ms ≡ label_rule ∷ pgn_rule ∷ priority_rule ∷ length_rule ∷ signal_rule ∷ []
+OlderGroupRules = (fourth : Bool) (ms : Members) → group_rules false fourth ms ≡ label_rule ∷ pgn_rule ∷ priority_rule ∷ length_rule ∷ signal_rule ∷ []
 
 abbrev pub OlderLengths : Type 0
 OlderLengths = (fourth : Bool) (ms : Members) (g : GroupPlan) → TellsGroup false fourth ms g → (g.most ≡ g.length) × (g.every ≡ None)
@@ -106,9 +116,16 @@ signal_labels ms = labels_of label_in (tables_of signal_rule ms)
 abbrev pub texts_faults : Bool → ℕ → Members → List Fault
 texts_faults third g ms = each_faults (text_faults (signal_labels ms) g) label_in 0 [] (text_tables_of third ms)
 
+-- of its keys: the table of the selector is read whole behind the key, and before the arrays
+abbrev pub group_keys_faults : Bool → Bool → ℕ → Members → List Fault
+group_keys_faults third fourth g ms =
+    unknown_faults (at.Group g) (map (λ r. r.key) (group_rules third fourth ms)) ms
+    ++ (keys_faults (at.Group g) ms (first_rules third fourth ms)
+    ++ (when_faults (third && fourth) g ms ++ keys_faults (at.Group g) ms (inner_rules third)))
+
 unfoldable pub group_table_faults : Bool → Bool → ℕ → Members → List Fault
 group_table_faults third fourth g ms =
-    table_faults (at.Group g) (group_rules third ms) ms ++ (signals_faults third fourth g ms ++ texts_faults third g ms)
+    group_keys_faults third fourth g ms ++ (signals_faults third fourth g ms ++ texts_faults third g ms)
 
 -- the faults of the g-th group, behind those with the labels seen
 unfoldable pub group_faults : Bool → Bool → ℕ → List (List ℕ) → Data → List Fault

@@ -4,11 +4,10 @@ use Rattle.toml.specs.Data.{Data, Items, no_items, item, Members}
 use Rattle.j39_plan.specs.declared.reading.fault.Fault.{Fault}
 use Rattle.j39_plan.specs.declared.reading.place.Table.TheVariants as at
 use Rattle.j39_plan.specs.Schema.{tables_of}
-use Rattle.j39_plan.specs.TableFaults.{table_faults}
 use Rattle.j39_plan.specs.Elements.{inside}
 use Rattle.j39_plan.specs.SignalTables.{signal_faults, signal_table_faults}
 use Rattle.j39_plan.specs.UnitTables.{unit_faults}
-use Rattle.j39_plan.specs.GroupTables.{group_rules, has_records, signal_rule, signal_labels, signals_faults, text_tables_of, group_faults}
+use Rattle.j39_plan.specs.GroupTables.{group_keys_faults, has_records, signal_rule, signal_labels, signals_faults, text_tables_of, group_faults}
 use Rattle.j39_plan.specs.TextTables.{text_faults}
 use Rattle.j39_plan.specs.FlowTables.{flow_faults}
 use Rattle.j39_plan.specs.NeedTables.{need_faults}
@@ -29,9 +28,9 @@ EachGrows faults Grows (item d ds) = Grows 0 d ⊎ (faults 0 [] d ≡ [])
 abbrev pub SignalGrows : Bool → Bool → Bool → ℕ → ℕ → Data → Type 0
 SignalGrows third fourth records g i d = signal_table_faults third fourth records (at.Signal g i) (inside d) ≡ []
 
--- in a group, whose table has no fault, among its signals, or behind these among its texts
+-- in a group, whose keys have no fault, among its signals, or behind these among its texts
 abbrev pub GroupGrows : Bool → Bool → ℕ → Members → Type 0
-GroupGrows third fourth g ms = (table_faults (at.Group g) (group_rules third ms) ms ≡ [])
+GroupGrows third fourth g ms = (group_keys_faults third fourth g ms ≡ [])
     × (EachGrows (signal_faults third fourth (has_records third ms) g) (SignalGrows third fourth (has_records third ms) g) (tables_of signal_rule ms)
     ⊎ ((signals_faults third fourth g ms ≡ []) × EachGrows (text_faults (signal_labels ms) g) NeverGrows (text_tables_of third ms)))
 

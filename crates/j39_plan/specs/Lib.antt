@@ -10,6 +10,7 @@ pub mod RequestTables
 pub mod OnePlan
 pub mod Outcome
 pub mod Schema
+pub mod SelectorTables
 pub mod SignalTables
 pub mod TableFaults
 pub mod TextKinds

@@ -2,6 +2,7 @@
 use Rattle.std.specs.Prelude.{◌≡◌, ◌≢◌, ℕ, List, Option, Some, None, Result, Ok, Err}
 use Rattle.std.specs.List.{AllZip}
 use Rattle.j39_signal.specs.Parts.{SignalParts}
+use Rattle.j39_signal.specs.declared.selector.Selector.{Selector}
 use Rattle.j39_findings.specs.declared.plan.Plan.{Plan}
 use Rattle.j39_findings.specs.declared.plan.unit_plan.UnitPlan.{UnitPlan}
 use Rattle.j39_findings.specs.declared.plan.group_plan.GroupPlan.{GroupPlan}
@@ -55,6 +56,12 @@ pub record AreOneText (t u : TextPlan) : Type 0 where
   pub places : t.byte ≡ u.byte
   pub lengths : t.bytes ≡ u.bytes
 
+-- one selector, or none
+abbrev pub AreOneSelector : Option Selector → Option Selector → Type 0
+AreOneSelector None None = Unit {0}
+AreOneSelector (Some v) (Some w) = (v.start ≡ w.start) × (v.bits ≡ w.bits) × (v.value ≡ w.value)
+AreOneSelector _ _ = ⊥
+
 pub record AreOneGroup (g h : GroupPlan) : Type 0 where
   pub labels : g.label.bytes ≡ h.label.bytes
   pub pgns : g.pgn ≡ h.pgn
@@ -63,6 +70,7 @@ pub record AreOneGroup (g h : GroupPlan) : Type 0 where
   pub privates : g.private ≡ h.private
   pub mosts : g.most ≡ h.most
   pub everys : g.every ≡ h.every
+  pub whens : AreOneSelector g.when h.when
   pub signals : AllZip AreOneSignal g.signals.items h.signals.items
   pub meanings : AllZip AreOneMeaning g.meanings.items h.meanings.items
   pub texts : AllZip AreOneText g.texts.items h.texts.items

@@ -53,9 +53,10 @@ IsThirdUnit = Lacks (key.Queue ∷ key.Claims ∷ [])
 abbrev pub IsThirdSignal : Members → Type 0
 IsThirdSignal = Lacks (key.Optional ∷ key.Spn ∷ key.Values ∷ [])
 
--- nor among the signals of a group
-abbrev pub IsThirdGroup : Members → Type 0
-IsThirdGroup ms = EachTable IsThirdSignal (tables_of signal_rule ms)
+-- nor in that of a group
+pub record IsThirdGroup (ms : Members) : Type 0 where
+  pub keys : Lacks (key.When ∷ []) ms
+  pub signals : EachTable IsThirdSignal (tables_of signal_rule ms)
 
 -- nor in the table of a flow
 abbrev pub fourth_flow_keys : List Key

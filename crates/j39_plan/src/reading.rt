@@ -21,6 +21,7 @@ mod needs;
 mod place;
 mod plan_error;
 mod requests;
+mod selectors;
 mod signals;
 mod tables;
 mod text_kind;

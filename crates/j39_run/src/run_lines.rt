@@ -48,6 +48,7 @@ fn step_cause(error: StepError) -> &'static str
         StepError::NoAddress => "NoAddress",
         StepError::Busy => "Busy",
         StepError::WrongLength => "WrongLength",
+        StepError::WrongSelector => "WrongSelector",
         StepError::NothingToSend => "NothingToSend",
         StepError::NoSession => "NoSession",
         StepError::CannotRest => "CannotRest",

@@ -1,4 +1,5 @@
 pub mod AtPlace
+pub mod Blanks
 pub mod Further
 pub mod LaidOut
 pub mod Merging

@@ -1,16 +1,16 @@
 -- A payload that is written keeps its other signals.
-use Rattle.std.proofs.Common.{◌≡◌, ◌≢◌, ℕ, ℤ, zero, suc, ◌+◌, ◌-◌, ◌*◌, ◌/◌, ◌%◌, ◌^◌, ◌<◌, ◌≤◌, ◌==◌, ◌||◌, true, false, List, [], ◌∷◌, length}
+use Rattle.std.proofs.Common.{◌≡◌, ◌≢◌, ℕ, ℤ, zero, suc, ◌+◌, ◌-◌, ◌*◌, ◌^◌, ◌<◌, ◌≤◌, ◌==◌, ◌||◌, true, false, None, List, [], ◌∷◌, length}
 use Rattle.std.proofs.Common.{slice_index, slice_index_or, slice_set, map, sym, refl, ap, ◌∙◌, inl, inr, arith}
 use Rattle.std.specs.Prelude.{nat_lt, IsTrue}
 use Rattle.std.specs.List.{AllPairs}
 use Rattle.std.proofs.lemmas.Bool.{cases_order, or_cases, eqb-true, lt-ltb, le-ltb}
 use Rattle.std.proofs.lemmas.Nat.{pow_pos}
 use Rattle.std.proofs.lemmas.Nat.Bits.{bit_at_ones}
-use Rattle.std.proofs.lemmas.List.{get_or-replicate, get_or-set_same, get_or-set_other, get_or-map, length-set, length-map, length-replicate}
+use Rattle.std.proofs.lemmas.List.{get_or-set_same, get_or-set_other, get_or-map, length-set, length-map}
 use Rattle.j39_signal.specs.Bits.{bit, number_at, raw_of, all_ones, Put}
-use Rattle.j39_signal.specs.Laid.{Laid, Write, IsWrittenFrom, Chain, blank, last_payload, last_raws, given_up}
+use Rattle.j39_signal.specs.Laid.{Laid, IsBlank, Write, IsWrittenFrom, Chain, last_payload, last_raws, given_up}
 use Rattle.j39_signal.specs.Parts.{SignalParts}
-use Rattle.j39_signal.specs.Places.{LaysOut, SharesBit, width_fits}
+use Rattle.j39_signal.specs.Places.{IsInside, LaysOut, SharesBit, width_fits}
 use Rattle.j39_signal.specs.State.{Ranges, ranges_of, state_in, state_of, value_of, IsRawOf}
 use Rattle.j39_signal.specs.declared.kind.Kind.{Kind}
 use Rattle.j39_signal.specs.declared.kind.Kind.TheVariants.{Measured, Discrete, Raw, States, Signed, Dtc}
@@ -52,10 +52,10 @@ some_signal [] i h = absurd (omega arith)
 some_signal (s ∷ ss) i h = s
 
 -- what a payload holds after a write
-held_after : (bytes : ℕ) (signals : List SignalParts) (raws : List ℕ) (old : List ℕ) (w : Write) → AllPairs (λ s t. ¬ SharesBit s t) signals
-    → Laid bytes signals raws old → IsWrittenFrom signals old w → (i : ℕ) → i < length signals → (d : SignalParts)
+held_after : (start : List ℕ) (signals : List SignalParts) (raws : List ℕ) (old : List ℕ) (w : Write) → AllPairs (λ s t. ¬ SharesBit s t) signals
+    → Laid start signals raws old → IsWrittenFrom signals old w → (i : ℕ) → i < length signals → (d : SignalParts)
     → raw_of w.payload (slice_index_or signals i d) ≡ slice_index (slice_set raws w.place w.raw) i
-held_after bytes signals raws old w apart laid follows i h d =
+held_after start signals raws old w apart laid follows i h d =
     let counted = laid.counted in
     let place = follows.0 in
     let put = (follows.1 d).1 in
@@ -72,53 +72,53 @@ held_after bytes signals raws old w apart laid follows i h d =
     ]
 
 -- a payload is still laid out after a write
-laid_after : (bytes : ℕ) (signals : List SignalParts) (raws : List ℕ) (old : List ℕ) (w : Write) → AllPairs (λ s t. ¬ SharesBit s t) signals
-    → Laid bytes signals raws old → IsWrittenFrom signals old w → Laid bytes signals (slice_set raws w.place w.raw) w.payload
-laid_after bytes signals raws old w apart laid follows =
+laid_after : (start : List ℕ) (signals : List SignalParts) (raws : List ℕ) (old : List ℕ) (w : Write) → AllPairs (λ s t. ¬ SharesBit s t) signals
+    → Laid start signals raws old → IsWrittenFrom signals old w → Laid start signals (slice_set raws w.place w.raw) w.payload
+laid_after start signals raws old w apart laid follows =
     let s : SignalParts = some_signal signals w.place follows.0 in
     let put = (follows.1 s).1 in
     record {
       same_length = put.same_length ∙ laid.same_length;
       counted = length-set raws w.place w.raw ∙ laid.counted;
-      held = held_after bytes signals raws old w apart laid follows;
+      held = held_after start signals raws old w apart laid follows;
       free = λ j h none. put.others j (none w.place s follows.0) ∙ laid.free j h none;
     }
 
 -- and after each write of a chain
-pub laid_along : (bytes : ℕ) (signals : List SignalParts) (raws : List ℕ) (payload : List ℕ) (writes : List Write)
-    → AllPairs (λ s t. ¬ SharesBit s t) signals → Laid bytes signals raws payload → Chain signals payload writes
-    → Laid bytes signals (last_raws raws writes) (last_payload payload writes)
-laid_along bytes signals raws payload [] apart laid chain = laid
-laid_along bytes signals raws payload (w ∷ ws) apart laid chain =
-    laid_along bytes signals (slice_set raws w.place w.raw) w.payload ws apart (laid_after bytes signals raws payload w apart laid chain.0) chain.1
+pub laid_along : (start : List ℕ) (signals : List SignalParts) (raws : List ℕ) (payload : List ℕ) (writes : List Write)
+    → AllPairs (λ s t. ¬ SharesBit s t) signals → Laid start signals raws payload → Chain signals payload writes
+    → Laid start signals (last_raws raws writes) (last_payload payload writes)
+laid_along start signals raws payload [] apart laid chain = laid
+laid_along start signals raws payload (w ∷ ws) apart laid chain =
+    laid_along start signals (slice_set raws w.place w.raw) w.payload ws apart (laid_after start signals raws payload w apart laid chain.0) chain.1
+
+-- ---- the first payload
+
+-- it holds its own raw numbers
+first_laid : (start : List ℕ) (signals : List SignalParts) → Laid start signals (map (raw_of start) signals) start
+first_laid start signals = record {
+  same_length = refl;
+  counted = length-map signals (raw_of start);
+  held = λ i h d. sym (get_or-map (raw_of start) signals i d 0 h);
+  free = λ j h none. refl;
+}
+
+pub keeps_writes : (start : List ℕ) (signals : List SignalParts) → LaysOut (length start) signals → (writes : List Write)
+    → Chain signals start writes
+    → Laid start signals (last_raws (map (raw_of start) signals) writes) (last_payload start writes)
+keeps_writes start signals out writes chain =
+    laid_along start signals (map (raw_of start) signals) start writes out.apart (first_laid start signals) chain
 
 -- ---- a blank payload
 
-blank_bit : (bytes j : ℕ) → j < 8 * bytes → bit (blank bytes) j ≡ 1
-blank_bit bytes j h =
-    ap (λ (b : ℕ). b / 2 ^ (j % 8) % 2) (get_or-replicate bytes (j / 8) 255 0 (omega arith)) ∙ bit_at_ones 8 (j % 8) (omega arith)
+ones_number : (payload : List ℕ) (start k : ℕ) → start + k ≤ 8 * length payload → ((j : ℕ) → j < 8 * length payload → bit payload j ≡ 1)
+    → number_at payload start k ≡ 2 ^ k - 1
+ones_number payload start k inside ones =
+    number_at-same payload start (2 ^ k - 1) k (omega (arith, pow_pos k))
+    (λ j h. ones (start + j) (omega arith) ∙ sym (bit_at_ones k j h))
 
-blank_number : (bytes start k : ℕ) → start + k ≤ 8 * bytes → number_at (blank bytes) start k ≡ 2 ^ k - 1
-blank_number bytes start k inside =
-    number_at-same (blank bytes) start (2 ^ k - 1) k (omega (arith, pow_pos k))
-    (λ j h. blank_bit bytes (start + j) (omega arith) ∙ sym (bit_at_ones k j h))
-
--- a blank payload has all ones in each signal
-blank_laid : (bytes : ℕ) (signals : List SignalParts) → LaysOut bytes signals → Laid bytes signals (map all_ones signals) (blank bytes)
-blank_laid bytes signals out = record {
-  same_length = length-replicate bytes 255;
-  counted = length-map signals all_ones;
-  held = λ i h d.
-      blank_number bytes (slice_index_or signals i d).start (slice_index_or signals i d).bits (out.inside i d h)
-      ∙ sym (get_or-map all_ones signals i d 0 h);
-  free = λ j h none. blank_bit bytes j h;
-}
-
-pub keeps_writes : (bytes : ℕ) (signals : List SignalParts) → LaysOut bytes signals → (writes : List Write)
-    → Chain signals (blank bytes) writes
-    → Laid bytes signals (last_raws (map all_ones signals) writes) (last_payload (blank bytes) writes)
-keeps_writes bytes signals out writes chain =
-    laid_along bytes signals (map all_ones signals) (blank bytes) writes out.apart (blank_laid bytes signals out) chain
+pub blank_ones : (payload : List ℕ) (s : SignalParts) → IsBlank None payload → IsInside (length payload) s → raw_of payload s ≡ all_ones s
+blank_ones payload s blank inside = ones_number payload s.start s.bits inside (λ j h. blank.others j h (λ none. none))
 
 -- ---- what is read
 

@@ -1,21 +1,23 @@
--- Payloads that are written signal after signal, from one in which every bit is 1.
-use Rattle.std.specs.Prelude.{◌≡◌, ℕ, ◌*◌, ◌<◌, ◌⊎◌, ℤ, List, [], ◌∷◌, length, slice_index, slice_set, replicate, map, All}
+-- Payloads that are written signal after signal, from any that has their length.
+use Rattle.std.specs.Prelude.{◌≡◌, ℕ, ◌*◌, ◌<◌, ◌≤◌, ◌⊎◌, ℤ, true, Option, Some, None, List, [], ◌∷◌, length, slice_index, slice_set, replicate, map, All}
 use Rattle.std.specs.List.{HoldsAt}
 use Rattle.j39_signal.specs.Bits.{bit, raw_of, all_ones, Put}
 use Rattle.j39_signal.specs.Parts.{SignalParts}
-use Rattle.j39_signal.specs.Places.{Covers, LaysOut, WidthFits}
+use Rattle.j39_signal.specs.Places.{Covers, IsInside, LaysOut, WidthFits}
+use Rattle.j39_signal.specs.Selectors.{is_selected, selector_end}
+use Rattle.j39_signal.specs.declared.selector.Selector.{Selector}
 use Rattle.j39_signal.specs.State.{IsValue, IsRawOf, state_of, value_of}
 use Rattle.j39_signal.specs.declared.kind.Kind.{Kind}
 use Rattle.j39_signal.specs.declared.kind.Kind.TheVariants.{Measured, Discrete, Raw, States, Signed, Dtc}
 use Rattle.j39_signal.specs.declared.state.State.{State}
 use Rattle.j39_signal.specs.declared.state.State.TheVariants.{Value, Absent}
 
--- the payload has this length and one of these raw numbers in each signal, and every bit of no signal is 1
-pub record Laid (bytes : ℕ) (signals : List SignalParts) (raws : List ℕ) (payload : List ℕ) : Type 0 where
-  pub same_length : length payload ≡ bytes
+-- the payload is as long as the first one, has one of these raw numbers in each signal, and every bit of no signal as the first one has it
+pub record Laid (start : List ℕ) (signals : List SignalParts) (raws : List ℕ) (payload : List ℕ) : Type 0 where
+  pub same_length : length payload ≡ length start
   pub counted : length raws ≡ length signals
   pub held : (i : ℕ) → i < length signals → HoldsAt (λ s. raw_of payload s ≡ slice_index raws i) signals i
-  pub free : (j : ℕ) → j < 8 * bytes → All (λ s. ¬ Covers s j) signals → bit payload j ≡ 1
+  pub free : (j : ℕ) → j < 8 * length start → All (λ s. ¬ Covers s j) signals → bit payload j ≡ bit start j
 
 -- a write: the place of its signal, the raw number, and the payload after it
 pub record Write : Type 0 where
@@ -59,17 +61,31 @@ given_up Dtc value = Absent
 abbrev pub blank : ℕ → List ℕ
 blank bytes = replicate bytes 255
 
+-- the bit is one of the selector's
+abbrev pub IsSelectorBit : Option Selector → ℕ → Type 0
+IsSelectorBit None j = ⊥
+IsSelectorBit (Some w) j = (w.start ≤ j) × (j < selector_end w)
+
+-- a payload that the selector takes, in which every other bit is 1, so that no signal is available
+pub record IsBlank (selector : Option Selector) (payload : List ℕ) : Type 0 where
+  pub selected : is_selected selector payload ≡ true
+  pub others : (j : ℕ) → j < 8 * length payload → ¬ IsSelectorBit selector j → bit payload j ≡ 1
+
 -- ---- laws
 
--- every chain of writes that begins with a blank payload ends in a payload that holds the raw number last put for each
--- signal, all ones where there was none
-abbrev pub KeepsWrites : ℕ → List SignalParts → Type 0
-KeepsWrites bytes signals = (writes : List Write) → Chain signals (blank bytes) writes
-    → Laid bytes signals (last_raws (map all_ones signals) writes) (last_payload (blank bytes) writes)
+-- every chain of writes that begins with this payload ends in one that holds the raw number last put for each signal, and its own where there
+-- was none
+abbrev pub KeepsWrites : List ℕ → List SignalParts → Type 0
+KeepsWrites start signals = (writes : List Write) → Chain signals start writes
+    → Laid start signals (last_raws (map (raw_of start) signals) writes) (last_payload start writes)
 
--- so do all signals that lay out a payload
+-- so it is with all signals that lay out a payload, whichever they begin with
 abbrev pub LaidOutKeepWrites : Type 0
-LaidOutKeepWrites = (bytes : ℕ) (signals : List SignalParts) → LaysOut bytes signals → KeepsWrites bytes signals
+LaidOutKeepWrites = (start : List ℕ) (signals : List SignalParts) → LaysOut (length start) signals → KeepsWrites start signals
+
+-- in a blank payload that no selector has a hand in each signal has all ones
+abbrev pub BlanksAreOnes : Type 0
+BlanksAreOnes = (payload : List ℕ) (s : SignalParts) → IsBlank None payload → IsInside (length payload) s → raw_of payload s ≡ all_ones s
 
 -- the raw number of a value reads as that value
 abbrev pub ValuesReadBack : Type 0

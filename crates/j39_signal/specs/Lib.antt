@@ -4,4 +4,5 @@ pub mod LayoutParts
 pub mod Parts
 pub mod Places
 pub mod Refusals
+pub mod Selectors
 pub mod State

@@ -1,14 +1,16 @@
 //! Layouts.
-ghost use Rattle.std.specs.Prelude.{◌≡◌, ◌≢◌, ◌↔◌, ◌<◌, ◌≤◌, length, All, IsSome, IsTrue, IfOk, IfErr, IfSome, IfNone, OnOk, OnErr};
+ghost use Rattle.std.specs.Prelude.{◌≡◌, ◌≢◌, ◌↔◌, ℕ, ◌+◌, ◌*◌, ◌<◌, ◌≤◌, length, None, Some, All, IsSome, IsTrue, IfOk, IfErr, IfSome, IfNone, OnOk, OnErr};
 ghost use Rattle.std.specs.List.{HoldsAt};
 ghost use Rattle.j39_id.specs.FirstFault.{first_fault};
 ghost use Rattle.j39_signal.specs.Bits.{Put, raw_of, all_ones};
-ghost use Rattle.j39_signal.specs.Laid.{blank};
+ghost use Rattle.j39_signal.specs.Laid.{IsBlank, blank};
+ghost use Rattle.j39_signal.specs.Selectors.{EndsInside};
 ghost use Rattle.j39_signal.specs.Places.{WidthFits, IsInside, IsAlwaysInside, IsThere, SharesBit, LaysOut, LaysOutFrom, further};
 ghost use Rattle.j39_signal.specs.Refusals.{HasLayoutFault, first_sharer as sharer_of, placement_faults};
 ghost use Rattle.j39_signal.specs.State.{shown_of, state_of, state_in_payload, RefusesWrite, WritesValue};
 
-use crate::{LayoutError, Shown, Signal, State, WriteError};
+use crate::bits::set_bits;
+use crate::{LayoutError, Selector, Shown, Signal, State, WriteError};
 use j39_id::limits::MESSAGE_BYTES;
 use std::alloc::{AllocError, Global};
 use std::marker::Model;
@@ -19,18 +21,20 @@ use std::marker::Model;
 pub struct Layout {
     bytes: u16,
     most: u16,
+    when: Option<Selector>,
     signals: Vec<Signal>,
 }
 
 impl Model for Layout {
     ghost use Rattle.j39_signal.specs.LayoutParts.{LayoutParts};
     ghost use Rattle.j39_signal.specs.Places.{LaysOutFrom};
+    ghost use Rattle.j39_signal.specs.Selectors.{EndsInside};
 
     ghost Value = { LayoutParts };
 
-    ghost view = { λ l. record { length = l.bytes; most = l.most; signals = l.signals.items } };
+    ghost view = { λ l. record { length = l.bytes; most = l.most; when = l.when; signals = l.signals.items } };
 
-    ghost invariant = { λ l. LaysOutFrom l.bytes l.most l.signals.items };
+    ghost invariant = { λ l. LaysOutFrom l.bytes l.most l.signals.items × EndsInside l.bytes l.when };
 }
 
 // The place of the first of these signals that shares a bit with another.
@@ -57,6 +61,32 @@ fn fault_after(before: &[Signal], signal: &Signal, length: u16) -> Option<Layout
     Some(LayoutError::Overlap(first, before.len()))
 }
 
+// Whether the bits of a selector end inside so many bytes.
+#[tactic(auto, using(crate::proofs::Blanks::ends_by, crate::proofs::Blanks::ends_not_by, crate::proofs::Blanks::ends_of_none))]
+fn ends_inside(when: Option<Selector>, length: u16) -> bool
+    ensures { IsTrue result ↔ EndsInside length when }
+{
+    match when {
+        Some(selector) => selector.end() <= 8 * u32::from(length),
+        None => true,
+    }
+}
+
+// So many bytes in which every bit is 1.
+fn all_ones(alloc: Global, bytes: u16) -> Result<Vec<u8>, AllocError>
+    ensures { IfOk result (λ payload. payload.items ≡ blank bytes) }
+{
+    vec![in alloc; 255; usize::from(bytes)]
+}
+
+// Sets the bits of a selector to its value.
+fn select(payload: &mut [u8], selector: Selector)
+    requires { selector.start + selector.bits ≤ 8 * length payload.old }
+    ensures { (bytes : ℕ) → payload.old ≡ blank bytes → IsBlank (Some selector) payload.new }
+{
+    set_bits(payload, selector.start, selector.bits, selector.value);
+}
+
 // Whether each of these that isn't optional ends within so many bytes.
 fn are_always_inside(signals: &[Signal], length: u16) -> bool
     ensures { IsTrue result ↔ All (IsAlwaysInside length) signals.now }
@@ -71,6 +101,7 @@ impl Layout {
     pub fn new(alloc: Global, length: u16, signals: &[Signal]) -> Result<Self, LayoutError>
         ensures length { IfOk result (λ l. l.length ≡ length) }
         ensures most { IfOk result (λ l. l.most ≡ length) }
+        ensures when { IfOk result (λ l. l.when ≡ None) }
         ensures signals { IfOk result (λ l. l.signals ≡ signals.now) }
         ensures lays_out { OnOk result (LaysOut length signals.now) }
         ensures refused { IfErr result (HasLayoutFault length signals.now) }
@@ -89,18 +120,22 @@ impl Layout {
         Ok(Layout {
             bytes: length,
             most: length,
+            when: None,
             signals,
         })
     }
 
     /// The layout of payloads of `length` bytes and more, up to the longest that it lays out.
     ///
-    /// None where the length is 0 or above that of the longest, or where a signal ends behind it that isn't optional.
+    /// None where the length is 0 or above that of the longest, or where a signal that isn't optional or the selector ends behind it.
     pub fn from_length(self, length: u16) -> Option<Self>
-        ensures valid { IsSome result ↔ ((1 ≤ length) × (length ≤ self.most) × All (IsAlwaysInside length) self.signals) }
+        ensures valid { IsSome result ↔ ((1 ≤ length) × (length ≤ self.most) × All (IsAlwaysInside length) self.signals × EndsInside length self.when) }
         ensures shorter { IfSome result (λ l. l ≡ record self { length = length }) }
     {
-        let fits = 1 <= length && length <= self.most && are_always_inside(&self.signals, length);
+        let fits = 1 <= length
+            && length <= self.most
+            && are_always_inside(&self.signals, length)
+            && ends_inside(self.when, length);
         if fits {
             Some(Layout {
                 bytes: length,
@@ -109,6 +144,27 @@ impl Layout {
         } else {
             None
         }
+    }
+
+    /// The layout of payloads that a selector takes.
+    ///
+    /// None where the selector's bits end behind the shortest payload.
+    pub fn with_selector(self, when: Option<Selector>) -> Option<Self>
+        ensures valid { IsSome result ↔ EndsInside self.length when }
+        ensures selected { IfSome result (λ l. l ≡ record self { when = when }) }
+    {
+        if ends_inside(when, self.bytes) {
+            Some(Layout { when, ..self })
+        } else {
+            None
+        }
+    }
+
+    /// The selector that takes the payloads, if there is one.
+    pub fn when(&self) -> Option<Selector>
+        ensures { result ≡ self.now.when }
+    {
+        self.when
     }
 
     /// The length of the shortest payload in bytes.
@@ -133,19 +189,29 @@ impl Layout {
         self.signals.len()
     }
 
-    /// The shortest payload, in which every bit is 1, so that no signal is available.
+    /// The shortest payload in which every bit is 1, so that no signal is available, but for those of a selector, which have its
+    /// value.
     pub fn blank(&self, alloc: Global) -> Result<Vec<u8>, AllocError>
-        ensures { IfOk result (λ payload. payload.items ≡ blank self.now.length) }
+        ensures length { IfOk result (λ payload. length payload.items ≡ self.now.length) }
+        ensures blank { IfOk result (λ payload. IsBlank self.now.when payload.items) }
+        ensures ones { self.now.when ≡ None → IfOk result (λ payload. payload.items ≡ blank self.now.length) }
     {
-        vec![in alloc; 255; usize::from(self.bytes)]
+        self.blank_of(alloc, self.bytes)
     }
 
     /// The same of so many bytes.
+    #[tactic(auto, using(crate::proofs::Blanks::ends_in))]
     pub fn blank_of(&self, alloc: Global, bytes: u16) -> Result<Vec<u8>, AllocError>
         requires { (self.now.length ≤ bytes) × (bytes ≤ self.now.most) }
-        ensures { IfOk result (λ payload. payload.items ≡ blank bytes) }
+        ensures length { IfOk result (λ payload. length payload.items ≡ bytes) }
+        ensures blank { IfOk result (λ payload. IsBlank self.now.when payload.items) }
+        ensures ones { self.now.when ≡ None → IfOk result (λ payload. payload.items ≡ blank bytes) }
     {
-        vec![in alloc; 255; usize::from(bytes)]
+        let mut payload = all_ones(alloc, bytes)?;
+        if let Some(selector) = self.when {
+            select(&mut payload, selector);
+        }
+        Ok(payload)
     }
 
     // The signal at place `i`.

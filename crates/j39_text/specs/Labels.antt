@@ -4,6 +4,7 @@ use Rattle.std.specs.List.{slice_get}
 use Rattle.std.specs.Option.{option_map_or}
 use Rattle.j39_signal.specs.Parts.{SignalParts}
 use Rattle.j39_signal.specs.Places.{end_of}
+use Rattle.j39_signal.specs.Selectors.{selector_end}
 use Rattle.j39_findings.specs.declared.plan.Plan.{Plan}
 use Rattle.j39_findings.specs.declared.plan.unit_plan.UnitPlan.{UnitPlan}
 use Rattle.j39_findings.specs.declared.plan.group_plan.GroupPlan.{GroupPlan}
@@ -44,6 +45,10 @@ text_label plan g t = option_map_or (λ (text : TextPlan). text.label.bytes) (sl
 -- the last byte of the text
 unfoldable pub text_end : Plan → ℕ → ℕ → ℕ
 text_end plan g t = option_map_or last_byte (slice_get (texts_of plan g) t) 0
+
+-- the first place behind the bits of the group's selector
+unfoldable pub group_selector_end : Plan → ℕ → ℕ
+group_selector_end plan g = option_map_or (λ (group : GroupPlan). option_map_or selector_end group.when 0) (slice_get plan.groups.items g) 0
 
 -- a word, and two units
 unfoldable pub units_text : List ℕ → Plan → ℕ → ℕ → List ℕ

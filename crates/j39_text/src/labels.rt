@@ -1,6 +1,6 @@
 //! What a place of a plan names. Past the last place there is nothing.
 ghost use Rattle.std.specs.Prelude.{◌≡◌, ◌++◌, OnOk};
-ghost use Rattle.j39_text.specs.Labels.{group_label, group_pgn, group_text, signal_bits, signal_end, signal_label};
+ghost use Rattle.j39_text.specs.Labels.{group_label, group_pgn, group_selector_end, group_text, signal_bits, signal_end, signal_label};
 ghost use Rattle.j39_text.specs.Labels.{signals_of, text_end, text_label, texts_of, unit_address, unit_label, units_text};
 
 use crate::TextBuffer;
@@ -116,6 +116,20 @@ pub fn text_end(plan: &Plan, group: usize, text: usize) -> u16
 {
     match texts_of(plan, group).get(text) {
         Some(text) => text.last_byte(),
+        None => 0,
+    }
+}
+
+/// The first place behind the bits of a group's selector, in bits from 0; 0 where it has none.
+#[tactic(auto, unfolding(crate::specs::Labels::group_selector_end))]
+pub fn group_selector_end(plan: &Plan, group: usize) -> u32
+    ensures { result ≡ group_selector_end plan.now group }
+{
+    match plan.groups.get(group) {
+        Some(group) => match group.when {
+            Some(selector) => selector.end(),
+            None => 0,
+        },
         None => 0,
     }
 }

@@ -209,10 +209,10 @@ module _ (s : Schedule) (controllers : Controllers) (legal : IsLegalInAnyOrder s
       };
       from_least = known.from_least;
       to_greatest = known.to_greatest;
-      own_identifier = λ p q t in_p in_q seen is source at_p at_q same.
+      own_identifier = λ p q t in_p in_q seen is shared at_p at_q same.
           let late_p : s.queued p ≤ offered_from s p s.count = offered_late s p s.count in
           let late_q : s.queued q ≤ offered_from s q s.count = offered_late s q s.count in
-          known.own_identifier p q t in_p in_q seen is source (omega (arith, late_p, at_p.0), at_p.1) (omega (arith, late_q, at_q.0), at_q.1) same;
+          known.own_identifier p q t in_p in_q seen is shared (omega (arith, late_p, at_p.0), at_p.1) (omega (arith, late_q, at_q.0), at_q.1) same;
       urgency_of_others = known.urgency_of_others;
       few_others = λ p from to in_p is source seen waiting stretch.
           let most : others_queued s planned (s.ident p) from to ≤ others.count =
@@ -259,8 +259,8 @@ module _ (s : Schedule) (controllers : Controllers) (legal : IsLegalInAnyOrder s
         (omega (arith, own, fits)) p in_p is same (omega (arith, own, seen)) in
         (omega (arith, begins, ready), omega (arith, sent, own))
 
-    pub ordered_behind : AreQueuedBehind s planned of i → AreSteady s planned of i → AreSentWithin s planned of i (traffic.stream i) wait
-    ordered_behind behind steady p in_p is source seen =
+    pub ordered_behind : ((j : ℕ) → traffic.are_twins i j ≡ false) → AreQueuedBehind s planned of i → AreSteady s planned of i → AreSentWithin s planned of i (traffic.stream i) wait
+    ordered_behind alone behind steady p in_p is source seen =
         let ready : (q : ℕ) → q < s.count → planned q ≡ true → of.source q ≡ i → offered_from s q s.count ≡ s.queued q =
         λ q in_q of_plan same. ordered_as_ready q in_q (ordered q in_q of_plan same) in
         let apart : AreQueuedBehind (as_offered s) planned of i = λ q r in_q in_r differ is_q is_r of_q of_r.
@@ -278,6 +278,6 @@ module _ (s : Schedule) (controllers : Controllers) (legal : IsLegalInAnyOrder s
         (h, in_h, of_plan, at_most, as_waiting h t waits)) in
         let own = ready p in_p is source in
         let sent : s.start p + s.bits p ≤ offered_from s p s.count + (wait + (traffic.stream i).bits) =
-        behind_in_time (as_offered s) later others longest planned of legal_as_offered i wait later_known positive later_room apart still
+        behind_in_time (as_offered s) later others longest planned of legal_as_offered i wait later_known positive later_room alone apart still
         p in_p is source (omega (arith, seen, own)) in
         omega (arith, sent, own)

@@ -5,7 +5,7 @@ use Rattle.std.proofs.lemmas.Bool.{cases_lt, eqb-true, lt-ltb, ltb-true, or_case
 use Rattle.j39_timing.specs.Sums.{total}
 use Rattle.j39_timing.specs.TimedFrames.{Schedule}
 use Rattle.j39_timing.specs.FrameStreams.{Origins}
-use Rattle.j39_timing.specs.Traffic.{Traffic}
+use Rattle.j39_timing.specs.Traffic.{Traffic, no_twins}
 use Rattle.j39_timing.specs.AnyOrder.{Controllers, IsLegalInAnyOrder, IsUnordered}
 use Rattle.j39_timing.specs.Companies.{Company, HasRoomInCompany, IsTrafficOfCompany}
 use Rattle.j39_timing.specs.Rounds.{all_planned}
@@ -24,6 +24,7 @@ three_streams = record {
   stream = λ j. record { frames = 1; period = 1000; bits = 160; late = 0 };
   least = λ j. j + 1;
   greatest = λ j. j + 1;
+  are_twins = no_twins;
 }
 
 abbrev last_first : Origins

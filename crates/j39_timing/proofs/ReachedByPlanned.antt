@@ -4,7 +4,7 @@ use Rattle.std.proofs.lemmas.Bool.{and_parts, both_ways, cases_Bool, cases_eq, e
 use Rattle.j39_timing.specs.Sums.{total}
 use Rattle.j39_timing.specs.TimedFrames.{Schedule, IsLegal}
 use Rattle.j39_timing.specs.FrameStreams.{Origins}
-use Rattle.j39_timing.specs.Traffic.{Traffic, Others, IsPlannedTraffic, HasRoom, is_other_queued, others_queued}
+use Rattle.j39_timing.specs.Traffic.{Traffic, Others, IsPlannedTraffic, HasRoom, is_other_queued, no_twins, others_queued}
 use Rattle.j39_timing.proofs.Reached.{two, two_legal}
 use Rattle.j39_timing.proofs.Sums.{total-none}
 
@@ -14,6 +14,7 @@ one_stream = record {
   stream = λ j. record { frames = 1; period = 1000; bits = 160; late = 0 };
   least = λ j. 0;
   greatest = λ j. 0;
+  are_twins = no_twins;
 }
 
 abbrev no_others : Others

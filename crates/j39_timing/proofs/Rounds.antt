@@ -3,7 +3,7 @@ use Rattle.std.proofs.Common.{◌≡◌, ℕ, ◌+◌, ◌*◌, ◌-◌, ◌/◌
 use Rattle.std.proofs.Math.Nat.{div-add-mod, mod-lt, mul-le-mul_left}
 use Rattle.std.proofs.lemmas.Bool.{cases_eq, cases_lt, eqb-true, le-ltb, lt-ltb, true≢false}
 use Rattle.j39_timing.specs.TimedFrames.{IsLegal}
-use Rattle.j39_timing.specs.Traffic.{AreQueuedBehind, AreSteady, IsPlannedTraffic}
+use Rattle.j39_timing.specs.Traffic.{AreQueuedBehind, AreSteady, IsPlannedTraffic, may_share}
 use Rattle.j39_timing.specs.Rounds.{AreSenders, Senders, all_planned, in_rounds, begins_message, nothing_else, of_rounds, stream_of, traffic_of_rounds, turn_of, sender_of}
 
 -- of two numbers with one rest the larger one has a larger quotient
@@ -143,11 +143,14 @@ module _ (x : Senders) (is : AreSenders x) (count : ℕ) where
     };
     from_least = λ p _ _. omega arith;
     to_greatest = λ p _ _ same. subst (λ j. x.ident (stream_of x p) ≤ x.ident j) same (omega arith);
-    own_identifier = λ p q t _ _ _ _ _ at_p at_q _.
+    own_identifier = λ p q t _ _ _ _ shared at_p at_q _.
         let (low_p, high_p) = at_p in
         let (low_q, high_q) = at_q in
-        let long = is.long in
-        (refl, ap (stream_of x) (one_at_a_time p q t low_p (omega (arith, high_p, long)) low_q (omega (arith, high_q, long))));
+        let long = is.long in (
+          refl,
+          subst (λ n. may_share (traffic_of_rounds x) i (stream_of x n) ≡ true)
+              (one_at_a_time p q t low_p (omega (arith, high_p, long)) low_q (omega (arith, high_q, long))) shared,
+        );
     urgency_of_others = λ p _ isnt. absurd (true≢false isnt);
     few_others = λ p from to _ _ _ _ waits _. let (early, late) = waits in absurd (omega (arith, early, late));
   }

@@ -8,7 +8,7 @@ use Rattle.j39_timing.specs.FrameStreams.{Origins, AreOfStreams}
 use Rattle.j39_timing.proofs.Sums.{total-le, total-none, total-two}
 
 -- the sum over the places that pass, of which there is one at most
-at_most_one : (n : ℕ) (passes : ℕ → Bool) (f : ℕ → ℕ) (most : ℕ) → ((i : ℕ) → i < n → passes i ≡ true → f i ≤ most)
+pub at_most_one : (n : ℕ) (passes : ℕ → Bool) (f : ℕ → ℕ) (most : ℕ) → ((i : ℕ) → i < n → passes i ≡ true → f i ≤ most)
     → ((i j : ℕ) → i < n → j < n → passes i ≡ true → passes j ≡ true → i ≡ j) → total n (λ i. cond (passes i) (f i) 0) ≤ most
 unfolding total
 at_most_one zero passes f most small one = omega arith
@@ -103,7 +103,7 @@ module _ (n : ℕ) (passes : ℕ → Bool) (at bits : ℕ → ℕ) (period most 
       let rest : within (t + period) (span - period) ≤ k * most = windows k (t + period) (span - period) (omega arith) in
       omega arith
 
-  pub windows_sum : (k t span : ℕ) → span ≤ k * period → total n (λ i. cond (passes i && inside t span (at i)) (bits i) 0) ≤ k * most
+  windows_sum : (k t span : ℕ) → span ≤ k * period → total n (λ i. cond (passes i && inside t span (at i)) (bits i) 0) ≤ k * most
   unfolding within
   windows_sum k t span le = windows k t span le
 

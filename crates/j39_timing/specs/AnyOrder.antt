@@ -85,4 +85,5 @@ offered_traffic traffic waits = record {
   stream = λ j. later_by (waits j) (traffic.stream j);
   least = traffic.least;
   greatest = traffic.greatest;
+  are_twins = traffic.are_twins;
 }

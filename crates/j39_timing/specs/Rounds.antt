@@ -4,7 +4,7 @@ use Rattle.std.specs.Prelude.{ℕ, ◌+◌, ◌*◌, ◌-◌, ◌/◌, ◌%◌, 
 use Rattle.j39_timing.specs.declared.stream.Stream.{Stream}
 use Rattle.j39_timing.specs.TimedFrames.{Schedule}
 use Rattle.j39_timing.specs.FrameStreams.{Origins}
-use Rattle.j39_timing.specs.Traffic.{Traffic, Others}
+use Rattle.j39_timing.specs.Traffic.{Traffic, Others, no_twins}
 
 pub record Senders : Type 0 where
   pub units : ℕ
@@ -66,6 +66,7 @@ traffic_of_rounds x = record {
   stream = λ j. gap_stream x (cond (nat_lt j x.units) 1 (x.packets (j - x.units)));
   least = x.ident;
   greatest = x.ident;
+  are_twins = no_twins;
 }
 
 -- and nothing else is sent

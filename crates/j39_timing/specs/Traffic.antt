@@ -1,6 +1,6 @@
 -- Planned frames among all that are on a bus: of which streams they are, between which identifiers, and what else there is.
 use Rattle.j39_timing.specs.declared.stream.Stream.{Stream}
-use Rattle.std.specs.Prelude.{◌≡◌, ◌≢◌, ℕ, ◌+◌, ◌*◌, ◌<◌, ◌≤◌, ◌⊎◌, Bool, true, false, not, ◌&&◌, cond, nat_eq, nat_lt, nat_le}
+use Rattle.std.specs.Prelude.{◌≡◌, ◌≢◌, ℕ, ◌+◌, ◌*◌, ◌<◌, ◌≤◌, ◌⊎◌, Bool, true, false, not, ◌&&◌, ◌||◌, cond, nat_eq, nat_lt, nat_le}
 use Rattle.j39_timing.specs.Sums.{total}
 use Rattle.j39_timing.specs.TimedFrames.{Schedule, Waits}
 use Rattle.j39_timing.specs.FrameStreams.{Origins, AreOfStreams}
@@ -14,6 +14,16 @@ pub record Traffic : Type 0 where
   pub least : ℕ → ℕ
   -- and where it is one of single frames, none has a greater one
   pub greatest : ℕ → ℕ
+  -- a frame of one stream may have the identifier of a frame of another one: they are twins, of one unit
+  pub are_twins : ℕ → ℕ → Bool
+
+-- no stream is a twin of another
+abbrev pub no_twins : ℕ → ℕ → Bool
+no_twins i j = false
+
+-- a frame of stream j may have the identifier of one of stream i: it is this stream, or a twin of it
+abbrev pub may_share : Traffic → ℕ → ℕ → Bool
+may_share traffic i j = nat_eq j i || traffic.are_twins i j
 
 -- frames of no stream
 pub record Others : Type 0 where
@@ -45,7 +55,8 @@ abbrev pub others_queued : Schedule → (ℕ → Bool) → ℕ → ℕ → ℕ �
 others_queued s planned c from to = total s.count (λ p. cond (is_other_queued s planned c from to p) 1 0)
 
 -- the planned frames of a schedule are those of the streams, and what else is in it keeps within what is foreseen of others while frames of
--- stream i wait: `to_greatest`, `own_identifier` and `few_others` are asked of frames of stream i alone, all else of all frames
+-- stream i wait: `to_greatest` and `few_others` are asked of frames of stream i alone, `own_identifier` of those of its twins too, all else of
+-- all frames
 pub record IsPlannedTraffic (s : Schedule) (traffic : Traffic) (others : Others) (longest : ℕ) (planned : ℕ → Bool) (of : Origins) (i : ℕ) : Type 0 where
   -- no frame is longer
   pub longest_at_most : (p : ℕ) → p < s.count → s.bits p ≤ longest
@@ -54,9 +65,9 @@ pub record IsPlannedTraffic (s : Schedule) (traffic : Traffic) (others : Others)
   -- its identifier is one of the stream's: none is below the least, and of stream i none above the greatest
   pub from_least : (p : ℕ) → p < s.count → planned p ≡ true → traffic.least (of.source p) ≤ s.ident p
   pub to_greatest : (p : ℕ) → p < s.count → planned p ≡ true → of.source p ≡ i → s.ident p ≤ traffic.greatest i
-  -- while a frame of this stream is queued, nothing that is queued too has its identifier but frames of the stream
-  pub own_identifier : (p q t : ℕ) → p < s.count → q < s.count → t < s.now → planned p ≡ true → of.source p ≡ i
-      → IsQueuedAt s p t → IsQueuedAt s q t → s.ident p ≡ s.ident q → (planned q ≡ true) × (of.source p ≡ of.source q)
+  -- while a frame of this stream or of a twin is queued, nothing that is queued too has its identifier but frames of these
+  pub own_identifier : (p q t : ℕ) → p < s.count → q < s.count → t < s.now → planned p ≡ true → may_share traffic i (of.source p) ≡ true
+      → IsQueuedAt s p t → IsQueuedAt s q t → s.ident p ≡ s.ident q → (planned q ≡ true) × (may_share traffic i (of.source q) ≡ true)
   -- what isn't planned has no smaller identifier than this
   pub urgency_of_others : (p : ℕ) → p < s.count → planned p ≡ false → others.least ≤ s.ident p
   -- and while a frame of this stream waits, together with the time before in which planned frames that may go before it wait without a break, no
@@ -66,7 +77,7 @@ pub record IsPlannedTraffic (s : Schedule) (traffic : Traffic) (others : Others)
 
 -- frames of stream j may go before those of stream i, whatever identifiers they have
 abbrev pub may_go_before : Traffic → ℕ → ℕ → Bool
-may_go_before traffic i j = not (nat_eq j i) && nat_lt (traffic.least j) (traffic.greatest i)
+may_go_before traffic i j = not (nat_eq j i) && (nat_lt (traffic.least j) (traffic.greatest i) || traffic.are_twins i j)
 
 -- how many frames of others may go before one of this identifier
 abbrev pub others_before : Others → ℕ → ℕ

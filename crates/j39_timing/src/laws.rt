@@ -1,5 +1,5 @@
 //! Laws of schedules.
-ghost use Rattle.std.specs.Prelude.{◌≡◌, ℕ, Bool, true, ◌+◌, ◌<◌, ◌≤◌, List, All};
+ghost use Rattle.std.specs.Prelude.{◌≡◌, ℕ, Bool, true, false, ◌+◌, ◌<◌, ◌≤◌, List, All};
 ghost use Rattle.j39_timing.specs.TimedFrames.{Schedule, IsLegal};
 ghost use Rattle.j39_timing.specs.FrameStreams.{Origins};
 ghost use Rattle.j39_timing.specs.Errors.{Damaged, IsLegalInAnyOrderWithErrors, IsLegalWithErrors, damage_ordered, with_errors};
@@ -14,7 +14,8 @@ ghost use Rattle.j39_timing.specs.Traffic.{Traffic, Others, IsPlannedTraffic, Is
 /// Of planned frames among all that are on a bus, whose identifiers may change from one to the next: in every legal schedule of such
 /// traffic, where a wait has room for the frame that has begun, for others, and for all streams of which a frame may go before,
 /// each frame of a stream of single frames begins within it. Two of its frames can be queued as much nearer to one another than a period as
-/// they may be late, and the wait has to fit between them.
+/// they may be late, and the wait has to fit between them. A frame may go before too that has the same identifier: one of a twin, of the same
+/// unit.
 pub fn planned_frames_are_in_time()
     ensures in_time { (s : Schedule) (traffic : Traffic) (others : Others) (longest : ℕ) (planned : ℕ → Bool) (of : Origins) → IsLegal s
         → (i wait : ℕ) → IsPlannedTraffic s traffic others longest planned of i
@@ -39,12 +40,13 @@ pub fn a_bus_with_errors_is_legal()
         → IsLegalInAnyOrder (with_errors s damaged) (damage_ordered s controllers) }
 {}
 
-/// Where each frame of a stream is queued after the end of the one before, however late this is, each begins within a wait that has room
-/// for what `planned_frames_are_in_time` names, and has been sent within it and its own length.
+/// Where each frame of a stream without twins is queued after the end of the one before, however late this is, each begins within a wait that
+/// has room for what `planned_frames_are_in_time` names, and has been sent within it and its own length.
 pub fn frames_behind_one_another_are_in_time()
     ensures sent { (s : Schedule) (traffic : Traffic) (others : Others) (longest : ℕ) (planned : ℕ → Bool) (of : Origins) → IsLegal s
         → (i wait : ℕ) → IsPlannedTraffic s traffic others longest planned of i
         → ((j : ℕ) → j < traffic.count → 0 < (traffic.stream j).period) → HasRoom traffic others longest i wait
+        → ((j : ℕ) → traffic.are_twins i j ≡ false)
         → AreQueuedBehind s planned of i → AreSteady s planned of i → AreSentWithin s planned of i (traffic.stream i) wait }
 {}
 
@@ -65,6 +67,15 @@ pub fn a_bound_is_reached()
     ensures { (s : Schedule) × (traffic : Traffic) × (others : Others) × (planned : ℕ → Bool) × (of : Origins) × IsLegal s
         × IsPlannedTraffic s traffic others 160 planned of 0 × HasRoom traffic others 160 0 160 × (1 < s.count) × (planned 1 ≡ true)
         × (of.source 1 ≡ 0) × (s.queued 1 + 160 < s.now) × (s.start 1 ≡ s.queued 1 + 160) }
+{}
+
+/// So it is of twins: there is a legal schedule in which a frame waits for exactly as long as the bound says, while one of a twin goes before
+/// it that has the same identifier.
+pub fn a_bound_of_twins_is_reached()
+    ensures { (s : Schedule) × (traffic : Traffic) × (others : Others) × (planned : ℕ → Bool) × (of : Origins) × IsLegal s
+        × IsPlannedTraffic s traffic others 160 planned of 0 × ((j : ℕ) → j < traffic.count → 0 < (traffic.stream j).period)
+        × HasRoom traffic others 160 0 320 × (2 < s.count) × (planned 1 ≡ true) × (planned 2 ≡ true) × (of.source 1 ≡ 1) × (of.source 2 ≡ 0)
+        × (s.ident 1 ≡ s.ident 2) × (s.start 1 ≡ s.queued 2 + 160) × (s.queued 2 + 320 < s.now) × (s.start 2 ≡ s.queued 2 + 320) }
 {}
 
 /// So it is where a unit keeps no order: there is a schedule, legal in any order, whose frames keep to a company, and in
@@ -131,5 +142,6 @@ pub fn frames_beside_any_order_are_in_time()
         → IsLegalInAnyOrder s controllers → (i wait : ℕ) → IsPlannedTraffic s traffic others longest planned of i
         → ((j : ℕ) → j < traffic.count → 0 < (traffic.stream j).period) → IsOrderedStream s controllers planned of i
         → (waits : ℕ → ℕ) → HaveWaits s controllers traffic planned of i waits → HasRoom (offered_traffic traffic waits) others longest i wait
+        → ((j : ℕ) → traffic.are_twins i j ≡ false)
         → AreQueuedBehind s planned of i → AreSteady s planned of i → AreSentWithin s planned of i (traffic.stream i) wait }
 {}

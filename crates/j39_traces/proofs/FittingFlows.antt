@@ -40,6 +40,7 @@ of_group group planned = record {
   priority = group.priority;
   length = group.length;
   most = group.most;
+  when = group.when;
   sender = planned.sender;
   to = planned.to;
 }

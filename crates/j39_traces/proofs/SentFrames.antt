@@ -20,6 +20,7 @@ use Rattle.j39_findings.specs.declared.plan.to.To.TheVariants.{All as ToAll, One
 use Rattle.j39_id.specs.FrameMeaning.{carries_name, requests_group}
 use Rattle.j39_tp.specs.Sender as sender
 use Rattle.j39_world.proofs.Refusals.{none_hold}
+use Rattle.j39_signal.specs.Selectors.{is_selected}
 use Rattle.j39_world.specs.Flows.{dest_of, has_length, is_short}
 use Rattle.j39_world.specs.Run.{begin_refusal, begin_refusals, send_refusal, send_refusals, count_of}
 use Rattle.j39_world.specs.Sent.{Sent, sent_of}
@@ -58,10 +59,11 @@ not_sent w after log f sent same =
     (append_cancel_left w.frames (sent.earlier ++ sent_of f ∷ sent.later) []
     (sym sent.sent ∙ ap (λ (x : World). x.frames) same ∙ sym (append-nil w.frames)))
 
--- the bytes of a message that a flow may have, in one frame
+-- the bytes of a message that a flow may have, and that its group's selector takes, in one frame
 pub record IsInFrame (flow : Flow) (bytes : List ℕ) (f : Frame) : Type 0 where
   pub payload : f.payload.items ≡ bytes
   pub allowed : has_length flow (length bytes) ≡ true
+  pub selected : is_selected flow.when bytes ≡ true
   pub short : is_short (length bytes) ≡ true
 
 module _ (plan : Plan) (w : World) (told : AreTold plan w) where
@@ -95,22 +97,30 @@ module _ (plan : Plan) (w : World) (told : AreTold plan w) where
       → (flow : Flow) × (o ≡ Some flow) × IsInFrame flow bytes f
   begun k bytes None allowed after never log f sent other = absurd never
   begun k bytes (Some flow) allowed after e log f sent other =
-      let (sendable, (on, (heard, (address, (free, (long, rest)))))) = none_hold (begin_refusals (count_of plan) w (Some flow) bytes) allowed in
+      let (sendable, (on, (heard, (address, (free, (long, (taken, rest))))))) = none_hold (begin_refusals (count_of plan) w (Some flow) bytes) allowed in
       let frame = the_frame w after log f sent (first_frame w.stations flow bytes) (ap (λ (x : World). x.frames) e) in
       let whole = whole_message flow bytes f frame other in
-      (flow, refl, record { payload = whole.0; allowed = not-false _ long; short = whole.1 })
+      (flow, refl, record { payload = whole.0; allowed = not-false _ long; selected = not-false _ taken; short = whole.1 })
 
   pub sent_alone : (k : ℕ) (bytes : List ℕ) (o : Option Flow) → send_refusal (count_of plan) w o bytes ≡ None → (after : World)
       → SendsAt (count_of plan) w k o bytes after → (log : List Frame) (f : Frame) → IsSentBehind w after log f
       → (flow : Flow) × (o ≡ Some flow) × IsInFrame flow bytes f
   sent_alone k bytes None allowed after never log f sent = absurd never
   sent_alone k bytes (Some flow) allowed after e log f sent =
-      let (sendable, (on, (heard, (address, (free, (long, rest)))))) = none_hold (send_refusals (count_of plan) w (Some flow) bytes) allowed in
+      let (sendable, (on, (heard, (address, (free, (long, (taken, rest))))))) = none_hold (send_refusals (count_of plan) w (Some flow) bytes) allowed in
       let d : ℕ = destination_of w.stations flow.to in
       let s : ℕ = address_of w.stations flow.sender in
       let frame = the_frame w after log f sent (short_frame d s flow bytes) (ap (λ (x : World). x.frames) e) in
-      let parts = and_parts (has_length flow (length bytes)) (is_short (length bytes)) (not-false _ long) in
-      (flow, refl, record { payload = ap (λ (x : Sent). x.payload) frame; allowed = parts.0; short = parts.1 })
+      let parts = and_parts (has_length flow (length bytes)) (is_short (length bytes)) (not-false _ long) in (
+        flow,
+        refl,
+        record {
+          payload = ap (λ (x : Sent). x.payload) frame;
+          allowed = parts.0;
+          selected = not-false _ taken;
+          short = parts.1;
+        },
+      )
 
 -- ---- numbers that are planned
 

@@ -26,6 +26,8 @@ use Rattle.j39_findings.specs.declared.plan.to.To.{To}
 use Rattle.j39_findings.specs.declared.plan.to.To.TheVariants.{All as ToAll, One as ToOne}
 use Rattle.j39_findings.specs.declared.steps.Step.{Step}
 use Rattle.j39_findings.specs.declared.steps.Step.TheVariants.{Up, Down, Give, Ask, Begin, Send, Emit, Take, Lose, LateSender, LateReceiver, Rest}
+use Rattle.j39_findings.proofs.PrivateGroups.{not_both_taken}
+use Rattle.j39_signal.specs.Selectors.{is_selected}
 use Rattle.j39_world.specs.Flows.{flows_of, has_length, is_short}
 use Rattle.j39_world.specs.Opening.{AreNamesDistinct}
 use Rattle.j39_world.specs.PlannedUnits.{planned_unit, unit_at, units_of}
@@ -99,8 +101,11 @@ module _ (plan : Plan) (clean : Clean plan) (claims : EachClaims plan) (w : Worl
   abbrev number : ℕ
   number = pgn_of f.ident
 
+  abbrev payload : List ℕ
+  payload = f.payload.items
+
   abbrev size : ℕ
-  size = length f.payload.items
+  size = length payload
 
   claims_there : (u : ℕ) → (unit_at (units_of plan) u).claims ≡ true
   claims_there u = claims_at plan.keep_free plan.units.items claims u
@@ -146,16 +151,18 @@ module _ (plan : Plan) (clean : Clean plan) (claims : EachClaims plan) (w : Worl
     pub fits_it : fits planned.group sent planned ≡ true
     pub number_is : group.pgn ≡ number
     pub lengths : may_have_bytes group size ≡ true
+    pub selected : is_selected group.when payload ≡ true
     pub short : is_short size ≡ true
 
   may_be : (k : ℕ) (planned : FlowPlan) (group : GroupPlan) (sent : Sending) → IsFlowOf k planned group sent
-      → MayBeGroup plan number size sent planned.group
+      → MayBeGroup plan number payload sent planned.group
   may_be k planned group sent of = record {
     value = group;
     value_is = of.group_is;
     meets = record {
       number = of.number_is;
       length = of.lengths;
+      selected = of.selected;
       own = inr (λ (none : fitting_flow plan planned.group sent ≡ None).
           let some = fitting_some plan planned.group sent k planned of.flow_is of.fits_it in none_some some.0 (sym none ∙ some.1));
     };
@@ -172,7 +179,7 @@ module _ (plan : Plan) (clean : Clean plan) (claims : EachClaims plan) (w : Worl
 
   -- no earlier group of the plan can be that of the message
   not_earlier : (k : ℕ) (planned : FlowPlan) (group : GroupPlan) (sent : Sending) → IsFlowOf k planned group sent
-      → sent.unaddressed ≡ is_pdu2 number → (g : ℕ) → g < planned.group → ¬ MayBeGroup plan number size sent g
+      → sent.unaddressed ≡ is_pdu2 number → (g : ℕ) → g < planned.group → ¬ MayBeGroup plan number payload sent g
   not_earlier k planned group sent of two g less earlier =
       let first : GroupPlan = earlier.value in
       let same : first.pgn ≡ group.pgn = earlier.meets.number ∙ sym of.number_is in
@@ -182,7 +189,11 @@ module _ (plan : Plan) (clean : Clean plan) (claims : EachClaims plan) (w : Worl
         below = less;
         first_is = earlier.value_is;
         second_is = of.group_is;
-        related = (same, elim earlier.meets.own [ inl shared ↦ inl shared | inr fitting ↦ inr (inr (together (fitting_flow plan g sent) refl fitting)) ]);
+        related = (
+          same,
+          not_both_taken first.when group.when payload earlier.meets.selected of.selected,
+          elim earlier.meets.own [ inl shared ↦ inl shared | inr fitting ↦ inr (inr (together (fitting_flow plan g sent) refl fitting)) ],
+        );
       })
     where
       together : (o : Option ℕ) → fitting_flow plan g sent ≡ o → fitting_flow plan g sent ≢ None
@@ -225,7 +236,7 @@ module _ (plan : Plan) (clean : Clean plan) (claims : EachClaims plan) (w : Worl
 
   -- so it is told as of the flow's group, with the flow or one that looks like it
   told_with : (k : ℕ) (planned : FlowPlan) (group : GroupPlan) (sent : Sending) → IsFlowOf k planned group sent
-      → sent.unaddressed ≡ is_pdu2 number → (g : ℕ) → IsSentGroup plan number size sent (Some g)
+      → sent.unaddressed ≡ is_pdu2 number → (g : ℕ) → IsSentGroup plan number payload sent (Some g)
       → (other : ℕ) × (fitting_flow plan g sent ≡ Some other) × LooksLike plan g k other
   told_with k planned group sent of two g is =
       let same : g ≡ planned.group = elim (cases_order g planned.group) [
@@ -276,12 +287,15 @@ module _ (plan : Plan) (clean : Clean plan) (claims : EachClaims plan) (w : Worl
         priority = option_map_or (λ (g : GroupPlan). g.priority) o 0;
         length = option_map_or (λ (g : GroupPlan). g.length) o 0;
         most = option_map_or (λ (g : GroupPlan). g.most) o 0;
+        when = option_map_or (λ (g : GroupPlan). g.when) o None;
         sender = planned.sender;
         to = planned.to;
       }) there in
       let size_is : length bytes ≡ size = ap length (sym inside.payload) in
       let lengths : may_have_bytes group size ≡ true =
       ap (may_have_bytes group) (sym size_is) ∙ ap (λ (x : Flow). has_length x (length bytes)) (sym parts) ∙ inside.allowed in
+      let selected : is_selected group.when payload ≡ true =
+      ap (is_selected group.when) inside.payload ∙ ap (λ (x : Flow). is_selected x.when bytes) (sym parts) ∙ inside.selected in
       let from : sent.sender ≡ Some planned.sender =
       sent_by sent sending flow.sender source ∙ ap (λ (x : Flow). Some x.sender) parts in
       let reached : reaches planned.to sent.aim sent.unaddressed ≡ true =
@@ -294,6 +308,7 @@ module _ (plan : Plan) (clean : Clean plan) (claims : EachClaims plan) (w : Worl
           fits_it = fit_whole planned.group sent planned refl from reached;
           number_is = sym (same ∙ ap (λ (x : Flow). x.pgn) parts);
           lengths = lengths;
+          selected = selected;
           short = ap is_short (sym size_is) ∙ inside.short;
         },
       )

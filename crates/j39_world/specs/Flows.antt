@@ -1,5 +1,5 @@
 -- What the transfer steps need of a plan: what each flow sends to whom, and how much each unit lets be sent to it at once.
-use Rattle.std.specs.Prelude.{◌≡◌, ◌==◌, ℕ, Bool, true, ◌&&◌, not, nat_eq, nat_le, List, map, slice_index_or, Some}
+use Rattle.std.specs.Prelude.{◌≡◌, ◌==◌, ℕ, Bool, true, ◌&&◌, not, nat_eq, nat_le, List, map, slice_index_or, Some, None}
 use Rattle.std.specs.List.{slice_get}
 use Rattle.std.specs.Option.{option_map_or}
 use Rattle.j39_id.specs.Limits.{frame_bytes}
@@ -20,6 +20,7 @@ flow_of groups f = record {
   priority = option_map_or (λ (g : GroupPlan). g.priority) (slice_get groups f.group) 0;
   length = option_map_or (λ (g : GroupPlan). g.length) (slice_get groups f.group) 0;
   most = option_map_or (λ (g : GroupPlan). g.most) (slice_get groups f.group) 0;
+  when = option_map_or (λ (g : GroupPlan). g.when) (slice_get groups f.group) None;
   sender = f.sender;
   to = f.to;
 }

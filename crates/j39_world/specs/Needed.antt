@@ -1,14 +1,13 @@
 -- What a unit needs arrives: what another unit writes is what it reads. How messages arrive and how signals read back, put together.
-use Rattle.std.specs.Prelude.{◌≡◌, ℕ, ◌⊎◌, ℤ, true, List, [], ◌∷◌, ◌++◌, None, Some}
+use Rattle.std.specs.Prelude.{◌≡◌, ℕ, ◌⊎◌, ℤ, true, List, [], ◌∷◌, ◌++◌, length, None, Some}
 use Rattle.std.specs.List.{HoldsAt, slice_get}
 use Rattle.j39_signal.specs.Bits.{all_ones, raw_of}
-use Rattle.j39_signal.specs.Laid.{Chain, Write, blank, last_payload}
+use Rattle.j39_signal.specs.Laid.{Chain, Write, last_payload}
 use Rattle.j39_signal.specs.State.{IsRawOf, state_of}
 use Rattle.j39_signal.specs.declared.state.State.TheVariants.{Value}
 use Rattle.j39_findings.specs.Findings.{Meets}
-use Rattle.j39_findings.specs.Lengths.{IsLengthOf}
 use Rattle.j39_findings.specs.Records.{signals_in}
-use Rattle.j39_findings.specs.SoundSignals.{LeaveAlone, unset_state}
+use Rattle.j39_findings.specs.SoundSignals.{IsBlankOf, LeaveAlone, unset_state}
 use Rattle.j39_findings.specs.declared.plan.Plan.{Plan}
 use Rattle.j39_findings.specs.declared.plan.flow_plan.FlowPlan.{FlowPlan}
 use Rattle.j39_findings.specs.declared.plan.group_plan.GroupPlan.{GroupPlan}
@@ -22,7 +21,7 @@ use Rattle.j39_world.specs.TransferSteps.{begins, outgoing}
 use Rattle.j39_world.specs.World.{World}
 use Rattle.j39_world.specs.declared.flow.Flow.{Flow}
 
--- a message of a flow that meets a need, whose bytes were written signal after signal, from a blank payload of one of its group's lengths on
+-- a message of a flow that meets a need, whose bytes were written signal after signal, from a blank one of its group on
 pub record NeededMessage (plan : Plan) : Type 0 where
   pub need_place : ℕ
   pub need : NeedPlan
@@ -33,14 +32,14 @@ pub record NeededMessage (plan : Plan) : Type 0 where
   pub meets : Meets plan.requests.items need flow
   pub group : GroupPlan
   pub of : slice_get plan.groups.items flow.group ≡ Some group
-  pub count : ℕ
-  pub length : IsLengthOf group count
+  pub start : List ℕ
+  pub blank : IsBlankOf group start
   pub writes : List Write
-  pub chain : Chain (signals_in group count) (blank count) writes
+  pub chain : Chain (signals_in group (length start)) start writes
 
 -- its bytes
 abbrev pub bytes_of : {plan : Plan} → NeededMessage plan → List ℕ
-bytes_of m = last_payload (blank m.count) m.writes
+bytes_of m = last_payload m.start m.writes
 
 -- it is begun in the first of two worlds, and nothing of it is lost up to the second, where its sender can send no more and its receivers can
 -- take no more of it: it is one that no receiver answers and steps that spare it lead there, or one that its receiver answers
@@ -79,7 +78,7 @@ abbrev pub ReadsAsWritten : {plan : Plan} (m : NeededMessage plan) → LastWrite
 ReadsAsWritten m x place = HoldsAt
     (λ s. ((value : ℤ) → IsRawOf s value x.write.raw → state_of s (raw_of (bytes_of m) s) ≡ Value value)
     × (x.write.raw ≡ all_ones s → state_of s (raw_of (bytes_of m) s) ≡ unset_state s))
-    (signals_in m.group m.count) place
+    (signals_in m.group (length m.start)) place
 
 -- each such message is reported, and each signal in it reads as it was written
 abbrev pub NeededValuesArrive : Plan → World → Type 0

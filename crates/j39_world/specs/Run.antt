@@ -6,6 +6,7 @@ use Rattle.j39_tp.specs.Receiver.{is_open_at}
 use Rattle.j39_tp.specs.Sender.{next_number}
 use Rattle.j39_tp.specs.declared.sending.stage.Stage.{Stage}
 use Rattle.j39_tp.specs.declared.sending.stage.Stage.TheVariants.{Waiting}
+use Rattle.j39_signal.specs.Selectors.{is_selected}
 use Rattle.j39_findings.specs.declared.plan.Plan.{Plan}
 use Rattle.j39_findings.specs.declared.plan.to.To.{To}
 use Rattle.j39_findings.specs.declared.plan.to.To.TheVariants.{All, One}
@@ -14,7 +15,7 @@ use Rattle.j39_findings.specs.declared.steps.Step.TheVariants.{Up, Down, Give, A
 use Rattle.j39_world.specs.declared.step_error.StepError.{StepError}
 use Rattle.j39_world.specs.declared.step_error.StepError.TheVariants.{UnknownUnit, NoSuchFlow, NotStarted, AlreadyStarted, NothingUndelivered, TransferOpen}
 use Rattle.j39_world.specs.declared.step_error.StepError.TheVariants.{NotSettled, NoAddress}
-use Rattle.j39_world.specs.declared.step_error.StepError.TheVariants.{Busy, WrongLength, NothingToSend, NoSession, CannotRest, Memory}
+use Rattle.j39_world.specs.declared.step_error.StepError.TheVariants.{Busy, WrongLength, WrongSelector, NothingToSend, NoSession, CannotRest, Memory}
 use Rattle.j39_world.specs.PlannedUnits.{units_of}
 use Rattle.j39_world.specs.Flows.{flows_of, windows_of, can_be_sent, has_length, is_short}
 use Rattle.j39_world.specs.declared.flow.Flow.{Flow}
@@ -109,6 +110,7 @@ begin_refusals count w (Some flow) bytes =
     ∷ (NoAddress, not (at_ends (has_address w.stations) flow.sender flow.to))
     ∷ (Busy, is_some (w.sessions flow.sender))
     ∷ (WrongLength, not (has_length flow (length bytes)))
+    ∷ (WrongSelector, not (is_selected flow.when bytes))
     ∷ []
 
 -- of these bytes by a flow in a frame that is sent alone: its group's messages stay in their order
@@ -121,6 +123,7 @@ send_refusals count w (Some flow) bytes =
     ∷ (NoAddress, not (at_ends (has_address w.stations) flow.sender flow.to))
     ∷ (Busy, is_of_group (w.sessions flow.sender) flow.pgn)
     ∷ (WrongLength, not (has_length flow (length bytes) && is_short (length bytes)))
+    ∷ (WrongSelector, not (is_selected flow.when bytes))
     ∷ []
 
 -- of a step among so many units with these flows; want of memory is none of the world's

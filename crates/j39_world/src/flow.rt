@@ -1,8 +1,9 @@
 //! Flows of a plan.
 use j39_findings::To;
 use j39_id::Pgn;
+use j39_signal::Selector;
 
-/// A flow of a plan, with the PGN, the priority and the lengths of its group.
+/// A flow of a plan, with the PGN, the priority, the lengths and the selector of its group.
 #[derive(Clone, Copy)]
 pub struct Flow {
     pub pgn: Pgn,
@@ -11,6 +12,8 @@ pub struct Flow {
     pub length: u16,
     /// That of the longest.
     pub most: u16,
+    /// Bits by whose number messages of the group are told from those of others of its PGN.
+    pub when: Option<Selector>,
     pub sender: usize,
     pub to: To,
 }

@@ -32,6 +32,9 @@ pub enum StepError {
     /// The bytes are more or fewer than the group has, or more than one frame has where one is sent alone.
     #[error("WrongLength")]
     WrongLength,
+    /// The bits of the group's selector don't have its value.
+    #[error("WrongSelector")]
+    WrongSelector,
     #[error("NothingToSend")]
     NothingToSend,
     /// The sender doesn't wait, or the receiver is closed.

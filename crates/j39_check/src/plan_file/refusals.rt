@@ -21,6 +21,10 @@ pub(crate) fn write_table(text: &mut TextBuffer, table: Table) -> Result<(), All
             text.word(" name")
         }
         Table::Group(group) => text.place("group ", group),
+        Table::GroupWhen(group) => {
+            text.place("group ", group)?;
+            text.word(" when")
+        }
         Table::Signal(group, signal) => {
             text.place("group ", group)?;
             text.place(" signal ", signal)

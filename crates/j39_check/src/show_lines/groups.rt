@@ -3,7 +3,7 @@ ghost use Rattle.std.specs.Prelude.{◌≡◌, ◌++◌, OnOk};
 ghost use Rattle.std.specs.List.{slice_get};
 ghost use Rattle.std.specs.Option.{option_copied};
 ghost use Rattle.j39_check.specs.ShowText.{group_form_lines, group_head_lines, group_lines, kind_text, signal_meaning_lines as meaning_lines, name_of_value_line, signal_at_lines, signal_value_lines as signal_lines};
-ghost use Rattle.j39_check.specs.ShowText.{signal_place_lines, signal_scale_lines, planned_text_lines as text_lines};
+ghost use Rattle.j39_check.specs.ShowText.{signal_place_lines, signal_scale_lines, planned_text_lines as text_lines, when_lines};
 ghost use Rattle.j39_load.specs.LineLists.{lines_of_each};
 
 use super::values::{
@@ -11,7 +11,7 @@ use super::values::{
 };
 use j39_findings::{GroupPlan, Meaning, Plan, TextPlan, ValueName};
 use j39_plan::{Key, Table};
-use j39_signal::{Kind, Signal};
+use j39_signal::{Kind, Selector, Signal};
 use j39_text::TextBuffer;
 use std::alloc::AllocError;
 
@@ -193,6 +193,20 @@ fn write_group_form(
     write_optional(text, table, Key::Every, group.every)
 }
 
+// The bits that tell a group's messages, if any do.
+#[tactic(auto, unfolding(crate::specs::ShowText::when_lines))]
+fn write_when(text: &mut TextBuffer, table: Table, when: Option<Selector>) -> Result<(), AllocError>
+    ensures { OnOk result (text.new ≡ text.old ++ when_lines table when) }
+{
+    let Some(selector) = when else {
+        return Ok(());
+    };
+    write_number(text, table, Key::Byte, selector.start / 8 + 1)?;
+    write_number(text, table, Key::Bit, selector.start % 8 + 1)?;
+    write_number(text, table, Key::Bits, selector.bits)?;
+    write_number(text, table, Key::Value, selector.value)
+}
+
 #[tactic(auto, unfolding(crate::specs::ShowText::group_lines))]
 fn write_group(text: &mut TextBuffer, place: usize, group: &GroupPlan) -> Result<(), AllocError>
     ensures { OnOk result (text.new ≡ text.old ++ group_lines place group.now) }
@@ -200,6 +214,7 @@ fn write_group(text: &mut TextBuffer, place: usize, group: &GroupPlan) -> Result
     let table = Table::Group(place);
     write_group_head(text, table, group)?;
     write_group_form(text, table, group)?;
+    write_when(text, Table::GroupWhen(place), group.when)?;
     write_signals(text, place, group)?;
     write_texts(text, place, group)
 }

@@ -14,7 +14,8 @@ pub enum Finding {
     /// F4: the group's PGN is none, or one that may not be planned, or it is a maker's own and the group isn't private, or the
     /// other way round.
     BadPgn(usize),
-    /// F5: two groups have one PGN; of private ones only where a unit sends both to receivers that meet.
+    /// F5: two groups have one PGN, and their selectors don't differ in the value alone; of private ones only where a unit sends both
+    /// to receivers that meet.
     SamePgn(usize, usize),
     /// F6: of a group, the signal's width doesn't fit its kind.
     SignalWidth(usize, usize),
@@ -47,6 +48,8 @@ pub enum Finding {
     /// F23: one unit is asked, for a group whose messages can name a receiver, and only answered to all; or all are asked, and each answer
     /// goes to one unit.
     AnswerAstray(usize),
+    /// F24: the bits of the group's selector end behind its shortest messages.
+    WhenOutside(usize),
     /// F25: two requests are for one number, from one unit, and to the same.
     RequestRepeated(usize, usize),
     /// F26: two units have one address, and not both of them claim it.
@@ -83,6 +86,7 @@ impl Finding {
             Finding::RequestUnanswered(_) => 21,
             Finding::RequestUnheard(_) => 22,
             Finding::AnswerAstray(_) => 23,
+            Finding::WhenOutside(_) => 24,
             Finding::RequestRepeated(..) => 25,
             Finding::SilentAddress(..) => 26,
             Finding::SilentInPool(_) => 27,

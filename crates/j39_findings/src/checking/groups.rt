@@ -1,5 +1,6 @@
 //! What is wrong with the groups of a plan.
 ghost use Rattle.std.specs.Prelude.{◌≡◌};
+ghost use Rattle.j39_signal.specs.Selectors.{differ_in_value};
 ghost use Rattle.j39_findings.specs.Adding.{Adds};
 ghost use Rattle.j39_findings.specs.ListPlaces.{found_if};
 ghost use Rattle.j39_findings.specs.Found.{is_for_no_plan, is_wrongly_private, has_bad_pgn, have_same_pgn, group_findings};
@@ -11,6 +12,7 @@ use crate::plan::{FlowPlan, GroupPlan};
 use j39_id::proprietary::is_proprietary;
 use j39_id::services::is_service;
 use j39_id::{EXTENDED_PAGE, Pgn};
+use j39_signal::Selector;
 use std::alloc::AllocError;
 
 fn is_for_no_plan(pgn: u32) -> bool
@@ -52,6 +54,18 @@ impl Rule<GroupPlan> for BadPgn {
     }
 }
 
+// Whether two selectors differ in the value alone, so that no payload is taken by both.
+fn differ_in_value(first: Option<Selector>, second: Option<Selector>) -> bool
+    ensures { result ≡ differ_in_value first second }
+{
+    match (first, second) {
+        (Some(one), Some(other)) => {
+            one.start == other.start && one.bits == other.bits && one.value != other.value
+        }
+        _ => false,
+    }
+}
+
 #[derive(Clone, Copy)]
 struct SamePgn<'a> {
     groups: &'a [GroupPlan],
@@ -67,6 +81,7 @@ impl PairRule<GroupPlan> for SamePgn<'_> {
 
     fn holds(&self, first: &GroupPlan, second: &GroupPlan) -> bool {
         first.pgn == second.pgn
+            && !differ_in_value(first.when, second.when)
             && (!first.private
                 || !second.private
                 || are_sent_together(self.groups, self.flows, first, second))

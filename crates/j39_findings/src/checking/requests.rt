@@ -2,7 +2,7 @@
 ghost use Rattle.std.specs.Prelude.{◌≡◌};
 ghost use Rattle.j39_findings.specs.Adding.{Adds};
 ghost use Rattle.j39_findings.specs.ListPlaces.{found_if};
-ghost use Rattle.j39_findings.specs.Found.{ask_the_same, ask_for_one_number, is_all_astray, is_answered_astray, is_asked_for, is_one_astray, is_reached, is_served, is_served_to_all, is_served_to_one, goes_unanswered, goes_unheard, may_name_receiver, request_findings, serves, serves_all, serves_one, serves_some};
+ghost use Rattle.j39_findings.specs.Found.{ask_the_same, ask_for_one_number, is_all_astray, is_answered_astray, is_asked_for, is_one_astray, is_reached, is_selector_outside, is_served, is_served_to_all, is_served_to_one, goes_unanswered, goes_unheard, may_name_receiver, request_findings, serves, serves_all, serves_one, serves_some};
 
 use crate::checking::finding::Finding;
 use crate::checking::flows::is_one_frame_to_all;
@@ -208,7 +208,39 @@ impl PairRule<RequestPlan> for RequestRepeated<'_> {
     }
 }
 
-/// Adds the requests that no flow answers, those that are answered to others than who asks, and those that are one on the bus.
+fn is_selector_outside(group: &GroupPlan) -> bool
+    ensures { result ≡ is_selector_outside group.now }
+{
+    match group.when {
+        Some(selector) => 8 * u32::from(group.length) < selector.end(),
+        None => false,
+    }
+}
+
+#[derive(Clone, Copy)]
+struct WhenOutside;
+
+impl Rule<GroupPlan> for WhenOutside {
+    ghost use Rattle.j39_findings.specs.declared.checking.finding.Finding.TheVariants.{WhenOutside as WhensOutside};
+
+    ghost gives = { λ _ g group. found_if (is_selector_outside group) (WhensOutside g) };
+
+    fn find(
+        &self,
+        findings: &mut Vec<Finding>,
+        place: usize,
+        group: &GroupPlan,
+    ) -> Result<(), AllocError> {
+        push_if(
+            findings,
+            is_selector_outside(group),
+            Finding::WhenOutside(place),
+        )
+    }
+}
+
+/// Adds the requests that no flow answers, those that are answered to others than who asks, and those that are one on the bus; and, by its
+/// number, before the last of these, the groups whose selectors end outside.
 pub fn find_in_requests(
     findings: &mut Vec<Finding>,
     groups: &[GroupPlan],
@@ -220,5 +252,6 @@ pub fn find_in_requests(
     find_each(findings, &RequestUnanswered { flows }, requests)?;
     find_each(findings, &RequestUnheard { flows }, requests)?;
     find_each(findings, &AnswerAstray { groups, flows }, requests)?;
+    find_each(findings, &WhenOutside, groups)?;
     find_pairs(findings, &RequestRepeated { groups }, requests)
 }

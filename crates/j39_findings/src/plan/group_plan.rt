@@ -8,7 +8,7 @@ ghost use Rattle.j39_findings.specs.PlanLimits.{signal_limit, text_limit};
 
 use super::{Meaning, TextPlan};
 use j39_id::Label;
-use j39_signal::Signal;
+use j39_signal::{Selector, Signal};
 
 /// A parameter group, as it is planned, with at most 64 signals and at most 64 texts, no two of all of
 /// these of one label.
@@ -29,6 +29,8 @@ pub struct GroupPlan {
     /// How many bytes each record of the signals that are repeated stands behind the one before, 1 to 255. No signal is repeated without
     /// it.
     pub every: Option<u8>,
+    /// Bits by whose number messages of this group are told from those of others of its PGN.
+    pub when: Option<Selector>,
     pub signals: Vec<Signal>,
     /// What is said of each signal beside that, in their order.
     pub meanings: Vec<Meaning>,

@@ -1,17 +1,19 @@
 //! The groups of a plan.
-ghost use Rattle.std.specs.Prelude.{◌≡◌, ◌≢◌, ◌≤◌, ◌<◌, [], map, IfOk, OnErr, IfSome};
+ghost use Rattle.std.specs.Prelude.{◌≡◌, ◌≢◌, ◌≤◌, ◌<◌, ◌&&◌, [], map, option_map, IfOk, OnErr, IfSome};
 ghost use Rattle.toml.specs.View.{items_view, table_view};
 ghost use Rattle.j39_id.specs.Limits.{message_bytes};
 ghost use Rattle.j39_plan.specs.Schema.{tables_of};
 ghost use Rattle.j39_plan.specs.TableFaults.{keys_faults, unknown_faults};
 ghost use Rattle.j39_plan.specs.Outcome.{Gives, GivesGrowing};
 ghost use Rattle.j39_plan.specs.Growing.{GroupGrows};
-ghost use Rattle.j39_plan.specs.GroupTables.{every_of, group_rules, group_table_faults, later_rules, most_of, private_of, signal_rule, text_tables_of, TellsGroup};
+ghost use Rattle.j39_plan.specs.SelectorTables.{when_rules, when_table};
+ghost use Rattle.j39_plan.specs.GroupTables.{every_of, group_rules, group_table_faults, inner_rules, later_rules, most_of, private_of, signal_rule, text_tables_of, TellsGroup};
 
 use super::elements::{ReadElement, read_each};
 use super::labels::untaken;
+use super::selectors::when;
 use super::signals::{PlannedSignal, Signals};
-use super::tables::{array, only, table_of};
+use super::tables::{array, only, optional_inner, table_of};
 use super::text_kind::TextKind;
 use super::texts::Texts;
 use super::values::{flag, number, optional_number, short_text};
@@ -43,40 +45,76 @@ const THIRD_KEYS: [Key; 9] = [
     Key::Text,
 ];
 
-fn only_known(third: bool, members: &toml::Table, table: Table) -> Result<(), PlanError>
-    ensures { Gives result (unknown_faults table (map (λ r. r.key) (group_rules third (table_view members.now))) (table_view members.now)) (λ _. Unit {0}) }
+const FOURTH_KEYS: [Key; 10] = [
+    Key::Label,
+    Key::Pgn,
+    Key::Priority,
+    Key::Length,
+    Key::Private,
+    Key::Most,
+    Key::Every,
+    Key::When,
+    Key::Signal,
+    Key::Text,
+];
+
+fn only_known(
+    third: bool,
+    fourth: bool,
+    members: &toml::Table,
+    table: Table,
+) -> Result<(), PlanError>
+    ensures { Gives result (unknown_faults table (map (λ r. r.key) (group_rules third fourth (table_view members.now))) (table_view members.now)) (λ _. Unit {0}) }
 {
-    if third {
-        only(members, table, &THIRD_KEYS)
+    if !third {
+        return only(members, table, &FIRST_KEYS);
+    }
+    if fourth {
+        only(members, table, &FOURTH_KEYS)
     } else {
-        only(members, table, &FIRST_KEYS)
+        only(members, table, &THIRD_KEYS)
     }
 }
 
 // What stands behind the length: whether the number is a maker's own, the length of the longest messages, how far apart records stand,
-// and the tables of signals and of texts.
+// and the table of the selector.
 #[derive(Clone, Copy)]
 struct LaterKeys<'a> {
     private: bool,
     most: u32,
     every: Option<u32>,
-    signals: &'a [Value],
-    texts: &'a [Value],
+    when: Option<&'a toml::Table>,
+}
+
+#[tactic(auto, using(crate::proofs::FirstFaults::faults_after))]
+fn when_key(
+    fourth: bool,
+    members: &toml::Table,
+    table: Table,
+) -> Result<Option<&toml::Table>, PlanError>
+    ensures { Gives result (keys_faults table (table_view members.now) (when_rules fourth))
+        (λ found. option_map (λ t. table_view t.now) found ≡ when_table fourth (table_view members.now)) }
+{
+    if fourth {
+        optional_inner(members, table, Key::When)
+    } else {
+        Ok(None)
+    }
 }
 
 #[tactic(auto, using(crate::proofs::FirstFaults::faults_after))]
 fn later_keys(
     third: bool,
+    fourth: bool,
     length: u32,
     members: &toml::Table,
     table: Table,
 ) -> Result<LaterKeys, PlanError>
     requires { length ≤ message_bytes }
-    ensures gives { Gives result (keys_faults table (table_view members.now) (later_rules third length))
+    ensures gives { Gives result (keys_faults table (table_view members.now) (later_rules third fourth length))
         (λ later. (later.private ≡ private_of third (table_view members.now)) × (later.most ≡ most_of third length (table_view members.now))
         × (later.every ≡ every_of third (table_view members.now))
-        × (items_view later.signals.now ≡ tables_of signal_rule (table_view members.now))
-        × (items_view later.texts.now ≡ text_tables_of third (table_view members.now))) }
+        × (option_map (λ t. table_view t.now) later.when ≡ when_table (third && fourth) (table_view members.now))) }
     ensures at_least { IfOk result (λ later. length ≤ later.most) }
     ensures at_most { IfOk result (λ later. later.most ≤ message_bytes) }
     ensures some { IfOk result (λ later. IfSome later.every (λ n. 1 ≤ n)) }
@@ -93,21 +131,42 @@ fn later_keys(
             Some(length),
         )?;
         let every = optional_number(members, table, Key::Every, 1, 255, false)?;
-        let signals = array(members, table, Key::Signal, SIGNAL_LIMIT)?;
-        let texts = array(members, table, Key::Text, TEXT_LIMIT)?;
+        let when = when_key(fourth, members, table)?;
         Ok(LaterKeys {
             private,
             most,
             every,
-            signals,
-            texts,
+            when,
         })
     } else {
-        let signals = array(members, table, Key::Signal, SIGNAL_LIMIT)?;
         Ok(LaterKeys {
             private: false,
             most: length,
             every: None,
+            when: None,
+        })
+    }
+}
+
+// The tables of signals and of texts.
+#[derive(Clone, Copy)]
+struct Inside<'a> {
+    signals: &'a [Value],
+    texts: &'a [Value],
+}
+
+#[tactic(auto, using(crate::proofs::FirstFaults::faults_after))]
+fn arrays(third: bool, members: &toml::Table, table: Table) -> Result<Inside, PlanError>
+    ensures { Gives result (keys_faults table (table_view members.now) (inner_rules third))
+        (λ arrays. (items_view arrays.signals.now ≡ tables_of signal_rule (table_view members.now))
+        × (items_view arrays.texts.now ≡ text_tables_of third (table_view members.now))) }
+{
+    let signals = array(members, table, Key::Signal, SIGNAL_LIMIT)?;
+    if third {
+        let texts = array(members, table, Key::Text, TEXT_LIMIT)?;
+        Ok(Inside { signals, texts })
+    } else {
+        Ok(Inside {
             signals,
             texts: &[],
         })
@@ -155,12 +214,14 @@ fn group(
         (group_table_faults third fourth index (table_view members.now)) (TellsGroup third fourth (table_view members.now)) }
 {
     let table = Table::Group(index);
-    only_known(third, members, table)?;
+    only_known(third, fourth, members, table)?;
     let label = short_text(members, table, Key::Label, TextKind::Label, None)?;
     let pgn = number(members, table, Key::Pgn, 0, 0xff_ffff, None)?;
     let priority = number(members, table, Key::Priority, 0, 7, None)?;
     let length = number(members, table, Key::Length, 1, MESSAGE_BYTES as u32, None)?;
-    let later = later_keys(third, length, members, table)?;
+    let later = later_keys(third, fourth, length, members, table)?;
+    let when = when(later.when, index)?;
+    let arrays = arrays(third, members, table)?;
     let every = distance(later.every);
     let records = later.every.is_some();
     let reader = Signals {
@@ -169,7 +230,7 @@ fn group(
         records,
         group: index,
     };
-    let planned = read_each(alloc, &reader, later.signals)?;
+    let planned = read_each(alloc, &reader, arrays.signals)?;
     let parts = parted(alloc, planned)?;
     let texts = read_each(
         alloc,
@@ -177,7 +238,7 @@ fn group(
             group: index,
             signals: &parts.0,
         },
-        later.texts,
+        arrays.texts,
     )?;
     Ok(GroupPlan {
         label,
@@ -187,6 +248,7 @@ fn group(
         private: later.private,
         most: later.most as u16,
         every,
+        when,
         signals: parts.0,
         meanings: parts.1,
         texts,

@@ -12,6 +12,8 @@ pub enum Table {
     /// The NAME of a unit.
     UnitName(usize),
     Group(usize),
+    /// The selector of a group.
+    GroupWhen(usize),
     /// A signal, behind the index of its group.
     Signal(usize, usize),
     /// A text, behind the index of its group.

@@ -104,8 +104,8 @@ fn is_dtc(kind: Kind) -> bool
     }
 }
 
-// The first bit, counted from 0, of a byte and a bit in it, which are counted from 1.
-fn start_of(byte: u32, bit: u32) -> u16
+/// The first bit, counted from 0, of a byte and a bit in it, which are counted from 1.
+pub(super) fn start_of(byte: u32, bit: u32) -> u16
     requires byte { (1 ≤ byte) × (byte ≤ message_bytes) }
     requires bit { (1 ≤ bit) × (bit ≤ 8) }
     ensures { result ≡ start_of byte bit }

@@ -8,5 +8,5 @@ group_in-requires c = subst (IsSpanOf c.args.groups.now.groups.items c.args.pgn)
 
 pub returns-in_default : goal.returns-in_default
 returns-in_default c =
-    none_numbered c.args.groups.now c.args.pgn c.args.bytes c.args.sent
+    none_numbered c.args.groups.now c.args.pgn c.args.bytes.now c.args.sent
     (subst (IsSpanOf c.args.groups.now.groups.items c.args.pgn) c.in_default.is c.span.ensures)

@@ -8,7 +8,7 @@ use Rattle.j39_load.proofs.delays.streams_before.Goals as goal
 
 pub loop-place-preserved : goal.loop-place-preserved
 loop-place-preserved c =
-    let tell = going_before c.args.i c.args.ident in
+    let tell = going_before c.args.i c.args.own.now in
     let damage = damage_streams c.args.timing in
     let k = c.loop-place.place in
     record {

@@ -7,7 +7,7 @@ use Rattle.j39_load.proofs.delays.streams_before.Given as goal
 
 abbrev pub invariant-loop-place : goal.invariant-loop-place
 invariant-loop-place l = record {
-  streams : l.streams.items ≡ damage_streams l.fn.timing ++ lines_of_each (going_before l.i l.ident) 0 (take l.place l.all);
+  streams : l.streams.items ≡ damage_streams l.fn.timing ++ lines_of_each (going_before l.i l.own) 0 (take l.place l.all);
   few : length l.streams.items ≤ l.place + 2;
   fit : All IsStream l.streams.items;
 }

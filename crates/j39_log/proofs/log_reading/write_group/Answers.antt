@@ -1,4 +1,4 @@
-use Rattle.std.proofs.Common.{ℕ, List, ◌++◌, length, ap, ◌∙◌, arith}
+use Rattle.std.proofs.Common.{ℕ, List, ◌++◌, ap, ◌∙◌, arith}
 use Rattle.std.proofs.lemmas.Result.{IfOk-weaker}
 use Rattle.j39_signal.specs.LayoutParts.{LayoutParts}
 use Rattle.j39_findings.specs.PlannedGroups.{layout_of}
@@ -26,7 +26,7 @@ write_report-requires-clause-lines c =
 pub write_report-requires-clause-bytes : goal.write_report-requires-clause-bytes
 write_report-requires-clause-bytes c =
     let plan = c.args.groups.now in
-    let found = planned_there plan c.requires.0 (length c.args.bytes.now) c.args.place c.group.result.now c.requires.1 c.group.ensures in
+    let found = planned_there plan c.requires.0 c.args.bytes.now c.args.place c.group.result.now c.requires.1 c.group.ensures in
     let same = ap (λ (l : LayoutParts). l.length)
     (of_group layout_of plan.groups.items c.args.place c.group.result.now c.layout.result.now c.group.ensures c.layout.ensures) in
     omega (arith, same, found.1.0)
@@ -41,7 +41,7 @@ pub returns : goal.returns
 unfolding named_report
 returns c =
     let plan = c.args.groups.now in
-    let found = planned_there plan c.requires.0 (length c.args.bytes.now) c.args.place c.group.result.now c.requires.1 c.group.ensures in
+    let found = planned_there plan c.requires.0 c.args.bytes.now c.args.place c.group.result.now c.requires.1 c.group.ensures in
     let group = c.group.result.now in
     let bytes = c.args.bytes.now in
     let lines = lines_there plan c.args.place group c.names.result bytes found.0 c.group.ensures c.names.ensures in

@@ -1,8 +1,11 @@
-use Rattle.j39_signal.proofs.Writes.{keeps_writes, value_read, ones_read}
+use Rattle.j39_signal.proofs.Writes.{blank_ones, keeps_writes, value_read, ones_read}
 use Rattle.j39_signal.proofs.laws.signals_are_sound.Goals as goal
 
 pub returns-clause-kept : goal.returns-clause-kept
 returns-clause-kept c = keeps_writes
+
+pub returns-clause-blank : goal.returns-clause-blank
+returns-clause-blank c = blank_ones
 
 pub returns-clause-value : goal.returns-clause-value
 returns-clause-value c = value_read

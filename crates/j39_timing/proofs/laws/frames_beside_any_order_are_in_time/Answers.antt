@@ -7,6 +7,6 @@ returns c = record {
   ready = ordered_as_ready;
   in_time = λ s controllers traffic others longest planned of legal i wait known positive ordered waits have room single fits.
       ordered_in_time s controllers legal traffic others longest planned of i wait known positive ordered waits have room single fits;
-  sent = λ s controllers traffic others longest planned of legal i wait known positive ordered waits have room behind steady.
-      ordered_behind s controllers legal traffic others longest planned of i wait known positive ordered waits have room behind steady;
+  sent = λ s controllers traffic others longest planned of legal i wait known positive ordered waits have room alone behind steady.
+      ordered_behind s controllers legal traffic others longest planned of i wait known positive ordered waits have room alone behind steady;
 }

@@ -19,7 +19,7 @@ use Rattle.j39_plan.proofs.reading.groups.group.Goals as goal
 
 pub invariant_of-result-clause-signal_count : goal.invariant_of-result-clause-signal_count
 invariant_of-result-clause-signal_count c =
-    rw (length-Each _ _ _ (signals_read c.args.third c.args.fourth c.is_some-records.result _ _ _ c.in_ok-parts.ensures.signals c.in_ok-planned.ensures.1), c.in_ok-later.ensures.gives.1.3) (tables_count key.Signal signal_limit _)
+    rw (length-Each _ _ _ (signals_read c.args.third c.args.fourth c.is_some-records.result _ _ _ c.in_ok-parts.ensures.signals c.in_ok-planned.ensures.1), c.in_ok-arrays.ensures.1.0) (tables_count key.Signal signal_limit _)
 
 pub invariant_of-result-clause-meaning_count : goal.invariant_of-result-clause-meaning_count
 invariant_of-result-clause-meaning_count c =
@@ -39,7 +39,7 @@ invariant_of-result-clause-signal_labels c = signals_apart c.args.third c.args.f
 
 pub invariant_of-result-clause-text_count : goal.invariant_of-result-clause-text_count
 invariant_of-result-clause-text_count c =
-    rw (length-Each _ _ _ c.in_ok-texts.ensures.1, c.in_ok-later.ensures.gives.1.4) (texts_count c.args.third _)
+    rw (length-Each _ _ _ c.in_ok-texts.ensures.1, c.in_ok-arrays.ensures.1.1) (texts_count c.args.third _)
 
 pub invariant_of-result-clause-text_labels : goal.invariant_of-result-clause-text_labels
 invariant_of-result-clause-text_labels c = texts_apart _ c.args.index _ _ c.in_ok-texts.ensures.1 c.in_ok-texts.ensures.0
@@ -58,10 +58,11 @@ unfolding group_table_faults
 returns-in_err-planned c =
     let p = err_from_is_err_and c.from_residual-in_err-planned.result c.from_residual-in_err-planned.ensures.1 in
     let later = rw (c.in_ok-length.ensures.gives.1) at c.in_ok-later.ensures.gives in
+    let when = rw (later.1.3) at c.in_ok-when.ensures in
     let records = c.is_some-records.ensures ∙ ap is_some later.1.2 in
-    let fails = rw (records, later.1.3) at c.in_err-planned.ensures in
+    let fails = rw (records, c.in_ok-arrays.ensures.1.0) at c.in_err-planned.ensures in
     rw (p.1, p.2, c.in_ok-only_known.ensures.0, c.in_ok-label.ensures.gives.0, c.in_ok-pgn.ensures.gives.0, c.in_ok-priority.ensures.gives.0)
-    (rw (c.in_ok-length.ensures.gives.0, later.0)
+    (rw (c.in_ok-length.ensures.gives.0, later.0, when.0, c.in_ok-arrays.ensures.0)
     (fails_on _ _ c.in_err-planned.field-0.0 _ _ (λ grows. (refl, inl grows)) (λ f is. first-append _ _ f is) fails))
 
 pub returns-in_err-parts : goal.returns-in_err-parts
@@ -69,47 +70,50 @@ unfolding group_table_faults
 returns-in_err-parts c =
     let p = err_from_is_err_and c.from_residual-in_err-parts.result c.from_residual-in_err-parts.ensures.1 in
     let later = rw (c.in_ok-length.ensures.gives.1) at c.in_ok-later.ensures.gives in
+    let when = rw (later.1.3) at c.in_ok-when.ensures in
     let records = c.is_some-records.ensures ∙ ap is_some later.1.2 in
-    let among = grows_among c.args.third c.args.fourth c.is_some-records.result _ c.args.index _ _ _ records later.1.3 c.in_err-parts.ensures.memory
+    let among = grows_among c.args.third c.args.fourth c.is_some-records.result _ c.args.index _ _ _ records c.in_ok-arrays.ensures.1.0 c.in_err-parts.ensures.memory
     c.in_ok-planned.ensures.1 c.in_ok-planned.ensures.0 in
     rw (p.1, p.2, c.in_ok-only_known.ensures.0, c.in_ok-label.ensures.gives.0, c.in_ok-pgn.ensures.gives.0, c.in_ok-priority.ensures.gives.0)
-    (rw (c.in_ok-length.ensures.gives.0, later.0) (refl, inl among))
+    (rw (c.in_ok-length.ensures.gives.0, later.0, when.0, c.in_ok-arrays.ensures.0) (refl, inl among))
 
 pub returns-in_err-texts : goal.returns-in_err-texts
 unfolding group_table_faults
 returns-in_err-texts c =
     let p = err_from_is_err_and c.from_residual-in_err-texts.result c.from_residual-in_err-texts.ensures.1 in
     let later = rw (c.in_ok-length.ensures.gives.1) at c.in_ok-later.ensures.gives in
+    let when = rw (later.1.3) at c.in_ok-when.ensures in
     let records = c.is_some-records.ensures ∙ ap is_some later.1.2 in
     let ss = c.in_ok-parts.parts.0.items in
     let labels = signal_texts_told c.args.third c.args.fourth c.is_some-records.result _ ss (signals_read c.args.third c.args.fourth c.is_some-records.result _ _ _ c.in_ok-parts.ensures.signals c.in_ok-planned.ensures.1) in
-    let none = rw (records, later.1.3) at c.in_ok-planned.ensures.0 in
-    let ds = items_view c.in_ok-later.later.texts.now in
+    let none = rw (records, c.in_ok-arrays.ensures.1.0) at c.in_ok-planned.ensures.0 in
+    let ds = items_view c.in_ok-arrays.arrays.texts.now in
     let told :
     FailsGrowing (EachGrows (text_faults (signal_texts ss) c.args.index) NeverGrows ds) c.in_err-texts.field-0.0
     (each_faults (text_faults (signal_texts ss) c.args.index) label_in 0 [] ds) =
     rw c.deref.ensures.value at c.in_err-texts.ensures in
-    let fails = rw (labels, later.1.3, later.1.4) at told in
+    let fails = rw (labels, c.in_ok-arrays.ensures.1.0, c.in_ok-arrays.ensures.1.1) at told in
     rw (p.1, p.2, c.in_ok-only_known.ensures.0, c.in_ok-label.ensures.gives.0, c.in_ok-pgn.ensures.gives.0, c.in_ok-priority.ensures.gives.0)
-    (rw (c.in_ok-length.ensures.gives.0, later.0, none)
+    (rw (c.in_ok-length.ensures.gives.0, later.0, when.0, c.in_ok-arrays.ensures.0, none)
     (fails_on _ _ c.in_err-texts.field-0.0 _ _ (λ grows. (refl, inr (refl, grows))) (λ f is. is) fails))
 
 pub returns : goal.returns
 unfolding group_table_faults
 returns c =
     let later = rw (c.in_ok-length.ensures.gives.1) at c.in_ok-later.ensures.gives in
+    let when = rw (later.1.3) at c.in_ok-when.ensures in
     let records = c.is_some-records.ensures ∙ ap is_some later.1.2 in
     let ss = c.in_ok-parts.parts.0.items in
     let labels = signal_texts_told c.args.third c.args.fourth c.is_some-records.result _ ss (signals_read c.args.third c.args.fourth c.is_some-records.result _ _ _ c.in_ok-parts.ensures.signals c.in_ok-planned.ensures.1) in
-    let told = rw later.1.3 at (Each-weaken (IsRead c.args.third c.args.fourth c.is_some-records.result) (IsSignalOf c.args.third c.args.fourth) (λ d s read. read.0) _ _ (signals_read c.args.third c.args.fourth c.is_some-records.result _ _ _ c.in_ok-parts.ensures.signals c.in_ok-planned.ensures.1)) in
-    let none = rw (records, later.1.3) at c.in_ok-planned.ensures.0 in
-    let ds = items_view c.in_ok-later.later.texts.now in
+    let told = rw c.in_ok-arrays.ensures.1.0 at (Each-weaken (IsRead c.args.third c.args.fourth c.is_some-records.result) (IsSignalOf c.args.third c.args.fourth) (λ d s read. read.0) _ _ (signals_read c.args.third c.args.fourth c.is_some-records.result _ _ _ c.in_ok-parts.ensures.signals c.in_ok-planned.ensures.1)) in
+    let none = rw (records, c.in_ok-arrays.ensures.1.0) at c.in_ok-planned.ensures.0 in
+    let ds = items_view c.in_ok-arrays.arrays.texts.now in
     let read : (each_faults (text_faults (signal_texts ss) c.args.index) label_in 0 [] ds ≡ []) × Each IsTextOf ds c.in_ok-texts.texts.items =
     rw c.deref.ensures.value at c.in_ok-texts.ensures in
-    let meanings = rw later.1.3 at (meanings_read c.args.third c.args.fourth c.is_some-records.result _ _ _ c.in_ok-parts.ensures.meanings c.in_ok-planned.ensures.1) in
-    let texts = rw (labels, later.1.3, later.1.4) at read in (
+    let meanings = rw c.in_ok-arrays.ensures.1.0 at (meanings_read c.args.third c.args.fourth c.is_some-records.result _ _ _ c.in_ok-parts.ensures.meanings c.in_ok-planned.ensures.1) in
+    let texts = rw (labels, c.in_ok-arrays.ensures.1.0, c.in_ok-arrays.ensures.1.1) at read in (
       rw (c.in_ok-only_known.ensures.0, c.in_ok-label.ensures.gives.0, c.in_ok-pgn.ensures.gives.0, c.in_ok-priority.ensures.gives.0)
-          (rw (c.in_ok-length.ensures.gives.0, later.0, none) texts.0),
+          (rw (c.in_ok-length.ensures.gives.0, later.0, when.0, c.in_ok-arrays.ensures.0, none) texts.0),
       record {
         has_label = c.in_ok-label.ensures.gives.1;
         has_pgn = c.in_ok-pgn.ensures.gives.1;
@@ -118,6 +122,7 @@ returns c =
         has_private = later.1.0;
         has_most = later.1.1;
         has_every = c.distance-every.ensures ∙ later.1.2;
+        has_when = when.1;
         has_signals = told;
         has_meanings = meanings;
         has_texts = texts.1;

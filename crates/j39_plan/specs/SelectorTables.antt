@@ -1,0 +1,53 @@
+-- The table of a selector, which the fourth version alone knows: bits of the payload, and the number by which groups of one PGN are told apart.
+use Rattle.std.specs.Prelude.{◌≡◌, ℕ, ◌-◌, ◌^◌, List, [], ◌∷◌, Bool, true, false, Option, Some, None}
+use Rattle.std.specs.Option.{option_map_or}
+use Rattle.toml.specs.Data.{Members}
+use Rattle.j39_signal.specs.declared.selector.Selector.{Selector}
+use Rattle.j39_plan.specs.declared.reading.key.Key.TheVariants as key
+use Rattle.j39_plan.specs.declared.reading.place.Table.TheVariants as at
+use Rattle.j39_plan.specs.declared.reading.fault.Fault.{Fault}
+use Rattle.j39_plan.specs.Schema.{Rule, number, optional_table, number_of, table_of}
+use Rattle.j39_plan.specs.TableFaults.{table_faults}
+use Rattle.j39_plan.specs.SignalTables.{byte_rule, bit_rule, start_of}
+
+abbrev pub selector_bits_rule : Rule
+selector_bits_rule = number key.Bits 1 32 None
+
+-- a number that so many bits hold
+abbrev pub selector_value_rule : ℕ → Rule
+selector_value_rule bits = number key.Value 0 (2 ^ bits - 1) None
+
+abbrev pub selector_rules : Members → List Rule
+selector_rules ms = byte_rule ∷ bit_rule ∷ selector_bits_rule ∷ selector_value_rule (number_of selector_bits_rule ms) ∷ []
+
+-- the selector that a table tells
+pub record TellsSelector (ms : Members) (w : Selector) : Type 0 where
+  pub has_start : w.start ≡ start_of (number_of byte_rule ms) (number_of bit_rule ms)
+  pub has_bits : w.bits ≡ number_of selector_bits_rule ms
+  pub has_value : w.value ≡ number_of (selector_value_rule (number_of selector_bits_rule ms)) ms
+
+unfoldable pub selector_table_faults : ℕ → Members → List Fault
+selector_table_faults g ms = table_faults (at.GroupWhen g) (selector_rules ms) ms
+
+-- ---- in the table of a group
+
+abbrev pub when_rule : Rule
+when_rule = optional_table key.When
+
+-- by whether the version knows it
+abbrev pub when_rules : Bool → List Rule
+when_rules true = when_rule ∷ []
+when_rules false = []
+
+abbrev pub when_table : Bool → Members → Option Members
+when_table true ms = table_of when_rule ms
+when_table false ms = None
+
+-- where there is a table of it
+abbrev pub TellsWhen : Option Members → Option Selector → Type 0
+TellsWhen None None = Unit {0}
+TellsWhen (Some ms) (Some w) = TellsSelector ms w
+TellsWhen _ _ = ⊥
+
+abbrev pub when_faults : Bool → ℕ → Members → List Fault
+when_faults knows g ms = option_map_or (selector_table_faults g) (when_table knows ms) []
