@@ -44,6 +44,7 @@ impl<'a> Model for Groups<'a> {
 }
 
 // Whether the group has this number, isn't private, and has messages of these bytes.
+#[inline(always)]
 fn is_planned_as(group: &GroupPlan, pgn: u32, bytes: &[u8]) -> bool
     ensures { result ≡ is_planned_as pgn bytes.now group.now }
 {
@@ -53,6 +54,7 @@ fn is_planned_as(group: &GroupPlan, pgn: u32, bytes: &[u8]) -> bool
 }
 
 // The place of the first such group, which stands in the span of its number.
+#[inline(always)]
 fn place_in(groups: &[GroupPlan], span: Span, pgn: u32, bytes: &[u8]) -> Option<usize>
     requires { HasAllOf groups.now pgn span }
     ensures { result ≡ position (is_planned_as pgn bytes.now) groups.now }
