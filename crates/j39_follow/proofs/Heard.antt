@@ -14,8 +14,8 @@ use Rattle.j39_tp.specs.Packets.{InRange}
 use Rattle.j39_tp.specs.Receiver.{Receiving, fresh, receives}
 use Rattle.j39_tp.specs.declared.receiving.manner.Manner.TheVariants.{Listening}
 use Rattle.j39_tp.specs.declared.packet.Packet.{Packet}
-use Rattle.j39_follow.specs.FollowText.{HeardSince, Parts, frames_seen}
-use Rattle.j39_follow.specs.inside.Hearing.{HaveHeardOneMore, HaveHeardSince, differs_at, is_parted, is_same_number, is_same_party, listener_between}
+use Rattle.j39_follow.specs.FollowText.{HeardSince, OneChangesHands, frames_seen}
+use Rattle.j39_follow.specs.inside.Hearing.{HaveHeardOneMore, HaveHeardSince, differs_at, is_changed, is_same_number, is_same_party, listener_between}
 use Rattle.j39_follow.specs.Who.{ChangesHands, IsSameParty, stranger_of, unit_of}
 use Rattle.j39_follow.specs.declared.who.Who.{Who}
 use Rattle.j39_follow.specs.inside.Recounting.{ArePartiesOf, party_at}
@@ -43,7 +43,7 @@ nothing_heard_since plan listeners empty s d ls ld =
     ([], nothing_since plan s d, ap (λ (rows : List ListenerRow). listener_of_pair rows s d) empty)
 
 -- at a frame at which neither address changes hands the list goes on
-pub goes_on : (plan : Plan) (seen : List Seen) (x : Seen) (s d : ℕ) (h : List Packet) → HeardSince plan seen s d h → ¬ Parts plan seen x s d
+pub goes_on : (plan : Plan) (seen : List Seen) (x : Seen) (s d : ℕ) (h : List Packet) → HeardSince plan seen s d h → ¬ OneChangesHands plan seen x s d
     → HeardSince plan (seen ++ x ∷ []) s d (h ++ heard_of s d x.frame.ident x.packet)
 goes_on plan seen x s d h of steady = record {
   before = of.before;
@@ -53,15 +53,15 @@ goes_on plan seen x s d h of steady = record {
   steady = λ front y back e. elim (one_more of.since x front y back e) [
     | inl last ↦
         let all : of.before ++ front ≡ seen = ap (λ (t : List Seen). of.before ++ t) last.1 ∙ sym of.row in
-        subst (λ (z : Seen). ¬ Parts plan (of.before ++ front) z s d) (sym last.0)
-        (subst (λ (t : List Seen). ¬ Parts plan t x s d) (sym all) steady)
+        subst (λ (z : Seen). ¬ OneChangesHands plan (of.before ++ front) z s d) (sym last.0)
+        (subst (λ (t : List Seen). ¬ OneChangesHands plan t x s d) (sym all) steady)
     | inr earlier ↦ of.steady front y earlier.0 earlier.2
   ];
   packets_are = ap (λ (t : List Packet). t ++ heard_of s d x.frame.ident x.packet) of.packets_are ∙ sym (heard_more s d of.since x);
 }
 
 -- at one at which it does it begins anew
-pub begins_anew : (plan : Plan) (seen : List Seen) (x : Seen) (s d : ℕ) → Parts plan seen x s d → HeardSince plan (seen ++ x ∷ []) s d []
+pub begins_anew : (plan : Plan) (seen : List Seen) (x : Seen) (s d : ℕ) → OneChangesHands plan seen x s d → HeardSince plan (seen ++ x ∷ []) s d []
 unfolding heard
 begins_anew plan seen x s d parts = record {
   before = seen ++ x ∷ [];
@@ -153,18 +153,18 @@ none_of : (a b : Bool) → (a || b) ≡ false → (a ≡ false) × (b ≡ false)
 none_of true b e = cc
 none_of false b e = (refl, e)
 
-parts_at : (plan : Plan) (seen : List Seen) (x : Seen) (olds news : List Who) (s d : ℕ) → ArePartiesOf plan (frames_seen seen) olds
-    → ArePartiesOf plan (frames_seen seen ++ x.frame ∷ []) news → s < 256 → d < 256 → is_parted olds news s d ≡ true → Parts plan seen x s d
-parts_at plan seen x olds news s d before after ls ld parted = elim (one_of (differs_at olds news s) (differs_at olds news d) parted) [
+changes_at : (plan : Plan) (seen : List Seen) (x : Seen) (olds news : List Who) (s d : ℕ) → ArePartiesOf plan (frames_seen seen) olds
+    → ArePartiesOf plan (frames_seen seen ++ x.frame ∷ []) news → s < 256 → d < 256 → is_changed olds news s d ≡ true → OneChangesHands plan seen x s d
+changes_at plan seen x olds news s d before after ls ld is = elim (one_of (differs_at olds news s) (differs_at olds news d) is) [
   | inl source ↦ inl (changes plan (frames_seen seen) x.frame olds news s before after ls source)
   | inr destination ↦ inr (changes plan (frames_seen seen) x.frame olds news d before after ld destination)
 ]
 
 stays_at : (plan : Plan) (seen : List Seen) (x : Seen) (olds news : List Who) (s d : ℕ) → ArePartiesOf plan (frames_seen seen) olds
-    → ArePartiesOf plan (frames_seen seen ++ x.frame ∷ []) news → s < 256 → d < 256 → is_parted olds news s d ≡ false → ¬ Parts plan seen x s d
-stays_at plan seen x olds news s d before after ls ld together parts =
+    → ArePartiesOf plan (frames_seen seen ++ x.frame ∷ []) news → s < 256 → d < 256 → is_changed olds news s d ≡ false → ¬ OneChangesHands plan seen x s d
+stays_at plan seen x olds news s d before after ls ld together one =
     let same = none_of (differs_at olds news s) (differs_at olds news d) together in
-    elim parts [
+    elim one [
       | inl source ↦ stays plan (frames_seen seen) x.frame olds news s before after ls same.0 source
       | inr destination ↦ stays plan (frames_seen seen) x.frame olds news d before after ld same.1 destination
     ]
@@ -177,31 +177,31 @@ if_false : (b : Bool) (x y : Receiving) → b ≡ false → (if b then x else y)
 if_false true x y e = cc
 if_false false x y e = refl
 
--- once the pairs that are parted have begun anew
+-- once the pairs of which an address has changed hands have begun anew
 pub heard_anew : (plan : Plan) (seen : List Seen) (x : Seen) (olds news : List Who) (mid new : Listeners)
     → ArePartiesOf plan (frames_seen seen) olds → ArePartiesOf plan (frames_seen seen ++ x.frame ∷ []) news
     → ((s d : ℕ) → s < 256 → d < 256
-    → listener_between new s d ≡ (if is_parted olds news s d then fresh Listening else listener_between mid s d))
+    → listener_between new s d ≡ (if is_changed olds news s d then fresh Listening else listener_between mid s d))
     → HaveHeardOneMore plan mid seen x → HaveHeardSince plan new (seen ++ x ∷ [])
-heard_anew plan seen x olds news mid new before after part more s d ls ld = elim (cases_Bool (is_parted olds news s d)) [
-  | inl parted ↦ (
+heard_anew plan seen x olds news mid new before after changed more s d ls ld = elim (cases_Bool (is_changed olds news s d)) [
+  | inl is ↦ (
     [],
-    begins_anew plan seen x s d (parts_at plan seen x olds news s d before after ls ld parted),
-    part s d ls ld ∙ if_true (is_parted olds news s d) (fresh Listening) (listener_between mid s d) parted,
+    begins_anew plan seen x s d (changes_at plan seen x olds news s d before after ls ld is),
+    changed s d ls ld ∙ if_true (is_changed olds news s d) (fresh Listening) (listener_between mid s d) is,
   )
   | inr together ↦
       let one = more s d ls ld in (
         one.0 ++ heard_of s d x.frame.ident x.packet,
         goes_on plan seen x s d one.0 one.1 (stays_at plan seen x olds news s d before after ls ld together),
-        part s d ls ld ∙ if_false (is_parted olds news s d) (fresh Listening) (listener_between mid s d) together ∙ one.2,
+        changed s d ls ld ∙ if_false (is_changed olds news s d) (fresh Listening) (listener_between mid s d) together ∙ one.2,
       )
 ]
 
 same_itself : (w : Who) → is_same_party w w ≡ true
 same_itself w = party_again w w (record { unit = refl; stranger = refl })
 
-unparted : (parties : List Who) (s d : ℕ) → is_parted parties parties s d ≡ false
-unparted parties s d =
+unchanged_hands : (parties : List Who) (s d : ℕ) → is_changed parties parties s d ≡ false
+unchanged_hands parties s d =
     ap (λ (b : Bool). not b || differs_at parties parties d) (same_itself (party_at parties s))
     ∙ ap (λ (b : Bool). not b) (same_itself (party_at parties d))
 
@@ -211,7 +211,7 @@ pub heard_on : (plan : Plan) (seen : List Seen) (x : Seen) (parties : List Who) 
     → HaveHeardOneMore plan listeners seen x → HaveHeardSince plan listeners (seen ++ x ∷ [])
 heard_on plan seen x parties listeners before after more =
     heard_anew plan seen x parties parties listeners listeners before after
-    (λ s d ls ld. sym (if_false (is_parted parties parties s d) (fresh Listening) (listener_between listeners s d) (unparted parties s d))) more
+    (λ s d ls ld. sym (if_false (is_changed parties parties s d) (fresh Listening) (listener_between listeners s d) (unchanged_hands parties s d))) more
 
 -- ---- a frame
 

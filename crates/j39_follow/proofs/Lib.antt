@@ -15,7 +15,7 @@ pub mod LinesRead
 pub mod Numbered
 pub mod OneFrame
 pub mod OneText
-pub mod Parted
+pub mod ChangedHands
 pub mod Parties
 pub mod Recalls
 pub mod Recounts

@@ -16,7 +16,7 @@ use Rattle.j39_tp.specs.declared.packet.Packet.{Packet}
 use Rattle.j39_follow.specs.Contests.{Timed}
 use Rattle.j39_follow.specs.Fits.{IsSentGroup, fitting_flow}
 use Rattle.j39_follow.specs.FollowReports.{AreTold, IsAnswerWay, IsAsked, IsGroupOfMessage, IsGrouped, IsMessageReport, IsNotice, IsSendingOf, IsWay, Message, aim_at, answer_way_text, in_frame, is_to_all, message_line, notice_text, told_events}
-use Rattle.j39_follow.specs.FollowText.{HeardSince, IsCarriedReport, IsFollowedAs, IsPacketReport, Parts}
+use Rattle.j39_follow.specs.FollowText.{HeardSince, IsCarriedReport, IsFollowedAs, IsPacketReport, OneChangesHands}
 use Rattle.j39_follow.specs.LoggedRequests.{asked_request, told_address}
 use Rattle.j39_follow.specs.Who.{unit_of, who_text}
 use Rattle.j39_follow.specs.declared.event.Event.{Event}
@@ -189,8 +189,8 @@ not_later plan seen s d h k a b m later rest = elim (ending m) [
         | inr parting ↦
             let same = same_from_push (a.before ++ end.0) parting.0 end.1 parting.1 (sym row ∙ parting.2) in
             absurd (a.steady end.0 end.1 b.since between
-            (subst (λ (x : Seen). Parts plan (a.before ++ end.0) x s d) (sym same.1)
-            (subst (λ (t : List Seen). Parts plan t parting.1 s d) (sym same.0) parting.3)))
+            (subst (λ (x : Seen). OneChangesHands plan (a.before ++ end.0) x s d) (sym same.1)
+            (subst (λ (t : List Seen). OneChangesHands plan t parting.1 s d) (sym same.0) parting.3)))
       ]
 ]
 

@@ -43,23 +43,23 @@ abbrev pub frames_seen : List Seen → List Frame
 frames_seen seen = map (λ (s : Seen). s.frame) seen
 
 -- at this frame, after those, one of the two addresses changes hands
-abbrev pub Parts : Plan → List Seen → Seen → ℕ → ℕ → Type 0
-Parts plan before x source destination =
+abbrev pub OneChangesHands : Plan → List Seen → Seen → ℕ → ℕ → Type 0
+OneChangesHands plan before x source destination =
     ChangesHands plan (frames_seen before) x.frame source ⊎ ChangesHands plan (frames_seen before) x.frame destination
 
 -- the last of these frames is one at which it does
-abbrev pub EndsInParting : Plan → List Seen → ℕ → ℕ → Type 0
-EndsInParting plan seen source destination =
-    (front : List Seen) × (x : Seen) × (seen ≡ front ++ x ∷ []) × Parts plan front x source destination
+abbrev pub EndsInChange : Plan → List Seen → ℕ → ℕ → Type 0
+EndsInChange plan seen source destination =
+    (front : List Seen) × (x : Seen) × (seen ≡ front ++ x ∷ []) × OneChangesHands plan front x source destination
 
 -- the packets that a pair heard since one of its addresses last changed hands
 pub record HeardSince (plan : Plan) (seen : List Seen) (source destination : ℕ) (packets : List Packet) : Type 0 where
   pub before : List Seen
   pub since : List Seen
   pub row : seen ≡ before ++ since
-  pub anew : (before ≡ []) ⊎ EndsInParting plan before source destination
+  pub anew : (before ≡ []) ⊎ EndsInChange plan before source destination
   pub steady : (front : List Seen) (x : Seen) (back : List Seen) → since ≡ front ++ x ∷ back
-      → ¬ Parts plan (before ++ front) x source destination
+      → ¬ OneChangesHands plan (before ++ front) x source destination
   pub packets_are : packets ≡ heard source destination since
 
 -- ---- a frame

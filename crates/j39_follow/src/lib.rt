@@ -3,6 +3,7 @@
 
 mod acknowledgement;
 mod asking;
+mod changed_hands;
 mod contest;
 mod contests;
 mod directory;
@@ -23,7 +24,6 @@ mod moment;
 mod naming;
 mod needs;
 mod notice;
-mod parting;
 mod party_text;
 mod reading;
 mod replies;

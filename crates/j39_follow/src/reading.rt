@@ -21,6 +21,7 @@ ghost use Rattle.j39_follow.specs.inside.Reporting.{front_of};
 ghost use Rattle.j39_follow.specs.inside.Tallies.{IsTally};
 
 use crate::acknowledgement::{acknowledges, told_address};
+use crate::changed_hands::begin_anew;
 use crate::contests::{Contests, begun};
 use crate::directory::Directory;
 use crate::endings::write_endings;
@@ -30,7 +31,6 @@ use crate::log_line::{interface, is_elsewhere, read_part, time_text};
 use crate::message::Sort;
 use crate::moment::moment;
 use crate::needs::write_needs;
-use crate::parting::part;
 use crate::request_ends::write_requests;
 use crate::stamp::Stamp;
 use crate::taking::taken;
@@ -251,7 +251,7 @@ impl Reading {
         self.directory.hear(groups.plan(), frame);
         self.report(groups, time, frame)?;
         let after = self.directory.all_parties();
-        part(&mut self.listeners, &before, &after);
+        begin_anew(&mut self.listeners, &before, &after);
         Ok(())
     }
 

@@ -4,5 +4,6 @@ pub mod Extremes
 pub mod FlowSearch
 pub mod FewFrames
 pub mod FramesBy
+pub mod Networks
 pub mod Offers
 pub mod TurnTimes

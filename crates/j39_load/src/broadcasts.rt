@@ -2,8 +2,8 @@
 ghost use Rattle.std.specs.Prelude.{◌≡◌, ◌≢◌, ◌+◌, ◌<◌, ◌≤◌, ◌*◌, ◌^◌, [], All, length, sum_by, IfOk, IfSome, OnErr};
 ghost use Rattle.j39_load.specs.Broadcasts.{bits_each, broadcast_by, broadcast_frames, broadcasts_by, each_unit_load, known_unit_load, least_packets, load_of_announcements, load_of_packets, unit_loads_of};
 ghost use Rattle.j39_load.specs.SoundLoads.{AreSound, IsSoundBroadcast, IsSoundIfKnown, IsSoundIfSent};
-ghost use Rattle.j39_load.specs.Standing.{stays_of};
 ghost use Rattle.j39_load.specs.inside.Broadcasting.{AreSoundBroadcasts};
+ghost use Rattle.j39_load.specs.inside.Networks.{stays_in, units_in};
 
 use crate::broadcast::Broadcast;
 use crate::extreme::Extreme;
@@ -11,10 +11,10 @@ use crate::flow_frames::FlowFrames;
 use crate::flow_load::FlowLoad;
 use crate::identifiers::{any_unit, broadcast_ident};
 use crate::messages::Messages;
-use crate::standing::Standing;
+use crate::network::Network;
 use crate::streams::{bits_each, spaced_stream};
 use crate::unit_load::UnitLoad;
-use j39_findings::{Timing, UnitPlan};
+use j39_findings::Timing;
 use j39_id::Pgn;
 use j39_id::services::{CONNECTION_MANAGEMENT, DATA_TRANSFER};
 use std::alloc::{AllocError, Global};
@@ -128,25 +128,19 @@ fn bits_per_second(timing: Timing, broadcasts: &[Broadcast], least: u8) -> u64
 }
 
 // Frames of a group of the transport protocol, from a unit to all, which are queued at least so many gaps apart.
-fn broadcast_frames(
-    timing: Timing,
-    units: &[UnitPlan],
-    standing: &Standing,
-    pgn: Pgn,
-    unit: usize,
-    gaps: u8,
-) -> FlowFrames
-    requires unit { unit < length units.now }
+fn broadcast_frames(network: &Network<'_>, pgn: Pgn, unit: usize, gaps: u8) -> FlowFrames
+    requires unit { unit < length (units_in network.now) }
     requires gaps { 1 ≤ gaps }
-    ensures frames { result ≡ broadcast_frames timing units.now (stays_of standing.now) pgn unit gaps }
+    ensures frames { result
+        ≡ broadcast_frames network.now.timing (units_in network.now) (stays_in network.now) pgn unit gaps }
     ensures fits { AreSound result }
 {
-    let greatest_ident = broadcast_ident(timing, pgn, units, standing, Extreme::Greatest, unit);
+    let greatest_ident = broadcast_ident(network, pgn, Extreme::Greatest, unit);
     FlowFrames {
-        stream: spaced_stream(timing, gaps),
-        least_ident: broadcast_ident(timing, pgn, units, standing, Extreme::Least, unit),
+        stream: spaced_stream(network.timing, gaps),
+        least_ident: broadcast_ident(network, pgn, Extreme::Least, unit),
         greatest_ident,
-        any_sender: any_unit(units, unit),
+        any_sender: any_unit(network, unit),
         any_receiver: None,
         last_ident: greatest_ident,
         twin_ident: None,
@@ -154,17 +148,12 @@ fn broadcast_frames(
 }
 
 // What these broadcasts of the unit at a place ask of the bus, where there are any.
-fn unit_load(
-    timing: Timing,
-    units: &[UnitPlan],
-    standing: &Standing,
-    unit: usize,
-    broadcasts: &[Broadcast],
-) -> Option<UnitLoad>
-    requires unit { unit < length units.now }
+fn unit_load(network: &Network<'_>, unit: usize, broadcasts: &[Broadcast]) -> Option<UnitLoad>
+    requires unit { unit < length (units_in network.now) }
     requires sound { AreSoundBroadcasts broadcasts.now }
     requires few { length broadcasts.now ≤ 2 ^ 16 }
-    ensures load { result ≡ known_unit_load timing units.now (stays_of standing.now) unit broadcasts.now }
+    ensures load { result
+        ≡ known_unit_load network.now.timing (units_in network.now) (stays_in network.now) unit broadcasts.now }
     ensures sound { IsSoundIfSent result }
 {
     if broadcasts.is_empty() {
@@ -172,39 +161,31 @@ fn unit_load(
     }
     let least = least_packets(broadcasts);
     Some(UnitLoad {
-        packets: broadcast_frames(timing, units, standing, DATA_TRANSFER, unit, 1),
-        announcements: broadcast_frames(
-            timing,
-            units,
-            standing,
-            CONNECTION_MANAGEMENT,
-            unit,
-            least,
-        ),
+        packets: broadcast_frames(network, DATA_TRANSFER, unit, 1),
+        announcements: broadcast_frames(network, CONNECTION_MANAGEMENT, unit, least),
         flows: broadcasts.len() as u32,
         all_packets: all_packets(broadcasts),
-        bits_per_second: bits_per_second(timing, broadcasts, least),
+        bits_per_second: bits_per_second(network.timing, broadcasts, least),
     })
 }
 
 // What the broadcasts of each unit ask of the bus, in order, by what the flows do.
 fn each_unit_load(
     alloc: Global,
-    timing: Timing,
-    units: &[UnitPlan],
-    standing: &Standing,
+    network: &Network<'_>,
     loads: &[Option<FlowLoad>],
 ) -> Result<Vec<Option<UnitLoad>>, AllocError>
     requires sound { All IsSoundIfKnown loads.now }
     requires few { length loads.now ≤ 2 ^ 16 }
-    ensures loads { IfOk result (λ result. result.items ≡ each_unit_load timing units.now (stays_of standing.now) loads.now) }
-    ensures count { IfOk result (λ result. length result.items ≡ length units.now) }
+    ensures loads { IfOk result (λ result. result.items
+        ≡ each_unit_load network.now.timing (units_in network.now) (stays_in network.now) loads.now) }
+    ensures count { IfOk result (λ result. length result.items ≡ length (units_in network.now)) }
     ensures sound { IfOk result (λ result. All IsSoundIfSent result.items) }
 {
     let mut unit_loads = Vec::new(alloc);
-    for unit in 0..units.len() {
+    for unit in 0..network.plan.units.len() {
         let broadcasts = broadcasts_by(alloc, unit, loads)?;
-        unit_loads.push(unit_load(timing, units, standing, unit, broadcasts.as_slice()))?;
+        unit_loads.push(unit_load(network, unit, broadcasts.as_slice()))?;
     }
     Ok(unit_loads)
 }
@@ -213,20 +194,19 @@ fn each_unit_load(
 /// are none.
 pub(crate) fn unit_loads_of(
     alloc: Global,
-    timing: Timing,
-    units: &[UnitPlan],
-    standing: &Standing,
+    network: &Network<'_>,
     loads: &[Option<FlowLoad>],
 ) -> Result<Vec<Option<UnitLoad>>, AllocError>
     requires sound { All IsSoundIfKnown loads.now }
     requires few { length loads.now ≤ 2 ^ 16 }
-    ensures loads { IfOk result (λ result. result.items ≡ unit_loads_of timing units.now (stays_of standing.now) loads.now) }
-    ensures count { IfOk result (λ result. length result.items ≤ length units.now) }
+    ensures loads { IfOk result (λ result. result.items
+        ≡ unit_loads_of network.now.timing (units_in network.now) (stays_in network.now) loads.now) }
+    ensures count { IfOk result (λ result. length result.items ≤ length (units_in network.now)) }
     ensures sound { IfOk result (λ result. All IsSoundIfSent result.items) }
     ensures memory { OnErr result (loads.now ≢ []) }
 {
     if loads.is_empty() {
         return Ok(Vec::new(alloc));
     }
-    each_unit_load(alloc, timing, units, standing, loads)
+    each_unit_load(alloc, network, loads)
 }

@@ -2,12 +2,11 @@
 ghost use Rattle.std.specs.Prelude.{◌≡◌, ◌≢◌, [], ◌^◌, ◌<◌, ◌≤◌, ℕ, max, All, length, IfOk, OnErr};
 ghost use Rattle.j39_findings.specs.declared.plan.to.To.TheVariants.{One};
 ghost use Rattle.std.specs.Option.{option_map};
-ghost use Rattle.j39_id.specs.Limits.{unit_limit};
 ghost use Rattle.j39_load.specs.Loads.{bits_of_ms as bits_in_ms, broadcast_of, flow_load, load_of_flow, load_of_messages, loads_of, messages_of, packet_frames};
 ghost use Rattle.j39_load.specs.Loads.{single_frames, singles_of, time_limit};
 ghost use Rattle.j39_load.specs.SoundLoads.{AreSound, AreSoundIfAny, AreSoundMessages, IsSoundBroadcast, IsSoundIfKnown, IsSoundLoad};
-ghost use Rattle.j39_load.specs.Standing.{stays_of};
 ghost use Rattle.j39_load.specs.inside.FewFrames.{HaveFewFrames};
+ghost use Rattle.j39_load.specs.inside.Networks.{stays_in, units_in};
 ghost use Rattle.j39_tp.specs.Chunks.{packets_of};
 
 use crate::broadcast::Broadcast;
@@ -16,9 +15,9 @@ use crate::flow_frames::FlowFrames;
 use crate::flow_load::FlowLoad;
 use crate::identifiers::{any_unit, group_ident, packet_ident, session_ident, twin_ident};
 use crate::messages::Messages;
-use crate::standing::Standing;
+use crate::network::Network;
 use crate::streams::{bits_of_ms, load, packet_stream, single_stream};
-use j39_findings::{FlowPlan, GroupPlan, Pace, Plan, Timing, To, UnitPlan};
+use j39_findings::{FlowPlan, GroupPlan, Pace, Timing, To};
 use j39_id::limits::FRAME_BYTES;
 use j39_tp::Size;
 use std::alloc::{AllocError, Global};
@@ -34,26 +33,24 @@ fn limit(timing: Timing, pace: Pace) -> u32
 
 // The frames of a flow's messages that go in one frame.
 fn single_frames(
-    timing: Timing,
-    units: &[UnitPlan],
-    standing: &Standing,
+    network: &Network<'_>,
     flow: &FlowPlan,
     pace: Pace,
     group: &GroupPlan,
 ) -> FlowFrames
-    requires sender { flow.now.sender < length units.now }
-    requires receiver { (v : ℕ) → flow.now.to ≡ One v → v < length units.now }
-    requires units { length units.now ≤ unit_limit }
-    ensures frames { result ≡ single_frames timing units.now (stays_of standing.now) flow.now pace group.now }
+    requires sender { flow.now.sender < length (units_in network.now) }
+    requires receiver { (v : ℕ) → flow.now.to ≡ One v → v < length (units_in network.now) }
+    ensures frames { result
+        ≡ single_frames network.now.timing (units_in network.now) (stays_in network.now) flow.now pace group.now }
     ensures fits { AreSound result }
     ensures few { result.stream.frames ≤ 512 }
 {
-    let greatest_ident = group_ident(units, standing, Extreme::Greatest, group, flow);
+    let greatest_ident = group_ident(network, Extreme::Greatest, group, flow);
     FlowFrames {
-        stream: single_stream(timing, group, pace),
-        least_ident: group_ident(units, standing, Extreme::Least, group, flow),
+        stream: single_stream(network.timing, group, pace),
+        least_ident: group_ident(network, Extreme::Least, group, flow),
         greatest_ident,
-        any_sender: any_unit(units, flow.sender),
+        any_sender: any_unit(network, flow.sender),
         any_receiver: None,
         last_ident: greatest_ident,
         twin_ident: twin_ident(group, flow),
@@ -62,28 +59,27 @@ fn single_frames(
 
 // Those of its long messages to the unit at a place, each of so many packets.
 fn packet_frames(
-    timing: Timing,
-    units: &[UnitPlan],
-    standing: &Standing,
+    network: &Network<'_>,
     flow: &FlowPlan,
     unit: usize,
     pace: Pace,
     packets: u8,
 ) -> FlowFrames
-    requires sender { flow.now.sender < length units.now }
-    requires receiver { (v : ℕ) → flow.now.to ≡ One v → v < length units.now }
-    requires to { unit < length units.now }
-    ensures frames { result ≡ packet_frames timing units.now (stays_of standing.now) flow.now unit pace packets }
+    requires sender { flow.now.sender < length (units_in network.now) }
+    requires receiver { (v : ℕ) → flow.now.to ≡ One v → v < length (units_in network.now) }
+    requires to { unit < length (units_in network.now) }
+    ensures frames { result
+        ≡ packet_frames network.now.timing (units_in network.now) (stays_in network.now) flow.now unit pace packets }
     ensures fits { AreSound result }
     ensures few { result.stream.frames ≤ 512 }
 {
     FlowFrames {
-        stream: packet_stream(timing, units, packets, unit, pace),
-        least_ident: packet_ident(timing, units, standing, Extreme::Least, flow),
-        greatest_ident: packet_ident(timing, units, standing, Extreme::Greatest, flow),
-        any_sender: any_unit(units, flow.sender),
-        any_receiver: any_unit(units, unit),
-        last_ident: session_ident(timing, units, standing, Extreme::Greatest, flow, unit),
+        stream: packet_stream(network, packets, unit, pace),
+        least_ident: packet_ident(network, Extreme::Least, flow),
+        greatest_ident: packet_ident(network, Extreme::Greatest, flow),
+        any_sender: any_unit(network, flow.sender),
+        any_receiver: any_unit(network, unit),
+        last_ident: session_ident(network, Extreme::Greatest, flow, unit),
         twin_ident: None,
     }
 }
@@ -131,29 +127,22 @@ fn broadcast(
 }
 
 // The messages of a flow, by the longest.
-fn messages_of(
-    timing: Timing,
-    units: &[UnitPlan],
-    standing: &Standing,
-    flow: &FlowPlan,
-    pace: Pace,
-    group: &GroupPlan,
-) -> Messages
-    requires sender { flow.now.sender < length units.now }
-    requires receiver { (v : ℕ) → flow.now.to ≡ One v → v < length units.now }
-    requires units { length units.now ≤ unit_limit }
-    ensures messages { result ≡ messages_of timing units.now (stays_of standing.now) flow.now pace group.now }
+fn messages_of(network: &Network<'_>, flow: &FlowPlan, pace: Pace, group: &GroupPlan) -> Messages
+    requires sender { flow.now.sender < length (units_in network.now) }
+    requires receiver { (v : ℕ) → flow.now.to ≡ One v → v < length (units_in network.now) }
+    ensures messages { result
+        ≡ messages_of network.now.timing (units_in network.now) (stays_in network.now) flow.now pace group.now }
     ensures sound { AreSoundMessages result }
     ensures few { HaveFewFrames result }
 {
     let Some(size) = Size::new(group.most) else {
-        return Messages::Short(single_frames(timing, units, standing, flow, pace, group));
+        return Messages::Short(single_frames(network, flow, pace, group));
     };
     let packets = size.packets();
     match flow.to {
-        To::All => Messages::ToAll(broadcast(timing, flow, pace, group, packets)),
+        To::All => Messages::ToAll(broadcast(network.timing, flow, pace, group, packets)),
         To::One(unit) => {
-            let frames = packet_frames(timing, units, standing, flow, unit, pace, packets);
+            let frames = packet_frames(network, flow, unit, pace, packets);
             Messages::ToOne(frames)
         }
     }
@@ -161,21 +150,19 @@ fn messages_of(
 
 // The single frames of a flow, where it has long messages too.
 fn singles_of(
-    timing: Timing,
-    units: &[UnitPlan],
-    standing: &Standing,
+    network: &Network<'_>,
     flow: &FlowPlan,
     pace: Pace,
     group: &GroupPlan,
 ) -> Option<FlowFrames>
-    requires sender { flow.now.sender < length units.now }
-    requires receiver { (v : ℕ) → flow.now.to ≡ One v → v < length units.now }
-    requires units { length units.now ≤ unit_limit }
-    ensures singles { result ≡ singles_of timing units.now (stays_of standing.now) flow.now pace group.now }
+    requires sender { flow.now.sender < length (units_in network.now) }
+    requires receiver { (v : ℕ) → flow.now.to ≡ One v → v < length (units_in network.now) }
+    ensures singles { result
+        ≡ singles_of network.now.timing (units_in network.now) (stays_in network.now) flow.now pace group.now }
     ensures fits { AreSoundIfAny result }
 {
     if usize::from(group.most) > FRAME_BYTES && usize::from(group.length) <= FRAME_BYTES {
-        Some(single_frames(timing, units, standing, flow, pace, group))
+        Some(single_frames(network, flow, pace, group))
     } else {
         None
     }
@@ -196,47 +183,34 @@ fn load_of_messages(messages: &Messages, period: u16) -> u32
     }
 }
 
-fn flow_load(
-    timing: Timing,
-    units: &[UnitPlan],
-    standing: &Standing,
-    flow: &FlowPlan,
-    pace: Pace,
-    group: &GroupPlan,
-) -> FlowLoad
-    requires sender { flow.now.sender < length units.now }
-    requires receiver { (v : ℕ) → flow.now.to ≡ One v → v < length units.now }
-    requires units { length units.now ≤ unit_limit }
-    ensures load { result ≡ flow_load timing units.now (stays_of standing.now) flow.now pace group.now }
+fn flow_load(network: &Network<'_>, flow: &FlowPlan, pace: Pace, group: &GroupPlan) -> FlowLoad
+    requires sender { flow.now.sender < length (units_in network.now) }
+    requires receiver { (v : ℕ) → flow.now.to ≡ One v → v < length (units_in network.now) }
+    ensures load { result
+        ≡ flow_load network.now.timing (units_in network.now) (stays_in network.now) flow.now pace group.now }
     ensures sound { IsSoundLoad result }
 {
-    let messages = messages_of(timing, units, standing, flow, pace, group);
+    let messages = messages_of(network, flow, pace, group);
     FlowLoad {
         messages,
-        singles: singles_of(timing, units, standing, flow, pace, group),
-        limit: limit(timing, pace),
+        singles: singles_of(network, flow, pace, group),
+        limit: limit(network.timing, pace),
         bits_per_second: load_of_messages(&messages, pace.period),
     }
 }
 
 // What a flow asks of the bus, where it is known how often it is sent.
-fn load_of_flow(
-    timing: Timing,
-    plan: &Plan,
-    standing: &Standing,
-    flow: &FlowPlan,
-) -> Option<FlowLoad>
-    requires group { flow.now.group < length plan.now.groups.items }
-    requires sender { flow.now.sender < length plan.now.units.items }
-    requires receiver { (v : ℕ) → flow.now.to ≡ One v → v < length plan.now.units.items }
-    ensures load { result ≡ load_of_flow timing plan.now (stays_of standing.now) flow.now }
+fn load_of_flow(network: &Network<'_>, flow: &FlowPlan) -> Option<FlowLoad>
+    requires group { flow.now.group < length network.now.plan.now.groups.items }
+    requires sender { flow.now.sender < length (units_in network.now) }
+    requires receiver { (v : ℕ) → flow.now.to ≡ One v → v < length (units_in network.now) }
+    ensures load { result ≡ load_of_flow network.now.timing network.now.plan.now (stays_in network.now) flow.now }
     ensures sound { IsSoundIfKnown result }
 {
     match flow.pace {
         Some(pace) => {
-            let group = &plan.groups[flow.group];
-            let units = plan.units.as_slice();
-            Some(flow_load(timing, units, standing, flow, pace, group))
+            let group = &network.plan.groups[flow.group];
+            Some(flow_load(network, flow, pace, group))
         }
         None => None,
     }
@@ -245,18 +219,17 @@ fn load_of_flow(
 /// What each flow of a plan asks of the bus, in order. No memory is asked for where there are none.
 pub(crate) fn loads_of(
     alloc: Global,
-    timing: Timing,
-    plan: &Plan,
-    standing: &Standing,
+    network: &Network<'_>,
 ) -> Result<Vec<Option<FlowLoad>>, AllocError>
-    ensures loads { IfOk result (λ loads. loads.items ≡ loads_of timing plan.now (stays_of standing.now)) }
-    ensures count { IfOk result (λ loads. length loads.items ≡ length plan.now.flows.items) }
+    ensures loads { IfOk result (λ loads. loads.items
+        ≡ loads_of network.now.timing network.now.plan.now (stays_in network.now)) }
+    ensures count { IfOk result (λ loads. length loads.items ≡ length network.now.plan.now.flows.items) }
     ensures sound { IfOk result (λ loads. All IsSoundIfKnown loads.items) }
-    ensures memory { OnErr result (plan.now.flows.items ≢ []) }
+    ensures memory { OnErr result (network.now.plan.now.flows.items ≢ []) }
 {
-    let mut loads = Vec::with_capacity(alloc, plan.flows.len())?;
-    for place in 0..plan.flows.len() {
-        loads.push_reserved(load_of_flow(timing, plan, standing, &plan.flows[place]));
+    let mut loads = Vec::with_capacity(alloc, network.plan.flows.len())?;
+    for place in 0..network.plan.flows.len() {
+        loads.push_reserved(load_of_flow(network, &network.plan.flows[place]));
     }
     Ok(loads)
 }

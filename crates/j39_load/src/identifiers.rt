@@ -3,14 +3,13 @@ ghost use Rattle.std.specs.Prelude.{◌≡◌, ◌<◌, ℕ, length, max};
 ghost use Rattle.j39_id.specs.Ident.{identifier_of};
 ghost use Rattle.j39_id.specs.Limits.{unit_limit};
 ghost use Rattle.j39_findings.specs.declared.plan.to.To.TheVariants.{One};
-ghost use Rattle.j39_load.specs.Loads.{any_unit, broadcast_ident, destination_at, group_ident, of_unit, packet_ident, session_ident, twin_ident};
+ghost use Rattle.j39_load.specs.Loads.{any_unit, broadcast_ident, destination_at, group_ident, packet_ident, session_ident, twin_ident};
 ghost use Rattle.j39_load.specs.RequestLoads.{request_ident};
-ghost use Rattle.j39_load.specs.Standing.{stays_of};
-ghost use Rattle.j39_load.specs.inside.Extremes.{extreme_address};
+ghost use Rattle.j39_load.specs.inside.Networks.{addresses_at, units_in};
 
 use crate::extreme::Extreme;
-use crate::standing::Standing;
-use j39_findings::{FlowPlan, GroupPlan, Queue, RequestPlan, Timing, To, UnitPlan};
+use crate::network::Network;
+use j39_findings::{FlowPlan, GroupPlan, Queue, RequestPlan, To};
 use j39_id::addresses::GLOBAL_ADDRESS;
 use j39_id::services::{CLAIM_PRIORITY, CONNECTION_MANAGEMENT, DATA_TRANSFER, REQUEST};
 use j39_id::{PDU2_FIRST, Pgn, pf_of};
@@ -27,33 +26,32 @@ fn identifier(priority: u8, pgn: u32, destination: u8, source: u8) -> u64
     u64::from(priority) * 67_108_864 + u64::from(pgn) * 256 + named + u64::from(source)
 }
 
-fn destination(units: &[UnitPlan], standing: &Standing, extreme: Extreme, to: To) -> u8
-    requires { (v : ℕ) → to ≡ One v → v < length units.now }
-    ensures { result ≡ destination_at (of_unit units.now (extreme_address extreme (stays_of standing.now))) to }
+fn destination(network: &Network<'_>, extreme: Extreme, to: To) -> u8
+    requires { (v : ℕ) → to ≡ One v → v < length (units_in network.now) }
+    ensures { result ≡ destination_at (addresses_at extreme network.now) to }
 {
     match to {
         To::All => GLOBAL_ADDRESS,
-        To::One(unit) => extreme.address(standing, &units[unit]),
+        To::One(unit) => network.address(extreme, unit),
     }
 }
 
 /// The number of the identifier of a flow's frames of its group, where its units hold their addresses at this end.
 pub(crate) fn group_ident(
-    units: &[UnitPlan],
-    standing: &Standing,
+    network: &Network<'_>,
     extreme: Extreme,
     group: &GroupPlan,
     flow: &FlowPlan,
 ) -> u64
-    requires sender { flow.now.sender < length units.now }
-    requires receiver { (v : ℕ) → flow.now.to ≡ One v → v < length units.now }
-    ensures { result ≡ group_ident (of_unit units.now (extreme_address extreme (stays_of standing.now))) group.now flow.now }
+    requires sender { flow.now.sender < length (units_in network.now) }
+    requires receiver { (v : ℕ) → flow.now.to ≡ One v → v < length (units_in network.now) }
+    ensures { result ≡ group_ident (addresses_at extreme network.now) group.now flow.now }
 {
     identifier(
         group.priority,
         group.pgn,
-        destination(units, standing, extreme, flow.to),
-        extreme.address(standing, &units[flow.sender]),
+        destination(network, extreme, flow.to),
+        network.address(extreme, flow.sender),
     )
 }
 
@@ -87,92 +85,72 @@ pub(crate) fn twin_ident(group: &GroupPlan, flow: &FlowPlan) -> Option<u64>
 }
 
 /// That of the data packets of its long messages.
-pub(crate) fn packet_ident(
-    timing: Timing,
-    units: &[UnitPlan],
-    standing: &Standing,
-    extreme: Extreme,
-    flow: &FlowPlan,
-) -> u64
-    requires sender { flow.now.sender < length units.now }
-    requires receiver { (v : ℕ) → flow.now.to ≡ One v → v < length units.now }
-    ensures { result ≡ packet_ident timing (of_unit units.now (extreme_address extreme (stays_of standing.now))) flow.now }
+pub(crate) fn packet_ident(network: &Network<'_>, extreme: Extreme, flow: &FlowPlan) -> u64
+    requires sender { flow.now.sender < length (units_in network.now) }
+    requires receiver { (v : ℕ) → flow.now.to ≡ One v → v < length (units_in network.now) }
+    ensures { result ≡ packet_ident network.now.timing (addresses_at extreme network.now) flow.now }
 {
     identifier(
-        timing.transport_priority,
+        network.timing.transport_priority,
         DATA_TRANSFER.number(),
-        destination(units, standing, extreme, flow.to),
-        extreme.address(standing, &units[flow.sender]),
+        destination(network, extreme, flow.to),
+        network.address(extreme, flow.sender),
     )
 }
 
 /// The greatest one of its long messages to the unit at a place, with what is answered.
 pub(crate) fn session_ident(
-    timing: Timing,
-    units: &[UnitPlan],
-    standing: &Standing,
+    network: &Network<'_>,
     extreme: Extreme,
     flow: &FlowPlan,
     unit: usize,
 ) -> u64
-    requires sender { flow.now.sender < length units.now }
-    requires to { unit < length units.now }
-    ensures { result ≡ session_ident timing (of_unit units.now (extreme_address extreme (stays_of standing.now))) flow.now unit }
+    requires sender { flow.now.sender < length (units_in network.now) }
+    requires to { unit < length (units_in network.now) }
+    ensures { result ≡ session_ident network.now.timing (addresses_at extreme network.now) flow.now unit }
 {
-    let from = extreme.address(standing, &units[flow.sender]);
-    let to = extreme.address(standing, &units[unit]);
+    let from = network.address(extreme, flow.sender);
+    let to = network.address(extreme, unit);
     let pgn = CONNECTION_MANAGEMENT.number();
-    let asked = identifier(timing.transport_priority, pgn, to, from);
-    let answered = identifier(timing.transport_priority, pgn, from, to);
+    let asked = identifier(network.timing.transport_priority, pgn, to, from);
+    let answered = identifier(network.timing.transport_priority, pgn, from, to);
     asked.max(answered)
 }
 
 /// The unit at a place, where its controller keeps no order.
-pub(crate) fn any_unit(units: &[UnitPlan], unit: usize) -> Option<usize>
-    requires { unit < length units.now }
-    ensures { result ≡ any_unit units.now unit }
+pub(crate) fn any_unit(network: &Network<'_>, unit: usize) -> Option<usize>
+    requires { unit < length (units_in network.now) }
+    ensures { result ≡ any_unit (units_in network.now) unit }
 {
-    match units[unit].queue {
+    match network.plan.units[unit].queue {
         Queue::Any => Some(unit),
         Queue::Priority => None,
     }
 }
 
 /// That of frames of a group of the transport protocol, from a unit to all.
-pub(crate) fn broadcast_ident(
-    timing: Timing,
-    pgn: Pgn,
-    units: &[UnitPlan],
-    standing: &Standing,
-    extreme: Extreme,
-    unit: usize,
-) -> u64
-    requires { unit < length units.now }
-    ensures { result ≡ broadcast_ident timing pgn (of_unit units.now (extreme_address extreme (stays_of standing.now))) unit }
+pub(crate) fn broadcast_ident(network: &Network<'_>, pgn: Pgn, extreme: Extreme, unit: usize) -> u64
+    requires { unit < length (units_in network.now) }
+    ensures { result ≡ broadcast_ident network.now.timing pgn (addresses_at extreme network.now) unit }
 {
     identifier(
-        timing.transport_priority,
+        network.timing.transport_priority,
         pgn.number(),
         GLOBAL_ADDRESS,
-        extreme.address(standing, &units[unit]),
+        network.address(extreme, unit),
     )
 }
 
 /// That of a request.
-pub(crate) fn request_ident(
-    units: &[UnitPlan],
-    standing: &Standing,
-    extreme: Extreme,
-    request: &RequestPlan,
-) -> u64
-    requires sender { request.now.sender < length units.now }
-    requires receiver { (v : ℕ) → request.now.to ≡ One v → v < length units.now }
-    ensures { result ≡ request_ident (of_unit units.now (extreme_address extreme (stays_of standing.now))) request.now }
+pub(crate) fn request_ident(network: &Network<'_>, extreme: Extreme, request: &RequestPlan) -> u64
+    requires sender { request.now.sender < length (units_in network.now) }
+    requires receiver { (v : ℕ) → request.now.to ≡ One v → v < length (units_in network.now) }
+    ensures { result ≡ request_ident (addresses_at extreme network.now) request.now }
 {
     identifier(
         CLAIM_PRIORITY,
         REQUEST.number(),
-        destination(units, standing, extreme, request.to),
-        extreme.address(standing, &units[request.sender]),
+        destination(network, extreme, request.to),
+        network.address(extreme, request.sender),
     )
 }

@@ -19,6 +19,7 @@ mod laws;
 mod load_finding;
 mod loads;
 mod messages;
+mod network;
 mod offers;
 mod request_load;
 mod requests;

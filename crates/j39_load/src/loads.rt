@@ -22,6 +22,7 @@ use crate::flow_frames::FlowFrames;
 use crate::flow_load::FlowLoad;
 use crate::flow_loads::loads_of;
 use crate::messages::Messages;
+use crate::network::Network;
 use crate::offers::{Offers, offers_of};
 use crate::request_load::RequestLoad;
 use crate::requests::request_loads_of;
@@ -239,15 +240,14 @@ impl Loads {
         ensures memory { OnErr result ((plan.now.flows.items ≢ []) ⊎ (plan.now.requests.items ≢ [])) }
     {
         let standing = Standing::new(plan);
-        let flows = loads_of(alloc, timing, plan, &standing)?;
-        let units = unit_loads_of(
-            alloc,
+        let network = Network {
             timing,
-            plan.units.as_slice(),
-            &standing,
-            flows.as_slice(),
-        )?;
-        let requests = request_loads_of(alloc, timing, plan, &standing)?;
+            plan,
+            standing: &standing,
+        };
+        let flows = loads_of(alloc, &network)?;
+        let units = unit_loads_of(alloc, &network, flows.as_slice())?;
+        let requests = request_loads_of(alloc, &network)?;
         Ok(Loads {
             timing,
             flows,

@@ -3,40 +3,36 @@ ghost use Rattle.std.specs.Prelude.{◌≡◌, ◌≢◌, [], ◌<◌, ℕ, All,
 ghost use Rattle.j39_findings.specs.declared.plan.to.To.TheVariants.{One};
 ghost use Rattle.j39_load.specs.RequestLoads.{load_of_request, request_loads_of};
 ghost use Rattle.j39_load.specs.SoundLoads.{IsSoundIfAsked};
-ghost use Rattle.j39_load.specs.Standing.{stays_of};
+ghost use Rattle.j39_load.specs.inside.Networks.{stays_in, units_in};
 
 use crate::extreme::Extreme;
 use crate::flow_frames::FlowFrames;
 use crate::identifiers::{any_unit, request_ident};
+use crate::network::Network;
 use crate::request_load::RequestLoad;
-use crate::standing::Standing;
 use crate::streams::{load, request_stream};
-use j39_findings::{Plan, RequestPlan, Timing, UnitPlan};
+use j39_findings::RequestPlan;
 use std::alloc::{AllocError, Global};
 
 // What a request asks of the bus, where it is known how often it is sent.
-fn load_of_request(
-    timing: Timing,
-    units: &[UnitPlan],
-    standing: &Standing,
-    request: &RequestPlan,
-) -> Option<RequestLoad>
-    requires sender { request.now.sender < length units.now }
-    requires receiver { (v : ℕ) → request.now.to ≡ One v → v < length units.now }
-    ensures load { result ≡ load_of_request timing units.now (stays_of standing.now) request.now }
+fn load_of_request(network: &Network<'_>, request: &RequestPlan) -> Option<RequestLoad>
+    requires sender { request.now.sender < length (units_in network.now) }
+    requires receiver { (v : ℕ) → request.now.to ≡ One v → v < length (units_in network.now) }
+    ensures load { result
+        ≡ load_of_request network.now.timing (units_in network.now) (stays_in network.now) request.now }
     ensures sound { IsSoundIfAsked result }
 {
     let Some(period) = request.period else {
         return None;
     };
-    let stream = request_stream(timing, period);
-    let greatest_ident = request_ident(units, standing, Extreme::Greatest, request);
+    let stream = request_stream(network.timing, period);
+    let greatest_ident = request_ident(network, Extreme::Greatest, request);
     Some(RequestLoad {
         frames: FlowFrames {
             stream,
-            least_ident: request_ident(units, standing, Extreme::Least, request),
+            least_ident: request_ident(network, Extreme::Least, request),
             greatest_ident,
-            any_sender: any_unit(units, request.sender),
+            any_sender: any_unit(network, request.sender),
             any_receiver: None,
             last_ident: greatest_ident,
             twin_ident: None,
@@ -48,19 +44,18 @@ fn load_of_request(
 /// What each request of a plan asks of the bus, in order. No memory is asked for where there are none.
 pub(crate) fn request_loads_of(
     alloc: Global,
-    timing: Timing,
-    plan: &Plan,
-    standing: &Standing,
+    network: &Network<'_>,
 ) -> Result<Vec<Option<RequestLoad>>, AllocError>
-    ensures loads { IfOk result (λ loads. loads.items ≡ request_loads_of timing plan.now (stays_of standing.now)) }
-    ensures count { IfOk result (λ loads. length loads.items ≡ length plan.now.requests.items) }
+    ensures loads { IfOk result (λ loads. loads.items
+        ≡ request_loads_of network.now.timing network.now.plan.now (stays_in network.now)) }
+    ensures count { IfOk result (λ loads. length loads.items ≡ length network.now.plan.now.requests.items) }
     ensures sound { IfOk result (λ loads. All IsSoundIfAsked loads.items) }
-    ensures memory { OnErr result (plan.now.requests.items ≢ []) }
+    ensures memory { OnErr result (network.now.plan.now.requests.items ≢ []) }
 {
-    let mut loads = Vec::with_capacity(alloc, plan.requests.len())?;
-    for place in 0..plan.requests.len() {
-        let request = &plan.requests[place];
-        loads.push_reserved(load_of_request(timing, plan.units.as_slice(), standing, request));
+    let mut loads = Vec::with_capacity(alloc, network.plan.requests.len())?;
+    for place in 0..network.plan.requests.len() {
+        let request = &network.plan.requests[place];
+        loads.push_reserved(load_of_request(network, request));
     }
     Ok(loads)
 }

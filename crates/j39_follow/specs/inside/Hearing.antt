@@ -41,5 +41,5 @@ abbrev pub differs_at : List Who → List Who → ℕ → Bool
 differs_at old new address = not (is_same_party (party_at old address) (party_at new address))
 
 -- one of the two addresses has
-abbrev pub is_parted : List Who → List Who → ℕ → ℕ → Bool
-is_parted old new source destination = differs_at old new source || differs_at old new destination
+abbrev pub is_changed : List Who → List Who → ℕ → ℕ → Bool
+is_changed old new source destination = differs_at old new source || differs_at old new destination

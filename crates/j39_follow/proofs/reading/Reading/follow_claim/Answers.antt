@@ -54,7 +54,7 @@ returns-clause-followed c = λ past of few.
       knows = knows;
       contests = subst (λ (cs : Contests). AreContests plan cs log) (sym c.in_ok-report.ensures.contests) contests;
       heard = heard_anew plan past.seen (record { frame = f; packet = w.packet }) c.all_parties-before.result c.all_parties-after.result
-          c.report.new.self.listeners c.part.new.listeners before after c.part.ensures w.heard;
+          c.report.new.self.listeners c.begin_anew.new.listeners before after c.begin_anew.ensures w.heard;
       tally = told.tally;
       noted = told.noted;
     }

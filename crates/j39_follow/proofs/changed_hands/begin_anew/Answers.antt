@@ -3,9 +3,9 @@ use Rattle.j39_log.specs.declared.listeners.Listeners.{Listeners}
 use Rattle.j39_tp.specs.Receiver.{fresh}
 use Rattle.j39_tp.specs.declared.receiving.manner.Manner.TheVariants.{Listening}
 use Rattle.j39_follow.specs.inside.Hearing.{listener_between}
-use Rattle.j39_follow.proofs.Parted.{is_parted_below, parted_all, parted_here, parted_not}
-use Rattle.j39_follow.proofs.parting.part.Goals as goal
-use Rattle.j39_follow.proofs.parting.part.Goals.{then-not-is_same_party, else-not-is_same_party}
+use Rattle.j39_follow.proofs.ChangedHands.{is_changed_below, changed_all, changed_here, changed_not}
+use Rattle.j39_follow.proofs.changed_hands.begin_anew.Goals as goal
+use Rattle.j39_follow.proofs.changed_hands.begin_anew.Goals.{then-not-is_same_party, else-not-is_same_party}
 
 pub loop-address-preserved : goal.loop-address-preserved
 loop-address-preserved c = λ s d first second.
@@ -17,18 +17,18 @@ loop-address-preserved c = λ s d first second.
     elim c.if-not-is_same_party.branch [
       | then-not-is_same_party w ↦
           subst
-          (λ (l : Listeners). listener_between l s d ≡ (if is_parted_below old new (k + 1) s d then fresh Listening else was))
+          (λ (l : Listeners). listener_between l s d ≡ (if is_changed_below old new (k + 1) s d then fresh Listening else was))
           (sym w.listeners-is)
-          (parted_here old new k s d (fresh Listening) was _ _ (ap not (sym c.is_same_party.ensures ∙ w.if-not-is_same_party.true))
+          (changed_here old new k s d (fresh Listening) was _ _ (ap not (sym c.is_same_party.ensures ∙ w.if-not-is_same_party.true))
           (w.forget.ensures s d first second) before)
       | else-not-is_same_party w ↦
           subst
-          (λ (l : Listeners). listener_between l s d ≡ (if is_parted_below old new (k + 1) s d then fresh Listening else was))
+          (λ (l : Listeners). listener_between l s d ≡ (if is_changed_below old new (k + 1) s d then fresh Listening else was))
           (sym w.listeners-is)
-          (parted_not old new k s d (fresh Listening) was _ (ap not (sym c.is_same_party.ensures ∙ w.if-not-is_same_party.false)) before)
+          (changed_not old new k s d (fresh Listening) was _ (ap not (sym c.is_same_party.ensures ∙ w.if-not-is_same_party.false)) before)
     ]
 
 pub returns : goal.returns
 returns c = λ s d first second.
-    parted_all c.args.old.now c.args.new.now c.loop-address.address s d _ _ _ first second c.loop-address-test.false
+    changed_all c.args.old.now c.args.new.now c.loop-address.address s d _ _ _ first second c.loop-address-test.false
     (c.loop-address.invariant s d first second)

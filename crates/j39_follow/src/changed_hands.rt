@@ -3,7 +3,7 @@ ghost use Rattle.std.specs.Prelude.{◌≡◌, ◌<◌, ◌==◌, ℕ, Option, i
 ghost use Rattle.j39_tp.specs.Receiver.{fresh};
 ghost use Rattle.j39_tp.specs.declared.receiving.manner.Manner.TheVariants.{Listening};
 ghost use Rattle.j39_follow.specs.Who.{stranger_of};
-ghost use Rattle.j39_follow.specs.inside.Hearing.{is_parted, is_same_party as is_one_party, listener_between};
+ghost use Rattle.j39_follow.specs.inside.Hearing.{is_changed, is_same_party as is_one_party, listener_between};
 
 use crate::who::Who;
 use j39_log::Listeners;
@@ -26,9 +26,9 @@ fn is_same_party(a: Who, b: Who) -> bool
 }
 
 /// Each pair of which an address has another party begins anew.
-pub(crate) fn part(listeners: &mut Listeners, old: &[Who; 256], new: &[Who; 256])
+pub(crate) fn begin_anew(listeners: &mut Listeners, old: &[Who; 256], new: &[Who; 256])
     ensures { (s d : ℕ) → s < 256 → d < 256 → listener_between listeners.new s d
-        ≡ (if is_parted old.now new.now s d then fresh Listening else listener_between listeners.old s d) }
+        ≡ (if is_changed old.now new.now s d then fresh Listening else listener_between listeners.old s d) }
 {
     for address in 0..256 {
         if !is_same_party(old[address], new[address]) {
