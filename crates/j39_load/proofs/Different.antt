@@ -141,18 +141,21 @@ module _ (plan : Plan) (clean : Clean plan) (on : ℕ → Bool) (held : ℕ → 
         one_unless_apart plan clean flow.sender flow.to flow.group other.group group second is.sent its.sent told.1 alike likewise
         (sent f flow group is refl refl) (sent h other second its (sym senders) (sym to_one_place))
 
-    -- and their frames have one identifier wherever the units are
+    -- and their frames have one identifier, whatever addresses the units hold
     same_twins : (v w : Selector) → group.when ≡ Some v → second.when ≡ Some w → AreTwinFlows group flow second other
-    same_twins v w first_when second_when =
-        let by_places : group_ident (λ u. u) second other ≡ group_ident (λ u. u) group flow =
-        ap (λ (n : ℕ). identifier_of n second.pgn (destination_at (λ u. u) other.to) other.sender) (sym told.0)
-        ∙ ap (λ (n : ℕ). identifier_of group.priority n (destination_at (λ u. u) other.to) other.sender) (sym told.1)
-        ∙ ap (λ (to : To). identifier_of group.priority group.pgn (destination_at (λ u. u) to) other.sender) (sym to_one_place)
-        ∙ ap (λ (n : ℕ). identifier_of group.priority group.pgn (destination_at (λ u. u) flow.to) n) (sym senders) in (
-          group_ident (λ u. u) group flow,
-          rw (first_when) refl,
-          rw (second_when) (ap Some by_places),
-        )
+    same_twins v w first_when second_when = record {
+      number = group_ident (λ u. u) group flow;
+      first_is = rw (first_when) refl;
+      second_is = rw (second_when) (ap Some (sym (one_identifier (λ u. u))));
+      alike = one_identifier;
+    }
+      where
+        one_identifier : (at : ℕ → ℕ) → group_ident at group flow ≡ group_ident at second other
+        one_identifier at =
+            ap (λ (n : ℕ). identifier_of n group.pgn (destination_at at flow.to) (at flow.sender)) told.0
+            ∙ ap (λ (n : ℕ). identifier_of second.priority n (destination_at at flow.to) (at flow.sender)) told.1
+            ∙ ap (λ (to : To). identifier_of second.priority second.pgn (destination_at at to) (at flow.sender)) to_one_place
+            ∙ ap (λ (u : ℕ). identifier_of second.priority second.pgn (destination_at at other.to) (at u)) senders
 
     -- one flow isn't planned twice
     only_twins : f ≢ h → AreTwinFlows group flow second other

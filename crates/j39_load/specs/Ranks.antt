@@ -56,9 +56,12 @@ pub record IsShortFlow (plan : Plan) (on : ℕ → Bool) (place : ℕ) (flow : F
   pub sender : on flow.sender ≡ true
   pub receiver : (v : ℕ) → flow.to ≡ One v → on v ≡ true
 
--- the groups of two flows are told by their data, and their frames have one identifier wherever the units are
-abbrev pub AreTwinFlows : GroupPlan → FlowPlan → GroupPlan → FlowPlan → Type 0
-AreTwinFlows group flow second other = (n : ℕ) × (twin_ident group flow ≡ Some n) × (twin_ident second other ≡ Some n)
+-- the groups of two flows are told by their data, and their frames have one identifier, whatever addresses the units hold
+pub record AreTwinFlows (group : GroupPlan) (flow : FlowPlan) (second : GroupPlan) (other : FlowPlan) : Type 0 where
+  pub number : ℕ
+  pub first_is : twin_ident group flow ≡ Some number
+  pub second_is : twin_ident second other ≡ Some number
+  pub alike : (held : ℕ → ℕ) → group_ident held group flow ≡ group_ident held second other
 
 -- a request of a unit that is on, to one that is on or to all
 pub record IsAskedBetween (on : ℕ → Bool) (request : RequestPlan) : Type 0 where

@@ -127,7 +127,7 @@ pub fn frames_of_a_company_are_in_time()
 /// Beside units that keep no order each frame is one of a legal schedule from the bit on from which it is offered for good (`legal`), which is
 /// where it is ready if its unit keeps order (`ready`). So what is known of frames of such units holds, where a frame of another unit counts
 /// as queued so many bits later as it may wait: frames of a stream of single frames are in time (`in_time`), and so are
-/// those of which each is queued after the end of the one before (`sent`). Of each stream that may go before there has to be such a wait.
+/// those, without twins, of which each is queued after the end of the one before (`sent`). Of each stream that may go before there has to be such a wait.
 pub fn frames_beside_any_order_are_in_time()
     ensures legal { (s : Schedule) (controllers : Controllers) → IsLegalInAnyOrder s controllers → IsLegal (as_offered s) }
     ensures ready { (s : Schedule) (controllers : Controllers) → IsLegalInAnyOrder s controllers
