@@ -32,7 +32,7 @@ CRATE_JOBS, OTHER_JOBS = 4, 2
 NEARLY = 4
 # What a check takes for each processor, about, and the whole build, as docs/GATE.md says.
 JOB_BYTES = 2_000_000_000
-NEEDS = "11 to 34 minutes on four processors and 33 to 94 on one, 2 GB of memory for each processor, 4 GB of disk"
+NEEDS = "some 30 minutes on four processors and 90 on one, 2 GB of memory for each processor, 4 GB of disk"
 
 
 def say(text: str) -> None:
