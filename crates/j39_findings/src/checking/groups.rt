@@ -3,7 +3,7 @@ ghost use Rattle.std.specs.Prelude.{◌≡◌};
 ghost use Rattle.j39_signal.specs.Selectors.{differ_in_value};
 ghost use Rattle.j39_findings.specs.Adding.{Adds};
 ghost use Rattle.j39_findings.specs.ListPlaces.{found_if};
-ghost use Rattle.j39_findings.specs.Found.{is_for_no_plan, is_wrongly_private, has_bad_pgn, have_same_pgn, group_findings};
+ghost use Rattle.j39_findings.specs.Found.{is_for_no_plan, is_wrongly_private, has_bad_pgn, have_same_pgn, is_selector_outside, group_findings};
 
 use crate::checking::finding::Finding;
 use crate::checking::private::are_sent_together;
@@ -50,6 +50,39 @@ impl Rule<GroupPlan> for BadPgn {
             findings,
             is_for_no_plan(group.pgn) || is_wrongly_private(group),
             Finding::BadPgn(place),
+        )
+    }
+}
+
+// Whether the bits of its selector end behind its shortest messages.
+fn is_selector_outside(group: &GroupPlan) -> bool
+    ensures { result ≡ is_selector_outside group.now }
+{
+    match group.when {
+        Some(selector) => 8 * u32::from(group.length) < selector.end(),
+        None => false,
+    }
+}
+
+/// Groups whose selectors end outside. By their number they stand among what is wrong with requests.
+#[derive(Clone, Copy)]
+pub(super) struct WhenOutside;
+
+impl Rule<GroupPlan> for WhenOutside {
+    ghost use Rattle.j39_findings.specs.declared.checking.finding.Finding.TheVariants.{WhenOutside as WhensOutside};
+
+    ghost gives = { λ _ g group. found_if (is_selector_outside group) (WhensOutside g) };
+
+    fn find(
+        &self,
+        findings: &mut Vec<Finding>,
+        place: usize,
+        group: &GroupPlan,
+    ) -> Result<(), AllocError> {
+        push_if(
+            findings,
+            is_selector_outside(group),
+            Finding::WhenOutside(place),
         )
     }
 }

@@ -2,10 +2,11 @@
 ghost use Rattle.std.specs.Prelude.{◌≡◌};
 ghost use Rattle.j39_findings.specs.Adding.{Adds};
 ghost use Rattle.j39_findings.specs.ListPlaces.{found_if};
-ghost use Rattle.j39_findings.specs.Found.{ask_the_same, ask_for_one_number, is_all_astray, is_answered_astray, is_asked_for, is_one_astray, is_reached, is_selector_outside, is_served, is_served_to_all, is_served_to_one, goes_unanswered, goes_unheard, may_name_receiver, request_findings, serves, serves_all, serves_one, serves_some};
+ghost use Rattle.j39_findings.specs.Found.{ask_the_same, ask_for_one_number, is_all_astray, is_answered_astray, is_asked_for, is_one_astray, is_reached, is_served, is_served_to_all, is_served_to_one, goes_unanswered, goes_unheard, may_name_receiver, request_findings, serves, serves_all, serves_one, serves_some};
 
 use crate::checking::finding::Finding;
 use crate::checking::flows::is_one_frame_to_all;
+use crate::checking::groups::WhenOutside;
 use crate::checking::rules::{PairRule, Rule, find_each, find_pairs, push_if};
 use crate::plan::{FlowPlan, GroupPlan, RequestPlan, To};
 use std::alloc::AllocError;
@@ -205,37 +206,6 @@ impl PairRule<RequestPlan> for RequestRepeated<'_> {
 
     fn finding(&self, first: usize, second: usize) -> Finding {
         Finding::RequestRepeated(first, second)
-    }
-}
-
-fn is_selector_outside(group: &GroupPlan) -> bool
-    ensures { result ≡ is_selector_outside group.now }
-{
-    match group.when {
-        Some(selector) => 8 * u32::from(group.length) < selector.end(),
-        None => false,
-    }
-}
-
-#[derive(Clone, Copy)]
-struct WhenOutside;
-
-impl Rule<GroupPlan> for WhenOutside {
-    ghost use Rattle.j39_findings.specs.declared.checking.finding.Finding.TheVariants.{WhenOutside as WhensOutside};
-
-    ghost gives = { λ _ g group. found_if (is_selector_outside group) (WhensOutside g) };
-
-    fn find(
-        &self,
-        findings: &mut Vec<Finding>,
-        place: usize,
-        group: &GroupPlan,
-    ) -> Result<(), AllocError> {
-        push_if(
-            findings,
-            is_selector_outside(group),
-            Finding::WhenOutside(place),
-        )
     }
 }
 
