@@ -4,7 +4,7 @@ ghost use Rattle.j39_timing.specs.TimedFrames.{Schedule, IsLegal};
 ghost use Rattle.j39_timing.specs.FrameStreams.{Origins};
 ghost use Rattle.j39_timing.specs.Errors.{Damaged, IsLegalInAnyOrderWithErrors, IsLegalWithErrors, damage_ordered, with_errors};
 ghost use Rattle.j39_timing.specs.Messages.{LongMessage, AreSentInTurn, AreSentWithin, IsBroadcast, all_whole_at, time_of_messages};
-ghost use Rattle.j39_timing.specs.FreshFrames.{KeepsComing, IsFresh};
+ghost use Rattle.j39_timing.specs.FreshFrames.{ComeOneByOne, IsFresh, IsNewest, IsNewestFresh, KeepsComing};
 ghost use Rattle.j39_timing.specs.AnyOrder.{AreBegunWithin, Controllers, HaveWaits, IsLegalInAnyOrder, IsFromOrdered, IsOrderedStream, IsUnordered, as_offered, offered_traffic};
 ghost use Rattle.j39_timing.specs.Companies.{Company, HasRoomInCompany, IsTrafficOfCompany};
 ghost use Rattle.j39_timing.specs.declared.stream.Stream.{Stream as TheStream};
@@ -30,6 +30,24 @@ pub fn ages_are_bounded()
         → IsStreamInTime s planned of i stream wait
         → KeepsComing s planned of i pause from to → to + (stream.late + wait) < s.now
         → IsFresh s planned of i (pause + delay_of stream wait) (from + delay_of stream wait) (to + delay_of stream wait) }
+{}
+
+/// Of a stream of single frames each of which is sent within its period, the frame that has ended last is the one with the last moment: so it is
+/// what has been received last that is never older than the longest pause and the delay together, whether units keep order (`legal`) or don't
+/// (`any_order`); and there is one alone (`one`, `one_in_any_order`).
+pub fn newest_frames_are_fresh()
+    ensures legal { (s : Schedule) (planned : ℕ → Bool) (of : Origins) (count : ℕ) (stream : ℕ → TheStream) (i wait pause from to : ℕ) → IsLegal s
+        → ComeOneByOne s planned of count stream i wait
+        → KeepsComing s planned of i pause from to → to + ((stream i).late + wait) < s.now
+        → IsNewestFresh s planned of i (pause + delay_of (stream i) wait) (from + delay_of (stream i) wait) (to + delay_of (stream i) wait) }
+    ensures any_order { (s : Schedule) (controllers : Controllers) (planned : ℕ → Bool) (of : Origins) (count : ℕ) (stream : ℕ → TheStream)
+        (i wait pause from to : ℕ) → IsLegalInAnyOrder s controllers → ComeOneByOne s planned of count stream i wait
+        → KeepsComing s planned of i pause from to → to + ((stream i).late + wait) < s.now
+        → IsNewestFresh s planned of i (pause + delay_of (stream i) wait) (from + delay_of (stream i) wait) (to + delay_of (stream i) wait) }
+    ensures one { (s : Schedule) (planned : ℕ → Bool) (of : Origins) (i t p q : ℕ) → IsLegal s → t ≤ s.now
+        → IsNewest s planned of i t p → IsNewest s planned of i t q → p ≡ q }
+    ensures one_in_any_order { (s : Schedule) (controllers : Controllers) (planned : ℕ → Bool) (of : Origins) (i t p q : ℕ)
+        → IsLegalInAnyOrder s controllers → t ≤ s.now → IsNewest s planned of i t p → IsNewest s planned of i t q → p ≡ q }
 {}
 
 /// A bus on which frames are damaged has a legal schedule, in which damaged attempts and the error frames behind them are frames of the least
