@@ -12,6 +12,7 @@ pub mod Offering
 pub mod OneLoad
 pub mod PositivePeriods
 pub mod Ranks
+pub mod ReadingInTime
 pub mod Sending
 pub mod StreamsBefore
 pub mod TurnTimes

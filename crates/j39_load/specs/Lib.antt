@@ -10,6 +10,7 @@ pub mod Loads
 pub mod LineLists
 pub mod PlannedFrames
 pub mod Ranks
+pub mod ReadInTime
 pub mod RequestLoads
 pub mod SoundLoads
 pub mod Standing

@@ -16,6 +16,7 @@ ghost use Rattle.j39_load.specs.Loads.{group_ident};
 ghost use Rattle.j39_load.specs.Asked.{asked_of, frames_asked, total_load};
 ghost use Rattle.j39_load.specs.PlannedFrames.{AreAllOrdered, AreDeadlinesKept, AreDelaysBounds, AreShortFlowsBounded, AreTimesBounds, ArePlannedFramesInTime};
 ghost use Rattle.j39_load.specs.Ranks.{AreHeldApart, AreHeldByPlan, AreTwinFlows, AreUnitsPlanned, IsAskedBetween, IsShortFlow, LieBetween, RequestLiesBetween};
+ghost use Rattle.j39_load.specs.ReadInTime.{AreNeedsRead};
 ghost use Rattle.j39_load.specs.RequestLoads.{request_ident};
 ghost use Rattle.j39_load.specs.Standing.{TellsWhoStays};
 
@@ -44,6 +45,14 @@ pub fn delays_are_bounds()
 /// than that, in every schedule whose planned frames are those of the plan's flows.
 pub fn needs_stay_fresh()
     ensures { (plan : Plans) (timing : Timings) → Clean plan → AreLoadFindings plan (Some timing) [] → AreNeedsFresh plan timing }
+{}
+
+/// A value arrives in time. Of a clean plan with whose load nothing is wrong either, each need that asks for an age has a flow that meets it, and
+/// in every schedule whose planned frames are those of the plan's flows, and whose frames of this flow carry bytes that were written signal
+/// after signal into a blank payload of one of its group's lengths: at each bit the frame of it that has ended last had its moment within that
+/// age, and each signal in its bytes reads the value that it was last given, or is unset where it was given up.
+pub fn needed_values_are_read_in_time()
+    ensures { (plan : Plans) (timing : Timings) → Clean plan → AreLoadFindings plan (Some timing) [] → AreNeedsRead plan timing }
 {}
 
 /// Of a plan whose units all keep order no frames are of a unit that keeps none: what is promised of every legal schedule

@@ -37,8 +37,8 @@ pub use faults::{all_findings, bits_of_second, check_load};
 pub use flow_frames::FlowFrames;
 pub use flow_load::FlowLoad;
 pub use laws::{
-    delays_are_bounds, identifiers_lie_between, needs_stay_fresh, plans_in_order,
-    short_flows_have_different_identifiers,
+    delays_are_bounds, identifiers_lie_between, needed_values_are_read_in_time, needs_stay_fresh,
+    plans_in_order, short_flows_have_different_identifiers,
 };
 pub use load_finding::LoadFinding;
 pub use loads::Loads;
