@@ -1,10 +1,11 @@
 -- What a plan has in which nothing is wrong: it is sound, and where something is known of its bus, the messages of its flows are in time,
--- and what its units need is as young as they ask for.
+-- and what its units need is as young as they ask for, and reads as it was written.
 use Rattle.std.specs.Prelude.{◌≡◌, Some}
 use Rattle.j39_findings.specs.declared.plan.Plan.{Plan}
 use Rattle.j39_findings.specs.declared.plan.timing.Timing.{Timing}
 use Rattle.j39_load.specs.FreshNeeds.{AreNeedsFresh}
 use Rattle.j39_load.specs.PlannedFrames.{ArePlannedFramesInTime}
+use Rattle.j39_load.specs.ReadInTime.{AreNeedsRead}
 use Rattle.j39_world.specs.SoundPlan.{IsSound}
 
 pub record IsCertified (plan : Plan) : Type 0 where
@@ -15,3 +16,6 @@ pub record IsCertified (plan : Plan) : Type 0 where
   pub in_time : (timing : Timing) → plan.timing ≡ Some timing → ArePlannedFramesInTime plan timing
   -- of each need that asks for an age some flow that meets it brings nothing older, in every schedule of such flows
   pub fresh : (timing : Timing) → plan.timing ≡ Some timing → AreNeedsFresh plan timing
+  -- and where the frames of this flow carry bytes that were written signal after signal, each signal reads as it was written in those that
+  -- were received last, which are no older than that
+  pub read : (timing : Timing) → plan.timing ≡ Some timing → AreNeedsRead plan timing

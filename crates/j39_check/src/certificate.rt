@@ -5,11 +5,11 @@ ghost use Rattle.j39_load.specs.LoadFindings.{AreLoadFindings};
 
 use j39_findings::CheckedPlan;
 use j39_laws::certify;
-use j39_load::{delays_are_bounds, needs_stay_fresh};
+use j39_load::{delays_are_bounds, needed_values_are_read_in_time, needs_stay_fresh};
 
 /// A checked plan with whose load nothing is wrong is sound, and where something is known of its bus, its planned frames are in time on
-/// it, and what its units need is never older there than they ask for. It does nothing when it runs; it rests on the certificate of the plan
-/// and on the laws of delays and of needs.
+/// it, and what its units need is never older there than they ask for, and reads as it was written. It does nothing when it runs; it rests on
+/// the certificate of the plan and on the laws of delays and of needs.
 pub fn certify_with_load(checked: &CheckedPlan)
     requires { AreLoadFindings checked.now checked.now.timing [] }
     ensures { IsCertified checked.now }
@@ -18,4 +18,5 @@ pub fn certify_with_load(checked: &CheckedPlan)
     let _plan = checked.plan();
     delays_are_bounds();
     needs_stay_fresh();
+    needed_values_are_read_in_time();
 }
