@@ -5,7 +5,10 @@ ghost use Rattle.j39_load.specs.LoadFindings.{AreLoadFindings};
 
 use j39_findings::CheckedPlan;
 use j39_laws::certify;
-use j39_load::{delays_are_bounds, needed_values_are_read_in_time, needs_stay_fresh};
+use j39_load::{
+    delays_are_bounds, kept_plans_are_in_time, kept_plans_bring_values_in_time,
+    needed_values_are_read_in_time, needs_stay_fresh,
+};
 
 /// A checked plan with whose load nothing is wrong is sound, and where something is known of its bus, its planned frames are in time on
 /// it, and what its units need is never older there than they ask for, and reads as it was written. It does nothing when it runs; it rests on
@@ -19,4 +22,6 @@ pub fn certify_with_load(checked: &CheckedPlan)
     delays_are_bounds();
     needs_stay_fresh();
     needed_values_are_read_in_time();
+    kept_plans_are_in_time();
+    kept_plans_bring_values_in_time();
 }

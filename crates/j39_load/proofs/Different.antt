@@ -117,7 +117,7 @@ module _ (plan : Plan) (clean : Clean plan) (on : ℕ → Bool) (held : ℕ → 
             ∙ sym (to_all h other second its (ap is_pdu2 (sym told.1) ∙ pdu2) other.to refl)
         go false pdu1 = one_receiver flow.to other.to is.receiver its.receiver (told.3 pdu1)
 
-    senders : flow.sender ≡ other.sender
+    pub senders : flow.sender ≡ other.sender
     senders = one_unit flow.sender other.sender is.sender its.sender told.2
 
     sent : (at : ℕ) (one : FlowPlan) (its_group : GroupPlan) → IsShortFlow plan on at one its_group → one.sender ≡ flow.sender → one.to ≡ flow.to

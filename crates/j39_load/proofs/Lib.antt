@@ -7,6 +7,9 @@ pub mod Broadcasting
 pub mod CompanyStreams
 pub mod Different
 pub mod EachFrames
+pub mod KeepingApart
+pub mod KeepingPlan
+pub mod KeptInTime
 pub mod LeastKnown
 pub mod Offering
 pub mod OneLoad
@@ -16,6 +19,7 @@ pub mod ReadingInTime
 pub mod Sending
 pub mod StreamsBefore
 pub mod TurnTimes
+pub mod ValuesInTime
 pub mod WantedMemory
 pub mod WhoStays
 pub mod WholeMessages

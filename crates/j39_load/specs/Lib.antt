@@ -5,6 +5,7 @@ pub mod Broadcasts
 pub mod Damage
 pub mod Delays
 pub mod FreshNeeds
+pub mod KeepsPlan
 pub mod LoadFindings
 pub mod Loads
 pub mod LineLists
@@ -15,4 +16,5 @@ pub mod RequestLoads
 pub mod SoundLoads
 pub mod Standing
 pub mod Twins
+pub mod ValuesInTime
 pub mod inside

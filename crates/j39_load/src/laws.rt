@@ -1,24 +1,31 @@
 //! Laws of the frames of a plan's flows.
-ghost use Rattle.std.specs.Prelude.{◌≡◌, ◌≢◌, ℕ, List, [], Bool, Option, Some};
+ghost use Rattle.std.specs.Prelude.{◌≡◌, ◌≢◌, ℕ, ◌≤◌, List, [], Bool, Option, Some};
 ghost use Rattle.std.specs.List.{slice_get};
 ghost use Rattle.j39_findings.specs.Findings.{Clean};
 ghost use Rattle.j39_findings.specs.declared.plan.Plan.{Plan as Plans};
 ghost use Rattle.j39_findings.specs.declared.plan.flow_plan.FlowPlan.{FlowPlan as PlannedFlows};
 ghost use Rattle.j39_findings.specs.declared.plan.group_plan.GroupPlan.{GroupPlan as PlannedGroups};
+ghost use Rattle.j39_findings.specs.declared.plan.pace.Pace.{Pace as PlannedPaces};
 ghost use Rattle.j39_findings.specs.declared.plan.queue.Queue.TheVariants.{Priority};
 ghost use Rattle.j39_findings.specs.declared.plan.request_plan.RequestPlan.{RequestPlan as PlannedRequests};
 ghost use Rattle.j39_findings.specs.declared.plan.timing.Timing.{Timing as Timings};
 ghost use Rattle.j39_findings.specs.declared.plan.unit_plan.UnitPlan.{UnitPlan as PlannedUnits};
 ghost use Rattle.j39_load.specs.declared.delay.Delay.{Delay as Delays};
 ghost use Rattle.j39_load.specs.FreshNeeds.{AreNeedsFresh};
+ghost use Rattle.j39_load.specs.KeepsPlan.{AreFramesInTime, CanBeKept, Held, KeepsPlan, KeepsQueues, Sent, origins_of};
 ghost use Rattle.j39_load.specs.LoadFindings.{AreLoadFindings, AsksOfBus, load_findings};
 ghost use Rattle.j39_load.specs.Loads.{group_ident};
 ghost use Rattle.j39_load.specs.Asked.{asked_of, frames_asked, total_load};
-ghost use Rattle.j39_load.specs.PlannedFrames.{AreAllOrdered, AreDeadlinesKept, AreDelaysBounds, AreShortFlowsBounded, AreTimesBounds, ArePlannedFramesInTime};
+ghost use Rattle.j39_load.specs.PlannedFrames.{AreAllOrdered, AreDeadlinesKept, AreDelaysBounds, AreFramesInAnyOrder, AreFramesOfPlan, AreShortFlowsBounded, AreTimesBounds, ArePlannedFramesInTime};
 ghost use Rattle.j39_load.specs.Ranks.{AreHeldApart, AreHeldByPlan, AreTwinFlows, AreUnitsPlanned, IsAskedBetween, IsShortFlow, LieBetween, RequestLiesBetween};
 ghost use Rattle.j39_load.specs.ReadInTime.{AreNeedsRead};
 ghost use Rattle.j39_load.specs.RequestLoads.{request_ident};
 ghost use Rattle.j39_load.specs.Standing.{TellsWhoStays};
+ghost use Rattle.j39_load.specs.ValuesInTime.{AreValuesInTime};
+ghost use Rattle.j39_timing.specs.AnyOrder.{Controllers, IsLegalInAnyOrder};
+ghost use Rattle.j39_timing.specs.TimedFrames.{IsLegal, Schedule};
+ghost use Rattle.j39_world.specs.PlannedUnits.{units_of};
+ghost use Rattle.j39_world.specs.Staying.{ArePlannedApart};
 
 /// The delays of a plan bound the time of its frames. A delay that `Loads::delays` tells holds in every schedule whose
 /// planned frames are those of the plan's flows, of which a flow without a period has none, whether units keep order or
@@ -71,6 +78,40 @@ pub fn identifiers_lie_between()
         → (flow : PlannedFlows) → AreUnitsPlanned plan flow → (group : PlannedGroups) → LieBetween plan timing stays held group flow }
     ensures requests { (plan : Plans) (stays : PlannedUnits → Bool) (held : ℕ → ℕ) → TellsWhoStays plan stays → AreHeldByPlan plan held
         → (r : ℕ) (request : PlannedRequests) → slice_get plan.requests.items r ≡ Some request → RequestLiesBetween plan stays held request }
+{}
+
+/// A bus that keeps to a clean plan in the plan's own words, whose planned frames are those of flows each message of which goes in one frame, keeps
+/// the premises of each delay, where units keep order (`legal`) or don't (`any_order`): so what `delays_are_bounds` and `needs_stay_fresh` promise
+/// holds of it.
+pub fn frames_that_keep_a_plan()
+    ensures legal { (plan : Plans) (timing : Timings) (stays : PlannedUnits → Bool) → Clean plan → TellsWhoStays plan stays
+        → (s : Schedule) (planned : ℕ → Bool) (sent : Sent) (held : Held) (i : ℕ) → IsLegal s → KeepsPlan plan timing s planned sent held
+        → AreFramesOfPlan timing (frames_asked (asked_of timing plan stays)) s planned (origins_of sent) i }
+    ensures any_order { (plan : Plans) (timing : Timings) (stays : PlannedUnits → Bool) → Clean plan → TellsWhoStays plan stays
+        → (s : Schedule) (controllers : Controllers) (planned : ℕ → Bool) (sent : Sent) (held : Held) (i : ℕ) → IsLegalInAnyOrder s controllers
+        → KeepsPlan plan timing s planned sent held → KeepsQueues plan timing s controllers planned sent
+        → AreFramesInAnyOrder timing (frames_asked (asked_of timing plan stays)) s controllers planned (origins_of sent) i }
+{}
+
+/// And a bus can keep to a plan in its own words: where no two units have one planned address, each flow whose messages go in one frame and that
+/// has a period can be sent alone, as often as one likes.
+pub fn plans_can_be_kept()
+    ensures { (plan : Plans) (timing : Timings) → ArePlannedApart (units_of plan) → (f : ℕ) (flow : PlannedFlows) (pace : PlannedPaces) (group : PlannedGroups)
+        → slice_get plan.flows.items f ≡ Some flow → flow.pace ≡ Some pace → slice_get plan.groups.items flow.group ≡ Some group → group.most ≤ 8
+        → (n : ℕ) → CanBeKept plan timing f n }
+{}
+
+/// Of a clean plan with whose load nothing is wrong either: on each bus that keeps to it in the plan's own words, whether units keep order or not,
+/// each frame has been sent within the period of its flow from its moment, and within its deadline where one is written.
+pub fn kept_plans_are_in_time()
+    ensures { (plan : Plans) (timing : Timings) → Clean plan → AreLoadFindings plan (Some timing) [] → AreFramesInTime plan timing }
+{}
+
+/// Of such a plan each need that asks for an age has a flow that meets it, and on each bus that keeps to the plan in its own words, while this
+/// flow keeps its pause, what was received last of it had its moment within this age, and each signal in its bytes reads what was last
+/// written to it.
+pub fn kept_plans_bring_values_in_time()
+    ensures { (plan : Plans) (timing : Timings) → Clean plan → AreLoadFindings plan (Some timing) [] → AreValuesInTime plan timing }
 {}
 
 /// While units hold different addresses, frames of two flows of a clean plan between units that are on, each message of which goes in

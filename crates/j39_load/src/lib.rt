@@ -37,8 +37,9 @@ pub use faults::{all_findings, bits_of_second, check_load};
 pub use flow_frames::FlowFrames;
 pub use flow_load::FlowLoad;
 pub use laws::{
-    delays_are_bounds, identifiers_lie_between, needed_values_are_read_in_time, needs_stay_fresh,
-    plans_in_order, short_flows_have_different_identifiers,
+    delays_are_bounds, frames_that_keep_a_plan, identifiers_lie_between, kept_plans_are_in_time,
+    kept_plans_bring_values_in_time, needed_values_are_read_in_time, needs_stay_fresh,
+    plans_can_be_kept, plans_in_order, short_flows_have_different_identifiers,
 };
 pub use load_finding::LoadFinding;
 pub use loads::Loads;

@@ -1,0 +1,127 @@
+-- On a bus that keeps to a plan with whose load nothing is wrong each frame is sent in time, in milliseconds.
+use Rattle.std.proofs.Common.{◌≡◌, ℕ, ◌+◌, ◌*◌, ◌<◌, ◌≤◌, Bool, true, List, [], min, unwrap_or, Option, Some}
+use Rattle.std.proofs.Common.{refl, sym, ap, ◌∙◌, subst, arith}
+use Rattle.std.proofs.lemmas.Option.{same_Some}
+use Rattle.j39_findings.specs.Findings.{Clean}
+use Rattle.j39_findings.specs.declared.plan.Plan.{Plan}
+use Rattle.j39_findings.specs.declared.plan.flow_plan.FlowPlan.{FlowPlan}
+use Rattle.j39_findings.specs.declared.plan.pace.Pace.{Pace}
+use Rattle.j39_findings.specs.declared.plan.timing.Bitrate.{Bitrate}
+use Rattle.j39_findings.specs.declared.plan.timing.Bitrate.TheVariants.{Kbit125, Kbit250, Kbit500, Mbit1}
+use Rattle.j39_findings.specs.declared.plan.timing.Timing.{Timing}
+use Rattle.j39_findings.specs.declared.plan.unit_plan.UnitPlan.{UnitPlan}
+use Rattle.j39_load.specs.declared.delay.Delay.{Delay}
+use Rattle.j39_load.specs.declared.flow_load.FlowLoad.{FlowLoad}
+use Rattle.j39_load.specs.Ages.{old_needs}
+use Rattle.j39_load.specs.Asked.{asked_of, total_load}
+use Rattle.j39_load.specs.KeepsPlan.{AreFramesInTime, AreSentInTime, Held, IsFrameOf, IsMsBefore, IsWithinMs, KeepsPlan, Sent, bit_time, origins_of}
+use Rattle.j39_load.specs.LoadFindings.{AreLoadFindings, AsksOfBus, load_findings}
+use Rattle.j39_load.specs.Loads.{bits_per_ms, deadline_of, time_limit}
+use Rattle.j39_load.specs.PlannedFrames.{IsBounded}
+use Rattle.j39_load.proofs.BoundedFlows.{short_bounded}
+use Rattle.j39_load.proofs.KeepingPlan.{at_place, in_ms, keeps_in_any_order, keeps_in_order, load, of_one_frame, own}
+use Rattle.j39_load.proofs.Sending.{in_order}
+use Rattle.j39_load.proofs.StreamsBefore.{none_of_two}
+use Rattle.j39_timing.specs.Messages.{frame_end}
+use Rattle.j39_timing.specs.TimedFrames.{Schedule}
+use Rattle.j39_timing.specs.Traffic.{IsStreamInTime}
+
+-- ---- the smaller one of two times
+
+at_most_first : (bitrate : Bitrate) (a b : ℕ) → min a b * bits_per_ms bitrate ≤ a * bits_per_ms bitrate
+at_most_first Kbit125 a b = omega arith
+at_most_first Kbit250 a b = omega arith
+at_most_first Kbit500 a b = omega arith
+at_most_first Mbit1 a b = omega arith
+
+pub at_most_second : (bitrate : Bitrate) (a b : ℕ) → min a b * bits_per_ms bitrate ≤ b * bits_per_ms bitrate
+at_most_second Kbit125 a b = omega arith
+at_most_second Kbit250 a b = omega arith
+at_most_second Kbit500 a b = omega arith
+at_most_second Mbit1 a b = omega arith
+
+pub before_bits : (bitrate : Bitrate) (ms a b : ℕ) → a * bit_time bitrate + 1000 * ms < b * bit_time bitrate → a + ms * bits_per_ms bitrate < b
+before_bits Kbit125 ms a b before = omega arith
+before_bits Kbit250 ms a b before = omega arith
+before_bits Kbit500 ms a b before = omega arith
+before_bits Mbit1 ms a b before = omega arith
+
+module _ (plan : Plan) (timing : Timing) (stays : UnitPlan → Bool) (delays : List (Option Delay)) (asks : AsksOfBus plan timing stays delays)
+    (none : load_findings timing (total_load timing (asked_of timing plan stays)) delays ≡ []) where
+  -- ---- what is told of a frame's flow
+
+  -- its delay, which is within the limit of its pace
+  pub record HasBound (f : ℕ) (pace : Pace) : Type 0 where
+    pub bits : ℕ
+    pub bound : IsBounded timing (asked_of timing plan stays) f bits
+    pub limited : bits ≤ time_limit timing pace
+
+  pub bound_of : (s : Schedule) (held : Held) (f moment p : ℕ) (one : IsFrameOf plan timing s held f moment p) → HasBound f one.pace
+  bound_of s held f moment p one =
+      let its_load : FlowLoad = load plan timing stays f one.flow one.pace one.group one.its one.paced one.of one.short in
+      let at = at_place plan timing stays f one.flow one.pace one.group one.its one.paced one.of one.short in
+      let (bits, told, bound) = short_bounded plan timing stays delays asks none f its_load
+      (own plan timing stays f one.flow one.pace one.group one.its one.paced one.of one.short) at
+      (of_one_frame plan timing stays f one.flow one.pace one.group one.its one.paced one.of one.short) in
+      let same : bound.load ≡ its_load = same_Some _ _ (same_Some _ _ (sym bound.its ∙ at)) in
+      record {
+        bits = bits;
+        bound = bound;
+        limited = subst (λ (l : FlowLoad). bits ≤ l.limit) same bound.inside;
+      }
+
+  -- ---- frames
+
+  module _ (s : Schedule) (planned : ℕ → Bool) (sent : Sent) (held : Held) (keeps : KeepsPlan plan timing s planned sent held)
+      (in_time : (i bits : ℕ) (bound : IsBounded timing (asked_of timing plan stays) i bits)
+      → IsStreamInTime s planned (origins_of sent) i bound.frames.stream bound.wait) where
+    module _ (p : ℕ) (in_p : p < s.count) (is : planned p ≡ true) where
+      abbrev one : IsFrameOf plan timing s held (sent.flow p) (sent.moment p) p
+      one = keeps.frames p in_p is
+
+      its_own : IsMsBefore timing one.pace.period (sent.moment p) s.now
+          → IsWithinMs timing one.pace.period (sent.moment p) (frame_end s p)
+          × ((deadline : ℕ) → one.pace.deadline ≡ Some deadline → IsWithinMs timing deadline (sent.moment p) (frame_end s p))
+      its_own seen =
+          let told = bound_of s held (sent.flow p) (sent.moment p) p one in
+          let period = at_most_second timing.bitrate (deadline_of one.pace) one.pace.period in
+          let sum = told.bound.sum in
+          let limited = told.limited in
+          let shown = before_bits timing.bitrate one.pace.period (sent.moment p) s.now seen in
+          let ended = (in_time (sent.flow p) told.bits told.bound p in_p is refl (omega (arith, shown, limited, period, sum))).1 in (
+            in_ms timing.bitrate one.pace.period (sent.moment p) (frame_end s p) (omega (arith, ended, sum, limited, period)),
+            λ deadline written.
+                let first = at_most_first timing.bitrate (deadline_of one.pace) one.pace.period in
+                let its : deadline_of one.pace ≡ deadline = ap (λ (d : Option ℕ). unwrap_or d one.pace.period) written in
+                let time : deadline_of one.pace * bits_per_ms timing.bitrate ≡ deadline * bits_per_ms timing.bitrate =
+                ap (λ (ms : ℕ). ms * bits_per_ms timing.bitrate) its in
+                in_ms timing.bitrate deadline (sent.moment p) (frame_end s p) (omega (arith, ended, sum, limited, first, time)),
+          )
+
+    pub sent_in_time : AreSentInTime plan timing s planned sent
+    sent_in_time p flow pace in_p is its paced seen =
+        let same_flow : (one p in_p is).flow ≡ flow = same_Some _ _ (sym (one p in_p is).its ∙ its) in
+        let same : (one p in_p is).pace ≡ pace =
+        same_Some _ _ (sym (one p in_p is).paced ∙ (ap (λ (f : FlowPlan). f.pace) same_flow ∙ paced)) in
+        subst (λ (x : Pace). IsMsBefore timing x.period (sent.moment p) s.now
+        → IsWithinMs timing x.period (sent.moment p) (frame_end s p)
+        × ((deadline : ℕ) → x.deadline ≡ Some deadline → IsWithinMs timing deadline (sent.moment p) (frame_end s p))) same (its_own p in_p is) seen
+
+-- ---- plans
+
+module _ (plan : Plan) (timing : Timing) (clean : Clean plan) (stays : UnitPlan → Bool) (delays : List (Option Delay)) (asks : AsksOfBus plan timing stays delays)
+    (none : load_findings timing (total_load timing (asked_of timing plan stays)) delays ≡ []) where
+  in_time : AreFramesInTime plan timing
+  in_time = record {
+    in_order = λ ordered s planned sent held legal keeps. sent_in_time plan timing stays delays asks none s planned sent held keeps
+        (λ i bits bound. bound.bounds (in_order timing plan stays ordered) s planned (origins_of sent) legal
+        (keeps_in_order plan timing stays clean asks.standing s planned sent held i legal keeps));
+    in_any_order = λ s controllers planned sent held legal keeps queues. sent_in_time plan timing stays delays asks none s planned sent held keeps
+        (λ i bits bound. bound.in_any_order s controllers planned (origins_of sent) legal
+        (keeps_in_any_order plan timing stays clean asks.standing s controllers planned sent held i legal keeps queues));
+  }
+
+pub kept_in_time : (plan : Plan) (timing : Timing) → Clean plan → AreLoadFindings plan (Some timing) [] → AreFramesInTime plan timing
+kept_in_time plan timing clean (stays, delays, asks, none) = in_time plan timing clean stays delays asks
+    (none_of_two (load_findings timing (total_load timing (asked_of timing plan stays)) delays)
+    (old_needs timing plan.requests.items plan.flows.items delays plan.needs.items) (sym none)).0

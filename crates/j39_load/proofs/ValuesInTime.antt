@@ -1,0 +1,118 @@
+-- On a bus that keeps to a plan with whose load nothing is wrong values arrive in time, in milliseconds.
+use Rattle.std.proofs.Common.{◌≡◌, ℕ, ◌+◌, ◌*◌, ◌<◌, ◌≤◌, Bool, List, [], Option, Some, None}
+use Rattle.std.proofs.Common.{refl, sym, ap, ◌∙◌, arith, option_map}
+use Rattle.std.proofs.lemmas.Option.{none-some, same_Some, slice_get-map}
+use Rattle.std.specs.List.{slice_get}
+use Rattle.j39_findings.specs.Findings.{Clean}
+use Rattle.j39_findings.specs.declared.plan.Plan.{Plan}
+use Rattle.j39_findings.specs.declared.plan.flow_plan.FlowPlan.{FlowPlan}
+use Rattle.j39_findings.specs.declared.plan.group_plan.GroupPlan.{GroupPlan}
+use Rattle.j39_findings.specs.declared.plan.need_plan.NeedPlan.{NeedPlan}
+use Rattle.j39_findings.specs.declared.plan.pace.Pace.{Pace}
+use Rattle.j39_findings.specs.declared.plan.timing.Bitrate.{Bitrate}
+use Rattle.j39_findings.specs.declared.plan.timing.Bitrate.TheVariants.{Kbit125, Kbit250, Kbit500, Mbit1}
+use Rattle.j39_findings.specs.declared.plan.timing.Timing.{Timing}
+use Rattle.j39_findings.specs.declared.plan.unit_plan.UnitPlan.{UnitPlan}
+use Rattle.j39_load.specs.declared.delay.Delay.{Delay}
+use Rattle.j39_load.specs.declared.flow_load.FlowLoad.{FlowLoad}
+use Rattle.j39_load.specs.Asked.{asked_of}
+use Rattle.j39_load.specs.KeepsPlan.{Sent, bit_time, origins_of}
+use Rattle.j39_load.specs.LoadFindings.{AreLoadFindings, AsksOfBus}
+use Rattle.j39_load.specs.Loads.{bits_of_ms, bits_per_ms, deadline_of, load_of_flow, time_limit}
+use Rattle.j39_load.specs.ReadInTime.{AreReadYoung, CarryWritten, IsNeedRead}
+use Rattle.j39_load.specs.ValuesInTime.{AreValuesInTime, ArriveOn, IsValueInTime}
+use Rattle.j39_load.proofs.KeepingPlan.{behind_bits, in_ms, keeps_in_any_order, keeps_in_order}
+use Rattle.j39_load.proofs.KeptInTime.{at_most_second, before_bits}
+use Rattle.j39_load.proofs.ReadingInTime.{read_where_checked}
+use Rattle.j39_load.proofs.Sending.{in_order}
+use Rattle.j39_timing.specs.FreshFrames.{KeepsComing}
+use Rattle.j39_timing.specs.TimedFrames.{Schedule}
+
+under_bits : (bitrate : Bitrate) (ms a b : ℕ) → b * bit_time bitrate < a * bit_time bitrate + 1000 * ms → b < a + ms * bits_per_ms bitrate
+under_bits Kbit125 ms a b under = omega arith
+under_bits Kbit250 ms a b under = omega arith
+under_bits Kbit500 ms a b under = omega arith
+under_bits Mbit1 ms a b under = omega arith
+
+-- the pace of a flow of which a load is told
+record IsPaceOf (timing : Timing) (flow : FlowPlan) (load : FlowLoad) : Type 0 where
+  pub pace : Pace
+  pub paced : flow.pace ≡ Some pace
+  pub limit : load.limit ≡ time_limit timing pace
+
+module _ (plan : Plan) (timing : Timing) (stays : UnitPlan → Bool) (flow : FlowPlan) (load : FlowLoad) where
+  pace_told : (pace : Option Pace) (group : Option GroupPlan) → flow.pace ≡ pace → slice_get plan.groups.items flow.group ≡ group
+      → load_of_flow timing plan stays flow ≡ Some load → IsPaceOf timing flow load
+  pace_told None group paced at is = absurd (none-some load (rw (paced) at is))
+  pace_told (Some pace) None paced at is = absurd (none-some load (rw (paced, at) at is))
+  pace_told (Some pace) (Some group) paced at is = record {
+    pace = pace;
+    paced = paced;
+    limit = ap (λ (l : FlowLoad). l.limit) (sym (same_Some _ load (rw (paced, at) at is)));
+  }
+
+module _ (plan : Plan) (timing : Timing) (clean : Clean plan) (stays : UnitPlan → Bool) (delays : List (Option Delay)) (asks : AsksOfBus plan timing stays delays)
+    (need : NeedPlan) (within : ℕ) (read : IsNeedRead plan timing (asked_of timing plan stays) delays need within) where
+  its_pace : IsPaceOf timing read.fresh.flow read.fresh.bounded.load
+  its_pace = pace_told plan timing stays read.fresh.flow read.fresh.bounded.load read.fresh.flow.pace (slice_get plan.groups.items read.fresh.flow.group) refl refl
+      (same_Some _ (Some read.fresh.bounded.load)
+      (sym (slice_get-map (load_of_flow timing plan stays) plan.flows.items read.fresh.place
+      ∙ ap (option_map (load_of_flow timing plan stays)) read.fresh.its) ∙ read.fresh.bounded.its))
+
+  -- its delay is within its period
+  delay_within : read.fresh.bits ≤ its_pace.pace.period * bits_per_ms timing.bitrate
+  delay_within =
+      let inside = read.fresh.bounded.inside in
+      let limit = its_pace.limit in
+      let period = at_most_second timing.bitrate (deadline_of its_pace.pace) its_pace.pace.period in
+      omega (arith, inside, limit, period)
+
+  arrive : (s : Schedule) (planned : ℕ → Bool) (sent : Sent)
+      → ((bytes : ℕ → List ℕ) (written : CarryWritten s planned (origins_of sent) read.fresh.place read.group bytes) (from to : ℕ)
+      → KeepsComing s planned (origins_of sent) read.fresh.place (bits_of_ms timing read.fresh.pause) from to
+      → to + (read.fresh.bounded.frames.stream.late + read.fresh.bounded.wait) < s.now
+      → AreReadYoung s planned (origins_of sent) read.fresh.place read.group bytes written (bits_of_ms timing read.fresh.pause + read.fresh.bits)
+      (from + read.fresh.bits) (to + read.fresh.bits))
+      → ArriveOn timing s planned sent read.fresh.place its_pace.pace read.fresh.pause read.group within
+  arrive s planned sent young bytes written from to pausing shown t behind up =
+      let seen = before_bits timing.bitrate its_pace.pace.period to s.now shown in
+      let low = behind_bits timing.bitrate its_pace.pace.period from t behind in
+      let sum = read.fresh.bounded.sum in
+      let delay = delay_within in
+      let coming : KeepsComing s planned (origins_of sent) read.fresh.place (bits_of_ms timing read.fresh.pause) from to =
+      λ u first last. let (p, (in_p, is, source), moment, near) = pausing u first last in
+      (p, in_p, is, source, moment, under_bits timing.bitrate read.fresh.pause (sent.moment p) u near) in
+      let (some, each) = young bytes written from to coming (omega (arith, seen, sum, delay)) t (omega (arith, low, delay)) (omega (arith, up)) in (
+        some,
+        λ p newest.
+            let reads = each p newest in
+            let age = reads.young in
+            let asked = read.fresh.young in
+            (in_ms timing.bitrate within (sent.moment p) t (omega (arith, age, asked)), reads.read),
+      )
+
+  value_in_time : IsValueInTime plan timing need within
+  value_in_time = record {
+    place = read.fresh.place;
+    flow = read.fresh.flow;
+    its = read.fresh.its;
+    meets = read.fresh.meets;
+    unasked = read.fresh.unasked;
+    pace = its_pace.pace;
+    paced = its_pace.paced;
+    pause = read.fresh.pause;
+    paused = read.fresh.paused;
+    group = read.group;
+    of = read.of;
+    in_any_order = λ s controllers planned sent held legal keeps queues.
+        arrive s planned sent (read.in_any_order s controllers planned (origins_of sent) legal
+        (keeps_in_any_order plan timing stays clean asks.standing s controllers planned sent held read.fresh.place legal keeps queues));
+    in_order = λ ordered s planned sent held legal keeps.
+        arrive s planned sent (read.in_order (in_order timing plan stays ordered) s planned (origins_of sent) legal
+        (keeps_in_order plan timing stays clean asks.standing s planned sent held read.fresh.place legal keeps));
+  }
+
+pub values_in_time : (plan : Plan) (timing : Timing) → Clean plan → AreLoadFindings plan (Some timing) [] → AreValuesInTime plan timing
+values_in_time plan timing clean found n need within at asked =
+    let (stays, delays, asks, each) = read_where_checked plan timing clean found in
+    value_in_time plan timing clean stays delays asks need within (each n need within at asked)
