@@ -18,6 +18,7 @@ pub mod Ranks
 pub mod ReadingInTime
 pub mod Sending
 pub mod StreamsBefore
+pub mod ToldBytes
 pub mod TurnTimes
 pub mod ValuesInTime
 pub mod WantedMemory

@@ -59,7 +59,7 @@ module _ (plan : Plan) (clean : Clean plan) (g : ℕ) (group : GroupPlan) (at : 
     of_length : IsBlankOf (get_or plan.groups.items g group) w.start
     of_length = subst (λ (x : GroupPlan). IsBlankOf x w.start) (sym here) w.blank
 
-    keeps : KeepsWrites w.start signals
+    pub keeps : KeepsWrites w.start signals
     keeps = subst (λ (x : GroupPlan). KeepsWrites w.start (signals_in x (length w.start))) here
         (keeps_writes w.start _ (lays_out_each plan clean g group below (length w.start) of_length.length))
 
@@ -70,7 +70,7 @@ module _ (plan : Plan) (clean : Clean plan) (g : ℕ) (group : GroupPlan) (at : 
     last_given : ReadsLastGiven w.start signals
     last_given = reads_last w.start signals keeps (λ k d in_message. reads_back (get_or signals k d) (widths k d in_message))
 
-    same_length : length bytes ≡ length w.start
+    pub same_length : length bytes ≡ length w.start
     same_length = ap length (sym w.last) ∙ (keeps w.writes w.chain).same_length
 
     -- what holds of the payload after the last write holds of the bytes

@@ -15,6 +15,7 @@ pub mod ReadInTime
 pub mod RequestLoads
 pub mod SoundLoads
 pub mod Standing
+pub mod ToldBytes
 pub mod Twins
 pub mod ValuesInTime
 pub mod inside

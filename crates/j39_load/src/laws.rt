@@ -18,9 +18,10 @@ ghost use Rattle.j39_load.specs.Loads.{group_ident};
 ghost use Rattle.j39_load.specs.Asked.{asked_of, frames_asked, total_load};
 ghost use Rattle.j39_load.specs.PlannedFrames.{AreAllOrdered, AreDeadlinesKept, AreDelaysBounds, AreFramesInAnyOrder, AreFramesOfPlan, AreShortFlowsBounded, AreTimesBounds, ArePlannedFramesInTime};
 ghost use Rattle.j39_load.specs.Ranks.{AreHeldApart, AreHeldByPlan, AreTwinFlows, AreUnitsPlanned, IsAskedBetween, IsShortFlow, LieBetween, RequestLiesBetween};
-ghost use Rattle.j39_load.specs.ReadInTime.{AreNeedsRead};
+ghost use Rattle.j39_load.specs.ReadInTime.{AreNeedsRead, AreWritten};
 ghost use Rattle.j39_load.specs.RequestLoads.{request_ident};
 ghost use Rattle.j39_load.specs.Standing.{TellsWhoStays};
+ghost use Rattle.j39_load.specs.ToldBytes.{IsToldOf, LeaveSelector};
 ghost use Rattle.j39_load.specs.ValuesInTime.{AreValuesInTime};
 ghost use Rattle.j39_timing.specs.AnyOrder.{Controllers, IsLegalInAnyOrder};
 ghost use Rattle.j39_timing.specs.TimedFrames.{IsLegal, Schedule};
@@ -60,6 +61,14 @@ pub fn needs_stay_fresh()
 /// age, and each signal in its bytes reads the value that it was last given, or is unset where it was given up.
 pub fn needed_values_are_read_in_time()
     ensures { (plan : Plans) (timing : Timings) → Clean plan → AreLoadFindings plan (Some timing) [] → AreNeedsRead plan timing }
+{}
+
+/// Bytes of a flow's message that were written signal after signal can be of its group alone, where none of the signals in them has a bit of the
+/// group's selector: so whoever hears them reads them by this group.
+pub fn written_bytes_are_told()
+    ensures { (plan : Plans) → Clean plan → (f : ℕ) (flow : PlannedFlows) (group : PlannedGroups) → slice_get plan.flows.items f ≡ Some flow
+        → slice_get plan.groups.items flow.group ≡ Some group → (bytes : List ℕ) → AreWritten group bytes → LeaveSelector group bytes
+        → IsToldOf plan flow group bytes }
 {}
 
 /// Of a plan whose units all keep order no frames are of a unit that keeps none: what is promised of every legal schedule
