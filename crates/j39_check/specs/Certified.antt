@@ -4,6 +4,7 @@ use Rattle.std.specs.Prelude.{◌≡◌, Some}
 use Rattle.j39_findings.specs.declared.plan.Plan.{Plan}
 use Rattle.j39_findings.specs.declared.plan.timing.Timing.{Timing}
 use Rattle.j39_load.specs.FreshNeeds.{AreNeedsFresh}
+use Rattle.j39_load.specs.KeepsErrors.{AreInTimeWithErrors}
 use Rattle.j39_load.specs.KeepsPlan.{AreFramesInTime}
 use Rattle.j39_load.specs.PlannedFrames.{ArePlannedFramesInTime}
 use Rattle.j39_load.specs.ReadInTime.{AreNeedsRead}
@@ -21,5 +22,8 @@ pub record IsCertified (plan : Plan) : Type 0 where
   -- and where the frames of this flow carry bytes that were written signal after signal, each signal reads as it was written in those that
   -- were received last, which are no older than that
   pub read : (timing : Timing) → plan.timing ≡ Some timing → AreNeedsRead plan timing
-  -- the same of every bus that keeps to the plan in its own words: each frame is sent in time, and each value arrives within its age
-  pub kept : (timing : Timing) → plan.timing ≡ Some timing → AreFramesInTime plan timing × AreValuesInTime plan timing
+  -- in the plan's own words: on every bus that keeps to it each frame is sent in time, also where frames are damaged, and each value that is
+  -- needed arrives within its age
+  pub kept : (timing : Timing) → plan.timing ≡ Some timing → AreFramesInTime plan timing
+  pub damaged : (timing : Timing) → plan.timing ≡ Some timing → AreInTimeWithErrors plan timing
+  pub values : (timing : Timing) → plan.timing ≡ Some timing → AreValuesInTime plan timing

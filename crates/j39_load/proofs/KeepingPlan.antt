@@ -119,13 +119,13 @@ own_twin a b are = same_twin a a b are (rw (are.first, eq-eqb are.number are.num
     either false = refl
 
 module _ (plan : Plan) (timing : Timing) (stays : UnitPlan → Bool) where
-  abbrev asked : Asked
+  abbrev pub asked : Asked
   asked = asked_of timing plan stays
 
-  abbrev all : List (Option FlowFrames)
+  abbrev pub all : List (Option FlowFrames)
   all = frames_asked asked ++ damage_frames timing
 
-  abbrev traffic : Traffic
+  abbrev pub traffic : Traffic
   traffic = traffic_of all
 
   module _ (f : ℕ) (flow : FlowPlan) (pace : Pace) (group : GroupPlan) (its : slice_get plan.flows.items f ≡ Some flow) (paced : flow.pace ≡ Some pace)
@@ -149,7 +149,7 @@ module _ (plan : Plan) (timing : Timing) (stays : UnitPlan → Bool) where
     pub of_one_frame : load.messages ≡ Short own
     of_one_frame = rw (is_short) refl
 
-    read : get_or (frames_asked asked) f None ≡ Some own
+    pub read : get_or (frames_asked asked) f None ≡ Some own
     read = own_read asked.flows asked.units asked.requests f load own at_place of_one_frame
 
     placed : planned_at all f ≡ own
@@ -165,19 +165,19 @@ module _ (plan : Plan) (timing : Timing) (stays : UnitPlan → Bool) where
   module _ (tells : TellsWhoStays plan stays) (clean : Clean plan) (s : Schedule) (queued_first : (p : ℕ) → p < s.count → s.queued p ≤ s.start p)
       (planned : ℕ → Bool) (sent : Sent) (held : Held) (keeps : KeepsPlan plan timing s planned sent held) where
     module _ (p : ℕ) (in_p : p < s.count) (is : planned p ≡ true) where
-      abbrev one : IsFrameOf plan timing s held (sent.flow p) (sent.moment p) p
+      abbrev pub one : IsFrameOf plan timing s held (sent.flow p) (sent.moment p) p
       one = keeps.frames p in_p is
 
-      abbrev its_frames : FlowFrames
+      abbrev pub its_frames : FlowFrames
       its_frames = own (sent.flow p) one.flow one.pace one.group one.its one.paced one.of one.short
 
-      here : planned_at all (sent.flow p) ≡ its_frames
+      pub here : planned_at all (sent.flow p) ≡ its_frames
       here = placed (sent.flow p) one.flow one.pace one.group one.its one.paced one.of one.short
 
-      frame_at_most : s.bits p ≤ 160
+      pub frame_at_most : s.bits p ≤ 160
       frame_at_most = let few = one.length in let short = one.short in omega (arith, few, short)
 
-      keeps_stream : KeepsStream s traffic.count traffic.stream (origins_of sent) p
+      pub keeps_stream : KeepsStream s traffic.count traffic.stream (origins_of sent) p
       keeps_stream = record {
         known = inside (sent.flow p) one.flow one.pace one.group one.its one.paced one.of one.short;
         bits_at_most = subst (λ (f : FlowFrames). s.bits p ≤ f.stream.bits) (sym here) few_bits;
@@ -204,7 +204,7 @@ module _ (plan : Plan) (timing : Timing) (stays : UnitPlan → Bool) where
       }
 
       -- it lies between the least and the greatest one
-      between : (its_frames.least_ident ≤ s.ident p) × (s.ident p ≤ its_frames.greatest_ident)
+      pub between : (its_frames.least_ident ≤ s.ident p) × (s.ident p ≤ its_frames.greatest_ident)
       between =
           let t = s.queued p in
           let is_ident = ident_at t (omega arith, queued_first p in_p) in
@@ -233,7 +233,7 @@ module _ (plan : Plan) (timing : Timing) (stays : UnitPlan → Bool) where
           | inr after ↦ inr (behind_bits timing.bitrate (one p in_p is_p).pace.period (sent.moment q) (sent.moment p) after)
         ])
 
-    of_streams : AreOfStreams s (λ p. planned p ≡ true) traffic.count traffic.stream (origins_of sent)
+    pub of_streams : AreOfStreams s (λ p. planned p ≡ true) traffic.count traffic.stream (origins_of sent)
     of_streams = record {
       keeps = λ p in_p is. keeps_stream p in_p is;
       spaced = λ p q in_p in_q other is_p is_q one_flow turn. spaced p q in_p in_q other is_p is_q one_flow;
@@ -285,7 +285,7 @@ module _ (plan : Plan) (timing : Timing) (stays : UnitPlan → Bool) where
           (subst (AreAlike (its_frames p in_p is_p)) (sym (here q in_q is_q)) are)) shares
     ]
 
-    own_identifier : (i p q t : ℕ) → p < s.count → q < s.count → t < s.now → planned p ≡ true → may_share traffic i (sent.flow p) ≡ true
+    pub own_identifier : (i p q t : ℕ) → p < s.count → q < s.count → t < s.now → planned p ≡ true → may_share traffic i (sent.flow p) ≡ true
         → IsQueuedAt s p t → IsQueuedAt s q t → s.ident p ≡ s.ident q → (planned q ≡ true) × (may_share traffic i (sent.flow q) ≡ true)
     own_identifier i p q t in_p in_q seen is_p shares at_p at_q same = elim (cases_Bool (planned q)) [
       | inl is_q ↦ (is_q, alike i p q t in_p in_q is_p is_q shares at_p at_q same)

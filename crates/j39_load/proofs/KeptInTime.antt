@@ -1,5 +1,5 @@
 -- On a bus that keeps to a plan with whose load nothing is wrong each frame is sent in time, in milliseconds.
-use Rattle.std.proofs.Common.{◌≡◌, ℕ, ◌+◌, ◌*◌, ◌<◌, ◌≤◌, Bool, true, List, [], min, unwrap_or, Option, Some}
+use Rattle.std.proofs.Common.{◌≡◌, ℕ, ◌+◌, ◌*◌, ◌<◌, ◌≤◌, Bool, true, List, [], min, unwrap_or, Option, Some, length}
 use Rattle.std.proofs.Common.{refl, sym, ap, ◌∙◌, subst, arith}
 use Rattle.std.proofs.lemmas.Option.{same_Some}
 use Rattle.j39_findings.specs.Findings.{Clean}
@@ -13,15 +13,19 @@ use Rattle.j39_findings.specs.declared.plan.unit_plan.UnitPlan.{UnitPlan}
 use Rattle.j39_load.specs.declared.delay.Delay.{Delay}
 use Rattle.j39_load.specs.declared.flow_load.FlowLoad.{FlowLoad}
 use Rattle.j39_load.specs.Ages.{old_needs}
-use Rattle.j39_load.specs.Asked.{asked_of, total_load}
+use Rattle.j39_load.specs.Asked.{asked_of, frames_asked, total_load}
+use Rattle.j39_load.specs.KeepsErrors.{AreInTimeWithErrors, origins_with, planned_with}
 use Rattle.j39_load.specs.KeepsPlan.{AreFramesInTime, AreSentInTime, Held, IsFrameOf, IsMsBefore, IsWithinMs, KeepsPlan, Sent, bit_time, origins_of}
 use Rattle.j39_load.specs.LoadFindings.{AreLoadFindings, AsksOfBus, load_findings}
 use Rattle.j39_load.specs.Loads.{bits_per_ms, deadline_of, time_limit}
 use Rattle.j39_load.specs.PlannedFrames.{IsBounded}
 use Rattle.j39_load.proofs.BoundedFlows.{short_bounded}
+use Rattle.j39_load.proofs.KeepingErrors.{frames_in_time, keeps_with_errors}
 use Rattle.j39_load.proofs.KeepingPlan.{at_place, in_ms, keeps_in_any_order, keeps_in_order, load, of_one_frame, own}
 use Rattle.j39_load.proofs.Sending.{in_order}
 use Rattle.j39_load.proofs.StreamsBefore.{none_of_two}
+use Rattle.j39_timing.proofs.Errors.{legal_with_errors}
+use Rattle.j39_timing.specs.Errors.{with_errors}
 use Rattle.j39_timing.specs.Messages.{frame_end}
 use Rattle.j39_timing.specs.TimedFrames.{Schedule}
 use Rattle.j39_timing.specs.Traffic.{IsStreamInTime}
@@ -120,6 +124,18 @@ module _ (plan : Plan) (timing : Timing) (clean : Clean plan) (stays : UnitPlan 
         (λ i bits bound. bound.in_any_order s controllers planned (origins_of sent) legal
         (keeps_in_any_order plan timing stays clean asks.standing s controllers planned sent held i legal keeps queues));
   }
+
+  with_errors_in_time : AreInTimeWithErrors plan timing
+  with_errors_in_time ordered s d planned sent held rate legal keeps errors = sent_in_time plan timing stays delays asks none s planned sent held keeps
+      (λ i bits bound. frames_in_time plan timing stays asks.standing clean s d legal.bus planned sent held keeps rate errors i bound.frames.stream bound.wait
+      (λ flow. bound.bounds (in_order timing plan stays ordered) (with_errors s d) (planned_with s planned)
+      (origins_with s d rate (length (frames_asked (asked_of timing plan stays))) sent) (legal_with_errors s d legal)
+      (keeps_with_errors plan timing stays asks.standing clean s d legal.bus planned sent held keeps rate errors i flow)))
+
+pub kept_with_errors : (plan : Plan) (timing : Timing) → Clean plan → AreLoadFindings plan (Some timing) [] → AreInTimeWithErrors plan timing
+kept_with_errors plan timing clean (stays, delays, asks, none) = with_errors_in_time plan timing clean stays delays asks
+    (none_of_two (load_findings timing (total_load timing (asked_of timing plan stays)) delays)
+    (old_needs timing plan.requests.items plan.flows.items delays plan.needs.items) (sym none)).0
 
 pub kept_in_time : (plan : Plan) (timing : Timing) → Clean plan → AreLoadFindings plan (Some timing) [] → AreFramesInTime plan timing
 kept_in_time plan timing clean (stays, delays, asks, none) = in_time plan timing clean stays delays asks

@@ -8,6 +8,7 @@ pub mod CompanyStreams
 pub mod Different
 pub mod EachFrames
 pub mod KeepingApart
+pub mod KeepingErrors
 pub mod KeepingPlan
 pub mod KeptInTime
 pub mod LeastKnown

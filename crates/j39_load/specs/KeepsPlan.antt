@@ -80,7 +80,7 @@ pub record IsFrameOf (plan : Plan) (timing : Timing) (s : Schedule) (held : Held
   pub identifier : (t : ℕ) → IsQueuedAt s p t
       → s.ident p ≡ identifier_of group.priority group.pgn (goes_to (held.address t) flow.to) (held.address t flow.sender)
 
--- the planned frames of a bus on which none is damaged are those of flows, and what else is on it keeps to what the plan tells of it
+-- the planned frames of a bus are those of flows, and what else is on it keeps to what the plan tells of it
 pub record KeepsPlan (plan : Plan) (timing : Timing) (s : Schedule) (planned : ℕ → Bool) (sent : Sent) (held : Held) : Type 0 where
   pub frames : (p : ℕ) → p < s.count → planned p ≡ true → IsFrameOf plan timing s held (sent.flow p) (sent.moment p) p
   -- the moments of two messages of a flow are a period apart

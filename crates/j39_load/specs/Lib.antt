@@ -5,6 +5,7 @@ pub mod Broadcasts
 pub mod Damage
 pub mod Delays
 pub mod FreshNeeds
+pub mod KeepsErrors
 pub mod KeepsPlan
 pub mod LoadFindings
 pub mod Loads

@@ -1,5 +1,5 @@
 //! Laws of the frames of a plan's flows.
-ghost use Rattle.std.specs.Prelude.{◌≡◌, ◌≢◌, ℕ, ◌≤◌, List, [], Bool, Option, Some};
+ghost use Rattle.std.specs.Prelude.{◌≡◌, ◌≢◌, ℕ, ◌<◌, ◌≤◌, List, [], length, Bool, Option, Some};
 ghost use Rattle.std.specs.List.{slice_get};
 ghost use Rattle.j39_findings.specs.Findings.{Clean};
 ghost use Rattle.j39_findings.specs.declared.plan.Plan.{Plan as Plans};
@@ -8,10 +8,12 @@ ghost use Rattle.j39_findings.specs.declared.plan.group_plan.GroupPlan.{GroupPla
 ghost use Rattle.j39_findings.specs.declared.plan.pace.Pace.{Pace as PlannedPaces};
 ghost use Rattle.j39_findings.specs.declared.plan.queue.Queue.TheVariants.{Priority};
 ghost use Rattle.j39_findings.specs.declared.plan.request_plan.RequestPlan.{RequestPlan as PlannedRequests};
+ghost use Rattle.j39_findings.specs.declared.plan.timing.ErrorRate.{ErrorRate as ErrorRates};
 ghost use Rattle.j39_findings.specs.declared.plan.timing.Timing.{Timing as Timings};
 ghost use Rattle.j39_findings.specs.declared.plan.unit_plan.UnitPlan.{UnitPlan as PlannedUnits};
 ghost use Rattle.j39_load.specs.declared.delay.Delay.{Delay as Delays};
 ghost use Rattle.j39_load.specs.FreshNeeds.{AreNeedsFresh};
+ghost use Rattle.j39_load.specs.KeepsErrors.{AreInTimeWithErrors, KeepsErrors, origins_with, planned_with};
 ghost use Rattle.j39_load.specs.KeepsPlan.{AreFramesInTime, CanBeKept, Held, KeepsPlan, KeepsQueues, Sent, origins_of};
 ghost use Rattle.j39_load.specs.LoadFindings.{AreLoadFindings, AsksOfBus, load_findings};
 ghost use Rattle.j39_load.specs.Loads.{group_ident};
@@ -24,6 +26,7 @@ ghost use Rattle.j39_load.specs.Standing.{TellsWhoStays};
 ghost use Rattle.j39_load.specs.ToldBytes.{IsToldOf, LeaveSelector};
 ghost use Rattle.j39_load.specs.ValuesInTime.{AreValuesInTime};
 ghost use Rattle.j39_timing.specs.AnyOrder.{Controllers, IsLegalInAnyOrder};
+ghost use Rattle.j39_timing.specs.Errors.{Damaged, IsLegalWithErrors, with_errors};
 ghost use Rattle.j39_timing.specs.TimedFrames.{IsLegal, Schedule};
 ghost use Rattle.j39_world.specs.PlannedUnits.{units_of};
 ghost use Rattle.j39_world.specs.Staying.{ArePlannedApart};
@@ -90,7 +93,7 @@ pub fn identifiers_lie_between()
 {}
 
 /// A bus that keeps to a clean plan in the plan's own words, whose planned frames are those of flows each message of which goes in one frame, keeps
-/// the premises of each delay, where units keep order (`legal`) or don't (`any_order`): so what `delays_are_bounds` and `needs_stay_fresh` promise
+/// the premises of each delay, where units keep order (`legal`) or don't (`any_order`), and where frames are damaged (`with_errors`): so what `delays_are_bounds` and `needs_stay_fresh` promise
 /// holds of it.
 pub fn frames_that_keep_a_plan()
     ensures legal { (plan : Plans) (timing : Timings) (stays : PlannedUnits → Bool) → Clean plan → TellsWhoStays plan stays
@@ -100,6 +103,11 @@ pub fn frames_that_keep_a_plan()
         → (s : Schedule) (controllers : Controllers) (planned : ℕ → Bool) (sent : Sent) (held : Held) (i : ℕ) → IsLegalInAnyOrder s controllers
         → KeepsPlan plan timing s planned sent held → KeepsQueues plan timing s controllers planned sent
         → AreFramesInAnyOrder timing (frames_asked (asked_of timing plan stays)) s controllers planned (origins_of sent) i }
+    ensures with_errors { (plan : Plans) (timing : Timings) (stays : PlannedUnits → Bool) → Clean plan → TellsWhoStays plan stays
+        → (s : Schedule) (d : Damaged) (planned : ℕ → Bool) (sent : Sent) (held : Held) (rate : ErrorRates) (i : ℕ) → IsLegalWithErrors s d
+        → KeepsPlan plan timing s planned sent held → KeepsErrors timing rate s d planned → i < length plan.flows.items
+        → AreFramesOfPlan timing (frames_asked (asked_of timing plan stays)) (with_errors s d) (planned_with s planned)
+        (origins_with s d rate (length (frames_asked (asked_of timing plan stays))) sent) i }
 {}
 
 /// And a bus can keep to a plan in its own words: where no two units have one planned address, each flow whose messages go in one frame and that
@@ -111,9 +119,11 @@ pub fn plans_can_be_kept()
 {}
 
 /// Of a clean plan with whose load nothing is wrong either: on each bus that keeps to it in the plan's own words, whether units keep order or not,
-/// each frame has been sent within the period of its flow from its moment, and within its deadline where one is written.
+/// each frame has been sent within the period of its flow from its moment, and within its deadline where one is written (`sound`). So it is where
+/// frames are damaged no more often than the plan tells, and all units keep order (`with_errors`).
 pub fn kept_plans_are_in_time()
-    ensures { (plan : Plans) (timing : Timings) → Clean plan → AreLoadFindings plan (Some timing) [] → AreFramesInTime plan timing }
+    ensures sound { (plan : Plans) (timing : Timings) → Clean plan → AreLoadFindings plan (Some timing) [] → AreFramesInTime plan timing }
+    ensures with_errors { (plan : Plans) (timing : Timings) → Clean plan → AreLoadFindings plan (Some timing) [] → AreInTimeWithErrors plan timing }
 {}
 
 /// Of such a plan each need that asks for an age has a flow that meets it, and on each bus that keeps to the plan in its own words, while this

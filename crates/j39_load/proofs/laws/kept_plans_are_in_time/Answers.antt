@@ -1,5 +1,5 @@
-use Rattle.j39_load.proofs.KeptInTime.{kept_in_time}
+use Rattle.j39_load.proofs.KeptInTime.{kept_in_time, kept_with_errors}
 use Rattle.j39_load.proofs.laws.kept_plans_are_in_time.Goals as goal
 
 pub returns : goal.returns
-returns c = kept_in_time
+returns c = record { sound = kept_in_time; with_errors = kept_with_errors }

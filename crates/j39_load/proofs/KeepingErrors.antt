@@ -1,0 +1,462 @@
+-- A bus with damaged frames that keeps to a plan in the plan's own words keeps the premises of its delays.
+use Rattle.std.proofs.Common.{◌≡◌, ◌≢◌, ℕ, ◌+◌, ◌*◌, ◌-◌, ◌/◌, ◌%◌, ◌<◌, ◌≤◌, ◌⊎◌, Bool, true, false, cond, not, ◌&&◌, ◌||◌, List, ◌++◌, length, get_or, map, unwrap_or, Option, Some, None, ◌^◌, if◌then◌else◌}
+use Rattle.std.proofs.Common.{refl, sym, ap, ◌∙◌, subst, inl, inr, arith}
+use Rattle.std.proofs.Math.Nat.{div-add-mod, mod-lt, mul-le-mul_left}
+use Rattle.std.proofs.lemmas.Bool.{cases_Bool, cases_eq, cases_lt, le-ltb, lt-ltb, ne_eqb, true≢false}
+use Rattle.std.proofs.lemmas.List.{get_or-append-add, length-append, length-map}
+use Rattle.j39_id.specs.Ident.{identifier_of}
+use Rattle.j39_id.specs.Pgn.{is_pdu2}
+use Rattle.j39_findings.specs.Findings.{Clean}
+use Rattle.j39_findings.specs.declared.checking.finding.Finding.TheVariants.{FlowToSelf}
+use Rattle.j39_findings.specs.declared.plan.to.To.{To}
+use Rattle.j39_findings.specs.declared.plan.to.To.TheVariants.{All as ToAll, One}
+use Rattle.j39_findings.specs.declared.plan.Plan.{Plan}
+use Rattle.j39_findings.specs.declared.plan.timing.ErrorRate.{ErrorRate}
+use Rattle.j39_findings.specs.declared.plan.timing.Timing.{Timing}
+use Rattle.j39_findings.specs.declared.plan.unit_plan.UnitPlan.{UnitPlan}
+use Rattle.j39_load.specs.declared.flow_frames.FlowFrames.{FlowFrames}
+use Rattle.j39_load.specs.AnyQueues.{keep_order}
+use Rattle.j39_load.specs.Asked.{announcements_of_unit, asked_of, frames_asked, frames_of_flow, frames_of_request, packets_of_unit, singles_of_flow}
+use Rattle.j39_load.specs.Damage.{damage_frames, damage_stream, first_frames}
+use Rattle.j39_load.specs.KeepsErrors.{KeepsErrors, origins_with, planned_with}
+use Rattle.j39_load.specs.KeepsPlan.{Held, IsFrameOf, KeepsPlan, Sent, goes_to, origins_of}
+use Rattle.j39_load.specs.Loads.{bits_of_ms, load_of_flow}
+use Rattle.j39_load.specs.PlannedFrames.{AreFramesOfPlan, no_frames, planned_at}
+use Rattle.j39_load.specs.Standing.{TellsWhoStays}
+use Rattle.j39_load.specs.Twins.{is_same}
+use Rattle.j39_load.proofs.KeepingPlan.{behind_bits, between, frame_at_most, here, keeps_stream, of_streams, one, own, own_identifier, read, traffic}
+use Rattle.j39_load.proofs.StreamsBefore.{get_or_inside}
+use Rattle.j39_timing.specs.Errors.{Damaged, IsBusWithErrors, IsLegalWithErrors, with_errors}
+use Rattle.j39_timing.specs.FrameBits.{error_frame, longest_frame}
+use Rattle.j39_timing.specs.FrameStreams.{Origins, AreOfStreams, KeepsStream}
+use Rattle.j39_timing.specs.TimedFrames.{Schedule}
+use Rattle.j39_timing.specs.declared.stream.Stream.{Stream}
+use Rattle.j39_timing.specs.Traffic.{IsQueuedAt, IsStreamInTime, may_share}
+
+-- of two places with one turn the later one is a window on at least
+next_turn : (e f n : ℕ) → e % n ≡ f % n → e < f → e + n ≤ f
+next_turn e f n same less =
+    let first : n * (e / n) + e % n ≡ e = div-add-mod e n in
+    let second : n * (f / n) + f % n ≡ f = div-add-mod f n in
+    elim (cases_lt (e / n) (f / n)) [
+      | inl above ↦
+          let most : n * (e / n + 1) ≤ n * (f / n) = mul-le-mul_left n (omega (arith, above)) in
+          omega (arith, first, second, same, most)
+      | inr below ↦ absurd (let most : n * (f / n) ≤ n * (e / n) = mul-le-mul_left n below in omega (arith, first, second, same, most, less))
+    ]
+
+-- the identifier 0 is one from 0 to 0
+zero_parts : (priority pgn destination source : ℕ) → identifier_of priority pgn destination source ≡ 0 → (destination ≡ 0) × (source ≡ 0)
+zero_parts priority pgn destination source none = go (is_pdu2 pgn) refl none
+  where
+    go : (b : Bool) → is_pdu2 pgn ≡ b → priority * 2 ^ 26 + pgn * 2 ^ 8 + (if b then 0 else destination * 2 ^ 8) + source ≡ 0
+        → (destination ≡ 0) × (source ≡ 0)
+    go true is zero =
+        let number : pgn ≡ 0 = omega (arith, zero) in
+        absurd (true≢false (sym is ∙ ap is_pdu2 number))
+    go false is zero = (omega (arith, zero), omega (arith, zero))
+
+module _ (plan : Plan) (timing : Timing) (stays : UnitPlan → Bool) (tells : TellsWhoStays plan stays) (clean : Clean plan) (s : Schedule) (d : Damaged)
+    (bus : IsBusWithErrors s d) (planned : ℕ → Bool) (sent : Sent) (held : Held) (keeps : KeepsPlan plan timing s planned sent held)
+    (rate : ErrorRate) (errors : KeepsErrors timing rate s d planned) where
+  abbrev asks : List (Option FlowFrames)
+  asks = frames_asked (asked_of timing plan stays)
+
+  abbrev streams : List (Option FlowFrames)
+  streams = asks ++ damage_frames timing
+
+  abbrev w : Schedule
+  w = with_errors s d
+
+  abbrev of : Origins
+  of = origins_with s d rate (length asks) sent
+
+  abbrev is_planned : ℕ → Bool
+  is_planned = planned_with s planned
+
+  -- ---- what stands at a place
+
+  record IsFrame (p : ℕ) : Type 0 where
+    pub below : p < s.count
+    pub queued : w.queued p ≡ s.queued p
+    pub start : w.start p ≡ s.start p
+    pub bits : w.bits p ≡ s.bits p
+    pub ident : w.ident p ≡ s.ident p
+    pub source : of.source p ≡ sent.flow p
+    pub turn : of.turn p ≡ 0
+    pub since : of.since p ≡ sent.moment p
+    pub plans : is_planned p ≡ planned p
+
+  -- an attempt, or the error frame behind it
+  abbrev shift : Bool → ℕ
+  shift error = cond error 1 0
+
+  abbrev place : Bool → ℕ → ℕ
+  place error e = s.count + (cond error d.count 0 + e)
+
+  abbrev width : Bool → ℕ
+  width error = cond error error_frame (longest_frame 8)
+
+  record IsDamage (p : ℕ) : Type 0 where
+    pub error : Bool
+    pub attempt : ℕ
+    pub below : attempt < d.count
+    pub is : p ≡ place error attempt
+    pub behind : s.count ≤ p
+    pub queued : w.queued p ≡ d.begin attempt
+    pub bits : w.bits p ≤ width error
+    pub ident : w.ident p ≡ 0
+    pub source : of.source p ≡ length asks + shift error
+    pub turn : of.turn p ≡ attempt % rate.count
+    pub since : of.since p ≡ d.begin attempt
+
+  frame_at : (p : ℕ) → p < s.count → IsFrame p
+  frame_at p below =
+      let front = lt-ltb p s.count below in
+      record {
+        below = below;
+        queued = rw (front) refl;
+        start = rw (front) refl;
+        bits = rw (front) refl;
+        ident = rw (front) refl;
+        source = rw (front) refl;
+        turn = rw (front) refl;
+        since = rw (front) refl;
+        plans = rw (front) refl;
+      }
+
+  longest_of : (p : ℕ) → p < s.count → s.bits p ≤ 160
+  longest_of p in_p = elim (cases_Bool (planned p)) [
+    | inl is ↦ frame_at_most plan timing stays tells clean s bus.queued_first planned sent held keeps p in_p is
+    | inr other ↦ keeps.others_length p in_p other
+  ]
+
+  attempt_at : (e : ℕ) → e < d.count → IsDamage (s.count + e)
+  attempt_at e below =
+      let behind = le-ltb (s.count + e) s.count (omega arith) in
+      let back : s.count + e - s.count ≡ e = omega arith in
+      let front = lt-ltb e d.count below in
+      let few = bus.sent_at_most e below in
+      let short = longest_of (d.frame e) (bus.known e below) in
+      record {
+        error = false;
+        attempt = e;
+        below = below;
+        is = omega arith;
+        behind = omega arith;
+        queued = rw (behind, back, front) refl;
+        bits = rw (behind, back, front) (omega (arith, few, short));
+        ident = rw (behind, back, front) refl;
+        source = rw (behind, back, front) (omega arith);
+        turn = rw (behind, back, front) refl;
+        since = rw (behind, back, front) refl;
+      }
+
+  error_at : (e : ℕ) → e < d.count → IsDamage (s.count + (d.count + e))
+  error_at e below =
+      let behind = le-ltb (s.count + (d.count + e)) s.count (omega arith) in
+      let back : s.count + (d.count + e) - s.count ≡ d.count + e = omega arith in
+      let later = le-ltb (d.count + e) d.count (omega arith) in
+      let last : d.count + e - d.count ≡ e = omega arith in
+      record {
+        error = true;
+        attempt = e;
+        below = below;
+        is = omega arith;
+        behind = omega arith;
+        queued = rw (behind, back, later, last) refl;
+        bits = rw (behind, back, later, last) (bus.error_at_most e below);
+        ident = rw (behind, back, later) refl;
+        source = rw (behind, back, later) (omega arith);
+        turn = rw (behind, back, later, last) refl;
+        since = rw (behind, back, later, last) refl;
+      }
+
+  kinds : (p : ℕ) → p < w.count → IsFrame p ⊎ IsDamage p
+  kinds p below = elim (cases_lt p s.count) [
+    | inl front ↦ inl (frame_at p front)
+    | inr behind ↦ elim (cases_lt (p - s.count) d.count) [
+      | inl first ↦ inr (subst IsDamage (omega arith) (attempt_at (p - s.count) first))
+      | inr second ↦ inr (subst IsDamage (omega arith) (error_at (p - s.count - d.count) (omega arith)))
+    ]
+  ]
+
+  -- ---- the streams of damage
+
+  damage_read : (error : Bool) → planned_at streams (length asks + shift error) ≡ first_frames (damage_stream timing rate (width error))
+  damage_read error = ap (λ (o : Option FlowFrames). unwrap_or o no_frames) (get_or-append-add asks (damage_frames timing) (shift error) None ∙ by error)
+    where
+      by : (b : Bool) → get_or (damage_frames timing) (shift b) None ≡ Some (first_frames (damage_stream timing rate (width b)))
+      by true = rw (errors.told) refl
+      by false = rw (errors.told) refl
+
+  two_behind : length streams ≡ length asks + 2
+  two_behind = length-append asks (damage_frames timing) ∙ ap (λ (n : ℕ). length asks + n) two
+    where
+      two : length (damage_frames timing) ≡ 2
+      two = rw (errors.told) refl
+
+  source_inside : (p : ℕ) → p < s.count → planned p ≡ true → sent.flow p < length asks
+  source_inside p in_p is =
+      let f = one plan timing stays tells clean s bus.queued_first planned sent held keeps p in_p is in
+      get_or_inside asks (sent.flow p) (own plan timing stays (sent.flow p) f.flow f.pace f.group f.its f.paced f.of f.short)
+      (read plan timing stays (sent.flow p) f.flow f.pace f.group f.its f.paced f.of f.short)
+
+  frame_keeps : (p : ℕ) → IsFrame p → planned p ≡ true → KeepsStream w (length streams) (λ j. (planned_at streams j).stream) of p
+  frame_keeps p at is =
+      let known = keeps_stream plan timing stays tells clean s bus.queued_first planned sent held keeps p at.below is in
+      let stream = ap (λ (j : ℕ). (planned_at streams j).stream) at.source in
+      let source = at.source in
+      let bits = at.bits in
+      let queued = at.queued in
+      let turn = at.turn in
+      let since = at.since in
+      let inside = known.known in
+      let few = known.bits_at_most in
+      let turns = known.turns in
+      let first = known.moment_first in
+      let late = known.late_at_most in
+      let its_bits = ap (λ (j : ℕ). (planned_at streams j).stream.bits) at.source in
+      let its_frames = ap (λ (j : ℕ). (planned_at streams j).stream.frames) at.source in
+      let its_late = ap (λ (j : ℕ). (planned_at streams j).stream.late) at.source in
+      record {
+        known = omega (arith, source, inside);
+        bits_at_most = omega (arith, bits, few, its_bits);
+        turns = omega (arith, turn, turns, its_frames);
+        moment_first = omega (arith, since, queued, first);
+        late_at_most = omega (arith, since, queued, late, its_late);
+      }
+
+  damage_keeps : (p : ℕ) → IsDamage p → KeepsStream w (length streams) (λ j. (planned_at streams j).stream) of p
+  damage_keeps p at =
+      let here : planned_at streams (of.source p) ≡ first_frames (damage_stream timing rate (width at.error)) =
+      ap (planned_at streams) at.source ∙ damage_read at.error in
+      let bits = at.bits in
+      let queued = at.queued in
+      let since = at.since in
+      let turn = at.turn in
+      let some = rate.count_positive in
+      let turns : at.attempt % rate.count < rate.count = mod-lt at.attempt (omega (arith, some)) in
+      record {
+        known = let source = at.source in let size = two_behind in let few = one_or_two at.error in omega (arith, source, size, few);
+        bits_at_most = subst (λ (f : FlowFrames). w.bits p ≤ f.stream.bits) (sym here) bits;
+        turns = subst (λ (f : FlowFrames). of.turn p < f.stream.frames) (sym here) (omega (arith, turn, turns));
+        moment_first = omega (arith, since, queued);
+        late_at_most = subst (λ (f : FlowFrames). w.queued p ≤ of.since p + f.stream.late) (sym here) (omega (arith, since, queued));
+      }
+    where
+      one_or_two : (b : Bool) → shift b < 2
+      one_or_two true = omega arith
+      one_or_two false = omega arith
+
+  -- ---- moments apart
+
+  far : (e f : ℕ) → f < d.count → e < f → e % rate.count ≡ f % rate.count → d.begin e + bits_of_ms timing rate.every ≤ d.begin f
+  far e f below less same =
+      let next = next_turn e f rate.count same less in
+      let window = behind_bits timing.bitrate rate.every (d.begin e) (d.begin (e + rate.count)) (errors.seldom e (omega (arith, next, below))) in
+      let later = errors.in_order (e + rate.count) f next below in
+      omega (arith, window, later)
+
+  same_shift : (a b : Bool) → shift a ≡ shift b → a ≡ b
+  same_shift true true same = refl
+  same_shift false false same = refl
+  same_shift true false same = absurd (omega (arith, same))
+  same_shift false true same = absurd (omega (arith, same))
+
+  period : ℕ → ℕ
+  period p = (planned_at streams (of.source p)).stream.period
+
+  damage_period : (p : ℕ) → IsDamage p → period p ≡ bits_of_ms timing rate.every
+  unfolding period
+  damage_period p at = ap (λ (f : FlowFrames). f.stream.period) (ap (planned_at streams) at.source ∙ damage_read at.error)
+
+  AreApart : ℕ → ℕ → Type 0
+  AreApart p q = (of.since p + period p ≤ of.since q) ⊎ (of.since q + period p ≤ of.since p)
+
+  damage_apart : (p q : ℕ) → IsDamage p → IsDamage q → p ≢ q → of.source p ≡ of.source q → of.turn p ≡ of.turn q → AreApart p q
+  unfolding AreApart
+  damage_apart p q at_p at_q other source turn =
+      let shifts : shift at_p.error ≡ shift at_q.error =
+      let one = at_p.source in
+      let two = at_q.source in
+      omega (arith, one, two, source) in
+      let kind = same_shift at_p.error at_q.error shifts in
+      let turns : at_p.attempt % rate.count ≡ at_q.attempt % rate.count = sym at_p.turn ∙ (turn ∙ at_q.turn) in
+      let since_p = at_p.since in
+      let since_q = at_q.since in
+      let window = damage_period p at_p in
+      elim (cases_eq at_p.attempt at_q.attempt) [
+        | inl same ↦ absurd (other (at_p.is ∙ (ap (λ (b : Bool). place b at_p.attempt) kind ∙ (ap (place at_q.error) same ∙ sym at_q.is))))
+        | inr differ ↦ elim (cases_lt at_p.attempt at_q.attempt) [
+          | inl less ↦ inl (let behind = far at_p.attempt at_q.attempt at_q.below less turns in omega (arith, behind, since_p, since_q, window))
+          | inr more ↦
+              inr (let behind = far at_q.attempt at_p.attempt at_p.below (omega (arith, more, differ)) (sym turns) in
+              omega (arith, behind, since_p, since_q, window))
+        ]
+      ]
+
+  frames_apart : (p q : ℕ) → IsFrame p → IsFrame q → p ≢ q → planned p ≡ true → planned q ≡ true → of.source p ≡ of.source q → AreApart p q
+  unfolding AreApart period
+  frames_apart p q at_p at_q other is_p is_q source =
+      let since_p = at_p.since in
+      let since_q = at_q.since in
+      let its = ap (λ (j : ℕ). (planned_at streams j).stream.period) at_p.source in
+      elim ((of_streams plan timing stays tells clean s bus.queued_first planned sent held keeps).spaced p q at_p.below at_q.below other is_p is_q
+      (sym at_p.source ∙ (source ∙ at_q.source)) refl) [
+        | inl before ↦ inl (omega (arith, before, since_p, since_q, its))
+        | inr after ↦ inr (omega (arith, after, since_p, since_q, its))
+      ]
+
+  apart_sources : (p q : ℕ) → IsFrame p → planned p ≡ true → IsDamage q → of.source p ≡ of.source q → ⊥
+  apart_sources p q at_p is at_q same =
+      let one = at_p.source in
+      let two = at_q.source in
+      let below = source_inside p at_p.below is in
+      omega (arith, one, two, below, same)
+
+  streams_with : AreOfStreams w (λ p. is_planned p ≡ true) (length streams) (λ j. (planned_at streams j).stream) of
+  unfolding AreApart period
+  streams_with = record {
+    keeps = λ p in_p is. elim (kinds p in_p) [
+      | inl at ↦ frame_keeps p at (sym at.plans ∙ is)
+      | inr at ↦ damage_keeps p at
+    ];
+    spaced = λ p q in_p in_q other is_p is_q source turn. elim (kinds p in_p) [
+      | inl at_p ↦ elim (kinds q in_q) [
+        | inl at_q ↦ frames_apart p q at_p at_q other (sym at_p.plans ∙ is_p) (sym at_q.plans ∙ is_q) source
+        | inr at_q ↦ absurd (apart_sources p q at_p (sym at_p.plans ∙ is_p) at_q source)
+      ]
+      | inr at_p ↦ elim (kinds q in_q) [
+        | inl at_q ↦ absurd (apart_sources q p at_q (sym at_q.plans ∙ is_q) at_p (sym source))
+        | inr at_q ↦ damage_apart p q at_p at_q other source turn
+      ]
+    ];
+  }
+
+  -- ---- identifiers
+
+  -- no unit sends to itself, so no frame has the identifier 0
+  above_zero : (p : ℕ) → p < s.count → planned p ≡ true → 0 < s.ident p
+  above_zero p in_p is = elim (cases_lt 0 (s.ident p)) [
+    | inl some ↦ some
+    | inr none ↦ absurd (
+        let t = s.queued p in
+        let queued : IsQueuedAt s p t = (omega arith, bus.queued_first p in_p) in
+        let f = keeps.frames p in_p is in
+        let told = f.identifier t queued in
+        let (there, here) = zero_parts f.group.priority f.group.pgn (goes_to (held.address t) f.flow.to) (held.address t f.flow.sender) (omega (arith, told, none)) in
+        to_itself t f queued f.flow.to refl there here)
+  ]
+    where
+      to_itself : (t : ℕ) (f : IsFrameOf plan timing s held (sent.flow p) (sent.moment p) p) → IsQueuedAt s p t → (to : To) → f.flow.to ≡ to
+          → goes_to (held.address t) to ≡ 0 → held.address t f.flow.sender ≡ 0 → ⊥
+      to_itself t f queued ToAll is there here = omega (arith, there)
+      to_itself t f queued (One v) is there here = elim (cases_eq v f.flow.sender) [
+        | inl same ↦ clean (FlowToSelf (sent.flow p)) (record { value = f.flow; value_is = f.its; meets = is ∙ ap One same })
+        | inr other ↦
+            (keeps.held_apart t).apart v f.flow.sender other (f.receiver_on t v queued is) (f.sender_on t queued) (there ∙ sym here)
+      ]
+
+  not_shared : (i : ℕ) → i < length asks → (error : Bool) → may_share (traffic plan timing stays) i (length asks + shift error) ≡ false
+  not_shared i below error = rw (ne_eqb (length asks + shift error) i (λ same. omega (arith, same, below)), damage_read error) (go (planned_at streams i).twin_ident)
+    where
+      go : (n : Option ℕ) → (is_same n None && (true || not (keep_order (planned_at streams i)))) ≡ false
+      go None = refl
+      go (Some m) = refl
+
+  module _ (i : ℕ) (flow : i < length asks) where
+    damage_never : (p : ℕ) → IsDamage p → of.source p ≡ i → ⊥
+    damage_never p at same = let source = at.source in omega (arith, source, same, flow)
+
+    shared : (p q t : ℕ) → p < w.count → q < w.count → t < w.now → is_planned p ≡ true → may_share (traffic plan timing stays) i (of.source p) ≡ true
+        → IsQueuedAt w p t → IsQueuedAt w q t → w.ident p ≡ w.ident q
+        → (is_planned q ≡ true) × (may_share (traffic plan timing stays) i (of.source q) ≡ true)
+    shared p q t in_p in_q seen is shares at_p at_q same = elim (kinds p in_p) [
+      | inr damage ↦ absurd (true≢false (sym shares ∙ (ap (may_share (traffic plan timing stays) i) damage.source ∙ not_shared i flow damage.error)))
+      | inl one_at ↦ elim (kinds q in_q) [
+        | inr damage ↦
+            absurd (let some = above_zero p one_at.below (sym one_at.plans ∙ is) in
+            let first = one_at.ident in
+            let none = damage.ident in
+            omega (arith, some, first, none, same))
+        | inl two_at ↦
+            let queued_p = one_at.queued in
+            let start_p = one_at.start in
+            let queued_q = two_at.queued in
+            let start_q = two_at.start in
+            let both = own_identifier plan timing stays tells clean s bus.queued_first planned sent held keeps i p q t one_at.below two_at.below seen
+            (sym one_at.plans ∙ is) (subst (λ (j : ℕ). may_share (traffic plan timing stays) i j ≡ true) one_at.source shares)
+            (omega (arith, at_p.0, queued_p), omega (arith, at_p.1, start_p)) (omega (arith, at_q.0, queued_q), omega (arith, at_q.1, start_q))
+            (sym one_at.ident ∙ (same ∙ two_at.ident)) in
+            (two_at.plans ∙ both.0, subst (λ (j : ℕ). may_share (traffic plan timing stays) i j ≡ true) (sym two_at.source) both.1)
+      ]
+    ]
+
+    between_with : (p : ℕ) (at : IsFrame p) → planned p ≡ true
+        → ((planned_at streams (of.source p)).least_ident ≤ w.ident p) × (w.ident p ≤ (planned_at streams (of.source p)).greatest_ident)
+    between_with p at is =
+        let two = between plan timing stays tells clean s bus.queued_first planned sent held keeps p at.below is in
+        let its = ap (planned_at streams) at.source ∙ here plan timing stays tells clean s bus.queued_first planned sent held keeps p at.below is in
+        let least = ap (λ (f : FlowFrames). f.least_ident) its in
+        let greatest = ap (λ (f : FlowFrames). f.greatest_ident) its in
+        let ident = at.ident in
+        (omega (arith, two.0, least, ident), omega (arith, two.1, greatest, ident))
+
+    pub keeps_with_errors : AreFramesOfPlan timing asks w is_planned of i
+    keeps_with_errors = record {
+      longest_at_most = λ p in_p. elim (kinds p in_p) [
+        | inl at ↦ let bits = at.bits in let few = longest_of p at.below in omega (arith, bits, few)
+        | inr at ↦ let bits = at.bits in let few = narrow at.error in omega (arith, bits, few)
+      ];
+      of_streams = streams_with;
+      from_least = λ p in_p is. elim (kinds p in_p) [
+        | inl at ↦ (between_with p at (sym at.plans ∙ is)).0
+        | inr at ↦ let none = ap (λ (f : FlowFrames). f.least_ident) (ap (planned_at streams) at.source ∙ damage_read at.error) in omega (arith, none)
+      ];
+      to_greatest = λ p in_p is source. elim (kinds p in_p) [
+        | inl at ↦ subst (λ (j : ℕ). w.ident p ≤ (planned_at streams j).greatest_ident) source (between_with p at (sym at.plans ∙ is)).1
+        | inr at ↦ absurd (damage_never p at source)
+      ];
+      own_identifier = shared;
+      urgency_of_others = λ p in_p other. elim (kinds p in_p) [
+        | inl at ↦ let ident = at.ident in let low = keeps.others_priority p at.below (sym at.plans ∙ other) in omega (arith, ident, low)
+        | inr at ↦ absurd (true≢false (sym (ap (λ (b : Bool). cond b (planned p) true) (le-ltb p s.count at.behind)) ∙ other))
+      ];
+      few_others = λ p from to in_p is source seen waits wait. elim (kinds p in_p) [
+        | inl at ↦ errors.few_others p from to at.below (sym at.plans ∙ is) seen waits wait
+        | inr at ↦ absurd (damage_never p at source)
+      ];
+    }
+      where
+        narrow : (b : Bool) → width b ≤ 160
+        narrow true = omega arith
+        narrow false = omega arith
+
+  -- what is in time among all is so among the frames
+  pub frames_in_time : (i : ℕ) (stream : Stream) (wait : ℕ) → (i < length asks → IsStreamInTime w is_planned of i stream wait)
+      → IsStreamInTime s planned (origins_of sent) i stream wait
+  frames_in_time i stream wait told p in_p is source seen =
+      let at = frame_at p in_p in
+      let flow : i < length asks = subst (λ (j : ℕ). j < length asks) source (source_inside p in_p is) in
+      let since = at.since in
+      let start = at.start in
+      let queued = at.queued in
+      let bits = at.bits in
+      let (begun, ended) = told flow p (omega (arith, in_p)) (at.plans ∙ is) (at.source ∙ source) (omega (arith, since, seen)) in
+      (omega (arith, begun, start, queued), omega (arith, ended, start, bits, since))
+
+-- the flows stand at the first places
+pub keeps_damaged : (plan : Plan) (timing : Timing) (stays : UnitPlan → Bool) → Clean plan → TellsWhoStays plan stays
+    → (s : Schedule) (d : Damaged) (planned : ℕ → Bool) (sent : Sent) (held : Held) (rate : ErrorRate) (i : ℕ) → IsLegalWithErrors s d
+    → KeepsPlan plan timing s planned sent held → KeepsErrors timing rate s d planned → i < length plan.flows.items
+    → AreFramesOfPlan timing (frames_asked (asked_of timing plan stays)) (with_errors s d) (planned_with s planned)
+    (origins_with s d rate (length (frames_asked (asked_of timing plan stays))) sent) i
+keeps_damaged plan timing stays clean tells s d planned sent held rate i legal keeps errors below =
+    keeps_with_errors plan timing stays tells clean s d legal.bus planned sent held keeps rate errors i
+    (let asked = asked_of timing plan stays in
+    let flows = length-map asked.flows frames_of_flow in
+    let loads = length-map plan.flows.items (load_of_flow timing plan stays) in
+    let first = length-append (map frames_of_flow asked.flows) (map singles_of_flow asked.flows
+    ++ (map packets_of_unit asked.units ++ (map announcements_of_unit asked.units ++ map frames_of_request asked.requests))) in
+    omega (arith, below, flows, loads, first))
