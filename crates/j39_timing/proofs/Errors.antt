@@ -269,23 +269,16 @@ module _ (s : Schedule) (d : Damaged) where
       in_order = in_order;
     }
 
-  module _ (controllers : Controllers) (legal : IsLegalInAnyOrderWithErrors s controllers d) where
+  module _ (controllers : Controllers) (own : ℕ) (legal : IsLegalInAnyOrderWithErrors s controllers d) where
     abbrev units : Controllers
-    units = damage_ordered s controllers
+    units = damage_ordered s controllers own
 
-    unit_of_frame : (p : ℕ) → p < s.count → units.unit p ≡ suc (controllers.unit p)
+    unit_of_frame : (p : ℕ) → p < s.count → units.unit p ≡ controllers.unit p
     unit_of_frame p below = let front = lt-ltb p s.count below in rw (front) refl
 
     -- a frame's unit keeps order where it did
     ordered_of_frame : (p : ℕ) → p < s.count → IsFromOrdered units p → IsFromOrdered controllers p
-    ordered_of_frame p below ordered =
-        let at = unit_of_frame p below in
-        let there : (eqb (suc (controllers.unit p)) 0 || controllers.keeps_order (suc (controllers.unit p) - 1)) ≡ true =
-        subst (λ u. (eqb u 0 || controllers.keeps_order (u - 1)) ≡ true) at ordered in
-        let differs = ne_eqb (suc (controllers.unit p)) 0 (λ same. omega arith) in
-        let back : suc (controllers.unit p) - 1 ≡ controllers.unit p = omega arith in
-        subst (λ u. controllers.keeps_order u ≡ true) back
-        (subst (λ e. (e || controllers.keeps_order (suc (controllers.unit p) - 1)) ≡ true) differs there)
+    ordered_of_frame p below ordered = subst (λ u. controllers.keeps_order u ≡ true) (unit_of_frame p below) ordered
 
     offered : (p q : ℕ) → p < all.count → q < all.count → all.start q < all.now → Waits all p (all.start q)
         → (h : ℕ) × MayBeOffered all units p h (all.start q) × (all.ident q ≤ all.ident h)
@@ -310,7 +303,7 @@ module _ (s : Schedule) (d : Damaged) where
                 h,
                 (
                   omega arith,
-                  unit_of_frame h in_h ∙ (ap suc unit ∙ sym (unit_of_frame p is_p.below)),
+                  unit_of_frame h in_h ∙ (unit ∙ sym (unit_of_frame p is_p.below)),
                   (omega (arith, ready.0, queued_h, start), omega (arith, ready.1, start_h, start)),
                   λ keeps. ordered (ordered_of_frame p is_p.below keeps),
                 ),
@@ -318,7 +311,7 @@ module _ (s : Schedule) (d : Damaged) where
               )
         ]
 
-    pub legal_in_any_order_with_errors : IsLegalInAnyOrder (with_errors s d) (damage_ordered s controllers)
+    pub legal_in_any_order_with_errors : IsLegalInAnyOrder (with_errors s d) (damage_ordered s controllers own)
     legal_in_any_order_with_errors = record {
       positive = positive legal.bus;
       queued_first = queued_first legal.bus;

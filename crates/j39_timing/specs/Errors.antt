@@ -74,9 +74,9 @@ with_errors s d = record {
   now = s.now;
 }
 
--- what comes of damage is of no unit of the bus: of one more, which keeps order
-abbrev pub damage_ordered : Schedule → Controllers → Controllers
-damage_ordered s controllers = record {
-  unit = λ p. cond (nat_lt p s.count) (suc (controllers.unit p)) 0;
-  keeps_order = λ u. nat_eq u 0 || controllers.keeps_order (u - 1);
+-- what comes of damage is of a unit by this place; the others keep theirs
+abbrev pub damage_ordered : Schedule → Controllers → ℕ → Controllers
+damage_ordered s controllers own = record {
+  unit = λ p. cond (nat_lt p s.count) (controllers.unit p) own;
+  keeps_order = controllers.keeps_order;
 }

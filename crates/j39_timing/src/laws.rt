@@ -55,7 +55,7 @@ pub fn newest_frames_are_fresh()
 pub fn a_bus_with_errors_is_legal()
     ensures legal { (s : Schedule) (damaged : Damaged) → IsLegalWithErrors s damaged → IsLegal (with_errors s damaged) }
     ensures any_order { (s : Schedule) (controllers : Controllers) (damaged : Damaged) → IsLegalInAnyOrderWithErrors s controllers damaged
-        → IsLegalInAnyOrder (with_errors s damaged) (damage_ordered s controllers) }
+        → (own : ℕ) → IsLegalInAnyOrder (with_errors s damaged) (damage_ordered s controllers own) }
 {}
 
 /// Where each frame of a stream without twins is queued after the end of the one before, however late this is, each begins within a wait that
