@@ -71,15 +71,7 @@ pub record IsCompanyLevel (leasts : List (Option ℕ)) (all : List (Option FlowF
 
 -- where there may be frames of no planned flow, one with any identifier may wait in a unit of the company
 abbrev pub with_unplanned : Timing → FlowFrames → FlowFrames
-with_unplanned timing own = record {
-  stream = own.stream;
-  least_ident = own.least_ident;
-  greatest_ident = own.greatest_ident;
-  any_sender = own.any_sender;
-  any_receiver = own.any_receiver;
-  last_ident = if timing.unplanned == 0 then own.last_ident else 2 ^ 29;
-  twin_ident = own.twin_ident;
-}
+with_unplanned timing own = record own { last_ident = if timing.unplanned == 0 then own.last_ident else 2 ^ 29 }
 
 -- ---- waits
 
@@ -128,15 +120,7 @@ pub record TellWaits (timing : Timing) (all : List (Option FlowFrames)) (waits :
 
 -- the same frames, so many bits later
 abbrev pub later_frames : ℕ → FlowFrames → FlowFrames
-later_frames more frames = record {
-  stream = later_by more frames.stream;
-  least_ident = frames.least_ident;
-  greatest_ident = frames.greatest_ident;
-  any_sender = frames.any_sender;
-  any_receiver = frames.any_receiver;
-  last_ident = frames.last_ident;
-  twin_ident = frames.twin_ident;
-}
+later_frames more frames = record frames { stream = later_by more frames.stream }
 
 -- the wait at a place, where it is known
 abbrev pub held_at : List (Option ℕ) → ℕ → ℕ

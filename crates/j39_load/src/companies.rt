@@ -171,13 +171,8 @@ fn with_unplanned(timing: Timing, own: &FlowFrames) -> FlowFrames
         536_870_912
     };
     FlowFrames {
-        stream: own.stream,
-        least_ident: own.least_ident,
-        greatest_ident: own.greatest_ident,
-        any_sender: own.any_sender,
-        any_receiver: own.any_receiver,
         last_ident,
-        twin_ident: own.twin_ident,
+        ..*own
     }
 }
 

@@ -119,12 +119,7 @@ fn later_frames(frames: &FlowFrames, more: u32) -> FlowFrames
             bits: stream.bits,
             late: stream.late + more,
         },
-        least_ident: frames.least_ident,
-        greatest_ident: frames.greatest_ident,
-        any_sender: frames.any_sender,
-        any_receiver: frames.any_receiver,
-        last_ident: frames.last_ident,
-        twin_ident: frames.twin_ident,
+        ..*frames
     }
 }
 
