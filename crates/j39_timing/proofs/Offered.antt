@@ -9,8 +9,8 @@ use Rattle.j39_timing.specs.Traffic.{Traffic, Others, IsPlannedTraffic, AreQueue
 use Rattle.j39_timing.specs.Traffic.{may_go_before, others_queued, is_other_queued}
 use Rattle.j39_timing.specs.Messages.{AreSentWithin}
 use Rattle.j39_timing.specs.Waits.{share}
-use Rattle.j39_timing.specs.AnyOrder.{Controllers, IsLegalInAnyOrder, IsFromOrdered, IsOrderedStream, HaveWaits, as_offered, is_passed_by, later_by, offered_from, offered_traffic}
-use Rattle.j39_timing.proofs.PlannedTraffic.{behind_in_time, stream_in_time}
+use Rattle.j39_timing.specs.AnyOrder.{AreBegunWithin, Controllers, IsLegalInAnyOrder, IsFromOrdered, IsOrderedStream, HaveWaits, as_offered, is_passed_by, later_by, offered_from, offered_traffic}
+use Rattle.j39_timing.proofs.PlannedTraffic.{begun_in_time, behind_in_time, stream_in_time}
 use Rattle.j39_timing.proofs.Sums.{total-le}
 
 -- ---- one frame
@@ -249,6 +249,14 @@ module _ (s : Schedule) (controllers : Controllers) (legal : IsLegalInAnyOrder s
           | inr stays ↦ rw (stays) (omega arith)
         ]) in
         omega (arith, room, same)
+
+    pub ordered_begun : IsSingle (traffic.stream i) → delay_of (traffic.stream i) wait ≤ (traffic.stream i).period → AreBegunWithin s planned of i wait
+    ordered_begun single fits p in_p is same seen =
+        let own = own_more in
+        let ready : offered_from s p s.count ≡ s.queued p = ordered_as_ready p in_p (ordered p in_p is same) in
+        let begins = begun_in_time (as_offered s) later others longest planned of legal_as_offered i wait later_known positive later_room single
+        (omega (arith, own, fits)) p in_p is same (omega (arith, ready, seen)) in
+        omega (arith, begins, ready)
 
     pub ordered_in_time : IsSingle (traffic.stream i) → delay_of (traffic.stream i) wait ≤ (traffic.stream i).period
         → IsStreamInTime s planned of i (traffic.stream i) wait

@@ -307,6 +307,12 @@ module _ (s : Schedule) (traffic : Traffic) (others : Others) (longest : ℕ) (p
             too_full s traffic.count streams planned of of_streams positive may with_it goes wait longest count longest x in_x is_planned x_with x_bits
             (omega arith) shortest short roomy first itself first_with begin is_busy.before is_busy (fewer begin is_busy.waiting)
 
+    pub begun_in_time : (p : ℕ) → p < s.count → planned p ≡ true → of.source p ≡ i → s.queued p + wait < s.now → s.start p ≤ s.queued p + wait
+    begun_in_time p in_p is same seen = elim (cases_lt (s.queued p + wait) (s.start p)) [
+      | inr in_time ↦ in_time
+      | inl later ↦ absurd (not_late p in_p is same seen later)
+    ]
+
     pub stream_in_time : IsStreamInTime s planned of i (traffic.stream i) wait
     stream_in_time p in_p is same seen =
         let late : s.queued p ≤ of.since p + (traffic.stream i).late =

@@ -8,5 +8,8 @@ pub mod AnyOrder
 pub mod Errors
 pub mod Companies
 pub mod FreshFrames
+pub mod Gateways
+pub mod Prefixes
+pub mod Vehicles
 pub mod Messages
 pub mod Rounds

@@ -1,10 +1,13 @@
 //! Laws of schedules.
-ghost use Rattle.std.specs.Prelude.{◌≡◌, ℕ, Bool, true, false, ◌+◌, ◌<◌, ◌≤◌, List, All};
+ghost use Rattle.std.specs.Prelude.{◌≡◌, ℕ, Bool, true, false, ◌+◌, ◌*◌, ◌<◌, ◌≤◌, List, All};
 ghost use Rattle.j39_timing.specs.TimedFrames.{Schedule, IsLegal};
 ghost use Rattle.j39_timing.specs.FrameStreams.{Origins};
 ghost use Rattle.j39_timing.specs.Errors.{Damaged, IsLegalInAnyOrderWithErrors, IsLegalWithErrors, damage_ordered, with_errors};
 ghost use Rattle.j39_timing.specs.Messages.{LongMessage, AreSentInTurn, AreSentWithin, IsBroadcast, all_whole_at, time_of_messages};
 ghost use Rattle.j39_timing.specs.FreshFrames.{ComeOneByOne, IsFresh, IsNewest, IsNewestFresh, KeepsComing};
+ghost use Rattle.j39_timing.specs.Vehicles.{IsKnown, KeepsItsStreams, Vehicle};
+ghost use Rattle.j39_timing.specs.Prefixes.{IsPlannedUntil, AreBegunUntil, HaveWaitsUntil, IsCompanyUntil};
+ghost use Rattle.j39_timing.specs.Gateways.{Carrier, IsIts, time_of, Comes, IsYoung, HasOwnMoments, IsOldAtMost, KeepTo, HandsOn, SendsNewest, IsHandedOn, AreApart, EndWithin, KeepsToStream, Coming, ComesSo, Hop, IsWay, age_of, coming_at_last, last_of};
 ghost use Rattle.j39_timing.specs.AnyOrder.{AreBegunWithin, Controllers, HaveWaits, IsLegalInAnyOrder, IsFromOrdered, IsOrderedStream, IsUnordered, as_offered, offered_traffic};
 ghost use Rattle.j39_timing.specs.Companies.{Company, HasRoomInCompany, IsTrafficOfCompany};
 ghost use Rattle.j39_timing.specs.declared.stream.Stream.{Stream as TheStream};
@@ -162,4 +165,66 @@ pub fn frames_beside_any_order_are_in_time()
         → (waits : ℕ → ℕ) → HaveWaits s controllers traffic planned of i waits → HasRoom (offered_traffic traffic waits) others longest i wait
         → ((j : ℕ) → traffic.are_twins i j ≡ false)
         → AreQueuedBehind s planned of i → AreSteady s planned of i → AreSentWithin s planned of i (traffic.stream i) wait }
+{}
+
+/// What is handed on from bus to bus comes as often as it does at its origin, and how long behind its moment, how old its value was then, and how
+/// old it is at most where it is received: on its own bus (`by_itself`), handed on directly (`directly`), or sent at a gateway's own beat, by
+/// what it is at the gateway (`at_moments`); and so how old it is (`young`), behind however many gateways (`at_last`).
+pub fn ages_add_over_gateways()
+    ensures by_itself { (x : Carrier) (stream : TheStream) (wait pause old from to early : ℕ) → 0 < x.clock.unit
+        → IsStreamInTime x.schedule x.planned x.of x.source stream wait → KeepTo x stream → HasOwnMoments x
+        → KeepsComing x.schedule x.planned x.of x.source pause from to → to + (stream.late + wait) < x.schedule.now
+        → early + x.clock.unit * pause ≤ time_of x.clock from → IsOldAtMost x old early (time_of x.clock to)
+        → Comes x old (x.clock.unit * pause) (x.clock.unit * delay_of stream wait) (time_of x.clock from) (time_of x.clock to) }
+    ensures directly { (x y : Carrier) (stream : TheStream) (wait within old silent behind from to : ℕ)
+        → Comes x old silent behind from to → HandsOn x y within
+        → IsStreamInTime y.schedule y.planned y.of y.source stream wait → KeepTo y stream
+        → ((q : ℕ) → IsIts y q → time_of y.clock (y.of.since q) ≤ y.moment q)
+        → to + y.clock.unit * (stream.late + wait) < time_of y.clock y.schedule.now
+        → Comes y old silent (behind + (within + y.clock.unit * (wait + stream.bits))) from to }
+    ensures at_moments { (x y : Carrier) (within age from to : ℕ) → IsYoung x age from to → SendsNewest x y within
+        → IsOldAtMost y (age + within) (from + within) (to + within) }
+    ensures young { (x : Carrier) (old silent behind from to : ℕ) → Comes x old silent behind from to
+        → IsYoung x (old + (silent + behind)) (from + behind) (to + behind) }
+    ensures at_last { (x : Carrier) (c : Coming) (hops : List Hop) → ComesSo x c → IsWay x c hops → let d = coming_at_last c hops in
+        IsYoung (last_of x hops) (age_of d) (d.from + d.behind) (d.to + d.behind) }
+{}
+
+/// What a bus takes for granted of a stream that is handed on to it directly follows from what comes on the other bus: its messages are a
+/// period apart, where they are there, and are queued so late at most, where there is room for the input's time and the gateway's.
+pub fn forwarded_frames_keep_to_their_streams()
+    ensures keeps { (x y : Carrier) (within behind period late apart : ℕ) → 0 < y.clock.unit → EndWithin x behind → IsHandedOn x y within
+        → AreApart x apart → behind + within ≤ y.clock.unit * late → y.clock.unit * period ≤ apart → KeepsToStream y period late }
+{}
+
+/// What is said of frames up to a bit rests on what is seen up to there: each of the stream's frames that should have begun before it has done so,
+/// though of frames that are queued later nothing is known but their identifiers and lengths (`until`); of a company of units that keep no order
+/// too (`company`), and of a unit that keeps order beside such ones (`beside`).
+pub fn frames_are_in_time_until()
+    ensures until { (s : Schedule) (traffic : Traffic) (others : Others) (longest : ℕ) (planned : ℕ → Bool) (of : Origins) (i by : ℕ) → by ≤ s.now
+        → IsPlannedUntil s traffic others longest planned of i by → IsLegal s → (wait : ℕ)
+        → ((j : ℕ) → j < traffic.count → 0 < (traffic.stream j).period) → HasRoom traffic others longest i wait → IsSingle (traffic.stream i)
+        → delay_of (traffic.stream i) wait ≤ (traffic.stream i).period → AreBegunUntil s planned of i wait by }
+    ensures company { (s : Schedule) (controllers : Controllers) (traffic : Traffic) (unplanned longest : ℕ) (planned : ℕ → Bool) (of : Origins) (company : Company)
+        (by : ℕ) → by ≤ s.now → IsCompanyUntil s controllers traffic unplanned longest planned of company by → IsLegalInAnyOrder s controllers
+        → ((j : ℕ) → j < traffic.count → 0 < (traffic.stream j).period) → (i wait : ℕ) → company.has i ≡ true → (traffic.stream i).bits ≤ longest
+        → HasRoomInCompany traffic company unplanned longest i wait → AreBegunUntil s planned of i wait by }
+    ensures beside { (s : Schedule) (controllers : Controllers) (traffic : Traffic) (others : Others) (longest : ℕ) (planned : ℕ → Bool) (of : Origins) (i by : ℕ)
+        → by ≤ s.now → IsPlannedUntil s traffic others longest planned of i by → IsLegalInAnyOrder s controllers
+        → ((j : ℕ) → j < traffic.count → 0 < (traffic.stream j).period) → IsOrderedStream s controllers planned of i
+        → (wait : ℕ) (waits : ℕ → ℕ) → HaveWaitsUntil s controllers traffic planned of i waits by → HasRoom (offered_traffic traffic waits) others longest i wait
+        → IsSingle (traffic.stream i) → delay_of (traffic.stream i) wait ≤ (traffic.stream i).period → AreBegunUntil s planned of i wait by }
+{}
+
+/// What is handed on directly from bus to bus keeps to the streams that are planned for it, also where buses hand on to one another: nothing of
+/// it needs to be known but what gateways do, that its streams' lateness has room for what comes before, and that their periods are no longer than
+/// those of where it comes from.
+pub fn gateways_keep_streams()
+    ensures keeps { (v : Vehicle) → IsKnown v → (b : ℕ) → KeepsItsStreams (v.bus b) }
+{}
+
+/// What is asked of a vehicle for this can be met: there is one of which a frame of its first bus is handed on to another one.
+pub fn a_frame_is_handed_on()
+    ensures { (v : Vehicle) × IsKnown v × (v.direct 1 0 ≡ true) × (v.from_bus 1 0 ≡ 0) × ((v.bus 0).schedule.count ≡ 1) × ((v.bus 1).schedule.count ≡ 1)
+        × ((v.bus 1).planned 0 ≡ true) × ((v.bus 1).of.source 0 ≡ 0) × ((v.bus 0).schedule.start 0 + (v.bus 0).schedule.bits 0 ≡ (v.bus 1).schedule.queued 0) }
 {}
