@@ -66,7 +66,8 @@ class Shown(InFolder):
         return ended.stdout.replace(self.folder + "/", "/tmp/")
 
     def test_commands_write_what_is_shown(self):
-        for name, least in (("README.md", 7), ("docs/PROMISES.md", 3), ("docs/PLAN.md", 1), ("docs/GUIDE.md", 20), ("docs/TOOLS.md", 11)):
+        for name, least in (("README.md", 7), ("docs/PROMISES.md", 3), ("docs/PLAN.md", 1), ("docs/TIMING.md", 8),
+                            ("docs/SIMULATOR.md", 10), ("docs/LOGS.md", 7), ("docs/TOOLS.md", 11)):
             commands = [(command, shown) for command, shown in blocks(page(name)) if COMMAND.search(command)]
             self.assertGreaterEqual(len(commands), least)
             for command, shown in commands:
@@ -76,19 +77,20 @@ class Shown(InFolder):
                     self.assertEqual(self.output(command), shown + "\n")
 
     def test_plans_are_answered_as_shown(self):
-        shown = re.findall(r"```toml\n([^`]*)```\n(?:(?!```).)*```text\n([^`]*)```", page("docs/PLAN.md"), re.DOTALL)
+        pages = page("docs/PLAN.md") + page("docs/TIMING.md")
+        shown = re.findall(r"```toml\n([^`]*)```\n(?:(?!```).)*```text\n([^`]*)```", pages, re.DOTALL)
         self.assertGreaterEqual(len(shown), 14)
         for plan, answer in shown:
             self.assertEqual(program.call(["check", self.write("plan.toml", plan)])[1], answer, plan)
 
     def test_examples_are_answered_as_shown(self):
-        shown = re.findall(r"`examples/(findings/\w+\.toml)`[^\n]*:\n\n```text\n(.*?)```", page("docs/PLAN.md"), re.DOTALL)
+        shown = re.findall(r"`examples/(findings/\w+\.toml)`[^\n]*:\n\n```text\n(.*?)```", page("docs/FINDINGS.md"), re.DOTALL)
         self.assertGreaterEqual(len(shown), 11)
         for plan, answer in shown:
             self.assertEqual(program.call(["check", example(plan)])[1], answer, plan)
 
     def test_files_are_as_shown(self):
-        for name, least in (("README.md", 1), ("docs/GUIDE.md", 4)):
+        for name, least in (("README.md", 1), ("docs/SIMULATOR.md", 4)):
             shown = re.findall(FILE, page(name))
             self.assertGreaterEqual(len(shown), least)
             for file, text in shown:
