@@ -595,7 +595,7 @@ to = "DISPLAY"
         self.assertEqual([line for line in newer.splitlines() if not line.startswith("CM_ ")], marked.splitlines())
 
     def test_plans_that_cannot_be_read(self):
-        status, dbc, told = run("plan2dbc.py", self.write("plan.toml", "version = 9\n"))
-        self.assertEqual((status, dbc, told), (2, "", "plan2dbc: refused Range top key version\n"))
+        refused = self.write("plan.toml", "version = 9\n")
+        self.assertEqual(run("plan2dbc.py", refused), (2, "", f"plan2dbc: {refused}:1: refused Range top key version  (version = 9: integer 1..4)\n"))
         missing = self.path("none.toml")
         self.assertEqual(run("plan2dbc.py", missing), (4, "", f"plan2dbc: {missing}: No such file or directory\n"))
