@@ -131,6 +131,12 @@ class Form(unittest.TestCase):
             with self.subTest(name):
                 self.assertEqual([cell for cell in cells(page(name)) if len(cell.split()) > 50], [])
 
+    def test_decisions_are_short(self):
+        """Each is an item of at most 60 words: what was chosen, in place of what, and why."""
+        items = [" ".join(it.split()) for it in re.split(r"\n(?=- |\n)", page("docs/DECISIONS.md")) if it.startswith("- ")]
+        self.assertGreaterEqual(len(items), 150)
+        self.assertEqual([item for item in items if len(item.split()) > 61], [])
+
     def test_what_was_tried_and_left_has_a_line_each(self):
         section = page("docs/DECISIONS.md").split("## Tried and left\n")[1].split("\n## ")[0].strip()
         self.assertEqual([line for line in section.splitlines() if not re.match(r"- `j39_\w+`: .*\.$", line)], [])
