@@ -362,9 +362,9 @@ to = "all"
 period = 10
 """
 
-    def received(self, needs, beside=""):
+    def received(self, asked, beside=""):
         """Who receives each signal in each message of the plan's DBC, and what is said."""
-        plan = self.PLAN % beside + "".join(f"[[need]]\n{need}\n" for need in needs)
+        plan = self.PLAN % beside + "".join(f"[[need]]\n{need}\n" for need in asked)
         dbc, told = self.made(self.write("plan.toml", plan))
         found = re.findall(r"^(?:BO_ \d+ (\w+)| SG_ (\w+) .* ([\w,]+)$)", text_of(dbc), re.MULTILINE)
         names, message = {}, ""
@@ -377,15 +377,15 @@ period = 10
     def test_receivers(self):
         """Of each message that meets the need, by a need of one signal of that one; of a group that nobody sends too."""
         nobody = "Vector__XXX"
-        for needs, wanted in (
+        for asked, wanted in (
             ([], [nobody] * 5),
             (['unit = "DASH"\ngroup = "EEC1"'], ["DASH", "DASH", "DASH", "DASH", nobody]),
             (['unit = "BOX"\ngroup = "EEC1"', 'unit = "DASH"\ngroup = "EEC1"'], ["BOX,DASH", "BOX,DASH", "DASH", "DASH", nobody]),
             (['unit = "DASH"\ngroup = "EEC1"\nsignal = "SPN190"\nfrom = "BOX"'], [nobody, nobody, nobody, "DASH", nobody]),
             (['unit = "DASH"\ngroup = "ALONE"'], [nobody, nobody, nobody, nobody, "DASH"]),
         ):
-            names, _ = self.received(needs)
-            self.assertEqual(list(names.values()), wanted, needs)
+            names, _ = self.received(asked)
+            self.assertEqual(list(names.values()), wanted, asked)
         names, _ = self.received(['unit = "DASH"\ngroup = "EEC1"', 'unit = "BOX"\ngroup = "EEC1"'], "  # for DASH")
         self.assertEqual(list(names.values())[:4], ["DASH,BOX", "BOX", "DASH", nobody])
 
