@@ -21,6 +21,7 @@ from modules.log_marks import Feed
 from modules.log_meter import Meter
 from modules.log_reports import Counts, follow, tables_of
 from modules.log_unplanned import bounds_of
+from modules.plan_files import opened
 from modules.plan_tables import Tables
 
 
@@ -129,7 +130,7 @@ def summary_of(log: Log, meter: Meter, distances: Distances) -> dict[str, Any]:
 def main(words: list[str] | None = None) -> int:
     """Writes the deviations; 0 where there is none, 1 where there is one."""
     given, counts = words_of(words), Counts()
-    with program.copied(given.plan) as plan, Log(given.logs, given.interface) as log:
+    with opened(given.plan) as plan, Log(given.logs, given.interface) as log:
         tables, output = tables_of(plan), Output(given, log)
         found = Found(given.all, output.live if given.live else None)
         settings = Settings(given.jitter, Rule(given.silence, events_of(given.events, tables), given.table))

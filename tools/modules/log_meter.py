@@ -12,16 +12,16 @@ class Meter:
     def __init__(self) -> None:
         self.bits = self.worst = 0
         self.worst_second: int | None = None
-        self.interface: bytes | None = None
+        self._interface = b""
         self._second, self._inside = b"", 0
 
     def take(self, head: bytes, digits: int) -> None:
         """A line by what stands before its identifier, and how many characters its data has."""
         interface = head[head.find(b" ") + 1:]
-        if interface != self.interface:
-            if self.interface is not None or not interface.strip() or interface.startswith(b"("):
+        if interface != self._interface and interface:
+            if self._interface:
                 return
-            self.interface = interface
+            self._interface = interface
         second = head[:head.find(b".")]
         if second != self._second:
             self._close()
