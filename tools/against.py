@@ -140,6 +140,7 @@ def main(words: list[str] | None = None) -> int:
             comparison.report(line, report, mark)
         summary = summary_of(log, feed.meter, comparison.distances)
     counts.elsewhere -= feed.unread
+    counts.frames -= feed.read
     counts.bad -= comparison.damage.frames
     counts.refuse_without_frames(log)
     counts.refuse_a_guess(log)

@@ -111,6 +111,8 @@ class Hands:
     def claim(self, line: int, at: int | None, who: Who) -> tuple[int, ...]:
         """A claim, or that there was no address to claim: the addresses that somebody else holds now."""
         key, address = key_of(who), who.address
+        if at is not None:
+            self._pass(at)
         before = self._holders.get(address) if address is not None else None
         changed = self._leaves(key, at, who)
         self._settles(key)

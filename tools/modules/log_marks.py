@@ -95,6 +95,11 @@ class Feed:
         return self._written - self._read
 
     @property
+    def read(self) -> int:
+        """How many marks `follow` read, each as a frame."""
+        return self._read
+
+    @property
     def last_time(self) -> str:
         """The first word of the last line that isn't empty."""
         return (self._last.split(maxsplit=1) or [b""])[0].decode(errors="replace")
@@ -125,9 +130,9 @@ class Feed:
         """The line behind this one."""
         end = line.rstrip(BLANKS)
         at = end.rfind(b"#")
-        key = end[at - 8:at], len(end) - at
-        self.meter.take(line[:at - 8], key[1])
-        if key in self._reported and end[-1:] not in DIRECTIONS:
+        key, is_plain = (end[at - 8:at], len(end) - at), end[-1:] not in DIRECTIONS
+        self.meter.take(line[:at - 8], key[1] if is_plain else len(end[at:].split(maxsplit=1)[0]))
+        if key in self._reported and is_plain:
             self._last = line
             return b"\n"
         found = FRAME.search(line)
@@ -137,7 +142,7 @@ class Feed:
         identifier, data = int(found.group(1), 16), bytes.fromhex(found.group(2).decode())
         if self._is_reported(identifier, data):
             is_sure = pgn_in(identifier) != ADDRESS_CLAIMED and not self._is_told_by_data(pgn_in(identifier))
-            self._reported.update([key] if end[-1:] not in DIRECTIONS and is_sure else [])
+            self._reported.update([key] if is_plain and is_sure else [])
             return b"\n"
         mark = mark_of(identifier, data)
         if mark is None:

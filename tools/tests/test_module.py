@@ -11,7 +11,7 @@ import unittest
 
 import j39plan
 from modules import program
-from tests.support import TOOLS, TOP, InFolder, example, run, text_of
+from tests.support import TOOLS, TOP, InFolder, example, run, text_of, without_times
 
 PLAN, LOG = example("tractor_and_implement.toml"), example("tractor_and_implement.start.log")
 PAGE = text_of(os.path.join(TOP, "docs", "TOOLS.md"))
@@ -127,9 +127,9 @@ class Logs(InFolder):
         some.close()
 
     def test_deviations_are_those_of_the_tool(self):
-        *lines, _ = run("against.py", PLAN, LOG)[1].splitlines()
+        *lines, _ = without_times(run("against.py", PLAN, LOG)[1]).splitlines()
         found = j39plan.deviations(self.plan, LOG)
-        self.assertEqual([(f":{line}" if line else "") + f": {text}" for line, text, _ in found],
+        self.assertEqual([(f":{line}" if line else "") + f": {text}" for line, text, *_ in found],
                          [re.sub(r"  \(\d+ times\)$", "", line).removeprefix(LOG).removeprefix(PLAN) for line in lines])
         self.assertEqual(j39plan.drive(self.plan, LOG)["deviations"], found)
         with self.assertRaises(j39plan.Refused):
