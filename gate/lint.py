@@ -1,5 +1,5 @@
 #!/usr/bin/env python3
-"""Looks at what needs no proof: the format of the crates' sources, scripts of the shell, and names in Python. What a missing program
+"""Looks at what needs no proof: the format of the crates' sources, scripts of the shell, names and types in Python. What a missing program
 keeps from being looked at is skipped and said. The last line is 'N passed, M failed'.
 """
 
@@ -46,8 +46,7 @@ def otherwise(copied: str) -> list[str]:
         os.makedirs(os.path.dirname(f"{copied}/{name}"), exist_ok=True)
         shutil.copy(f"{crates.TOP}/{name}", f"{copied}/{name}")
     for crate in crates.listed():
-        words = {"cwd": f"{copied}/crates/{crate}", "stdin": subprocess.DEVNULL, "capture_output": True, "check": False}
-        subprocess.run(["rt", "fmt"], **words)
+        subprocess.run(["rt", "fmt"], cwd=f"{copied}/crates/{crate}", stdin=subprocess.DEVNULL, capture_output=True, check=False)
     return [name for name in names if bytes_of(f"{copied}/{name}") != bytes_of(f"{crates.TOP}/{name}")]
 
 
@@ -75,6 +74,7 @@ def main() -> int:
         print("format: skipped, since rt is missing")
     look(tally, "shellcheck", "scripts", scripts())
     look(tally, "pyflakes3", "names in Python", python_files())
+    look(tally, "mypy", "types in Python", ["--config-file", "tools/mypy.ini", "--cache-dir", os.devnull])
     return tally.end()
 
 
