@@ -25,13 +25,12 @@ from collections.abc import Iterable, Iterator
 from typing import Any
 
 from j39plan._tools import answers, fleet_drives, log_reports, plan_parts, plan_places, plan_tables, program, toml_places
-
-Unit, Group, Signal, Text, Flow = plan_tables.Unit, plan_tables.Group, plan_tables.Signal, plan_tables.Text, plan_tables.Flow
-Need, Asking, Finding, Stand = plan_tables.Need, plan_tables.Request, answers.Finding, answers.Stand
-Delay, Age, Load = answers.Delay, answers.Age, answers.Load
-Who, Message, Claim, Request = log_reports.Who, log_reports.Message, log_reports.Claim, log_reports.Request
-Acknowledgement = log_reports.Acknowledgement
-Refused, Deviation, Drive = program.Refused, fleet_drives.Deviation, fleet_drives.Drive
+from j39plan._tools.answers import Age, Delay, Finding, Load, Stand
+from j39plan._tools.fleet_drives import Deviation, Drive
+from j39plan._tools.log_reports import Acknowledgement, Claim, Message, Request, Who
+from j39plan._tools.plan_tables import Flow, Group, Need, Signal, Text, Unit
+from j39plan._tools.plan_tables import Request as Asking
+from j39plan._tools.program import Refused
 
 __all__ = [
     "Acknowledgement", "Age", "Asking", "Claim", "Delay", "Deviation", "Drive", "Finding", "Flow", "Group", "Load", "Message", "Need", "Plan", "Refused", "Request",
