@@ -28,7 +28,7 @@ from decimal import Decimal
 from typing import IO, TYPE_CHECKING, Any, NamedTuple
 
 from j39plan._tools import (
-    answer_places, answers, fleet_drives, log_clock, log_readings, log_reports, message_lines, plan_parts, plan_tables, program, toml_places,
+    answers, fleet_drives, log_clock, log_readings, log_reports, message_lines, plan_parts, plan_places, plan_tables, program, toml_places,
 )
 
 if TYPE_CHECKING:
@@ -119,7 +119,7 @@ class Plan:
     def findings(self) -> list[Finding]:
         """What `check` finds: of each its `text`, as `F8 SignalOverlap ..`, the `line` of the file, a `hint`, and the `steps` of a run that shows
         it. The list is empty where `check` says ok."""
-        return list(answers.findings(answer_places.Plan(self.text), self._answer("check")))
+        return list(answers.findings(plan_places.Plan(self.text), self._answer("check")))
 
     def stands(self) -> dict[str, Stand]:
         """By the labels of units whether each `stays` at its `address` in every run. Empty where the addresses have findings."""
@@ -204,6 +204,8 @@ def frame(plan: Plan, log: str | os.PathLike[str], names: str | Iterable[str] = 
     types = {word: "category" for word in ("time", *WORDS)} | {"source": "UInt8", "destination": "UInt8", "line": "int64", "value": "float64"}
     with _table(plan, log, names, "--csv") as rows:
         table = pandas.read_csv(rows, dtype=types, keep_default_na=False, na_values=[""])
+    for word in WORDS:
+        table[word] = table[word].cat.reorder_categories(sorted(table[word].cat.categories))
     times = table.pop("time").cat
     moments = [log_clock.nanoseconds(f"({time})") for time in times.categories]
     table.index = pandas.DatetimeIndex(pandas.to_datetime(moments, unit="ns", utc=True).take(times.codes), name="time")

@@ -16,11 +16,13 @@ complete -c j39plan -n '__fish_seen_subcommand_from show check addresses load ru
 complete -c j39plan -n '__fish_seen_subcommand_from help' -a 'show check addresses load run read follow frame'
 
 # The tools.
-for tool in where startup dbc2plan plan2dbc join compare against fleet report signals plot tolog check-plans
+for tool in where answer startup dbc2plan plan2dbc join compare against fleet report signals plot tolog check-plans
     complete -c j39plan-$tool -l help -s h -d 'print the help'
     complete -c j39plan-$tool -l version -d 'print the version'
 end
+complete -c j39plan-answer -n '__fish_is_first_arg' -x -a 'check addresses load'
 complete -c j39plan-startup -l traffic -d 'then each flow sends one message'
+complete -c j39plan-where -l json -d 'as a JSON object'
 complete -c j39plan-where -l lint -d 'with hints that are no findings'
 complete -c j39plan-where -l github -d 'as annotations of GitHub\'s CI'
 complete -c j39plan-where -l gitlab -r -F -d 'write a code quality report of GitLab\'s CI, too'
