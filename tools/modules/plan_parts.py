@@ -101,6 +101,11 @@ class Part:
         value = self[key]
         return value if isinstance(value, int) else 0
 
+    def values(self, key: str) -> list[Value]:
+        """The elements of a key, none where it has none."""
+        value = self[key]
+        return value if isinstance(value, list) else []
+
     @property
     def label(self) -> str:
         """Its label."""
