@@ -128,7 +128,7 @@ class Version(argparse.Action):
 
 def parser(description: str, own_version: bool = False) -> argparse.ArgumentParser:
     """The words of a tool's command line, its help and its version among them, unless the tool has a `--version` of its own."""
-    words = argparse.ArgumentParser(description=description.split("\n", maxsplit=1)[0])
+    words = argparse.ArgumentParser(description=" ".join(description.split("\n\n", maxsplit=1)[0].split()))
     if own_version:
         return words
     words.add_argument("--version", action=Version, nargs=0, help="print the version and exit")
