@@ -19,7 +19,7 @@ use Rattle.j39_load.specs.AnyQueues.{keep_order}
 use Rattle.j39_load.specs.Asked.{announcements_of_unit, asked_of, frames_asked, frames_of_flow, frames_of_request, packets_of_unit, singles_of_flow}
 use Rattle.j39_load.specs.Damage.{damage_frames, damage_stream, first_frames}
 use Rattle.j39_load.specs.KeepsErrors.{KeepsErrors, origins_with, planned_with}
-use Rattle.j39_load.specs.KeepsPlan.{Held, IsFrameOf, KeepsPlan, Sent, goes_to, origins_of}
+use Rattle.j39_load.specs.KeepsPlan.{Held, IsFrameOf, KeepsToPlan, FrameFlows, goes_to, origins_of}
 use Rattle.j39_load.specs.Loads.{bits_of_ms, load_of_flow}
 use Rattle.j39_load.specs.PlannedFrames.{AreFramesOfPlan, no_frames, planned_at}
 use Rattle.j39_load.specs.Standing.{TellsWhoStays}
@@ -57,7 +57,7 @@ zero_parts priority pgn destination source none = go (is_pdu2 pgn) refl none
     go false is zero = (omega (arith, zero), omega (arith, zero))
 
 module _ (plan : Plan) (timing : Timing) (stays : UnitPlan → Bool) (tells : TellsWhoStays plan stays) (clean : Clean plan) (s : Schedule) (d : Damaged)
-    (bus : IsBusWithErrors s d) (planned : ℕ → Bool) (sent : Sent) (held : Held) (keeps : KeepsPlan plan timing s planned sent held)
+    (bus : IsBusWithErrors s d) (planned : ℕ → Bool) (sent : FrameFlows) (held : Held) (keeps : KeepsToPlan plan timing s planned sent held)
     (rate : ErrorRate) (errors : KeepsErrors timing rate s d planned) where
   abbrev asks : List (Option FlowFrames)
   asks = frames_asked (asked_of timing plan stays)
@@ -448,8 +448,8 @@ module _ (plan : Plan) (timing : Timing) (stays : UnitPlan → Bool) (tells : Te
 
 -- the flows stand at the first places
 pub keeps_damaged : (plan : Plan) (timing : Timing) (stays : UnitPlan → Bool) → Clean plan → TellsWhoStays plan stays
-    → (s : Schedule) (d : Damaged) (planned : ℕ → Bool) (sent : Sent) (held : Held) (rate : ErrorRate) (i : ℕ) → IsLegalWithErrors s d
-    → KeepsPlan plan timing s planned sent held → KeepsErrors timing rate s d planned → i < length plan.flows.items
+    → (s : Schedule) (d : Damaged) (planned : ℕ → Bool) (sent : FrameFlows) (held : Held) (rate : ErrorRate) (i : ℕ) → IsLegalWithErrors s d
+    → KeepsToPlan plan timing s planned sent held → KeepsErrors timing rate s d planned → i < length plan.flows.items
     → AreFramesOfPlan timing (frames_asked (asked_of timing plan stays)) (with_errors s d) (planned_with s planned)
     (origins_with s d rate (length (frames_asked (asked_of timing plan stays))) sent) i
 keeps_damaged plan timing stays clean tells s d planned sent held rate i legal keeps errors below =

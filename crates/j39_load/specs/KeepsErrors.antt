@@ -3,7 +3,7 @@ use Rattle.std.specs.Prelude.{◌≡◌, ℕ, suc, ◌+◌, ◌%◌, ◌<◌, �
 use Rattle.j39_findings.specs.declared.plan.Plan.{Plan}
 use Rattle.j39_findings.specs.declared.plan.timing.ErrorRate.{ErrorRate}
 use Rattle.j39_findings.specs.declared.plan.timing.Timing.{Timing}
-use Rattle.j39_load.specs.KeepsPlan.{AreSentInTime, Held, IsMsBehind, KeepsAllOrder, KeepsPlan, Sent}
+use Rattle.j39_load.specs.KeepsPlan.{AreSentInTime, Held, IsMsBehind, KeepsAllOrder, KeepsToPlan, FrameFlows}
 use Rattle.j39_timing.specs.Errors.{Damaged, IsLegalWithErrors, at_place, with_errors}
 use Rattle.j39_timing.specs.FrameStreams.{Origins}
 use Rattle.j39_timing.specs.TimedFrames.{Schedule, Waits}
@@ -25,7 +25,7 @@ pub record KeepsErrors (timing : Timing) (rate : ErrorRate) (s : Schedule) (d : 
       → others_queued (with_errors s d) (planned_with s planned) ((with_errors s d).ident p) from to ≤ timing.unplanned
 
 -- what a frame, an attempt and an error frame is of its stream: the attempts stand behind so many streams, and take turns in a window
-abbrev pub origins_with : Schedule → Damaged → ErrorRate → ℕ → Sent → Origins
+abbrev pub origins_with : Schedule → Damaged → ErrorRate → ℕ → FrameFlows → Origins
 origins_with s d rate count sent = record {
   source = at_place s d sent.flow (λ e. count) (λ e. suc count);
   turn = at_place s d (λ p. 0) (λ e. e % rate.count) (λ e. e % rate.count);
@@ -34,5 +34,5 @@ origins_with s d rate count sent = record {
 
 -- on each such bus whose units keep order each frame has been sent in time
 abbrev pub AreInTimeWithErrors : Plan → Timing → Type 0
-AreInTimeWithErrors plan timing = KeepsAllOrder plan → (s : Schedule) (d : Damaged) (planned : ℕ → Bool) (sent : Sent) (held : Held) (rate : ErrorRate)
-    → IsLegalWithErrors s d → KeepsPlan plan timing s planned sent held → KeepsErrors timing rate s d planned → AreSentInTime plan timing s planned sent
+AreInTimeWithErrors plan timing = KeepsAllOrder plan → (s : Schedule) (d : Damaged) (planned : ℕ → Bool) (sent : FrameFlows) (held : Held) (rate : ErrorRate)
+    → IsLegalWithErrors s d → KeepsToPlan plan timing s planned sent held → KeepsErrors timing rate s d planned → AreSentInTime plan timing s planned sent

@@ -7,7 +7,7 @@ ghost use Rattle.j39_timing.specs.Messages.{LongMessage, AreSentInTurn, AreSentW
 ghost use Rattle.j39_timing.specs.FreshFrames.{ComeOneByOne, IsFresh, IsNewest, IsNewestFresh, KeepsComing};
 ghost use Rattle.j39_timing.specs.Vehicles.{IsKnown, KeepsItsStreams, Vehicle};
 ghost use Rattle.j39_timing.specs.Prefixes.{IsPlannedUntil, AreBegunUntil, HaveWaitsUntil, IsCompanyUntil};
-ghost use Rattle.j39_timing.specs.Gateways.{Carrier, IsIts, time_of, Comes, IsYoung, HasOwnMoments, IsOldAtMost, KeepTo, HandsOn, SendsNewest, IsHandedOn, AreApart, EndWithin, KeepsToStream, Coming, ComesSo, Hop, IsWay, age_of, coming_at_last, last_of};
+ghost use Rattle.j39_timing.specs.Gateways.{Carrier, IsIts, time_of, Comes, IsYoung, HasOwnMoments, IsOldAtMost, KeepTo, HandsOn, SendsNewest, IsHandedOn, AreApart, EndWithin, KeepsToStream, Coming, ComesSo, Hop, AreHops, age_of, coming_at_last, last_of};
 ghost use Rattle.j39_timing.specs.AnyOrder.{AreBegunWithin, Controllers, HaveWaits, IsLegalInAnyOrder, IsFromOrdered, IsOrderedStream, IsUnordered, as_offered, offered_traffic};
 ghost use Rattle.j39_timing.specs.Companies.{Company, HasRoomInCompany, IsTrafficOfCompany};
 ghost use Rattle.j39_timing.specs.declared.stream.Stream.{Stream as TheStream};
@@ -186,7 +186,7 @@ pub fn ages_add_over_gateways()
         → IsOldAtMost y (age + within) (from + within) (to + within) }
     ensures young { (x : Carrier) (old silent behind from to : ℕ) → Comes x old silent behind from to
         → IsYoung x (old + (silent + behind)) (from + behind) (to + behind) }
-    ensures at_last { (x : Carrier) (c : Coming) (hops : List Hop) → ComesSo x c → IsWay x c hops → let d = coming_at_last c hops in
+    ensures at_last { (x : Carrier) (c : Coming) (hops : List Hop) → ComesSo x c → AreHops x c hops → let d = coming_at_last c hops in
         IsYoung (last_of x hops) (age_of d) (d.from + d.behind) (d.to + d.behind) }
 {}
 
