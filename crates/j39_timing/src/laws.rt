@@ -54,11 +54,14 @@ pub fn newest_frames_are_fresh()
 {}
 
 /// A bus on which frames are damaged has a legal schedule, in which damaged attempts and the error frames behind them are frames of the least
-/// identifier: so each law of legal schedules holds of it (`legal`). So it is where units keep no order (`any_order`).
+/// identifier: so each law of legal schedules holds of it (`legal`). So it is where units keep no order (`any_order`), and there each frame is
+/// of the unit that it was of (`units`).
 pub fn a_bus_with_errors_is_legal()
     ensures legal { (s : Schedule) (damaged : Damaged) → IsLegalWithErrors s damaged → IsLegal (with_errors s damaged) }
     ensures any_order { (s : Schedule) (controllers : Controllers) (damaged : Damaged) → IsLegalInAnyOrderWithErrors s controllers damaged
         → (own : ℕ) → IsLegalInAnyOrder (with_errors s damaged) (damage_ordered s controllers own) }
+    ensures units { (s : Schedule) (controllers : Controllers) (own p : ℕ) → p < s.count
+        → (damage_ordered s controllers own).unit p ≡ controllers.unit p }
 {}
 
 /// Where each frame of a stream without twins is queued after the end of the one before, however late this is, each begins within a wait that
