@@ -24,6 +24,7 @@ use Rattle.j39_load.specs.Loads.{bits_of_ms, load_of_flow}
 use Rattle.j39_load.specs.PlannedFrames.{AreFramesOfPlan, no_frames, planned_at}
 use Rattle.j39_load.specs.Standing.{TellsWhoStays}
 use Rattle.j39_load.specs.Twins.{is_same}
+use Rattle.j39_load.proofs.Attempts.{a_window_apart}
 use Rattle.j39_load.proofs.KeepingPlan.{behind_bits, between, frame_at_most, here, keeps_stream, of_streams, one, own, own_identifier, read, traffic}
 use Rattle.j39_load.proofs.StreamsBefore.{get_or_inside}
 use Rattle.j39_timing.specs.Errors.{Damaged, IsBusWithErrors, IsLegalWithErrors, with_errors}
@@ -254,7 +255,7 @@ module _ (plan : Plan) (timing : Timing) (stays : UnitPlan → Bool) (tells : Te
   far : (e f : ℕ) → f < d.count → e < f → e % rate.count ≡ f % rate.count → d.begin e + bits_of_ms timing rate.every ≤ d.begin f
   far e f below less same =
       let next = next_turn e f rate.count same less in
-      let window = behind_bits timing.bitrate rate.every (d.begin e) (d.begin (e + rate.count)) (errors.seldom e (omega (arith, next, below))) in
+      let window = behind_bits timing.bitrate rate.every (d.begin e) (d.begin (e + rate.count)) (a_window_apart timing rate.every rate.count d errors.in_order errors.seldom e (omega (arith, next, below))) in
       let later = errors.in_order (e + rate.count) f next below in
       omega (arith, window, later)
 
