@@ -20,6 +20,10 @@ COMMAND = re.compile(r"(?:^|[\n;|] ?)(?:\./j39plan|tools/(?!package)[\w.-]+)(?: 
 # A file that is named and then shown.
 FILE = re.compile(r"`examples/([\w./]+)`[^`]*(?:`(?!examples/)[^`\n]+`[^`]*)*?```(?:toml|text)\n(.*?)```", re.DOTALL)
 
+# Kinds of files that pages name, and those names among them that are of files of the reader or that a command makes.
+KINDS = "rt|antt|py|toml|md|json|check|load|run|read|follow|addresses|schedule|log|dbc|txt|c|sh|html|edit|show"
+OTHERS = {"gate/times.md", ".taplo.toml", ".vscode/tasks.json", "drive.log", "j1939.dbc"}
+
 # A definition, by the head of its line: an abbreviation, a function, a record or a family. Fields and constructors have no such head.
 DEFINITION = re.compile(r"^(?: *(?:abbrev|unfoldable)(?: pub)?| *pub (?:record|data)|record|data) ([^\s({:]+)", re.MULTILINE)
 
@@ -92,7 +96,6 @@ class Shown(InFolder):
 class Form(unittest.TestCase):
     def test_the_readme_ends_where_a_newcomer_has_an_answer(self):
         text = page("README.md")
-        self.assertLessEqual(len(text.splitlines()), 330)
         self.assertLessEqual(len(text.split()), 3500)
         self.assertEqual([sentence for sentence in sentences(text) if len(sentence.split()) > 40], [])
 
@@ -201,6 +204,29 @@ class Names(InFolder):
         self.assertGreaterEqual(len(files), 40)
         for name in files:
             self.assertTrue(any(os.path.exists(os.path.join(TOP, below, name)) for below in ("crates", "")), name)
+
+    def test_files_to_change_are_all_that_have_a_case(self):
+        """The lists of docs/ARCHITECTURE.md on what is added name each source that has a case of the step or finding that they show."""
+        text = page("docs/ARCHITECTURE.md")
+        for heading, word in (("To add a step", "Down"), ("To add a finding", "KeptAddress")):
+            section = text.split(f"## {heading}\n")[1].split("\n## ")[0]
+            self.assertIn(f"`git grep -w {word} -- crates`", section)
+            named = tuple(name for name in re.findall(r"`([\w./-]+)`", section) if "/" in name)
+            files = [name for part in ("src", "specs", "proofs")
+                     for name in glob.glob(f"*/{part}/**/*.*t", root_dir=os.path.join(TOP, "crates"), recursive=True)]
+            having = [name for name in files if re.search(rf"\b{word}\b", text_of(os.path.join(TOP, "crates", name)))]
+            self.assertGreaterEqual(len(having), 10)
+            self.assertEqual(sorted(name for name in having if not name.startswith(named)), [], heading)
+
+    def test_files_in_backticks_are_there(self):
+        """Each name of a file that a page has in backticks is a file or a folder of the repository, but for those of the reader."""
+        known = {name for folder, folders, files in os.walk(TOP) if not folder.startswith(os.path.join(TOP, ".git"))
+                 for name in (os.path.relpath(os.path.join(folder, it), TOP) for it in (*folders, *files))}
+        ends = {name[at:] for name in known for at in (0, *(found.end() for found in re.finditer("/", name)))}
+        for name in PAGES:
+            shown = set(re.findall(rf"`((?:[\w.-]+/)*[\w.-]+\.(?:{KINDS}))`", without_code(page(name))))
+            with self.subTest(name):
+                self.assertEqual(sorted(it for it in shown - OTHERS if it not in ends), [])
 
     def test_numbers_of_services_have_one_home(self):
         """The number of a group by which the network runs stands in j39_id alone, once as code and once as a definition."""
