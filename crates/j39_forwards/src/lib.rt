@@ -12,8 +12,8 @@ ghost use Rattle.j39_world.specs.Sound.{AreReportsSound};
 ghost use Rattle.j39_world.specs.World.{World};
 ghost use Rattle.j39_forwards.specs.Forwards.{Forwarded, Gateway, IsFaithful, IsFromOrigin, ReadsAsBefore, forwarded_bytes, Link, AreLinks, IsFromFirst};
 
-/// What a unit reports of what a gateway hands on carries what was begun on the other bus, where reports are sound on both (`begun`), and so behind however many gateways (`at_last`); and a
-/// signal that goes into another one reads there as it read before, or is unset (`read`).
+/// What a unit reports of what a gateway hands on carries what was begun on the other bus, where reports are sound on both (`begun`), and so
+/// behind however many gateways (`at_last`); and a signal that goes into another one reads there as it read before, or is unset (`read`).
 pub fn what_is_read_was_written()
     ensures begun { (g : Gateway) (carried : ℕ → List ℕ → List ℕ) (from to : World) → AreReportsSound from → AreReportsSound to
         → IsFaithful g carried from to → IsFromOrigin g carried from to }

@@ -93,8 +93,8 @@ pub fn identifiers_lie_between()
 {}
 
 /// A bus that keeps to a clean plan in the plan's own words, whose planned frames are those of flows each message of which goes in one frame, keeps
-/// the premises of each delay, where units keep order (`legal`) or don't (`any_order`), and where frames are damaged (`with_errors`): so what `delays_are_bounds` and `needs_stay_fresh` promise
-/// holds of it.
+/// the premises of each delay, where units keep order (`legal`) or don't (`any_order`), and where frames are damaged (`with_errors`): so what
+/// `delays_are_bounds` and `needs_stay_fresh` promise holds of it.
 pub fn frames_that_keep_a_plan()
     ensures legal { (plan : Plans) (timing : Timings) (stays : PlannedUnits → Bool) → Clean plan → TellsWhoStays plan stays
         → (s : Schedule) (planned : ℕ → Bool) (sent : FrameFlows) (held : Held) (i : ℕ) → IsLegal s → KeepsToPlan plan timing s planned sent held
