@@ -12,7 +12,7 @@ import unittest
 from modules import program
 from tests.support import TOP, InFolder, example, text_of
 
-PAGES = ["README.md", *(f"docs/{name}" for name in sorted(os.listdir(os.path.join(TOP, "docs"))) if name.endswith(".md"))]
+PAGES = ["README.md", "CONTRIBUTING.md", "SECURITY.md", "CHANGELOG.md", *(f"docs/{name}" for name in sorted(os.listdir(os.path.join(TOP, "docs"))) if name.endswith(".md"))]
 
 # Pages with cells that are still longer than others may be.
 LONG_CELLS = {"docs/TOOLS.md"}
@@ -101,8 +101,17 @@ class Shown(InFolder):
 class Form(unittest.TestCase):
     def test_the_readme_ends_where_a_newcomer_has_an_answer(self):
         text = page("README.md")
-        self.assertLessEqual(len(text.split()), 3500)
+        self.assertLessEqual(len(text.split()), 2500)
         self.assertEqual([sentence for sentence in sentences(text) if len(sentence.split()) > 40], [])
+
+    def test_the_changelog_is_for_users(self):
+        """In the form of Keep a Changelog: versions, below them kinds of changes, and items; at most 60 lines."""
+        lines = page("CHANGELOG.md").splitlines()
+        self.assertLessEqual(len(lines), 60)
+        kinds = [line[4:] for line in lines if line.startswith("### ")]
+        self.assertLessEqual(set(kinds), {"Added", "Changed", "Deprecated", "Removed", "Fixed", "Security"})
+        versions = [line for line in lines if line.startswith("## ")]
+        self.assertEqual([line for line in versions if not re.fullmatch(r"## \d+\.\d+\.\d+ - (\d{4}-\d\d-\d\d|Unreleased)", line)], [])
 
     def test_sentences_are_told_apart(self):
         text = "# One\n\nTwo [a b](c d) `e f`. (Three\nfour.) Five\n- six\n- seven. Eight\n\n    code. Here\n\n| nine. | ten |\n"
@@ -122,6 +131,12 @@ class Form(unittest.TestCase):
             with self.subTest(name):
                 self.assertEqual([cell for cell in cells(page(name)) if len(cell.split()) > 50], [])
 
+    def test_decisions_are_short(self):
+        """Each is an item of at most 60 words: what was chosen, in place of what, and why."""
+        items = [" ".join(it.split()) for it in re.split(r"\n(?=- |\n)", page("docs/DECISIONS.md")) if it.startswith("- ")]
+        self.assertGreaterEqual(len(items), 150)
+        self.assertEqual([item for item in items if len(item.split()) > 61], [])
+
     def test_what_was_tried_and_left_has_a_line_each(self):
         section = page("docs/DECISIONS.md").split("## Tried and left\n")[1].split("\n## ")[0].strip()
         self.assertEqual([line for line in section.splitlines() if not re.match(r"- `j39_\w+`: .*\.$", line)], [])
@@ -130,7 +145,7 @@ class Form(unittest.TestCase):
 class Names(InFolder):
     def test_links_lead_somewhere(self):
         for name in PAGES:
-            for link in re.findall(r"\]\(([^)\s]+)\)", page(name)):
+            for link in re.findall(r"\]\((?!https:)([^)\s]+)\)", page(name)):
                 file, _, heading = link.partition("#")
                 target = os.path.normpath(os.path.join(os.path.dirname(name), file)) if file else name
                 self.assertTrue(os.path.exists(os.path.join(TOP, target)), f"{name}: {link}")
