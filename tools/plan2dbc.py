@@ -25,6 +25,7 @@ from modules.j1939 import GLOBAL_ADDRESS, NULL_ADDRESS
 from modules.left_out import Notes
 from modules.log_readings import scale_of
 from modules.matrix_signals import values_of
+from modules.plan_files import opened
 from modules.toml_places import Place, Places
 
 # What stands behind the text of a key on its line.
@@ -549,7 +550,7 @@ def options(words: list[str] | None) -> argparse.Namespace:
 def main(words: list[str] | None = None) -> int:
     """Writes the DBC; 0, or the program's status where it can't read the plan, or 1 where there are notes and there were to be none."""
     given, notes = options(words), Notes()
-    with program.copied(given.plan) as plan:
+    with opened(given.plan) as plan:
         program.checked(plan)
         with open(plan, encoding="utf-8") as file:
             dbc = Dbc(file.read(), notes)

@@ -24,7 +24,7 @@ import sys
 from collections.abc import Iterable, Iterator
 from typing import Any
 
-from j39plan._tools import answer_places, answers, fleet_drives, log_reports, plan_parts, plan_tables, program, toml_places
+from j39plan._tools import answers, fleet_drives, log_reports, plan_parts, plan_places, plan_tables, program, toml_places
 
 Unit, Group, Signal, Text, Flow = plan_tables.Unit, plan_tables.Group, plan_tables.Signal, plan_tables.Text, plan_tables.Flow
 Need, Asking, Finding, Stand = plan_tables.Need, plan_tables.Request, answers.Finding, answers.Stand
@@ -71,7 +71,7 @@ class Plan:
     def findings(self) -> list[Finding]:
         """What `check` finds: of each its `text`, as `F8 SignalOverlap ..`, the `line` of the file, a `hint`, and the `steps` of a run that shows
         it. The list is empty where `check` says ok."""
-        return list(answers.findings(answer_places.Plan(self.text), self._answer("check")))
+        return list(answers.findings(plan_places.Plan(self.text), self._answer("check")))
 
     def stands(self) -> dict[str, Stand]:
         """By the labels of units whether each `stays` at its `address` in every run. Empty where the addresses have findings."""

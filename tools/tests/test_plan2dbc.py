@@ -362,9 +362,9 @@ to = "all"
 period = 10
 """
 
-    def received(self, needs, beside=""):
+    def received(self, asked, beside=""):
         """Who receives each signal in each message of the plan's DBC, and what is said."""
-        plan = self.PLAN % beside + "".join(f"[[need]]\n{need}\n" for need in needs)
+        plan = self.PLAN % beside + "".join(f"[[need]]\n{need}\n" for need in asked)
         dbc, told = self.made(self.write("plan.toml", plan))
         found = re.findall(r"^(?:BO_ \d+ (\w+)| SG_ (\w+) .* ([\w,]+)$)", text_of(dbc), re.MULTILINE)
         names, message = {}, ""
@@ -377,15 +377,15 @@ period = 10
     def test_receivers(self):
         """Of each message that meets the need, by a need of one signal of that one; of a group that nobody sends too."""
         nobody = "Vector__XXX"
-        for needs, wanted in (
+        for asked, wanted in (
             ([], [nobody] * 5),
             (['unit = "DASH"\ngroup = "EEC1"'], ["DASH", "DASH", "DASH", "DASH", nobody]),
             (['unit = "BOX"\ngroup = "EEC1"', 'unit = "DASH"\ngroup = "EEC1"'], ["BOX,DASH", "BOX,DASH", "DASH", "DASH", nobody]),
             (['unit = "DASH"\ngroup = "EEC1"\nsignal = "SPN190"\nfrom = "BOX"'], [nobody, nobody, nobody, "DASH", nobody]),
             (['unit = "DASH"\ngroup = "ALONE"'], [nobody, nobody, nobody, nobody, "DASH"]),
         ):
-            names, _ = self.received(needs)
-            self.assertEqual(list(names.values()), wanted, needs)
+            names, _ = self.received(asked)
+            self.assertEqual(list(names.values()), wanted, asked)
         names, _ = self.received(['unit = "DASH"\ngroup = "EEC1"', 'unit = "BOX"\ngroup = "EEC1"'], "  # for DASH")
         self.assertEqual(list(names.values())[:4], ["DASH,BOX", "BOX", "DASH", nobody])
 
@@ -595,7 +595,7 @@ to = "DISPLAY"
         self.assertEqual([line for line in newer.splitlines() if not line.startswith("CM_ ")], marked.splitlines())
 
     def test_plans_that_cannot_be_read(self):
-        status, dbc, told = run("plan2dbc.py", self.write("plan.toml", "version = 9\n"))
-        self.assertEqual((status, dbc, told), (2, "", "plan2dbc: refused Range top key version\n"))
+        refused = self.write("plan.toml", "version = 9\n")
+        self.assertEqual(run("plan2dbc.py", refused), (2, "", f"plan2dbc: {refused}:1: refused Range top key version  (version = 9: integer 1..4)\n"))
         missing = self.path("none.toml")
         self.assertEqual(run("plan2dbc.py", missing), (4, "", f"plan2dbc: {missing}: No such file or directory\n"))

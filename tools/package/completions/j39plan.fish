@@ -21,6 +21,7 @@ for tool in where startup dbc2plan plan2dbc join compare against fleet report si
     complete -c j39plan-$tool -l version -d 'print the version'
 end
 complete -c j39plan-startup -l traffic -d 'then each flow sends one message'
+complete -c j39plan-where -l json -d 'as a JSON object'
 complete -c j39plan-where -l lint -d 'with hints that are no findings'
 complete -c j39plan-where -l github -d 'as annotations of GitHub\'s CI'
 complete -c j39plan-where -l gitlab -r -F -d 'write a code quality report of GitLab\'s CI, too'
