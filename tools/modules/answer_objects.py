@@ -7,6 +7,9 @@ from .answer_places import Placed
 
 Object = dict[str, Any]
 
+# Lines of which an answer has several, and what these are called.
+SEVERAL = {"unit": "units", "flow": "flows", "need": "needs"}
+
 
 def line_object(line: Line) -> Object:
     """The parts of a line. Whether a unit stays at its planned address is a truth value."""
@@ -22,33 +25,32 @@ def placed_object(part: Placed) -> Object:
     return {key: said for key, said in found.items() if said not in ("", None, [])}
 
 
-def check_object(plan: str, status: int, parts: list[Placed], hints: list[Placed] | None = None) -> Object:
-    """What `check` answers of a plan, and hints that are no findings where they were asked for. Of a plan that can't be read there are neither."""
+def answer_object(plan: str, status: int, parts: list[Placed]) -> Object:
+    """What `addresses` or `load` answers of a plan: its units, or its flows, its needs and the load; the findings, where these are its answer;
+    and of a plan that is refused why."""
     found: Object = {"plan": plan, "status": status}
-    if status in (0, 1):
-        found["findings"] = [placed_object(part) for part in parts if part.answer.startswith("F")]
-        if hints is not None:
-            found["hints"] = [{"line": hint.line, "hint": hint.answer.removeprefix("hint ")} for hint in hints]
     for part in parts:
         (line,) = lines_of(part.answer)
-        if line.kind == "refused":
+        if line.kind in SEVERAL:
+            found.setdefault(SEVERAL[line.kind], []).append(line_object(line))
+        elif line.kind == "finding":
+            found.setdefault("findings", []).append(placed_object(part))
+        elif line.kind == "refused":
             found["refused"] = placed_object(part)
-        elif line.kind == "ok":
+        elif line.kind == "load":
             found.update(line_object(line))
     return found
 
 
-def answer_object(plan: str, status: int, answer: str) -> Object:
-    """What `addresses` or `load` answers of a plan: its units, or its flows and needs, and what is counted in all. Of a plan that has findings
-    before that these stand there, of one that can't be read why."""
-    lines = lines_of(answer)
-    found: Object = {"plan": plan, "status": status}
-    for kind, name in (("unit", "units"), ("flow", "flows"), ("need", "needs"), ("finding", "findings")):
-        if several := [line_object(line) for line in lines if line.kind == kind]:
-            found[name] = several
-    for line in lines:
-        if line.kind == "refused":
-            found["refused"] = line_object(line)
-        elif line.kind == "load":
-            found.update(line_object(line))
+def check_object(plan: str, status: int, parts: list[Placed], hints: list[Placed] | None = None) -> Object:
+    """What `check` answers of a plan, and hints that are no findings where they were asked for. Of a plan that can't be read there are neither."""
+    found = answer_object(plan, status, parts)
+    if status in (0, 1):
+        found.setdefault("findings", [])
+        if hints is not None:
+            found["hints"] = [{"line": hint.line, "hint": hint.answer.removeprefix("hint ")} for hint in hints]
+    for part in parts:
+        (line,) = lines_of(part.answer)
+        if line.kind == "ok":
+            found["counts"] = line_object(line)
     return found

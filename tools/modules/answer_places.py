@@ -161,7 +161,7 @@ def placed(data: bytes, answer: str) -> Iterator[Placed]:
     """The answer's parts; those that say what is wrong with their place in the file."""
     plan = Plan(data.decode(errors="replace"))
     for line, *below in parted(answer):
-        if line.startswith("refused "):
+        if line.startswith("refused ") and not line.startswith("refused plan "):
             at, hint = refusal(plan, data, line)
         elif re.match(r"F\d+ ", line):
             at, hint = finding(plan, line)

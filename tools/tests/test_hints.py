@@ -115,7 +115,7 @@ class Hints(InFolder):
         name = self.write("plan.toml", plan.replace("= 0", "= 254"))
         self.assertEqual(json.loads(run("where.py", "--json", "--lint", name)[1]), {"plan": name, "status": 2, "refused": refused})
         clean = example("first_plan.toml")
-        ok = {"plan": clean, "status": 0, "findings": [], "units": 2, "groups": 1, "flows": 1}
+        ok = {"plan": clean, "status": 0, "findings": [], "counts": {"units": 2, "groups": 1, "flows": 1}}
         self.assertEqual(json.loads(run("where.py", "--json", clean)[1]), ok)
         self.assertEqual(run("where.py", "--json", "--github", clean)[0], 2)
 
