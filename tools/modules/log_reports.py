@@ -138,10 +138,15 @@ class Counts:
 
     def say(self, interface: str | None = None) -> None:
         """Says on standard error what wasn't read, where this interface was asked for or the first one is read."""
+        for text in self.told(interface):
+            program.say(text)
+
+    def told(self, interface: str | None = None) -> Iterator[str]:
+        """What wasn't read."""
         if self.bad:
-            program.say(f"{self.bad} lines spell no frame")
+            yield f"{self.bad} lines spell no frame"
         if self.elsewhere:
-            program.say(f"{interface or 'the first interface'} is read; {self.elsewhere} lines of others are passed over")
+            yield f"{interface or 'the first interface'} is read; {self.elsewhere} lines of others are passed over"
 
 
 @lru_cache(maxsize=1 << 12)
