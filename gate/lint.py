@@ -72,7 +72,7 @@ def main() -> int:
         tally.count("format", not found, f"rt fmt changes {', '.join(found)}")
     else:
         print("format: skipped, since rt is missing")
-    look(tally, "shellcheck", "scripts", scripts())
+    look(tally, "shellcheck", "scripts", ["--severity=warning", *scripts()])
     look(tally, "pyflakes3", "names in Python", python_files())
     return tally.end()
 
