@@ -8,7 +8,7 @@ from collections.abc import Callable, Iterable, Iterator
 from functools import cache, lru_cache
 from itertools import islice, starmap
 from threading import Thread
-from typing import IO, Any, BinaryIO, NamedTuple
+from typing import IO, Any, NamedTuple
 
 from . import program
 from .log_files import Log, OneInterface
@@ -103,7 +103,6 @@ LINE, TIME, KIND, GROUP, FROM, TO = 0, 1, 2, 3, 5, 7
 CONVERTER = "record it by candump -L, or make a log of ASC, BLF, TRC, MF4 or CSV by tolog.py (j39plan-tolog)"
 UNPACKED = "it is packed by gzip: read it as <(zcat FILE)"
 
-
 # A log of which so many times more lines are of other interfaces isn't read by the one with which it begins.
 GUESSED = 99
 
@@ -149,13 +148,18 @@ class Counts:
 
     def say(self, log: Log) -> None:
         """Says on standard error what wasn't read, and why this interface is."""
+        for text in self.told(log):
+            program.say(text)
+
+    def told(self, log: Log | None = None) -> Iterator[str]:
+        """What wasn't read."""
         if self.bad:
-            program.say(f"{self.bad} lines spell no frame")
+            yield f"{self.bad} lines spell no frame"
         if self.elsewhere:
-            first, others = log.interfaces()
-            why = "as asked for" if log.interface else "the first of the log"
-            hint = f": --interface {others[0]}" if others and not log.interface else ""
-            program.say(f"{first or 'the first interface'} is read, {why}; {self.elsewhere} lines of {', '.join(others) or 'others'} are passed over{hint}")
+            first, others = log.interfaces() if log else ("", [])
+            why = ", as asked for" if log and log.interface else ", the first of the log" if first else ""
+            hint = f": --interface {others[0]}" if log and others and not log.interface else ""
+            yield f"{first or 'the first interface'} is read{why}; {self.elsewhere} lines of {', '.join(others) or 'others'} are passed over{hint}"
 
 
 @lru_cache(maxsize=1 << 12)
@@ -241,9 +245,9 @@ class Writer(Thread):
             raise self.fault
 
 
-def as_it_comes(log: BinaryIO | OneInterface) -> Iterator[bytes]:
+def as_it_comes(log: io.BufferedReader | OneInterface) -> Iterator[bytes]:
     """What comes of a log, as soon as it is there."""
-    while piece := log.read1(1 << 16):  # type: ignore[attr-defined]
+    while piece := log.read1(1 << 16):
         yield piece
 
 
@@ -257,7 +261,7 @@ def started(plan: str, log: IO[bytes] | int) -> subprocess.Popen[bytes]:
 
 def started_for(plan: str, log: Log, is_piped: bool) -> subprocess.Popen[bytes]:
     """The program that follows a log, which an interrupt doesn't end where it is to end the log alone."""
-    source = subprocess.PIPE if is_piped else log.files[0]
+    source: IO[bytes] | int = subprocess.PIPE if is_piped else log.files[0]
     if not log.is_live or signal.getsignal(signal.SIGINT) is signal.SIG_IGN:
         return started(plan, source)
     signal.signal(signal.SIGINT, signal.SIG_IGN)

@@ -59,7 +59,7 @@ def name_key(unit: Part) -> str:
 
 def text_place(text: Part) -> Hashable:
     """Where a text lies."""
-    return text["byte"], text["bytes"]
+    return text.number("byte"), text.number("bytes")
 
 
 INSIDE_KEYS: dict[str, tuple[Key, ...]] = {"signal": (label_of, plan_scales.meaning), "text": (label_of, text_place)}
@@ -77,10 +77,14 @@ class Matched:
     def __init__(self, old: Source, new: Source) -> None:
         self.old, self.new = old, new
         self.units = pairs_of(old["unit"], new["unit"], label_of, name_key)
-        self.groups = pairs_of(old["group"], new["group"], label_of, lambda group: (group["pgn"], spelled(group["when"])), lambda group: group["pgn"])
+        self.groups = pairs_of(old["group"], new["group"], label_of, lambda group: (group.number("pgn"), spelled(group["when"])), lambda group: group.number("pgn"))
         self._renamed = {
             (table, old.label): new.label for table, pairs in (("unit", self.units), ("group", self.groups))
             for old, new in pairs if old is not None and new is not None
+        }
+        self._signals = {
+            (old.label, before.label): now.label for old, new in self.groups if old is not None and new is not None
+            for before, now in inside_pairs(old, new, "signal") if before is not None and now is not None
         }
         self.others = {array: pairs_of(old[array], new[array], self._names) for array in arrays_behind()}
 
@@ -91,7 +95,10 @@ class Matched:
     def _names(self, part: Part) -> Hashable:
         """What a flow names, as the new plan calls it."""
         names = ((key, part.text(key)) for key in TOLD_BY if key in part.said)
-        return tuple((key, self.named(TOLD_BY[key], name) if part.source is self.old else name) for key, name in names)
+        if part.source is not self.old:
+            return tuple(names)
+        return tuple((key, self._signals.get((part.text("group"), name), name) if key == "signal" else self.named(TOLD_BY[key], name))
+                     for key, name in names)
 
 
 def arrays_behind() -> list[str]:
@@ -114,7 +121,7 @@ def of_keys(what: str, old: Part, new: Part, skipped: Iterable[str] = ()) -> Ite
     for key in dict.fromkeys([*keys_of(new.table), *old.said, *new.said]):
         if key in ("label", *TOLD_BY, *skipped, *old.inside, *new.inside) or old[key] == new[key]:
             continue
-        if key == "keep_free" and set(old[key] or []) == set(new[key] or []):
+        if key == "keep_free" and set(old.values(key)) == set(new.values(key)):
             continue
         for inner, before, now in parts_of(key, old[key], new[key]):
             yield Change(what, inner, spelled(before), spelled(now), old.line(key), new.line(key))
@@ -168,6 +175,17 @@ def said_of(source: Source, lines: list[str]) -> dict[int, str]:
     return found
 
 
+def is_too_old(said: str, most: int) -> bool:
+    """Whether a need of at most so many us isn't met by what `load` says of it: `age 21280 of 22000 us`, or `old of 21000 us`."""
+    words = said.split()
+    return words[0] == "old" or int(words[1]) > most
+
+
+def shown_age(said: str) -> str:
+    """What `load` says of a need, in words."""
+    return said.removeprefix("age ") if said.startswith("age ") else f"not shown young enough, {said.removeprefix('old ')}"
+
+
 class Answers:
     """What the program answers about the plan in a file: where units stand, and the load."""
 
@@ -191,8 +209,9 @@ def of_answers(matched: Matched, old: Answers, new: Answers) -> Iterator[Change]
             if before is not None and now is not None and old.load and new.load:
                 told = old.delays.get(before.line()), new.delays.get(now.line())
                 if told[0] != told[1]:
-                    key, *words = ("age", *(text and text.removeprefix("age ") for text in told)) if now.table == "need" else ("delay", *told)
-                    yield Change(name_of(now), key, *words, before.line(), now.line())
+                    is_need = now.table == "need"
+                    was, comes = (shown_age(text) if text and is_need else text for text in told)
+                    yield Change(name_of(now), "age" if is_need else "delay", was, comes, before.line(), now.line())
     if old.load != new.load:
         yield Change("bus", "load", old.load, new.load, None, None)
 

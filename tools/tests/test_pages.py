@@ -257,6 +257,12 @@ class Names(InFolder):
             with self.subTest(name):
                 self.assertEqual(sorted(it for it in shown - OTHERS if it not in ends), [])
 
+    def test_each_example_is_named(self):
+        """The table of docs/EXAMPLES.md has each plan of examples/, and no other."""
+        named = re.findall(r"^\| `(\w+\.toml)` \|", page("docs/EXAMPLES.md"), re.MULTILINE)
+        plans = glob.glob("*.toml", root_dir=os.path.join(TOP, "examples"))
+        self.assertEqual(sorted(named), sorted(plans))
+
     def test_numbers_of_services_have_one_home(self):
         """The number of a group by which the network runs stands in j39_id alone, once as code and once as a definition."""
         homes = ["crates/j39_id/specs/Services.antt", "crates/j39_id/src/services.rt"]

@@ -212,6 +212,21 @@ class Multiplexed(WithPlans):
         self.assertIn("flow of RIGHT from TIRES to all: another group's message has its identifier\n", told)
         self.assertEqual(dbc.count("\nBO_ "), 1)
 
+    def test_a_signal_of_several_groups_keeps_its_name(self):
+        """As DBCs have it by SG_MUL_VAL_; canmatrix decodes it by its name for each value, and the plan comes back."""
+        import canmatrix.formats
+
+        third = TOLD[TOLD.index('[[group]]\nlabel = "{1}"'):].replace('"{1}"', '"TIRE_m3"').replace("value = 2", "value = 3")
+        door = '[[group.signal]]\nlabel = "DOOR"\nbyte = 3\nbits = 2\nkind = "discrete"\n'
+        text = TOLD + door + third + door + FLOWS + '[[flow]]\ngroup = "TIRE_m3"\nfrom = "TIRES"\nto = "all"\n'
+        dbc, told, is_back = self.dbc(text, "TIRE_m1", "TIRE_m2")
+        self.assertEqual((is_back, told), (True, "2 nodes 1 messages, notes 0\n"))
+        self.assertEqual(re.findall(r"SG_ (DOOR\S*) (m\d)", dbc), [("DOOR", "m2")])
+        self.assertIn("SG_MUL_VAL_ 2566845491 DOOR AXLE 2-2, 3-3;\n", dbc)
+        frame = canmatrix.formats.loads_flat(dbc.encode(), "dbc").frames[0]
+        for value, names in ((1, {"AXLE", "PRESSURE"}), (2, {"AXLE", "DOOR"}), (3, {"AXLE", "DOOR"})):
+            self.assertEqual(set(frame.decode(bytes((value << 4, 7, 1, 0, 0, 0, 0, 0)))), names)
+
     def test_several_lengths(self):
         text = (TOLD + FLOWS).replace("length = 8", "length = 7", 1)
         dbc, told, _ = self.dbc(text, "TIRE_m1", "TIRE_m2")
