@@ -90,8 +90,10 @@ def compared(plan: str, log: str, options: list[str]) -> tuple[list[Deviation], 
     may be threads of one."""
     status, answer, said = answered([sys.executable, command("against"), "--json", *options, "--", plan, log])
     notes = [line.partition(": ")[2] for line in said.splitlines()]
-    if status not in (0, 1) or not answer.startswith("{"):
+    if status not in (0, 1) or not answer:
         raise program.Refused(status or program.FAULT, notes[-1] if notes else f"against ended with {status}")
+    if not answer.startswith("{"):
+        raise program.Refused(program.UNREADABLE, f"with {' '.join(options)} against writes no list of deviations")
     *rows, whole = map(json.loads, answer.splitlines())
     return [deviation_of(row) for row in rows if "times" in row], notes, whole
 
