@@ -59,7 +59,7 @@ def name_key(unit: Part) -> str:
 
 def text_place(text: Part) -> Hashable:
     """Where a text lies."""
-    return text["byte"], text["bytes"]
+    return text.number("byte"), text.number("bytes")
 
 
 INSIDE_KEYS: dict[str, tuple[Key, ...]] = {"signal": (label_of, plan_scales.meaning), "text": (label_of, text_place)}
@@ -77,7 +77,7 @@ class Matched:
     def __init__(self, old: Source, new: Source) -> None:
         self.old, self.new = old, new
         self.units = pairs_of(old["unit"], new["unit"], label_of, name_key)
-        self.groups = pairs_of(old["group"], new["group"], label_of, lambda group: (group["pgn"], spelled(group["when"])), lambda group: group["pgn"])
+        self.groups = pairs_of(old["group"], new["group"], label_of, lambda group: (group.number("pgn"), spelled(group["when"])), lambda group: group.number("pgn"))
         self._renamed = {
             (table, old.label): new.label for table, pairs in (("unit", self.units), ("group", self.groups))
             for old, new in pairs if old is not None and new is not None
@@ -121,7 +121,7 @@ def of_keys(what: str, old: Part, new: Part, skipped: Iterable[str] = ()) -> Ite
     for key in dict.fromkeys([*keys_of(new.table), *old.said, *new.said]):
         if key in ("label", *TOLD_BY, *skipped, *old.inside, *new.inside) or old[key] == new[key]:
             continue
-        if key == "keep_free" and set(old[key] or []) == set(new[key] or []):
+        if key == "keep_free" and set(old.values(key)) == set(new.values(key)):
             continue
         for inner, before, now in parts_of(key, old[key], new[key]):
             yield Change(what, inner, spelled(before), spelled(now), old.line(key), new.line(key))
@@ -209,8 +209,9 @@ def of_answers(matched: Matched, old: Answers, new: Answers) -> Iterator[Change]
             if before is not None and now is not None and old.load and new.load:
                 told = old.delays.get(before.line()), new.delays.get(now.line())
                 if told[0] != told[1]:
-                    key, *words = ("age", *(text and shown_age(text) for text in told)) if now.table == "need" else ("delay", *told)
-                    yield Change(name_of(now), key, *words, before.line(), now.line())
+                    is_need = now.table == "need"
+                    was, comes = (shown_age(text) if text and is_need else text for text in told)
+                    yield Change(name_of(now), "age" if is_need else "delay", was, comes, before.line(), now.line())
     if old.load != new.load:
         yield Change("bus", "load", old.load, new.load, None, None)
 
