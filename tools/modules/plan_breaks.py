@@ -198,7 +198,7 @@ class Breaks:
             was, age = old.delays.get(before.line()), new.delays.get(now.line())
             most = 1000 * before.number("within")
             if was and age and most and not is_too_old(was, most) and is_too_old(age, most):
-                why = f"its age is {shown_age(age)}, it was {shown_age(was)}"
+                why = f"its age is {shown_age(age.said)}, it was {shown_age(was.said)}"
                 yield Break("old", (before.text("unit"),), before.text("from"), before.text("group"), before.text("signal"), why,
                             before.line(), now.line())
 
