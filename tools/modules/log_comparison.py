@@ -70,7 +70,7 @@ class Comparison:
         self.planned = {group.label: group for group in tables.groups}
         self.sent: dict[Way, int] = {(flow.group, flow.sender, flow.to): 0 for flow in tables.flows}
         self.found, self.clock, self.hands = found, Clock(), Hands(tables, found)
-        self.distances = Distances(tables.flows, settings.tolerance, settings.rule, bounds.waits, found)
+        self.distances = Distances(tables.flows, settings.tolerance, settings.rule, bounds.waits, self.hands.first, found)
         self.asked, self.damage = Asked(tables, settings.tolerance, found), Damage(tables.timing, found)
         self.transfers, self.unplanned = Transfers(tables.timing, found), Unplanned(tables, bounds.flows, found)
         self._begun: dict[Pair, Begun] = {}
@@ -87,8 +87,6 @@ class Comparison:
                 if address in (begun.pair[0][2], begun.pair[1][2]) and not begun.between:
                     begun.between = f"address {address} changed hands at line {line}"
         self.unplanned.came(line, at, 6 << 26 | (ADDRESS_CLAIMED | GLOBAL_ADDRESS) << 8)
-        if at is not None:
-            self.distances.heard(who.label or "", at)
         claims = "could not claim an address" if who.address is None else f"claims address {who.address}"
         unit = self.units.get(who.label or "")
         if unit is None:
@@ -100,7 +98,7 @@ class Comparison:
 
     def sender(self, line: int, at: int | None, sender: Who, group: str = "") -> None:
         """Who sent something, as a message of a planned group."""
-        self.heard(line, at, sender)
+        self.hands.sends(line, at, sender)
         if sender.label is not None:
             return
         what = f"sends {f'{group}, a planned group' if group else ''}".rstrip()
@@ -112,12 +110,6 @@ class Comparison:
         else:
             text = f"{former.spelled} claims address {former.address}, and its former address {sender.address} {what}: two boxes of one NAME?"
             self.found.tell("two-boxes", text, line, at, unit=former.label)
-
-    def heard(self, line: int, at: int | None, sender: Who) -> None:
-        """Somebody sends something."""
-        if at is not None:
-            self.distances.heard(sender.label or "", at)
-        self.hands.sends(line, at, sender)
 
     def message(self, line: int, at: int | None, message: Message) -> None:
         """A message of a planned group."""
@@ -191,7 +183,7 @@ class Comparison:
         if sender.label is None and sender.spelled not in self._strange:
             self.sender(line, at, sender)
         else:
-            self.heard(line, at, sender)
+            self.hands.sends(line, at, sender)
         is_planned = self.transfers.came(line, at, mark, sender, to)
         if mark.kind is Kind.CONTROL and mark.data[0] == WHOLE:
             self.acknowledged(pair_of(to, sender))
@@ -202,11 +194,14 @@ class Comparison:
         """The receiver may have said that it has a message which isn't reported, as where a packet was asked for once more: it was carried whole."""
         if pair in self._begun and self.transfers.is_acknowledged(pair):
             begun = self._begun.pop(pair)
-            self.sends(self.flow_of(begun.way), begun.line, begun.at)
+            if number := self.flow_of(begun.way):
+                self.sends(number, begun.line, begun.at)
+            elif begun.unit:
+                self.found.tell("no-flow", f"{begun.text}: no flow", begun.line, begun.at, unit=begun.unit)
 
     def flow_of(self, way: Way) -> int:
-        """The number of the first flow of a way."""
-        return next(number for number, flow in enumerate(self.flows, 1) if (flow.group, flow.sender, flow.to) == way)
+        """The number of the first flow of a way, 0 where there is none."""
+        return next((number for number, flow in enumerate(self.flows, 1) if (flow.group, flow.sender, flow.to) == way), 0)
 
     def single(self, line: int, at: int | None, request: Request, mark: Mark) -> None:
         """A frame that may be none of a planned group."""
@@ -301,28 +296,27 @@ class Comparison:
         self.distances.anew(line, at)
         self.asked.anew()
 
-    def looks_at_time(self, line: int, at: int | None) -> None:
+    def looks_at_time(self, line: int, at: int) -> None:
         """Time goes by. Where the clock was set, nothing at all came, or the interface was off, what is measured begins anew."""
-        if at is None:
-            return
         if self.clock.is_set or self.clock.is_back:
             self.hands.anew()
             self.anew(line, at)
         elif self.damage.is_off:
+            self.damage.is_off = False
             self.anew(line, at)
         elif self._at is not None and self._gap is not None and at - self._at > self._gap and self.distances.alive(self._at) > 1:
             text = "nothing at all came for {} ms before: the bus, the log or its clock stood still; distances begin anew"
             self.found.tell("gap", text, line, at, at - self._at)
             self.anew(line, at)
         self._at = at
-        self.transfers.goes_by(at)
+        if self.transfers.waits:
+            self.transfers.goes_by(at)
 
     def report(self, line: int, report: Report, mark: Mark | None) -> None:
         """A report, of a frame of this line of the log or of its mark."""
         at = self.clock.see(line, report.time)
-        if not (mark and mark.kind is Kind.ERROR):
+        if at is not None and (mark is None or mark.kind is not Kind.ERROR):
             self.looks_at_time(line, at)
-            self.damage.is_off = False
         if isinstance(report, Claim):
             self.claim(line, at, report.who)
         elif isinstance(report, Message):

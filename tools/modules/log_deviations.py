@@ -84,13 +84,17 @@ class Found:
     """The deviations of a log, as they are met. Who hears is told of each the first time, or, where all places are kept, each time."""
 
     def __init__(self, keeps_all: bool = False, hear: Hear | None = None) -> None:
-        self._keeps_all, self._hear = keeps_all, hear
+        self._keeps_all, self._hear, self._is_plain = keeps_all, hear, not keeps_all
         self._met: dict[str, Deviation] = {}
 
     def tell(self, kind: str, text: str, line: int | None, at: int | None = None, value: int | None = None, *, flow: int | None = None,
              unit: str | None = None, detail: str = "") -> None:
         """A deviation is met, or is met again. Its text is what it is of; the detail is of its place alone."""
-        known, place = self._met.get(text), Place(line, at, value)
+        known = self._met.get(text)
+        if known is not None and value is None and self._is_plain and known.place.line is not None and line is not None and line >= known.place.line:
+            known.times += 1  # the shortest way, since most come so
+            return
+        place = Place(line, at, value)
         if known is None:
             known = self._met[text] = Deviation(kind, text, flow, unit, place, detail)
             is_heard = True

@@ -77,15 +77,14 @@ class Rule(NamedTuple):
 class Distances:
     """The distances of messages of flows. What a flow has begun in the order of the log counts; where a clock was set, from there on."""
 
-    def __init__(self, flows: list[Flow], tolerance: Tolerance, rule: Rule, waits: dict[int, int], found: Found) -> None:
-        self._flows, self._found = flows, found
+    def __init__(self, flows: list[Flow], tolerance: Tolerance, rule: Rule, waits: dict[int, int], first: dict[str, int], found: Found) -> None:
+        self._flows, self._first, self._found = flows, first, found  # `first` has when each unit was heard first
         self._limits = {number: limits_of(flow, tolerance, rule.silence_of(number, flow), waits.get(number, 0)) for number, flow in enumerate(flows, 1)}
         self._looked = {number for number, limits in self._limits.items() if limits or rule.is_whole}
         self._usual: dict[int, dict[int, int]] | None = {} if rule.is_whole else None
         self._last: dict[int, tuple[int, int]] = {}
         self._since: tuple[int, int] | None = None  # where the clock was set last
         self._silent: set[int] = set()
-        self._heard: dict[str, int] = {}  # when each unit was heard first
         self.counts: dict[int, int] = {}
         self.explained: dict[int, int] = {}  # of each flow how many distances a wait on the bus explains
         self.without_time = False
@@ -100,10 +99,6 @@ class Distances:
         """How many flows aren't silent at a time."""
         return sum(limits is not None and limits.most is not None and number in self._last and at - self._last[number][1] <= limits.most
                    for number, limits in self._limits.items())
-
-    def heard(self, unit: str, at: int) -> None:
-        """A unit claims an address, or sends something."""
-        self._heard.setdefault(unit, at)
 
     def sent(self, number: int, line: int, at: int | None) -> None:
         """A message of a flow, by when it began. The first one counts from when its unit was heard first."""
@@ -125,7 +120,7 @@ class Distances:
         limits = self._limits[number]
         if self._since is not None or self.counts[number] > 1 or limits is None or limits.most is None:
             return
-        late = at - self._heard.get(self._flows[number - 1].sender, at)
+        late = at - self._first.get(self._flows[number - 1].sender, at)
         if late > max(limits.most, SECOND):
             self._silence(number, line, at, late, limits)
 

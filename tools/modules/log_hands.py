@@ -88,6 +88,7 @@ class Hands:
         self._times, self._found = times_of(tables), found
         self._holders: dict[int, Who] = {}
         self._at: dict[Key, int] = {}
+        self.first: dict[Key, int] = {}  # when each was heard first
         self._heard: dict[Key, int] = {}
         self._claimed: dict[Key, int] = {}  # when each claimed an address last
         self._fresh: dict[int, Claimed] = {}  # claims of which it isn't known yet what comes of them
@@ -124,6 +125,7 @@ class Hands:
         self._is_displaced(key, who)
         self.seen.add(key)
         if at is not None:
+            self.first.setdefault(key, at)
             self._heard[key] = self._claimed[key] = at
         return tuple(changed)
 
@@ -231,6 +233,8 @@ class Hands:
         if at is None:
             return
         if key and not is_contested:
+            if key not in self.first:
+                self.first[key] = at
             self._heard[key] = at
         if self._fresh:
             self._pass(at)

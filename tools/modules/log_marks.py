@@ -131,7 +131,7 @@ class Feed:
         end = line.rstrip(BLANKS)
         at = end.rfind(b"#")
         key, is_plain = (end[at - 8:at], len(end) - at), end[-1:] not in DIRECTIONS
-        self.meter.take(line[:at - 8], key[1] if is_plain else len(end[at:].split(maxsplit=1)[0]))
+        self.meter.take(line, at - 8, key[1] if is_plain else len(end[at:].split(maxsplit=1)[0]))
         if key in self._reported and is_plain:
             self._last = line
             return b"\n"

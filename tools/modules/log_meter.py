@@ -12,27 +12,33 @@ class Meter:
     def __init__(self) -> None:
         self.bits = self.worst = 0
         self.worst_second: int | None = None
-        self._interface = b""
-        self._second, self._inside = b"", 0
+        self._interface, self._start, self._inside = b"", b"", 0
+        self._way = b" "  # what stands before an identifier
 
-    def take(self, head: bytes, digits: int) -> None:
-        """A line by what stands before its identifier, and how many characters its data has."""
+    def take(self, line: bytes, end: int, digits: int) -> None:
+        """A line by where its identifier begins, and how many characters its data has."""
+        if line.startswith(self._start) and line.startswith(self._way, end - len(self._way)) or self._turns(line[:end]):
+            self._inside += BITS.get(digits, 0)
+
+    def _turns(self, head: bytes) -> bool:
+        """Another second begins, or another interface speaks: whether it is the one that is read."""
         interface = head[head.find(b" ") + 1:]
-        if interface != self._interface and interface:
+        if interface and interface != self._interface:
             if self._interface:
-                return
+                return False
             self._interface = interface
-        second = head[:head.find(b".")]
-        if second != self._second:
+        start = head[:head.find(b".") + 1]
+        if start != self._start:
             self._close()
-            self._second = second
-        self._inside += BITS.get(digits, 0)
+            self._start = start
+        self._way = b" " + self._interface
+        return True
 
     def _close(self) -> None:
         """A second is over. One without a time is none."""
         self.bits += self._inside
-        if self._inside > self.worst and self._second[1:].isdigit():
-            self.worst, self.worst_second = self._inside, int(self._second[1:])
+        if self._inside > self.worst and self._start[1:-1].isdigit():
+            self.worst, self.worst_second = self._inside, int(self._start[1:-1])
         self._inside = 0
 
     def end(self) -> None:

@@ -72,7 +72,7 @@ class Transfers:
         self._timing, self._found = timing, found
         self._open: dict[Pair, Transfer] = {}
         self._given_up: set[Pair] = set()
-        self._waits: dict[Pair, tuple[int, int | None]] = {}  # what came whole, by the line and time of its last packet, and isn't acknowledged yet
+        self.waits: dict[Pair, tuple[int, int | None]] = {}  # what came whole, by the line and time of its last packet, and isn't acknowledged yet
 
     def announced(self, line: int, at: int | None, route: Route, mark: Mark, sender: Who, to: Who) -> None:
         """A long message is announced by the rules."""
@@ -105,7 +105,7 @@ class Transfers:
         """All packets of a message came, so that it is to be acknowledged where it goes to one unit."""
         transfer = self._open.get(pair)
         if transfer and not transfer.is_broadcast and transfer.route.is_planned:
-            self._waits[pair] = line, at
+            self.waits[pair] = line, at
 
     def is_acknowledged(self, pair: Pair) -> bool:
         """Whether the receiver has said that it has the message."""
@@ -124,13 +124,13 @@ class Transfers:
 
     def goes_by(self, at: int) -> None:
         """Time goes by: what isn't acknowledged until now isn't any more."""
-        for pair, (_, since) in list(self._waits.items()):
+        for pair, (_, since) in list(self.waits.items()):
             if since is not None and not 0 <= at - since <= WAITED:
                 self._is_unanswered(pair)
 
     def _is_unanswered(self, pair: Pair) -> None:
         """Tells that a message isn't acknowledged, if it was to be."""
-        waiting, transfer = self._waits.pop(pair, None), self._open.get(pair)
+        waiting, transfer = self.waits.pop(pair, None), self._open.get(pair)
         if waiting and transfer:
             self._found.tell("not-acknowledged", f"{transfer.route.text}: carried whole, and not acknowledged", *waiting, unit=transfer.route.to)
 
@@ -162,7 +162,7 @@ class Transfers:
         transfer.at, transfer.waits_for = at, "packet" if mark.data[0] == CLEAR and mark.data[1] else ""
         if mark.data[0] == WHOLE and mark.pgn == transfer.pgn:
             transfer.is_acknowledged = True
-            self._waits.pop(pair, None)
+            self.waits.pop(pair, None)
         elif mark.data[1]:
             transfer.is_cleared = True
             transfer.came &= ~((1 << mark.data[1]) - 1 << mark.data[2])  # what is asked for again hasn't come
@@ -178,7 +178,7 @@ class Transfers:
         """An Abort: of a message that goes either way between the two."""
         for pair in (pair_of(sender, to), pair_of(to, sender)):
             transfer = self._open.pop(pair, None)
-            self._waits.pop(pair, None)
+            self.waits.pop(pair, None)
             if transfer:
                 self._given_up.add(pair)
                 reason = REASONS.get(mark.data[1], "of its own")
@@ -194,6 +194,6 @@ class Transfers:
 
     def end(self, last: int | None) -> None:
         """Tells what isn't acknowledged until the log's last time; in a log without times until its end."""
-        for pair, (_, since) in list(self._waits.items()):
+        for pair, (_, since) in list(self.waits.items()):
             if since is None or last is None or last - since > WAITED:
                 self._is_unanswered(pair)

@@ -101,10 +101,10 @@ def run(*words, **more):
     return status, support.without_times(answer), said
 
 
-def acknowledged(lines, reports):
-    """How many messages of VI between 1 and 2 the receiver says it has, though `follow` reports them not: by the lines of a log of random packets."""
+def acknowledged(lines, reports, length):
+    """How many messages of VI of this length the receiver says it has, though `follow` reports them not: by the lines of a log of random packets."""
     reported = {int(line) for line in re.findall(r"^(\d+) - group VI ", reports, re.MULTILINE)}
-    transfers, begun, found = {}, set(), Counter()
+    transfers, begun, early, found = {}, set(), set(), Counter()
     for number, line in enumerate(lines, 1):
         if len(line) != 25:  # it was cut
             continue
@@ -112,7 +112,8 @@ def acknowledged(lines, reports):
         if line[2:4] == "EC" and data[0] in (16, 32) and data[5:] in (b"\xEC\xFE\0", b"\xEB\xFE\0") and data[3] == -(-data[1] // 7) and (data[0] == 32) == (to == "F"):
             transfers[source, to] = data[5:]
             begun.discard((source, to))
-            if data[5:] == b"\xEC\xFE\0":
+            early.discard((source, to))
+            if data[5:] == b"\xEC\xFE\0" and data[1] == length:
                 begun.add((source, to))
         elif line[2:4] == "EC" and data[0] == 255:
             pair = next((pair for pair in ((source, to), (to, source)) if pair in transfers), None)
@@ -120,8 +121,11 @@ def acknowledged(lines, reports):
         elif line[2:4] == "EC" and data[0] == 19 and (to, source) in begun and transfers.get((to, source)) == data[5:]:
             begun.discard((to, source))
             found[to, source] += 1
+            early.add((to, source))
         elif line[2:4] == "EB" and number in reported:
+            found[source, to] -= (source, to) in early  # it is reported after all
             begun.discard((source, to))
+            early.discard((source, to))
     return found
 
 
@@ -261,7 +265,7 @@ class Against(InFolder):
             told = Counter()
             for source, to, times in re.findall(r": VI from (\d) to (\S+): announced, and not carried whole: [^(\n]*(?:  \((\d+) times\))?\n", found):
                 told[source, to] += int(times or 1)
-            again = acknowledged(text_of(log).splitlines(), program.call(["follow", plan, log])[1])
+            again = acknowledged(text_of(log).splitlines(), program.call(["follow", plan, log])[1], length)
             self.assertGreater(sum(again.values()), 0)
             self.assertEqual(told, begun - whole - again)
             self.assertEqual(len(told), 4)
