@@ -1,5 +1,5 @@
 #!/usr/bin/python3
-"""Compares many logs with a plan, at once: deviations by log, flow and unit, silences, NAMEs and signals, in one table of the fleet.
+"""Compares many logs with a plan, at once: deviations, silences, loads, NAMEs, signals and trouble codes, in one table of the fleet.
 
 Each log is a task for a processor of this machine, or for a worker of a Dask cluster. A log that can't be read is named, and the others
 are done.
@@ -77,6 +77,19 @@ def progressing(drives: Iterable[Drive], count: int) -> Iterator[Drive]:
         print("\r\033[K", end="", file=sys.stderr, flush=True)
 
 
+def gathered(drives: Iterable[Drive], count: int) -> tuple[dict[str, Drive], bool]:
+    """The tables of logs by their names, and whether all are there: an interrupt keeps those that are done, if there is one."""
+    found: dict[str, Drive] = {}
+    try:
+        for drive in progressing(drives, count):
+            found[drive["log"]] = drive
+    except KeyboardInterrupt:
+        if not found:
+            raise
+        return found, False
+    return found, True
+
+
 def plan_of(name: str, options: list[str]) -> tuple[str, str]:
     """The text of a plan by which `against` can read logs, with these options, and what `show` answers of it; of another one it says why."""
     with opened(name) as plan:
@@ -95,6 +108,8 @@ def main(words: list[str] | None = None) -> int:
     program.plan_word(parser)
     parser.add_argument("logs", metavar="LOG", nargs="+", help="the name of a file as candump -L writes it")
     parser.add_argument("--jitter", metavar="TIME", help="by how much messages may come nearer than their flow's period, as of against")
+    parser.add_argument("--silence", metavar="N", help="after how many periods a flow is silent, as of against")
+    parser.add_argument("--events", metavar="FLOW", action="append", default=[], help="a flow that is sent when something happens, as of against")
     interface_option(parser)
     parser.add_argument("--json", action="store_true", help="as a JSON object with an array for each table")
     who = parser.add_mutually_exclusive_group()
@@ -102,18 +117,27 @@ def main(words: list[str] | None = None) -> int:
     who.add_argument("--scheduler", metavar="ADDRESS", type=scheduler_of, help="the scheduler of a Dask cluster, whose workers read the logs "
                      "by the same names")
     given = parser.parse_args(words)
-    options = [word for key in ("jitter", "interface") for value in [getattr(given, key)] if value is not None for word in (f"--{key}", value)]
+    options = [word for key in ("jitter", "silence", "interface") for value in [getattr(given, key)] if value is not None for word in (f"--{key}", value)]
+    options += [word for name in given.events for word in ("--events", name)]
     plan, logs = plan_of(given.plan, options), different(given.logs)
     tasks: list[Task] = [(*plan, log, os.path.abspath(log), options) for log in largest_first(logs)]
-    found = {drive["log"]: drive for drive in progressing(team(given.processes, given.scheduler)(tasks), len(tasks))}
-    fleet = Fleet(Tables(plan[1]), [found[log] for log in logs])
-    if given.json:
+    found, is_whole = gathered(team(given.processes, given.scheduler)(tasks), len(tasks))
+    put(Fleet(Tables(plan[1]), [found[log] for log in logs if log in found]), given.json)
+    if not is_whole:
+        program.say(f"interrupted: {len(found)} of {len(logs)} logs are done, and in the table")
+        sys.stdout.flush()
+        program.interrupted()
+    return max((drive["status"] for drive in found.values() if drive["failed"]), default=int(any(drive["deviations"] for drive in found.values())))
+
+
+def put(fleet: Fleet, is_json: bool) -> None:
+    """Writes the tables."""
+    if is_json:
         json.dump(fleet.tables_of(), sys.stdout, indent=1)
         print()
-    else:
-        for line in fleet.lines():
-            print(line)
-    return max((drive["status"] for drive in fleet.failed), default=int(any(drive["deviations"] for drive in fleet.drives)))
+        return
+    for line in fleet.lines():
+        print(line)
 
 
 if __name__ == "__main__":

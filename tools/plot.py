@@ -37,7 +37,7 @@ def drawn(log: Log, plan: str, tables: Tables, choice: Choice) -> tuple[dict[Col
     wanted = Wanted(choice, lambda reading: reading)
     curves = curves_of(timeline.passed(follow(plan, log, tables, counts)), wanted, timeline.clock)
     counts.refuse_without_frames(log)
-    counts.say(log.interface)
+    counts.say(log)
     timeline.clock.say(log)
     by_signal = defaultdict(list)
     for curve in curves:

@@ -252,7 +252,7 @@ def main(words: list[str] | None = None) -> int:
             form: Form[Any] = given.form(log, choice)
             said = with_frames(said_of(shorter, log, parts, counts), log, counts)
             put_all(form.head(), lines_of(said, Wanted(choice, form.made), form, clock), log.is_live)
-    counts.say(log.interface)
+    counts.say(log)
     clock.say(log)
     return 0
 

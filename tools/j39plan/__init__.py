@@ -254,11 +254,12 @@ def _notice(told: Iterable[str], level: int = 3) -> None:
 
 
 def deviations(plan: Plan, log: str | os.PathLike[str], options: Iterable[str] = ()) -> list[Deviation]:
-    """Where a log isn't as the plan has it, as `j39plan-against` writes it: of each its first `line`, None where it has none, its `text`,
-    and how many `times` it was met. `options` are those of that tool, as `["--jitter", "2.5"]`. Raises as `follow` does."""
+    """Where a log isn't as the plan has it, as `j39plan-against --json` writes it: of each its `line`, None where it has none, its `text`, how many
+    `times` it was met, its `kind`, the number of its `flow`, its `unit`, the `time` of the line in seconds, and the `value` that was measured.
+    `options` are those of that tool, as `["--jitter", "2.5"]`. Raises as `follow` does."""
     log = os.fspath(log)
     with open(log, "rb"), _with_program(), program.file_of(plan.text) as copy:
-        found, said = fleet_drives.compared(copy, log, list(options))
+        found, said, _ = fleet_drives.compared(copy, log, list(options))
     _notice(said)
     return found
 

@@ -1,5 +1,5 @@
 """What a log of a fleet has: where it isn't as the plan has it, how often each flow was sent and how long it was silent, who claimed which
-address, and between which values each signal was.
+address, between which values each signal was, and which trouble codes came.
 
 A log is a task of its own, which a process of this machine does or a worker of another one; so what it answers is a table of plain
 values, and says also why a log could not be read.
@@ -7,35 +7,35 @@ values, and says also why a log could not be read.
 
 from __future__ import annotations
 
+import json
 import os
-import re
 import stat
 import subprocess
 import sys
 from collections.abc import Iterator
 from functools import lru_cache
-from typing import NamedTuple, TypedDict
+from typing import Any, NamedTuple, TypedDict
 
 from . import program
+from .fleet_signals import Code, Signals, Spread
 from .log_clock import DAY, SECOND, nanoseconds
 from .log_files import OneInterface
-from .log_readings import reading_of, scale_of
-from .log_reports import Writer, as_it_comes
+from .log_reports import Writer, as_it_comes, who_of
 from .plan_tables import Tables
 
-# How many lines of signals are counted before they are looked at.
-COUNTED = 1 << 16
-
-# A deviation as `against` writes it, behind the name of the file: its line, what it is, and how often it was met.
-DEVIATION = re.compile(r"(?::(?P<line>\d+))?: (?P<text>.*?)(?:  \((?P<times>\d+) times\))?")
-
-
 class Deviation(NamedTuple):
-    """What `against` tells: the first line, None where it has none; the text; how often it was met."""
+    """What `against` tells: the line, None where it has none; the text; how often it was met; its kind; what is the same of it in all logs; the
+    number of its flow, and its unit, None where it is of none; what was measured, and the time of the line in seconds."""
 
     line: int | None
     text: str
     times: int
+    kind: str = ""
+    what: str = ""
+    flow: int | None = None
+    unit: str | None = None
+    value: float | None = None
+    time: float | None = None
 
 
 class Silence(NamedTuple):
@@ -52,29 +52,23 @@ class Claimed(NamedTuple):
     times: int
 
 
-class Spread(NamedTuple):
-    """The least and the greatest value of a signal, with their lines, None where it has none; and how often it had each state."""
-
-    least: float | None
-    least_line: int | None
-    most: float | None
-    most_line: int | None
-    states: dict[str, int]
-
-
 class Drive(TypedDict):
-    """What a log has. `failed` says why it couldn't be read, `status` as the tool would end then; else both are empty."""
+    """What a log has. `failed` says why it couldn't be read, `status` as the tool would end then; else both are empty. `whole` has its begin and
+    end in seconds, and the bits of a second on the bus, in the mean and at most. `others` are signals of those whom no flow has."""
 
     log: str
     status: int
     failed: str
     notes: list[str]
     deviations: list[Deviation]
+    whole: dict[str, float]
     counts: dict[str, int]
     sent: dict[int, int]
     silences: dict[int, Silence]
     claims: dict[str, Claimed]
     signals: dict[str, Spread]
+    others: dict[str, Spread]
+    codes: list[Code]
 
 
 def command(tool: str) -> str:
@@ -91,21 +85,22 @@ def answered(words: list[str]) -> tuple[int, str, str]:
     return ended.returncode, ended.stdout.decode(errors="replace"), ended.stderr.decode(errors="replace")
 
 
-def compared(plan: str, log: str, options: list[str]) -> tuple[list[Deviation], list[str]]:
-    """The deviations that `against` writes, and what it says beside them. It is a process of its own, so that tasks may be threads of one."""
-    status, answer, said = answered([sys.executable, command("against"), *options, "--", plan, log])
+def compared(plan: str, log: str, options: list[str]) -> tuple[list[Deviation], list[str], dict[str, float]]:
+    """The deviations that `against` writes, what it says beside them, and what it has of the whole log. It is a process of its own, so that tasks
+    may be threads of one."""
+    status, answer, said = answered([sys.executable, command("against"), "--json", *options, "--", plan, log])
     notes = [line.partition(": ")[2] for line in said.splitlines()]
     if status not in (0, 1) or not answer:
         raise program.Refused(status or program.FAULT, notes[-1] if notes else f"against ended with {status}")
-    if not answer.startswith((log, plan, "deviations ")):
+    if not answer.startswith("{"):
         raise program.Refused(program.UNREADABLE, f"with {' '.join(options)} against writes no list of deviations")
-    found = []
-    for line in answer.splitlines()[:-1]:
-        place = DEVIATION.fullmatch(line.removeprefix(log).removeprefix(plan))
-        assert place is not None, line
-        number, times = place["line"], place["times"]
-        found.append(Deviation(int(number) if number else None, place["text"], int(times or 1)))
-    return found, notes
+    *rows, whole = map(json.loads, answer.splitlines())
+    return [deviation_of(row) for row in rows if "times" in row], notes, whole
+
+
+def deviation_of(row: dict[str, Any]) -> Deviation:
+    """A deviation of `against`."""
+    return Deviation(row.get("line"), row["text"], row["times"], row["kind"], row["what"], row.get("flow"), row.get("unit"), row.get("value"), row.get("time"))
 
 
 class Silences:
@@ -141,53 +136,6 @@ class Silences:
         return {flow: Silence(longest / SECOND, line) for flow, (longest, line) in sorted(self._longest.items())}
 
 
-class Signals:
-    """Between which values signals were, by the lines that `follow` writes of them."""
-
-    def __init__(self, tables: Tables) -> None:
-        self._scales = {(group.label, signal.label): scale_of(signal.unit) for group in tables.groups for signal in group.signals}
-        self._units = {f"{group}.{signal}": scale.unit for (group, signal), scale in self._scales.items()}
-        self._counts: dict[tuple[str, bytes], list[int]] = {}
-        self._found: dict[str, Spread] = {}
-
-    def count(self, group: str, line: bytes, number: int) -> None:
-        """A line below that of a message."""
-        known = self._counts.get((group, line))
-        if known is not None:
-            known[0] += 1
-            return
-        if len(self._counts) >= COUNTED:
-            self._look()
-        self._counts[group, line] = [1, number]
-
-    def found(self) -> dict[str, Spread]:
-        """What was counted, by group and signal."""
-        self._look()
-        return self._found
-
-    def _look(self) -> None:
-        """Takes what was counted apart."""
-        for (group, line), (times, number) in self._counts.items():
-            label, _, said = line.decode().strip().partition(" ")
-            signal = label.partition("[")[0]  # of a record its place stands behind the label
-            scale = self._scales.get((group, signal))
-            if scale is not None:
-                reading = reading_of(said, scale)
-                self._see(f"{group}.{signal}", reading.state, reading.value, times, number)
-        self._counts.clear()
-
-    def _see(self, name: str, state: str, value: str, times: int, line: int) -> None:
-        least, least_line, most, most_line, states = self._found.get(name, Spread(None, None, None, None, {}))
-        states[state] = states.get(state, 0) + times
-        if state == "value":
-            number = float(value)
-            if least is None or number < least:
-                least, least_line = number, line
-            if most is None or number > most:
-                most, most_line = number, line
-        self._found[name] = Spread(least, least_line, most, most_line, states)
-
-
 class Followed:
     """What `follow` says of a log, taken together."""
 
@@ -195,7 +143,7 @@ class Followed:
         self._flows = len(tables.flows)
         self._signals, self._silences = Signals(tables), Silences()
         self._claims: dict[str, tuple[list[int | None], int]] = {}
-        self._group, self._line = "", 0
+        self._group, self._sender, self._line, self._at = "", "", 0, None
         self.counts: dict[str, int] = {}
         self.sent: dict[int, int] = {}
 
@@ -203,7 +151,7 @@ class Followed:
         """Takes the lines of `follow`."""
         for line in lines:
             if line[:2] == b"  ":
-                self._signals.count(self._group, line, self._line)
+                self._signals.count(self._group, self._sender, line, self._line, self._at)
             elif line[:1].isdigit():
                 self._report(line.decode().split())
             else:
@@ -211,11 +159,12 @@ class Followed:
 
     def _report(self, words: list[str]) -> None:
         self._line = int(words[0])
-        at = nanoseconds(words[1])
+        at = self._at = nanoseconds(words[1])
         if at is not None:
             self._silences.see(at)
         if words[2] == "group":
-            self._group = words[3]
+            self._group, self._sender = words[3], who_of(words[5]).shown
+            self._signals.sent(words[8] == "flow")
             if words[8] == "flow":
                 self._silences.sent(int(words[9]), self._line)
         elif words[2] in ("claim", "cannot"):
@@ -235,7 +184,8 @@ class Followed:
         drive["counts"], drive["sent"] = self.counts, self.sent
         drive["silences"] = self._silences.found(self._flows)
         drive["claims"] = {name.removeprefix("#"): Claimed(*claimed) for name, claimed in self._claims.items()}
-        drive["signals"] = self._signals.found()
+        drive["signals"], drive["others"] = self._signals.found()
+        drive["codes"] = self._signals.codes()
 
 
 def interface_in(options: list[str]) -> str | None:
@@ -270,12 +220,15 @@ def followed(plan: str, log: str, tables: Tables, interface: str | None) -> Foll
     found.counts["elsewhere"] += part.elsewhere if part else 0
     if found.counts["frames"] == 0 and found.counts["bad"]:
         raise program.Refused(program.UNREADABLE, "none of its lines spells a frame: is it a log of candump -L?")
+    if not found.counts["frames"] + found.counts.get("skipped", 0) + found.counts["elsewhere"]:
+        raise program.Refused(program.UNREADABLE, "it has no frame")
     return found
 
 
 def empty(log: str) -> Drive:
     """The table of a log of which nothing is known yet."""
-    return Drive(log=log, status=0, failed="", notes=[], deviations=[], counts={}, sent={}, silences={}, claims={}, signals={})
+    return Drive(log=log, status=0, failed="", notes=[], deviations=[], whole={}, counts={}, sent={}, silences={}, claims={}, signals={},
+                 others={}, codes=[])
 
 
 @lru_cache(maxsize=1)
@@ -294,7 +247,7 @@ def drive_of(plan: str, shown: str, log: str, path: str, options: list[str]) -> 
         with open(path, "rb"), program.file_of(plan) as copy:
             found = followed(copy, path, tables_of(shown), interface_in(options))
             found.put(drive)
-            drive["deviations"], drive["notes"] = compared(copy, path, options)
+            drive["deviations"], drive["notes"], drive["whole"] = compared(copy, path, options)
     except program.Refused as refused:
         drive["status"], drive["failed"] = refused.status, str(refused) or f"ended with {refused.status}"
     except OSError as fault:

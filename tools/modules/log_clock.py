@@ -41,6 +41,12 @@ def milliseconds(duration: int) -> str:
     return text.rstrip("0").rstrip(".")
 
 
+def spelled_time(at: int) -> str:
+    """A time in nanoseconds as a log spells it: in microseconds, or in nanoseconds where it has these."""
+    rest = at % SECOND
+    return f"({at // SECOND}.{rest:09})" if rest % 1000 else f"({at // SECOND}.{rest // 1000:06})"
+
+
 def in_words(duration: int) -> str:
     """A duration in nanoseconds, as far as one wants to know it."""
     if duration < SECOND:
@@ -53,7 +59,7 @@ class Clock:
 
     def __init__(self) -> None:
         self.shift, self.last = 0, 0
-        self.is_set = False  # at the line that was seen last
+        self.is_set = self.is_back = False  # at the line that was seen last: whether the clock was set, and whether time goes back
         self.has_times = False
         self.first_line = self.back = self.on = 0
         self._said = self._glanced = self._end = ""
@@ -64,7 +70,7 @@ class Clock:
         if at is None:
             return None
         step, self.last = at - self.last, at
-        self.is_set = False
+        self.is_set = self.is_back = False
         if not self.has_times:
             self.has_times = True
         elif step < -ORDER or step > DAY:
@@ -84,7 +90,7 @@ class Clock:
 
     def _set(self, line: int, step: int) -> None:
         """The clock was set, or what came is out of order."""
-        self.is_set = step > DAY or -step > BACK
+        self.is_set, self.is_back = step > DAY or -step > BACK, step < 0
         if self.is_set:
             self.shift -= step
         self.back, self.on = self.back + (step < 0), self.on + (step > 0)

@@ -5,7 +5,8 @@ import re
 from collections.abc import Iterator
 from typing import NamedTuple
 
-from .log_clock import MILLISECOND, milliseconds
+from .log_clock import MILLISECOND, SECOND
+from .log_deviations import Found
 from .plan_tables import Flow
 
 # After how many periods without a message a flow is silent, where it isn't said.
@@ -13,9 +14,6 @@ SILENCE = 5
 
 # Distances are told apart by so many nanoseconds where the usual one is looked for.
 STEP = 10_000
-
-# What is told of a line: the line, None of the plan, the text, and how often it was met.
-Deviation = tuple[int | None, str, int]
 
 
 class Tolerance(NamedTuple):
@@ -41,58 +39,74 @@ class Tolerance(NamedTuple):
         return self.duration + period * self.share
 
 
-class Extreme(NamedTuple):
-    """The least or the greatest of distances in nanoseconds, the line at its end, and how many are told."""
-
-    distance: int
-    line: int
-    count: int
-
-
 class Limits(NamedTuple):
-    """How near messages of a flow may come in nanoseconds, and how far apart; what the plan has of that."""
+    """How near messages of a flow may come in nanoseconds, and how far apart; what the plan has of that; and how long one may wait on the bus,
+    so that it comes as much nearer or later."""
 
     least: int
     most: int | None
     why: str
+    wait: int
 
 
-def limits_of(flow: Flow, tolerance: Tolerance, silence: int) -> Limits | None:
+def limits_of(flow: Flow, tolerance: Tolerance, silence: int, wait: int) -> Limits | None:
     """The limits of a flow; None of one without a period."""
     if flow.period is None:
         return None
     least = flow.period * MILLISECOND - tolerance.at(flow.period) - flow.jitter * MILLISECOND
     if flow.pause is not None:
         most = (flow.pause + flow.jitter) * MILLISECOND + tolerance.at(flow.pause)
-        return Limits(least, most, f"its pause is {flow.pause} ms" + (f" and its jitter {flow.jitter} ms" if flow.jitter else ""))
+        return Limits(least, most, f"its pause is {flow.pause} ms" + (f" and its jitter {flow.jitter} ms" if flow.jitter else ""), wait)
     most = silence * flow.period * MILLISECOND
-    return Limits(least, None if flow.on_request or not silence else most, f"its period is {flow.period} ms")
+    return Limits(least, None if flow.on_request or not silence else most, f"its period is {flow.period} ms", wait)
+
+
+class Rule(NamedTuple):
+    """After how many periods a flow is silent, which flows are sent when something happens, by their numbers, and whether flows without a
+    period are looked at too."""
+
+    silence: int
+    events: frozenset[int]
+    is_whole: bool
+
+    def silence_of(self, number: int, flow: Flow) -> int:
+        """After how many periods this flow is silent; 0 where that isn't told."""
+        return 0 if number in self.events and flow.pause is None else self.silence
 
 
 class Distances:
     """The distances of messages of flows. What a flow has begun in the order of the log counts; where a clock was set, from there on."""
 
-    def __init__(self, flows: list[Flow], tolerance: Tolerance, silence: int, is_whole: bool) -> None:
-        self._flows, self._tolerance = flows, tolerance
-        self._limits = {number: limits_of(flow, tolerance, silence) for number, flow in enumerate(flows, 1)}
-        self._looked = {number for number, limits in self._limits.items() if limits or is_whole}
-        self._usual: dict[int, dict[int, int]] | None = {} if is_whole else None
+    def __init__(self, flows: list[Flow], tolerance: Tolerance, rule: Rule, waits: dict[int, int], found: Found) -> None:
+        self._flows, self._found = flows, found
+        self._limits = {number: limits_of(flow, tolerance, rule.silence_of(number, flow), waits.get(number, 0)) for number, flow in enumerate(flows, 1)}
+        self._looked = {number for number, limits in self._limits.items() if limits or rule.is_whole}
+        self._usual: dict[int, dict[int, int]] | None = {} if rule.is_whole else None
         self._last: dict[int, tuple[int, int]] = {}
         self._since: tuple[int, int] | None = None  # where the clock was set last
         self._silent: set[int] = set()
+        self._heard: dict[str, int] = {}  # when each unit was heard first
         self.counts: dict[int, int] = {}
-        self.nearest: dict[int, Extreme] = {}
-        self.longest: dict[int, Extreme] = {}
+        self.explained: dict[int, int] = {}  # of each flow how many distances a wait on the bus explains
         self.without_time = False
 
     def anew(self, line: int, at: int) -> None:
-        """The clock was set: distances begin here."""
+        """The clock was set, or nothing was heard: distances begin here."""
         self._since = line, at
         self._silent.update(self._last)
         self._last.clear()
 
+    def alive(self, at: int) -> int:
+        """How many flows aren't silent at a time."""
+        return sum(limits is not None and limits.most is not None and number in self._last and at - self._last[number][1] <= limits.most
+                   for number, limits in self._limits.items())
+
+    def heard(self, unit: str, at: int) -> None:
+        """A unit claims an address, or sends something."""
+        self._heard.setdefault(unit, at)
+
     def sent(self, number: int, line: int, at: int | None) -> None:
-        """A message of a flow, by when it began."""
+        """A message of a flow, by when it began. The first one counts from when its unit was heard first."""
         if number not in self._looked:
             return
         self.counts[number] = self.counts.get(number, 0) + 1
@@ -101,10 +115,21 @@ class Distances:
             return
         last = self._last.get(number)
         self._last[number] = line, at
-        if last is not None and last[1] <= at:
-            self._compare(number, line, at - last[1])
+        if last is None:
+            self._begins(number, line, at)
+        elif last[1] <= at:
+            self._compare(number, line, at, at - last[1])
 
-    def _compare(self, number: int, line: int, distance: int) -> None:
+    def _begins(self, number: int, line: int, at: int) -> None:
+        """The first message of a flow: how late it comes."""
+        limits = self._limits[number]
+        if self._since is not None or self.counts[number] > 1 or limits is None or limits.most is None:
+            return
+        late = at - self._heard.get(self._flows[number - 1].sender, at)
+        if late > max(limits.most, SECOND):
+            self._silence(number, line, at, late, limits)
+
+    def _compare(self, number: int, line: int, at: int, distance: int) -> None:
         """A distance of a flow."""
         if self._usual is not None:
             usual = self._usual.setdefault(number, {})
@@ -113,34 +138,37 @@ class Distances:
         if limits is None:
             return
         if distance < limits.least:
-            known = self.nearest.get(number)
-            if known is None or distance < known.distance:
-                self.nearest[number] = Extreme(distance, line, known.count + 1 if known else 1)
-            else:
-                self.nearest[number] = known._replace(count=known.count + 1)
+            self._near(number, line, at, distance, limits)
         elif limits.most is not None and distance > limits.most:
-            known = self.longest.get(number)
-            if known is None or distance > known.distance:
-                self.longest[number] = Extreme(distance, line, known.count + 1 if known else 1)
-            else:
-                self.longest[number] = known._replace(count=known.count + 1)
+            self._silence(number, line, at, distance, limits)
 
-    def end(self, last: int | None) -> Iterator[Deviation]:
-        """What is told of them where the last time of the log is this one."""
-        for number, nearest in self.nearest.items():
-            flow = self._flows[number - 1]
-            jitter = f" and its jitter {flow.jitter} ms" if flow.jitter else ""
-            text = f"{milliseconds(nearest.distance)} ms after the one before, its period is {flow.period} ms{jitter}"
-            yield nearest.line, f"{self.name(number)}: {text}", nearest.count
-        for number, longest in self.longest.items():
-            limits = self._limits[number]
-            assert limits is not None
-            yield longest.line, f"{self.name(number)}: not sent for {milliseconds(longest.distance)} ms before, {limits.why}", longest.count
+    def _near(self, number: int, line: int, at: int, distance: int, limits: Limits) -> None:
+        """Two messages are nearer than the period."""
+        if distance >= limits.least - limits.wait:
+            self.explained[number] = self.explained.get(number, 0) + 1
+            return
+        flow = self._flows[number - 1]
+        text = f"{{}} ms after the one before, its period is {flow.period} ms" + (f" and its jitter {flow.jitter} ms" if flow.jitter else "")
+        self._tell("near", number, text, line, at, distance)
+
+    def _silence(self, number: int, line: int, at: int, distance: int, limits: Limits) -> None:
+        """A message comes after a silence."""
+        assert limits.most is not None
+        if distance <= limits.most + limits.wait:
+            self.explained[number] = self.explained.get(number, 0) + 1
+            return
+        self._tell("silent", number, f"not sent for {{}} ms before, {limits.why}", line, at, distance)
+
+    def _tell(self, kind: str, number: int, text: str, line: int, at: int, value: int) -> None:
+        """A deviation of a flow."""
+        self._found.tell(kind, f"{self.name(number)}: {text}", line, at, value, flow=number, unit=self._flows[number - 1].sender)
+
+    def end(self, last: int | None) -> None:
+        """Tells what has stopped, where the last time of the log is this one."""
         for number, limits in self._limits.items():
             begin = self._last.get(number, self._since if number in self._silent else None)
-            if limits and limits.most is not None and begin and last is not None and last - begin[1] > limits.most:
-                text = f"not sent any more, for {milliseconds(last - begin[1])} ms to the log's end, {limits.why}"
-                yield begin[0], f"{self.name(number)}: {text}", 1
+            if limits and limits.most is not None and begin and last is not None and last - begin[1] > limits.most + limits.wait:
+                self._tell("stopped", number, f"not sent any more, for {{}} ms to the log's end, {limits.why}", begin[0], begin[1], last - begin[1])
 
     def name(self, number: int) -> str:
         """A flow by its number."""

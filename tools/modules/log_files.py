@@ -49,6 +49,7 @@ class Log(io.RawIOBase):
         self.is_live = any(map(is_live, self.files))
         self._at, self._lines, self._starts, self._is_cut = 0, 0, [0], False
         self._head = self._tail = b""
+        self._ends: tuple[bytes, bytes] | None = None
         self._unframed: dict[str, bytes] = {}  # the last bytes of each file that was read and had no frame so far
         self._framed: set[str] = set()
         self._woken, self._wake = os.pipe()
@@ -58,7 +59,9 @@ class Log(io.RawIOBase):
         return self
 
     def close(self) -> None:
-        """Closes the files."""
+        """Closes the files; how the log begins and ends is kept."""
+        if not self.closed:
+            self._ends = self.ends()
         for file in self.files:
             file.close()
         super().close()
@@ -117,10 +120,20 @@ class Log(io.RawIOBase):
 
     def ends(self) -> tuple[bytes, bytes]:
         """The begin and the end of a log that was read."""
-        if self._head:
+        if self._ends is not None:
+            return self._ends
+        if self._head or self.is_live:
             return self._head, self._tail
         file, size = self.files[0].fileno(), os.fstat(self.files[0].fileno()).st_size
         return os.pread(file, KEPT, 0), os.pread(file, KEPT, max(size - KEPT, 0))
+
+    def interfaces(self) -> tuple[str, list[str]]:
+        """Of a log that was read the interface that is read, the first one where none was asked for, and others that stand at its begin and
+        end."""
+        begin, end = self.ends()
+        named = dict.fromkeys(os.fsdecode(name) for line in (begin + b"\n" + end).split(b"\n") if b"#" in line for name in [interface_of(line)] if name)
+        read = self.interface or next(iter(named), "")
+        return read, [name for name in named if name != read][:NAMED]
 
     def _comes(self, file: io.FileIO) -> bool:
         """Waits until more of a file is there, or it ends; behind an interrupt not for long."""

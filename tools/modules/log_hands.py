@@ -1,13 +1,12 @@
 """Who holds which address by the claims of a log, and how units keep the rules of claims (SAE J1939-81)."""
 
-from collections.abc import Iterator
 from typing import NamedTuple
 
 from .j1939 import POOL
 from .log_clock import MILLISECOND, SECOND, milliseconds
-from .log_distances import Deviation
+from .log_deviations import Found
 from .log_reports import Who
-from .plan_tables import Unit
+from .plan_tables import Tables
 
 # So long who claims one of the addresses that may be chosen waits before it sends, and so long its claim may be contested.
 CONTEST = 250 * MILLISECOND
@@ -15,8 +14,8 @@ CONTEST = 250 * MILLISECOND
 # So long who was asked for its claim may take to answer.
 ANSWER = 1250 * MILLISECOND
 
-# Who sent something within this time is on.
-HEARD = SECOND
+# Who sent something within this time is on, or within so many of its shortest periods.
+HEARD, PERIODS = SECOND, 2
 
 # An address that changes hands this often is told.
 HANDS = 3
@@ -26,13 +25,30 @@ Key = str
 
 
 class Claimed(NamedTuple):
-    """A claim: its line and time, who made it, who held the address before, and whether that one is on and has the smaller NAME."""
+    """A claim: its line and time, who made it, who held the address before and wasn't heard of elsewhere since, and whether that one is on and
+    has the smaller NAME."""
 
     line: int
     at: int | None
     who: Who
     before: Who | None
     is_contest: bool
+
+
+class Taken(NamedTuple):
+    """An address that somebody who isn't planned took from a unit: where, and whether the unit was on then."""
+
+    line: int
+    at: int | None
+    who: Who
+    was_on: bool
+
+
+class Left(NamedTuple):
+    """Who left an address for another one, and when."""
+
+    who: Who
+    at: int | None
 
 
 class Changes(NamedTuple):
@@ -50,71 +66,163 @@ def key_of(who: Who) -> Key:
     return who.label or who.name or ""
 
 
+def named(who: Who) -> str:
+    """A unit by its label, anybody else by the NAME, in words."""
+    return who.label or f"NAME {who.name}"
+
+
+def times_of(tables: Tables) -> dict[Key, int]:
+    """Of each unit that sends at a period the time within which one that is on was heard."""
+    found: dict[Key, int] = {}
+    for flow in tables.flows:
+        if flow.period and not flow.on_request:
+            found[flow.sender] = min(found.get(flow.sender, flow.period), flow.period)
+    return {label: max(HEARD, PERIODS * period * MILLISECOND) for label, period in found.items()}
+
+
 class Hands:
     """Who holds which address, each by who claimed it last, as far as claims tell it."""
 
-    def __init__(self, units: list[Unit]) -> None:
-        self._names = {unit.label: unit.name for unit in units}
+    def __init__(self, tables: Tables, found: Found) -> None:
+        self._names = {unit.label: unit.name for unit in tables.units}
+        self._times, self._found = times_of(tables), found
         self._holders: dict[int, Who] = {}
         self._at: dict[Key, int] = {}
         self._heard: dict[Key, int] = {}
+        self._claimed: dict[Key, int] = {}  # when each claimed an address last
         self._fresh: dict[int, Claimed] = {}  # claims of which it isn't known yet what comes of them
+        self._lost: dict[int, tuple[Key, int]] = {}  # of each address who held it before the last change, and when that was
+        self._left: dict[int, Left] = {}
+        self._taken: dict[Key, Taken] = {}
         self._changes: dict[int, Changes] = {}
-        self._asked = -ANSWER
+        self._asked: int | None = None
         self.seen: set[Key] = set()
 
     def asked(self, at: int | None) -> None:
         """Claims are asked for."""
         self._asked = self._asked if at is None else at
 
+    def anew(self) -> None:
+        """The clock was set: times before count no more."""
+        self._asked = None
+        for times in (self._heard, self._claimed, self._lost, self._fresh):
+            times.clear()
+
     def claim(self, line: int, at: int | None, who: Who) -> tuple[int, ...]:
         """A claim, or that there was no address to claim: the addresses that somebody else holds now."""
         key, address = key_of(who), who.address
+        if at is not None:
+            self._pass(at)
         before = self._holders.get(address) if address is not None else None
-        left = self._at.get(key)
-        changed = []
-        if left is not None and left != address:
-            del self._at[key], self._holders[left]
-            changed.append(left)
-        for other in [other for other, claimed in self._fresh.items() if claimed.is_contest and claimed.before and key_of(claimed.before) == key]:
-            del self._fresh[other]  # the one before has defended it, or moved
-        if address is not None and (before is None or key_of(before) != key):
+        changed = self._leaves(key, at, who)
+        self._settles(key)
+        if address is not None and before is not None and key_of(before) == key:
+            self._claims_again(line, at, who)
+        elif address is not None:
             changed.append(address)
-            if before is not None:
-                self._at.pop(key_of(before), None)
-                self._change(line, at, before, who)
-            if address in POOL and self._is_new(key, at):
-                self._fresh[address] = Claimed(line, at, who, before, self._is_contested(at, before, who))
-            self._holders[address], self._at[key] = who, address
+            self._takes(line, at, who, before)
+        self._is_displaced(key, who)
         self.seen.add(key)
         if at is not None:
-            self._heard[key] = at
+            self._heard[key] = self._claimed[key] = at
         return tuple(changed)
+
+    def _leaves(self, key: Key, at: int | None, who: Who) -> list[int]:
+        """The address that a claim of another one leaves."""
+        left = self._at.get(key)
+        if left is None or left == who.address:
+            return []
+        del self._at[key], self._holders[left]
+        self._left[left] = Left(who, at)
+        return [left]
+
+    def _settles(self, key: Key) -> None:
+        """Somebody is heard of: of claims of its address, it has defended this, or moved."""
+        for address, claimed in list(self._fresh.items()):
+            if claimed.before and key_of(claimed.before) == key:
+                del self._fresh[address]
+                if not claimed.is_contest and address != self._at.get(key):
+                    self._fresh[address] = claimed._replace(before=None)
+
+    def _takes(self, line: int, at: int | None, who: Who, before: Who | None) -> None:
+        """Somebody claims an address that it doesn't hold."""
+        key, address = key_of(who), who.address
+        assert address is not None
+        is_defence = self._defends(key, address, at)
+        self._left.pop(address, None)
+        self._fresh.pop(address, None)
+        if before is not None:
+            self._at.pop(key_of(before), None)
+            self._change(line, at, before, who)
+            if at is not None:
+                self._lost[address] = key_of(before), at
+            if before.label and not who.label:
+                self._taken[before.label] = Taken(line, at, who, self._is_on(before.label, at))
+        if address in POOL and self._is_new(key, at) and not is_defence:
+            self._fresh[address] = Claimed(line, at, who, before, self._is_contested(at, before, who))
+        self._holders[address], self._at[key] = who, address
+
+    def _claims_again(self, line: int, at: int | None, who: Who) -> None:
+        """Somebody claims the address that it holds: as an answer, or since it has restarted. Where there are no times that isn't known."""
+        last = self._claimed.get(key_of(who))
+        if at is None or self._was_asked(at) or last is not None and 0 <= at - last < CONTEST:
+            return
+        text = f"{named(who)} claims address {who.address}, which it holds, and nobody asked: has it restarted?"
+        self._found.tell("restart", text, line, at, unit=who.label)
+
+    def _is_displaced(self, key: Key, who: Who) -> None:
+        """A unit claims something: where somebody who isn't planned took its address, this one instead, or the same again."""
+        taken = self._taken.pop(key, None)
+        if taken and who.address != taken.who.address:
+            then = "could not claim another" if who.address is None else f"claims address {who.address} instead"
+            self._tell_taken(key, taken, then)
+
+    def _tell_taken(self, key: Key, taken: Taken, then: str) -> None:
+        text = f"{named(taken.who)} takes address {taken.who.address} from {key}, which {then}"
+        self._found.tell("displaced", text, taken.line, taken.at, unit=key)
+
+    def _was_asked(self, at: int) -> bool:
+        """Whether claims were asked for, so that one tells nothing."""
+        return self._asked is not None and at - self._asked <= ANSWER
+
+    def _defends(self, key: Key, address: int, at: int | None) -> bool:
+        """Whether a claim is of one that held the address until another one claimed it just now."""
+        lost = self._lost.get(address)
+        return lost is not None and at is not None and lost[0] == key and 0 <= at - lost[1] < CONTEST
 
     def _is_new(self, key: Key, at: int | None) -> bool:
         """Whether a claim is none that was asked for, nor of one that sends already."""
-        return at is not None and at - self._asked > ANSWER and not 0 <= at - self._heard.get(key, -HEARD) < HEARD
+        return at is not None and not self._was_asked(at) and not 0 <= at - self._heard.get(key, at - HEARD) < HEARD
+
+    def _is_on(self, key: Key, at: int | None) -> bool:
+        """Whether somebody was heard so lately that it is on."""
+        heard = self._heard.get(key)
+        return at is not None and heard is not None and 0 <= at - heard < self._times.get(key, HEARD)
 
     def _is_contested(self, at: int | None, before: Who | None, who: Who) -> bool:
         """Whether who held an address is on and has the smaller NAME, so that it has to defend it."""
-        if before is None or at is None:
+        if before is None:
             return False
         smaller, larger = (self._names.get(some.label or "", some.name or "") for some in (before, who))
-        return smaller < larger and 0 <= at - self._heard.get(key_of(before), -HEARD) < HEARD
+        return smaller < larger and self._is_on(key_of(before), at)
 
     def _change(self, line: int, at: int | None, before: Who, who: Who) -> None:
         """An address changes hands."""
         assert who.address is not None
         known = self._changes.get(who.address)
         if known is None:
-            names = " to ".join(some.label or f"NAME {some.name}" for some in (before, who))
-            self._changes[who.address] = Changes(line, names, 1, None, at)
+            self._changes[who.address] = Changes(line, f"{named(before)} to {named(who)}", 1, None, at)
             return
         distance = None if at is None or known.at is None else at - known.at
         nearest = known.nearest if distance is None or known.nearest is not None and known.nearest < distance else distance
         self._changes[who.address] = known._replace(count=known.count + 1, nearest=nearest, at=at)
 
-    def sends(self, line: int, at: int | None, who: Who) -> Iterator[Deviation]:
+    def former(self, at: int | None, who: Who) -> Who | None:
+        """Who left an address, from which somebody sends who isn't known, long enough ago that nothing of it is on its way any more."""
+        left = self._left.get(who.address) if who.address is not None and not who.label and not who.name else None
+        return None if left is None or at is not None and left.at is not None and 0 <= at - left.at < CONTEST else left.who
+
+    def sends(self, line: int, at: int | None, who: Who) -> None:
         """Somebody sends something that is no claim."""
         key = key_of(who)
         is_contested = who.is_guess and who.address in self._holders  # only the contest tells who it is
@@ -125,27 +233,34 @@ class Hands:
         if key and not is_contested:
             self._heard[key] = at
         if self._fresh:
-            yield from self._pass(at)
-            claimed = self._fresh.get(who.address) if who.address is not None else None
-            if claimed and not claimed.is_contest and key_of(claimed.who) == key and claimed.at is not None:
-                del self._fresh[claimed.who.address or 0]
-                yield line, f"{who.spelled} sends before 250 ms have passed behind its claim of address {who.address}", 1
+            self._pass(at)
+            self._is_early(line, at, who)
 
-    def _pass(self, at: int) -> Iterator[Deviation]:
+    def _is_early(self, line: int, at: int, who: Who) -> None:
+        """Whether somebody sends who should wait. Where another one held the address, it may be that one's frame, which was queued before the claim."""
+        claimed = self._fresh.get(who.address) if who.address is not None else None
+        if claimed and not claimed.is_contest and not claimed.before and key_of(claimed.who) == key_of(who):
+            del self._fresh[claimed.who.address or 0]
+            text = f"{who.spelled} sends before 250 ms have passed behind its claim of address {who.address}"
+            self._found.tell("too-early", text, line, at, unit=who.label)
+
+    def _pass(self, at: int) -> None:
         """Time goes by: who didn't defend an address until now doesn't."""
         for address, claimed in list(self._fresh.items()):
             if claimed.at is not None and not 0 <= at - claimed.at < CONTEST:
                 del self._fresh[address]
                 if claimed.is_contest and claimed.before and at >= claimed.at:
-                    before = claimed.before.label or f"NAME {claimed.before.name}"
-                    text = f"{claimed.who.label or f'NAME {claimed.who.name}'} claims address {address}, and {before} doesn't defend it"
-                    yield claimed.line, f"{text}, whose NAME is smaller", 1
+                    text = f"{named(claimed.who)} claims address {address}, and {named(claimed.before)} doesn't defend it, whose NAME is smaller"
+                    self._found.tell("not-defended", text, claimed.line, claimed.at, unit=claimed.before.label)
 
-    def end(self, last: int | None) -> Iterator[Deviation]:
-        """What is told where the last time of the log is this one."""
+    def end(self, last: int | None) -> None:
+        """Tells what is known at the end, where the last time of the log is this one."""
         if last is not None:
-            yield from self._pass(last)
+            self._pass(last)
+        for key, taken in self._taken.items():
+            if taken.was_on:
+                self._tell_taken(key, taken, "claims no other")
         for address, known in self._changes.items():
             if known.count >= HANDS:
                 near = "" if known.nearest is None else f", the nearest {milliseconds(max(known.nearest, 0))} ms apart"
-                yield known.line, f"address {address} changed hands {known.count} times, first from {known.text}{near}", 1
+                self._found.tell("hands", f"address {address} changed hands {{}} times", known.line, value=known.count, detail=f", first from {known.text}{near}")

@@ -3,7 +3,7 @@
 It reports what is planned. So behind each line of the log stands another one. Where the line has a frame that may be none of a planned
 group, or announces a long message or gives one up, that is a request from the same address to the same one, which `follow` reports with
 both by their names; else it is empty. A request changes nothing of what `follow` knows. So line N of the log is line 2 N - 1, and its mark
-line 2 N. Where the plan has `timing` also each packet, and what else takes time of the bus, has a mark.
+line 2 N. Each packet of a long message and each error frame has a mark, and where the plan has `timing` also what else takes time of the bus.
 """
 
 import re
@@ -13,6 +13,7 @@ from enum import Enum
 from typing import BinaryIO, NamedTuple
 
 from .j1939 import ADDRESS_CLAIMED, CONNECTION_MANAGEMENT, DATA_TRANSFER, GLOBAL_ADDRESS, NULL_ADDRESS, REQUEST
+from .log_meter import Meter
 from .log_reports import Report
 from .plan_tables import Group, Timing
 
@@ -83,15 +84,20 @@ class Feed:
             self._groups.setdefault(group.pgn, []).append(group)
         self._timing = timing
         self._reported: set[tuple[bytes, int]] = set()  # identifiers and lengths that need no mark
-        self._managing: set[int] = set()  # addresses of which a frame of connection management was marked since the last claim
         self._marks: deque[tuple[int, Mark]] = deque()
         self._written = self._read = 0
         self._last = b""
+        self.meter = Meter()
 
     @property
     def unread(self) -> int:
         """How many marks `follow` didn't read, since they are of another interface."""
         return self._written - self._read
+
+    @property
+    def read(self) -> int:
+        """How many marks `follow` read, each as a frame."""
+        return self._read
 
     @property
     def last_time(self) -> str:
@@ -124,8 +130,9 @@ class Feed:
         """The line behind this one."""
         end = line.rstrip(BLANKS)
         at = end.rfind(b"#")
-        key = end[at - 8:at], len(end) - at
-        if key in self._reported and end[-1:] not in DIRECTIONS:
+        key, is_plain = (end[at - 8:at], len(end) - at), end[-1:] not in DIRECTIONS
+        self.meter.take(line[:at - 8], key[1] if is_plain else len(end[at:].split(maxsplit=1)[0]))
+        if key in self._reported and is_plain:
             self._last = line
             return b"\n"
         found = FRAME.search(line)
@@ -135,10 +142,10 @@ class Feed:
         identifier, data = int(found.group(1), 16), bytes.fromhex(found.group(2).decode())
         if self._is_reported(identifier, data):
             is_sure = pgn_in(identifier) != ADDRESS_CLAIMED and not self._is_told_by_data(pgn_in(identifier))
-            self._reported.update([key] if end[-1:] not in DIRECTIONS and is_sure else [])
+            self._reported.update([key] if is_plain and is_sure else [])
             return b"\n"
         mark = mark_of(identifier, data)
-        if mark is None or not self._is_wanted(mark):
+        if mark is None:
             return b"\n"
         asked = int.from_bytes(data[:3], "little") if mark.pgn == REQUEST and len(data) >= 3 else mark.pgn
         return self._put(number, mark, line[:found.start(1)] + request(identifier, asked))
@@ -151,7 +158,7 @@ class Feed:
 
     def _mark_of_another(self, number: int, line: bytes) -> bytes:
         """The line behind one that has no 29-bit frame: an 11-bit one, or an error frame."""
-        found = (SHORT.search(line) or ERROR.search(line)) if self._timing else None
+        found = ERROR.search(line) or (SHORT.search(line) if self._timing else None)
         if found is None:
             return b"\n"
         identifier = int(found.group(1), 16)
@@ -168,9 +175,9 @@ class Feed:
     def _is_reported(self, identifier: int, data: bytes) -> bool:
         """Whether `follow` reports a frame, or the tool has nothing to say of it."""
         pgn, length = pgn_in(identifier), len(data)
-        if pgn == ADDRESS_CLAIMED:
-            self._managing.clear()
-        if identifier >> 25 & 1 or pgn in (ADDRESS_CLAIMED, DATA_TRANSFER) or pgn == REQUEST and length == 3:
+        if pgn == DATA_TRANSFER and not identifier >> 25 & 1:
+            return False
+        if identifier >> 25 & 1 or pgn == ADDRESS_CLAIMED or pgn == REQUEST and length == 3:
             return self._timing is None or self._is_usual(identifier, pgn)
         return any(not group.private and group.takes(data) for group in self._groups.get(pgn, ()))
 
@@ -179,14 +186,6 @@ class Feed:
         assert self._timing is not None
         return pgn in (ADDRESS_CLAIMED, REQUEST) and not identifier >> 25 & 1 and identifier >> 26 >= self._timing.unplanned_priority
 
-    def _is_wanted(self, mark: Mark) -> bool:
-        """Whether a mark tells anything: of connection management only an Abort does, and that an address sends."""
-        if mark.kind is not Kind.CONTROL or self._timing or mark.data[0] == ABORT:
-            return True
-        source, count = mark.identifier & 255, len(self._managing)
-        self._managing.add(source)
-        return len(self._managing) > count
-
 
 def mark_of(identifier: int, data: bytes) -> Mark | None:
     """What a frame says; None of one of connection management that isn't of eight bytes."""
@@ -194,7 +193,7 @@ def mark_of(identifier: int, data: bytes) -> Mark | None:
     if identifier >> 25 & 1 or pgn == ADDRESS_CLAIMED or pgn == REQUEST and len(data) == 3:
         return Mark(Kind.OTHER, identifier, pgn, len(data))
     if pgn == DATA_TRANSFER:
-        return Mark(Kind.PACKET, identifier, pgn, len(data))
+        return Mark(Kind.PACKET, identifier, pgn, len(data), data=data)
     if pgn != CONNECTION_MANAGEMENT:
         return Mark(Kind.MESSAGE, identifier, pgn, len(data))
     if len(data) != 8:

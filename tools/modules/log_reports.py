@@ -103,6 +103,9 @@ LINE, TIME, KIND, GROUP, FROM, TO = 0, 1, 2, 3, 5, 7
 CONVERTER = "record it by candump -L, or make a log of ASC, BLF, TRC, MF4 or CSV by tolog.py (j39plan-tolog)"
 UNPACKED = "it is packed by gzip: read it as <(zcat FILE)"
 
+# A log of which so many times more lines are of other interfaces isn't read by the one with which it begins.
+GUESSED = 99
+
 
 class Counts:
     """How many lines of a log have a frame, also one with an 11-bit identifier; and how many weren't read: those that spell no frame,
@@ -136,17 +139,27 @@ class Counts:
         if self.frames == 0:
             program.say(f"{name} has no frame")
 
-    def say(self, interface: str | None = None) -> None:
-        """Says on standard error what wasn't read, where this interface was asked for or the first one is read."""
-        for text in self.told(interface):
+    def refuse_a_guess(self, log: Log) -> None:
+        """Refuses a log of which nearly all is of other interfaces than the one with which it begins, where none was asked for."""
+        first, others = log.interfaces()
+        if log.interface is None and first and others and self.elsewhere > GUESSED * self.frames:
+            has = f"has {self.frames} of its {self.frames + self.elsewhere} lines"
+            raise program.Refused(program.UNREADABLE, f"{log.names[0]} begins with {first}, which {has}: choose one, as --interface {others[0]}")
+
+    def say(self, log: Log) -> None:
+        """Says on standard error what wasn't read, and why this interface is."""
+        for text in self.told(log):
             program.say(text)
 
-    def told(self, interface: str | None = None) -> Iterator[str]:
+    def told(self, log: Log | None = None) -> Iterator[str]:
         """What wasn't read."""
         if self.bad:
             yield f"{self.bad} lines spell no frame"
         if self.elsewhere:
-            yield f"{interface or 'the first interface'} is read; {self.elsewhere} lines of others are passed over"
+            first, others = log.interfaces() if log else ("", [])
+            why = ", as asked for" if log and log.interface else ", the first of the log" if first else ""
+            hint = f": --interface {others[0]}" if log and others and not log.interface else ""
+            yield f"{first or 'the first interface'} is read{why}; {self.elsewhere} lines of {', '.join(others) or 'others'} are passed over{hint}"
 
 
 @lru_cache(maxsize=1 << 12)
@@ -259,8 +272,9 @@ def started_for(plan: str, log: Log, is_piped: bool) -> subprocess.Popen[bytes]:
 
 
 def said_of(plan: str, log: Log, tables: Tables, counts: Counts,
-            changed: Callable[[Any], Iterable[bytes]] | None = None) -> Iterator[Said]:
-    """What `follow` says of a log, as it is read; what is read is what `changed` makes of the log, if it is given."""
+            changed: Callable[[Any], Iterable[bytes]] | None = None, at_once: bool = False) -> Iterator[Said]:
+    """What `follow` says of a log, as it is read; what is read is what `changed` makes of the log, if it is given, each piece at once where
+    that is asked for."""
     is_piped = changed is not None or log.is_live or len(log.files) > 1 or log.interface is not None
     reader = started_for(plan, log, is_piped)
     assert reader.stdout is not None
@@ -268,7 +282,7 @@ def said_of(plan: str, log: Log, tables: Tables, counts: Counts,
     if reader.stdin:
         whole = io.BufferedReader(log, 1 << 16)
         part = OneInterface(whole, log.interface) if log.interface is not None else None
-        writer = Writer((changed or as_it_comes)(part or whole), reader.stdin, log.is_live and changed is None)
+        writer = Writer((changed or as_it_comes)(part or whole), reader.stdin, log.is_live and (at_once or changed is None))
     try:
         if writer:
             writer.start()
@@ -287,9 +301,9 @@ def said_of(plan: str, log: Log, tables: Tables, counts: Counts,
 
 
 def follow(plan: str, log: Log, tables: Tables, counts: Counts,
-           changed: Callable[[Any], Iterable[bytes]] | None = None) -> Iterator[Report]:
+           changed: Callable[[Any], Iterable[bytes]] | None = None, at_once: bool = False) -> Iterator[Report]:
     """The reports of a log, as `said_of` has them."""
-    return starmap(report_of, said_of(plan, log, tables, counts, changed))
+    return starmap(report_of, said_of(plan, log, tables, counts, changed, at_once))
 
 
 def tables_of(plan: str) -> Tables:

@@ -2,14 +2,12 @@
 
 from __future__ import annotations
 
-import operator
 from collections import deque
-from collections.abc import Callable, Iterator
-from dataclasses import dataclass
 from typing import NamedTuple
 
 from .log_clock import MILLISECOND, milliseconds
-from .log_distances import Deviation, Tolerance
+from .log_deviations import Found
+from .log_distances import Tolerance
 from .log_reports import REFUSALS, Acknowledgement, Who
 from .log_reports import Request as Asking
 from .plan_tables import Tables
@@ -28,28 +26,15 @@ class Open(NamedTuple):
     at: int | None
 
 
-@dataclass
-class Late:
-    """Answers that began late: the line of the latest, behind which time it began, and how many there are."""
-
-    line: int
-    behind: int
-    count: int
-
-
 class Asked:
     """The requests of a plan, by what a log has of them."""
 
-    def __init__(self, tables: Tables, tolerance: Tolerance) -> None:
-        self._requests = tables.requests
+    def __init__(self, tables: Tables, tolerance: Tolerance, found: Found) -> None:
+        self._requests, self._found = tables.requests, found
         self._tolerance = tolerance
         self._numbers = {group.label: group.pgn for group in tables.groups}
         self._open: list[deque[Open]] = [deque() for _ in self._requests]
         self._last: list[int | None] = [None] * len(self._requests)
-        self._silent: dict[int, tuple[int, int]] = {}  # of each request the first line without an answer, and how many there are
-        self._late: dict[int, Late] = {}
-        self._near: dict[int, Late] = {}
-        self._refused: dict[tuple[int, str], tuple[int, int]] = {}
 
     def anew(self) -> None:
         """The clock was set: what is open counts no more."""
@@ -69,7 +54,7 @@ class Asked:
         if period is not None and last is not None and at is not None:
             distance = at - last
             if 0 <= distance < period * MILLISECOND - self._tolerance.at(period):
-                note(self._near, number, line, distance, operator.lt)
+                self._tell("asked-early", number, f"{{}} ms after the one before, its period is {period} ms", line, at, distance)
 
     def answers(self, line: int, at: int | None, sender: Who, to: Who, pgn: int) -> None:
         """A message of a group begins, which may answer requests for it."""
@@ -90,7 +75,7 @@ class Asked:
         if waiting:
             asked = waiting[-1].at
             if asked is not None and at is not None and at - asked > PROMPT:
-                note(self._late, number, line, at - asked, operator.gt)
+                self._tell("late", number, f"answered {{}} ms after it, later than {milliseconds(PROMPT)} ms", line, at, at - asked)
             waiting.clear()
 
     def acknowledged(self, line: int, at: int | None, said: Acknowledgement) -> None:
@@ -101,8 +86,7 @@ class Asked:
             is_one = said.sender.label == request.to and (said.to.label == request.sender or said.to.shown == "all")
             if is_one and self._numbers[request.group] == said.pgn:
                 self._pass(number, at)
-                first, count = self._refused.get((number, said.word), (line, 0))
-                self._refused[number, said.word] = first, count + 1
+                self._tell("refused", number, DONE[said.word], line, at)
                 self._open[number].clear()
 
     def _pass(self, number: int, at: int | None) -> None:
@@ -112,40 +96,22 @@ class Asked:
             asked = waiting[0].at
             if asked is None or 0 <= at - asked <= WAITED:
                 return
-            first, count = self._silent.get(number, (waiting[0].line, 0))
-            self._silent[number] = first, count + 1
-            waiting.popleft()
+            self._unanswered(number, waiting.popleft())
 
-    def end(self, last: int | None) -> Iterator[Deviation]:
-        """What is told of them where the last time of the log is this one. Of a log without times each request is to have an answer."""
+    def _unanswered(self, number: int, one: Open) -> None:
+        """A request stays without an answer."""
+        self._tell("unanswered", number, f"no answer within {milliseconds(WAITED)} ms", one.line, one.at)
+
+    def _tell(self, kind: str, number: int, text: str, line: int, at: int | None, value: int | None = None) -> None:
+        """A deviation of a request: of who asks too often, else of who is asked."""
+        request = self._requests[number]
+        unit = request.sender if kind == "asked-early" or request.to == "all" else request.to
+        self._found.tell(kind, f"request {number + 1}, {request.what}: {text}", line, at, value, unit=unit)
+
+    def end(self, last: int | None) -> None:
+        """Tells what has no answer, where the last time of the log is this one. Of a log without times each request is to have one."""
         for number, waiting in enumerate(self._open):
             self._pass(number, last)
             for one in waiting:
                 if one.at is None:
-                    first, count = self._silent.get(number, (one.line, 0))
-                    self._silent[number] = first, count + 1
-        for number, (line, count) in self._silent.items():
-            yield line, f"{self._named(number)}: no answer within {milliseconds(WAITED)} ms", count
-        for (number, word), (line, count) in self._refused.items():
-            yield line, f"{self._named(number)}: {DONE[word]}", count
-        for number, late in self._late.items():
-            text = f"answered {milliseconds(late.behind)} ms after it, later than {milliseconds(PROMPT)} ms"
-            yield late.line, f"{self._named(number)}: {text}", late.count
-        for number, near in self._near.items():
-            text = f"{milliseconds(near.behind)} ms after the one before, its period is {self._requests[number].period} ms"
-            yield near.line, f"{self._named(number)}: {text}", near.count
-
-    def _named(self, number: int) -> str:
-        """A request by its number."""
-        return f"request {number + 1}, {self._requests[number].what}"
-
-
-def note(found: dict[int, Late], number: int, line: int, distance: int, is_worse: Callable[[int, int], bool]) -> None:
-    """Notes a distance of a request, of which the worst is told."""
-    known = found.get(number)
-    if known is None:
-        found[number] = Late(line, distance, 1)
-    else:
-        known.count += 1
-        if is_worse(distance, known.behind):
-            known.line, known.behind = line, distance
+                    self._unanswered(number, one)

@@ -1,47 +1,75 @@
 """What goes before planned frames without being planned: how urgent it is, and how much of it comes in the time that a frame may wait."""
 
 from collections import deque
-from collections.abc import Iterator
 from typing import NamedTuple
 
 from . import program
-from .log_clock import milliseconds
-from .log_distances import Deviation
+from .log_clock import MILLISECOND, milliseconds
+from .log_deviations import Found
 from .plan_tables import Tables
 
 MICROSECOND = 1000
 
 
+# Identifiers are below this.
+ANY = 1 << 29
+
+
 class Bound(NamedTuple):
-    """A flow by its number, within which time in nanoseconds its frames are on the bus by `load`, and the greatest identifier of these."""
+    """A flow by its number, within which time in nanoseconds its frames are on the bus by `load`, and below which identifier unplanned frames may
+    go before them: those of a unit whose controller keeps no order may wait for any frame."""
 
     number: int
     within: int
     identifier: int
 
 
-def bounds_of(plan: str, tables: Tables) -> list[Bound]:
-    """The bounds of flows, as far as `load` has them."""
+class Bounds(NamedTuple):
+    """The bounds of the flows whose messages have one, and how long a message of each flow may wait on the bus once it is queued, as far as
+    `load` tells it."""
+
+    flows: list[Bound]
+    waits: dict[int, int]
+
+
+def bounds_of(plan: str, tables: Tables) -> Bounds:
+    """What `load` has of the flows."""
     if tables.timing is None:
-        return []
+        return Bounds([], {})
     _, answer = program.call(["load", "--", plan])
-    groups, bounds = {group.label: group for group in tables.groups}, []
-    for words in map(str.split, answer.splitlines()):
-        if len(words) > 6 and words[0] == "flow" and words[5] == "within":
-            group = groups[words[2]]
-            greatest = group.priority << 26 | group.pgn << 8 | (0xFF if group.pgn >> 8 & 255 >= 240 else 0xFFFF)
-            bounds.append(Bound(int(words[1]), int(words[6]) * MICROSECOND, greatest))
-    return bounds
+    lines = [words for words in map(str.split, answer.splitlines()) if words[0] == "flow"]
+    within = {int(words[1]): int(words[words.index("within") + 1]) * MICROSECOND for words in lines if "within" in words}
+    short = {int(words[1]) for words in lines if words[5] == "within"}
+    greatest = {number: greatest_identifier(tables, number) for number in range(1, len(tables.flows) + 1)}
+    without_order = {unit.label for unit in tables.units if unit.queue == "any"}
+    flows = [Bound(number, within[number], ANY if tables.flows[number - 1].sender in without_order else greatest[number]) for number in sorted(short)]
+    waits = {number: wait_of(number, within, short, greatest, tables.flows[number - 1].sender in without_order) for number in greatest}
+    return Bounds(flows, {number: wait - tables.flows[number - 1].jitter * MILLISECOND for number, wait in waits.items() if wait is not None})
+
+
+def greatest_identifier(tables: Tables, number: int) -> int:
+    """The greatest identifier of a flow's frames."""
+    group = next(group for group in tables.groups if group.label == tables.flows[number - 1].group)
+    return group.priority << 26 | group.pgn << 8 | (0xFF if group.pgn >> 8 & 255 >= 240 else 0xFFFF)
+
+
+def wait_of(number: int, within: dict[int, int], short: set[int], greatest: dict[int, int], has_no_order: bool) -> int | None:
+    """How long the first frame of a message waits at most. That of a group of several lengths may be a single one, which goes before the frames
+    of each flow with a greater identifier, and so waits no longer than any of these; else the whole message's time is one."""
+    if number in short:
+        return within[number]
+    behind = [within[other] for other in short if greatest[other] > greatest[number]]
+    return min(behind) if behind and not has_no_order else within.get(number)
 
 
 class Unplanned:
     """Frames that no flow has, by their times and identifiers."""
 
-    def __init__(self, tables: Tables, bounds: list[Bound]) -> None:
-        self._flows, self._timing, self._bounds = tables.flows, tables.timing, bounds
+    def __init__(self, tables: Tables, bounds: list[Bound], found: Found) -> None:
+        self._flows, self._timing, self._bounds, self._found = tables.flows, tables.timing, bounds, found
         self._longest = max((bound.within for bound in bounds), default=0)
         self._came: deque[tuple[int, int]] = deque()
-        self._most: dict[int, tuple[int, int]] = {}  # of each flow the most that came within its bound, and the line
+        self._most: dict[int, tuple[int, int, int]] = {}  # of each flow the most that came within its bound, the line and the time
 
     def came(self, line: int, at: int | None, identifier: int) -> None:
         """A frame that isn't planned."""
@@ -60,19 +88,19 @@ class Unplanned:
         """How many came within each flow's bound."""
         assert self._timing is not None
         for number, within, greatest in self._bounds:
-            most = self._most.get(number, (self._timing.unplanned, 0))[0]
+            most = self._most.get(number, (self._timing.unplanned, 0, 0))[0]
             if len(self._came) > most:
                 count = sum(at - time <= within and identifier < greatest for time, identifier in self._came)
                 if count > most:
-                    self._most[number] = count, line
+                    self._most[number] = count, line, at
 
-    def end(self) -> Iterator[Deviation]:
-        """What is told of them: of the flow that most may go before."""
+    def end(self) -> None:
+        """Tells of the flow that most may go before."""
         if not self._most or self._timing is None:
             return
-        number, (count, line) = max(self._most.items(), key=lambda told: (told[1][0], -told[0]))
+        number, (count, line, at) = max(self._most.items(), key=lambda told: (told[1][0], -told[0]))
         flow, within = self._flows[number - 1], next(bound.within for bound in self._bounds if bound.number == number)
         which = f"flow {number}, {flow.group} from {flow.sender} to {flow.to}"
         others = f"; and more than that before {len(self._most) - 1} other flows" if len(self._most) > 1 else ""
-        text = f"{count} frames that no flow has came within {milliseconds(within)} ms, in which they may all go before {which}"
-        yield line, f"{text}: `unplanned` is {self._timing.unplanned}{others}", 1
+        text = f"{{}} frames that no flow has came within {milliseconds(within)} ms, in which they may all go before {which}"
+        self._found.tell("unplanned", f"{text}: `unplanned` is {self._timing.unplanned}", line, at, count, flow=number, unit=flow.sender, detail=others)

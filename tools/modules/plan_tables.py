@@ -19,7 +19,7 @@ LINE = re.compile(
 
 @dataclass(frozen=True)
 class Unit:
-    """A planned unit, with the fields of its NAME by their keys, and whether it claims its address."""
+    """A planned unit, with the fields of its NAME by their keys, whether it claims its address, and in which order its controller sends."""
 
     label: str
     address: int
@@ -27,6 +27,7 @@ class Unit:
     window: int
     fields: dict[str, int]
     claims: bool = True
+    queue: str = "priority"
 
     @property
     def name(self) -> str:
@@ -219,9 +220,10 @@ class Errors:
 
 @dataclass(frozen=True)
 class Timing:
-    """What a plan says of its bus: how many frames that aren't planned go before one that waits, of which priority they are at most, and
+    """What a plan says of its bus: its bits a second, how many frames that aren't planned go before one that waits, of which priority they are at most, and
     that of the transport protocol; how far apart packets to all are, in ms; and how many frames are damaged, None where none is."""
 
+    bitrate: int
     unplanned: int
     unplanned_priority: int
     transport_priority: int
@@ -292,7 +294,7 @@ class Tables:
         unit, name = self._shown[words], self._shown[f"{words} name"]
         fields = {key: name.number(key) for key, _, _ in NAME_FIELDS if key != "arbitrary"}
         fields["arbitrary"] = int(name.is_true("arbitrary"))
-        return Unit(unit.text("label"), unit.number("address"), unit.text("chooser"), unit.number("window"), fields, unit.is_true("claims"))
+        return Unit(unit.text("label"), unit.number("address"), unit.text("chooser"), unit.number("window"), fields, unit.is_true("claims"), unit.text("queue"))
 
     def _group(self, words: str) -> Group:
         group = self._shown[words]
@@ -337,7 +339,7 @@ class Tables:
     def _timing(self) -> Timing:
         timing, errors = self._shown["timing"], self._shown.get("timing errors")
         damaged = Errors(errors.number("count"), errors.number("every")) if errors else None
-        keys = ("unplanned", "unplanned_priority", "transport_priority", "broadcast_gap", "broadcast_gap_most")
+        keys = ("bitrate", "unplanned", "unplanned_priority", "transport_priority", "broadcast_gap", "broadcast_gap_most")
         return Timing(**{key: timing.number(key) for key in keys}, errors=damaged)
 
 

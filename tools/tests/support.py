@@ -91,6 +91,11 @@ def run(tool, *words, text=None):
     return ended.returncode, ended.stdout, ended.stderr
 
 
+def without_times(answer):
+    """What `against` writes without the times beside its lines."""
+    return re.sub(r"(?m)(:\d+:) \(\d+\.\d+\)", r"\1", answer)
+
+
 def needs(module, package):
     """Skips a test where a module isn't there."""
     there = importlib.util.find_spec(module) is not None

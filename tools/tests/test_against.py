@@ -6,7 +6,8 @@ import unittest
 from collections import Counter
 
 from modules import program
-from tests.support import MARKED, NEWER, InFolder, example, run, text_of
+from tests import support
+from tests.support import MARKED, NEWER, InFolder, example, text_of
 
 PLAN = """version = 1
 [[unit]]
@@ -91,6 +92,37 @@ def random_packet(chance):
     control = chance.choice(["20"] * 10 + ["10"] if destination == "FF" else ["10"] * 10 + ["20", "11", "13", "FF"])
     group = chance.choice(["ECFE00"] * 20 + ["EBFE00", "01EC00", "000004"])
     return f"1CEC{destination}{source}#{control}{length:02X}00{packets:02X}FF{group}"
+
+
+
+def run(*words, **more):
+    """Runs a tool, as support has it; the times beside lines are left out."""
+    status, answer, said = support.run(*words, **more)
+    return status, support.without_times(answer), said
+
+
+def acknowledged(lines, reports):
+    """How many messages of VI between 1 and 2 the receiver says it has, though `follow` reports them not: by the lines of a log of random packets."""
+    reported = {int(line) for line in re.findall(r"^(\d+) - group VI ", reports, re.MULTILINE)}
+    transfers, begun, found = {}, set(), Counter()
+    for number, line in enumerate(lines, 1):
+        if len(line) != 25:  # it was cut
+            continue
+        to, source, data = line[4:6][1], line[7], bytes.fromhex(line[9:])
+        if line[2:4] == "EC" and data[0] in (16, 32) and data[5:] in (b"\xEC\xFE\0", b"\xEB\xFE\0") and data[3] == -(-data[1] // 7) and (data[0] == 32) == (to == "F"):
+            transfers[source, to] = data[5:]
+            begun.discard((source, to))
+            if data[5:] == b"\xEC\xFE\0":
+                begun.add((source, to))
+        elif line[2:4] == "EC" and data[0] == 255:
+            pair = next((pair for pair in ((source, to), (to, source)) if pair in transfers), None)
+            transfers.pop(pair, None)
+        elif line[2:4] == "EC" and data[0] == 19 and (to, source) in begun and transfers.get((to, source)) == data[5:]:
+            begun.discard((to, source))
+            found[to, source] += 1
+        elif line[2:4] == "EB" and number in reported:
+            begun.discard((source, to))
+    return found
 
 
 class Against(InFolder):
@@ -178,7 +210,7 @@ class Against(InFolder):
         plan = PLAN.replace('from = "ENGINE"\nto = "all"\n', 'from = "ENGINE"\nto = "DISPLAY"\n')
         sent = ["1CEC8000#10110003FFECFE00", "1CEC0080#110301FFFFECFE00", "1CEB8000#01AAAAAAAAAAAAAA", "1CEB8000#03AAAAAAAAAAAAAA",
                 "1CEC0080#110202FFFFECFE00", "1CEB8000#02AAAAAAAAAAAAAA", "1CEB8000#03AAAAAAAAAAAAAA", "1CEC0080#13110003FFECFE00"]
-        said = "L:1: VI from ENGINE to DISPLAY: announced, and not carried whole"
+        said = "L:1: VI from ENGINE to DISPLAY: announced, and not carried whole: packet 3 of 3 didn't come"
         never = "P: flow 3, VI from ENGINE to DISPLAY: never sent"
         self.assertEqual(self.compared(plan, sent)[:-2], [])
         self.assertEqual(self.compared(plan, sent[:-2])[0::3], [said, never])
@@ -226,8 +258,12 @@ class Against(InFolder):
             whole = Counter((source, "all" if to == "all" else to[-1]) for source, to in reports)
             begun = Counter((source, "all" if to == "FF" else to[1]) for to, source in announced)
             found = run("against.py", plan, log)[1]
-            told = re.findall(r": VI from (\d) to (\S+): announced, and not carried whole(?:  \((\d+) times\))?\n", found)
-            self.assertEqual({(source, to): int(times or 1) for source, to, times in told}, begun - whole)
+            told = Counter()
+            for source, to, times in re.findall(r": VI from (\d) to (\S+): announced, and not carried whole: [^(\n]*(?:  \((\d+) times\))?\n", found):
+                told[source, to] += int(times or 1)
+            again = acknowledged(text_of(log).splitlines(), program.call(["follow", plan, log])[1])
+            self.assertGreater(sum(again.values()), 0)
+            self.assertEqual(told, begun - whole - again)
             self.assertEqual(len(told), 4)
 
     def test_another_priority(self):
@@ -330,7 +366,7 @@ class Against(InFolder):
         other = [f"(2.0) can1 {frame}\n" for frame in ("18FEF105#FFFFFFFFFFFFFFFF", *VI)]
         mine = [f"(1.0) can0 {frame}\n" for frame in FLOWS[:-1]] + [f"(1.5) {FLOWS[-1]}\n"]
         log = self.write("drive.log", "".join(a + b for a, b in zip(mine, other)) + mine[-1])
-        said = "against: the first interface is read; 5 lines of others are passed over\n"
+        said = "against: can0 is read, the first of the log; 5 lines of can1 are passed over: --interface can1\n"
         self.assertEqual(run("against.py", plan, log), (0, "deviations 0\n", said))
 
     def test_times_are_no_interfaces(self):
@@ -504,7 +540,19 @@ class Against(InFolder):
 
         contest = ("9.0", VALVE_CLAIMS), ("9.1", ET1)
         self.assertIn("unit PUMP: neither claimed an address nor sent anything", found(*contest))
-        self.assertIn("PUMP sends before 250 ms have passed behind its claim of address 128", found(*contest, ("9.5", PUMP_CLAIMS), ("9.6", ET1)))
+        self.assertIn("PUMP sends before 250 ms have passed behind its claim of address 128", found(("9.5", PUMP_CLAIMS), ("9.6", ET1)))
+
+    def test_a_frame_of_a_contest_accuses_nobody(self):
+        """Who holds an address sends on until it has heard of the claim; once it is heard of elsewhere, the claimer is the one that sends."""
+        plan = self.write("plan.toml", RIVALS % "PUMP")
+
+        def early(*lines):
+            log = self.write("drive.log", "".join(f"({time}) can0 {frame}\n" for time, frame in lines))
+            return [line for line in run("against.py", plan, log)[1].splitlines() if "before 250" in line]
+
+        begin = [("9.0", VALVE_CLAIMS), ("10.4", PUMP_CLAIMS), ("10.4006", ET1)]
+        self.assertEqual(early(*begin, ("10.403", "18EEFF81#0200000000000080")), [])
+        self.assertEqual(len(early(*begin, ("10.403", "18EEFF81#0200000000000080"), ("10.404", ET1))), 1)
 
     def test_who_sends_too_soon_behind_a_claim(self):
         """A claim of one of the addresses that may be chosen may be contested for 250 ms, unless the unit holds it already."""

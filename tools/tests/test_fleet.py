@@ -61,7 +61,10 @@ class Table(Fleets):
         parts = answer.split("\n\n")
         self.assertEqual([part.splitlines()[0].split()[0] for part in parts],
                          ["log", "deviation", "flow", "unit", "NAME", "signal", "logs"])
-        self.assertEqual(parts[0].splitlines()[1:], ["early.log       7    0          1           0", "late.log        8    0          1           1"])
+        self.assertEqual([row.split() for row in parts[0].splitlines()], [
+            ["log", "begin", "duration", "mean", "load", "worst", "second", "frames", "bad", "elsewhere", "deviations"],
+            ["early.log", "10.000", "0.6", "s", "-", "1120", "bit/s", "7", "0", "1", "0"],
+            ["late.log", "10.000", "7.7", "s", "166", "bit/s", "800", "bit/s", "8", "0", "1", "1"]])
         self.assertEqual(parts[-1], "logs 2 with deviations 1 failed 0\n")
 
     def test_flows_and_silences(self):
@@ -104,12 +107,12 @@ class Table(Fleets):
             rows = [row for row in tables["deviations"] if row["log"] == log]
             self.assertEqual(len(rows), int(count.split()[1]), log)
             for row in rows:
-                self.assertTrue(any(f": {row['text']}" in line for line in lines), row)
+                self.assertTrue(any(f" {row['text']}" in line for line in lines), row)
         flows = [row for row in tables["deviations"] if row["text"].startswith("flow 2,")]
         self.assertTrue(flows)
         self.assertEqual({(row["flow"], row["unit"]) for row in flows}, {(2, "ENGINE")})
         units = {row["unit"]: row["deviations"] for row in tables["units"]}
-        self.assertEqual(units["ENGINE"], len({row["text"] for row in tables["deviations"] if row["unit"] == "ENGINE"}))
+        self.assertEqual(units["ENGINE"], len({row["what"] for row in tables["deviations"] if row["unit"] == "ENGINE"}))
 
     def test_signals(self):
         """Between which values each was, in which log and where: the same as by `signals`."""
@@ -117,7 +120,7 @@ class Table(Fleets):
         _, tables, _ = self.tables([log], plan=example("tractor_and_implement.toml"))
         rows = {row["signal"]: row for row in tables["signals"]}
         self.assertEqual((rows["EEC1.SPN190"]["least"], rows["EEC1.SPN190"]["most"], rows["EEC1.SPN190"]["most_line"]), (800, 800, 1))
-        self.assertEqual(rows["CCVS.SPN84"], {"signal": "CCVS.SPN84", "states": {"fault": 1}, "least": None, "least_log": None, "least_line": None,
+        self.assertEqual(rows["CCVS.SPN84"], {"signal": "CCVS.SPN84", "planned": True, "states": {"fault": 1}, "least": None, "least_log": None, "least_line": None,
                                               "most": None, "most_log": None, "most_line": None})
 
     def test_options_of_against(self):

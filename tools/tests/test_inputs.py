@@ -132,9 +132,9 @@ class OtherFiles(InFolder):
                 elif tool == "against":
                     *found, count = answer.splitlines()
                     self.assertEqual((status, count), (1, f"deviations {len(found)}"), name)
-                    self.assertEqual(said, passed_over(tool, name), name)
+                    self.assertEqual(unnamed(said), passed_over(tool, name), name)
                 elif tool == "signals":
-                    self.assertEqual((status, said), (0, passed_over(tool, name)), name)
+                    self.assertEqual((status, unnamed(said)), (0, passed_over(tool, name)), name)
                     self.assertEqual(answer.count("\n") <= 1, not name.endswith("log"))
             self.assertEqual(os.path.exists(picture), bool(pictures) and what is None)
 
@@ -179,6 +179,11 @@ def lines_without_frames(log):
     """How many lines of a log spell no frame, where it has such and none with one; else None."""
     *_, frames, _, skipped, _, bad, _, _ = program.call(["follow", PLAN, log])[1].split()
     return bad if (frames, skipped) == ("0", "0") and bad != "0" else None
+
+
+def unnamed(said):
+    """What a tool says, without the names of interfaces, which random bytes may be."""
+    return re.sub(r"(?m)^(\w+: ).* is read, the first of the log; (\d+) lines of .* are passed over.*$", r"\1the first interface is read; \2 lines of others are passed over", said)
 
 
 def passed_over(tool, log):

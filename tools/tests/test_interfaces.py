@@ -37,7 +37,7 @@ class OneOfSeveral(InFolder):
 
     def test_signals(self):
         status, answer, said = run("signals.py", "--interface", "can1", PLAN, self.log)
-        self.assertEqual((status, said.splitlines()[-1]), (0, "signals: can1 is read; 3 lines of others are passed over"))
+        self.assertEqual((status, said.splitlines()[-1]), (0, "signals: can1 is read, as asked for; 3 lines of can0, can2 are passed over"))
         self.assertEqual(answer, run("signals.py", PLAN, self.alone)[1])
         rows = [(row["line"], row["signal"], row["value"]) for row in csv.DictReader(io.StringIO(answer))]
         self.assertIn(("2", "SPN190", "1600"), rows)
@@ -56,7 +56,7 @@ class OneOfSeveral(InFolder):
         found = run("against.py", "--interface", "can1", PLAN, self.log)
         alone = run("against.py", PLAN, self.alone)
         self.assertEqual((found[0], found[1]), (1, alone[1].replace("alone.log", "drive.log")))
-        self.assertIn("can1 is read; 3 lines of others are passed over\n", found[2])
+        self.assertIn("can1 is read, as asked for; 3 lines of can0, can2 are passed over\n", found[2])
 
     def test_curves(self):
         tables, counts = tables_of(PLAN), Counts()

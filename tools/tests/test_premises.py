@@ -2,7 +2,8 @@
 
 import unittest
 
-from tests.support import InFolder, run
+from tests import support
+from tests.support import InFolder
 
 # EEC1 waits for one unplanned frame at most by its bound, 1,920 us: a frame that has begun, an unplanned one, and itself.
 PLAN = """version = 3
@@ -55,12 +56,19 @@ RTS, CLEAR, PACKETS, WHOLE = "1CECF900#10110003FFECFE00", "1CEC00F9#110301FFFFEC
     f"1CEBF900#0{number}AAAAAAAAAAAAAA" for number in (1, 2, 3)], "1CEC00F9#13110003FFECFE00"
 
 
+
+def run(*words, **more):
+    """Runs a tool, as support has it; the times beside lines are left out."""
+    status, answer, said = support.run(*words, **more)
+    return status, support.without_times(answer), said
+
+
 class Premises(InFolder):
     def told(self, *log, plan=PLAN):
         """What is told of a log but of flows and units that aren't there."""
         name = self.write("drive.log", "".join(f"({time}) can0 {frame}\n" for time, frame in log))
         _, answer, said = run("against.py", "--silence", "0", self.write("plan.toml", plan), name)
-        self.assertEqual(said, "")
+        self.assertEqual([line for line in said.splitlines() if "distances are passed over" not in line], [])
         return [line.replace(name, "L") for line in answer.splitlines()[:-1] if line.startswith(name)]
 
     def broadcast(self, *times, frames=None):
@@ -152,15 +160,32 @@ class Premises(InFolder):
         for plan in (PLAN, timed("errors = { count = 1, every = 10 }")):
             found = ["L:2: an overload frame, for which 'load' has no room"]
             self.assertEqual(self.told(("1.0", ET1), ("1.1", overload), ("9.0", ET1), plan=plan), found)
-        self.assertEqual(run("against.py", "--silence", "0", self.write("plan.toml", PLAN.replace("timing", "# timing")), self.path("drive.log"))[2],
-                         "against: 1 lines spell no frame\n")
+        self.assertEqual(run("against.py", "--silence", "0", self.write("plan.toml", PLAN.replace("timing", "# timing")), self.path("drive.log"))[2], "")
 
     def test_jitter(self):
         """Messages may come nearer by it than the period."""
         plan = timed("broadcast_gap = 50").replace("period = 10\n", "period = 10\njitter = 2\n", 1)
-        said = "flow 1, ET1 from ENGINE to all: 7.999 ms after the one before, its period is 10 ms and its jitter 2 ms"
-        self.assertEqual(self.told(("1.0", ET1), ("1.008", ET1), plan=plan), [])
-        self.assertEqual(self.told(("1.0", ET1), ("1.007999", ET1), plan=plan), [f"L:2: {said}"])
+        said = "flow 1, ET1 from ENGINE to all: 6.079 ms after the one before, its period is 10 ms and its jitter 2 ms"
+        self.assertEqual(self.told(("1.0", ET1), ("1.00608", ET1), plan=plan), [])
+        self.assertEqual(self.told(("1.0", ET1), ("1.006079", ET1), plan=plan), [f"L:2: {said}"])
+
+    def test_what_a_wait_on_the_bus_explains(self):
+        """ET1 is on the bus within 1.92 ms: what is nearer by so much isn't told, and how many are is said. Without timing it is told."""
+        log = self.write("drive.log", "".join(f"({time}) can0 {ET1}\n" for time in ("1.0", "1.00808", "1.02", "1.03", "1.038")))
+        status, answer, said = run("against.py", "--silence", "0", self.write("plan.toml", PLAN), log)
+        self.assertEqual(said, "against: 1 distances are passed over, since a message may wait so long on the bus by 'load': of flow 1\n")
+        near = "flow 1, ET1 from ENGINE to all: 8 ms after the one before, its period is 10 ms"
+        self.assertIn(f"{log}:5: {near}\n", answer)
+        bare = self.write("bare.toml", PLAN.replace("timing", "# timing"))
+        self.assertIn(f"{log}:5: {near}  (2 times)\n", run("against.py", bare, log)[1])
+
+    def test_waits_of_single_frames_of_groups_of_several_lengths(self):
+        """They go before each flow of a greater identifier: DM1 (65226) waits no longer than ET1 (65262), whatever its long messages take."""
+        group = '[[group]]\nlabel = "DM1"\npgn = 65226\npriority = 6\nlength = 8\nmost = 100\n[[flow]]\ngroup = "DM1"\nfrom = "TOOL"\nto = "all"\nperiod = 1000\n'
+        within = int(next(line for line in self.load(timed("broadcast_gap = 50") + group) if line.startswith("flow 1 ")).split()[6]) / 1e6
+        told = [self.told(("1.0", "18FECAF9#00FF000000000000"), (f"{2 - within - less:.6f}", "18FECAF9#00FF000000000000"), plan=timed("broadcast_gap = 50") + group)
+                for less in (0, 0.000001)]
+        self.assertEqual([any("after the one before" in line for line in lines) for lines in told], [False, True])
 
     def test_pauses(self):
         """The greatest distance, at the line where it ended, whatever is said of silences; the end of the log too."""
@@ -168,7 +193,7 @@ class Premises(InFolder):
         said = "flow 1, ET1 from ENGINE to all: not sent {}, its pause is 20 ms"
         self.assertEqual(self.told(("1.0", ET1), ("1.02", ET1), ("1.04", ET1), plan=plan), [])
         log = [("1.0", ET1), ("1.021", ET1), ("1.051", ET1), ("1.073", ET1)]
-        self.assertEqual(self.told(*log, plan=plan), ["L:3: " + said.format("for 30 ms before") + "  (3 times)"])
+        self.assertEqual(self.told(*log, plan=plan), ["L:3: " + said.format("for 30 ms before") + "  (2 times)"])
         late = plan.replace("pause = 20", "jitter = 2\npause = 20")
         self.assertEqual(self.told(*log, plan=late), ["L:3: " + said.format("for 30 ms before") + " and its jitter 2 ms"])
         self.assertEqual(self.told(("1.0", ET1), ("1.1", STRANGE), plan=plan), ["L:1: " + said.format("any more, for 100 ms to the log's end")])

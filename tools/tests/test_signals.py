@@ -302,7 +302,7 @@ class Signals(InFolder):
         log = self.write("a.log", "(1.0) can0 18FEEE00#7DFFFFFFFFFFFFFF\n(1.0) can1 18FEEE00#7EFFFFFFFFFFFFFF\n")
         status, answer, said = run("signals.py", PLAN, log, "SPN110")
         self.assertEqual((status, answer.count("\n")), (0, 2))
-        self.assertEqual(said, "signals: the first interface is read; 1 lines of others are passed over\n")
+        self.assertEqual(said, "signals: can0 is read, the first of the log; 1 lines of can1 are passed over: --interface can1\n")
 
     def test_what_is_refused(self):
         refused = self.write("plan.toml", "version = 9\n")

@@ -1,0 +1,46 @@
+"""How full the bus of a log was: the bits of its frames, in each second the most that a frame of its length can have, as `load` counts them."""
+
+from __future__ import annotations
+
+# The bits of a frame by the bytes that it has, in the spelling of a log: `#` and two digits a byte.
+BITS = {1 + 2 * length: 80 + 10 * length for length in range(9)}
+
+
+class Meter:
+    """The frames with 29-bit identifiers of the first interface of a log, second by second."""
+
+    def __init__(self) -> None:
+        self.bits = self.worst = 0
+        self.worst_second: int | None = None
+        self._interface = b""
+        self._second, self._inside = b"", 0
+
+    def take(self, head: bytes, digits: int) -> None:
+        """A line by what stands before its identifier, and how many characters its data has."""
+        interface = head[head.find(b" ") + 1:]
+        if interface != self._interface and interface:
+            if self._interface:
+                return
+            self._interface = interface
+        second = head[:head.find(b".")]
+        if second != self._second:
+            self._close()
+            self._second = second
+        self._inside += BITS.get(digits, 0)
+
+    def _close(self) -> None:
+        """A second is over. One without a time is none."""
+        self.bits += self._inside
+        if self._inside > self.worst and self._second[1:].isdigit():
+            self.worst, self.worst_second = self._inside, int(self._second[1:])
+        self._inside = 0
+
+    def end(self) -> None:
+        """The log is over."""
+        self._close()
+
+    def mean(self, begin: int | None, end: int | None) -> float | None:
+        """The mean of a second, where the log goes from one time to another, in nanoseconds; None where it is shorter than one."""
+        if begin is None or end is None or end - begin < 10**9 or not self.bits:
+            return None
+        return self.bits * 10**9 / (end - begin)
