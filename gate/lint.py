@@ -1,5 +1,5 @@
 #!/usr/bin/env python3
-"""Looks at what needs no proof: the format of the crates' sources, scripts of the shell, and names in Python. What a missing program
+"""Looks at what needs no proof: the format of the crates' sources, scripts of the shell, names and types in Python. What a missing program
 keeps from being looked at is skipped and said. The last line is 'N passed, M failed'.
 """
 
@@ -74,6 +74,7 @@ def main() -> int:
         print("format: skipped, since rt is missing")
     look(tally, "shellcheck", "scripts", ["--severity=warning", *scripts()])
     look(tally, "pyflakes3", "names in Python", python_files())
+    look(tally, "mypy", "types in Python", ["--config-file", "tools/mypy.ini", "--cache-dir", os.devnull])
     return tally.end()
 
 

@@ -120,10 +120,9 @@ def summary_of(log: Log, meter: Meter, distances: Distances) -> dict[str, Any]:
     """What the whole log has, for JSON: when it begins and ends, in seconds, the bits of its frames, and how many distances were passed over."""
     begin, end = ends_of(log)
     meter.end()
-    row = {"begin": begin, "end": end, "mean": meter.mean(begin, end), "worst": meter.worst or None, "worst_second": meter.worst_second,
+    first, last = (None if time is None else time / SECOND for time in (begin, end))
+    row = {"begin": first, "end": last, "mean": meter.mean(begin, end), "worst": meter.worst or None, "worst_second": meter.worst_second,
            "explained": sum(distances.explained.values())}
-    for key in ("begin", "end"):
-        row[key] = None if row[key] is None else row[key] / SECOND
     return {key: value for key, value in row.items() if value is not None}
 
 

@@ -80,9 +80,9 @@ def age_of(line: Line) -> Age:
 def load_of(answer: str) -> Load | None:
     """What `load` tells of a plan; None of one that says nothing of the bus."""
     lines = lines_of(answer)
-    if lines[-1].word("cause") == "NoTiming":
+    if lines and lines[-1].word("cause") == "NoTiming":
         return None
-    if lines[-1].kind != "load":
+    if not lines or lines[-1].kind != "load":
         return Load([], None)
     delays = [delay_of(line) for line in lines if line.kind == "flow"]
     ages = [age_of(line) for line in lines if line.kind == "need"]

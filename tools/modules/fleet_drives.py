@@ -143,7 +143,8 @@ class Followed:
         self._flows = len(tables.flows)
         self._signals, self._silences = Signals(tables), Silences()
         self._claims: dict[str, tuple[list[int | None], int]] = {}
-        self._group, self._sender, self._line, self._at = "", "", 0, None
+        self._group, self._sender, self._line = "", "", 0
+        self._at: int | None = None
         self.counts: dict[str, int] = {}
         self.sent: dict[int, int] = {}
 

@@ -30,7 +30,9 @@ Task = tuple[str, str, str, str, list[str]]
 
 def lost(task: Task, why: str) -> Drive:
     """The table of a log that nobody could read to its end."""
-    return {**empty(task[2]), "status": program.FAULT, "failed": why}
+    found = empty(task[2])
+    found["status"], found["failed"] = program.FAULT, why
+    return found
 
 
 class Worker:
@@ -44,7 +46,8 @@ class Worker:
         assert self._process.stdin is not None and self._process.stdout is not None
         pickle.dump(task, self._process.stdin)
         self._process.stdin.flush()
-        return pickle.load(self._process.stdout)
+        found: Drive = pickle.load(self._process.stdout)
+        return found
 
     def end(self) -> None:
         """Ends the process. Its pipes are left to the thread that may wait for them."""
@@ -139,7 +142,8 @@ class Cluster:
     def _answer(self, future: Any, task: Task) -> Drive:
         """What a task answered, or why nobody could do it."""
         try:
-            return future.result()
+            found: Drive = future.result()
+            return found
         except self._distributed.scheduler.KilledWorker:
             return lost(task, "the workers that read it were ended, again and again")
         except Exception as fault:  # the scheduler is gone, or a worker has other versions

@@ -17,7 +17,7 @@ class Measure(NamedTuple):
     """How what was measured is spelled, and whether a number is worse than another one."""
 
     spelled: Callable[[int], str]
-    is_worse: Callable[[int, int], bool]
+    is_worse: Callable[[float, float], bool]
 
 
 SHORTEST, LONGEST = Measure(milliseconds, operator.lt), Measure(milliseconds, operator.gt)
@@ -142,7 +142,7 @@ def number_of(kind: str, value: int | None) -> float | None:
 
 def row_of(found: Deviation, place_of: Callable[[int], tuple[str, int]]) -> dict[str, Any]:
     """A deviation as plain values, for JSON; what there is nothing of is left out."""
-    row = {"kind": found.kind, "flow": found.flow, "unit": found.unit, **place_row(found.kind, found.place, place_of), "text": found.told,
+    row: dict[str, Any] = {"kind": found.kind, "flow": found.flow, "unit": found.unit, **place_row(found.kind, found.place, place_of), "text": found.told,
            "what": found.what, "times": found.times}
     if found.places:
         row["all"] = [place_row(found.kind, place, place_of) for place in found.places]

@@ -177,7 +177,7 @@ class Distances:
 
     def table(self) -> Iterator[str]:
         """A line for each flow: its period, how often it was sent, the least, usual and greatest distance, all in ms."""
-        rows = [("flow", "group", "from", "to", "period", "count", "least", "median", "greatest")]
+        rows: list[tuple[str, ...]] = [("flow", "group", "from", "to", "period", "count", "least", "median", "greatest")]
         for number, flow in enumerate(self._flows, 1):
             usual = sorted((self._usual or {}).get(number, {}).items())
             told = [f"{step * STEP / MILLISECOND:.2f}" for step in (usual[0][0], median(usual), usual[-1][0])] if usual else ["-"] * 3

@@ -131,8 +131,9 @@ class Log(io.RawIOBase):
         """Of a log that was read the interface that is read, the first one where none was asked for, and others that stand at its begin and
         end."""
         begin, end = self.ends()
-        named = dict.fromkeys(os.fsdecode(name) for line in (begin + b"\n" + end).split(b"\n") if b"#" in line for name in [interface_of(line)] if name)
-        read = self.interface or next(iter(named), "")
+        lines = (line for line in (begin + b"\n" + end).split(b"\n") if b"#" in line)
+        named = [os.fsdecode(name) for name in dict.fromkeys(map(interface_of, lines)) if name]
+        read = self.interface or (named[0] if named else "")
         return read, [name for name in named if name != read][:NAMED]
 
     def _comes(self, file: io.FileIO) -> bool:

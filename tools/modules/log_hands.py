@@ -56,7 +56,7 @@ class Changes(NamedTuple):
 
     line: int
     text: str
-    count: int
+    times: int
     nearest: int | None
     at: int | None
 
@@ -106,8 +106,10 @@ class Hands:
     def anew(self) -> None:
         """The clock was set: times before count no more."""
         self._asked = None
-        for times in (self._heard, self._claimed, self._lost, self._fresh):
-            times.clear()
+        self._heard.clear()
+        self._claimed.clear()
+        self._lost.clear()
+        self._fresh.clear()
 
     def claim(self, line: int, at: int | None, who: Who) -> tuple[int, ...]:
         """A claim, or that there was no address to claim: the addresses that somebody else holds now."""
@@ -217,7 +219,7 @@ class Hands:
             return
         distance = None if at is None or known.at is None else at - known.at
         nearest = known.nearest if distance is None or known.nearest is not None and known.nearest < distance else distance
-        self._changes[who.address] = known._replace(count=known.count + 1, nearest=nearest, at=at)
+        self._changes[who.address] = known._replace(times=known.times + 1, nearest=nearest, at=at)
 
     def former(self, at: int | None, who: Who) -> Who | None:
         """Who left an address, from which somebody sends who isn't known, long enough ago that nothing of it is on its way any more."""
@@ -265,6 +267,6 @@ class Hands:
             if taken.was_on:
                 self._tell_taken(key, taken, "claims no other")
         for address, known in self._changes.items():
-            if known.count >= HANDS:
+            if known.times >= HANDS:
                 near = "" if known.nearest is None else f", the nearest {milliseconds(max(known.nearest, 0))} ms apart"
-                self._found.tell("hands", f"address {address} changed hands {{}} times", known.line, value=known.count, detail=f", first from {known.text}{near}")
+                self._found.tell("hands", f"address {address} changed hands {{}} times", known.line, value=known.times, detail=f", first from {known.text}{near}")

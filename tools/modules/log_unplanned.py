@@ -4,6 +4,7 @@ from collections import deque
 from typing import NamedTuple
 
 from . import program
+from .answers import load_of
 from .log_clock import MILLISECOND, milliseconds
 from .log_deviations import Found
 from .plan_tables import Tables
@@ -36,10 +37,10 @@ def bounds_of(plan: str, tables: Tables) -> Bounds:
     """What `load` has of the flows."""
     if tables.timing is None:
         return Bounds([], {})
-    _, answer = program.call(["load", "--", plan])
-    lines = [words for words in map(str.split, answer.splitlines()) if words[0] == "flow"]
-    within = {int(words[1]): int(words[words.index("within") + 1]) * MICROSECOND for words in lines if "within" in words}
-    short = {int(words[1]) for words in lines if words[5] == "within"}
+    load = load_of(program.call(["load", "--", plan])[1])
+    delays = load.delays if load else []
+    within = {delay.flow: delay.within * MICROSECOND for delay in delays if delay.within is not None}
+    short = {delay.flow for delay in delays if delay.flow in within and delay.frames == 1}
     greatest = {number: greatest_identifier(tables, number) for number in range(1, len(tables.flows) + 1)}
     without_order = {unit.label for unit in tables.units if unit.queue == "any"}
     flows = [Bound(number, within[number], ANY if tables.flows[number - 1].sender in without_order else greatest[number]) for number in sorted(short)]

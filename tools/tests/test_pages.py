@@ -105,6 +105,13 @@ class Form(unittest.TestCase):
         self.assertLessEqual(len(text.split()), 2500)
         self.assertEqual([sentence for sentence in sentences(text) if len(sentence.split()) > 40], [])
 
+    def test_the_readme_leads_on_by_the_words_of_the_field(self):
+        """What a newcomer searches for stands in the README, which leads to the page that has the answer."""
+        text = page("README.md")
+        for word in ("PGN", "NAME", "DBC", "candump", "multiplexed", "Intel", "FIFO", "response time", "bus load", "single-address",
+                     "arbitrary-address capable", "deadlines", "licence", "ISOBUS"):
+            self.assertRegex(text, rf"\b{re.escape(word)}", word)
+
     def test_the_changelog_is_for_users(self):
         """In the form of Keep a Changelog: versions, below them kinds of changes, and items; at most 60 lines."""
         lines = page("CHANGELOG.md").splitlines()

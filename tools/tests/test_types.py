@@ -17,6 +17,11 @@ class Types(InFolder):
         ended = subprocess.run([*MYPY, *words], cwd=self.folder, capture_output=True, text=True, check=False, env={**os.environ, "MYPYPATH": ""})
         return ended.returncode, ended.stdout + ended.stderr
 
+    def test_all_have_their_types(self):
+        status, said = self.looked()
+        self.assertEqual(status, 0, said)
+        self.assertRegex(said, r"^Success: no issues found in (\d{2,}) source files\n\Z")
+
     def test_the_module_hands_out_its_types(self):
         """A program that uses it is told what is wrong in it, also where it is installed as a link."""
         os.mkdir(self.path("python"))
