@@ -12,7 +12,7 @@ class Meter:
     def __init__(self) -> None:
         self.bits = self.worst = 0
         self.worst_second: int | None = None
-        self._interface, self._start, self._inside = b"", b"", 0
+        self._interface, self._start, self._inside = b"", b"\n", 0  # no line begins so
         self._way = b" "  # what stands before an identifier
 
     def take(self, line: bytes, end: int, digits: int) -> None:
