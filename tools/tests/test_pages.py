@@ -14,11 +14,18 @@ from tests.support import TOP, InFolder, example, text_of
 
 PAGES = ["README.md", *(f"docs/{name}" for name in sorted(os.listdir(os.path.join(TOP, "docs"))) if name.endswith(".md"))]
 
+# Pages with cells that are still longer than others may be.
+LONG_CELLS = {"docs/PROOFS.md", "docs/TOOLS.md"}
+
 # A command that can be run here: the program or a tool, at the beginning or behind another command.
 COMMAND = re.compile(r"(?:^|[\n;|] ?)(?:\./j39plan|tools/(?!package)[\w.-]+)(?: |$)")
 
 # A file that is named and then shown.
 FILE = re.compile(r"`examples/([\w./]+)`[^`]*(?:`(?!examples/)[^`\n]+`[^`]*)*?```(?:toml|text)\n(.*?)```", re.DOTALL)
+
+# Kinds of files that pages name, and those names among them that are of files of the reader or that a command makes.
+KINDS = "rt|antt|py|toml|md|json|check|load|run|read|follow|addresses|schedule|log|dbc|txt|c|sh|html|edit|show"
+OTHERS = {"gate/times.md", ".taplo.toml", ".vscode/tasks.json", "drive.log", "j1939.dbc"}
 
 # A definition, by the head of its line: an abbreviation, a function, a record or a family. Fields and constructors have no such head.
 DEFINITION = re.compile(r"^(?: *(?:abbrev|unfoldable)(?: pub)?| *pub (?:record|data)|record|data) ([^\s({:]+)", re.MULTILINE)
@@ -92,7 +99,6 @@ class Shown(InFolder):
 class Form(unittest.TestCase):
     def test_the_readme_ends_where_a_newcomer_has_an_answer(self):
         text = page("README.md")
-        self.assertLessEqual(len(text.splitlines()), 330)
         self.assertLessEqual(len(text.split()), 3500)
         self.assertEqual([sentence for sentence in sentences(text) if len(sentence.split()) > 40], [])
 
@@ -105,9 +111,14 @@ class Form(unittest.TestCase):
         """But for tables, pictures and code."""
         for name in PAGES:
             lines = [line for line in without_code(page(name)).splitlines() if not line.startswith(("|", "![", "#"))]
-            self.assertGreaterEqual(len(lines), 60)
+            self.assertGreaterEqual(len(lines), 15)
             self.assertEqual([line for line in lines if len(line) > 120], [], name)
 
+    def test_cells_of_tables_are_short(self):
+        """A cell of a table has at most 50 words: what needs more is prose, whose sentences are counted too."""
+        for name in [name for name in PAGES if name not in LONG_CELLS]:
+            with self.subTest(name):
+                self.assertEqual([cell for cell in cells(page(name)) if len(cell.split()) > 50], [])
 
     def test_what_was_tried_and_left_has_a_line_each(self):
         section = page("docs/DECISIONS.md").split("## Tried and left\n")[1].split("\n## ")[0].strip()
@@ -202,6 +213,29 @@ class Names(InFolder):
         for name in files:
             self.assertTrue(any(os.path.exists(os.path.join(TOP, below, name)) for below in ("crates", "")), name)
 
+    def test_files_to_change_are_all_that_have_a_case(self):
+        """The lists of docs/ARCHITECTURE.md on what is added name each source that has a case of the step or finding that they show."""
+        text = page("docs/ARCHITECTURE.md")
+        for heading, word in (("To add a step", "Down"), ("To add a finding", "KeptAddress")):
+            section = text.split(f"## {heading}\n")[1].split("\n## ")[0]
+            self.assertIn(f"`git grep -w {word} -- crates`", section)
+            named = tuple(name for name in re.findall(r"`([\w./-]+)`", section) if "/" in name)
+            files = [name for part in ("src", "specs", "proofs")
+                     for name in glob.glob(f"*/{part}/**/*.*t", root_dir=os.path.join(TOP, "crates"), recursive=True)]
+            having = [name for name in files if re.search(rf"\b{word}\b", text_of(os.path.join(TOP, "crates", name)))]
+            self.assertGreaterEqual(len(having), 10)
+            self.assertEqual(sorted(name for name in having if not name.startswith(named)), [], heading)
+
+    def test_files_in_backticks_are_there(self):
+        """Each name of a file that a page has in backticks is a file or a folder of the repository, but for those of the reader."""
+        known = {name for folder, folders, files in os.walk(TOP) if not folder.startswith(os.path.join(TOP, ".git"))
+                 for name in (os.path.relpath(os.path.join(folder, it), TOP) for it in (*folders, *files))}
+        ends = {name[at:] for name in known for at in (0, *(found.end() for found in re.finditer("/", name)))}
+        for name in PAGES:
+            shown = set(re.findall(rf"`((?:[\w.-]+/)*[\w.-]+\.(?:{KINDS}))`", without_code(page(name))))
+            with self.subTest(name):
+                self.assertEqual(sorted(it for it in shown - OTHERS if it not in ends), [])
+
     def test_numbers_of_services_have_one_home(self):
         """The number of a group by which the network runs stands in j39_id alone, once as code and once as a definition."""
         homes = ["crates/j39_id/specs/Services.antt", "crates/j39_id/src/services.rt"]
@@ -260,15 +294,28 @@ def without_code(text):
     return re.sub(r"```.*?```|^    .*?$|^!\[.*?$", "", text, flags=re.DOTALL | re.MULTILINE)
 
 
+def cells_of(block):
+    """The cells of a table."""
+    return [cell for row in block.splitlines() for cell in re.split(r"(?<!\\)\|", row) if cell.strip(" -")]
+
+
+def words_of(part):
+    """The words of a part of a page: code is one word, and a link its text."""
+    return " ".join(re.sub(r"`[^`]*`", "CODE", re.sub(r"\]\([^)]*\)", "]", part)).split())
+
+
+def cells(text):
+    """The cells of all tables of a page, by their words."""
+    blocks = re.split(r"\n\s*\n", without_code(text))
+    return [words_of(cell) for block in blocks if block.startswith("|") for cell in cells_of(block)]
+
+
 def sentences(text):
     """The sentences of a page, each cell of a table, each heading and each item for itself; code is one word, and a link its text."""
     for block in re.split(r"\n\s*\n", without_code(text)):
-        if block.startswith("|"):
-            parts = [cell for row in block.splitlines() for cell in re.split(r"(?<!\\)\|", row) if cell.strip(" -")]
-        else:
-            parts = re.split(r"\n(?=\s*(?:-|\d+\.) )", block)
+        parts = cells_of(block) if block.startswith("|") else re.split(r"\n(?=\s*(?:-|\d+\.) )", block)
         for part in parts:
-            words = " ".join(re.sub(r"`[^`]*`", "CODE", re.sub(r"\]\([^)]*\)", "]", part)).split())
+            words = words_of(part)
             yield from filter(None, re.split(r"(?:(?<=[.!?])|(?<=[.!?]\))) (?=[(A-Z*\[])", words))
 
 
