@@ -27,6 +27,16 @@ class Told(NamedTuple):
     text: str
 
 
+def whole(value: Value) -> int:
+    """The number that a value is, 0 of one that isn't there."""
+    return value if isinstance(value, int) else 0
+
+
+def several(value: Value) -> list[Value]:
+    """The elements of an array, none of one that isn't there."""
+    return value if isinstance(value, list) else []
+
+
 class Merged:
     """A table of the joined plan: where it is from, its keys, each with the part that says it, and the tables in it."""
 
@@ -73,17 +83,17 @@ def parts_of(key: str, one: Value, other: Value) -> Iterator[tuple[str, Value, V
 
 
 class Join:
-    """A plan in the making. What contradicts an earlier file is told, and left out."""
+    """A plan in the making. What contradicts an earlier file is told, and left out. Of units that are the same the other label is that of the one."""
 
-    def __init__(self, sources: list[Source]) -> None:
-        self.sources = sources
+    def __init__(self, sources: list[Source], same: dict[str, str] | None = None) -> None:
+        self.sources, self._same = sources, same or {}
         self.contradictions: list[Told] = []
         self.notes: list[Told] = []
         self.top = Merged(sources[0].top)
         self.arrays: dict[str, list[Merged]] = {array: [] for array in arrays()}
         self._labels = {array: Labels() for array in ("unit", "group")}
         self._called: dict[tuple[Source, str, str], str] = {}  # of a file, an array and a label there: the label here
-        self._told: dict[tuple, Merged] = {}  # flows and the like by what tells them apart
+        self._told: dict[tuple[object, ...], Merged] = {}  # flows and the like by what tells them apart
         for number, source in enumerate(sources):
             self._top(source, number)
             for unit in source["unit"]:
@@ -133,11 +143,11 @@ class Join:
         top, said = self.top, source.top.said
         if number == 0:
             return
-        top.values["version"] = max(top.values["version"], said["version"])
-        kept = dict.fromkeys([*(top.values.get("keep_free") or []), *(said.get("keep_free") or [])])
+        top.values["version"] = max(whole(top.values["version"]), whole(said["version"]))
+        kept = dict.fromkeys([*several(top.values.get("keep_free")), *several(said.get("keep_free"))])
         if kept:
             top.values["keep_free"] = list(kept)
-        strangers = max(top.values.get("strangers") or 0, said.get("strangers") or 0)
+        strangers = max(whole(top.values.get("strangers")), whole(said.get("strangers")))
         if strangers:
             top.values["strangers"] = strangers
         for key in said:
@@ -160,23 +170,23 @@ class Join:
             self._note(part, f"{name_of(part)} is called {merged.label}, {why or f'as at {merged.first.at()}'}", "label")
             merged.remark("label", f"{part.label} in {part.source.name}")
 
-    def _add(self, array: str, part: Part) -> Merged:
-        """A table more, under a label that no other one has."""
-        merged = Merged(part, self._labels[array].label(part.label))
-        self._call(array, part, merged, "since another one has its label")
+    def _add(self, array: str, part: Part, wanted: str = "") -> Merged:
+        """A table more, under its label or the wanted one, unless another one has that."""
+        merged = Merged(part, self._labels[array].label(wanted or part.label))
+        self._call(array, part, merged, "by --same" if merged.label == wanted else "since another one has its label")
         self.arrays[array].append(merged)
         return merged
 
     def _unit(self, unit: Part) -> None:
-        """Joins a unit: that of its label, else that of its NAME, which is one of its own everywhere."""
+        """Joins a unit: that of its label, else that of its NAME and address, which is another one where its label is."""
         earlier = [merged for merged in self.arrays["unit"] if self._is_new(merged, unit)]
-        here = next((merged for merged in earlier if merged.label == unit.label), None)
+        label = self._same.get(unit.label, unit.label)
+        here = next((merged for merged in earlier if merged.label == label), None)
         same = next((merged for merged in earlier if merged.first["name"] == unit["name"]), None)
         if here is None and same is not None and same.first["address"] == unit["address"]:
             here = same
-        elif same is not None and same is not here:
+        if same is not None and same is not here:
             self._contradict(same, unit, "name", f"{name_of(unit)} has the NAME of unit {same.label} at {same.first.at('name')}")
-            here = here or same
         if here is not None:
             self._joined(here, unit, name_of(unit))
             self._call("unit", unit, here)
@@ -185,8 +195,8 @@ class Join:
                       and not may_choose(merged.first)), None)
         if taken is not None:
             text = f"{name_of(unit)} is fixed at address {unit['address']}, as unit {taken.label} is at {taken.first.at('address')}"
-            self._contradict(taken, unit, "address", text)
-        self._add("unit", unit)
+            self._contradict(taken, unit, "address", f"{text}: --same {taken.label}={unit.label}, if they are one")
+        self._add("unit", unit, label)
 
     def _group(self, group: Part) -> None:
         """Joins a group: that of its number, and of makers' own ones that of its senders too."""
@@ -260,14 +270,13 @@ class Join:
     def _signal(self, here: Merged, part: Part, what: str) -> None:
         """Joins a signal with that of the same label; its scale counts, and not how it is written down."""
         one, other = plan_scales.scale(here.first), plan_scales.scale(part)
+        skipped: tuple[str, ...] = ()
         if one == other:
             skipped = plan_scales.SCALE_KEYS
         elif plan_scales.is_close(one, other):
             skipped = plan_scales.SCALE_KEYS
             text = f"{what}: unit = {spelled(part['unit'])}, taken is {spelled(here.first['unit'])} of {here.first.at('unit')}"
             self._note(part, text, "unit")
-        else:
-            skipped = ()
         self._joined(here, part, what, skipped)
 
     def _other(self, array: str, part: Part) -> None:
