@@ -131,7 +131,9 @@ pub fn least_wait(blocking: u32, streams: &[Stream], most: u32) -> Option<u32>
         if needed <= u64::from(wait) {
             return Some(wait);
         }
-        let allowed = first_allowed(blocking, streams, wait, needed - u64::from(wait));
+        // the loads count for streams that come in eight times what this wait lacks: others would count for less than they queue
+        let step = (needed - u64::from(wait)).saturating_mul(8);
+        let allowed = first_allowed(blocking, streams, wait, step);
         let next = u128::from(needed).max(allowed);
         if next > u128::from(most) {
             return None;
