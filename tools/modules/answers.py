@@ -26,8 +26,8 @@ class Stand(NamedTuple):
 
 class Delay(NamedTuple):
     """A flow by its number, and by `load` the time within which its frames are on the bus, None where that isn't shown; the time that they
-    have, None of a long message without a deadline of its own; and how many frames a message takes. A long message to all is whole within
-    that time. Times are in us."""
+    have, None of a long message without a deadline of its own; and how many frames a message takes, 0 of a flow without a period. A long
+    message to all is whole within that time. Times are in us."""
 
     flow: int
     within: int | None
@@ -69,7 +69,8 @@ def stands(answer: str) -> dict[str, Stand]:
 
 def delay_of(line: Line) -> Delay:
     """What `load` tells of a flow."""
-    return Delay(line.number("flow"), line.number_if_any("within"), line.number_if_any("limit"), line.number_if_any("frames") or 1)
+    frames = 0 if line.said == "no period" else line.number_if_any("frames") or 1
+    return Delay(line.number("flow"), line.number_if_any("within"), line.number_if_any("limit"), frames)
 
 
 def age_of(line: Line) -> Age:
@@ -82,8 +83,9 @@ def load_of(answer: str) -> Load | None:
     lines = lines_of(answer)
     if lines and lines[-1].word("cause") == "NoTiming":
         return None
-    if not lines or lines[-1].kind != "load":
+    taken = [(line.number("load"), line.number("bitrate")) for line in lines if line.kind == "load"]
+    if not taken:
         return Load([], None)
     delays = [delay_of(line) for line in lines if line.kind == "flow"]
     ages = [age_of(line) for line in lines if line.kind == "need"]
-    return Load(delays, (lines[-1].number("load"), lines[-1].number("bitrate")), ages)
+    return Load(delays, taken[0], ages)

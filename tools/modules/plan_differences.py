@@ -175,7 +175,9 @@ def is_too_old(told: Line, most: int) -> bool:
 
 def shown_age(said: str) -> str:
     """What `load` says of a need, in words."""
-    return said.removeprefix("age ") if said.startswith("age ") else f"not shown young enough, {said.removeprefix('old ')}"
+    if said.startswith(("age ", "unmet ")):
+        return said.removeprefix("age ")
+    return f"not shown young enough, {said.removeprefix('old ')}"
 
 
 class Answers:

@@ -3,6 +3,7 @@
 from __future__ import annotations
 
 from collections.abc import Iterator
+from typing import NamedTuple
 
 from . import need_hints, request_hints
 from .j1939 import FRAME_BYTES, PACKET_BYTES, POOL
@@ -18,6 +19,20 @@ HIGH_PRIORITY = range(3)
 # How far apart packets to all are, in ms, where no key says it.
 GAP = default_of("timing", "broadcast_gap")
 
+# The ms of a second, and the most bits of a frame of eight bytes.
+SECOND, FRAME_BITS = 1000, 160
+
+
+class Broadcast(NamedTuple):
+    """A flow with long messages to all: its period in ms, the packets of its longest message, the time that these take in ms, and whether it
+    has messages of one frame too."""
+
+    flow: Place
+    period: int
+    packets: int
+    takes: int
+    has_short: bool
+
 
 class Lint:
     """The hints at a plan's text."""
@@ -31,7 +46,7 @@ class Lint:
     def hints(self) -> list[Hint]:
         """All hints, in the order of the file."""
         found = (self.unsent, self.idle, self.fixed_in_pool, self.short, self.urgent, self.equal_identities,
-                 self.unsendable, self.unordered, self.untaken, self.met_twice, self.unasked)
+                 self.unsendable, self.passed, self.single, self.unordered, self.untaken, self.met_twice, self.unasked)
         return sorted({hint for part in found for hint in part()})
 
     def label(self, place: Place) -> str:
@@ -111,17 +126,46 @@ class Lint:
         group, sender, receiver = (self.places.texts[flow + (key,)] for key in ("group", "from", "to"))
         return f"flow {flow[-1]}, {group} from {sender} to {receiver}"
 
-    def unsendable(self) -> Iterator[Hint]:
-        """Long messages to all that take more time than there is between two of them, in a plan that says how fast its bus is."""
+    def broadcasts(self) -> list[Broadcast]:
+        """The flows with long messages to all and a period, in a plan that says how fast its bus is."""
         gap = self.places.number(("timing", "broadcast_gap")) or GAP
         groups = {self.label(group): group for group in self.groups}
+        found = []
         for flow in self.flows if ("timing",) in self.places.lines else ():
             group, period = groups[self.places.texts[flow + ("group",)]], self.places.number(flow + ("period",))
-            most = self.places.number(group + ("most",)) or self.places.integer(group + ("length",))
-            packets = -(-most // PACKET_BYTES)
-            if self.places.texts[flow + ("to",)] == "all" and most > FRAME_BYTES and period and packets * gap > period:
-                text = f"{packets} packets {gap} ms apart take {packets * gap} ms, more than its period of {period} ms"
+            length = self.places.integer(group + ("length",))
+            most = self.places.number(group + ("most",)) or length
+            if self.places.texts[flow + ("to",)] == "all" and most > FRAME_BYTES and period:
+                packets = -(-most // PACKET_BYTES)
+                found.append(Broadcast(flow, period, packets, packets * gap, length <= FRAME_BYTES))
+        return found
+
+    def unsendable(self) -> Iterator[Hint]:
+        """Long messages to all that take more time than there is between two of them."""
+        for flow, period, packets, takes, _ in self.broadcasts():
+            if takes > period:
+                text = f"{packets} packets {takes // packets} ms apart take {takes} ms, more than its period of {period} ms"
                 yield self.at(flow + ("period",), f"{self.named(flow)}: {text}")
+
+    def passed(self) -> Iterator[Hint]:
+        """Long messages to all for which there is time between two of them, and not for one that their unit sends first."""
+        sent = self.broadcasts()
+        for flow, period, _, takes, _ in sent:
+            unit = self.places.texts[flow + ("from",)]
+            others = [other for other in sent if other.flow != flow and self.places.texts[other.flow + ("from",)] == unit]
+            longest = max(others, key=lambda other: other.takes, default=None)
+            if longest is not None and takes <= period < takes + longest.takes:
+                first = self.places.texts[longest.flow + ("group",)]
+                text = f"it takes {takes} ms, and {first}, which {unit} may send first, {longest.takes} ms: more than its period of {period} ms"
+                yield self.at(flow + ("period",), f"{self.named(flow)}: {text}")
+
+    def single(self) -> Iterator[Hint]:
+        """Flows to all with short and long messages, where those of one frame take more than half of the bus together."""
+        asked = [(other.flow, -(-SECOND * FRAME_BITS // other.period)) for other in self.broadcasts() if other.has_short]
+        bitrate, together = self.places.number(("timing", "bitrate")) or 0, sum(bits for _, bits in asked)
+        for flow, bits in asked if 2 * together > bitrate else ():
+            text = f"messages of one frame take {bits} bits a second, those of all such flows {together} of {bitrate}"
+            yield self.at(flow + ("period",), f"{self.named(flow)}: {text}")
 
     def unordered(self) -> Iterator[Hint]:
         """Units whose controllers keep no order, and that send groups of two priorities: the urgent ones wait behind the others."""

@@ -295,7 +295,9 @@ def bits_of(group: Group) -> int:
 def delay_row(delay: Delay, flow: Flow, group: Group, link: str, bitrate: int) -> str:
     """A flow with what it takes of the bus and its delay, in words where it has none. What long messages take `load` alone knows."""
     taken = f"{100 * 1000 * bits_of(group) / (flow.period * bitrate):.1f} %" if flow.period and delay.frames == 1 else "–"
-    if delay.within is None and delay.limit is None:
+    if not delay.frames:
+        cells = ["no period", "–", "–"]
+    elif delay.within is None and delay.limit is None:
         cells = [f"no bound: {delay.frames} frames a message", "–", "–"]
     elif delay.within is None:
         cells = ["<strong>not shown to be in time</strong>", in_milliseconds(delay.limit or 0), "–"]
@@ -304,13 +306,13 @@ def delay_row(delay: Delay, flow: Flow, group: Group, link: str, bitrate: int) -
     else:
         share = f"{100 * delay.within / delay.limit:.1f} %"
         cells = [in_milliseconds(delay.within), in_milliseconds(delay.limit), share]
-    return row(str(delay.flow), [link, escape(flow.sender), escape(flow.to), f"{flow.period} ms", taken, *cells])
+    return row(str(delay.flow), [link, escape(flow.sender), escape(flow.to), f"{flow.period} ms" if flow.period else "–", taken, *cells])
 
 
 def load_section(tables: Tables, load: Load) -> str:
     """Within which time the frames of each flow are on the bus, and how full it is."""
     if load.taken is None:
-        return section("load", "Load", ["<p>Not known: the plan has findings that are to be mended first.</p>"])
+        return section("load", "Load", ["<p>Not known: addresses or identifiers have findings that are to be mended first.</p>"])
     taken, bitrate = load.taken
     full = " <strong>That is more than the bus carries.</strong>" if taken > bitrate else ""
     parts = [f"<p>{taken} of {bitrate} bits a second at most, {100 * taken / bitrate:.1f} % of the bitrate.{full}</p>"]

@@ -309,13 +309,17 @@ length = 20
         self.assertIn(["3", "ET1", "ENGINE", "all", "1000 ms", "0.1 %", "3.2 ms", "50 ms", "6.4 %"], rows)
 
     def test_load_of_other_plans(self):
-        """A long message has no bound; findings before that leave the load unknown; a plan without flows takes nothing."""
+        """A long message has no bound, nor has a flow without a period; findings on identifiers leave the load unknown; a plan without flows takes nothing."""
         text = text_of(example("axle.toml"))
         text_of_long = text.replace("pgn = 65262\npriority = 6\nlength = 8", "pgn = 65262\npriority = 6\nlength = 39")
         long = self.page(self.write("long.toml", text_of_long.replace('group = "ET1"\nfrom = "ENGINE"\nto = "all"', 'group = "ET1"\nfrom = "ENGINE"\nto = "RETARDER"')))
         self.assertIn(["3", "ET1", "ENGINE", "RETARDER", "1000 ms", "–", "no bound: 9 frames a message", "–", "–"], long.rows)
-        self.page(example("findings/f16_no_period.toml"))
-        self.assertIn("Not known: the plan has findings", run("report.py", example("findings/f16_no_period.toml"))[1])
+        unfinished = self.page(example("findings/f16_no_period.toml"))
+        self.assertIn(["1", "EEC1", "ENGINE", "all", "10 ms", "6.4 %", "1.28 ms", "10 ms", "12.8 %"], unfinished.rows)
+        self.assertIn(["2", "ET1", "ENGINE", "all", "–", "–", "no period", "–", "–"], unfinished.rows)
+        twice = self.write("twice.toml", text.replace("pgn = 65262", "pgn = 61444"))
+        self.page(twice)
+        self.assertIn("Not known: addresses or identifiers have findings", run("report.py", twice)[1])
         bare = self.write("bare.toml", "version = 3\n[timing]\nbitrate = 500000\nunplanned = 0\n")
         self.page(bare)
         self.assertIn("0 of 500000 bits a second at most, 0.0 % of the bitrate.</p>", run("report.py", bare)[1])

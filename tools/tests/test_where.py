@@ -144,6 +144,28 @@ class Lint(InFolder):
             lines = self.lines(text)[1]
             self.assertEqual([line for line in lines if "packets" in line], told, lines)
 
+    def test_hints_at_broadcasts_of_one_unit(self):
+        """One for which its period has time, and not for another one of its unit before it; of two units there is none."""
+        plan = 'version = 4\ntiming = { bitrate = 250000, unplanned = 0 }\n' + "".join(
+            f'[[unit]]\nlabel = "{label}"\naddress = {address}\nname = {{ identity = {address + 1} }}\n' for address, label in enumerate("AB")) + "".join(
+            f'[[group]]\nlabel = "{label}"\npgn = {pgn}\npriority = 6\nlength = {length}\n'
+            f'[[flow]]\ngroup = "{label}"\nfrom = "A"\nto = "all"\nperiod = {period}\n' for label, pgn, length, period in (("FEW", 65260, 14, 499), ("MANY", 65261, 56, 1000)))
+        hint = "20: hint flow 1, FEW from A to all: it takes 100 ms, and MANY, which A may send first, 400 ms: more than its period of 499 ms"
+        for text, told in ((plan, [hint]), (plan.replace("499", "500"), []), (plan.replace('from = "A"', 'from = "B"', 1), []), (plan.replace("length = 56", "length = 49"), [])):
+            lines = self.lines(text)[1]
+            self.assertEqual([line for line in lines if "may send first" in line], told, lines)
+
+    def test_hints_at_single_frames(self):
+        """Where the messages of one frame of flows that have long ones too take more than half of the bus, each of these flows is told."""
+        plan = 'version = 4\ntiming = { bitrate = 125000, unplanned = 0 }\n[[unit]]\nlabel = "A"\naddress = 0\nname = { identity = 1 }\n' + "".join(
+            f'[[group]]\nlabel = "G{number}"\npgn = {65260 + number}\npriority = 6\nlength = 8\nmost = 9\n'
+            f'[[flow]]\ngroup = "G{number}"\nfrom = "A"\nto = "all"\nperiod = {period}\n' for number, period in ((1, 3), (2, 15)))
+        hint = "hint flow {}, G{} from A to all: messages of one frame take {} bits a second, those of all such flows 64001 of 125000"
+        self.assertEqual([line for line in self.lines(plan)[1] if "one frame take" in line],
+                         ["17: " + hint.format(1, 1, 53334), "28: " + hint.format(2, 2, 10667)])
+        for other in (plan.replace("125000", "250000"), plan.replace("length = 8", "length = 9"), plan.replace("most = 9\n", ""), plan.replace("period = 15", "period = 18")):
+            self.assertEqual([line for line in self.lines(other)[1] if "one frame take" in line], [])
+
     def test_hints_stand_before_findings_and_leave_the_status(self):
         status, lines = self.lines(LINTED.replace('to = "A"', 'to = "C"'))
         self.assertEqual((status, lines[:6], lines[-1]), (1, HINTS, "findings 1"))

@@ -1,5 +1,6 @@
 -- Check has one text, and so has addresses.
-use Rattle.std.proofs.Common.{◌≡◌, ℕ, suc, zero, ◌+◌, Bool, cond, codes, count_by, length, List, [], ◌∷◌, ◌++◌, Option, Some, None, true≢false, inl, inr, Err, refl, subst, sym, ap, ◌∙◌}
+use Rattle.std.proofs.Common.{◌≡◌, ℕ, suc, zero, ◌+◌, Bool, cond, codes, count_by, length, List, [], ◌∷◌, ◌++◌, Option, Some, None, inl, inr, Err, refl, subst, sym, ap, ◌∙◌}
+use Rattle.std.proofs.lemmas.Bool.{cases_Bool}
 use Rattle.std.proofs.lemmas.List.Sums.{sum_by-cons}
 use Rattle.std.proofs.lemmas.Option.{same_Some}
 use Rattle.std.specs.List.{slice_get}
@@ -23,9 +24,9 @@ use Rattle.j39_check.specs.AddressesText.{HasOneAddressesReport, stays_text, sta
 use Rattle.j39_check.specs.PlanText.{Describes, IsRefusalLine, fault_line}
 use Rattle.j39_stream.specs.declared.verdict.Verdict.TheVariants.{Done, Findings, Refused, Unreadable}
 use Rattle.j39_text.specs.Texts.{field}
-use Rattle.j39_check.specs.CheckText.{HasOneRefusal, HasOneReport, IsNotRefused, findings_text}
+use Rattle.j39_check.specs.CheckText.{HasOneRefusal, HasOneReport, IsNotRefused, IsReport, findings_text}
 use Rattle.j39_check.specs.LoadLines.{loads_text}
-use Rattle.j39_check.specs.LoadText.{HasOneLoadReport, IsLoadReport, TellsLoads, have_periods, load_verdict}
+use Rattle.j39_check.specs.LoadText.{HasOneLoadReport, IsLoadReport, TellsLoads, load_verdict, tells_times, untold_text}
 use Rattle.j39_stream.specs.declared.verdict.Verdict.{Verdict}
 
 -- what is wrong with what a plan asks of its bus is one
@@ -141,16 +142,32 @@ one_addresses_report plan text other Unreadable another_verdict is another = abs
 
 module _ (plan : Plan) (timing : Timing) (stays other : UnitPlan → Bool) (delays others : List (Option Delay))
     (same : asked_of timing plan stays ≡ asked_of timing plan other) (alike : delays ≡ others) (text more : List ℕ) (verdict another : Verdict) where
+  abbrev findings_by : Asked → List (Option Delay) → List LoadFinding
+  findings_by asked ds = all_findings plan timing (total_load timing asked) ds
+
+  abbrev both : Asked → List (Option Delay) → List ℕ
+  both asked ds = loads_text plan timing asked ds ++ untold_text plan (found plan) (findings_by asked ds)
+
+  abbrev loads_and_rest : (UnitPlan → Bool) → List (Option Delay) → List ℕ
+  loads_and_rest who ds = both (asked_of timing plan who) ds
+
+  abbrev ends_by : (UnitPlan → Bool) → List (Option Delay) → Verdict
+  ends_by who ds = load_verdict (found plan) (findings_by (asked_of timing plan who) ds)
+
   one_told : TellsLoads plan timing stays delays text verdict → TellsLoads plan timing other others more another → (text ≡ more) × (verdict ≡ another)
-  one_told (inl is) (inl are) = (
-    is.2 ∙ ap (λ (asked : Asked). loads_text plan timing asked delays) same
-        ∙ ap (loads_text plan timing (asked_of timing plan other)) alike ∙ sym are.2,
-    is.3 ∙ ap (λ (asked : Asked). load_verdict (all_findings plan timing (total_load timing asked) delays)) same
-        ∙ ap (λ (ds : List (Option Delay)). load_verdict (all_findings plan timing (total_load timing (asked_of timing plan other)) ds)) alike ∙ sym are.3,
-  )
-  one_told (inl is) (inr are) = absurd (true≢false (sym is.1 ∙ ap have_periods alike ∙ are.0 is.0))
-  one_told (inr is) (inl are) = absurd (true≢false (sym are.1 ∙ ap have_periods (sym alike) ∙ is.0 are.0))
-  one_told (inr is) (inr are) = one_report plan text more verdict another is.1 are.1
+  one_told is are = elim (cases_Bool (tells_times (found plan))) [
+    | inl shown ↦
+        let first : (text ≡ loads_and_rest stays delays) × (verdict ≡ ends_by stays delays) = rw shown at is in
+        let second : (more ≡ loads_and_rest other others) × (another ≡ ends_by other others) = rw shown at are in (
+          first.0 ∙ ap (λ (asked : Asked). both asked delays) same ∙ ap (both (asked_of timing plan other)) alike ∙ sym second.0,
+          first.1 ∙ ap (λ (asked : Asked). load_verdict (found plan) (findings_by asked delays)) same
+              ∙ ap (λ (ds : List (Option Delay)). load_verdict (found plan) (findings_by (asked_of timing plan other) ds)) alike ∙ sym second.1,
+        )
+    | inr hidden ↦
+        let first : IsReport plan text verdict = rw hidden at is in
+        let second : IsReport plan more another = rw hidden at are in
+        one_report plan text more verdict another first second
+  ]
 
 one_load_answer : (plan : Plan) (timing : Option Timing) (text other : List ℕ) (verdict another : Verdict)
     → IsLoadReport plan timing text verdict → IsLoadReport plan timing other another → (text ≡ other) × (verdict ≡ another)

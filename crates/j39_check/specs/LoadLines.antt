@@ -1,6 +1,7 @@
 -- The lines of findings on what a plan asks of its bus, and those of the times of its flows and of the ages of what its units need.
 use Rattle.std.specs.Prelude.{ℕ, ◌*◌, nat_le, if◌then◌else◌, List, [], ◌∷◌, ◌++◌, codes, slice_index_or, Option, Some, None}
 use Rattle.std.specs.Option.{option_map_or}
+use Rattle.j39_findings.specs.Found.{is_unmet}
 use Rattle.j39_findings.specs.declared.plan.Plan.{Plan}
 use Rattle.j39_findings.specs.declared.plan.flow_plan.FlowPlan.{FlowPlan}
 use Rattle.j39_findings.specs.declared.plan.need_plan.NeedPlan.{NeedPlan}
@@ -85,7 +86,7 @@ delay_text bitrate limit (Whole whole) = field (codes " frames ") whole.frames +
 -- that of a flow, where it is known how often it is sent
 unfoldable pub known_delay_text : Bitrate → Option FlowLoad → Option Delay → List ℕ
 known_delay_text bitrate (Some load) (Some delay) = delay_text bitrate load.limit delay
-known_delay_text bitrate _ _ = []
+known_delay_text bitrate _ _ = codes " no period"
 
 unfoldable pub receiver_text : Plan → To → List ℕ
 receiver_text plan All = codes "all"
@@ -116,11 +117,16 @@ need_text plan place need = place_field (codes "need ") place ++ (codes " " ++ (
 unfoldable pub age_text : Bitrate → ℕ → Option ℕ → List ℕ
 age_text bitrate limit age = limited_text (codes " age ") (codes " old of ") bitrate limit age
 
+-- the age of what is needed, or that no flow meets the need
+unfoldable pub known_age_text : Plan → Timing → List (Option Delay) → NeedPlan → ℕ → List ℕ
+known_age_text plan timing delays need limit =
+    if is_unmet plan.requests.items plan.flows.items need then time_text (codes " unmet of ") timing.bitrate limit
+    else age_text timing.bitrate limit (least_age timing plan.requests.items plan.flows.items delays need)
+
 -- a need and its age, where it asks for one
 unfoldable pub need_line : Plan → Timing → List (Option Delay) → ℕ → NeedPlan → List ℕ
 need_line plan timing delays place need = option_map_or
-    (λ within. need_text plan place need
-    ++ (age_text timing.bitrate (bits_of_ms timing within) (least_age timing plan.requests.items plan.flows.items delays need) ++ 10 ∷ [])) need.within []
+    (λ within. need_text plan place need ++ (known_age_text plan timing delays need (bits_of_ms timing within) ++ 10 ∷ [])) need.within []
 
 -- ---- all of it
 

@@ -1,13 +1,13 @@
 //! The lines of what a plan asks of its bus.
 ghost use Rattle.std.specs.Prelude.{◌≡◌, ◌+◌, ◌*◌, ◌++◌, ◌<◌, ◌^◌, length, OnOk};
-ghost use Rattle.j39_check.specs.LoadLines.{age_text, bit_microseconds, delay_text, flow_line, flow_text, known_delay_text, limited_text};
+ghost use Rattle.j39_check.specs.LoadLines.{age_text, bit_microseconds, delay_text, flow_line, flow_text, known_age_text, known_delay_text, limited_text};
 ghost use Rattle.j39_check.specs.LoadLines.{load_finding_line, load_finding_lines, load_finding_part, load_finding_text, loads_text};
 ghost use Rattle.j39_check.specs.LoadLines.{microseconds_field, need_line, need_signal_text, need_text, receiver_text, time_text, whole_text, within_text};
 ghost use Rattle.j39_load.specs.Asked.{asked_by};
 ghost use Rattle.j39_load.specs.LineLists.{lines_of_each};
 
 use crate::finding_lines::is_between;
-use j39_findings::{Bitrate, FlowPlan, NeedPlan, Plan, Timing, To};
+use j39_findings::{Bitrate, FlowPlan, NeedPlan, Plan, Timing, To, is_met};
 use j39_load::{
     Delay, FlowLoad, LoadFinding, Loads, WholeTime, bits_of_ms, bits_of_second, least_age,
 };
@@ -181,7 +181,7 @@ fn write_known_delay(
 {
     match (load, delay) {
         (Some(load), Some(delay)) => write_delay(text, bitrate, load.limit, *delay),
-        _ => Ok(()),
+        _ => text.word(" no period"),
     }
 }
 
@@ -296,6 +296,26 @@ fn write_age(
     write_limited(text, " age ", " old of ", bitrate, limit, age)
 }
 
+// The age of what is needed, or that no flow meets the need.
+#[tactic(auto, unfolding(crate::specs::LoadLines::known_age_text))]
+fn write_known_age(
+    text: &mut TextBuffer,
+    plan: &Plan,
+    timing: Timing,
+    delays: &[Option<Delay>],
+    need: &NeedPlan,
+    limit: u32,
+) -> Result<(), AllocError>
+    requires { length delays.now ≡ length plan.now.flows.items }
+    ensures { OnOk result (text.new ≡ text.old ++ known_age_text plan.now timing delays.now need.now limit) }
+{
+    if !is_met(&plan.requests, &plan.flows, need) {
+        return write_time(text, " unmet of ", timing.bitrate, u64::from(limit));
+    }
+    let age = least_age(timing, &plan.requests, &plan.flows, delays, need);
+    write_age(text, timing.bitrate, limit, age)
+}
+
 // A need and its age, where it asks for one.
 #[tactic(auto, unfolding(crate::specs::LoadLines::need_line))]
 fn write_need_line(
@@ -313,8 +333,7 @@ fn write_need_line(
         return Ok(());
     };
     write_need(text, plan, place, need)?;
-    let age = least_age(timing, &plan.requests, &plan.flows, delays, need);
-    write_age(text, timing.bitrate, bits_of_ms(timing, within), age)?;
+    write_known_age(text, plan, timing, delays, need, bits_of_ms(timing, within))?;
     text.end_line()
 }
 

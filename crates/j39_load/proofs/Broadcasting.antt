@@ -6,7 +6,7 @@ use Rattle.std.proofs.lemmas.List.Elements.{filter_map-append}
 use Rattle.std.specs.List.{cons_option}
 use Rattle.j39_load.specs.declared.broadcast.Broadcast.{Broadcast}
 use Rattle.j39_load.specs.declared.flow_load.FlowLoad.{FlowLoad}
-use Rattle.j39_load.specs.Broadcasts.{broadcast_by, broadcasts_by, least_packets}
+use Rattle.j39_load.specs.Broadcasts.{announced_packets, broadcast_by, broadcasts_by, least_announced, least_packets}
 
 least_of_more : (bs : List Broadcast) (b : Broadcast) → least_packets (bs ++ b ∷ []) ≡ min b.least_packets (least_packets bs)
 unfolding least_packets
@@ -23,6 +23,22 @@ pub next_least : (bs : List Broadcast) (k : ℕ) (d : Broadcast) → k < length 
 next_least bs k d inside =
     let next : k + 1 ≡ suc k = omega arith in
     ap (λ (n : ℕ). least_packets (take n bs)) next ∙ ap least_packets (take-suc bs k d inside) ∙ least_of_more (take k bs) (get_or bs k d)
+
+least_of_one_more : (bs : List Broadcast) (b : Broadcast) → least_announced (bs ++ b ∷ []) ≡ min (announced_packets b) (least_announced bs)
+unfolding least_announced
+least_of_one_more [] b = refl
+least_of_one_more (x ∷ bs) b = ap (min (announced_packets x)) (least_of_one_more bs b) ∙ omega arith
+
+pub none_announced : least_announced [] ≡ 255
+unfolding least_announced
+none_announced = refl
+
+-- of those that are announced, with the next one
+pub next_announced : (bs : List Broadcast) (k : ℕ) (d : Broadcast) → k < length bs
+    → least_announced (take (k + 1) bs) ≡ min (announced_packets (get_or bs k d)) (least_announced (take k bs))
+next_announced bs k d inside =
+    let next : k + 1 ≡ suc k = omega arith in
+    ap (λ (n : ℕ). least_announced (take n bs)) next ∙ ap least_announced (take-suc bs k d inside) ∙ least_of_one_more (take k bs) (get_or bs k d)
 
 -- with those of the next flow
 next_flow : (u : ℕ) (loads : List (Option FlowLoad)) (k : ℕ) → k < length loads

@@ -66,10 +66,29 @@ abbrev pub load_of_packets : Timing → List Broadcast → ℕ
 load_of_packets timing broadcasts =
     min (sum_by (λ b. bits_each b.packets b.period) broadcasts) (bits_each 1 timing.broadcast_gap)
 
--- and those of their announcements, of which the packets of a message lie between two
+-- those of the first frames of a broadcast's messages, where some go in one frame: an announcement, or such a frame, which no packets have to follow
+abbrev pub bits_of_firsts : Broadcast → ℕ
+bits_of_firsts broadcast = if broadcast.has_short then bits_each 1 broadcast.period else 0
+
+abbrev pub load_of_firsts : List Broadcast → ℕ
+load_of_firsts broadcasts = sum_by bits_of_firsts broadcasts
+
+-- those of the announcements of one of which none does
+abbrev pub bits_of_announcements : Broadcast → ℕ
+bits_of_announcements broadcast = if broadcast.has_short then 0 else bits_each 1 broadcast.period
+
+-- the least number of packets of these
+abbrev pub announced_packets : Broadcast → ℕ
+announced_packets broadcast = if broadcast.has_short then 255 else broadcast.least_packets
+
+unfoldable pub least_announced : List Broadcast → ℕ
+least_announced [] = 255
+least_announced (broadcast ∷ broadcasts) = min (announced_packets broadcast) (least_announced broadcasts)
+
+-- the packets of a message lie between two of these announcements
 abbrev pub load_of_announcements : Timing → List Broadcast → ℕ
 load_of_announcements timing broadcasts =
-    min (sum_by (λ b. bits_each 1 b.period) broadcasts) (bits_each 1 (least_packets broadcasts * timing.broadcast_gap))
+    min (sum_by bits_of_announcements broadcasts) (bits_each 1 (least_announced broadcasts * timing.broadcast_gap))
 
 -- what these broadcasts of the unit at a place ask of the bus
 abbrev pub unit_load : Timing → List UnitPlan → (UnitPlan → Bool) → ℕ → List Broadcast → UnitLoad
@@ -78,7 +97,7 @@ unit_load timing units stays u broadcasts = record {
   announcements = broadcast_frames timing units stays connection_management u (least_packets broadcasts);
   flows = length broadcasts;
   all_packets = sum_by (λ b. b.packets) broadcasts;
-  bits_per_second = load_of_packets timing broadcasts + load_of_announcements timing broadcasts;
+  bits_per_second = load_of_packets timing broadcasts + (load_of_firsts broadcasts + load_of_announcements timing broadcasts);
 }
 
 -- where there are any

@@ -190,6 +190,7 @@ broadcast_of timing flow pace group = record {
   sender = flow.sender;
   packets = packets_of group.most;
   least_packets = max 2 (packets_of group.length);
+  has_short = has_short group;
   period = pace.period;
   late = bits_of_ms timing pace.jitter;
   deadline = option_map (bits_of_ms timing) pace.deadline;

@@ -42,7 +42,7 @@ IsSoundIfKnown load = IfSome load IsSoundLoad
 pub record IsSoundUnit (load : UnitLoad) : Type 0 where
   pub packets : AreSound load.packets
   pub announcements : AreSound load.announcements
-  pub few : load.bits_per_second < 2 ^ 33
+  pub few : load.bits_per_second < 2 ^ 34
   pub few_flows : load.flows ≤ 2 ^ 16
   pub few_packets : load.all_packets ≤ 2 ^ 24
 

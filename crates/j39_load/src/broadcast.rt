@@ -9,6 +9,8 @@ pub struct Broadcast {
     pub packets: u8,
     /// How many packets the shortest has.
     pub least_packets: u8,
+    /// Whether others of the flow's messages go in one frame.
+    pub has_short: bool,
     /// How far apart the moments at which one is wanted are at least, in milliseconds.
     pub period: u16,
     /// A message is ready to be sent at most so many bits after its moment.

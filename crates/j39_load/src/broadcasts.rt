@@ -1,6 +1,7 @@
 //! What the broadcasts of each unit of a plan ask of the bus.
 ghost use Rattle.std.specs.Prelude.{◌≡◌, ◌≢◌, ◌+◌, ◌<◌, ◌≤◌, ◌*◌, ◌^◌, [], All, length, sum_by, IfOk, IfSome, OnErr};
-ghost use Rattle.j39_load.specs.Broadcasts.{bits_each, broadcast_by, broadcast_frames, broadcasts_by, each_unit_load, known_unit_load, least_packets, load_of_announcements, load_of_packets, unit_loads_of};
+ghost use Rattle.j39_load.specs.Broadcasts.{announced_packets, bits_each, bits_of_announcements, bits_of_firsts, broadcast_by, broadcast_frames, broadcasts_by, each_unit_load};
+ghost use Rattle.j39_load.specs.Broadcasts.{known_unit_load, least_announced, least_packets, load_of_announcements, load_of_firsts, load_of_packets, unit_loads_of};
 ghost use Rattle.j39_load.specs.SoundLoads.{AreSound, IsSoundBroadcast, IsSoundIfKnown, IsSoundIfSent};
 ghost use Rattle.j39_load.specs.inside.Broadcasting.{AreSoundBroadcasts};
 ghost use Rattle.j39_load.specs.inside.Networks.{stays_in, units_in};
@@ -84,17 +85,83 @@ fn wanted_packets(broadcasts: &[Broadcast]) -> u64
     bits
 }
 
-// How many bits their announcements take then.
-fn wanted_announcements(broadcasts: &[Broadcast]) -> u64
+// How many bits the first frames of its messages take, where some go in one frame.
+fn bits_of_firsts(broadcast: &Broadcast) -> u32
+    requires sound { IsSoundBroadcast broadcast.now }
+    ensures bits { result ≡ bits_of_firsts broadcast.now }
+    ensures few { result ≤ 160000 }
+{
+    if broadcast.has_short {
+        bits_each(1, broadcast.period)
+    } else {
+        0
+    }
+}
+
+// Those of all of these.
+fn load_of_firsts(broadcasts: &[Broadcast]) -> u64
     requires sound { AreSoundBroadcasts broadcasts.now }
     requires few { length broadcasts.now ≤ 2 ^ 16 }
-    ensures { result ≡ sum_by (λ b. bits_each 1 b.period) broadcasts.now }
+    ensures bits { result ≡ load_of_firsts broadcasts.now }
+    ensures few { result ≤ length broadcasts.now * 160000 }
 {
     let mut bits = 0;
     for broadcast in broadcasts {
-        bits += u64::from(bits_each(1, broadcast.period));
+        bits += u64::from(bits_of_firsts(broadcast));
     }
     bits
+}
+
+// How many bits its announcements take, where none goes in one frame.
+fn bits_of_announcements(broadcast: &Broadcast) -> u32
+    requires sound { IsSoundBroadcast broadcast.now }
+    ensures bits { result ≡ bits_of_announcements broadcast.now }
+    ensures few { result ≤ 160000 }
+{
+    if broadcast.has_short {
+        0
+    } else {
+        bits_each(1, broadcast.period)
+    }
+}
+
+// Those of all of these, if all are sent that are wanted.
+fn wanted_announcements(broadcasts: &[Broadcast]) -> u64
+    requires sound { AreSoundBroadcasts broadcasts.now }
+    requires few { length broadcasts.now ≤ 2 ^ 16 }
+    ensures { result ≡ sum_by bits_of_announcements broadcasts.now }
+{
+    let mut bits = 0;
+    for broadcast in broadcasts {
+        bits += u64::from(bits_of_announcements(broadcast));
+    }
+    bits
+}
+
+// The least number of packets behind such an announcement.
+fn announced_packets(broadcast: &Broadcast) -> u8
+    requires sound { IsSoundBroadcast broadcast.now }
+    ensures least { result ≡ announced_packets broadcast.now }
+    ensures some { 1 ≤ result }
+{
+    if broadcast.has_short {
+        255
+    } else {
+        broadcast.least_packets
+    }
+}
+
+// That of all of these.
+fn least_announced(broadcasts: &[Broadcast]) -> u8
+    requires { AreSoundBroadcasts broadcasts.now }
+    ensures least { result ≡ least_announced broadcasts.now }
+    ensures some { 1 ≤ result }
+{
+    let mut least = 255;
+    for broadcast in broadcasts {
+        least = announced_packets(broadcast).min(least);
+    }
+    least
 }
 
 // How many packets the longest message of each has, together.
@@ -110,21 +177,21 @@ fn all_packets(broadcasts: &[Broadcast]) -> u32
     packets
 }
 
-// How many bits these broadcasts, of which the shortest has so many packets, take in a second at most: their packets, and their
-// announcements.
-fn bits_per_second(timing: Timing, broadcasts: &[Broadcast], least: u8) -> u64
+// How many bits these broadcasts take in a second at most: their packets, the first frames of those of which some messages go in one frame,
+// and the announcements of the others.
+fn bits_per_second(timing: Timing, broadcasts: &[Broadcast]) -> u64
     requires sound { AreSoundBroadcasts broadcasts.now }
     requires few { length broadcasts.now ≤ 2 ^ 16 }
-    requires least { least ≡ least_packets broadcasts.now }
-    requires some { 1 ≤ least }
-    ensures bits { result ≡ load_of_packets timing broadcasts.now + load_of_announcements timing broadcasts.now }
-    ensures few { result < 2 ^ 33 }
+    ensures bits { result
+        ≡ load_of_packets timing broadcasts.now + (load_of_firsts broadcasts.now + load_of_announcements timing broadcasts.now) }
+    ensures few { result < 2 ^ 34 }
 {
     let gap = timing.broadcast_gap;
     let packets = wanted_packets(broadcasts).min(u64::from(bits_each(1, gap)));
-    let spaced = u64::from(bits_each(1, u16::from(least) * gap));
+    let firsts = load_of_firsts(broadcasts);
+    let spaced = u64::from(bits_each(1, u16::from(least_announced(broadcasts)) * gap));
     let announcements = wanted_announcements(broadcasts).min(spaced);
-    packets + announcements
+    packets + (firsts + announcements)
 }
 
 // Frames of a group of the transport protocol, from a unit to all, which are queued at least so many gaps apart.
@@ -165,7 +232,7 @@ fn unit_load(network: &Network<'_>, unit: usize, broadcasts: &[Broadcast]) -> Op
         announcements: broadcast_frames(network, CONNECTION_MANAGEMENT, unit, least),
         flows: broadcasts.len() as u32,
         all_packets: all_packets(broadcasts),
-        bits_per_second: bits_per_second(network.timing, broadcasts, least),
+        bits_per_second: bits_per_second(network.timing, broadcasts),
     })
 }
 

@@ -2,7 +2,7 @@
 ghost use Rattle.std.specs.Prelude.{◌≡◌, ◌≢◌, [], ◌^◌, ◌<◌, ◌≤◌, ℕ, max, All, length, IfOk, OnErr};
 ghost use Rattle.j39_findings.specs.declared.plan.to.To.TheVariants.{One};
 ghost use Rattle.std.specs.Option.{option_map};
-ghost use Rattle.j39_load.specs.Loads.{bits_of_ms as bits_in_ms, broadcast_of, flow_load, load_of_flow, load_of_messages, loads_of, messages_of, packet_frames};
+ghost use Rattle.j39_load.specs.Loads.{bits_of_ms as bits_in_ms, broadcast_of, flow_load, has_short, load_of_flow, load_of_messages, loads_of, messages_of, packet_frames};
 ghost use Rattle.j39_load.specs.Loads.{single_frames, singles_of, time_limit};
 ghost use Rattle.j39_load.specs.SoundLoads.{AreSound, AreSoundIfAny, AreSoundMessages, IsSoundBroadcast, IsSoundIfKnown, IsSoundLoad};
 ghost use Rattle.j39_load.specs.inside.FewFrames.{HaveFewFrames};
@@ -94,6 +94,13 @@ fn least_packets(group: &GroupPlan) -> u8
     }
 }
 
+// Some messages of the group go in one frame.
+fn has_short(group: &GroupPlan) -> bool
+    ensures { result ≡ has_short group.now }
+{
+    usize::from(group.length) <= FRAME_BYTES
+}
+
 // Within how many bits each long message of a flow of this pace has to be whole, where it is written.
 fn deadline(timing: Timing, pace: Pace) -> Option<u32>
     ensures { result ≡ option_map (bits_in_ms timing) pace.deadline }
@@ -120,6 +127,7 @@ fn broadcast(
         sender: flow.sender,
         packets,
         least_packets: least_packets(group),
+        has_short: has_short(group),
         period: pace.period,
         late: bits_of_ms(timing, pace.jitter),
         deadline: deadline(timing, pace),
@@ -161,7 +169,7 @@ fn singles_of(
         ≡ singles_of network.now.timing (units_in network.now) (stays_in network.now) flow.now pace group.now }
     ensures fits { AreSoundIfAny result }
 {
-    if usize::from(group.most) > FRAME_BYTES && usize::from(group.length) <= FRAME_BYTES {
+    if usize::from(group.most) > FRAME_BYTES && has_short(group) {
         Some(single_frames(network, flow, pace, group))
     } else {
         None

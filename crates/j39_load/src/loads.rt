@@ -193,7 +193,7 @@ fn bits_of_flow(load: &Option<FlowLoad>) -> u64
 // How many bits the broadcasts of a unit take in a second at most.
 fn bits_of_unit(load: &Option<UnitLoad>) -> u64
     ensures bits { result ≡ option_map_or (λ l. l.bits_per_second) load.now 0 }
-    ensures few { IsSoundIfSent load.now → result < 2 ^ 33 }
+    ensures few { IsSoundIfSent load.now → result < 2 ^ 34 }
 {
     match load {
         Some(load) => load.bits_per_second,

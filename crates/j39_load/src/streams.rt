@@ -138,7 +138,8 @@ pub(crate) fn load(stream: Stream, period: u16) -> u32
 /// How many bits so many frames of eight bytes take in a second at most, which are sent again after so many milliseconds.
 pub(crate) fn bits_each(frames: u8, ms: u16) -> u32
     requires { 1 ≤ ms }
-    ensures { result ≡ bits_each frames ms }
+    ensures bits { result ≡ bits_each frames ms }
+    ensures few { result ≤ 160000 * frames }
 {
     let bits = u32::from(frames) * u32::from(frame_bits(FRAME_BYTES as u8));
     (1_000 * bits).div_ceil(u32::from(ms))

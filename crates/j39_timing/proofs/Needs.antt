@@ -27,7 +27,7 @@ ceil-mono a b k some le =
     let fewer : div_ceil a k < div_ceil b k + 1 = lt_of_mul-lt-mul_right k less in
     omega arith
 
-share-small : (span : ℕ) (x : Stream) → span < 2 ^ 32 → IsStream x → share span x ≤ 2 ^ 51
+pub share-small : (span : ℕ) (x : Stream) → span < 2 ^ 32 → IsStream x → share span x ≤ 2 ^ 51
 share-small span x small ok =
     let few : div_ceil (span + x.late) x.period ≤ span + x.late = ceil-le (span + x.late) x.period ok.0 in
     let (_, bits, frames, late) = ok in
@@ -38,7 +38,7 @@ share-small span x small ok =
     let most : x.frames * (div_ceil (span + x.late) x.period * x.bits) ≤ x.frames * 2 ^ 41 = mul-le-mul_left x.frames each in
     omega arith
 
-share-mono : (a b : ℕ) (x : Stream) → a ≤ b → IsStream x → share a x ≤ share b x
+pub share-mono : (a b : ℕ) (x : Stream) → a ≤ b → IsStream x → share a x ≤ share b x
 share-mono a b x le ok =
     let more : div_ceil (a + x.late) x.period ≤ div_ceil (b + x.late) x.period = ceil-mono (a + x.late) (b + x.late) x.period ok.0 (omega arith) in
     let each : x.bits * div_ceil (a + x.late) x.period ≤ x.bits * div_ceil (b + x.late) x.period = mul-le-mul_left x.bits more in

@@ -3,6 +3,7 @@ pub mod FrameBits
 pub mod TimedFrames
 pub mod FrameStreams
 pub mod Waits
+pub mod LeastShares
 pub mod Traffic
 pub mod AnyOrder
 pub mod Errors

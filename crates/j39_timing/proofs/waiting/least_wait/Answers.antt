@@ -1,18 +1,22 @@
-use Rattle.std.proofs.Common.{arith, ◌≡◌, ◌+◌, sum_by}
-use Rattle.j39_timing.specs.Waits.{share}
-use Rattle.j39_timing.proofs.Needs.{no_room}
+use Rattle.std.proofs.Common.{arith, ◌≡◌, ◌+◌, ◌≤◌, sum_by}
+use Rattle.j39_timing.specs.Waits.{need, share}
+use Rattle.j39_timing.proofs.LeastShares.{no_room_below}
 use Rattle.j39_timing.proofs.waiting.least_wait.Goals as goal
 
-pub returns-then-needed-from-2-clause-none : goal.returns-then-needed-from-2-clause-none
-returns-then-needed-from-2-clause-none c = λ _.
+pub returns-then-next-from-clause-none : goal.returns-then-next-from-clause-none
+returns-then-next-from-clause-none c = λ _.
     let sum : c.demand.result ≡ sum_by (share (c.loop-wait.wait + 1)) c.args.streams.now = c.demand.ensures.sum in
-    no_room c.args.blocking c.args.streams.now c.loop-wait.wait (c.args.most + 1) c.requires.positive c.loop-wait.invariant.0
-    (omega (arith, sum, c.from.ensures, c.from-in-loop-wait-2.ensures, c.if-needed-from-2.true))
+    let needed : c.from.result + c.demand.result ≤ need c.args.blocking c.args.streams.now c.loop-wait.wait = omega (arith, sum, c.from.ensures) in
+    no_room_below c.args.blocking c.args.streams.now c.loop-wait.wait (c.from.result + c.demand.result) c.first_allowed-allowed.result (c.args.most + 1)
+    c.requires.positive c.loop-wait.invariant.0 needed c.first_allowed-allowed.ensures
+    (omega (arith, c.if-next-from.true, c.from-in-loop-wait-4.ensures, c.max-next.ensures, c.from-in-loop-wait-3.ensures))
 
 pub loop-wait-preserved : goal.loop-wait-preserved
 loop-wait-preserved c =
-    let sum : c.demand.result ≡ sum_by (share (c.loop-wait.wait + 1)) c.args.streams.now = c.demand.ensures.sum in (
-      no_room c.args.blocking c.args.streams.now c.loop-wait.wait (c.from.result + c.demand.result) c.requires.positive c.loop-wait.invariant.0
-          (omega (arith, sum, c.from.ensures)),
-      omega (arith, c.from-in-loop-wait-2.ensures, c.if-needed-from-2.false),
+    let sum : c.demand.result ≡ sum_by (share (c.loop-wait.wait + 1)) c.args.streams.now = c.demand.ensures.sum in
+    let needed : c.from.result + c.demand.result ≤ need c.args.blocking c.args.streams.now c.loop-wait.wait = omega (arith, sum, c.from.ensures) in (
+      no_room_below c.args.blocking c.args.streams.now c.loop-wait.wait (c.from.result + c.demand.result) c.first_allowed-allowed.result
+          c.max-next.result c.requires.positive c.loop-wait.invariant.0 needed c.first_allowed-allowed.ensures
+          (omega (arith, c.max-next.ensures, c.from-in-loop-wait-3.ensures)),
+      omega (arith, c.if-next-from.false, c.from-in-loop-wait-4.ensures),
     )

@@ -6,5 +6,5 @@ use Rattle.j39_load.proofs.loads.Loads.total_of_units.Given as goal
 abbrev pub invariant-loop-load : goal.invariant-loop-load
 invariant-loop-load l = record {
   sum : l.total ≡ sum_by (λ load. option_map_or (λ (x : UnitLoad). x.bits_per_second) load 0) (take l.load-index l.load-items);
-  small : l.total ≤ l.load-index * 2 ^ 33;
+  small : l.total ≤ l.load-index * 2 ^ 34;
 }
