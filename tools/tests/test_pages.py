@@ -14,9 +14,6 @@ from tests.support import TOP, InFolder, example, text_of
 
 PAGES = ["README.md", "CONTRIBUTING.md", "SECURITY.md", "CHANGELOG.md", *(f"docs/{name}" for name in sorted(os.listdir(os.path.join(TOP, "docs"))) if name.endswith(".md"))]
 
-# Pages with cells that are still longer than others may be.
-LONG_CELLS = {"docs/TOOLS.md"}
-
 # A command that can be run here: the program or a tool, at the beginning or behind another command.
 COMMAND = re.compile(r"(?:^|[\n;|] ?)(?:\./j39plan|tools/(?!package)[\w.-]+)(?: |$)")
 
@@ -135,7 +132,7 @@ class Form(unittest.TestCase):
 
     def test_cells_of_tables_are_short(self):
         """A cell of a table has at most 50 words: what needs more is prose, whose sentences are counted too."""
-        for name in [name for name in PAGES if name not in LONG_CELLS]:
+        for name in PAGES:
             with self.subTest(name):
                 self.assertEqual([cell for cell in cells(page(name)) if len(cell.split()) > 50], [])
 
