@@ -253,6 +253,17 @@ class Forms(Deviations):
             self.assertEqual(process.stdout.readline(), f"/dev/stdin:3: (1.150000) {near}  (2 times)\n")
             process.stdout.read()
 
+    def test_live_as_json(self):
+        """An object as a deviation is met, without how often; with --all each time, with what was measured there. Then what --json has."""
+        text = "flow 2, EBC1 from BRAKES to all: {} ms after the one before, its period is 100 ms"
+        first = {"kind": "near", "flow": 2, "unit": "BRAKES", "log": self.log, "line": 3, "time": 1.15, "value": 50, "text": text.format(50), "what": text.format("..")}
+        again = {**first, "line": 5, "time": 1.34, "value": 90, "text": text.format(90)}
+        for words, met in (([], [first]), (["--all"], [first, again])):
+            rows = [json.loads(line) for line in run("against.py", "--live", "--json", *words, self.plan, self.log)[1].splitlines()]
+            whole = [json.loads(line) for line in run("against.py", "--json", *words, self.plan, self.log)[1].splitlines()]
+            self.assertEqual(rows, met + whole)
+            self.assertEqual(whole[0]["times"], 2)
+
     def test_events(self):
         """A flow that is sent when something happens isn't silent; its group or its number names it."""
         log = self.write("b.log", lines_of(*brakes(1, 2), (5, EBC1)))

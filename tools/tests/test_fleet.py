@@ -20,6 +20,43 @@ PLAN, LOG = example("two_units_one_address.toml"), example("two_units_one_addres
 # A claim by a NAME that no unit of the plan has, behind the drive. The drive has a deviation of its own: RIGHT sends 240 ms after its claim.
 FOREIGN = "(17.7) can0 18EEFF05#0100000000000080\n"
 
+# A sender of trouble codes and of a temperature; its claim, and a code of SPN 110, FMI 3 and one of SPN 190, FMI 8 in one message each.
+CODES = """version = 3
+[[unit]]
+label = "ENGINE"
+address = 0
+name = { identity = 1 }
+[[group]]
+label = "DM1"
+pgn = 65226
+priority = 6
+length = 8
+[[group.signal]]
+label = "DTC"
+byte = 3
+bits = 32
+kind = "dtc"
+[[group]]
+label = "ET1"
+pgn = 65262
+priority = 6
+length = 8
+[[group.signal]]
+label = "SPN110"
+byte = 1
+bits = 8
+kind = "measured"
+[[flow]]
+group = "DM1"
+from = "ENGINE"
+to = "all"
+[[flow]]
+group = "ET1"
+from = "ENGINE"
+to = "all"
+"""
+ENGINE, CODE_110, CODE_190 = "18EEFF00#0100000000000000", "18FECA00#04FF6E000301FFFF", "18FECA00#04FFBE000801FFFF"
+
 # So long is waited for what is to come, in seconds: machines may be busy.
 PATIENCE = 120
 
@@ -122,6 +159,44 @@ class Table(Fleets):
         self.assertEqual((rows["EEC1.SPN190"]["least"], rows["EEC1.SPN190"]["most"], rows["EEC1.SPN190"]["most_line"]), (800, 800, 1))
         self.assertEqual(rows["CCVS.SPN84"], {"signal": "CCVS.SPN84", "planned": True, "states": {"fault": 1}, "least": None, "least_log": None, "least_line": None,
                                               "most": None, "most_log": None, "most_line": None})
+
+    def test_trouble_codes_and_vehicles(self):
+        """Logs in which one box claims are of one vehicle; one without a claim is of its own."""
+        plan = self.write("plan.toml", CODES)
+        logs = [self.write(f"{name}.log", "".join(f"({at:.1f}) can0 {frame}\n" for at, frame in lines)) for name, lines in (
+            ("a", [(1, ENGINE), (2, CODE_110), (3, CODE_190), (4, CODE_110)]), ("b", [(20, CODE_110)]), ("c", [(9, ENGINE), (10, CODE_110)]))]
+        _, tables, _ = self.tables(logs, plan=plan)
+        self.assertEqual([(row["log"], row["vehicle"]) for row in tables["logs"]], [("a.log", 2), ("b.log", 1), ("c.log", 2)])
+        self.assertEqual(tables["codes"], [
+            {"spn": 110, "fmi": 3, "group": "DM1", "unit": "ENGINE", "times": 4, "logs": 3, "vehicles": 2,
+             "first": 2.0, "first_log": "a.log", "first_line": 2, "last": 20.0, "last_log": "b.log", "last_line": 1},
+            {"spn": 190, "fmi": 8, "group": "DM1", "unit": "ENGINE", "times": 1, "logs": 1, "vehicles": 1,
+             "first": 3.0, "first_log": "a.log", "first_line": 3, "last": 3.0, "last_log": "a.log", "last_line": 3}])
+        lines = self.fleet(logs, plan=plan)[1].split("\n\n")[-2].splitlines()
+        self.assertEqual([line.split() for line in lines], [
+            ["SPN", "FMI", "group", "unit", "first", "at", "last", "at", "times", "logs", "vehicles"],
+            ["110", "3", "DM1", "ENGINE", "2.000", "a.log:2", "20.000", "b.log:1", "4", "3", "2"],
+            ["190", "8", "DM1", "ENGINE", "3.000", "a.log:3", "3.000", "a.log:3", "1", "1", "1"]])
+
+    def test_values_of_other_senders(self):
+        """They have a row of their own, and change nothing in that of the plan's flows."""
+        plan = self.write("plan.toml", CODES)
+        log = self.write("a.log", "".join(f"({at}.0) can0 {frame}FFFFFFFFFFFFFF\n" for at, frame in enumerate(
+            ("18FEEE00#0A", "18FEEE05#C8", "18FEEE00#1E", "18FEEE05#05", "18FEEE05#FE"), 1)))
+        _, tables, _ = self.tables([log], plan=plan)
+        rows = {row["planned"]: row for row in tables["signals"] if row["signal"] == "ET1.SPN110"}
+        for is_planned, least, most, states in ((True, (10, 1), (30, 3), {"value": 2}), (False, (5, 4), (200, 2), {"value": 2, "fault": 1})):
+            row = rows[is_planned]
+            self.assertEqual(((row["least"], row["least_line"]), (row["most"], row["most_line"]), row["states"]), (least, most, states))
+        self.assertRegex(self.fleet([log], plan=plan)[1], r"ET1\.SPN110 of others +5 +a\.log:4 +200 +a\.log:2")
+
+    def test_an_empty_log(self):
+        """It is named as one that failed, with status 2, and counts as no log in which nothing was sent."""
+        empty = self.write("empty.log", "")
+        status, answer, said = self.fleet([self.early, empty])
+        self.assertEqual((status, said), (2, "fleet: empty.log: it has no frame\n"))
+        self.assertTrue(answer.endswith("failed empty.log: it has no frame\nlogs 1 with deviations 0 failed 1\n"), answer)
+        self.assertNotIn("never sent", answer)
 
     def test_options_of_against(self):
         plan = self.write("plan.toml", text_of(PLAN).replace("version = 1", "version = 3", 1).replace('to = "all"\n', 'to = "all"\nperiod = 1000\n'))
