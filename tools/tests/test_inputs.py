@@ -27,8 +27,8 @@ FORMS = (
     "mkfifo fifo; cat {file} > fifo & {before} fifo {behind}",
     "ln -s /dev/stdin link; {before} link {behind} < {file}",
 )
-# Such names.
-OTHER_NAME = re.compile(r"/dev/(?:stdin|fd/\d+)|\b(?:fifo|link)\b")
+# Such names, as they are and in the title of a page.
+OTHER_NAME = re.compile(r"/dev/(?:stdin|fd/\d+)|\b(?:fifo|link)\b|(?<=>Plan )(?:stdin|\d+)(?=<)")
 
 RANDOM = random.Random(33).randbytes(20000)
 
@@ -49,10 +49,11 @@ class NoRegularFiles(InFolder):
     def is_judged_alike(self, before, file, behind=""):
         """A file is judged alike however it is given."""
         status, answer = self.answer(f"{before} {file} {behind}")
+        answer = answer.replace(file, "F").replace(f">Plan {os.path.basename(file)}<", ">Plan F<")
         self.assertNotIn(status, (program.DEVICE, program.FAULT))
         for form in FORMS:
             other_status, other = self.answer(form.format(before=before, file=file, behind=behind))
-            self.assertEqual((other_status, OTHER_NAME.sub("F", other)), (status, answer.replace(file, "F")), form)
+            self.assertEqual((other_status, OTHER_NAME.sub("F", other)), (status, answer), form)
 
     def test_plans(self):
         refused = self.write("refused.toml", "version = 1\n[[unit]]\nlabel = A\n")
