@@ -3,7 +3,8 @@
 It reports what is planned. So behind each line of the log stands another one. Where the line has a frame that may be none of a planned
 group, or announces a long message or gives one up, that is a request from the same address to the same one, which `follow` reports with
 both by their names; else it is empty. A request changes nothing of what `follow` knows. So line N of the log is line 2 N - 1, and its mark
-line 2 N. Each packet of a long message and each error frame has a mark, and where the plan has `timing` also what else takes time of the bus.
+line 2 N. Each packet of a long message and each error frame has a mark, and where the plan has `timing` also what else takes time of the bus;
+where it has none, only some packets of messages of no planned group have one.
 """
 
 import re
@@ -36,6 +37,11 @@ LINE_MOST = 8000
 RTS, BAM, ABORT = 16, 32, 255
 CHUNK, SIZES = 7, range(9, 1786)
 
+# In an identifier to whom a long message goes, and from whom. Of packets that are passed over so many follow one another at most: they take less
+# than a second by the standard (200 ms between two), so that no silence of the bus is seen there.
+WAY = 0xFFFF
+PASSED = 3
+
 # The identifier of a request for claims from nobody.
 NOBODY = 6 << 26 | REQUEST << 8 | GLOBAL_ADDRESS << 8 | NULL_ADDRESS
 
@@ -45,6 +51,10 @@ class Kind(Enum):
     an 11-bit identifier, an error frame, or one of which only its place on the bus is looked at."""
 
     MESSAGE, ANNOUNCEMENT, CONTROL, PACKET, SHORT, ERROR, OTHER = range(7)
+
+
+# What announces long messages and carries them.
+LONG = (Kind.ANNOUNCEMENT, Kind.PACKET)
 
 
 class Mark(NamedTuple):
@@ -84,6 +94,7 @@ class Feed:
             self._groups.setdefault(group.pgn, []).append(group)
         self._timing = timing
         self._reported: set[tuple[bytes, int]] = set()  # identifiers and lengths that need no mark
+        self._passed: set[tuple[bytes, int]] = set()  # interfaces and ways of long messages of which most packets are passed over
         self._marks: deque[tuple[int, Mark]] = deque()
         self._written = self._read = 0
         self._last = b""
@@ -145,10 +156,23 @@ class Feed:
             self._reported.update([key] if is_plain and is_sure else [])
             return b"\n"
         mark = mark_of(identifier, data)
-        if mark is None:
+        if mark is None or mark.kind in LONG and self._is_passed(line[:found.start(1)], mark):
             return b"\n"
         asked = int.from_bytes(data[:3], "little") if mark.pgn == REQUEST and len(data) >= 3 else mark.pgn
         return self._put(number, mark, line[:found.start(1)] + request(identifier, asked))
+
+    def _is_passed(self, head: bytes, mark: Mark) -> bool:
+        """Whether a packet is passed over; an announcement says it of those that follow it, on its interface."""
+        if self._timing:
+            return False
+        way = head.rpartition(b")")[2], mark.identifier & WAY
+        if mark.kind is Kind.PACKET:
+            return way in self._passed and len(mark.data) > 0 and mark.data[0] % (PASSED + 1) > 0
+        if mark.is_sound and mark.pgn not in self._groups:
+            self._passed.add(way)
+        elif mark.is_sound:
+            self._passed.discard(way)
+        return False
 
     def _put(self, number: int, mark: Mark, spelled: bytes) -> bytes:
         """Notes a mark, and answers its line."""
