@@ -90,6 +90,7 @@ class Hands:
         self._at: dict[Key, int] = {}
         self.first: dict[Key, int] = {}  # when each was heard first
         self._heard: dict[Key, int] = {}
+        self._where: dict[Key, int | None] = {}  # at which address each was heard last
         self._claimed: dict[Key, int] = {}  # when each claimed an address last
         self._fresh: dict[int, Claimed] = {}  # claims of which it isn't known yet what comes of them
         self._lost: dict[int, tuple[Key, int]] = {}  # of each address who held it before the last change, and when that was
@@ -129,6 +130,7 @@ class Hands:
         if at is not None:
             self.first.setdefault(key, at)
             self._heard[key] = self._claimed[key] = at
+            self._where[key] = address
         return tuple(changed)
 
     def _leaves(self, key: Key, at: int | None, who: Who) -> list[int]:
@@ -162,7 +164,7 @@ class Hands:
                 self._lost[address] = key_of(before), at
             if before.label and not who.label:
                 self._taken[before.label] = Taken(line, at, who, self._is_on(before.label, at))
-        if address in POOL and self._is_new(key, at) and not is_defence:
+        if address in POOL and self._is_new(key, address, at) and not is_defence:
             self._fresh[address] = Claimed(line, at, who, before, self._is_contested(at, before, who))
         self._holders[address], self._at[key] = who, address
 
@@ -194,9 +196,10 @@ class Hands:
         lost = self._lost.get(address)
         return lost is not None and at is not None and lost[0] == key and 0 <= at - lost[1] < CONTEST
 
-    def _is_new(self, key: Key, at: int | None) -> bool:
-        """Whether a claim is none that was asked for, nor of one that sends already."""
-        return at is not None and not self._was_asked(at) and not 0 <= at - self._heard.get(key, at - HEARD) < HEARD
+    def _is_new(self, key: Key, address: int, at: int | None) -> bool:
+        """Whether a claim is none that was asked for, nor of one that sends from this address already."""
+        is_there = self._where.get(key) == address
+        return at is not None and not self._was_asked(at) and not (is_there and 0 <= at - self._heard.get(key, at - HEARD) < HEARD)
 
     def _is_on(self, key: Key, at: int | None) -> bool:
         """Whether somebody was heard so lately that it is on."""
@@ -238,6 +241,7 @@ class Hands:
             if key not in self.first:
                 self.first[key] = at
             self._heard[key] = at
+            self._where[key] = who.address
         if self._fresh:
             self._pass(at)
             self._is_early(line, at, who)

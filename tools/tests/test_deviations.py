@@ -1,6 +1,7 @@
 """What `against` reports of units, their addresses, the bus and the log, and in which forms: each in exact words, and nothing of healthy units."""
 
 import contextlib
+import io
 import json
 import os
 import signal
@@ -9,6 +10,8 @@ import sys
 import time
 
 from modules import program
+from modules.log_marks import Feed
+from modules.plan_tables import Tables
 from tests.support import TOOLS, InFolder, run, without_times
 
 # Two units that may choose from 128 on, one that is fixed; HITCH sends each 5 s, EBC1 each 100 ms.
@@ -96,6 +99,15 @@ class Units(Deviations):
     def test_a_slow_unit_that_does_not_defend_its_address(self):
         begin = [(1, HITCH), (5, HSTAT), (9.9, SPRAYER_AT_128), (10.2, HITCH.replace("EEFF80", "EEFF81"))]
         self.assertEqual(self.told(*begin), ["L:3: SPRAYER claims address 128, and HITCH doesn't defend it, whose NAME is smaller"])
+
+    def test_a_unit_that_moves_waits_again(self):
+        """SPRAYER claims 141 since HITCH defends 128, or moves while it sends: for 250 ms from then on it is to send nothing."""
+        asks, moves = "18EAFF8D#ECFE00", SPRAYER.replace("EEFF8C", "EEFF8D")
+        lost = [(1, HITCH), (9.8, HSTAT), (9.9, SPRAYER_AT_128), (9.905, HITCH)]
+        early = "SPRAYER sends before 250 ms have passed behind its claim of address 141"
+        self.assertEqual(self.told(*lost, (9.91, moves), (10.159, asks)), [f"L:6: {early}"])
+        self.assertEqual(self.told(*lost, (9.91, moves), (10.16, asks)), [])
+        self.assertEqual(self.told((1, SPRAYER), (9.8, asks.replace("8D#", "8C#")), (9.9, moves), (10.1, asks)), [f"L:4: {early}"])
 
     def test_a_restart(self):
         """A claim of an address that its unit holds, more than 1,250 ms after a request; a repeated one 100 ms later is of the same start."""
@@ -210,6 +222,25 @@ class Transfers(Deviations):
         self.assertEqual(self.whole(RTS, CLEAR, *PACKETS, last=3.3), [text])
         self.assertEqual(self.whole(RTS, CLEAR, *PACKETS, last=3.28), [])
         self.assertEqual(self.whole(RTS, CLEAR, *PACKETS, RTS, CLEAR, *PACKETS, WHOLE, last=2.5), [text])
+
+
+class Marks(Deviations):
+    def marked(self, *frames, plan=PLAN):
+        """The numbers of the lines of a log that have a mark."""
+        tables = Tables.of(self.write("plan.toml", plan))
+        log = io.BytesIO("".join(f"(1.0) {frame}\n" for frame in frames).encode())
+        return [number for number, mark in enumerate(b"".join(Feed(tables.groups, tables.timing).pieces(log)).split(b"\n")[1::2], 1) if mark]
+
+    def test_packets(self):
+        """Those of a planned group all; of another one each fourth, but where the plan has timing. Another interface has messages of its own."""
+        planned, another = "can0 1CECFF0B#20110003FFECFE00", "can0 1CECFF0B#20270006FFEBFE00"
+        packets = [f"can0 1CEBFF0B#0{number}AAAAAAAAAAAAAA" for number in range(1, 7)]
+        self.assertEqual(self.marked(planned, *packets[:3]), [1, 2, 3, 4])
+        self.assertEqual(self.marked(another, *packets), [1, 5])
+        self.assertEqual(self.marked(another, *packets, planned, *packets[:3]), [1, 5, 8, 9, 10, 11])
+        self.assertEqual(self.marked(planned, another.replace("can0", "can1"), *packets[:3]), [1, 2, 3, 4, 5])
+        timing = PLAN.replace("version = 4", "version = 4\ntiming = { bitrate = 250000, unplanned = 9 }")
+        self.assertEqual(self.marked(another, *packets, plan=timing), [1, 2, 3, 4, 5, 6, 7])
 
 
 class Forms(Deviations):
