@@ -71,7 +71,7 @@ class Comparison:
         self.sent: dict[Way, int] = {(flow.group, flow.sender, flow.to): 0 for flow in tables.flows}
         self.found, self.clock, self.hands = found, Clock(), Hands(tables, found)
         self.distances = Distances(tables.flows, settings.tolerance, settings.rule, bounds.waits, self.hands.first, found)
-        self.asked, self.damage = Asked(tables, settings.tolerance, found), Damage(tables.timing, found)
+        self.asked, self.damage = Asked(tables, settings.tolerance, bounds.requests, found), Damage(tables.timing, found)
         self.transfers, self.unplanned = Transfers(tables.timing, found), Unplanned(tables, bounds.flows, found)
         self._begun: dict[Pair, Begun] = {}
         self._strange: set[str] = set()  # who was told as nobody's

@@ -29,9 +29,9 @@ class Open(NamedTuple):
 class Asked:
     """The requests of a plan, by what a log has of them."""
 
-    def __init__(self, tables: Tables, tolerance: Tolerance, found: Found) -> None:
+    def __init__(self, tables: Tables, tolerance: Tolerance, waits: dict[str, int], found: Found) -> None:
         self._requests, self._found = tables.requests, found
-        self._tolerance = tolerance
+        self._tolerance, self._waits = tolerance, waits  # how long a request of a unit may wait on the bus, as far as that is known
         self._numbers = {group.label: group.pgn for group in tables.groups}
         self._open: list[deque[Open]] = [deque() for _ in self._requests]
         self._last: list[int | None] = [None] * len(self._requests)
@@ -53,7 +53,7 @@ class Asked:
         self._last[number] = at
         if period is not None and last is not None and at is not None:
             distance = at - last
-            if 0 <= distance < period * MILLISECOND - self._tolerance.at(period):
+            if 0 <= distance < period * MILLISECOND - self._tolerance.at(period) - self._waits.get(self._requests[number].sender, 0):
                 self._tell("asked-early", number, f"{{}} ms after the one before, its period is {period} ms", line, at, distance)
 
     def answers(self, line: int, at: int | None, sender: Who, to: Who, pgn: int) -> None:

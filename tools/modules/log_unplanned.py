@@ -5,6 +5,7 @@ from typing import NamedTuple
 
 from . import program
 from .answers import load_of
+from .j1939 import REQUEST
 from .log_clock import MILLISECOND, milliseconds
 from .log_deviations import Found
 from .plan_tables import Tables
@@ -14,6 +15,9 @@ MICROSECOND = 1000
 
 # Identifiers are below this.
 ANY = 1 << 29
+
+# The greatest identifier of a request.
+REQUESTS = 6 << 26 | REQUEST << 8 | 0xFFFF
 
 
 class Bound(NamedTuple):
@@ -26,17 +30,18 @@ class Bound(NamedTuple):
 
 
 class Bounds(NamedTuple):
-    """The bounds of the flows whose messages have one, and how long a message of each flow may wait on the bus once it is queued, as far as
-    `load` tells it."""
+    """The bounds of the flows whose messages have one, and how long a message of each flow, and a request of each unit that asks, may wait on the
+    bus once it is queued, as far as `load` tells it."""
 
     flows: list[Bound]
     waits: dict[int, int]
+    requests: dict[str, int]
 
 
 def bounds_of(plan: str, tables: Tables) -> Bounds:
     """What `load` has of the flows."""
     if tables.timing is None:
-        return Bounds([], {})
+        return Bounds([], {}, {})
     load = load_of(program.call(["load", "--", plan])[1])
     delays = load.delays if load else []
     within = {delay.flow: delay.within * MICROSECOND for delay in delays if delay.within is not None}
@@ -45,7 +50,10 @@ def bounds_of(plan: str, tables: Tables) -> Bounds:
     without_order = {unit.label for unit in tables.units if unit.queue == "any"}
     flows = [Bound(number, within[number], ANY if tables.flows[number - 1].sender in without_order else greatest[number]) for number in sorted(short)]
     waits = {number: wait_of(number, within, short, greatest, tables.flows[number - 1].sender in without_order) for number in greatest}
-    return Bounds(flows, {number: wait - tables.flows[number - 1].jitter * MILLISECOND for number, wait in waits.items() if wait is not None})
+    own = {number: wait - tables.flows[number - 1].jitter * MILLISECOND for number, wait in waits.items() if wait is not None}
+    asking = {request.sender for request in tables.requests} - without_order
+    wait = least_behind(REQUESTS, {number: within[number] for number in short}, greatest)
+    return Bounds(flows, own, {} if wait is None else dict.fromkeys(asking, wait))
 
 
 def greatest_identifier(tables: Tables, number: int) -> int:
@@ -59,8 +67,13 @@ def wait_of(number: int, within: dict[int, int], short: set[int], greatest: dict
     of each flow with a greater identifier, and so waits no longer than any of these; else the whole message's time is one."""
     if number in short:
         return within[number]
-    behind = [within[other] for other in short if greatest[other] > greatest[number]]
-    return min(behind) if behind and not has_no_order else within.get(number)
+    behind = least_behind(greatest[number], {other: within[other] for other in short}, greatest)
+    return within.get(number) if behind is None or has_no_order else behind
+
+
+def least_behind(identifier: int, within: dict[int, int], greatest: dict[int, int]) -> int | None:
+    """The least bound of those flows of which a frame with this identifier goes before each one."""
+    return min((bound for number, bound in within.items() if greatest[number] > identifier), default=None)
 
 
 class Unplanned:

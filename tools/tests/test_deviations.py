@@ -185,6 +185,17 @@ class Buses(Deviations):
         found = self.told((1, EBC1), *strange, plan=plan.replace('address = 11\n', 'address = 11\nqueue = "any"\n'))
         self.assertTrue(any(line.startswith("L:5: 4 frames that no flow has came within ") for line in found), found)
 
+    def test_requests_that_wait_on_the_bus(self):
+        """A request may wait no longer than EBC1, which it goes before: one that comes less than a frame nearer than its period accuses nobody."""
+        plan = PLAN.split('[[group]]\nlabel = "VI"')[0] + PLAN[PLAN.index("[[flow]]"):].split('[[flow]]\ngroup = "VI"')[0]
+        plan += '[[request]]\nfrom = "SPRAYER"\nto = "BRAKES"\ngroup = "EBC1"\nperiod = 5000\n'
+        timing = plan.replace("version = 4", "version = 4\ntiming = { bitrate = 250000, unplanned = 0 }")
+        asks = "18EA0B8C#01F000"
+        for text, second, told in ((timing, 5.9998, []), (timing, 5.99, ["990"]), (plan, 5.9998, ["999.8"])):
+            found = self.told((1, asks), (1.001, EBC1), (second, asks), (second + 0.001, EBC1), plan=text)
+            said = [f"L:3: request 1, EBC1 from SPRAYER to BRAKES: 4{value} ms after the one before, its period is 5000 ms" for value in told]
+            self.assertEqual([line for line in found if "request" in line], said)
+
     def test_the_interface_that_is_read(self):
         """A log that begins with one frame of another bus is refused, and the one that has nearly all is named."""
         log = "(1.0) can1 18F0010B#00\n" + lines_of(*brakes(1, 11)) * 2
