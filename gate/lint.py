@@ -56,11 +56,11 @@ def bytes_of(name: str) -> bytes:
 
 
 def look(tally: Tally, program: str, what: str, words: list[str]) -> None:
-    """Counts what a program says of files: nothing is right."""
+    """Counts what a command, which needs this program, says of files: its status 0 is right."""
     if not shutil.which(program):
         print(f"{what}: skipped, since {program} is missing")
         return
-    ran = subprocess.run([program, *words], cwd=crates.TOP, stdin=subprocess.DEVNULL, capture_output=True, text=True, check=False)
+    ran = subprocess.run(words, cwd=crates.TOP, stdin=subprocess.DEVNULL, capture_output=True, text=True, check=False)
     tally.count(what, ran.returncode == 0, f"\n{ran.stdout}{ran.stderr}")
 
 
@@ -72,9 +72,9 @@ def main() -> int:
         tally.count("format", not found, f"rt fmt changes {', '.join(found)}")
     else:
         print("format: skipped, since rt is missing")
-    look(tally, "shellcheck", "scripts", ["--severity=warning", *scripts()])
-    look(tally, "pyflakes3", "names in Python", python_files())
-    look(tally, "mypy", "types in Python", ["--config-file", "tools/mypy.ini", "--cache-dir", os.devnull])
+    look(tally, "shellcheck", "scripts", ["shellcheck", "--severity=warning", *scripts()])
+    look(tally, "pyflakes3", "names in Python", ["pyflakes3", *python_files()])
+    look(tally, "mypy", "types in Python", [sys.executable, "gate/python_types.py"])
     return tally.end()
 
 

@@ -153,8 +153,10 @@ class Built(InFolder):
         version = lines_of(program.path(), "--version")[0].split()[1]
         self.assertEqual(head, f"j39plan ({version}) unstable; urgency=medium")
         self.assertIn(f" -- {MAINTAINER}  Tue, 14 Nov 2023 22:13:20 +0000", items)
-        shown = re.findall(r"^(?:- |  )(.*)", text_of(os.path.join(TOP, "CHANGELOG.md")), re.MULTILINE)
-        self.assertEqual([item[4:] for item in items if item.startswith("  ")], shown)
+        lines = re.findall(r"^(?:- |  ).*", text_of(os.path.join(TOP, "CHANGELOG.md")), re.MULTILINE)
+        shown = " ".join(line.replace("- ", "* ", 1) if line.startswith("- ") else line.strip() for line in lines)
+        self.assertEqual(" ".join(item.strip() for item in items if item.startswith("  ")), shown)
+        self.assertLessEqual(max(map(len, items)), 80)
 
     @unittest.skipUnless(shutil.which("strip"), "strip isn't there: apt-get install binutils")
     def test_the_program_has_no_symbols(self):

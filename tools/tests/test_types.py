@@ -5,28 +5,22 @@ import shutil
 import subprocess
 import unittest
 
-from tests.support import TOOLS, InFolder
-
-MYPY = ["mypy", "--config-file", os.path.join(TOOLS, "mypy.ini"), "--cache-dir", os.devnull]
+from tests.support import TOOLS, TOP, InFolder
 
 
 @unittest.skipUnless(shutil.which("mypy"), "mypy isn't there: apt-get install mypy")
 class Types(InFolder):
-    def looked(self, *words):
-        """What mypy says, and its status."""
-        ended = subprocess.run([*MYPY, *words], cwd=self.folder, capture_output=True, text=True, check=False, env={**os.environ, "MYPYPATH": ""})
-        return ended.returncode, ended.stdout + ended.stderr
-
     def test_all_have_their_types(self):
-        status, said = self.looked()
-        self.assertEqual(status, 0, said)
-        self.assertRegex(said, r"^Success: no issues found in (\d{2,}) source files\n\Z")
+        ended = subprocess.run([os.path.join(TOP, "gate/python_types.py")], cwd=self.folder, capture_output=True, text=True, check=False)
+        self.assertEqual(ended.returncode, 0, ended.stdout + ended.stderr)
+        self.assertRegex(ended.stdout, r"^Success: no issues found in (\d{2,}) source files\n\Z")
 
     def test_the_module_hands_out_its_types(self):
-        """A program that uses it is told what is wrong in it, also where it is installed as a link."""
-        os.mkdir(self.path("python"))
-        os.symlink(os.path.join(TOOLS, "j39plan"), self.path("python/j39plan"))
-        self.assertTrue(os.path.exists(self.path("python/j39plan/py.typed")))
+        """A program that uses it is told what is wrong in it, where the module lies as in a package."""
+        os.makedirs(self.path("python/j39plan"))
+        for name in ("__init__.py", "py.typed"):
+            shutil.copy(os.path.join(TOOLS, "j39plan", name), self.path("python/j39plan"))
+        os.symlink(os.path.join(TOOLS, "modules"), self.path("python/j39plan/_tools"))
         user = self.write("user.py", "import j39plan\nplan = j39plan.read_plan('a.toml')\nfirst: str = plan.units[0].label\nsecond: int = plan.units[0].label\n"
                                      "for report in j39plan.follow(plan, 'a.log'):\n    third: str = report.line\n")
         words = ["mypy", "--strict", "--cache-dir", os.devnull, user]
