@@ -7,7 +7,7 @@ import re
 import tomllib
 import unittest
 
-from modules import program
+from modules import plan_format, program
 from tests.support import TOOLS, TOP, InFolder, examples, needs, shown_refusals, text_of
 
 SCHEMA = json.loads(text_of(os.path.join(TOOLS, "plan.schema.json")))
@@ -63,24 +63,25 @@ def rules(table):
 
 
 def page_rows():
-    """The rows of the tables of keys in docs/PLAN.md: table, key, type and range, default."""
+    """The rows of the tables of keys in docs/PLAN.md: table, key, type and range, default, the first version where it isn't 1."""
     page = text_of(os.path.join(TOP, "docs", "PLAN.md"))
     page = page[page.index("\n## Tables and keys"):page.index("\n## Byte order: bytes and bits")]
     for heading, body in re.findall(r"\n### (.*?)\n(.*?)(?=\n### |\Z)", page, re.DOTALL):
+        has_since = "| Since |" in body
         for row in re.findall(r"\n\| `.*", body):
-            key, kind, default = (cell.strip() for cell in row.split("|")[1:4])
-            yield TABLES[heading], key.strip("`"), kind, default
+            key, kind, default, first = (cell.strip() for cell in row.split("|")[1:5])
+            yield TABLES[heading], key.strip("`"), kind, default, first if has_since else ""
 
 
 class Schema(InFolder):
     def test_it_has_the_keys_of_the_page(self):
         shown = {}
-        for table, key, _, _ in page_rows():
+        for table, key, *_ in page_rows():
             shown.setdefault(table, []).append(key)
         self.assertEqual(shown, {table: list(rules(table)["properties"]) for table in TABLES.values()})
 
     def test_it_has_the_ranges_of_the_page(self):
-        for table, key, kind, _ in page_rows():
+        for table, key, kind, *_ in page_rows():
             rule = rules(table)["properties"][key]
             if found := re.match(r"integer (-?\d+)\.\.(\d+)", kind):
                 self.assertEqual((rule["minimum"], rule["maximum"]), tuple(map(int, found.groups())), (table, key))
@@ -92,12 +93,20 @@ class Schema(InFolder):
             elif words := re.findall(r'`"(\w+)"`', kind):
                 self.assertEqual(rule["enum"], words, (table, key))
 
+    def test_it_has_the_versions_of_the_page(self):
+        """Of keys by the column Since, of kinds and bitrates by the words before them."""
+        shown = {(table, key): int(first) for table, key, _, _, first in page_rows() if first}
+        for _, _, kind, *_ in page_rows():
+            if found := re.search(r"from version (\d) on also (.*)", kind):
+                shown.update((int(word) if word.isdigit() else word, int(found.group(1))) for word in re.findall(r"\w{3,}", found.group(2)))
+        self.assertEqual(shown, plan_format.since())
+
     def test_it_wants_the_keys_without_a_default(self):
-        for table, key, _, default in page_rows():
+        for table, key, _, default, _ in page_rows():
             self.assertEqual(key in rules(table).get("required", []), default == "", (table, key))
 
     def test_it_has_the_defaults_of_the_page(self):
-        for table, key, _, default in page_rows():
+        for table, key, _, default, _ in page_rows():
             if default not in ("", "none", "`length`"):  # an array that isn't there has no elements; `most` is as `length` then
                 shown = {"empty": "", "`false`": "False", "`true`": "True"}.get(default, default.strip('`"'))
                 self.assertEqual(str(rules(table)["properties"][key]["default"]), shown, (table, key))
@@ -188,7 +197,7 @@ class Validated(InFolder):
             "flow": [{"group": "G", "from": "A", "to": "all", "period": 10, "deadline": 10}], "need": [{"unit": "A", "group": "G", "within": 10}],
             "request": [{"group": "G", "from": "A", "to": "all", "period": 10}],
         }
-        for table, key, kind, _ in page_rows():
+        for table, key, kind, *_ in page_rows():
             if table is None or (table, key) in FITTED or not (found := re.match(r"integer (-?\d+)\.\.(\d+)", kind)):
                 continue
             low, high = map(int, found.groups())
