@@ -101,12 +101,11 @@ class Comparison:
         self.hands.sends(line, at, sender)
         if sender.label is not None:
             return
-        what = f"sends {f'{group}, a planned group' if group else ''}".rstrip()
-        former = self.hands.former(at, sender)
+        former, what = self.hands.former(at, sender), f"sends {group}, a planned group" if group else "sends"
         if former is None:
-            text = f"{sender.spelled} {what}: no unit has it"
-            self._strange.add(sender.spelled)
-            self.found.tell("stranger", text, line, at)
+            spelled = sender.spelled
+            self._strange.add(spelled)
+            self.found.tell("stranger", f"{spelled} {what}: no unit has it", line, at)
         else:
             text = f"{former.spelled} claims address {former.address}, and its former address {sender.address} {what}: two boxes of one NAME?"
             self.found.tell("two-boxes", text, line, at, unit=former.label)
@@ -132,7 +131,7 @@ class Comparison:
         if sender.label:
             self.found.tell("no-flow", f"{group} from {sender.label} to {to.shown}: no flow", first, began, unit=sender.label)
         if begun is None:
-            self.passes(line, at, priority << 26 | self.planned[group].pgn << 8, "" if sender.label is None else f"{group} from {sender.shown}", sender)
+            self.passes(line, at, priority << 26 | self.planned[group].pgn << 8, group if sender.label else "", sender)
 
     def sends(self, number: int, line: int, at: int | None) -> None:
         """A message of a flow has come, by where it began."""
@@ -146,7 +145,7 @@ class Comparison:
             self.unplanned.came(line, at, identifier)
             if what and identifier >> 26 < self.timing.unplanned_priority:
                 limit = f"by 'load' what no flow has is of {self.timing.unplanned_priority} or more"
-                self.found.tell("urgent", f"{what} has priority {identifier >> 26}: {limit}", line, at, unit=sender.label)
+                self.found.tell("urgent", f"{what} from {sender.shown} has priority {identifier >> 26}: {limit}", line, at, unit=sender.label)
 
     def group_of(self, mark: Mark, sender: Who, to: Who) -> Group | None:
         """The group of a message: of those of its number one of its length, else the first; a private one only where a flow sends it
@@ -164,7 +163,7 @@ class Comparison:
         elif mark.kind is Kind.ERROR:
             self.damaged(line, at, mark)
         elif mark.kind is Kind.OTHER:
-            self.passes(line, at, mark.identifier, f"PGN {mark.pgn} from {sender.shown}", sender)
+            self.passes(line, at, mark.identifier, f"PGN {mark.pgn}", sender)
         elif mark.kind in (Kind.CONTROL, Kind.PACKET):
             self.carried(line, at, request, mark)
         elif mark.is_announcement:
@@ -188,7 +187,7 @@ class Comparison:
         if mark.kind is Kind.CONTROL and mark.data[0] == WHOLE:
             self.acknowledged(pair_of(to, sender))
         if not is_planned:
-            self.passes(line, at, mark.identifier, f"PGN {mark.pgn} from {sender.shown}", sender)
+            self.passes(line, at, mark.identifier, f"PGN {mark.pgn}", sender)
 
     def acknowledged(self, pair: Pair) -> None:
         """The receiver may have said that it has a message which isn't reported, as where a packet was asked for once more: it was carried whole."""
@@ -208,7 +207,7 @@ class Comparison:
         sender, to = request.sender, request.to
         self.asks(line, at, request)
         group = self.group_of(mark, sender, to)
-        self.passes(line, at, mark.identifier, f"PGN {mark.pgn} from {sender.shown}", sender)
+        self.passes(line, at, mark.identifier, f"PGN {mark.pgn}", sender)
         if group is None:
             self.nobody(line, at, mark, sender)
         elif not group.length <= mark.length <= group.most or group.when is not None:
@@ -251,7 +250,7 @@ class Comparison:
         if mark.is_sound:
             self.transfers.announced(line, at, route, mark, sender, to)
         if not is_planned:
-            self.passes(line, at, mark.identifier, f"PGN {mark.pgn} from {sender.shown}", sender)
+            self.passes(line, at, mark.identifier, f"PGN {mark.pgn}", sender)
         if group is None:
             self.nobody(line, at, mark, sender)
         elif not group.length <= mark.length <= group.most:
