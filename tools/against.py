@@ -130,14 +130,14 @@ def main(words: list[str] | None = None) -> int:
     """Writes the deviations; 0 where there is none, 1 where there is one."""
     given, counts = words_of(words), Counts()
     with opened(given.plan) as plan, Log(given.logs, given.interface) as log:
-        tables, output = tables_of(plan), Output(given, log)
+        tables, output, meter = tables_of(plan), Output(given, log), Meter() if given.json else None
         found = Found(given.all, output.live if given.live else None)
         settings = Settings(given.jitter, Rule(given.silence, events_of(given.events, tables), given.table))
-        feed, comparison = Feed(tables.groups, tables.timing), Comparison(tables, bounds_of(plan, tables), settings, found)
+        feed, comparison = Feed(tables.groups, tables.timing, meter), Comparison(tables, bounds_of(plan, tables), settings, found)
         for report in follow(plan, log, tables, counts, feed.pieces, given.live):
             line, mark = feed.place(report)
             comparison.report(line, report, mark)
-        summary = summary_of(log, feed.meter, comparison.distances)
+        summary = summary_of(log, meter, comparison.distances) if meter else {}
     counts.elsewhere -= feed.unread
     counts.frames -= feed.read
     counts.bad -= comparison.damage.frames

@@ -316,10 +316,10 @@ class Comparison:
         at = self.clock.see(line, report.time)
         if at is not None and (mark is None or mark.kind is not Kind.ERROR):
             self.looks_at_time(line, at)
-        if isinstance(report, Claim):
-            self.claim(line, at, report.who)
-        elif isinstance(report, Message):
+        if isinstance(report, Message):
             self.message(line, at, report)
+        elif isinstance(report, Claim):
+            self.claim(line, at, report.who)
         elif isinstance(report, Acknowledgement):
             self.asked.acknowledged(line, at, report)
         elif mark:

@@ -86,9 +86,10 @@ def pgn_in(number: int) -> int:
 
 
 class Feed:
-    """A log as `follow` is given it, and what its marks stand for; with `timing` also of what takes time of the bus."""
+    """A log as `follow` is given it, and what its marks stand for; with `timing` also of what takes time of the bus. A meter takes all lines, if
+    there is one."""
 
-    def __init__(self, groups: list[Group], timing: Timing | None = None) -> None:
+    def __init__(self, groups: list[Group], timing: Timing | None = None, meter: Meter | None = None) -> None:
         self._groups: dict[int, list[Group]] = {}
         for group in groups:
             self._groups.setdefault(group.pgn, []).append(group)
@@ -98,7 +99,7 @@ class Feed:
         self._marks: deque[tuple[int, Mark]] = deque()
         self._written = self._read = 0
         self._last = b""
-        self.meter = Meter()
+        self._meter = meter
 
     @property
     def unread(self) -> int:
@@ -142,7 +143,8 @@ class Feed:
         end = line.rstrip(BLANKS)
         at = end.rfind(b"#")
         key, is_plain = (end[at - 8:at], len(end) - at), end[-1:] not in DIRECTIONS
-        self.meter.take(line, at - 8, key[1] if is_plain else len(end[at:].split(maxsplit=1)[0]))
+        if self._meter:
+            self._meter.take(line, at - 8, key[1] if is_plain else len(end[at:].split(maxsplit=1)[0]))
         if key in self._reported and is_plain:
             self._last = line
             return b"\n"

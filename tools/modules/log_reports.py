@@ -141,8 +141,10 @@ class Counts:
 
     def refuse_a_guess(self, log: Log) -> None:
         """Refuses a log of which nearly all is of other interfaces than the one with which it begins, where none was asked for."""
+        if log.interface is not None or self.elsewhere <= GUESSED * self.frames:
+            return
         first, others = log.interfaces()
-        if log.interface is None and first and others and self.elsewhere > GUESSED * self.frames:
+        if first and others:
             has = f"has {self.frames} of its {self.frames + self.elsewhere} lines"
             raise program.Refused(program.UNREADABLE, f"{log.names[0]} begins with {first}, which {has}: choose one, as --interface {others[0]}")
 
