@@ -256,7 +256,8 @@ length = 20
         self.assertNotIn("age", [cell for row in rows for cell in row])
         self.assertIn(["ENGINE", "EEC1 for CLUSTER"], rows)
         self.assertEqual([row for row in rows if row[0] in "123" and len(row) == 8], [
-            ["1", "CLUSTER", "EEC1", "–", "any unit", "ENGINE", "21 ms", "–"], ["2", "CLUSTER", "EEC1", "–", "ENGINE", "ENGINE", "22 ms", "–"],
+            ["1", "CLUSTER", "EEC1", "–", "any unit", "ENGINE", "21 ms", "not shown to be so young"],
+            ["2", "CLUSTER", "EEC1", "–", "ENGINE", "ENGINE", "22 ms", "21.28 ms"],
             ["3", "ENGINE", "EEC1", "–", "any unit", "nobody", "–", "–"]])
         rows = self.page(self.write("plan.toml", text + more.partition("[[need]]\nunit = \"ENGINE\"")[0])).rows
         self.assertEqual([row[7] for row in rows if row[0] in "12" and len(row) == 8], ["not shown to be so young", "21.28 ms"])
