@@ -39,17 +39,11 @@ fn all_left(table: &[Contention; ADDRESSES], party: Who) -> [Contention; ADDRESS
     rest
 }
 
-// What is known of all addresses, with this of one.
-fn with_contention(
-    table: [Contention; ADDRESSES],
-    address: u8,
-    new: Contention,
-) -> [Contention; ADDRESSES]
-    ensures { (a : ℕ) → a < 256 → contention_at result a ≡ (if address == a then new else contention_at table a) }
+// Puts what is known of one address in its place.
+fn put_contention(table: &mut [Contention; ADDRESSES], address: u8, new: Contention)
+    ensures { (a : ℕ) → a < 256 → contention_at table.new a ≡ (if address == a then new else contention_at table.old a) }
 {
-    let mut changed = table;
-    changed[usize::from(address)] = new;
-    changed
+    table[usize::from(address)] = new;
 }
 
 // The address that a frame claims.
@@ -103,7 +97,7 @@ impl Contests {
             → IsClaimant plan.now (frames_of log) name claimant → IsContentionBehind plan.now log (contention_at self.now.table address)
             (record { frame = frame.now; time = time }) address (contention_at result address) }
     {
-        let rest = all_left(&self.table, claimant.party);
+        let mut rest = all_left(&self.table, claimant.party);
         if !claims_address(frame) {
             return rest;
         }
@@ -116,7 +110,8 @@ impl Contests {
         };
         let old = self.table[usize::from(address)];
         let new = contention_behind(plan, directory, old, claim);
-        with_contention(rest, address, new)
+        put_contention(&mut rest, address, new);
+        rest
     }
 
     /// Notes a frame that claims an address or tells that a NAME can't, on a line with this time: what it ends and begins.

@@ -28,11 +28,11 @@ returns c = λ log a less knows of.
     let sa = f.ident.sa in
     let old : Contention = contention_at c.args.self.now.table a in
     let named = of.party ∙ ap (likely_named plan) (sym c.requires.name) in
-    let put = c.with_contention.ensures a less in
+    let put = c.put_contention.ensures a less in
     elim (cases_Bool (sa == a)) [
       | inl same ↦
           let is : sa ≡ a = eqb-true sa a same in
-          let new : contention_at c.with_contention.result a ≡ c.contention_behind-new.result =
+          let new : contention_at c.put_contention.new.table a ≡ c.contention_behind-new.result =
           put ∙ ap (λ (b : Bool). if b then c.contention_behind-new.result else contention_at c.all_left-rest.result a) same in
           let behind = c.contention_behind-new.ensures log x knows (record {
             claims = record {
@@ -48,7 +48,7 @@ returns c = λ log a less knows of.
           (subst (λ (i : ℕ). IsContentionBehind plan log (contention_at c.args.self.now.table i) x sa c.contention_behind-new.result) c.from.ensures
           behind))
       | inr other ↦
-          let rest : contention_at c.with_contention.result a ≡ contention_at c.all_left-rest.result a =
+          let rest : contention_at c.put_contention.new.table a ≡ contention_at c.all_left-rest.result a =
           put ∙ ap (λ (b : Bool). if b then c.contention_behind-new.result else contention_at c.all_left-rest.result a) other in
           subst (IsContentionBehind plan log old x a) (sym (rest ∙ c.all_left-rest.ensures a less))
           (left_behind plan log old x a c.args.claimant.party named c.requires.told

@@ -4,11 +4,11 @@ use Rattle.std.proofs.lemmas.Bool.{cases_Bool, eqb-false}
 use Rattle.j39_follow.specs.Contests.{nothing_contended}
 use Rattle.j39_follow.specs.inside.Contesting.{contention_at}
 use Rattle.j39_follow.proofs.Tables.{set_here, set_there}
-use Rattle.j39_follow.proofs.contests.with_contention.Goals as goal
+use Rattle.j39_follow.proofs.contests.put_contention.Goals as goal
 
 pub returns : goal.returns
 returns c = λ a less.
-    let table = c.args.table in
+    let table = c.args.table.now in
     let k = c.args.address in
     let new = c.args.new in
     let size : length table ≡ 256 = search rules in
