@@ -34,7 +34,8 @@ class Numbers(InFolder):
 
     def test_the_fields_of_a_name_are_those_of_the_page_and_of_the_schema(self):
         """Their bits, and with them the most that each may be."""
-        rows = re.findall(r"\n\| `(\w+)` \|[^|]*\|[^|]*\| (\d+)(?:\.\.(\d+))? \|", PAGE)
+        table = PAGE.partition("| Bits of the NAME |")[2].partition("\n\n")[0]
+        rows = re.findall(r"\n\| `(\w+)` \|[^|]*\|[^|]*\| (\d+)(?:\.\.(\d+))? \|", table)
         self.assertEqual([(key, int(first), int(last or first) + 1 - int(first)) for key, first, last in rows], list(j1939.NAME_FIELDS))
         rules = plan_format.schema()["definitions"]["name"]["properties"]
         self.assertEqual([(key, rule["maximum"] + 1) for key, rule in rules.items() if key != "arbitrary"],
