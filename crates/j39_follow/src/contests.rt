@@ -25,7 +25,8 @@ pub(crate) struct Contests {
     claimants: Claimants,
 }
 
-// What is left of all contests at a frame that tells of this one.
+// What is left of all contests at a frame that tells of this one. Not in line: tables of its own take much of the stack.
+#[inline(never)]
 fn all_left(table: &[Contention; ADDRESSES], party: Who) -> [Contention; ADDRESSES]
     ensures { AreRemaining table.now result party }
 {
@@ -82,6 +83,7 @@ impl Contests {
     }
 
     // What is known of all addresses behind a frame of this NAME.
+    #[inline(never)]
     fn behind(
         &self,
         plan: &Plan,
@@ -115,6 +117,7 @@ impl Contests {
     }
 
     /// Notes a frame that claims an address or tells that a NAME can't, on a line with this time: what it ends and begins.
+    #[inline(never)]
     pub fn hear(
         &mut self,
         plan: &Plan,
