@@ -1,8 +1,5 @@
 pub mod Alike
-pub mod Beginning
-pub mod Claimed
 pub mod Contested
-pub mod Contending
 pub mod EndLines
 pub mod Exchanged
 pub mod FirstWords
