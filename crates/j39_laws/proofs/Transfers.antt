@@ -21,3 +21,4 @@ pub mod Answered
 pub mod AnsweredTaken
 pub mod ArrivingAnswered
 pub mod AnsweredRuns
+pub mod SentArriving

@@ -4,6 +4,7 @@ ghost use Rattle.j39_findings.specs.declared.plan.Plan.{Plan as Plans};
 ghost use Rattle.j39_findings.specs.declared.steps.Step.{Step as Steps};
 ghost use Rattle.j39_world.specs.Arriving.{ArrivesUnanswered, Answered, CanArriveAnswered, HasArrivedAnswered, IsAlone};
 ghost use Rattle.j39_world.specs.Run.{Run};
+ghost use Rattle.j39_world.specs.SentArriving.{SentFramesArrive};
 ghost use Rattle.j39_world.specs.World.{World, all_off};
 
 /// In every world of every run of every plan, a message to all or of one frame that is begun there arrives where nothing of it is lost,
@@ -25,4 +26,12 @@ pub fn answered_messages_arrive()
     ensures arrives { (plan : Plans) (steps : List Steps) (w : World) → Run plan all_off steps w
         → (m : Answered plan w) → IsAlone plan w m → HasArrivedAnswered plan w m }
     ensures possible { (plan : Plans) (steps : List Steps) (w : World) → Run plan all_off steps w → CanArriveAnswered plan w }
+{}
+
+/// In every world of every run of every plan, a frame that is sent alone there arrives at each of its receivers for which, from then on, none
+/// is lost of the frames that its sender sends it so: once this receiver can take no more of the sender, it has reported since what lay there
+/// of such frames, then this one, and then each that the sender sent it so later, in this order and nothing twice, whatever messages go beside
+/// them and whatever is lost of these.
+pub fn sent_frames_arrive()
+    ensures { (plan : Plans) (steps : List Steps) (w : World) → Run plan all_off steps w → SentFramesArrive plan w }
 {}
