@@ -21,6 +21,7 @@ use Rattle.j39_findings.proofs.Deciding.{Decides-have_same_fixed_address, Decide
 use Rattle.j39_findings.proofs.Boxes.{names_apart}
 
 conflict_decides : (u v : UnitPlan) → Decides (are_in_conflict u v) (HaveSameFixedAddress u v × (¬ MayBeOne u v))
+unfolding are_in_conflict
 conflict_decides u v = Decides-and _ _ (Decides-have_same_fixed_address u v) (Decides-not _ (Decides-may_be_one u v))
 
 some_of_if : {A : Type 0} (b : Bool) (x y : A) → (if b then Some x else None) ≡ Some y → (b ≡ true) × (x ≡ y)

@@ -47,7 +47,7 @@ pub record IsConflictRun (plan : Plan) (finding : Finding) (steps : List Step) :
 
 -- ---- as a test
 
-abbrev pub are_in_conflict : UnitPlan → UnitPlan → Bool
+unfoldable pub are_in_conflict : UnitPlan → UnitPlan → Bool
 are_in_conflict u v = have_same_fixed_address u v && not (may_be_one u v)
 
 -- the run of these units at these places, by which of them has the larger NAME

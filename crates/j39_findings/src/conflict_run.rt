@@ -8,6 +8,7 @@ use crate::plan::{Plan, UnitPlan};
 use crate::steps::Step;
 use std::alloc::{AllocError, Global};
 
+#[tactic(auto, unfolding(crate::specs::ConflictRuns::are_in_conflict))]
 fn are_in_conflict(first: &UnitPlan, second: &UnitPlan) -> bool
     ensures { result ≡ are_in_conflict first.now second.now }
 {
