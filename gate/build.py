@@ -30,9 +30,10 @@ MISSING, FAILED = 69, 70
 CRATE_JOBS, OTHER_JOBS = 4, 2
 # Up to which niceness a crate is waited for most.
 NEARLY = 4
-# What a check takes for each processor, about, and the whole build, as docs/GATE.md says.
+# What a check takes for each processor, about, and the whole build: in the folders `out`, and the most that all of it takes.
 JOB_BYTES = 2_000_000_000
-NEEDS = "some 30 minutes on four processors and 90 on one, 2 GB of memory for each processor, 4 GB of disk"
+DISK_BYTES = int(os.environ.get("J39PLAN_DISK_BYTES", "8400000000"))
+NEEDS = "some 30 minutes on four processors and 90 on one, 2 GB of memory for each processor, 8.4 GB of disk"
 
 
 def say(text: str) -> None:
@@ -49,6 +50,20 @@ def jobs_of_memory() -> int:
     with open("/proc/meminfo", encoding="ascii") as lines:
         free = re.search(r"MemAvailable:\s+(\d+)", lines.read())
     return 1024 * int(free[1]) // JOB_BYTES if free else 1000
+
+
+def built_bytes() -> int:
+    """Returns how much the folders of what was built take already."""
+    kept = 0
+    for name in crates.needed(PROGRAM):
+        for folder, _, files in os.walk(f"{crates.folder(name)}/out"):
+            kept += sum(os.lstat(os.path.join(folder, it)).st_blocks * 512 for it in files)
+    return kept
+
+
+def missing_bytes() -> int:
+    """Returns how much disk is missing for what isn't built yet, 0 where there is room."""
+    return max(DISK_BYTES - built_bytes() - shutil.disk_usage(crates.TOP).free, 0)
 
 
 def read_kit() -> subprocess.Popen | None:
@@ -232,6 +247,9 @@ def main(words: list[str]) -> int:
         for it in glob.glob(f"{crates.TOP}/.git/{ROOM}*"):
             shutil.rmtree(it, ignore_errors=True)
         if not is_built():
+            if missing := missing_bytes():
+                say(f"the build takes {DISK_BYTES / 1e9:.1f} GB of disk in {crates.TOP}, and {missing / 1e9:.1f} GB of that are missing")
+                return FAILED
             lanes = int(words[0]) if words else max(min(len(os.sched_getaffinity(0)), jobs_of_memory()), 1)
             say(f"the program is built first, with its proofs ({NEEDS}); {lanes} processors are used")
             build = Build(lanes)

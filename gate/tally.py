@@ -23,6 +23,8 @@ COMMANDS = (
     ["show", "axle.toml"],
     ["run", "transfers.toml", "transfers.directed_lost.schedule"],
     ["read", "tractor_and_implement.toml", "tractor_and_implement.start.log"],
+    ["follow", "two_units_one_address.toml", "two_units_one_address.drive.log"],
+    ["follow", "service_requests.toml", "service_requests.start.log"],
     ["--help"],
 )
 

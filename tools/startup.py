@@ -12,6 +12,7 @@ from collections.abc import Iterable
 
 from modules import program
 from modules.j1939 import FRAME_BYTES, NULL_ADDRESS, PACKET_BYTES, POOL
+from modules.plan_files import opened
 from modules.plan_format import default_of
 from modules.toml_places import Place, Places, places_of
 
@@ -213,7 +214,7 @@ def main(words: list[str] | None = None) -> int:
     given = parser.parse_args(words)
     then = "; then each flow sends one message" if given.traffic else ""
     schedule = Schedule(f"Start-up of {given.plan}: all units are switched on, and every claim is delivered{then}.")
-    with program.copied(given.plan) as plan:
+    with opened(given.plan) as plan:
         labels = program.labels_of(plan)
         start_up(units_on(plan, labels, ordered(labels, given.first)), schedule)
         ends = settled(plan, schedule)

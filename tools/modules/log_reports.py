@@ -101,6 +101,7 @@ LINE, TIME, KIND, GROUP, FROM, TO = 0, 1, 2, 3, 5, 7
 
 # What makes a log of those of other programs.
 CONVERTER = "record it by candump -L, or make a log of ASC, BLF, TRC, MF4 or CSV by tolog.py (j39plan-tolog)"
+UNPACKED = "it is packed by gzip: read it as <(zcat FILE)"
 
 
 class Counts:
@@ -123,21 +124,29 @@ class Counts:
         self._others = [*part.others]
 
     def refuse_without_frames(self, log: Log) -> None:
-        """Refuses what is no log at all: it has lines, and none of them spells a frame. An empty log is said."""
+        """Refuses a file that is no log at all: it has lines, and none of them spells a frame. An empty log is said."""
         name = log.names[0] if len(log.names) == 1 else "the log"
+        if self.frames and (others := log.without_frames()):
+            raise program.Refused(program.UNREADABLE, f"{others[0]} has no frame: {CONVERTER}")
         if self.frames == 0 and self._others:
             raise program.Refused(program.UNREADABLE, f"{name} has no frame of {log.interface}; it has {', '.join(self._others)}")
         if self.frames == 0 and self.bad:
-            raise program.Refused(program.UNREADABLE, f"{name} has no frame, and {self.bad} lines that spell none: {CONVERTER}")
+            why = UNPACKED if log.is_packed() else CONVERTER
+            raise program.Refused(program.UNREADABLE, f"{name} has no frame, and {self.bad} lines that spell none: {why}")
         if self.frames == 0:
             program.say(f"{name} has no frame")
 
     def say(self, interface: str | None = None) -> None:
         """Says on standard error what wasn't read, where this interface was asked for or the first one is read."""
+        for text in self.told(interface):
+            program.say(text)
+
+    def told(self, interface: str | None = None) -> Iterator[str]:
+        """What wasn't read."""
         if self.bad:
-            program.say(f"{self.bad} lines spell no frame")
+            yield f"{self.bad} lines spell no frame"
         if self.elsewhere:
-            program.say(f"{interface or 'the first interface'} is read; {self.elsewhere} lines of others are passed over")
+            yield f"{interface or 'the first interface'} is read; {self.elsewhere} lines of others are passed over"
 
 
 @lru_cache(maxsize=1 << 12)

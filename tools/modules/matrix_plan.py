@@ -16,12 +16,13 @@ from .dbc_names import (
 from .dbc_remarks import long, milliseconds, quoted, received_by, remark
 from .j1939 import GLOBAL_ADDRESS, NULL_ADDRESS, PROPRIETARY, SERVICES
 from .left_out import LeftOut, Notes, plain
+from .matrix_agreement import agree
 from .matrix_layouts import Layouts, are_apart
 from .matrix_merge import Network, Node, Sent
 from .matrix_signals import BYTES, Signals
 from .matrix_times import Times, number_of, times_of
 from .plan_format import knows, most_of
-from .plan_text import WRITTEN, Labels, Table
+from .plan_text import WRITTEN, Labels, Table, as_label
 
 if TYPE_CHECKING:
     import canmatrix
@@ -56,11 +57,17 @@ def shared(node: Node, attribute: str, most: int, notes: Notes) -> int | None:
     return number
 
 
-def name_of(node: Node, free_identities: Iterator[int], notes: Notes) -> dict[str, Any]:
-    """The NAME of a unit, as the keys of a plan."""
+def has_identity(node: Node) -> bool:
+    """Whether a file gives a node an identity number that a NAME can have."""
+    number = number_of(node.given.get(IDENTITY_ATTRIBUTE[0]))
+    return number is not None and 0 <= number <= IDENTITY_ATTRIBUTE[1]
+
+
+def name_of(node: Node, free_identity: int | None, notes: Notes) -> dict[str, Any]:
+    """The NAME of a unit, as the keys of a plan; one without an identity number has the free one."""
     identity = own(node, *IDENTITY_ATTRIBUTE, notes)
     if identity is None:
-        identity = next(free_identities)
+        identity = free_identity
         notes.say(f"unit {node.name}", f"no identity number is given: {identity} stands in its place")
     fields = {key: shared(node, attribute, most, notes) for key, (attribute, most) in NAME_ATTRIBUTES.items()}
     name: dict[str, Any] = {"identity": identity, **{key: number for key, number in fields.items() if number}}
@@ -87,6 +94,17 @@ def address_of(node: Node, sources: set[int], notes: Notes) -> int:
     if len(sources) == 1:
         return next(iter(sources))
     raise LeftOut("its frames come from several addresses" if sources else "no address is given")
+
+
+def addresses_of(network: Network, notes: Notes) -> dict[str, int]:
+    """The addresses of the nodes that have one."""
+    sources, found = sources_of(network.frames), dict[str, int]()
+    for name, node in network.nodes.items():
+        try:
+            found[name] = address_of(node, sources[name], notes)
+        except LeftOut as why:
+            notes.say(f"unit {name}", why)
+    return found
 
 
 def check_frame(frame: canmatrix.Frame, version: int) -> None:
@@ -205,22 +223,30 @@ class Plan:
 
     def add_units(self) -> None:
         """The units of the network that have an address."""
-        given = {number_of(node.given.get(IDENTITY_ATTRIBUTE[0])) for node in self.network.nodes.values()}
-        free_identities, sources = (number for number in count(1) if number not in given), sources_of(self.network.frames)
-        for node in self.network.nodes.values():
-            try:
-                self.add_unit(node, sources[node.name], free_identities)
-            except LeftOut as why:
-                self.notes.say(f"unit {node.name}", why)
+        addresses = addresses_of(self.network, self.notes)
+        identities = self.free_identities(addresses)
+        for name, address in addresses.items():
+            if len(self.units) == UNITS:
+                self.notes.say(f"unit {name}", f"a plan has at most {UNITS} units")
+            else:
+                self.add_unit(self.network.nodes[name], address, identities.get(name))
 
-    def add_unit(self, node: Node, sources: set[int], free_identities: Iterator[int]) -> None:
-        """A unit, if it has an address."""
-        address = address_of(node, sources, self.notes)
-        if len(self.units) == UNITS:
-            raise LeftOut(f"a plan has at most {UNITS} units")
-        name, label = name_of(node, free_identities, self.notes), self.unit_labels.label(
-            plain(node.given.get(UNIT_ATTRIBUTE) or node.name or ""))
-        long = plain(node.given.get("LongName") or node.name)
+    def free_identities(self, addresses: dict[str, int]) -> dict[str, int]:
+        """An identity number for each node, in the order of their addresses, that no file gives to a node."""
+        given = {number_of(node.given.get(IDENTITY_ATTRIBUTE[0])) for node in self.network.nodes.values()}
+        free = (number for number in count(1) if number not in given)
+        without = [name for name in addresses if not has_identity(self.network.nodes[name])]
+        return dict(zip(sorted(without, key=lambda name: (addresses[name], name)), free))
+
+    def add_unit(self, node: Node, address: int, free_identity: int | None) -> None:
+        """A unit."""
+        name, wanted = name_of(node, free_identity, self.notes), plain(node.given.get(UNIT_ATTRIBUTE) or node.name or "")
+        label, long = self.unit_labels.label(wanted), plain(node.given.get("LongName") or node.name)
+        if label != as_label(wanted):
+            self.notes.say(f"unit {node.name}", f"it is called {label}: {as_label(wanted)} is {'a word of plans' if wanted == 'all' else 'another unit'}")
+        there = next((other for other, unit in self.units.items() if unit.keys["address"] == address), None)
+        if there is not None and not node.known_by & self.network.nodes[there].known_by:
+            self.notes.say(f"unit {node.name}", f"{there} is at address {address} too: --same {there}={node.name}, if they are one")
         self.units[node.name] = Table("unit", {"label": label, "address": address, "name": name}, remark(long, label, quoted(node.comment)))
 
     def labels_of(self, names: Iterable[str]) -> list[str]:
@@ -252,6 +278,7 @@ class Plan:
         pgn = frame.arbitration_id.pgn
         name, is_private = self.names.get(sent.told_by) or called(sent), pgn in PROPRIETARY
         label = self.group_labels.label(name)
+        self.say_other_name(sent, name, label)
         lengths = self.lengths_of(sent)
         most = max(attribute_in(frame, MOST_ATTRIBUTE, range(frame.size, BYTES + 1)) or 0, lengths[-1])
         keys = {"most": most if most > lengths[0] else None, "every": attribute_in(frame, EVERY_ATTRIBUTE, DISTANCES)}
@@ -265,6 +292,16 @@ class Plan:
         group = Group(called(sent), table, signals, sent, comment)
         self.groups.append(group)
         return group
+
+    def say_other_name(self, sent: Sent, name: str, label: str) -> None:
+        """Says where a group isn't called as its message, since another group is; and where that one's is a message of the same name and sender."""
+        other = next((group for group in self.groups if group.label == as_label(name)), None)
+        if label == as_label(name) or other is None:
+            return
+        pgn, made = sent.frame.arbitration_id.pgn, other.made_by
+        number, alike = other.table.keys["pgn"], set(sent.frame.transmitters) & set(made.frame.transmitters)
+        same_sender = f" of {', '.join(sorted(alike))}" if alike else ""
+        self.notes.say(f"group {sent.frame.name}", f"its PGN is {pgn}, that of {self.message_of(made)}{same_sender} is {number}: it is called {label}")
 
     def lengths_of(self, sent: Sent) -> range:
         """The lengths of the messages that a frame's group has: its own alone, unless the plan can say which signals only longer ones have."""
@@ -438,6 +475,7 @@ class Plan:
         """The groups of the frames, their flows, and who needs them. What is to be noted of a multiplexed message is noted once."""
         layouts = Layouts(frames, self.version, self.notes)
         sent = [part for one in frames for part in layouts.of(one)]
+        agree(sent, self.version, self.message_of, self.notes)
         self.names, self.lengths = names_of_groups(sent), lengths_of_groups(sent)
         for one in sent:
             self.notes.file, self.notes.are_new = one.file, one.when is not None

@@ -82,6 +82,10 @@ class Matched:
             (table, old.label): new.label for table, pairs in (("unit", self.units), ("group", self.groups))
             for old, new in pairs if old is not None and new is not None
         }
+        self._signals = {
+            (old.label, before.label): now.label for old, new in self.groups if old is not None and new is not None
+            for before, now in inside_pairs(old, new, "signal") if before is not None and now is not None
+        }
         self.others = {array: pairs_of(old[array], new[array], self._names) for array in arrays_behind()}
 
     def named(self, table: str, label: str) -> str:
@@ -91,7 +95,10 @@ class Matched:
     def _names(self, part: Part) -> Hashable:
         """What a flow names, as the new plan calls it."""
         names = ((key, part.text(key)) for key in TOLD_BY if key in part.said)
-        return tuple((key, self.named(TOLD_BY[key], name) if part.source is self.old else name) for key, name in names)
+        if part.source is not self.old:
+            return tuple(names)
+        return tuple((key, self._signals.get((part.text("group"), name), name) if key == "signal" else self.named(TOLD_BY[key], name))
+                     for key, name in names)
 
 
 def arrays_behind() -> list[str]:
@@ -168,6 +175,17 @@ def said_of(source: Source, lines: list[str]) -> dict[int, str]:
     return found
 
 
+def is_too_old(said: str, most: int) -> bool:
+    """Whether a need of at most so many us isn't met by what `load` says of it: `age 21280 of 22000 us`, or `old of 21000 us`."""
+    words = said.split()
+    return words[0] == "old" or int(words[1]) > most
+
+
+def shown_age(said: str) -> str:
+    """What `load` says of a need, in words."""
+    return said.removeprefix("age ") if said.startswith("age ") else f"not shown young enough, {said.removeprefix('old ')}"
+
+
 class Answers:
     """What the program answers about the plan in a file: where units stand, and the load."""
 
@@ -191,7 +209,7 @@ def of_answers(matched: Matched, old: Answers, new: Answers) -> Iterator[Change]
             if before is not None and now is not None and old.load and new.load:
                 told = old.delays.get(before.line()), new.delays.get(now.line())
                 if told[0] != told[1]:
-                    key, *words = ("age", *(text and text.removeprefix("age ") for text in told)) if now.table == "need" else ("delay", *told)
+                    key, *words = ("age", *(text and shown_age(text) for text in told)) if now.table == "need" else ("delay", *told)
                     yield Change(name_of(now), key, *words, before.line(), now.line())
     if old.load != new.load:
         yield Change("bus", "load", old.load, new.load, None, None)

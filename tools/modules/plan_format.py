@@ -3,20 +3,25 @@
 import functools
 import json
 import os
+from typing import Any
 
 from .program import TOOLS
 
 # A value of a key: a text, an integer, a truth value, a table or an array of these.
 Value = str | int | bool | dict[str, "Value"] | list["Value"] | None
 
+# A part of the schema, as JSON has it.
+Rule = dict[str, Any]
+
 SCHEMA = os.path.join(TOOLS, "plan.schema.json")
 
 
 @functools.cache
-def schema() -> dict:
+def schema() -> Rule:
     """What the format has."""
     with open(SCHEMA, encoding="utf-8") as file:
-        return json.load(file)
+        found: Rule = json.load(file)
+    return found
 
 
 @functools.cache
@@ -36,7 +41,7 @@ def default_of(table: str, key: str) -> int:
 def most_of(table: str, key: str) -> int:
     """The greatest number that a key may be, or how many tables or names it may have."""
     rule = (schema()["definitions"][table] if table else schema())["properties"][key]
-    return next(rule[word] for word in ("maximum", "maxItems", "maxProperties") if word in rule)
+    return int(next(rule[word] for word in ("maximum", "maxItems", "maxProperties") if word in rule))
 
 
 def arrays() -> list[str]:
@@ -59,7 +64,7 @@ def since() -> dict[object, int]:
     return found
 
 
-def _later(table: str | None, rule: dict, first: int, found: dict[object, int]) -> None:
+def _later(table: str | None, rule: Rule, first: int, found: dict[object, int]) -> None:
     """Adds what a rule keeps from a table, and from those in it: a version is the first that knows it."""
     keys = (schema()["definitions"][table] if table else schema())["properties"]
     for key, narrower in rule["properties"].items():

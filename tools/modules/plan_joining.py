@@ -73,10 +73,10 @@ def parts_of(key: str, one: Value, other: Value) -> Iterator[tuple[str, Value, V
 
 
 class Join:
-    """A plan in the making. What contradicts an earlier file is told, and left out."""
+    """A plan in the making. What contradicts an earlier file is told, and left out. Of units that are the same the other label is that of the one."""
 
-    def __init__(self, sources: list[Source]) -> None:
-        self.sources = sources
+    def __init__(self, sources: list[Source], same: dict[str, str] | None = None) -> None:
+        self.sources, self._same = sources, same or {}
         self.contradictions: list[Told] = []
         self.notes: list[Told] = []
         self.top = Merged(sources[0].top)
@@ -160,23 +160,23 @@ class Join:
             self._note(part, f"{name_of(part)} is called {merged.label}, {why or f'as at {merged.first.at()}'}", "label")
             merged.remark("label", f"{part.label} in {part.source.name}")
 
-    def _add(self, array: str, part: Part) -> Merged:
-        """A table more, under a label that no other one has."""
-        merged = Merged(part, self._labels[array].label(part.label))
-        self._call(array, part, merged, "since another one has its label")
+    def _add(self, array: str, part: Part, wanted: str = "") -> Merged:
+        """A table more, under its label or the wanted one, unless another one has that."""
+        merged = Merged(part, self._labels[array].label(wanted or part.label))
+        self._call(array, part, merged, "by --same" if merged.label == wanted else "since another one has its label")
         self.arrays[array].append(merged)
         return merged
 
     def _unit(self, unit: Part) -> None:
-        """Joins a unit: that of its label, else that of its NAME, which is one of its own everywhere."""
+        """Joins a unit: that of its label, else that of its NAME and address, which is another one where its label is."""
         earlier = [merged for merged in self.arrays["unit"] if self._is_new(merged, unit)]
-        here = next((merged for merged in earlier if merged.label == unit.label), None)
+        label = self._same.get(unit.label, unit.label)
+        here = next((merged for merged in earlier if merged.label == label), None)
         same = next((merged for merged in earlier if merged.first["name"] == unit["name"]), None)
         if here is None and same is not None and same.first["address"] == unit["address"]:
             here = same
-        elif same is not None and same is not here:
+        if same is not None and same is not here:
             self._contradict(same, unit, "name", f"{name_of(unit)} has the NAME of unit {same.label} at {same.first.at('name')}")
-            here = here or same
         if here is not None:
             self._joined(here, unit, name_of(unit))
             self._call("unit", unit, here)
@@ -185,8 +185,8 @@ class Join:
                       and not may_choose(merged.first)), None)
         if taken is not None:
             text = f"{name_of(unit)} is fixed at address {unit['address']}, as unit {taken.label} is at {taken.first.at('address')}"
-            self._contradict(taken, unit, "address", text)
-        self._add("unit", unit)
+            self._contradict(taken, unit, "address", f"{text}: --same {taken.label}={unit.label}, if they are one")
+        self._add("unit", unit, label)
 
     def _group(self, group: Part) -> None:
         """Joins a group: that of its number, and of makers' own ones that of its senders too."""

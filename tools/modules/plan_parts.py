@@ -10,7 +10,7 @@ import re
 from collections.abc import Iterable
 
 from . import program
-from .answer_places import Plan, refusal
+from .plan_files import refused_at
 from .plan_format import Value, keys_of, schema
 from .toml_places import Place, Places
 
@@ -137,8 +137,7 @@ def text_of(name: str) -> str:
         return text
     if status != program.UNREADABLE or not answer:
         raise program.Refused(status, f"{name}: it can't be read as a plan")
-    line, hint = refusal(Plan(text), data, answer.strip())
-    raise program.Refused(status, f"{name}:{line}: {answer.strip()}" + (f"  ({hint})" if hint else ""))
+    raise program.Refused(status, refused_at(name, data, answer.strip()))
 
 
 def sources_of(names: Iterable[str]) -> list[Source]:

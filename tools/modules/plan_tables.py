@@ -77,6 +77,12 @@ class Signal:
         """The value of a raw number."""
         return Fraction(self.offset + self.step * raw, self.per)
 
+    def named_values(self) -> dict[Fraction, str]:
+        """The values that have names. A raw number of a signed signal is the one that its bits spell."""
+        half = 1 << self.bits - 1
+        negative = {raw for raw in self.values if self.kind == "signed" and raw >= half}
+        return {self.value(raw - 2 * half if raw in negative else raw): name for raw, name in self.values.items()}
+
 
 @dataclass(frozen=True)
 class Text:

@@ -78,7 +78,7 @@ def timing_of(bitrate: int) -> list[str]:
 
 def text_of(tables: Iterable[Table], source: str, version: int = WRITTEN[-1], bitrate: int | None = None) -> str:
     """The plan's file."""
-    lines = [f"# From {plain(source)}: look it through.", f"version = {version}"]
+    lines = [f"# From {plain(source)}: review it.", f"version = {version}"]
     if bitrate and plan_format.knows(version, (None, "timing")):
         lines += timing_of(bitrate)
     for table in tables:

@@ -140,6 +140,14 @@ def plan_word(words: argparse.ArgumentParser) -> None:
     words.add_argument("plan", metavar="PLAN", help="the name of a plan file")
 
 
+def same(text: str) -> tuple[str, str]:
+    """Another name of a unit, and what it is called, by `NAME=OTHER`."""
+    name, _, other = text.partition("=")
+    if not name or not other or name == other:
+        raise argparse.ArgumentTypeError("two names of one unit, as ENGINE=EMS")
+    return other, name
+
+
 def note_options(words: argparse.ArgumentParser) -> None:
     """The options on notes of a tool that makes them."""
     words.add_argument("--notes", metavar="FILE", help="write the notes into a file too, as JSON objects, each on a line")

@@ -18,7 +18,7 @@ from tests.support import TOOLS, TOP, InFolder, text_of
 
 PACKAGE = os.path.join(TOOLS, "package")
 COMMANDS = ["show", "check", "addresses", "load", "run", "read", "follow", "frame", "help"]
-INSTALLED = ["where", "startup", "dbc2plan", "plan2dbc", "join", "compare", "against", "fleet", "report", "signals", "plot", "tolog",
+INSTALLED = ["where", "answer", "startup", "dbc2plan", "plan2dbc", "join", "compare", "against", "fleet", "report", "signals", "plot", "tolog",
              "check-plans"]
 PAGE = text_of(os.path.join(TOP, "docs", "TOOLS.md"))
 

@@ -127,8 +127,8 @@ class Report(InFolder):
 
     def test_units_stand_as_addresses_says(self):
         rows = self.page(example("address_contest.toml")).rows
-        self.assertIn(["A", "128", "stays", "may choose", "lowest", "255"], rows)
-        self.assertIn(["B", "128", "may move", "may choose", "lowest", "255"], rows)
+        self.assertIn(["A", "128", "in every run", "arbitrary", "lowest", "255"], rows)
+        self.assertIn(["B", "128", "may move", "arbitrary", "lowest", "255"], rows)
         self.assertIn("not known: the addresses have findings", [cell for row in self.page(FAULTY).rows for cell in row])
 
     def test_strangers(self):
@@ -268,7 +268,7 @@ length = 20
         rows = self.page(name).rows
         for row in (["1", "VI", "TOOL", "ENGINE", "ENGINE", "–"], ["3", "ERC1", "TOOL", "RETARDER", "RETARDER", "–"],
                     ["SPN900", "1.1", "4", "states", "raw", "0 to 13", "–", "900", "0 low_idle_governor1 operator2 cruise_control"],
-                    ["AXLE_SENSOR", "46", "stays, and never claims its address", "fixed", "–", "255"],
+                    ["AXLE_SENSOR", "46", "in every run, and never claims it", "fixed", "–", "255"],
                     ["ENGINE", "HOURS on request", "VI on request"]):
             self.assertIn(row, rows)
         self.assertIn("stand in no plan, and may choose their addresses: up to 2.", run("report.py", name)[1])
@@ -303,7 +303,7 @@ length = 20
     def test_what_a_flow_takes_of_the_bus(self):
         """Its own bits of a second beside the load of all, and the delay beside its limit; neither is called by the other's name."""
         rows = self.page(example("axle.toml")).rows
-        self.assertIn(["Flow", "Group", "From", "To", "Period", "bus load", "On the bus within", "Limit", "of its limit"], rows)
+        self.assertIn(["Flow", "Group", "From", "To", "Period", "Bus load", "On the bus within", "Limit", "Of its limit"], rows)
         self.assertIn(["1", "TSC1", "RETARDER", "ENGINE", "10 ms", "6.4 %", "1.28 ms", "10 ms", "12.8 %"], rows)
         self.assertIn(["3", "ET1", "ENGINE", "all", "1000 ms", "0.1 %", "3.2 ms", "50 ms", "6.4 %"], rows)
 
@@ -323,7 +323,7 @@ length = 20
         plan = self.write("plan.toml", large_plan())
         rows = self.page(plan).rows
         self.assertEqual(sum(row[0] == "Byte" for row in rows), 256)
-        self.assertIn(["U127", "127", "stays", "fixed", "–", "255"], rows)
+        self.assertIn(["U127", "127", "in every run", "fixed", "–", "255"], rows)
 
     def test_a_plan_with_nothing_in_it(self):
         self.page(self.write("plan.toml", "version = 1\n"))
@@ -338,7 +338,7 @@ length = 20
         self.assertEqual(run("report.py", PLAN, "-o", name), (0, "", ""))
         self.assertEqual(text_of(name), run("report.py", PLAN)[1])
         refused = self.write("plan.toml", "version = 9\n")
-        self.assertEqual(run("report.py", refused, "-o", name), (2, "", "report: refused Range top key version\n"))
+        self.assertEqual(run("report.py", refused, "-o", name), (2, "", f"report: {refused}:1: refused Range top key version  (version = 9: integer 1..4)\n"))
         self.assertEqual(text_of(name), run("report.py", PLAN)[1])
         self.assertEqual(run("report.py", PLAN, "-o", "/none/page.html")[0], 4)
 

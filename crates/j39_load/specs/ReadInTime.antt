@@ -1,5 +1,6 @@
--- A value arrives in time: on every bus what was received last of a flow that brings a unit what it needs is never older than this asks for,
--- and each signal in its bytes reads there what was last written to it. How long frames wait and how signals read back, put together.
+-- A value arrives in time: on every bus, while a flow that brings a unit what it needs keeps its `pause`, what was received last of it is never
+-- older than the need asks for, and each signal in its bytes reads there what was last written to it. How long frames wait and how signals
+-- read back, put together.
 use Rattle.std.specs.Prelude.{◌≡◌, ℕ, ◌+◌, ◌<◌, ◌≤◌, ℤ, Bool, List, ◌∷◌, ◌++◌, length as count, Option, Some, None}
 use Rattle.std.specs.List.{HoldsAt, slice_get}
 use Rattle.j39_signal.specs.Bits.{all_ones, raw_of}

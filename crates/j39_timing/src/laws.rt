@@ -82,8 +82,8 @@ pub fn messages_in_turn_are_whole_in_time()
         → all_whole_at s by messages ≤ by + time_of_messages (wait + announcements.bits) gap (more + packets.bits) messages }
 {}
 
-/// The premises can be met, and the bound is the best there is: there is a legal schedule of planned traffic in which a
-/// frame waits for exactly as long as it says.
+/// The premises can be met, and there is a bus on which the bound is reached: a legal schedule of planned traffic in which a frame waits
+/// for exactly as long as it says.
 pub fn a_bound_is_reached()
     ensures { (s : Schedule) × (traffic : Traffic) × (others : Others) × (planned : ℕ → Bool) × (of : Origins) × IsLegal s
         × IsPlannedTraffic s traffic others 160 planned of 0 × HasRoom traffic others 160 0 160 × (1 < s.count) × (planned 1 ≡ true)

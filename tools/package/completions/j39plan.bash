@@ -34,6 +34,8 @@ _j39plan_tool() {
     mapfile -t COMPREPLY < <(compgen -W "$("${COMP_WORDS[0]}" --help 2> /dev/null | grep -oE -- '--[a-z][a-z-]*' | sort -u)" -- "$word")
   elif [ "$tool" = j39plan-dbc2plan ]; then
     _j39plan_files "$word" dbc arxml kcd sym
+  elif [ "$tool" = j39plan-answer ] && [ "$COMP_CWORD" -eq 1 ]; then
+    mapfile -t COMPREPLY < <(compgen -W 'check addresses load' -- "$word")
   elif [ "$tool" = j39plan-tolog ]; then
     _j39plan_files "$word" asc blf trc mf4 csv
   elif [[ $tool =~ ^j39plan-(against|fleet|signals|plot)$ ]] && [ "$COMP_CWORD" -gt 1 ]; then
@@ -42,4 +44,4 @@ _j39plan_tool() {
     _j39plan_files "$word" toml
   fi
 }
-complete -F _j39plan_tool j39plan-where j39plan-startup j39plan-dbc2plan j39plan-plan2dbc j39plan-join j39plan-compare j39plan-against j39plan-fleet j39plan-report j39plan-signals j39plan-plot j39plan-tolog j39plan-check-plans
+complete -F _j39plan_tool j39plan-where j39plan-answer j39plan-startup j39plan-dbc2plan j39plan-plan2dbc j39plan-join j39plan-compare j39plan-against j39plan-fleet j39plan-report j39plan-signals j39plan-plot j39plan-tolog j39plan-check-plans
