@@ -7,7 +7,7 @@ use Rattle.std.proofs.lemmas.Bool.{cases_Bool, cases_lt, false≢true}
 use Rattle.std.proofs.lemmas.Bool.Decides.{Decides-ltb}
 use Rattle.j39_id.specs.Name.{is_arbitrary}
 use Rattle.j39_findings.specs.Kinds.{kind_of_name, MayHaveName, MayBeOne, AreToldApart}
-use Rattle.j39_findings.specs.Vehicles.{IsBoxOf}
+use Rattle.j39_findings.specs.VehiclePlans.{IsBoxOf}
 use Rattle.j39_findings.specs.declared.plan.Plan.{Plan}
 use Rattle.j39_findings.specs.declared.plan.unit_plan.UnitPlan.{UnitPlan}
 

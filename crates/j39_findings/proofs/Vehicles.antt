@@ -23,7 +23,7 @@ use Rattle.j39_findings.specs.Findings.{Clean}
 use Rattle.j39_findings.specs.Found.{have_same_fixed_address, needs_pool_address, needed_addresses, unit_findings, kept_findings, prefers_kept}
 use Rattle.j39_findings.specs.Found.{have_silent_address, is_silent_in_pool, silent_findings, found}
 use Rattle.j39_findings.specs.ConflictRuns.{are_in_conflict, steps_between, run_of_units, run_of_places, conflict_run}
-use Rattle.j39_findings.specs.Vehicles.{IsBoxOf, IsVehicleOf, AreFoundAlike}
+use Rattle.j39_findings.specs.VehiclePlans.{IsBoxOf, IsVehicleOf, AreFoundAlike}
 use Rattle.j39_findings.proofs.Boxes.{AreOrderedAlike, apart_at, same_choice, same_order}
 use Rattle.j39_findings.proofs.Deciding.{Decides-may_be_one}
 use Rattle.j39_findings.proofs.FoundLaws.{clean_from_none, none_from_clean}

@@ -18,7 +18,7 @@ pub mod PlannedRequests
 pub mod SignalPlaces
 pub mod SoundSignals
 pub mod TextPlaces
-pub mod Vehicles
+pub mod VehiclePlans
 pub mod WithoutOptional
 pub mod WithoutRecords
 pub mod WithoutSelectors
