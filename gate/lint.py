@@ -46,8 +46,7 @@ def otherwise(copied: str) -> list[str]:
         os.makedirs(os.path.dirname(f"{copied}/{name}"), exist_ok=True)
         shutil.copy(f"{crates.TOP}/{name}", f"{copied}/{name}")
     for crate in crates.listed():
-        words = {"cwd": f"{copied}/crates/{crate}", "stdin": subprocess.DEVNULL, "capture_output": True, "check": False}
-        subprocess.run(["rt", "fmt"], **words)
+        subprocess.run(["rt", "fmt"], cwd=f"{copied}/crates/{crate}", stdin=subprocess.DEVNULL, capture_output=True, check=False)
     return [name for name in names if bytes_of(f"{copied}/{name}") != bytes_of(f"{crates.TOP}/{name}")]
 
 
@@ -73,7 +72,7 @@ def main() -> int:
         tally.count("format", not found, f"rt fmt changes {', '.join(found)}")
     else:
         print("format: skipped, since rt is missing")
-    look(tally, "shellcheck", "scripts", scripts())
+    look(tally, "shellcheck", "scripts", ["--severity=warning", *scripts()])
     look(tally, "pyflakes3", "names in Python", python_files())
     return tally.end()
 

@@ -35,9 +35,9 @@ def counted(name: str, words: list[str], minutes: int | None = None) -> tuple[in
     """Runs a part, passes on what it says, and returns how much of it passed and failed."""
     print(f"== {name}", flush=True)
     last = ""
-    how = {"stdin": subprocess.DEVNULL, "stdout": subprocess.PIPE, "stderr": subprocess.STDOUT, "start_new_session": minutes is not None}
     try:
-        started = subprocess.Popen(words, cwd=crates.TOP, text=True, errors="replace", **how)
+        started = subprocess.Popen(words, cwd=crates.TOP, text=True, errors="replace", stdin=subprocess.DEVNULL, stdout=subprocess.PIPE,
+                                   stderr=subprocess.STDOUT, start_new_session=minutes is not None)
     except OSError as error:
         print(f"{name}: {error}")
         return 0, 1
@@ -45,6 +45,7 @@ def counted(name: str, words: list[str], minutes: int | None = None) -> tuple[in
         # A part that hangs is stopped, with all that it started: its output then ends.
         stopper = threading.Timer(60 * minutes, os.killpg, (started.pid, signal.SIGKILL))
         stopper.start()
+    assert started.stdout is not None
     for line in started.stdout:
         print(line, end="", flush=True)
         last = line.strip() or last

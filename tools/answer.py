@@ -21,8 +21,8 @@ def main(words: list[str] | None = None) -> int:
         status, answer = program.call([given.command, "--", plan])
         with open(plan, "rb") as file:
             parts = list(placed(file.read(), answer))
-    made = check_object if given.command == "check" else answer_object
-    print(json.dumps(made(given.plan, status, parts), indent=1))
+    found = check_object(given.plan, status, parts) if given.command == "check" else answer_object(given.plan, status, parts)
+    print(json.dumps(found, indent=1))
     return status
 
 

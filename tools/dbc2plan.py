@@ -11,7 +11,7 @@ import argparse
 import codecs
 import os
 import sys
-from typing import TYPE_CHECKING, Any
+from typing import TYPE_CHECKING
 
 from modules import matrix_merge, program
 from modules.j1939 import NULL_ADDRESS
@@ -69,9 +69,9 @@ def plan_of(given: argparse.Namespace, notes: Notes) -> Plan:
 class PlanVersion(program.Version):
     """Keeps the version of the plan to write; prints the tool's where none is named."""
 
-    def __call__(self, words: argparse.ArgumentParser, given: argparse.Namespace, value: Any, *option: object) -> None:
+    def __call__(self, words: argparse.ArgumentParser, given: argparse.Namespace, value: object, option: str | None = None) -> None:
         if value is None:
-            super().__call__(words)
+            super().__call__(words, given, value, option)
         given.version = value
 
 

@@ -139,12 +139,13 @@ class Dbc:
             flows.setdefault(self.places.texts[flow + ("group",)], []).append(flow)
         groups = self.places.elements(("group",))
         wanted = {self.label(group): self.wanted(group, flows.get(self.label(group), [])) for group in groups}
-        first, together = {}, dict[object, str]()
+        first: dict[str, str] = {}
+        together: dict[object, str] = {}
         for group in sorted(groups, key=lambda group: not Names.fits(wanted[self.label(group)])):
             label, when = self.label(group), self.when(group)
             name = wanted[label]
-            first[label] = together.get((self.pgn(group), when.place, name)) if when else None
-            first[label] = first[label] or self.taken.label(name)
+            beside = together.get((self.pgn(group), when.place, name)) if when else None
+            first[label] = beside or self.taken.label(name)
             if when:
                 together[self.pgn(group), when.place, name] = first[label]
         for group in groups:
@@ -236,7 +237,7 @@ class Dbc:
         """How long a message of a group is: as is said beside its flow, else as the shortest ones, which go in one frame if any does."""
         length = self.places.integer(group + ("length",))
         lengths = range(length, self.number(group, "most", length) + 1)
-        return told.bytes if told.bytes in lengths else length
+        return told.bytes if told.bytes is not None and told.bytes in lengths else length
 
     def add_needs(self) -> None:
         """Those who need a group receive the messages of it that are for them, or the one that stands for it alone. Who is named beside the group's
@@ -424,7 +425,8 @@ class Dbc:
         """What is known of the bus, as far as a DBC can say it."""
         told = next(filter(None, map(BITRATE.fullmatch, self.lines)), None)
         if ("timing",) in self.places.lines or told:
-            yield f'BA_ "{BITRATE_ATTRIBUTE}" {self.places.number(("timing", "bitrate")) or told.group(1)};'
+            rate = self.places.number(("timing", "bitrate")) or (told and told.group(1))
+            yield f'BA_ "{BITRATE_ATTRIBUTE}" {rate};'
         if ("timing",) in self.places.lines:
             self.notes.say("timing", "a DBC has no count of unplanned frames")
             for key in [key for key in self.places.keys(("timing",)) if key not in ("bitrate", "unplanned")]:

@@ -18,7 +18,7 @@ from modules import program
 from modules.j1939 import FRAME_BYTES
 
 if TYPE_CHECKING:
-    from can import Message
+    from can.message import Message
 
 # Endings of files that python-can reads in newer versions alone, by another package.
 MEASUREMENTS = (".mf4", ".mdf")
@@ -55,7 +55,7 @@ def messages_of(name: str) -> Iterator["Message"]:
     """What python-can reads of a file. It says in many ways that it can't."""
     if importlib.util.find_spec("can") is None:
         raise program.Refused(program.MISSING, "python-can isn't there: apt-get install python3-can")
-    from can import LogReader
+    from can.io.player import LogReader
 
     with open(name, "rb") as file:  # what isn't there is told as such
         about = os.fstat(file.fileno())

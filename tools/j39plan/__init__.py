@@ -30,16 +30,15 @@ from typing import IO, TYPE_CHECKING, Any, NamedTuple
 from j39plan._tools import (
     answers, fleet_drives, log_clock, log_readings, log_reports, message_lines, plan_parts, plan_places, plan_tables, program, toml_places,
 )
+from j39plan._tools.answers import Age, Delay, Finding, Load, Stand
+from j39plan._tools.fleet_drives import Deviation, Drive
+from j39plan._tools.log_reports import Acknowledgement, Claim, Request, Who
+from j39plan._tools.plan_tables import Flow, Group, Need, Signal, Text, Unit
+from j39plan._tools.plan_tables import Request as Asking
+from j39plan._tools.program import Refused
 
 if TYPE_CHECKING:
     import pandas
-
-Unit, Group, Signal, Text, Flow = plan_tables.Unit, plan_tables.Group, plan_tables.Signal, plan_tables.Text, plan_tables.Flow
-Need, Asking, Finding, Stand = plan_tables.Need, plan_tables.Request, answers.Finding, answers.Stand
-Delay, Age, Load = answers.Delay, answers.Age, answers.Load
-Who, Message, Claim, Request = log_reports.Who, log_reports.Message, log_reports.Claim, log_reports.Request
-Acknowledgement = log_reports.Acknowledgement
-Refused, Deviation, Drive = program.Refused, fleet_drives.Deviation, fleet_drives.Drive
 
 __all__ = [
     "Acknowledgement", "Age", "Asking", "Claim", "Delay", "Deviation", "Drive", "Finding", "Flow", "Group", "Load", "Message", "Need", "Notice",
@@ -85,6 +84,21 @@ class Readings(Mapping[str, Reading]):
 
     def __repr__(self) -> str:
         return repr(dict(self))
+
+
+class Message(NamedTuple):
+    """A message of a planned group: the line of its last frame and its time; from whom to whom; the number of its flow, 0 where it has
+    none; the priority, where it came in one frame and that isn't the group's; its bytes as hex digits; and the readings of its signals."""
+
+    line: int
+    time: str
+    group: str
+    sender: Who
+    to: Who
+    flow: int
+    priority: int | None
+    data: str
+    signals: Readings
 
 
 class Plan:
@@ -174,7 +188,7 @@ def follow(plan: Plan, log: str | os.PathLike[str]) -> Iterator[Message | Claim 
             assert process.stdout is not None and process.stderr is not None
             ended, counts = _Ended(), log_reports.Counts()
             for report in log_reports.reports_of(ended.passed(io.TextIOWrapper(process.stdout, "ascii")), plan.tables, counts):
-                yield report._replace(signals=Readings(groups[report.group], report.signals)) if isinstance(report, Message) else report
+                yield Message(*report[:-1], Readings(groups[report.group], report.signals)) if isinstance(report, log_reports.Message) else report
             said = process.stderr.read().decode(errors="replace").strip()
         if process.returncode:
             raise Refused(process.returncode, ended.refusal or f"{log}: {said}")

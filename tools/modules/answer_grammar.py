@@ -54,6 +54,10 @@ LINES = {
 }
 
 
+# The parts by which lines name what they are about.
+NAMES = {"unit": ("unit",), "flow": ("flow", "group", "from", "to"), "need": ("need", "unit", "group", "signal")}
+
+
 class Line(NamedTuple):
     """A line of an answer: what it is, its parts by their names, and how it is written."""
 
@@ -72,6 +76,12 @@ class Line(NamedTuple):
     def word(self, part: str) -> str:
         """A part that is a label or a word, empty where the line has none."""
         return str(self.parts.get(part, ""))
+
+    @property
+    def said(self) -> str:
+        """What is said of a unit, a flow or a need, as it is written behind what names it."""
+        names = (str(self.parts[part]) for part in NAMES.get(self.kind, ()) if part in self.parts)
+        return self.text.removeprefix(" ".join([self.kind, *names])).strip()
 
 
 class Unknown(Exception):

@@ -3,7 +3,7 @@
 from __future__ import annotations
 
 import re
-from collections.abc import Iterator
+from collections.abc import Iterator, Sequence
 from decimal import Decimal, localcontext
 
 from .dbc_names import (
@@ -65,7 +65,7 @@ def in_quotes(text: str) -> str:
     return '"' + plain(text).replace('"', "'").replace("\\", "/") + '"'
 
 
-def enumeration(words: list[str] | tuple[str, ...]) -> str:
+def enumeration(words: Sequence[str]) -> str:
     """The type of an attribute that is one of several words."""
     return "ENUM " + ",".join(map(in_quotes, words))
 

@@ -8,7 +8,7 @@ from collections.abc import Callable, Iterable, Iterator
 from functools import cache, lru_cache
 from itertools import islice, starmap
 from threading import Thread
-from typing import IO, Any, BinaryIO, NamedTuple
+from typing import IO, Any, NamedTuple
 
 from . import program
 from .log_files import Log, OneInterface
@@ -232,9 +232,9 @@ class Writer(Thread):
             raise self.fault
 
 
-def as_it_comes(log: BinaryIO | OneInterface) -> Iterator[bytes]:
+def as_it_comes(log: io.BufferedReader | OneInterface) -> Iterator[bytes]:
     """What comes of a log, as soon as it is there."""
-    while piece := log.read1(1 << 16):  # type: ignore[attr-defined]
+    while piece := log.read1(1 << 16):
         yield piece
 
 
@@ -248,7 +248,7 @@ def started(plan: str, log: IO[bytes] | int) -> subprocess.Popen[bytes]:
 
 def started_for(plan: str, log: Log, is_piped: bool) -> subprocess.Popen[bytes]:
     """The program that follows a log, which an interrupt doesn't end where it is to end the log alone."""
-    source = subprocess.PIPE if is_piped else log.files[0]
+    source: IO[bytes] | int = subprocess.PIPE if is_piped else log.files[0]
     if not log.is_live or signal.getsignal(signal.SIGINT) is signal.SIG_IGN:
         return started(plan, source)
     signal.signal(signal.SIGINT, signal.SIG_IGN)

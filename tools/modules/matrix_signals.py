@@ -212,7 +212,7 @@ def long_name(part: canmatrix.Ecu | canmatrix.Signal) -> str:
 def range_of(signal: canmatrix.Signal, kind: str) -> str:
     """The range of a signal as a remark, unless the file says none, as by `[0|0]`, or it is that of the signal's values anyway."""
     least, greatest, factor, offset = (exactly(number) for number in (signal.min, signal.max, signal.factor, signal.offset))
-    if None in (least, greatest, factor, offset) or least == greatest:
+    if least is None or greatest is None or factor is None or offset is None or least == greatest:
         return ""
     values = values_of(kind, signal.size)
     if (least, greatest) == tuple(offset + factor * raw for raw in values):
@@ -302,12 +302,13 @@ def number_in(signal: canmatrix.Signal) -> str:
 def same_signal(signal: canmatrix.Signal, said: Said, bits: int, earlier: Iterable[Known]) -> Known | None:
     """The signal of an earlier message that a signal is, or that it contradicts: that of its name, else of its number, else the one that lies
     and means the same, else one that shares a bit with it."""
-    return next((known for is_same in (
+    ways: tuple[Callable[[Known], object], ...] = (
         lambda known: known.signal.name == signal.name,
         lambda known: number_in(known.signal) == number_in(signal) != "",
         lambda known: known.said == said,
         lambda known: known.bits & bits,
-    ) for known in earlier if is_same(known)), None)
+    )
+    return next((known for is_same in ways for known in earlier if is_same(known)), None)
 
 
 def shown_place(signal: canmatrix.Signal) -> str:

@@ -170,11 +170,11 @@ class Breaks:
 
     def found(self) -> list[Break]:
         """All that breaks; what is the same of several receivers once."""
-        together: dict[tuple, list[str]] = {}
+        together: dict[Break, list[str]] = {}
         for one in [*self._of_flows(), *self._of_units(), *self._of_needs()]:
-            receivers = together.setdefault((one.kind, *one[2:]), [])
+            receivers = together.setdefault(one._replace(receivers=()), [])
             receivers.extend(label for label in one.receivers if label not in receivers)
-        return [self._with_needs(Break(key[0], tuple(receivers), *key[1:])) for key, receivers in together.items()]
+        return [self._with_needs(one._replace(receivers=tuple(receivers))) for one, receivers in together.items()]
 
     def _with_needs(self, found: Break) -> Break:
         """What breaks, with those first who need it by the old plan."""
@@ -198,7 +198,7 @@ class Breaks:
             was, age = old.delays.get(before.line()), new.delays.get(now.line())
             most = 1000 * before.number("within")
             if was and age and most and not is_too_old(was, most) and is_too_old(age, most):
-                why = f"its age is {shown_age(age)}, it was {shown_age(was)}"
+                why = f"its age is {shown_age(age.said)}, it was {shown_age(was.said)}"
                 yield Break("old", (before.text("unit"),), before.text("from"), before.text("group"), before.text("signal"), why,
                             before.line(), now.line())
 

@@ -27,6 +27,16 @@ class Told(NamedTuple):
     text: str
 
 
+def whole(value: Value) -> int:
+    """The number that a value is, 0 of one that isn't there."""
+    return value if isinstance(value, int) else 0
+
+
+def several(value: Value) -> list[Value]:
+    """The elements of an array, none of one that isn't there."""
+    return value if isinstance(value, list) else []
+
+
 class Merged:
     """A table of the joined plan: where it is from, its keys, each with the part that says it, and the tables in it."""
 
@@ -83,7 +93,7 @@ class Join:
         self.arrays: dict[str, list[Merged]] = {array: [] for array in arrays()}
         self._labels = {array: Labels() for array in ("unit", "group")}
         self._called: dict[tuple[Source, str, str], str] = {}  # of a file, an array and a label there: the label here
-        self._told: dict[tuple, Merged] = {}  # flows and the like by what tells them apart
+        self._told: dict[tuple[object, ...], Merged] = {}  # flows and the like by what tells them apart
         for number, source in enumerate(sources):
             self._top(source, number)
             for unit in source["unit"]:
@@ -133,11 +143,11 @@ class Join:
         top, said = self.top, source.top.said
         if number == 0:
             return
-        top.values["version"] = max(top.values["version"], said["version"])
-        kept = dict.fromkeys([*(top.values.get("keep_free") or []), *(said.get("keep_free") or [])])
+        top.values["version"] = max(whole(top.values["version"]), whole(said["version"]))
+        kept = dict.fromkeys([*several(top.values.get("keep_free")), *several(said.get("keep_free"))])
         if kept:
             top.values["keep_free"] = list(kept)
-        strangers = max(top.values.get("strangers") or 0, said.get("strangers") or 0)
+        strangers = max(whole(top.values.get("strangers")), whole(said.get("strangers")))
         if strangers:
             top.values["strangers"] = strangers
         for key in said:
@@ -272,14 +282,13 @@ class Join:
     def _signal(self, here: Merged, part: Part, what: str) -> None:
         """Joins a signal with that of the same label; its scale counts, and not how it is written down."""
         one, other = plan_scales.scale(here.first), plan_scales.scale(part)
+        skipped: tuple[str, ...] = ()
         if one == other:
             skipped = plan_scales.SCALE_KEYS
         elif plan_scales.is_close(one, other):
             skipped = plan_scales.SCALE_KEYS
             text = f"{what}: unit = {spelled(part['unit'])}, taken is {spelled(here.first['unit'])} of {here.first.at('unit')}"
             self._note(part, text, "unit")
-        else:
-            skipped = ()
         self._joined(here, part, what, skipped)
 
     def _other(self, array: str, part: Part) -> None:

@@ -118,7 +118,7 @@ def file_of(text: str) -> Iterator[str]:
 class Version(argparse.Action):
     """Prints the tool's name, and the version of the program and thus of all this."""
 
-    def __call__(self, words: argparse.ArgumentParser, *_: object) -> NoReturn:
+    def __call__(self, words: argparse.ArgumentParser, given: argparse.Namespace, value: object, option: str | None = None) -> None:
         status, answer = call(["--version"])
         if status != 0:
             raise Refused(status)
@@ -128,7 +128,7 @@ class Version(argparse.Action):
 
 def parser(description: str, own_version: bool = False) -> argparse.ArgumentParser:
     """The words of a tool's command line, its help and its version among them, unless the tool has a `--version` of its own."""
-    words = argparse.ArgumentParser(description=description.split("\n", maxsplit=1)[0])
+    words = argparse.ArgumentParser(description=" ".join(description.split("\n\n", maxsplit=1)[0].split()))
     if own_version:
         return words
     words.add_argument("--version", action=Version, nargs=0, help="print the version and exit")

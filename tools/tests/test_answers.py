@@ -44,6 +44,12 @@ class Grammar(unittest.TestCase):
         for text, kind, parts in SAID:
             self.assertEqual(answer_grammar.line_of(text), (kind, parts, text))
 
+    def test_what_is_said(self):
+        """Behind what names a unit, a flow or a need, whatever these are called."""
+        for text, said in (("unit stays stays 3", "stays 3"), ("flow 1 within 1 all late of 10000 us", "late of 10000 us"),
+                           ("need 2 B G S old of 20000 us", "old of 20000 us"), ("need 3 B age age 640 of 2000 us", "age 640 of 2000 us")):
+            self.assertEqual(answer_grammar.line_of(text).said, said)
+
     def test_what_is_no_line(self):
         """A word more or less, a label with another sign, a number that is none."""
         for text, _, _ in SAID[:5] + SAID[11:]:

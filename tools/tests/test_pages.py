@@ -66,10 +66,11 @@ class Shown(InFolder):
         return ended.stdout.replace(self.folder + "/", "/tmp/")
 
     def test_commands_write_what_is_shown(self):
-        for name, least in (("README.md", 7), ("docs/PROMISES.md", 3), ("docs/PLAN.md", 1), ("docs/TIMING.md", 8),
-                            ("docs/SIMULATOR.md", 10), ("docs/LOGS.md", 7), ("docs/TOOLS.md", 11)):
+        least = {"README.md": 7, "docs/PROMISES.md": 3, "docs/PLAN.md": 6, "docs/TIMING.md": 10, "docs/SIMULATOR.md": 13, "docs/LOGS.md": 9,
+                 "docs/TOOLS.md": 11}
+        for name in PAGES:
             commands = [(command, shown) for command, shown in blocks(page(name)) if COMMAND.search(command)]
-            self.assertGreaterEqual(len(commands), least)
+            self.assertGreaterEqual(len(commands), least.get(name, 0), name)
             for command, shown in commands:
                 with self.subTest(command):
                     if missing(command):

@@ -8,6 +8,7 @@ import unittest
 from html.parser import HTMLParser
 
 from modules import answers, program
+from modules.answer_grammar import line_of
 from modules.answers import Age, Delay
 from modules.plan_tables import Tables
 from tests.support import MARKED, NEWER, TOP, InFolder, example, examples, run, signal, text_of
@@ -286,9 +287,9 @@ length = 20
             ("flow 5 G A all frames 7 whole within 605760 of 700000 us", Delay(5, 605760, 700000, 7)),
             ("flow 6 G A all frames 7 late of 600000 us", Delay(6, None, 600000, 7)),
         ):
-            self.assertEqual(answers.delay_of(line), delay)
-        self.assertEqual(answers.age_of("need 1 B G age 21280 of 22000 us"), Age(1, 21280, 22000))
-        self.assertEqual(answers.age_of("need 2 B G S old of 21000 us"), Age(2, None, 21000))
+            self.assertEqual(answers.delay_of(line_of(line)), delay)
+        self.assertEqual(answers.age_of(line_of("need 1 B G age 21280 of 22000 us")), Age(1, 21280, 22000))
+        self.assertEqual(answers.age_of(line_of("need 2 B G S old of 21000 us")), Age(2, None, 21000))
 
     def test_load(self):
         """The delays and the load are those that `load` prints; a plan that says nothing of the bus has no such section."""

@@ -39,20 +39,20 @@ pub record AreWritten (group : GroupPlan) (bytes : List ℕ) : Type 0 where
   pub last : last_payload start writes ≡ bytes
 
 -- the signals that they have
-abbrev pub signals_of : GroupPlan → List ℕ → List SignalParts
-signals_of group bytes = signals_in group (count bytes)
+abbrev pub signals_of_bytes : GroupPlan → List ℕ → List SignalParts
+signals_of_bytes group bytes = signals_in group (count bytes)
 
 -- a signal whose last write gave a value reads that value in these bytes, one whose last write gave it up reads as unset, and one that no
 -- write was for reads what it has in the blank payload, which without a selector is that it is unset
 pub record ReadAsWritten (group : GroupPlan) (bytes : List ℕ) (w : AreWritten group bytes) : Type 0 where
   pub given : (earlier later : List Write) (x : Write) → w.writes ≡ earlier ++ x ∷ later → LeaveAlone later x.place → (value : ℤ)
-      → HoldsAt (λ s. IsRawOf s value x.raw → state_of s (raw_of bytes s) ≡ Value value) (signals_of group bytes) x.place
+      → HoldsAt (λ s. IsRawOf s value x.raw → state_of s (raw_of bytes s) ≡ Value value) (signals_of_bytes group bytes) x.place
   pub given_up : (earlier later : List Write) (x : Write) → w.writes ≡ earlier ++ x ∷ later → LeaveAlone later x.place
-      → HoldsAt (λ s. x.raw ≡ all_ones s → state_of s (raw_of bytes s) ≡ unset_state s) (signals_of group bytes) x.place
-  pub never_given : (place : ℕ) → place < count (signals_of group bytes) → LeaveAlone w.writes place
-      → HoldsAt (λ s. state_of s (raw_of bytes s) ≡ state_of s (raw_of w.start s)) (signals_of group bytes) place
-  pub unset : group.when ≡ None → (place : ℕ) → place < count (signals_of group bytes) → LeaveAlone w.writes place
-      → HoldsAt (λ s. state_of s (raw_of bytes s) ≡ unset_state s) (signals_of group bytes) place
+      → HoldsAt (λ s. x.raw ≡ all_ones s → state_of s (raw_of bytes s) ≡ unset_state s) (signals_of_bytes group bytes) x.place
+  pub never_given : (place : ℕ) → place < count (signals_of_bytes group bytes) → LeaveAlone w.writes place
+      → HoldsAt (λ s. state_of s (raw_of bytes s) ≡ state_of s (raw_of w.start s)) (signals_of_bytes group bytes) place
+  pub unset : group.when ≡ None → (place : ℕ) → place < count (signals_of_bytes group bytes) → LeaveAlone w.writes place
+      → HoldsAt (λ s. state_of s (raw_of bytes s) ≡ unset_state s) (signals_of_bytes group bytes) place
 
 -- ---- frames
 

@@ -28,9 +28,14 @@ complete -F _j39plan j39plan
 
 # The options of a tool are those of its help.
 _j39plan_tool() {
-  local word=${COMP_WORDS[COMP_CWORD]} tool=${COMP_WORDS[0]##*/}
+  local word=${COMP_WORDS[COMP_CWORD]} tool=${COMP_WORDS[0]##*/} before=${COMP_WORDS[COMP_CWORD - 1]}
   COMPREPLY=()
-  if [[ $word == -* ]]; then
+  if [ "$before" = --kind ]; then
+    mapfile -t COMPREPLY < <(compgen -W 'dbc arxml kcd sym' -- "$word")
+  elif [[ $before =~ ^(-o|--output|--notes|--gitlab|--junit)$ ]]; then
+    compopt -o filenames 2> /dev/null
+    mapfile -t COMPREPLY < <(compgen -f -- "$word")
+  elif [[ $word == -* ]]; then
     mapfile -t COMPREPLY < <(compgen -W "$("${COMP_WORDS[0]}" --help 2> /dev/null | grep -oE -- '--[a-z][a-z-]*' | sort -u)" -- "$word")
   elif [ "$tool" = j39plan-dbc2plan ]; then
     _j39plan_files "$word" dbc arxml kcd sym
