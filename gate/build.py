@@ -19,6 +19,8 @@ import subprocess
 import sys
 import tempfile
 import time
+from collections.abc import Callable
+from typing import Any
 
 sys.dont_write_bytecode = True
 import crates
@@ -30,9 +32,10 @@ MISSING, FAILED = 69, 70
 CRATE_JOBS, OTHER_JOBS = 4, 2
 # Up to which niceness a crate is waited for most.
 NEARLY = 4
-# What a check takes for each processor, about, and the whole build, as docs/GATE.md says.
+# What a check takes for each processor, about, and the whole build: in the folders `out`, and the most that all of it takes.
 JOB_BYTES = 2_000_000_000
-NEEDS = "some 30 minutes on four processors and 90 on one, 2 GB of memory for each processor, 4 GB of disk"
+DISK_BYTES = int(os.environ.get("J39PLAN_DISK_BYTES", "8400000000"))
+NEEDS = "some 30 minutes on four processors and 90 on one, 2 GB of memory for each processor, 8.4 GB of disk"
 
 
 def say(text: str) -> None:
@@ -51,7 +54,21 @@ def jobs_of_memory() -> int:
     return 1024 * int(free[1]) // JOB_BYTES if free else 1000
 
 
-def read_kit() -> subprocess.Popen | None:
+def built_bytes() -> int:
+    """Returns how much the folders of what was built take already."""
+    kept = 0
+    for name in crates.needed(PROGRAM):
+        for folder, _, files in os.walk(f"{crates.folder(name)}/out"):
+            kept += sum(os.lstat(os.path.join(folder, it)).st_blocks * 512 for it in files)
+    return kept
+
+
+def missing_bytes() -> int:
+    """Returns how much disk is missing for what isn't built yet, 0 where there is room."""
+    return max(DISK_BYTES - built_bytes() - shutil.disk_usage(crates.TOP).free, 0)
+
+
+def read_kit() -> subprocess.Popen[bytes] | None:
     """Reads the toolchain's libraries that the program stands on once from end to end, where there is memory to keep them: a check
     reads them here and there, which takes minutes where they lie on a disk that wasn't read yet."""
     doc = subprocess.run(["rt", "doc"], stdin=subprocess.DEVNULL, capture_output=True, text=True, check=False).stdout.strip()
@@ -63,7 +80,7 @@ def read_kit() -> subprocess.Popen | None:
     return subprocess.Popen(words, stdin=subprocess.DEVNULL, stdout=subprocess.DEVNULL, stderr=subprocess.DEVNULL, preexec_fn=os.setpgrp)
 
 
-def stop(child: subprocess.Popen) -> None:
+def stop(child: subprocess.Popen[Any]) -> None:
     """Ends a child, with what it has started, if it runs."""
     if child.poll() is None:
         os.killpg(child.pid, signal.SIGTERM)
@@ -94,12 +111,12 @@ def copy(name: str, top: str) -> None:
             bring(f"{crates.folder(it)}/out/rlib", f"{top}/crates/{it}/out/rlib", link)
 
 
-def bring(old, new, copy_file):
+def bring(old: str, new: str, copy_file: Callable[[str, str], object]) -> None:
     if os.path.isdir(old):
         shutil.copytree(old, new, copy_function=copy_file)
 
 
-def link(old, new):
+def link(old: str, new: str) -> None:
     try:
         os.link(old, new)
     except OSError:
@@ -111,7 +128,8 @@ class Room:
     crate, so crates are built side by side only in copies."""
 
     def __init__(self, name: str, jobs: int) -> None:
-        self.name, self.jobs, self.child = name, jobs, None
+        self.name, self.jobs = name, jobs
+        self.child: subprocess.Popen[bytes] | None = None
         git = f"{crates.TOP}/.git"
         self.top = tempfile.mkdtemp(prefix=ROOM, dir=git if os.path.isdir(git) else None)
         self.folder = f"{self.top}/crates/{name}"
@@ -125,8 +143,11 @@ class Room:
         words += ["run", "--jobs", str(self.jobs), "--", "--version"] if crates.is_program(self.name) else ["lib", "--jobs", str(self.jobs)]
         with open(log, "wb") as file:
             # a group of its own, so that it can be stopped with what it starts; in a session of its own nice would mean little
-            how = {"stdin": subprocess.DEVNULL, "stdout": file, "stderr": file, "preexec_fn": os.setpgrp}
-            self.child = subprocess.Popen(words, cwd=self.folder, **how)
+            self.child = subprocess.Popen(words, cwd=self.folder, stdin=subprocess.DEVNULL, stdout=file, stderr=file, preexec_fn=os.setpgrp)
+
+    def status(self) -> int | None:
+        """Returns the status of a build that has ended."""
+        return self.child.poll() if self.child else None
 
     def close(self) -> None:
         """Ends the build, gives the crate what was built, and removes the copy."""
@@ -150,7 +171,7 @@ class Build:
         needed = crates.needed(PROGRAM, self.named)
         self.total = len(needed)
         self.behind = crates.behind({it: self.named[it] for it in needed})
-        self.left = sorted(needed, key=self.behind.get, reverse=True)
+        self.left = sorted(needed, key=self.behind.__getitem__, reverse=True)
         self.running: list[Room] = []
         self.done: set[str] = set()
         self.logs = tempfile.mkdtemp(prefix="j39plan-logs-")
@@ -184,10 +205,10 @@ class Build:
             self.start_more()
             time.sleep(0.25)
             self.show()
-            for room in [it for it in self.running if it.child.poll() is not None]:
+            for room in [it for it in self.running if it.status() is not None]:
                 room.close()
                 self.running.remove(room)
-                if room.child.returncode:
+                if room.status():
                     return room.name
                 self.done.add(room.name)
         return None
@@ -232,6 +253,9 @@ def main(words: list[str]) -> int:
         for it in glob.glob(f"{crates.TOP}/.git/{ROOM}*"):
             shutil.rmtree(it, ignore_errors=True)
         if not is_built():
+            if missing := missing_bytes():
+                say(f"the build takes {DISK_BYTES / 1e9:.1f} GB of disk in {crates.TOP}, and {missing / 1e9:.1f} GB of that are missing")
+                return FAILED
             lanes = int(words[0]) if words else max(min(len(os.sched_getaffinity(0)), jobs_of_memory()), 1)
             say(f"the program is built first, with its proofs ({NEEDS}); {lanes} processors are used")
             build = Build(lanes)

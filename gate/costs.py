@@ -65,8 +65,9 @@ class Clock:
 
 def clocked(words: list[str], folder: str) -> tuple[int, list[tuple[float, str]], Clock]:
     """Runs a command, and returns its status, the lines that it said and when, and its clock."""
-    how = {"stdin": subprocess.DEVNULL, "stdout": subprocess.PIPE, "stderr": subprocess.STDOUT, "preexec_fn": os.setpgrp}
-    started = subprocess.Popen(words, cwd=folder, text=True, errors="replace", **how)
+    started = subprocess.Popen(words, cwd=folder, text=True, errors="replace", stdin=subprocess.DEVNULL, stdout=subprocess.PIPE,
+                               stderr=subprocess.STDOUT, preexec_fn=os.setpgrp)
+    assert started.stdout is not None
     clock = Clock(started.pid)
     with times.looking(clock.look, LOOK_SECONDS):
         try:
@@ -89,7 +90,7 @@ def written(folder: str) -> list[tuple[float, int, str]]:
 
 def by_owner(costs: Costs) -> dict[str, dict[str, float]]:
     """Returns what each function costs, by its modules, and what each other module costs. A function is what has code."""
-    paths = [(FILE.fullmatch(name)[1], cost) for name, cost in costs]
+    paths = [(file.group(1), cost) for name, cost in costs if (file := FILE.fullmatch(name))]
     functions = {path.removesuffix(".Code") for path, _ in paths if path.endswith(".Code")}
     found: dict[str, dict[str, float]] = defaultdict(lambda: defaultdict(float))
     for path, cost in paths:

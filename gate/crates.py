@@ -48,7 +48,7 @@ def code_bytes(name: str) -> int:
 
 def behind(named: dict[str, list[str]]) -> dict[str, int]:
     """Returns what a crate and the longest chain of crates above it cost, in bytes of code, by the crate's name."""
-    found = {}
+    found: dict[str, int] = {}
     for name in reversed(sorted(named, key=lambda it: len(needed(it, named)))):
         above = [found[it] for it, libraries in named.items() if name in libraries]
         found[name] = CRATE_BYTES + code_bytes(name) + max(above, default=0)

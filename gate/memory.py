@@ -27,27 +27,27 @@ def compiler() -> str | None:
     return shutil.which("cc") or (clang if os.access(clang, os.X_OK) else None)
 
 
-def made_shim(folder: str) -> str:
+def made_shim(folder: str, cc: str) -> str:
     """Compiles what refuses an allocation, and returns its file."""
     file = f"{folder}/fail_alloc.so"
-    words = [compiler(), "-shared", "-fPIC", "-O1", "-fno-builtin", "-nostdlib", "-o", file, f"{crates.TOP}/gate/fail_alloc.c"]
+    words = [cc, "-shared", "-fPIC", "-O1", "-fno-builtin", "-nostdlib", "-o", file, f"{crates.TOP}/gate/fail_alloc.c"]
     subprocess.run(words, check=True)
     return file
 
 
-def run(words: list[str], shim: str, number: int) -> tuple[subprocess.CompletedProcess, bool]:
+def run(words: list[str], shim: str, number: int) -> tuple[subprocess.CompletedProcess[bytes], bool]:
     """Runs a program with the allocation of this number refused. Returns the run, and whether there was such a one."""
     reader, writer = os.pipe()
     env = {"PATH": "/usr/bin:/bin", "LD_PRELOAD": shim, "FAIL_ALLOC": str(number), "FAIL_ALLOC_TOLD": str(writer)}
-    how = {"cwd": f"{crates.TOP}/examples", "stdin": subprocess.DEVNULL, "capture_output": True, "check": False}
-    ran = subprocess.run(words, env=env, pass_fds=[writer], timeout=SECONDS, **how)
+    ran = subprocess.run(words, env=env, pass_fds=[writer], timeout=SECONDS, cwd=f"{crates.TOP}/examples", stdin=subprocess.DEVNULL,
+                         capture_output=True, check=False)
     os.close(writer)
     was_asked = os.read(reader, 1) == b"x"
     os.close(reader)
     return ran, was_asked
 
 
-def answers(words: list[str], shim: str, is_allowed: Callable[[subprocess.CompletedProcess, bool], bool]) -> tuple[int, str | None]:
+def answers(words: list[str], shim: str, is_allowed: Callable[[subprocess.CompletedProcess[bytes], bool], bool]) -> tuple[int, str | None]:
     """Returns how many allocations were refused, and what is wrong with the first run that isn't allowed."""
     for number in range(1, MOST):
         ran, was_asked = run(words, shim, number)
@@ -64,21 +64,22 @@ def main() -> int:
         if not is_built(program):
             print(f"memory: there is no program {program}\n0 passed, 1 failed")
             return 1
-    if not compiler():
+    cc = compiler()
+    if not cc:
         print("memory: skipped, since there is no C compiler\n0 passed, 0 failed")
         return 0
     with open(f"{crates.folder('memory_check')}/stdout", "rb") as file:
         shown = file.read()
     tally = Tally()
     with tempfile.TemporaryDirectory() as folder:
-        shim = made_shim(folder)
+        shim = made_shim(folder, cc)
         count, found = answers([check], shim, lambda ran, _: (ran.returncode, ran.stdout, ran.stderr) == (0, shown, b""))
         tally.count(f"memory_check, {count} refusals", not found, found)
         print(f"memory: memory_check, {count} allocations refused in turn")
         for words in COMMANDS:
             enough = run([PROGRAM, *words], shim, 0)[0]
 
-            def is_allowed(ran: subprocess.CompletedProcess, was_asked: bool, enough: subprocess.CompletedProcess = enough) -> bool:
+            def is_allowed(ran: subprocess.CompletedProcess[bytes], was_asked: bool, enough: subprocess.CompletedProcess[bytes] = enough) -> bool:
                 if (ran.returncode, ran.stdout, ran.stderr) == (enough.returncode, enough.stdout, enough.stderr):
                     return True
                 return was_asked and (ran.returncode, ran.stderr) == (3, MEMORY) and enough.stdout.startswith(ran.stdout)

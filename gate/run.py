@@ -2,10 +2,13 @@
 """Runs the whole gate: rt ci, and then what needs the built program: the launcher, the tests of the tools and of the
 pages, devices that fail, and refused allocations. The last line is 'N passed, M failed'; the status is 0 where nothing failed.
 
-usage: run.py [--timed]    --timed: gate/times.py runs rt ci, and writes what its parts took into gate/times.md
+usage: run.py [--timed] [--install]
+  --timed     gate/times.py runs rt ci, and writes what its parts took into gate/times.md
+  --install   installs packages of Debian that the tests of the tools miss; else what misses them is skipped, and that is said
 """
 
 import os
+import platform
 import re
 import resource
 import signal
@@ -19,8 +22,9 @@ import crates
 
 # The parts behind rt ci: a name, its words from the top, and the minutes that it may take.
 PARTS = (
+    ("lint", [sys.executable, "gate/lint.py"], 10),
     ("launcher", [sys.executable, "gate/launcher.py"], 20),
-    ("tools", ["tools/test", "--install"], 45),
+    ("tools", ["tools/test"], 45),
     ("faults", [sys.executable, "gate/faults.py"], 20),
     ("memory", [sys.executable, "gate/memory.py"], 20),
 )
@@ -31,9 +35,9 @@ def counted(name: str, words: list[str], minutes: int | None = None) -> tuple[in
     """Runs a part, passes on what it says, and returns how much of it passed and failed."""
     print(f"== {name}", flush=True)
     last = ""
-    how = {"stdin": subprocess.DEVNULL, "stdout": subprocess.PIPE, "stderr": subprocess.STDOUT, "start_new_session": minutes is not None}
     try:
-        started = subprocess.Popen(words, cwd=crates.TOP, text=True, errors="replace", **how)
+        started = subprocess.Popen(words, cwd=crates.TOP, text=True, errors="replace", stdin=subprocess.DEVNULL, stdout=subprocess.PIPE,
+                                   stderr=subprocess.STDOUT, start_new_session=minutes is not None)
     except OSError as error:
         print(f"{name}: {error}")
         return 0, 1
@@ -41,6 +45,7 @@ def counted(name: str, words: list[str], minutes: int | None = None) -> tuple[in
         # A part that hangs is stopped, with all that it started: its output then ends.
         stopper = threading.Timer(60 * minutes, os.killpg, (started.pid, signal.SIGKILL))
         stopper.start()
+    assert started.stdout is not None
     for line in started.stdout:
         print(line, end="", flush=True)
         last = line.strip() or last
@@ -70,11 +75,20 @@ def processor_seconds() -> float:
     return usage.ru_utime + usage.ru_stime
 
 
+def environment() -> str:
+    """Returns on what the gate runs: the kit, Python, the system and its processors."""
+    kit = subprocess.run(["rt", "version"], stdin=subprocess.DEVNULL, capture_output=True, text=True, check=False).stdout.strip()
+    processors = len(os.sched_getaffinity(0))
+    return f"{kit}, Python {platform.python_version()}, {platform.platform()}, {processors} processors"
+
+
 def main(words: list[str]) -> int:
-    ci = [sys.executable, "gate/times.py", "ci"] if words == ["--timed"] else ["rt", "ci"]
+    print(environment(), flush=True)
+    ci = [sys.executable, "gate/times.py", "ci"] if "--timed" in words else ["rt", "ci"]
     found = [timed("rt ci", ci)]
-    for name, words, minutes in PARTS:
-        found.append(timed(name, words, minutes))
+    for name, part, minutes in PARTS:
+        asked = ["--install"] if name == "tools" and "--install" in words else []
+        found.append(timed(name, [*part, *asked], minutes))
     passed, failed = map(sum, zip(*found))
     print(f"{passed} passed, {failed} failed")
     return 1 if failed else 0

@@ -3,6 +3,7 @@
 import os
 import subprocess
 import sys
+from collections.abc import Sequence
 from typing import Any
 
 sys.dont_write_bytecode = True
@@ -23,11 +24,13 @@ COMMANDS = (
     ["show", "axle.toml"],
     ["run", "transfers.toml", "transfers.directed_lost.schedule"],
     ["read", "tractor_and_implement.toml", "tractor_and_implement.start.log"],
+    ["follow", "two_units_one_address.toml", "two_units_one_address.drive.log"],
+    ["follow", "service_requests.toml", "service_requests.start.log"],
     ["--help"],
 )
 
 
-def run(words: list[str] | list[bytes], **how: Any) -> subprocess.CompletedProcess:
+def run(words: Sequence[str | bytes], **how: Any) -> subprocess.CompletedProcess[bytes]:
     """Runs the program in the folder examples/, without input, and keeps what it writes."""
     how = {"stdin": subprocess.DEVNULL, "stdout": subprocess.PIPE, "stderr": subprocess.PIPE, **how}
     return subprocess.run([PROGRAM, *words], cwd=f"{crates.TOP}/examples", timeout=SECONDS, check=False, **how)
@@ -44,7 +47,7 @@ class Tally:
         self.passed, self.failed = 0, 0
 
     def expect(
-        self, what: str, ran: subprocess.CompletedProcess, status: int, complaint: bytes | None, output: bytes | None = b""
+        self, what: str, ran: subprocess.CompletedProcess[bytes], status: int, complaint: bytes | None, output: bytes | None = b""
     ) -> None:
         """Counts a run. An output that isn't caught is None on both sides."""
         is_well = (ran.returncode, ran.stderr, ran.stdout) == (status, complaint, output)

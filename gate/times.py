@@ -78,7 +78,7 @@ class Watch:
                 continue
             rows[int(name)] = fields
         below = {self.parent}
-        found = True
+        found = below
         while found:
             found = {it for it, fields in rows.items() if it not in below and int(fields[1]) in below}
             below |= found
@@ -157,8 +157,8 @@ def longest(tasks: dict[Key, tuple[float, list[Key]]]) -> tuple[float, list[Key]
     def end(key: Key) -> tuple[float, list[Key]]:
         if key not in ends:
             seconds, waits = tasks[key]
-            before = max((end(it) for it in waits if it in tasks), default=(0.0, []))
-            ends[key] = before[0] + seconds, [*before[1], key]
+            begun, chain = max((end(it) for it in waits if it in tasks), default=(0.0, list[Key]()))
+            ends[key] = begun + seconds, [*chain, key]
         return ends[key]
 
     return max(end(it) for it in tasks)

@@ -22,6 +22,7 @@ from modules.log_reports import Acknowledgement, Claim, Counts, Message, Report,
 from modules.log_requests import Asked
 from modules.log_transfers import Pair, Route, Transfers, pair_of
 from modules.log_unplanned import Bound, Unplanned, bounds_of
+from modules.plan_files import opened
 from modules.plan_tables import Group, Tables
 
 # Groups that nobody plans.
@@ -312,7 +313,7 @@ def words_of(words: list[str] | None) -> argparse.Namespace:
 def main(words: list[str] | None = None) -> int:
     """Writes the deviations; 0 where there is none, 1 where there is one."""
     given, counts = words_of(words), Counts()
-    with program.copied(given.plan) as plan, Log(given.logs, given.interface) as log:
+    with opened(given.plan) as plan, Log(given.logs, given.interface) as log:
         tables = tables_of(plan)
         distances = Distances(tables.flows, given.jitter, given.silence, given.table)
         feed, comparison = Feed(tables.groups, tables.timing), Comparison(

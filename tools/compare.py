@@ -40,13 +40,24 @@ def break_line(found: Break, old: Source, new: Source, others: int) -> str:
     was = f" ({old.name}:{found.old_line})" if found.new_line else ""
     everybody = len(found.receivers) > 1 and len(found.receivers) == others
     who = "all" if everybody else ", ".join(found.receivers)
+    return f"{place}: breaks: {needed_words(found)}{broken_words(found, who)}: {found.why}{was}"
+
+
+def needed_words(found: Break) -> str:
+    """Which of several receivers need what breaks."""
+    if not found.needed_by or len(found.receivers) == 1:
+        return ""
+    return f"{', '.join(found.needed_by)} need{'' if len(found.needed_by) > 1 else 's'} it; "
+
+
+def broken_words(found: Break, who: str) -> str:
+    """Who gets what wrong."""
     plural = len(found.receivers) > 1
-    what = f"{found.group}.{found.signal}" if found.signal else found.group
-    said = {"wrong": f"read{'' if plural else 's'} {what} of {found.sender} wrongly", "lost": f"miss{'' if plural else 'es'} {what} of {found.sender}",
-            "sender": ""}[found.kind]
-    if not said:
-        return f"{place}: breaks: {found.sender} isn't found by {who}: {found.why}{was}"
-    return f"{place}: breaks: {who} {said}: {found.why}{was}"
+    what = (f"{found.group}.{found.signal}" if found.signal else found.group) + (f" of {found.sender}" if found.sender else "")
+    return {
+        "wrong": f"{who} read{'' if plural else 's'} {what} wrongly", "lost": f"{who} miss{'' if plural else 'es'} {what}",
+        "old": f"{who} need{'' if plural else 's'} {what} younger", "sender": f"{found.sender} isn't found by {who}",
+    }[found.kind]
 
 
 def lines_of(changes: list[Change], broken: list[Break], matched: Matched) -> Iterator[str]:
@@ -72,7 +83,8 @@ def main(words: list[str] | None = None) -> int:
     if old.text == new.text:
         program.say(f"{new.name}: the same plan as {old.name}")
     matched = Matched(old, new)
-    changes, broken = list(changes_of(matched, answers_of(old), answers_of(new))), Breaks(matched).found()
+    answers = answers_of(old), answers_of(new)
+    changes, broken = list(changes_of(matched, *answers)), Breaks(matched, *answers).found()
     if given.json:
         told = {"old": old.name, "new": new.name, "changes": [change._asdict() for change in changes],
                 "breaks": [found._asdict() for found in broken]}

@@ -1,8 +1,8 @@
 #!/usr/bin/python3
 """Writes a plan from a DBC, ARXML, KCD or SYM file, or from several, as far as they say it.
 
-What could not be carried over is listed on standard error, each with its reason. The plan is a beginning: what the file doesn't
-say (who may choose its address, which groups go to one unit) is to be looked through.
+What could not be carried over is listed on standard error, each with its reason. The plan is a beginning: review what the file doesn't
+say (who may choose its address, which groups go to one unit).
 """
 
 from __future__ import annotations
@@ -11,12 +11,14 @@ import argparse
 import codecs
 import os
 import sys
-from typing import TYPE_CHECKING, Any
+from typing import TYPE_CHECKING
 
 from modules import matrix_merge, program
-from modules.left_out import LeftOut, Notes, plain
+from modules.j1939 import NULL_ADDRESS
+from modules.left_out import LeftOut, Notes, Unsaid, plain
 from modules.matrix_file import KINDS, Form
-from modules.matrix_plan import Plan
+from modules.matrix_plan import Plan, addresses_of
+from modules.matrix_senders import give_senders
 from modules.plan_text import WRITTEN, text_of
 
 if TYPE_CHECKING:
@@ -50,9 +52,11 @@ def chosen(sent: list[Sent], senders: list[str], groups: list[str]) -> list[Sent
 
 def plan_of(given: argparse.Namespace, notes: Notes) -> Plan:
     """The plan that can be made of the files."""
-    network = matrix_merge.load(given.files, Form(given.bus, given.kind, given.encoding), notes, given.version)
+    known = matrix_merge.Known(dict(given.same), dict(given.address))
+    network = matrix_merge.load(given.files, Form(given.bus, given.kind, given.encoding), notes, given.version, known)
+    give_senders(network.sent, addresses_of(network, Unsaid()), notes)
     sent = chosen(network.sent, given.sender, given.group)
-    plan = Plan(network, notes, given.strict, given.version, not given.no_needs)
+    plan = Plan(network, notes, given.strict, given.version, not given.no_needs, given.identity)
     plan.add_units()
     plan.add_frames(sent)
     if not plan.units and not plan.groups:
@@ -65,9 +69,9 @@ def plan_of(given: argparse.Namespace, notes: Notes) -> Plan:
 class PlanVersion(program.Version):
     """Keeps the version of the plan to write; prints the tool's where none is named."""
 
-    def __call__(self, words: argparse.ArgumentParser, given: argparse.Namespace, value: Any, *option: object) -> None:
+    def __call__(self, words: argparse.ArgumentParser, given: argparse.Namespace, value: object, option: str | None = None) -> None:
         if value is None:
-            super().__call__(words)
+            super().__call__(words, given, value, option)
         given.version = value
 
 
@@ -80,6 +84,14 @@ def encoding(name: str) -> str:
         raise argparse.ArgumentTypeError(f"no encoding is called {plain(name)}") from why
 
 
+def address(text: str) -> tuple[str, int]:
+    """A node and its address, by `NAME=NUMBER`."""
+    name, _, number = text.rpartition("=")
+    if not name or not number.isdecimal() or int(number) >= NULL_ADDRESS:
+        raise argparse.ArgumentTypeError(f"a node and its address of 0 to {NULL_ADDRESS - 1}, as TCU=3")
+    return name, int(number)
+
+
 def options(words: list[str] | None) -> argparse.Namespace:
     """What the command line asks for."""
     parser = program.parser(__doc__, own_version=True)
@@ -90,11 +102,14 @@ def options(words: list[str] | None) -> argparse.Namespace:
                         "network, as each supplier has a part of it")
     parser.add_argument("--sender", action="append", default=[], metavar="UNIT", help="only groups that this unit sends")
     parser.add_argument("--group", action="append", default=[], metavar="GROUP", help="only this group, by name or PGN")
+    parser.add_argument("--same", action="append", default=[], type=program.same, metavar="NAME=OTHER", help="the nodes of these names are one")
+    parser.add_argument("--address", action="append", default=[], type=address, metavar="NAME=NUMBER", help="the address of a node")
     parser.add_argument("--bus", help="which bus of the file, where it has several")
     parser.add_argument("--kind", choices=KINDS, help="of which kind the files are, whatever their endings")
     parser.add_argument("--encoding", type=encoding, help="in which encoding the lines of DBC and SYM files are")
     parser.add_argument("--strict", action="store_true",
                         help="keep signals that lie outside of their group or over an earlier one, which check then finds")
+    parser.add_argument("--identity", action="store_true", help="keep the identity numbers of nodes, each of which is one box's own")
     parser.add_argument("--no-needs", action="store_true", help="leave out who needs what, which version 4 has by the receivers of signals")
     program.note_options(parser)
     return parser.parse_args(words)

@@ -17,6 +17,7 @@ from modules.fleet_drives import Drive, answered, command
 from modules.fleet_table import Fleet
 from modules.fleet_team import Task, team
 from modules.log_files import interface_option
+from modules.plan_files import opened
 from modules.plan_tables import Tables
 
 # How wide the bar of progress is.
@@ -78,12 +79,13 @@ def progressing(drives: Iterable[Drive], count: int) -> Iterator[Drive]:
 
 def plan_of(name: str, options: list[str]) -> tuple[str, str]:
     """The text of a plan by which `against` can read logs, with these options, and what `show` answers of it; of another one it says why."""
-    with program.copied(name) as plan:
+    with opened(name) as plan:
+        shown = program.shown(plan)
         status, answer, said = answered([sys.executable, command("against"), *options, "--", plan, os.devnull])
         if not answer:
             raise program.Refused(status, said.strip().rpartition("\n")[2].partition(": ")[2])
         with open(plan, "rb") as file:
-            return file.read().decode(errors="replace"), program.shown(plan)
+            return file.read().decode(errors="replace"), shown
 
 
 def main(words: list[str] | None = None) -> int:

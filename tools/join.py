@@ -21,6 +21,14 @@ def different(sources: list[Source]) -> list[Source]:
     return list(found.values())
 
 
+def refuse_unless_there(same: dict[str, str], sources: list[Source]) -> None:
+    """Refuses labels that no plan has."""
+    labels = {unit.label for source in sources for unit in source["unit"]}
+    for other, label in same.items():
+        if other not in labels:
+            raise program.Refused(program.UNREADABLE, f"--same {label}={other}: no unit is called {other}")
+
+
 def checked(text: str) -> str:
     """What `check` says at last of a plan's text; one that it doesn't read is refused."""
     with program.file_of(text) as plan:
@@ -37,9 +45,12 @@ def main(words: list[str] | None = None) -> int:
     parser.add_argument("plans", metavar="PLAN", nargs="+", help="the name of a plan file")
     parser.add_argument("--first", action="store_true", help="write the plan although files contradict one another, with what the "
                         "earliest of them says; the others stand in comments")
+    parser.add_argument("--same", action="append", default=[], type=program.same, metavar="LABEL=OTHER", help="the units of these labels are one")
     given = parser.parse_args(words)
     sources = different(sources_of(given.plans))
-    join = Join(sources)
+    same = dict(given.same)
+    refuse_unless_there(same, sources)
+    join = Join(sources, same)
     for told in join.notes:
         print(f"{told.at}: note: {told.text}", file=sys.stderr)
     for told in join.contradictions:

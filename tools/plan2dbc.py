@@ -25,6 +25,7 @@ from modules.j1939 import GLOBAL_ADDRESS, NULL_ADDRESS
 from modules.left_out import Notes
 from modules.log_readings import scale_of
 from modules.matrix_signals import values_of
+from modules.plan_files import opened
 from modules.toml_places import Place, Places
 
 # What stands behind the text of a key on its line.
@@ -82,7 +83,7 @@ class When:
 @dataclass
 class Part:
     """A signal or a text of a message: its place, its name and the one that is too long for a name, what is said beside it, and how it is
-    multiplexed: `M` of what tells the groups, `m3` of what only the group of 3 has."""
+    multiplexed: `M` of what tells the groups, and of what only some groups have their values."""
 
     place: Place
     label: str
@@ -90,7 +91,13 @@ class Part:
     long: str
     told: dbc_remarks.Remark
     is_text: bool
-    multiplexed: str = ""
+    is_selector: bool = False
+    values: list[int] = field(default_factory=list)
+
+    @property
+    def multiplexed(self) -> str:
+        """How it is multiplexed, as a DBC spells it: `M`, or `m3` of what a group has that is told by 3."""
+        return "M" if self.is_selector else f"m{self.values[0]}" if self.values else ""
 
 
 class Dbc:
@@ -132,12 +139,13 @@ class Dbc:
             flows.setdefault(self.places.texts[flow + ("group",)], []).append(flow)
         groups = self.places.elements(("group",))
         wanted = {self.label(group): self.wanted(group, flows.get(self.label(group), [])) for group in groups}
-        first, together = {}, dict[object, str]()
+        first: dict[str, str] = {}
+        together: dict[object, str] = {}
         for group in sorted(groups, key=lambda group: not Names.fits(wanted[self.label(group)])):
             label, when = self.label(group), self.when(group)
             name = wanted[label]
-            first[label] = together.get((self.pgn(group), when.place, name)) if when else None
-            first[label] = first[label] or self.taken.label(name)
+            beside = together.get((self.pgn(group), when.place, name)) if when else None
+            first[label] = beside or self.taken.label(name)
             if when:
                 together[self.pgn(group), when.place, name] = first[label]
         for group in groups:
@@ -229,7 +237,7 @@ class Dbc:
         """How long a message of a group is: as is said beside its flow, else as the shortest ones, which go in one frame if any does."""
         length = self.places.integer(group + ("length",))
         lengths = range(length, self.number(group, "most", length) + 1)
-        return told.bytes if told.bytes in lengths else length
+        return told.bytes if told.bytes is not None and told.bytes in lengths else length
 
     def add_needs(self) -> None:
         """Those who need a group receive the messages of it that are for them, or the one that stands for it alone. Who is named beside the group's
@@ -267,7 +275,7 @@ class Dbc:
         lines += [f"BO_TX_BU_ {message.identifier | EXTENDED} : {','.join(message.senders)};"
                   for message in messages if len(message.senders) > 1]
         attributes = [*self.bus_attributes(), *self.unit_attributes(), *self.message_attributes()]
-        return "\n".join([*lines, *self.comments(), *definitions(list(self.ways)), *attributes, *self.values()]) + "\n"
+        return "\n".join([*lines, *self.comments(), *definitions(list(self.ways)), *attributes, *self.values(), *self.multiplexors()]) + "\n"
 
     def parts_in(self, message: Message) -> list[Part]:
         """The signals and texts that a message has."""
@@ -310,15 +318,14 @@ class Dbc:
             selector = Part(groups[0] + ("when",), "", SELECTOR, "", dbc_remarks.Remark(), False)
             self.notes.say(f"message {self.label(groups[0])}", f"no signal has the bits that tell its groups: {SELECTOR} stands for them")
             plain.insert(0, selector)
-        selector.multiplexed = "M"
+        selector.is_selector = True
+        own: dict[object, Part] = {}
         for group, parts in zip(groups, several, strict=True):
             when = self.when(group)
             assert when is not None
-            for key, part in parts.items():
-                if key not in shared:
-                    part.multiplexed = f"m{when.value}"
-                    plain.append(part)
-        return plain
+            for key in parts.keys() - set(shared):
+                own.setdefault(key, parts[key]).values.append(when.value)
+        return plain + sorted(own.values(), key=lambda part: part.place)
 
     def meaning(self, part: Part) -> object:
         """What is said of a signal or text, but for its place in the file."""
@@ -367,7 +374,7 @@ class Dbc:
 
     def needed_by(self, message: Message, part: Part) -> Iterator[str]:
         """Who needs a signal of a message; of one that each group of a multiplexed one has those who need it of all of them."""
-        groups = message.groups if part.multiplexed in ("", "M") else [part.place[:2]]
+        groups = [group for group in message.groups if not part.values or (when := self.when(group)) and when.value in part.values]
         for label in ("", part.label):
             several = [self.needed.get((message.identifier, self.label(group), label), []) for group in groups]
             yield from (name for name in several[0] if all(name in names for names in several))
@@ -418,7 +425,8 @@ class Dbc:
         """What is known of the bus, as far as a DBC can say it."""
         told = next(filter(None, map(BITRATE.fullmatch, self.lines)), None)
         if ("timing",) in self.places.lines or told:
-            yield f'BA_ "{BITRATE_ATTRIBUTE}" {self.places.number(("timing", "bitrate")) or told.group(1)};'
+            rate = self.places.number(("timing", "bitrate")) or (told and told.group(1))
+            yield f'BA_ "{BITRATE_ATTRIBUTE}" {rate};'
         if ("timing",) in self.places.lines:
             self.notes.say("timing", "a DBC has no count of unplanned frames")
             for key in [key for key in self.places.keys(("timing",)) if key not in ("bitrate", "unplanned")]:
@@ -434,7 +442,8 @@ class Dbc:
         """Addresses and NAMEs of the units; what a DBC can't say of them is noted."""
         for unit in self.units:
             label, name = self.label(unit), unit + ("name",)
-            fields = [(IDENTITY_ATTRIBUTE, "identity"), *((attribute, key) for key, attribute in NAME_ATTRIBUTES.items())]
+            fields = [(attribute, key) for key, attribute in (("identity", IDENTITY_ATTRIBUTE), *NAME_ATTRIBUTES.items())
+                      if key != "identity" or name + (key,) in self.places.spelled]
             numbers = {ADDRESS_ATTRIBUTE: self.addresses[label],
                        ARBITRARY_ATTRIBUTE: int(self.places.spelled.get(name + ("arbitrary",)) == "true"),
                        **{attribute[0]: self.number(name, key, 0) for attribute, key in fields}}
@@ -471,8 +480,8 @@ class Dbc:
         """What the groups of a multiplexed message are called, where they aren't called as it is, with their values; and where one of them has
         no signal of its own, so that the message tells of its value so."""
         values = [(when.value, self.label(group)) for group in message.groups if (when := self.when(group))]
-        own = {part.multiplexed for part in self.parts_in(message)}
-        if any(label != f"{message.name}_m{value}" or f"m{value}" not in own for value, label in values):
+        own = {value for part in self.parts_in(message) for value in part.values}
+        if any(label != f"{message.name}_m{value}" or value not in own for value, label in values):
             named = ", ".join(f"{value} {label}" for value, label in values)
             yield f'BA_ "{GROUPS_ATTRIBUTE}" {what} {in_quotes(named)};'
 
@@ -528,6 +537,16 @@ class Dbc:
                 named[raw - (1 << bits) if is_negative else raw] = self.places.texts[values + (key,)]
         return named
 
+    def multiplexors(self) -> Iterator[str]:
+        """With which values of its multiplexor a message has signals, where it has one with several: then of each, as canmatrix wants it."""
+        for message in self.messages.values():
+            parts = self.parts_in(message)
+            selector = next((part.name for part in parts if part.is_selector), "")
+            for part in parts if any(len(part.values) > 1 for part in parts) else ():
+                if part.values:
+                    values = ", ".join(f"{value}-{value}" for value in part.values)
+                    yield f"SG_MUL_VAL_ {message.identifier | EXTENDED} {part.name} {selector} {values};"
+
     def values(self) -> Iterator[str]:
         """The tables of values."""
         for message in self.messages.values():
@@ -549,7 +568,7 @@ def options(words: list[str] | None) -> argparse.Namespace:
 def main(words: list[str] | None = None) -> int:
     """Writes the DBC; 0, or the program's status where it can't read the plan, or 1 where there are notes and there were to be none."""
     given, notes = options(words), Notes()
-    with program.copied(given.plan) as plan:
+    with opened(given.plan) as plan:
         program.checked(plan)
         with open(plan, encoding="utf-8") as file:
             dbc = Dbc(file.read(), notes)

@@ -15,9 +15,10 @@ from modules import program
 from modules.log_clock import SECOND, ends_of
 from modules.log_curves import Curve, Timeline, curves_of
 from modules.log_files import Log, drive_words, interface_option
-from modules.log_readings import Choice, Column, Wanted, parted
+from modules.log_readings import Choice, Column, Wanted, parted, scale_of
 from modules.log_reports import Counts, follow, tables_of
 from modules.plan_cut import cut
+from modules.plan_files import opened
 from modules.plan_tables import Tables
 
 ENDINGS = (".png", ".svg")
@@ -48,11 +49,18 @@ def counted(first: int | None) -> str:
     """What the axis counts, where that is the first time of a log."""
     if first is None:
         return "lines of the log"
-    text = f"seconds from {first // SECOND}.{first % SECOND // 1000:06}, the log's first time"
+    text, at = "time in s from the log's first frame, at ", f"{first // SECOND}.{first % SECOND // 1000:06}"
     if first < CALENDAR * SECOND:
-        return text
+        return text + at
     day = datetime.datetime.fromtimestamp(first // SECOND, datetime.UTC)
-    return f"{text} ({day:%Y-%m-%d %H:%M:%S} UTC)"
+    return f"{text}{day:%Y-%m-%d %H:%M:%S} UTC ({at})"
+
+
+def names_of(tables: Tables, column: Column) -> dict[float, str]:
+    """The names of a signal's values, in the unit that is shown."""
+    group = next(group for group in tables.groups if group.label == column[0])
+    signal = next(signal for signal in group.signals if signal.label == column[1])
+    return {float(value / scale_of(signal.unit).parts): name for value, name in signal.named_values().items()}
 
 
 def in_order(columns: dict[Column, str], names: list[str]) -> dict[Column, str]:
@@ -101,7 +109,7 @@ def main(words: list[str] | None = None) -> int:
     """Draws the picture."""
     given = words_of(words)
     refuse_unless_possible(given.names, given.addresses, given.output)
-    with program.copied(given.plan) as plan:
+    with opened(given.plan) as plan:
         tables = tables_of(plan)
         names, logs = parted(tables, given.names, given.log)
         choice = Choice(tables, names, nothing=not names)
@@ -123,7 +131,8 @@ def main(words: list[str] | None = None) -> int:
     if window.begin >= window.end and (given.begin is not None or given.end is not None):
         raise program.Refused(program.UNREADABLE, "nothing to draw: --from is not before --to, or the log has nothing there")
     axis = counted(first if timeline.clock.has_times else None)
-    log_chart.save(log_chart.figure_of(columns, curves, held, title, axis, window), given.output)
+    signals = {column: log_chart.Drawn(unit, curves.get(column, []), names_of(tables, column)) for column, unit in columns.items()}
+    log_chart.save(log_chart.figure_of(signals, held, title, axis, window), given.output)
     for group, signal in choice.columns:
         if (group, signal) not in curves:
             program.say(f"{group}.{signal} isn't in the log")

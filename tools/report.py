@@ -10,10 +10,12 @@ import os
 import re
 import sys
 
-from modules import answer_places, page_server, plan_parts, program
+from modules import page_server, plan_parts, program
 from modules.answers import findings, load_of, stands
 from modules.left_out import plain
+from modules.plan_files import opened
 from modules.plan_page import page
+from modules.plan_places import Plan
 from modules.plan_tables import Tables, Top
 
 
@@ -21,7 +23,7 @@ def page_of(plan: str, title: str) -> str:
     """The page of a plan that can be read."""
     answer = program.checked(plan)
     with open(plan, "rb") as file:
-        told = answer_places.Plan(file.read().decode(errors="replace"))
+        told = Plan(file.read().decode(errors="replace"))
     _, addresses = program.call(["addresses", "--", plan])
     load = load_of(program.call(["load", "--", plan])[1])
     found = list(findings(told, answer))
@@ -36,7 +38,7 @@ def title_of(name: str) -> str:
 
 def page_of_file(name: str) -> str:
     """The page of a plan's file, which may be a pipe."""
-    with program.copied(name) as plan:
+    with opened(name) as plan:
         return page_of(plan, title_of(name))
 
 

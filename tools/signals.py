@@ -22,6 +22,7 @@ from modules.log_files import Log, drive_words, interface_option
 from modules.log_readings import Choice, Column, Made, Reading, Told, Wanted, parted
 from modules.log_reports import FROM, GROUP, LINE, TIME, TO, Counts, Said, Who, said_of, tables_of, who_of
 from modules.plan_cut import cut
+from modules.plan_files import opened
 
 ENDS = ("from", "source", "to", "destination")
 HEADS = ("time", "line", *ENDS, "group", "signal", "state", "value", "unit", "detail")
@@ -150,18 +151,19 @@ def quoted(text: str) -> str:
     return row.getvalue()[:-1]
 
 
-def cells_in_wide(reading: Reading) -> tuple[str, str]:
-    """What stands in the columns of a signal: its value, and the state that it has instead of one."""
-    if reading.state in ("value", "text"):
-        return reading.value or reading.detail, ""
-    if reading.state == "dtc":
-        return reading.detail, ""
-    return "", f"{reading.state} {reading.detail}".rstrip()
+def cells_in_wide(reading: Reading) -> tuple[str, str, str]:
+    """What stands in the columns of a signal: its value, the state that it has instead of one, and the name of the value."""
+    if reading.state == "value":
+        return reading.value, "", reading.detail
+    if reading.state in ("text", "dtc"):
+        return reading.detail, "", ""
+    return "", f"{reading.state} {reading.detail}".rstrip(), ""
 
 
-class Wide(Form[tuple[str, str]]):
-    """A row a message, with two columns for each signal: its value, which is empty where it has none, and the word for what it has instead.
-    What isn't a number anyway has one column, a text itself, and a code by its parts."""
+class Wide(Form[tuple[str, str, str]]):
+    """A row a message, with two columns for each signal: its value, which is empty where it has none, and the word for what it has instead;
+    and a third one for the names of its values, where the plan has some. What isn't a number anyway has one column, a text itself, and a
+    code by its parts."""
 
     made = staticmethod(cells_in_wide)
 
@@ -170,15 +172,18 @@ class Wide(Form[tuple[str, str]]):
         self._columns: dict[Column, int] = {}
         heads = list(HEADS[:7])
         before = len(heads) - 1
-        for (group, label), unit in choice.columns.items():
-            self._columns[group, label] = len(heads) - before
-            heads.append(f"{group}.{label}" + (f" [{unit}]" if unit else ""))
-            if (group, label) not in choice.texts:
-                heads.append(f"{group}.{label} state")
+        for column, unit in choice.columns.items():
+            self._columns[column] = len(heads) - before
+            name = ".".join(column)
+            heads.append(name + (f" [{unit}]" if unit else ""))
+            if column not in choice.texts:
+                heads.append(f"{name} state")
+            if column in choice.named:
+                heads.append(f"{name} name")
         self._count = len(heads) - before - 1
         self.heads = heads
 
-    def spelled(self, words: list[str], readings: Told[tuple[str, str]]) -> str:
+    def spelled(self, words: list[str], readings: Told[tuple[str, str, str]]) -> str:
         """The signals of a message. Most columns are those of other groups, so that a row is mostly commas."""
         cells: dict[int, str] = {}
         for label, texts in readings:
@@ -230,7 +235,7 @@ def words_of(words: list[str] | None) -> argparse.Namespace:
     forms = parser.add_mutually_exclusive_group()
     forms.add_argument("--csv", dest="form", action="store_const", const=Plain, help="a row a signal (the default)")
     forms.add_argument("--json", dest="form", action="store_const", const=Lines, help="a JSON object a signal, each on a line")
-    forms.add_argument("--wide", dest="form", action="store_const", const=Wide, help="a row a message, two columns a signal")
+    forms.add_argument("--wide", dest="form", action="store_const", const=Wide, help="a row a message, two columns a signal, three where its values have names")
     interface_option(parser)
     parser.set_defaults(form=Plain)
     return parser.parse_intermixed_args(words)
@@ -239,7 +244,7 @@ def words_of(words: list[str] | None) -> argparse.Namespace:
 def main(words: list[str] | None = None) -> int:
     """Writes the table."""
     given, counts, clock = words_of(words), Counts(), Clock()
-    with program.copied(given.plan) as plan:
+    with opened(given.plan) as plan:
         tables = tables_of(plan)
         names, logs = parted(tables, given.names, given.log)
         choice = Choice(tables, names)

@@ -11,7 +11,9 @@ import sys
 from collections.abc import Iterable
 
 from modules import program
+from modules.answers import stands
 from modules.j1939 import FRAME_BYTES, NULL_ADDRESS, PACKET_BYTES, POOL
+from modules.plan_files import opened
 from modules.plan_format import default_of
 from modules.toml_places import Place, Places, places_of
 
@@ -192,8 +194,7 @@ def ordered(labels: list[str], first: Iterable[str]) -> list[str]:
 def sure_of(plan: str) -> set[str]:
     """The units that hold their planned addresses in each run; of a plan whose addresses have findings none is known to."""
     _, answer = program.call(["addresses", "--", plan])
-    lines = [line.split() for line in answer.splitlines()]
-    return {words[1] for words in lines if words[0] == "unit" and words[2] == "stays"}
+    return {label for label, stand in stands(answer).items() if stand.stays}
 
 
 def told(ends: list[str], sure: set[str]) -> list[str]:
@@ -213,7 +214,7 @@ def main(words: list[str] | None = None) -> int:
     given = parser.parse_args(words)
     then = "; then each flow sends one message" if given.traffic else ""
     schedule = Schedule(f"Start-up of {given.plan}: all units are switched on, and every claim is delivered{then}.")
-    with program.copied(given.plan) as plan:
+    with opened(given.plan) as plan:
         labels = program.labels_of(plan)
         start_up(units_on(plan, labels, ordered(labels, given.first)), schedule)
         ends = settled(plan, schedule)

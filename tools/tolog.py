@@ -1,24 +1,33 @@
 #!/usr/bin/python3
 """Makes a log of candump -L of an ASC, BLF, TRC, MF4 or CSV file, by the readers of python-can; of one channel, or of all.
 
-Each channel is an interface of the log. What has no place in it, as error frames, remote frames and those of CAN FD, is counted on standard error.
+Each channel is an interface of the log, the first one can0. What has no place in it, as error frames, remote frames and those of CAN FD, is
+counted on standard error.
 """
 
 import argparse
 import importlib.util
 import os
+import stat
 import sys
 from collections import Counter
 from collections.abc import Iterable, Iterator
 from typing import TYPE_CHECKING
 
 from modules import program
+from modules.j1939 import FRAME_BYTES
 
 if TYPE_CHECKING:
-    from can import Message
+    from can.message import Message
 
 # Endings of files that python-can reads in newer versions alone, by another package.
 MEASUREMENTS = (".mf4", ".mdf")
+
+# Endings of logs of candump -L, which needn't be converted.
+LOGS = (".log", ".log.gz")
+
+# Endings of files whose channels count from 1, and which python-can hands out as they stand; and of those that have none.
+FROM_ONE, WITHOUT_CHANNELS = (".trc", ".trc.gz"), (".csv", ".csv.gz")
 
 
 def interface_of(channel: object) -> str:
@@ -33,7 +42,7 @@ def left_out(message: "Message") -> str | None:
         return "error frames"
     if message.is_remote_frame:
         return "remote frames"
-    return "frames of CAN FD" if message.is_fd else None
+    return "frames of CAN FD" if message.is_fd or len(message.data) > FRAME_BYTES else None
 
 
 def spelled(message: "Message", interface: str) -> str:
@@ -46,10 +55,12 @@ def messages_of(name: str) -> Iterator["Message"]:
     """What python-can reads of a file. It says in many ways that it can't."""
     if importlib.util.find_spec("can") is None:
         raise program.Refused(program.MISSING, "python-can isn't there: apt-get install python3-can")
-    from can import LogReader
+    from can.io.player import LogReader
 
-    with open(name, "rb"):  # what isn't there is told as such
-        pass
+    with open(name, "rb") as file:  # what isn't there is told as such
+        about = os.fstat(file.fileno())
+    if stat.S_ISREG(about.st_mode) and about.st_size == 0:
+        raise program.Refused(program.UNREADABLE, f"{name} is empty")
     try:
         reader = LogReader(name)
     except Exception as fault:  # as below
@@ -57,6 +68,8 @@ def messages_of(name: str) -> Iterator["Message"]:
     count = 0
     try:
         for message in reader:
+            if name.lower().endswith(FROM_ONE) and isinstance(message.channel, int):
+                message.channel -= 1
             yield message
             count += 1
     except (GeneratorExit, KeyboardInterrupt, BrokenPipeError):
@@ -86,6 +99,13 @@ def lines_of(messages: Iterable["Message"], channels: list[str], written: Counte
                 yield spelled(message, interface)
 
 
+def refuse_log(name: str) -> None:
+    """Refuses what is a log already: python-can hands out its error frames without what tells them from others."""
+    if name.lower().endswith(LOGS):
+        unpacked = f": zcat {name}" if name.lower().endswith(".gz") else ""
+        raise program.Refused(program.UNREADABLE, f"{name} is a log already{unpacked}")
+
+
 def refuse_unless_there(name: str, channels: list[str], written: Counter[str]) -> None:
     """Refuses a file without frames, and channels that it doesn't have."""
     if not written:
@@ -103,6 +123,7 @@ def main(words: list[str] | None = None) -> int:
     parser.add_argument("--channel", metavar="CHANNEL", dest="channels", action="append", default=[], type=channel_of,
                         help="only this channel, by its interface in the log, as can1, or by its number; may stand several times")
     given = parser.parse_args(words)
+    refuse_log(given.file)
     written: Counter[str] = Counter()
     dropped: Counter[str] = Counter()
     for line in lines_of(messages_of(given.file), given.channels, written, dropped):
@@ -111,6 +132,8 @@ def main(words: list[str] | None = None) -> int:
     if len(written) > 1 and not given.channels:
         found = ", ".join(f"{count} of {interface}" for interface, count in sorted(written.items()))
         program.say(f"{os.path.basename(given.file)} has several channels, and 'follow' reads the first of a log: {found} frames; see --channel")
+    if given.file.lower().endswith(WITHOUT_CHANNELS):
+        program.say(f"{os.path.basename(given.file)} has no channels, as each CSV of python-can: all its frames are of can0")
     for what, count in sorted(dropped.items()):
         program.say(f"{count} {what} are left out")
     return 0

@@ -1,10 +1,13 @@
 #!/usr/bin/python3
 """Checks a plan with j39plan and says where in the file each answer belongs, as FILE:LINE: ANSWER  (hint)."""
 
+import argparse
+import json
 import sys
 from collections.abc import Callable, Iterable, Iterator
 
 from modules import code_quality, program
+from modules.answer_objects import check_object
 from modules.answer_places import Placed, placed
 from modules.plan_lint import Lint
 from modules.toml_places import places_of
@@ -50,20 +53,33 @@ def github_notice(file: str, line: int, text: str, _: list[str]) -> list[str]:
 
 def hints_of(plan: str) -> list[Placed]:
     """The hints at a plan that can be read."""
-    return [Placed(line, f"hint {text}", []) for line, text in Lint(places_of(plan)).hints()]
+    return [Placed(line, f"hint {text}", "", []) for line, text in Lint(places_of(plan)).hints()]
 
 
-def main(words: list[str] | None = None) -> int:
-    """Runs `j39plan check` and answers its exit status."""
+def lines_of(name: str, hints: list[Placed], parts: list[Placed], github: bool) -> list[str]:
+    """The lines that are written: the hints, then the answer."""
+    forms = (github_notice, github_annotation) if github else (compiler_message, compiler_message)
+    return [line for some, form in zip((hints, parts), forms) for line in annotate(name, some, form)]
+
+
+def words_of(words: list[str] | None) -> argparse.Namespace:
+    """The words of the command line."""
     parser = program.parser(__doc__)
     parser.epilog = "example: %(prog)s --lint plan.toml"
     program.plan_word(parser)
-    parser.add_argument("--github", action="store_true", help="as annotations of GitHub's CI")
+    forms = parser.add_mutually_exclusive_group()
+    forms.add_argument("--github", action="store_true", help="as annotations of GitHub's CI")
+    forms.add_argument("--json", action="store_true", help="as a JSON object: status, findings with their parts, lines, hints and steps")
     parser.add_argument("--gitlab", metavar="FILE", help="write them into a file too, as a code quality report of GitLab's CI, in which "
                         "those of other plans stay")
     parser.add_argument("--lint", action="store_true", help="with hints that are no findings, as FILE:LINE: hint ANSWER, for example "
                         "of a group that no flow sends; they don't change the status")
-    given = parser.parse_args(words)
+    return parser.parse_args(words)
+
+
+def main(words: list[str] | None = None) -> int:
+    """Runs `j39plan check` and answers its exit status."""
+    given = words_of(words)
     hints: list[Placed] = []
     parts: list[Placed] = []
     with program.copied(given.plan) as plan:
@@ -73,11 +89,12 @@ def main(words: list[str] | None = None) -> int:
                 parts = list(placed(file.read(), answer))
         if status in (0, 1) and given.lint:
             hints = hints_of(plan)
-    lines = annotate(given.plan, hints, github_notice if given.github else compiler_message)
-    lines = [*lines, *annotate(given.plan, parts, github_annotation if given.github else compiler_message)]
-    sys.stdout.write("".join(f"{line}\n" for line in lines))
+    if given.json:
+        print(json.dumps(check_object(given.plan, status, parts, hints if given.lint else None), indent=1))
+    else:
+        sys.stdout.write("".join(f"{line}\n" for line in lines_of(given.plan, hints, parts, given.github)))
     if given.gitlab and status in (0, 1, 2):
-        issues = [issue for part in (*hints, *parts) if part.line is not None for issue in [(part.line, part.text, part.below)]]
+        issues = [(part.line, part.text, part.below) for part in (*hints, *parts) if part.line is not None]
         code_quality.write(given.gitlab, given.plan, issues)
     return status
 

@@ -3,7 +3,9 @@
 from collections.abc import Iterator
 from typing import NamedTuple
 
-from .answer_places import Plan, finding, parted
+from .answer_grammar import Line, line_of, lines_of
+from .answer_places import finding, parted
+from .plan_places import Plan
 
 
 class Finding(NamedTuple):
@@ -54,40 +56,34 @@ class Load(NamedTuple):
 def findings(plan: Plan, answer: str) -> Iterator[Finding]:
     """The findings of `check`, each with its line, a hint, and the steps of a run that shows it."""
     for line, *below in parted(answer):
-        if line.startswith("F"):
+        if line_of(line).kind == "finding":
             at, hint = finding(plan, line)
-            yield Finding(line, at, hint or "", [step.strip() for step in below])
+            yield Finding(line, at, hint or "", [line_of(step).word("step") for step in below])
 
 
 def stands(answer: str) -> dict[str, Stand]:
     """Where units stand by `addresses`; of a plan whose addresses have findings that isn't known."""
-    told = (line.split() for line in answer.splitlines())
-    return {words[1]: Stand(words[2] == "stays", int(words[-1])) for words in told if words[0] == "unit"}
+    units = (line for line in lines_of(answer) if line.kind == "unit")
+    return {line.word("unit"): Stand(line.word("stays") == "stays", line.number("address")) for line in units}
 
 
-def delay_of(line: str) -> Delay:
-    """What `load` tells of a flow: `flow N G A B within W of L us`, `late of L us`, or `frames K`, which also `whole within W us`,
-    `whole within W of L us` or `late of L us` may follow."""
-    words = line.split()
-    number, told = int(words[1]), words[5:]
-    frames = int(told[1]) if told[0] == "frames" else 1
-    within = int(told[told.index("within") + 1]) if "within" in told else None
-    return Delay(number, within, int(told[told.index("of") + 1]) if "of" in told else None, frames)
+def delay_of(line: Line) -> Delay:
+    """What `load` tells of a flow."""
+    return Delay(line.number("flow"), line.number_if_any("within"), line.number_if_any("limit"), line.number_if_any("frames") or 1)
 
 
-def age_of(line: str) -> Age:
-    """What `load` tells of a need: `need N UNIT GROUP [SIGNAL] age A of W us` or `old of W us`."""
-    words = line.split()
-    return Age(int(words[1]), int(words[-4]) if words[-5] == "age" else None, int(words[-2]))
+def age_of(line: Line) -> Age:
+    """What `load` tells of a need."""
+    return Age(line.number("need"), line.number_if_any("age"), line.number("limit"))
 
 
 def load_of(answer: str) -> Load | None:
     """What `load` tells of a plan; None of one that says nothing of the bus."""
-    lines = answer.splitlines()
-    if lines == ["refused plan NoTiming"]:
+    lines = lines_of(answer)
+    if lines[-1].word("cause") == "NoTiming":
         return None
-    words = lines[-1].split()
-    if words[0] != "load":
+    if lines[-1].kind != "load":
         return Load([], None)
-    delays = [delay_of(line) for line in lines if line.startswith("flow ")]
-    return Load(delays, (int(words[1]), int(words[3])), [age_of(line) for line in lines if line.startswith("need ")])
+    delays = [delay_of(line) for line in lines if line.kind == "flow"]
+    ages = [age_of(line) for line in lines if line.kind == "need"]
+    return Load(delays, (lines[-1].number("load"), lines[-1].number("bitrate")), ages)

@@ -3,13 +3,13 @@
 from __future__ import annotations
 
 import re
-from collections.abc import Iterator
+from collections.abc import Iterator, Sequence
 from decimal import Decimal, localcontext
 
 from .dbc_names import (
     ADDRESS_ATTRIBUTE, ARBITRARY_ATTRIBUTE, BITRATE_ATTRIBUTE, BYTES_ATTRIBUTE, CONTENT_ATTRIBUTE, CONTENTS, CYCLE_ATTRIBUTE, DELAY_ATTRIBUTE,
-    EVERY_ATTRIBUTE, FAST_ATTRIBUTE, GROUP_ATTRIBUTE, GROUPS_ATTRIBUTE, IDENTITY_ATTRIBUTE, KIND_ATTRIBUTE, LONG_MESSAGE, LONG_SIGNAL,
-    MOST_ATTRIBUTE, NAME_ATTRIBUTES, NOBODY, REPEATED_ATTRIBUTE, SEND_ATTRIBUTE, SIGNAL_ATTRIBUTE, SIGNAL_CYCLE_ATTRIBUTE, SPN_ATTRIBUTE, UNIT_ATTRIBUTE,
+    EVERY_ATTRIBUTE, FAST_ATTRIBUTE, FORMAT_ATTRIBUTE, GROUP_ATTRIBUTE, GROUPS_ATTRIBUTE, IDENTITY_ATTRIBUTE, J1939_FORMAT, KIND_ATTRIBUTE,
+    LONG_MESSAGE, LONG_SIGNAL, MOST_ATTRIBUTE, NAME_ATTRIBUTES, NOBODY, REPEATED_ATTRIBUTE, SEND_ATTRIBUTE, SIGNAL_ATTRIBUTE, SIGNAL_CYCLE_ATTRIBUTE, SPN_ATTRIBUTE, UNIT_ATTRIBUTE,
 )
 from .j1939 import NULL_ADDRESS
 from .left_out import plain
@@ -65,14 +65,14 @@ def in_quotes(text: str) -> str:
     return '"' + plain(text).replace('"', "'").replace("\\", "/") + '"'
 
 
-def enumeration(words: list[str] | tuple[str, ...]) -> str:
+def enumeration(words: Sequence[str]) -> str:
     """The type of an attribute that is one of several words."""
     return "ENUM " + ",".join(map(in_quotes, words))
 
 
 def definitions(ways: list[str]) -> Iterator[str]:
     """The definitions of the attributes; these are the ways by which messages are sent beside a cycle alone."""
-    words = {("BO_", "VFrameFormat"): ["StandardCAN", "ExtendedCAN", "reserved", "J1939PG"], ("BO_", SEND_ATTRIBUTE): ["cyclic", *ways],
+    words = {("BO_", FORMAT_ATTRIBUTE): ["StandardCAN", "ExtendedCAN", "reserved", J1939_FORMAT], ("BO_", SEND_ATTRIBUTE): ["cyclic", *ways],
              ("SG_", CONTENT_ATTRIBUTE): CONTENTS}
     yield from (f'BA_DEF_ {table}"{name}" INT 0 {most};' for table, name, most, _ in NUMBERS)
     yield from (f'BA_DEF_ {table} "{name}" STRING ;' for name, table in TEXTS.items())
@@ -80,7 +80,7 @@ def definitions(ways: list[str]) -> Iterator[str]:
     yield 'BA_DEF_ "ProtocolType" STRING ;'
     yield from (f'BA_DEF_DEF_ "{name}" {default};' for _, name, _, default in NUMBERS)
     yield from (f'BA_DEF_DEF_ "{name}" "";' for name in TEXTS)
-    yield 'BA_DEF_DEF_ "VFrameFormat" "J1939PG";'
+    yield f'BA_DEF_DEF_ "{FORMAT_ATTRIBUTE}" "{J1939_FORMAT}";'
     yield f'BA_DEF_DEF_ "{SEND_ATTRIBUTE}" "cyclic";'
     yield f'BA_DEF_DEF_ "{CONTENT_ATTRIBUTE}" "{CONTENTS[0]}";'
     yield 'BA_DEF_DEF_ "ProtocolType" "J1939";'

@@ -95,8 +95,10 @@ def compared(plan: str, log: str, options: list[str]) -> tuple[list[Deviation], 
     """The deviations that `against` writes, and what it says beside them. It is a process of its own, so that tasks may be threads of one."""
     status, answer, said = answered([sys.executable, command("against"), *options, "--", plan, log])
     notes = [line.partition(": ")[2] for line in said.splitlines()]
-    if status not in (0, 1) or not answer.startswith((log, plan, "deviations ")):
+    if status not in (0, 1) or not answer:
         raise program.Refused(status or program.FAULT, notes[-1] if notes else f"against ended with {status}")
+    if not answer.startswith((log, plan, "deviations ")):
+        raise program.Refused(program.UNREADABLE, f"with {' '.join(options)} against writes no list of deviations")
     found = []
     for line in answer.splitlines()[:-1]:
         place = DEVIATION.fullmatch(line.removeprefix(log).removeprefix(plan))

@@ -49,3 +49,10 @@ class Notes:
             for note in self.said:
                 parts = {key: part for key, part in note._asdict().items() if part}
                 file.write(json.dumps(parts, ensure_ascii=False) + "\n")
+
+
+class Unsaid(Notes):
+    """Notes that nobody wants."""
+
+    def say(self, what: str, why: object) -> None:
+        """Says nothing."""

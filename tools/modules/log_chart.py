@@ -6,6 +6,7 @@ import statistics
 from collections.abc import Mapping, Sequence
 from dataclasses import dataclass, field
 from itertools import groupby, islice, pairwise
+from typing import Any
 
 import matplotlib
 from matplotlib.axes import Axes
@@ -31,6 +32,9 @@ WIDTH, HEIGHT, ROW = 10.0, 1.9, 0.28
 # What of the picture's width a letter of a holder takes.
 LETTER = 0.009
 
+# The most values whose names stand at an axis.
+NAMES = 12
+
 # How many columns are told apart from the first time to the last.
 COLUMNS = 2000
 
@@ -51,9 +55,22 @@ class Window:
         """How much time a column has."""
         return (self.end - self.begin) / COLUMNS or 1.0
 
+    def has(self, time: float) -> bool:
+        """Whether a time is in it."""
+        return self.begin <= time <= self.end
+
     def on_axis(self, time: float) -> float:
         """A time as the axis has it."""
         return time - self.zero
+
+
+@dataclass(frozen=True)
+class Drawn:
+    """What is drawn of a signal: its unit of measurement, its curves, and the names of its values."""
+
+    unit: str
+    curves: list[Curve]
+    names: dict[float, str] = field(default_factory=dict)
 
 
 @dataclass
@@ -66,6 +83,13 @@ class Colours:
         """The colour of a unit, and how its lines are drawn; one that isn't sure, as `ENGINE?`, has that of the unit."""
         number = self.given.setdefault(unit.rstrip("?"), len(self.given))
         return COLOURS[number % len(COLOURS)], LINES[number // len(COLOURS) % len(LINES)]
+
+
+def look_of(sender: str) -> dict[str, Any]:
+    """How the line of a sender looks: that of one who isn't sure, as `ENGINE?`, is thin and pale, with hollow points."""
+    if sender.endswith("?"):
+        return {"linewidth": 0.7, "marker": "o", "markersize": 4, "markerfacecolor": "white", "alpha": 0.6}
+    return {"linewidth": 1.2, "marker": ".", "markersize": 3}
 
 
 def thinned(times: Sequence[float], values: Sequence[float], width: float, points: Sequence[int] | None = None) -> list[int]:
@@ -87,10 +111,23 @@ def inside(times: Sequence[float], window: Window) -> range:
     return range(max(first - 1, 0), min(last + 1, len(times)))
 
 
+def longest_hold(times: Sequence[float]) -> float:
+    """How long a value goes on to the next one at most."""
+    usual = statistics.median(after - before for before, after in islice(pairwise(times), 10000)) if len(times) > 1 else 0.0
+    return max(SILENCE * usual, SECOND)
+
+
+def seen_points(times: Sequence[float], window: Window) -> list[int]:
+    """The points of a curve whose values are seen in a window: those in it, and the one before where its line goes on into it."""
+    points = [at for at in inside(times, window) if window.has(times[at])]
+    before = bisect.bisect_left(times, window.begin) - 1
+    goes_on = 0 <= before < len(times) - 1 and times[before + 1] - times[before] <= longest_hold(times)
+    return [before, *points] if goes_on else points
+
+
 def broken(points: list[int], times: Sequence[float], values: Sequence[float]) -> tuple[list[float], list[float]]:
     """A curve by these of its points. Where nothing came for very long its line ends."""
-    usual = statistics.median(after - before for before, after in islice(pairwise(times), 10000)) if len(times) > 1 else 0.0
-    most = max(SILENCE * usual, SECOND)
+    most = longest_hold(times)
     line: list[float] = []
     heights: list[float] = []
     for before, at in zip([None, *points], points):
@@ -111,24 +148,46 @@ def draw_states(axes: Axes, curve: Curve, colour: str, window: Window) -> None:
                   color=colour, markersize=6, label=f"{curve.sender}: {state}", transform=axes.get_xaxis_transform(), clip_on=False)
 
 
-def draw_signal(axes: Axes, column: Column, unit: str, curves: list[Curve], window: Window, colours: Colours) -> None:
-    """A signal as each of its senders sent it."""
-    axes.set_title(".".join(column), loc="left", fontsize=10)
-    axes.set_ylabel(unit, fontsize=9)
-    axes.grid(True, linewidth=0.4)
-    axes.margins(y=0.15)
-    axes.ticklabel_format(axis="y", useOffset=False, style="plain")
-    for curve in curves:
+def name_values(axes: Axes, seen: set[float], names: Mapping[float, str]) -> None:
+    """Names the values at the axis that are seen, where some have names and they are few."""
+    if len(seen) <= NAMES and any(value in names for value in seen):
+        values = sorted(seen)
+        axes.set_yticks(values, [f"{names[value]} {value:g}" if value in names else f"{value:g}" for value in values], fontsize=8)
+
+
+def limit_values(axes: Axes, seen: set[float]) -> None:
+    """Has an axis go from the least to the greatest value that is seen."""
+    if seen:
+        margin = 0.15 * (max(seen) - min(seen)) or 0.05 * abs(max(seen)) or 0.05
+        axes.set_ylim(min(seen) - margin, max(seen) + margin)
+
+
+def draw_curve(axes: Axes, curve: Curve, window: Window, colours: Colours) -> set[float]:
+    """A signal as one sender sent it; the values that are seen."""
+    seen = seen_points(curve.times, window)
+    if seen:
         colour, line = colours.of(curve.sender)
         points = thinned(curve.times, curve.values, window.column, inside(curve.times, window))
         times, values = broken(points, curve.times, curve.values)
-        axes.plot([window.on_axis(time) for time in times], values, line, color=colour, linewidth=1.2, marker=".", markersize=3,
-                  label=curve.sender, drawstyle="steps-post")
+        axes.plot([window.on_axis(time) for time in times], values, line, color=colour, label=curve.sender, drawstyle="steps-post",
+                  **look_of(curve.sender))
         draw_states(axes, curve, colour, window)
-    if curves:
+    return {curve.values[at] for at in seen if not math.isnan(curve.values[at])}
+
+
+def draw_signal(axes: Axes, column: Column, drawn: Drawn, window: Window, colours: Colours) -> None:
+    """A signal as each of its senders sent it."""
+    axes.set_title(".".join(column), loc="left", fontsize=10)
+    axes.set_ylabel(drawn.unit, fontsize=9)
+    axes.grid(True, linewidth=0.4)
+    axes.ticklabel_format(axis="y", useOffset=False, style="plain")
+    seen = set[float]().union(*(draw_curve(axes, curve, window, colours) for curve in drawn.curves))
+    limit_values(axes, seen)
+    name_values(axes, seen, drawn.names)
+    if axes.get_legend_handles_labels()[0]:
         axes.legend(fontsize=8, loc="upper left", bbox_to_anchor=(1.0, 1.0), frameon=False)
     else:
-        axes.text(0.5, 0.5, "not in the log", transform=axes.transAxes, ha="center", va="center")
+        axes.text(0.5, 0.5, "not in this part of the log" if drawn.curves else "not in the log", transform=axes.transAxes, ha="center", va="center")
 
 
 def merged(held: list[Held], width: float) -> list[tuple[Held, int]]:
@@ -174,19 +233,18 @@ def draw_addresses(axes: Axes, held: list[Held], window: Window, colours: Colour
     axes.set_ylim(max(len(rows), 1) - 0.5, -0.5)
 
 
-def figure_of(columns: Mapping[Column, str], curves: Mapping[Column, list[Curve]], held: list[Held] | None, title: str,
-              counted: str, window: Window) -> Figure:
+def figure_of(signals: Mapping[Column, Drawn], held: list[Held] | None, title: str, counted: str, window: Window) -> Figure:
     """The picture: a part for each signal, with its unit of measurement, and one for the addresses, if they are given. What is counted
     stands below it."""
-    heights = [HEIGHT] * len(columns)
+    heights = [HEIGHT] * len(signals)
     if held is not None:
         heights.append(1.0 + ROW * len({part.address for part in held}))
     figure = Figure(figsize=(WIDTH, sum(heights) + 0.8), layout="constrained")
     figure.suptitle(title, fontsize=11)
     parts = figure.subplots(len(heights), 1, sharex=True, squeeze=False, height_ratios=heights)[:, 0]
     colours = Colours()
-    for axes, (column, unit) in zip(parts, columns.items()):
-        draw_signal(axes, column, unit, curves.get(column, []), window, colours)
+    for axes, (column, drawn) in zip(parts, signals.items()):
+        draw_signal(axes, column, drawn, window, colours)
     if held is not None:
         draw_addresses(parts[-1], held, window, colours)
     parts[-1].set_xlim(window.on_axis(window.begin), window.on_axis(window.end))

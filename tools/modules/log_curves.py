@@ -20,9 +20,9 @@ class Curve:
     group: str
     signal: str
     sender: str
-    times: array = field(default_factory=lambda: array("d"))
-    values: array = field(default_factory=lambda: array("d"))
-    states: dict[str, array] = field(default_factory=dict)
+    times: "array[float]" = field(default_factory=lambda: array("d"))
+    values: "array[float]" = field(default_factory=lambda: array("d"))
+    states: "dict[str, array[float]]" = field(default_factory=dict)
 
     def add(self, time: float, state: str, value: str) -> None:
         """A point more."""

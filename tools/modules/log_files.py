@@ -5,6 +5,7 @@ import argparse
 import bisect
 import io
 import os
+import re
 import select
 import signal
 import stat
@@ -18,6 +19,12 @@ KEPT = 1 << 16
 
 # So long is waited, in seconds, for what is still on its way in a pipe when an interrupt has come.
 GRACE = 0.5
+
+# A frame in a line of a log, and how many bytes one has at most up to its data.
+FRAME, FRAME_MOST = re.compile(rb"(?:^|\s)[0-9A-Fa-f]{3,8}#", re.MULTILINE), 16
+
+# How a file begins that gzip has packed.
+PACKED = b"\x1f\x8b"
 
 # So many bytes of a line are looked at; `follow` reads lines of up to 8,192.
 LINE_MOST = 8000
@@ -42,6 +49,8 @@ class Log(io.RawIOBase):
         self.is_live = any(map(is_live, self.files))
         self._at, self._lines, self._starts, self._is_cut = 0, 0, [0], False
         self._head = self._tail = b""
+        self._unframed: dict[str, bytes] = {}  # the last bytes of each file that was read and had no frame so far
+        self._framed: set[str] = set()
         self._woken, self._wake = os.pipe()
         self._end: float | None = None
 
@@ -80,8 +89,26 @@ class Log(io.RawIOBase):
                     return 1
         return 0
 
+    def without_frames(self) -> list[str]:
+        """The files that were read and are no logs: they have lines, and none of them a frame. Of a single one the program tells that."""
+        return [*self._unframed]
+
+    def is_packed(self) -> bool:
+        """Whether the first file is packed by gzip."""
+        return self.ends()[0].startswith(PACKED)
+
+    def _look_for_frames(self, name: str, piece: bytes) -> None:
+        """Looks for a first frame in a file's next piece."""
+        if name not in self._framed:
+            part = self._unframed.pop(name, b"") + piece
+            if FRAME.search(part):
+                self._framed.add(name)
+            else:
+                self._unframed[name] = part[-FRAME_MOST:]
+
     def _keep(self, piece: bytes) -> None:
         """Counts the lines of a piece, and keeps what is the log's begin or end."""
+        self._look_for_frames(self.names[self._at], piece)
         self._lines += piece.count(b"\n")
         self._is_cut = not piece.endswith(b"\n")
         if len(self._head) < KEPT:

@@ -78,14 +78,16 @@ def names_of(tables: Tables) -> set[str]:
     """The names by which groups, signals and texts are chosen."""
     known = {group.label for group in tables.groups}
     for group in tables.groups:
-        for part in (*group.signals, *group.texts):
-            known.update((part.label, f"{group.label}.{part.label}"))
+        for label in (*(signal.label for signal in group.signals), *(text.label for text in group.texts)):
+            known.update((label, f"{group.label}.{label}"))
     return known
 
 
 def parted(tables: Tables, names: Iterable[str], log: str) -> tuple[list[str], list[str]]:
     """The names of groups and signals among some, and those of logs: the first one, and files of no such name."""
-    known, chosen, logs = names_of(tables), [], [log]
+    known = names_of(tables)
+    chosen: list[str] = []
+    logs = [log]
     for name in names:
         (logs if name not in known and os.path.exists(name) else chosen).append(name)
     return chosen, logs
@@ -95,11 +97,12 @@ class Choice:
     """The signals and texts that are wanted, each by its group and label, with the unit that is shown; where no name is given all, or nothing."""
 
     def __init__(self, tables: Tables, names: Iterable[str], nothing: bool = False) -> None:
-        self.scales = {}
+        self.scales: dict[Column, Scale] = {}
         for group in tables.groups:
             self.scales.update(((group.label, signal.label), scale_of(signal.unit)) for signal in group.signals)
             self.scales.update(((group.label, text.label), scale_of("")) for text in group.texts)
         self.texts = {(group.label, text.label) for group in tables.groups for text in group.texts}
+        self.named = {(group.label, signal.label) for group in tables.groups for signal in group.signals if signal.values}
         wanted = set(names)
         self.columns = {
             column: scale.unit for column, scale in self.scales.items()
@@ -109,7 +112,7 @@ class Choice:
         for name in sorted(wanted - known):
             close = difflib.get_close_matches(name, known, 1, 0.7)
             hint = f"; did you mean {close[0]}?" if close else ""
-            raise program.Refused(program.UNREADABLE, f"no group or signal is called {name}{hint}")
+            raise program.Refused(program.UNREADABLE, f"no group, signal or log is called {name}{hint}")
 
 
 class Readings(dict[str, Made]):

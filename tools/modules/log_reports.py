@@ -8,7 +8,7 @@ from collections.abc import Callable, Iterable, Iterator
 from functools import cache, lru_cache
 from itertools import islice, starmap
 from threading import Thread
-from typing import IO, Any, BinaryIO, NamedTuple
+from typing import IO, Any, NamedTuple
 
 from . import program
 from .log_files import Log, OneInterface
@@ -101,6 +101,7 @@ LINE, TIME, KIND, GROUP, FROM, TO = 0, 1, 2, 3, 5, 7
 
 # What makes a log of those of other programs.
 CONVERTER = "record it by candump -L, or make a log of ASC, BLF, TRC, MF4 or CSV by tolog.py (j39plan-tolog)"
+UNPACKED = "it is packed by gzip: read it as <(zcat FILE)"
 
 
 class Counts:
@@ -123,21 +124,29 @@ class Counts:
         self._others = [*part.others]
 
     def refuse_without_frames(self, log: Log) -> None:
-        """Refuses what is no log at all: it has lines, and none of them spells a frame. An empty log is said."""
+        """Refuses a file that is no log at all: it has lines, and none of them spells a frame. An empty log is said."""
         name = log.names[0] if len(log.names) == 1 else "the log"
+        if self.frames and (others := log.without_frames()):
+            raise program.Refused(program.UNREADABLE, f"{others[0]} has no frame: {CONVERTER}")
         if self.frames == 0 and self._others:
             raise program.Refused(program.UNREADABLE, f"{name} has no frame of {log.interface}; it has {', '.join(self._others)}")
         if self.frames == 0 and self.bad:
-            raise program.Refused(program.UNREADABLE, f"{name} has no frame, and {self.bad} lines that spell none: {CONVERTER}")
+            why = UNPACKED if log.is_packed() else CONVERTER
+            raise program.Refused(program.UNREADABLE, f"{name} has no frame, and {self.bad} lines that spell none: {why}")
         if self.frames == 0:
             program.say(f"{name} has no frame")
 
     def say(self, interface: str | None = None) -> None:
         """Says on standard error what wasn't read, where this interface was asked for or the first one is read."""
+        for text in self.told(interface):
+            program.say(text)
+
+    def told(self, interface: str | None = None) -> Iterator[str]:
+        """What wasn't read."""
         if self.bad:
-            program.say(f"{self.bad} lines spell no frame")
+            yield f"{self.bad} lines spell no frame"
         if self.elsewhere:
-            program.say(f"{interface or 'the first interface'} is read; {self.elsewhere} lines of others are passed over")
+            yield f"{interface or 'the first interface'} is read; {self.elsewhere} lines of others are passed over"
 
 
 @lru_cache(maxsize=1 << 12)
@@ -223,9 +232,9 @@ class Writer(Thread):
             raise self.fault
 
 
-def as_it_comes(log: BinaryIO | OneInterface) -> Iterator[bytes]:
+def as_it_comes(log: io.BufferedReader | OneInterface) -> Iterator[bytes]:
     """What comes of a log, as soon as it is there."""
-    while piece := log.read1(1 << 16):  # type: ignore[attr-defined]
+    while piece := log.read1(1 << 16):
         yield piece
 
 
@@ -239,7 +248,7 @@ def started(plan: str, log: IO[bytes] | int) -> subprocess.Popen[bytes]:
 
 def started_for(plan: str, log: Log, is_piped: bool) -> subprocess.Popen[bytes]:
     """The program that follows a log, which an interrupt doesn't end where it is to end the log alone."""
-    source = subprocess.PIPE if is_piped else log.files[0]
+    source: IO[bytes] | int = subprocess.PIPE if is_piped else log.files[0]
     if not log.is_live or signal.getsignal(signal.SIGINT) is signal.SIG_IGN:
         return started(plan, source)
     signal.signal(signal.SIGINT, signal.SIG_IGN)

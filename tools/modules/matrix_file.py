@@ -4,6 +4,7 @@ from __future__ import annotations
 
 import codecs
 import contextlib
+import importlib
 import io
 import logging
 from collections.abc import Iterator
@@ -97,7 +98,7 @@ def import_canmatrix() -> None:
     log.setLevel(logging.ERROR)
     log.propagate = False
     try:
-        import canmatrix.formats  # pylint: disable=unused-import
+        importlib.import_module("canmatrix.formats")
     except ImportError:
         why = "canmatrix isn't there: apt-get install python3-canmatrix python3-lxml"
         raise program.Refused(program.MISSING, why) from None

@@ -7,8 +7,11 @@ from dataclasses import dataclass, field
 from typing import TYPE_CHECKING, NamedTuple
 
 from . import matrix_file
-from .dbc_names import ADDRESS_ATTRIBUTE, ARBITRARY_ATTRIBUTE, BITRATE_ATTRIBUTE, IDENTITY_ATTRIBUTE, NAME_ATTRIBUTES, NOBODY, UNIT_ATTRIBUTE
+from .dbc_names import (
+    ADDRESS_ATTRIBUTE, ARBITRARY_ATTRIBUTE, BITRATE_ATTRIBUTE, FORMAT_ATTRIBUTE, IDENTITY_ATTRIBUTE, J1939_FORMAT, NAME_ATTRIBUTES, NOBODY, UNIT_ATTRIBUTE,
+)
 from .left_out import LeftOut, Notes, plain
+from .matrix_times import attribute_of
 from .plan_format import VERSIONS, bitrates_of
 
 if TYPE_CHECKING:
@@ -28,6 +31,7 @@ class Node:
     defaults: dict[str, object] = field(default_factory=dict)
     comment: str = ""
     files: dict[str, str] = field(default_factory=dict)  # which file has given an attribute
+    known_by: set[str] = field(default_factory=set)  # which files have it
 
 
 class Sent(NamedTuple):
@@ -46,12 +50,38 @@ class Sent(NamedTuple):
         return self.frame.arbitration_id.pgn, None if self.when is None else self.when["value"]
 
 
+class Known(NamedTuple):
+    """What is known of nodes beside the files: which names are others of a node, and at which addresses nodes are."""
+
+    same: dict[str, str] = {}
+    addresses: dict[str, int] = {}
+
+    def name_of(self, name: str) -> str:
+        """What a node of this name is called."""
+        return self.same.get(name, name)
+
+    def rename(self, matrix: canmatrix.CanMatrix) -> None:
+        """Calls senders and receivers as their nodes are called."""
+        for frame in matrix.frames:
+            frame.transmitters = list(dict.fromkeys(map(self.name_of, frame.transmitters)))
+            for signal in frame.signals:
+                signal.receivers = list(dict.fromkeys(map(self.name_of, signal.receivers)))
+
+
+def formats_of(matrix: canmatrix.CanMatrix) -> dict[int, str]:
+    """The formats of frames, by their identities, that a file calls otherwise than those of J1939, which it has too."""
+    formats = {id(frame): str(attribute_of(frame, FORMAT_ATTRIBUTE, matrix) or "") for frame in matrix.frames if frame.arbitration_id.extended}
+    has_j1939 = J1939_FORMAT in formats.values()
+    return {key: told for key, told in formats.items() if has_j1939 and told.startswith(("StandardCAN", "ExtendedCAN"))}
+
+
 class Network:
     """The nodes and frames of all files. A node is known by its name; each file may give what an earlier one doesn't."""
 
-    def __init__(self, notes: Notes, version: int = VERSIONS[-1]) -> None:
-        self.notes, self.bitrates = notes, bitrates_of(version)
+    def __init__(self, notes: Notes, version: int = VERSIONS[-1], known: Known = Known()) -> None:
+        self.notes, self.bitrates, self._known = notes, bitrates_of(version), known
         self.nodes: dict[str, Node] = {}
+        self.names: set[str] = set()  # of nodes, as the files have them
         self.sent: list[Sent] = []
         self.bitrate: int | None = None
         self._bitrate_file = ""
@@ -66,18 +96,50 @@ class Network:
             elif ecu.name != NOBODY:
                 self.add_node(ecu, matrix, file)
             here.add(ecu.name)
-        self.sent += [Sent(frame, matrix, file) for frame in matrix.frames]
+        self.names |= here
+        self._known.rename(matrix)
+        self.add_frames(matrix, file)
         self.add_bitrate(matrix, file)
         self.notes.file = ""
 
+    def add_frames(self, matrix: canmatrix.CanMatrix, file: str) -> None:
+        """Adds a file's frames but those that it says to be none of J1939."""
+        others = formats_of(matrix)
+        for frame in matrix.frames:
+            if id(frame) in others:
+                self.notes.say(f"group {frame.name}", f"its {FORMAT_ATTRIBUTE} is {others[id(frame)]}, so it is no group of J1939")
+            else:
+                self.sent.append(Sent(frame, matrix, file))
+
+    def add_addresses(self) -> None:
+        """Takes the addresses that are known beside the files."""
+        for name, address in self._known.addresses.items():
+            node = self.nodes[name]
+            given = node.given.get(ADDRESS_ATTRIBUTE)
+            if given is not None and str(given) != str(address):
+                self.notes.say(f"unit {name}, {ADDRESS_ATTRIBUTE}", f"{given} is ignored: --address has {address}")
+            node.given[ADDRESS_ATTRIBUTE] = address
+
+    def check_known(self) -> None:
+        """Refuses names of nodes that no file has."""
+        for kept, other in ((kept, other) for other, kept in self._known.same.items()):
+            if other not in self.names:
+                raise LeftOut(f"--same {plain(kept)}={plain(other)}: no node is called {plain(other)}")
+        for name in self._known.addresses:
+            if name not in self.nodes:
+                raise LeftOut(f"--address {plain(name)}: no node is called so")
+
     def add_node(self, ecu: canmatrix.Ecu, matrix: canmatrix.CanMatrix, file: str) -> None:
         """Adds what a file gives of a node."""
-        node = self.nodes.setdefault(ecu.name, Node(ecu.name))
+        name = self._known.name_of(ecu.name)
+        node = self.nodes.setdefault(name, Node(name))
+        node.known_by.add(file)
         for attribute in OWN:
             given = ecu.attributes.get(attribute)
             known = node.given.get(attribute)
             if given is not None and known is not None and str(given) != str(known):
-                self.notes.say(f"unit {ecu.name}, {attribute}", f"{given} is passed over: {node.files[attribute]} has {known}")
+                by = node.files[attribute] or f"another node called {name}"
+                self.notes.say(f"unit {name}, {attribute}", f"{given} is ignored: {by} has {known}")
             elif given is not None and known is None:
                 node.given[attribute], node.files[attribute] = given, file
         for attribute in SHARED:
@@ -95,7 +157,7 @@ class Network:
         if bitrate is None:
             self.notes.say(f"the bus, {BITRATE_ATTRIBUTE}", f"{told} is none of {' and '.join(map(str, self.bitrates))}")
         elif self.bitrate not in (None, bitrate):
-            self.notes.say(f"the bus, {BITRATE_ATTRIBUTE}", f"{told} is passed over: {self._bitrate_file} has {self.bitrate}")
+            self.notes.say(f"the bus, {BITRATE_ATTRIBUTE}", f"{told} is ignored: {self._bitrate_file} has {self.bitrate}")
         else:
             self.bitrate, self._bitrate_file = bitrate, self._bitrate_file or file
 
@@ -112,16 +174,16 @@ class Fault(LeftOut):
         super().__init__(f"{plain(file)}: {why}")
 
 
-def load(names: list[str], form: matrix_file.Form, notes: Notes, version: int = VERSIONS[-1]) -> Network:
-    """The network of several files, whose bus is one of a plan of this version. One that holds the same as an earlier one is passed over, and that is said."""
-    network, seen = Network(notes, version), dict[bytes, str]()
+def load(names: list[str], form: matrix_file.Form, notes: Notes, version: int = VERSIONS[-1], known: Known = Known()) -> Network:
+    """The network of several files, whose bus is one of a plan of this version. One that holds the same as an earlier one is ignored, and that is noted."""
+    network, seen = Network(notes, version, known), dict[bytes, str]()
     for name in names:
         with open(name, "rb") as file:
             data = file.read()
         several = name if len(names) > 1 else ""
         if data in seen:
             notes.file = several
-            notes.say("file", f"it holds the same as {seen[data]}, and is passed over")
+            notes.say("file", f"it holds the same as {seen[data]}, and is ignored")
             continue
         seen[data] = name
         notes.file = several
@@ -131,4 +193,6 @@ def load(names: list[str], form: matrix_file.Form, notes: Notes, version: int = 
             raise Fault(name, why) from why
         network.add(matrix, several)
     notes.file = ""
+    network.check_known()
+    network.add_addresses()
     return network

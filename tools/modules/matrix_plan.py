@@ -6,7 +6,7 @@ import os
 from collections import defaultdict
 from collections.abc import Iterable, Iterator
 from dataclasses import dataclass, field
-from itertools import count, takewhile
+from itertools import takewhile
 from typing import TYPE_CHECKING, Any
 
 from .dbc_names import (
@@ -16,12 +16,14 @@ from .dbc_names import (
 from .dbc_remarks import long, milliseconds, quoted, received_by, remark
 from .j1939 import GLOBAL_ADDRESS, NULL_ADDRESS, PROPRIETARY, SERVICES
 from .left_out import LeftOut, Notes, plain
+from .matrix_agreement import agree
 from .matrix_layouts import Layouts, are_apart
 from .matrix_merge import Network, Node, Sent
+from .matrix_numbers import Box, numbers_of
 from .matrix_signals import BYTES, Signals
 from .matrix_times import Times, number_of, times_of
 from .plan_format import knows, most_of
-from .plan_text import WRITTEN, Labels, Table
+from .plan_text import WRITTEN, Labels, Table, as_label
 
 if TYPE_CHECKING:
     import canmatrix
@@ -56,14 +58,10 @@ def shared(node: Node, attribute: str, most: int, notes: Notes) -> int | None:
     return number
 
 
-def name_of(node: Node, free_identities: Iterator[int], notes: Notes) -> dict[str, Any]:
-    """The NAME of a unit, as the keys of a plan."""
-    identity = own(node, *IDENTITY_ATTRIBUTE, notes)
-    if identity is None:
-        identity = next(free_identities)
-        notes.say(f"unit {node.name}", f"no identity number is given: {identity} stands in its place")
+def name_of(node: Node, notes: Notes) -> dict[str, Any]:
+    """The NAME of a unit without its identity number, as the keys of a plan."""
     fields = {key: shared(node, attribute, most, notes) for key, (attribute, most) in NAME_ATTRIBUTES.items()}
-    name: dict[str, Any] = {"identity": identity, **{key: number for key, number in fields.items() if number}}
+    name: dict[str, Any] = {key: number for key, number in fields.items() if number}
     if shared(node, ARBITRARY_ATTRIBUTE, 1, notes):
         name["arbitrary"] = True
     return name
@@ -87,6 +85,17 @@ def address_of(node: Node, sources: set[int], notes: Notes) -> int:
     if len(sources) == 1:
         return next(iter(sources))
     raise LeftOut("its frames come from several addresses" if sources else "no address is given")
+
+
+def addresses_of(network: Network, notes: Notes) -> dict[str, int]:
+    """The addresses of the nodes that have one."""
+    sources, found = sources_of(network.frames), dict[str, int]()
+    for name, node in network.nodes.items():
+        try:
+            found[name] = address_of(node, sources[name], notes)
+        except LeftOut as why:
+            notes.say(f"unit {name}", why)
+    return found
 
 
 def check_frame(frame: canmatrix.Frame, version: int) -> None:
@@ -182,8 +191,9 @@ class Flow:
 class Plan:
     """A plan in the making."""
 
-    def __init__(self, network: Network, notes: Notes, strict: bool = False, version: int = WRITTEN[-1], with_needs: bool = True) -> None:
-        self.network, self.notes, self.strict, self.version = network, notes, strict, version
+    def __init__(self, network: Network, notes: Notes, strict: bool = False, version: int = WRITTEN[-1], with_needs: bool = True,
+                 keeps_numbers: bool = False) -> None:
+        self.network, self.notes, self.strict, self.version, self.keeps_numbers = network, notes, strict, version, keeps_numbers
         self.has_needs = with_needs and knows(version, (None, "need"))
         self.needs: dict[tuple[str, str], Table] = {}
         self.units: dict[str, Table] = {}
@@ -205,22 +215,25 @@ class Plan:
 
     def add_units(self) -> None:
         """The units of the network that have an address."""
-        given = {number_of(node.given.get(IDENTITY_ATTRIBUTE[0])) for node in self.network.nodes.values()}
-        free_identities, sources = (number for number in count(1) if number not in given), sources_of(self.network.frames)
-        for node in self.network.nodes.values():
-            try:
-                self.add_unit(node, sources[node.name], free_identities)
-            except LeftOut as why:
-                self.notes.say(f"unit {node.name}", why)
+        addresses = addresses_of(self.network, self.notes)
+        for name in list(addresses)[UNITS:]:
+            self.notes.say(f"unit {name}", f"a plan has at most {UNITS} units")
+        nodes = [(self.network.nodes[name], address) for name, address in list(addresses.items())[:UNITS]]
+        boxes = [Box(node.name, address, name_of(node, self.notes), own(node, *IDENTITY_ATTRIBUTE, self.notes)) for node, address in nodes]
+        numbers = numbers_of(boxes, self.keeps_numbers, self.version, self.notes)
+        for (node, address), box in zip(nodes, boxes, strict=True):
+            number = numbers.get(node.name)
+            self.add_unit(node, address, box.name if number is None else {"identity": number, **box.name})
 
-    def add_unit(self, node: Node, sources: set[int], free_identities: Iterator[int]) -> None:
-        """A unit, if it has an address."""
-        address = address_of(node, sources, self.notes)
-        if len(self.units) == UNITS:
-            raise LeftOut(f"a plan has at most {UNITS} units")
-        name, label = name_of(node, free_identities, self.notes), self.unit_labels.label(
-            plain(node.given.get(UNIT_ATTRIBUTE) or node.name or ""))
-        long = plain(node.given.get("LongName") or node.name)
+    def add_unit(self, node: Node, address: int, name: dict[str, Any]) -> None:
+        """A unit of this NAME."""
+        wanted = plain(node.given.get(UNIT_ATTRIBUTE) or node.name or "")
+        label, long = self.unit_labels.label(wanted), plain(node.given.get("LongName") or node.name)
+        if label != as_label(wanted):
+            self.notes.say(f"unit {node.name}", f"it is called {label}: {as_label(wanted)} is {'a word of plans' if wanted == 'all' else 'another unit'}")
+        there = next((other for other, unit in self.units.items() if unit.keys["address"] == address), None)
+        if there is not None and not node.known_by & self.network.nodes[there].known_by:
+            self.notes.say(f"unit {node.name}", f"{there} is at address {address} too: --same {there}={node.name}, if they are one")
         self.units[node.name] = Table("unit", {"label": label, "address": address, "name": name}, remark(long, label, quoted(node.comment)))
 
     def labels_of(self, names: Iterable[str]) -> list[str]:
@@ -252,6 +265,7 @@ class Plan:
         pgn = frame.arbitration_id.pgn
         name, is_private = self.names.get(sent.told_by) or called(sent), pgn in PROPRIETARY
         label = self.group_labels.label(name)
+        self.say_other_name(sent, name, label)
         lengths = self.lengths_of(sent)
         most = max(attribute_in(frame, MOST_ATTRIBUTE, range(frame.size, BYTES + 1)) or 0, lengths[-1])
         keys = {"most": most if most > lengths[0] else None, "every": attribute_in(frame, EVERY_ATTRIBUTE, DISTANCES)}
@@ -265,6 +279,16 @@ class Plan:
         group = Group(called(sent), table, signals, sent, comment)
         self.groups.append(group)
         return group
+
+    def say_other_name(self, sent: Sent, name: str, label: str) -> None:
+        """Says where a group isn't called as its message, since another group is; and where that one's is a message of the same name and sender."""
+        other = next((group for group in self.groups if group.label == as_label(name)), None)
+        if label == as_label(name) or other is None:
+            return
+        pgn, made = sent.frame.arbitration_id.pgn, other.made_by
+        number, alike = other.table.keys["pgn"], set(sent.frame.transmitters) & set(made.frame.transmitters)
+        same_sender = f" of {', '.join(sorted(alike))}" if alike else ""
+        self.notes.say(f"group {sent.frame.name}", f"its PGN is {pgn}, that of {self.message_of(made)}{same_sender} is {number}: it is called {label}")
 
     def lengths_of(self, sent: Sent) -> range:
         """The lengths of the messages that a frame's group has: its own alone, unless the plan can say which signals only longer ones have."""
@@ -438,6 +462,7 @@ class Plan:
         """The groups of the frames, their flows, and who needs them. What is to be noted of a multiplexed message is noted once."""
         layouts = Layouts(frames, self.version, self.notes)
         sent = [part for one in frames for part in layouts.of(one)]
+        agree(sent, self.version, self.message_of, self.notes)
         self.names, self.lengths = names_of_groups(sent), lengths_of_groups(sent)
         for one in sent:
             self.notes.file, self.notes.are_new = one.file, one.when is not None

@@ -212,7 +212,7 @@ def long_name(part: canmatrix.Ecu | canmatrix.Signal) -> str:
 def range_of(signal: canmatrix.Signal, kind: str) -> str:
     """The range of a signal as a remark, unless the file says none, as by `[0|0]`, or it is that of the signal's values anyway."""
     least, greatest, factor, offset = (exactly(number) for number in (signal.min, signal.max, signal.factor, signal.offset))
-    if None in (least, greatest, factor, offset) or least == greatest:
+    if least is None or greatest is None or factor is None or offset is None or least == greatest:
         return ""
     values = values_of(kind, signal.size)
     if (least, greatest) == tuple(offset + factor * raw for raw in values):
@@ -220,12 +220,12 @@ def range_of(signal: canmatrix.Signal, kind: str) -> str:
     return f"range {signal.min}..{signal.max}"
 
 
-def remarks_of(signal: canmatrix.Signal, keys: dict[str, Any], receivers: str) -> list[str]:
-    """What a file says of a signal for which a plan has no key, or which isn't as it stands there."""
+def remarks_of(signal: canmatrix.Signal, keys: dict[str, Any], receivers: str, names: Iterable[str]) -> list[str]:
+    """What a file says of a signal for which a plan has no key, or which isn't as it stands there, and what other messages call it."""
     number, label, kind = signal.attributes.get(SPN_ATTRIBUTE), keys["label"], keys.get("kind", "")
     named = [(raw, name) for raw, name in (signal.values or {}).items() if keys.get("values", {}).get(raw) != str(name)]
     return remark(long_name(signal), label, "" if number is None or "spn" in keys else f"SPN {plain(number)}",
-                  milliseconds(signal.cycle_time), range_of(signal, kind), receivers, quoted(signal.comment), *named_values(named))
+                  milliseconds(signal.cycle_time), range_of(signal, kind), receivers, quoted(signal.comment), *map(quoted, names), *named_values(named))
 
 
 def number_of_signal(signal: canmatrix.Signal) -> dict[str, int]:
@@ -263,12 +263,14 @@ class Said(NamedTuple):
     def of(cls, signal: canmatrix.Signal, kind: str) -> Said:
         """What is said of a signal of this kind. Units of measurement are compared without case and blanks."""
         unit = re.sub(r"\s", "", plain(signal.unit or "").translate(SPELLED)).casefold()
-        return cls((signal.start_bit, signal.size, signal.is_little_endian), (signal.factor, signal.offset), signal.is_signed,
+        start = signal.get_startbit(bit_numbering=1, start_little=True)
+        is_in_one_byte = start % 8 + signal.size <= 8
+        return cls((start, signal.size, signal.is_little_endian or is_in_one_byte), (signal.factor, signal.offset), signal.is_signed,
                    (signal.is_float, is_text(signal), f"{signal.multiplex} {signal.mux_val_grp}"), unit, kind)
 
     def other(self, another: Said) -> str:
         """What isn't the same of two."""
-        names = ("place", "factor or offset", "sign", "way of coding", "unit of measurement", "kind of numbers that are values")
+        names = ("place", "factor or offset", "sign", "way of coding", "unit of measurement", "kind")
         return " and another ".join(name for name, one, two in zip(names, self, another, strict=True) if one != two)
 
 
@@ -291,13 +293,50 @@ class Known(NamedTuple):
     message: str
 
 
+def number_in(signal: canmatrix.Signal) -> str:
+    """The number of SAE J1939 that a file gives a signal, empty where it gives none."""
+    number = str(signal.attributes.get(SPN_ATTRIBUTE, ""))
+    return "" if number == "0" else number
+
+
+def same_signal(signal: canmatrix.Signal, said: Said, bits: int, earlier: Iterable[Known]) -> Known | None:
+    """The signal of an earlier message that a signal is, or that it contradicts: that of its name, else of its number, else the one that lies
+    and means the same, else one that shares a bit with it."""
+    ways: tuple[Callable[[Known], object], ...] = (
+        lambda known: known.signal.name == signal.name,
+        lambda known: number_in(known.signal) == number_in(signal) != "",
+        lambda known: known.said == said,
+        lambda known: known.bits & bits,
+    )
+    return next((known for is_same in ways for known in earlier if is_same(known)), None)
+
+
+def shown_place(signal: canmatrix.Signal) -> str:
+    """Where a signal begins, byte and bit counted from 1, and how many bits it has."""
+    start = signal.get_startbit(bit_numbering=1, start_little=True)
+    return f"{start // 8 + 1}.{start % 8 + 1}, {signal.size} bits"
+
+
+def difference(signal: canmatrix.Signal, said: Said, other: Known) -> str:
+    """How a signal contradicts that of an earlier message, which is in the plan."""
+    name = f"{plain(other.signal.name)} of {other.message}"
+    if other.said.place[:2] == said.place[:2] and other.said.place != said.place:
+        return f"{name} has another byte order; only that one is in the plan"
+    if other.said.place == said.place:
+        return f"{name} has another {said.other(other.said)}; only that one is in the plan"
+    if signal.name != other.signal.name and number_in(signal) != number_in(other.signal):
+        return f"{name} lies over it; only that one is in the plan"
+    return f"it is at {shown_place(signal)}, and {name} at {shown_place(other.signal)}; only that one is in the plan"
+
+
 class Kept(NamedTuple):
-    """A signal or text that is in the plan: its table, and who receives it by the names of nodes."""
+    """A signal or text that is in the plan: its table, who receives it by the names of nodes, and other names that it has in messages."""
 
     signal: canmatrix.Signal
     said: Said
     table: Table
     receivers: dict[str, None]
+    names: dict[str, None]
 
 
 class Signals:
@@ -322,7 +361,7 @@ class Signals:
         told = {tuple(kept.receivers) for kept in self.kept}
         for kept in self.kept:
             receivers = received_by(received(kept.receivers)) if len(told) > 1 else ""
-            kept.table.remarks[:] = remarks_of(kept.signal, kept.table.keys, receivers)
+            kept.table.remarks[:] = remarks_of(kept.signal, kept.table.keys, receivers, kept.names)
         return [kept.table for kept in self.kept]
 
     def said_of(self, signal: canmatrix.Signal) -> Said:
@@ -348,15 +387,13 @@ class Signals:
     def contradicts(self, signal: canmatrix.Signal, frame: canmatrix.Frame, earlier: list[Known], message: str) -> bool:
         """Takes a signal, unless one of an earlier message contradicts it, and says whether one does."""
         said, bits = self.said_of(signal), bits_of(signal)
-        others = [known for known in earlier if known.said == said] or [known for known in earlier if known.bits & bits]
-        if not others:
+        other = same_signal(signal, said, bits, earlier)
+        if other is None:
             self.known.append(Known(signal, said, bits, message))
             self.add(signal, frame, said)
             return False
-        other = others[0]
         if other.said != said:
-            what = "lies over it" if other.said.place != said.place else f"has another {said.other(other.said)}"
-            self.say(signal, frame, f"{other.signal.name} of {other.message} {what}, and is in the plan alone")
+            self.say(signal, frame, difference(signal, said, other))
             return True
         self.agree(signal, frame, other)
         return False
@@ -366,11 +403,13 @@ class Signals:
         for kept in self.kept:
             if kept.said == other.said:
                 kept.receivers.update(dict.fromkeys(signal.receivers))
+                if signal.name != other.signal.name:
+                    kept.names[f"{plain(signal.name)} in {self.notes.file or frame.name}"] = None
+        if signal.name != other.signal.name:
+            self.say(signal, frame, f"it is called {plain(other.signal.name)}, as in {other.message}")
         units = [plain(one.unit or "").translate(SPELLED) for one in (signal, other.signal)]
         if units[0] != units[1]:
             self.say(signal, frame, f"its unit {units[0]!r} is {units[1]!r} in {other.message}, as in the plan")
-        if signal.values and other.signal.values and signal.values != other.signal.values:
-            self.say(signal, frame, f"its table of values isn't that of {other.signal.name} of {other.message}, which is kept")
 
     def say(self, signal: canmatrix.Signal, frame: canmatrix.Frame, why: object) -> None:
         """Notes what isn't in the plan of a signal."""
@@ -388,17 +427,21 @@ class Signals:
         if fault:
             self.say(signal, frame, f"{fault}, and is kept")
 
-    def label(self, signal: canmatrix.Signal) -> str:
-        """The label of a signal or a text."""
-        return self.labels.label(plain(signal.attributes.get(SIGNAL_ATTRIBUTE) or signal.name or ""))
+    def label(self, signal: canmatrix.Signal, frame: canmatrix.Frame) -> str:
+        """The label of a signal or a text, which is said where another one has that of its name."""
+        wanted = plain(signal.attributes.get(SIGNAL_ATTRIBUTE) or signal.name or "")
+        label = self.labels.label(wanted)
+        if label != as_label(wanted):
+            self.say(signal, frame, f"it is called {label}: {as_label(wanted)} is another signal of the group")
+        return label
 
     def add(self, signal: canmatrix.Signal, frame: canmatrix.Frame, said: Said) -> None:
         """Adds a signal or a text, as far as a plan has it."""
         receivers = dict.fromkeys(signal.receivers)
         if is_text(signal) and knows(self.version, ("group", "text")):
-            self.texts.append(Kept(signal, said, self.text(signal, frame), receivers))
+            self.texts.append(Kept(signal, said, self.text(signal, frame), receivers, {}))
         else:
-            self.signals.append(Kept(signal, said, self.number(signal, frame), receivers))
+            self.signals.append(Kept(signal, said, self.number(signal, frame), receivers, {}))
 
     def text(self, signal: canmatrix.Signal, frame: canmatrix.Frame) -> Table:
         """The table of a text. It may lie over signals."""
@@ -411,7 +454,7 @@ class Signals:
             raise LeftOut(f"it is text that begins behind the {self.lengths[0]} bytes of the shortest message")
         told = signal.attributes.get(BYTES_ATTRIBUTE)
         count = int(told) if told is not None and str(told).isdecimal() and int(told) <= BYTES else count
-        return Table("group.text", {"label": self.label(signal), "byte": byte, **({"bytes": count} if count else {})})
+        return Table("group.text", {"label": self.label(signal, frame), "byte": byte, **({"bytes": count} if count else {})})
 
     def number(self, signal: canmatrix.Signal, frame: canmatrix.Frame) -> Table:
         """The table of a signal."""
@@ -423,7 +466,7 @@ class Signals:
         self.check_place(signal, frame, start)
         if in_ascii(unit) != unit:
             self.say(signal, frame, f"its unit {unit!r} is written {in_ascii(unit)!r}")
-        label = self.label(signal)
+        label = self.label(signal, frame)
         self.layout.take(start, signal.size, label)
         kind = kind_of(signal, self.version, self.is_private)
         return Table("group.signal", {

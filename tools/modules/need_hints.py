@@ -11,8 +11,8 @@ from .toml_places import Place, Places
 def meets(places: Places, flow: Place, need: Place) -> bool:
     """Whether a flow brings a need's unit what it needs."""
     unit, group, sender = (places.texts.get(need + (key,), "") for key in ("unit", "group", "from"))
-    ends = (places.texts[flow + (key,)] for key in request_hints.ENDS)
-    return Need(unit, group, "", sender).is_met_by(Flow(*ends, None)) and request_hints.is_asked_for(places, flow)
+    sent, source, to = (places.texts[flow + (key,)] for key in request_hints.ENDS)
+    return Need(unit, group, "", sender).is_met_by(Flow(sent, source, to, None)) and request_hints.is_asked_for(places, flow)
 
 
 def named(places: Places, need: Place) -> str:

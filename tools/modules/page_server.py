@@ -6,6 +6,7 @@ A browser that shows the page is told of each new one, and loads it. The page ma
 from __future__ import annotations
 
 import base64
+import contextlib
 import hashlib
 import os
 import socket
@@ -71,18 +72,18 @@ class Drawn:
 
     def __init__(self, file: str, draw: Draw) -> None:
         self._file, self._draw = file, draw
-        self._last, self._state = EMPTY, None
+        self._last = EMPTY
+        self._state: tuple[int, int, int] | None = None
         self._changed = threading.Condition()
         self.page, self.number = b"", ""
         self.waiting = 0  # how many browsers wait for the next page
 
     def look(self) -> None:
         """Draws the page anew, if the file is another one than before."""
-        try:
+        state: tuple[int, int, int] | None = None
+        with contextlib.suppress(OSError):
             known = os.stat(self._file)
             state = known.st_mtime_ns, known.st_size, known.st_ino
-        except OSError:
-            state = None
         if self.page and state == self._state:
             return
         self._state = state

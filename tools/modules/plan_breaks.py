@@ -10,8 +10,8 @@ from collections.abc import Iterator
 from typing import NamedTuple
 
 from . import plan_scales
-from .plan_differences import Matched, inside_pairs
-from .plan_parts import Part
+from .plan_differences import Answers, Matched, inside_pairs, is_too_old, shown_age
+from .plan_parts import Part, spelled
 
 # The fields of a NAME by which one unit isn't told from another of its kind.
 OWN_FIELDS = frozenset(("identity",))
@@ -22,7 +22,8 @@ WITH_ABSENT = frozenset(("measured", "discrete", "states", "dtc"))
 
 class Break(NamedTuple):
     """What a receiver that keeps the old plan gets wrong: of which unit's messages, which group and which signal, empty where all of
-    them are meant; whether it is `wrong`, `lost` or a `sender` that isn't found; why; and the lines, None where one has none."""
+    them are meant; whether it is `wrong`, `lost`, too `old` or a `sender` that isn't found; why; the lines, None where one has none; and which of
+    the receivers need it by the old plan."""
 
     kind: str
     receivers: tuple[str, ...]
@@ -32,6 +33,7 @@ class Break(NamedTuple):
     why: str
     old_line: int | None
     new_line: int | None
+    needed_by: tuple[str, ...] = ()
 
 
 def lengths(group: Part) -> range:
@@ -74,6 +76,13 @@ def who_has(group: Part, signal: Part) -> str:
     return " and ".join(label for label, taken in occupied(group) if bits & taken)
 
 
+def renamed_values(old: Part, new: Part) -> list[str]:
+    """The raw numbers whose name is another one. One that has a name in one plan alone is none."""
+    before, now = old["values"] or {}, new["values"] or {}
+    assert isinstance(before, dict) and isinstance(now, dict)
+    return [f"{raw} is {spelled(now[raw])}, and not {spelled(name)}" for raw, name in before.items() if raw in now and now[raw] != name]
+
+
 def of_signal(old: Part, new: Part | None, group: Part) -> tuple[str, str] | None:
     """What a receiver gets wrong of a signal that it knows by an old plan, and why; None where it reads it rightly."""
     if new is None:
@@ -93,6 +102,7 @@ def of_signal(old: Part, new: Part | None, group: Part) -> tuple[str, str] | Non
         reasons.append("it is repeated" if new["repeated"] else "it isn't repeated")
     if new["optional"] and not old["optional"]:
         reasons.append("only longer messages have it")
+    reasons += renamed_values(old, new)
     return ("wrong", "; ".join(reasons)) if reasons else None
 
 
@@ -144,8 +154,8 @@ class Layouts:
 class Breaks:
     """What breaks, flow by flow of the old plan."""
 
-    def __init__(self, matched: Matched) -> None:
-        self._matched, self._layouts = matched, Layouts()
+    def __init__(self, matched: Matched, old: Answers, new: Answers) -> None:
+        self._matched, self._layouts, self._answers = matched, Layouts(), (old, new)
         self._units = {old.label: new for old, new in matched.units if old is not None}
         self._groups = {old.label: new for old, new in matched.groups if old is not None}
         self._old_groups = {group.label: group for group in reversed(matched.old["group"])}
@@ -160,11 +170,37 @@ class Breaks:
 
     def found(self) -> list[Break]:
         """All that breaks; what is the same of several receivers once."""
-        together: dict[tuple, list[str]] = {}
-        for one in [*self._of_flows(), *self._of_units()]:
-            receivers = together.setdefault((one.kind, *one[2:]), [])
+        together: dict[Break, list[str]] = {}
+        for one in [*self._of_flows(), *self._of_units(), *self._of_needs()]:
+            receivers = together.setdefault(one._replace(receivers=()), [])
             receivers.extend(label for label in one.receivers if label not in receivers)
-        return [Break(key[0], tuple(receivers), *key[1:]) for key, receivers in together.items()]
+        return [self._with_needs(one._replace(receivers=tuple(receivers))) for one, receivers in together.items()]
+
+    def _with_needs(self, found: Break) -> Break:
+        """What breaks, with those first who need it by the old plan."""
+        needed = tuple(label for label in found.receivers if self._is_needed(label, found))
+        others = tuple(label for label in found.receivers if label not in needed)
+        return found._replace(receivers=needed + others, needed_by=needed)
+
+    def _is_needed(self, unit: str, found: Break) -> bool:
+        """Whether a unit needs by the old plan what breaks; of one that isn't found, anything that it sends."""
+        sent = {group for group, sender in self._planned if sender == found.sender}
+        return any(need.text("unit") == unit and need.text("group") in ([found.group] if found.group else sent)
+                   and need.text("from") in ("", found.sender) and (not found.signal or need.text("signal") in ("", found.signal))
+                   for need in self._matched.old["need"])
+
+    def _of_needs(self) -> Iterator[Break]:
+        """Units whose needs become too old."""
+        old, new = self._answers
+        for before, now in self._matched.others.get("need", []):
+            if before is None or now is None or not (old.load and new.load):
+                continue
+            was, age = old.delays.get(before.line()), new.delays.get(now.line())
+            most = 1000 * before.number("within")
+            if was and age and most and not is_too_old(was, most) and is_too_old(age, most):
+                why = f"its age is {shown_age(age.said)}, it was {shown_age(was.said)}"
+                yield Break("old", (before.text("unit"),), before.text("from"), before.text("group"), before.text("signal"), why,
+                            before.line(), now.line())
 
     def _receivers(self, flow: Part) -> list[str]:
         """The units of the old plan that a flow is for, and that are in the new one too."""

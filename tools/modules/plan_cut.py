@@ -58,11 +58,11 @@ class Scissors:
             return True
         if inner == "signal":
             self._signals += is_element
-            part = self._group.signals[self._signals - 1]
+            label = self._group.signals[self._signals - 1].label
         else:
             self._texts += is_element
-            part = self._group.texts[self._texts - 1]
-        return any(signal.repeated for signal in self._group.signals) or (self._group.label, part.label) in self._choice.columns
+            label = self._group.texts[self._texts - 1].label
+        return any(signal.repeated for signal in self._group.signals) or (self._group.label, label) in self._choice.columns
 
 
 def shorter(text: str, tables: Tables, choice: Choice) -> str | None:

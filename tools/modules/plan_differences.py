@@ -6,8 +6,9 @@ from collections.abc import Callable, Hashable, Iterable, Iterator
 from typing import NamedTuple
 
 from . import plan_scales, program
-from .plan_joining import TOLD_BY, name_of, parts_of
+from .answer_grammar import Line, lines_of
 from .plan_format import arrays, keys_of
+from .plan_joining import TOLD_BY, name_of, parts_of
 from .plan_parts import Part, Source, spelled
 
 # What tells a table from others, where its label doesn't.
@@ -57,9 +58,16 @@ def name_key(unit: Part) -> str:
     return spelled(unit["name"])
 
 
+def kind_key(unit: Part) -> str:
+    """The NAME of a unit without its serial number."""
+    name = unit["name"]
+    assert isinstance(name, dict)
+    return spelled({key: value for key, value in name.items() if key != "identity"})
+
+
 def text_place(text: Part) -> Hashable:
     """Where a text lies."""
-    return text["byte"], text["bytes"]
+    return text.number("byte"), text.number("bytes")
 
 
 INSIDE_KEYS: dict[str, tuple[Key, ...]] = {"signal": (label_of, plan_scales.meaning), "text": (label_of, text_place)}
@@ -71,16 +79,20 @@ def inside_pairs(old: Part, new: Part, table: str) -> Pairs:
 
 
 class Matched:
-    """Two plans, and which of their tables are the same ones: units by label, else by NAME; groups by label, else by their number;
+    """Two plans, and which of their tables are the same ones: units by label, else by NAME, else by all of it but the number; groups by label, else by their number;
     flows and others by what they name."""
 
     def __init__(self, old: Source, new: Source) -> None:
         self.old, self.new = old, new
-        self.units = pairs_of(old["unit"], new["unit"], label_of, name_key)
-        self.groups = pairs_of(old["group"], new["group"], label_of, lambda group: (group["pgn"], spelled(group["when"])), lambda group: group["pgn"])
+        self.units = pairs_of(old["unit"], new["unit"], label_of, name_key, kind_key)
+        self.groups = pairs_of(old["group"], new["group"], label_of, lambda group: (group.number("pgn"), spelled(group["when"])), lambda group: group.number("pgn"))
         self._renamed = {
             (table, old.label): new.label for table, pairs in (("unit", self.units), ("group", self.groups))
             for old, new in pairs if old is not None and new is not None
+        }
+        self._signals = {
+            (old.label, before.label): now.label for old, new in self.groups if old is not None and new is not None
+            for before, now in inside_pairs(old, new, "signal") if before is not None and now is not None
         }
         self.others = {array: pairs_of(old[array], new[array], self._names) for array in arrays_behind()}
 
@@ -91,7 +103,10 @@ class Matched:
     def _names(self, part: Part) -> Hashable:
         """What a flow names, as the new plan calls it."""
         names = ((key, part.text(key)) for key in TOLD_BY if key in part.said)
-        return tuple((key, self.named(TOLD_BY[key], name) if part.source is self.old else name) for key, name in names)
+        if part.source is not self.old:
+            return tuple(names)
+        return tuple((key, self._signals.get((part.text("group"), name), name) if key == "signal" else self.named(TOLD_BY[key], name))
+                     for key, name in names)
 
 
 def arrays_behind() -> list[str]:
@@ -114,7 +129,7 @@ def of_keys(what: str, old: Part, new: Part, skipped: Iterable[str] = ()) -> Ite
     for key in dict.fromkeys([*keys_of(new.table), *old.said, *new.said]):
         if key in ("label", *TOLD_BY, *skipped, *old.inside, *new.inside) or old[key] == new[key]:
             continue
-        if key == "keep_free" and set(old[key] or []) == set(new[key] or []):
+        if key == "keep_free" and set(old.values(key)) == set(new.values(key)):
             continue
         for inner, before, now in parts_of(key, old[key], new[key]):
             yield Change(what, inner, spelled(before), spelled(now), old.line(key), new.line(key))
@@ -154,45 +169,47 @@ def of_tables(matched: Matched) -> Iterator[Change]:
                 yield from of_keys(name_of(new), old, new)
 
 
-def said_of(source: Source, lines: list[str]) -> dict[int, str]:
-    """What lines of `load` say, by the line of the file where the flow or other table stands that they are about."""
-    found = {}
-    for line in lines:
-        array, number, *words = line.split()
-        if array in arrays_behind() and number.isdigit():
-            part = source[array][int(number) - 1]
-            names = list(part.said.values())
-            while words and words[0] in names:
-                words.pop(0)
-            found[part.line()] = " ".join(words)
-    return found
+def told_of(source: Source, lines: list[Line]) -> dict[int, Line]:
+    """The lines of `load`, by the line of the file where the flow or other table stands that they are about."""
+    return {source[line.kind][line.number(line.kind) - 1].line(): line for line in lines if line.kind in arrays_behind()}
+
+
+def is_too_old(told: Line, most: int) -> bool:
+    """Whether a need of at most so many us isn't met by what `load` says of it: an age, or that none is shown."""
+    age = told.number_if_any("age")
+    return age is None or age > most
+
+
+def shown_age(said: str) -> str:
+    """What `load` says of a need, in words."""
+    return said.removeprefix("age ") if said.startswith("age ") else f"not shown young enough, {said.removeprefix('old ')}"
 
 
 class Answers:
     """What the program answers about the plan in a file: where units stand, and the load."""
 
     def __init__(self, source: Source, plan: str) -> None:
-        told = (line.split() for line in program.call(["addresses", "--", plan])[1].splitlines())
-        self.stands = {words[1]: " ".join(words[2:]) for words in told if words[0] == "unit"}
-        *lines, last = program.call(["load", "--", plan])[1].splitlines() or [""]
-        self.load = last.removeprefix("load ") if last.startswith("load ") else None
-        self.delays = said_of(source, lines) if self.load else {}
+        addresses, load = (lines_of(program.call([command, "--", plan])[1]) for command in ("addresses", "load"))
+        self.stands = {line.word("unit"): line for line in addresses if line.kind == "unit"}
+        self.load = next((line.text.removeprefix("load ") for line in load if line.kind == "load"), None)
+        self.delays = told_of(source, load) if self.load else {}
 
 
 def of_answers(matched: Matched, old: Answers, new: Answers) -> Iterator[Change]:
     """How what the program says of two plans differs: who stays at its address, the delays of flows, the load."""
     for before, now in matched.units:
         if before is not None and now is not None:
-            words = [stands.get(part.label) for stands, part in ((old.stands, before), (new.stands, now))]
-            if None not in words and str(words[0]).split()[0] != str(words[1]).split()[0]:
-                yield Change(name_of(now), "stands", words[0], words[1], before.line(), now.line())
+            was, comes = old.stands.get(before.label), new.stands.get(now.label)
+            if was and comes and was.parts["stays"] != comes.parts["stays"]:
+                yield Change(name_of(now), "stands", was.said, comes.said, before.line(), now.line())
     for pairs in matched.others.values():
         for before, now in pairs:
             if before is not None and now is not None and old.load and new.load:
-                told = old.delays.get(before.line()), new.delays.get(now.line())
-                if told[0] != told[1]:
-                    key, *words = ("age", *(text and text.removeprefix("age ") for text in told)) if now.table == "need" else ("delay", *told)
-                    yield Change(name_of(now), key, *words, before.line(), now.line())
+                told = (line and line.said for line in (old.delays.get(before.line()), new.delays.get(now.line())))
+                is_need = now.table == "need"
+                first, then = (shown_age(text) if text and is_need else text for text in told)
+                if first != then:
+                    yield Change(name_of(now), "age" if is_need else "delay", first, then, before.line(), now.line())
     if old.load != new.load:
         yield Change("bus", "load", old.load, new.load, None, None)
 

@@ -3,20 +3,25 @@
 import functools
 import json
 import os
+from typing import Any
 
 from .program import TOOLS
 
 # A value of a key: a text, an integer, a truth value, a table or an array of these.
 Value = str | int | bool | dict[str, "Value"] | list["Value"] | None
 
+# A part of the schema, as JSON has it.
+Rule = dict[str, Any]
+
 SCHEMA = os.path.join(TOOLS, "plan.schema.json")
 
 
 @functools.cache
-def schema() -> dict:
+def schema() -> Rule:
     """What the format has."""
     with open(SCHEMA, encoding="utf-8") as file:
-        return json.load(file)
+        found: Rule = json.load(file)
+    return found
 
 
 @functools.cache
@@ -36,7 +41,7 @@ def default_of(table: str, key: str) -> int:
 def most_of(table: str, key: str) -> int:
     """The greatest number that a key may be, or how many tables or names it may have."""
     rule = (schema()["definitions"][table] if table else schema())["properties"][key]
-    return next(rule[word] for word in ("maximum", "maxItems", "maxProperties") if word in rule)
+    return int(next(rule[word] for word in ("maximum", "maxItems", "maxProperties") if word in rule))
 
 
 def arrays() -> list[str]:
@@ -44,14 +49,17 @@ def arrays() -> list[str]:
     return [key for key, rule in schema()["properties"].items() if "$ref" in rule.get("items", {})]
 
 
+# What stands before a table and a key of it that may be absent.
+ABSENT = "absent"
+
 # The versions of the format.
 VERSIONS = range(1, most_of("", "version") + 1)
 
 
 @functools.cache
 def since() -> dict[object, int]:
-    """The keys of tables, kinds of signals and bitrates that the first version doesn't know, each with the first that does: by the rules
-    of the schema on what a plan of none of some versions may not have."""
+    """The keys of tables, kinds of signals and bitrates that the first version doesn't know, and keys that may be absent (`ABSENT`), each with the
+    first version that does: by the rules of the schema on what a plan of none of some versions may not have, or has to."""
     found: dict[object, int] = {}
     for rule in schema()["allOf"]:
         versions = rule["if"]["not"]["properties"]["version"]
@@ -59,10 +67,11 @@ def since() -> dict[object, int]:
     return found
 
 
-def _later(table: str | None, rule: dict, first: int, found: dict[object, int]) -> None:
+def _later(table: str | None, rule: Rule, first: int, found: dict[object, int]) -> None:
     """Adds what a rule keeps from a table, and from those in it: a version is the first that knows it."""
     keys = (schema()["definitions"][table] if table else schema())["properties"]
-    for key, narrower in rule["properties"].items():
+    found.update(((ABSENT, table, key), first) for key in rule.get("required", ()))
+    for key, narrower in rule.get("properties", {}).items():
         if narrower is False:
             found[table, key] = first
         elif "enum" in narrower:

@@ -27,6 +27,16 @@ class Told(NamedTuple):
     text: str
 
 
+def whole(value: Value) -> int:
+    """The number that a value is, 0 of one that isn't there."""
+    return value if isinstance(value, int) else 0
+
+
+def several(value: Value) -> list[Value]:
+    """The elements of an array, none of one that isn't there."""
+    return value if isinstance(value, list) else []
+
+
 class Merged:
     """A table of the joined plan: where it is from, its keys, each with the part that says it, and the tables in it."""
 
@@ -73,17 +83,17 @@ def parts_of(key: str, one: Value, other: Value) -> Iterator[tuple[str, Value, V
 
 
 class Join:
-    """A plan in the making. What contradicts an earlier file is told, and left out."""
+    """A plan in the making. What contradicts an earlier file is told, and left out. Of units that are the same the other label is that of the one."""
 
-    def __init__(self, sources: list[Source]) -> None:
-        self.sources = sources
+    def __init__(self, sources: list[Source], same: dict[str, str] | None = None) -> None:
+        self.sources, self._same = sources, same or {}
         self.contradictions: list[Told] = []
         self.notes: list[Told] = []
         self.top = Merged(sources[0].top)
         self.arrays: dict[str, list[Merged]] = {array: [] for array in arrays()}
         self._labels = {array: Labels() for array in ("unit", "group")}
         self._called: dict[tuple[Source, str, str], str] = {}  # of a file, an array and a label there: the label here
-        self._told: dict[tuple, Merged] = {}  # flows and the like by what tells them apart
+        self._told: dict[tuple[object, ...], Merged] = {}  # flows and the like by what tells them apart
         for number, source in enumerate(sources):
             self._top(source, number)
             for unit in source["unit"]:
@@ -133,11 +143,11 @@ class Join:
         top, said = self.top, source.top.said
         if number == 0:
             return
-        top.values["version"] = max(top.values["version"], said["version"])
-        kept = dict.fromkeys([*(top.values.get("keep_free") or []), *(said.get("keep_free") or [])])
+        top.values["version"] = max(whole(top.values["version"]), whole(said["version"]))
+        kept = dict.fromkeys([*several(top.values.get("keep_free")), *several(said.get("keep_free"))])
         if kept:
             top.values["keep_free"] = list(kept)
-        strangers = max(top.values.get("strangers") or 0, said.get("strangers") or 0)
+        strangers = max(whole(top.values.get("strangers")), whole(said.get("strangers")))
         if strangers:
             top.values["strangers"] = strangers
         for key in said:
@@ -160,33 +170,45 @@ class Join:
             self._note(part, f"{name_of(part)} is called {merged.label}, {why or f'as at {merged.first.at()}'}", "label")
             merged.remark("label", f"{part.label} in {part.source.name}")
 
-    def _add(self, array: str, part: Part) -> Merged:
-        """A table more, under a label that no other one has."""
-        merged = Merged(part, self._labels[array].label(part.label))
-        self._call(array, part, merged, "since another one has its label")
+    def _add(self, array: str, part: Part, wanted: str = "") -> Merged:
+        """A table more, under its label or the wanted one, unless another one has that."""
+        merged = Merged(part, self._labels[array].label(wanted or part.label))
+        self._call(array, part, merged, "by --same" if merged.label == wanted else "since another one has its label")
         self.arrays[array].append(merged)
         return merged
 
     def _unit(self, unit: Part) -> None:
-        """Joins a unit: that of its label, else that of its NAME, which is one of its own everywhere."""
+        """Joins a unit: that of its label, else one of its address that may be it by its NAME."""
         earlier = [merged for merged in self.arrays["unit"] if self._is_new(merged, unit)]
-        here = next((merged for merged in earlier if merged.label == unit.label), None)
-        same = next((merged for merged in earlier if merged.first["name"] == unit["name"]), None)
-        if here is None and same is not None and same.first["address"] == unit["address"]:
-            here = same
-        elif same is not None and same is not here:
-            self._contradict(same, unit, "name", f"{name_of(unit)} has the NAME of unit {same.label} at {same.first.at('name')}")
-            here = here or same
+        label = self._same.get(unit.label, unit.label)
+        here = next((merged for merged in earlier if merged.label == label), None)
+        alike = [merged for merged in earlier if may_be_one(name_in(merged), name_in(unit))]
+        here = here or next((merged for merged in alike if merged.first["address"] == unit["address"]), None)
+        for same in [merged for merged in alike if merged is not here][:1]:
+            text = f"{name_of(unit)} has the NAME of unit {same.label} at {same.first.at('name')}"
+            unnumbered = "" if "identity" in name_in(same) and "identity" in name_in(unit) else ", whatever their numbers are"
+            self._contradict(same, unit, "name", text + unnumbered)
         if here is not None:
-            self._joined(here, unit, name_of(unit))
+            self._joined(here, unit, name_of(unit), ("name",))
+            self._unit_name(here, unit)
             self._call("unit", unit, here)
             return
         taken = next((merged for merged in earlier if merged.first["address"] == unit["address"] and not may_choose(unit)
                       and not may_choose(merged.first)), None)
         if taken is not None:
             text = f"{name_of(unit)} is fixed at address {unit['address']}, as unit {taken.label} is at {taken.first.at('address')}"
-            self._contradict(taken, unit, "address", text)
-        self._add("unit", unit)
+            self._contradict(taken, unit, "address", f"{text}: --same {taken.label}={unit.label}, if they are one")
+        self._add("unit", unit, label)
+
+    def _unit_name(self, here: Merged, unit: Part) -> None:
+        """Joins the NAMEs of a unit. A number stays where each file has one."""
+        names = name_in(here), name_in(unit)
+        if len([name for name in names if "identity" in name]) == 1:
+            number = next(name.pop("identity") for name in names if "identity" in name)
+            here.values["name"] = {key: value for key, value in here.first.said["name"].items() if key != "identity"}
+            self._note(unit, f"{name_of(unit)}: its identity number {number} is left away, since not each file has one", "name")
+        for inner, one, other in parts_of("name", *names):
+            self._contradict(here, unit, "name", f"{name_of(unit)}: {inner} = {spelled(other)}, and {spelled(one)} at {here.first.at('name')}")
 
     def _group(self, group: Part) -> None:
         """Joins a group: that of its number, and of makers' own ones that of its senders too."""
@@ -260,14 +282,13 @@ class Join:
     def _signal(self, here: Merged, part: Part, what: str) -> None:
         """Joins a signal with that of the same label; its scale counts, and not how it is written down."""
         one, other = plan_scales.scale(here.first), plan_scales.scale(part)
+        skipped: tuple[str, ...] = ()
         if one == other:
             skipped = plan_scales.SCALE_KEYS
         elif plan_scales.is_close(one, other):
             skipped = plan_scales.SCALE_KEYS
             text = f"{what}: unit = {spelled(part['unit'])}, taken is {spelled(here.first['unit'])} of {here.first.at('unit')}"
             self._note(part, text, "unit")
-        else:
-            skipped = ()
         self._joined(here, part, what, skipped)
 
     def _other(self, array: str, part: Part) -> None:
@@ -299,6 +320,20 @@ class Join:
 def names_no_receiver(group: Part) -> bool:
     """Whether messages of a group may go in a frame whose identifier names no receiver."""
     return group.number("pgn") >> 8 & 255 >= 240 and group.number("length") <= FRAME_BYTES
+
+
+def name_in(unit: Part | Merged) -> dict[str, Value]:
+    """The NAME of a unit with its defaults."""
+    part, said = (unit.first, unit.values["name"]) if isinstance(unit, Merged) else (unit, unit.said["name"])
+    name = part["name"]
+    assert isinstance(name, dict) and isinstance(said, dict)
+    return {key: value for key, value in name.items() if key != "identity" or key in said}
+
+
+def may_be_one(one: dict[str, Value], other: dict[str, Value]) -> bool:
+    """Whether two NAMEs may be one: they differ in nothing, or one of them has no number and they differ in nothing else."""
+    names = [{key: value for key, value in name.items() if key != "identity"} for name in (one, other)]
+    return names[0] == names[1] and (one.get("identity") == other.get("identity") or not ("identity" in one and "identity" in other))
 
 
 def may_choose(unit: Part) -> bool:

@@ -1,5 +1,6 @@
 """The HTML page of a plan."""
 
+import os
 from collections import defaultdict
 from collections.abc import Iterable, Iterator
 from html import escape
@@ -62,10 +63,10 @@ def finding_section(title: str, found: list[Finding]) -> str:
 def standing(unit: Unit, stands: dict[str, Stand]) -> str:
     """Where a unit stands, in words."""
     if not unit.claims:
-        return "stays, and never claims its address"
+        return "in every run, and never claims it"
     if unit.label not in stands:
         return "not known: the addresses have findings"
-    return "stays" if stands[unit.label].stays else "may move"
+    return "in every run" if stands[unit.label].stays else "may move"
 
 
 def unit_section(top: Top, tables: Tables, stands: dict[str, Stand]) -> str:
@@ -74,16 +75,16 @@ def unit_section(top: Top, tables: Tables, stands: dict[str, Stand]) -> str:
     if not units:
         return section("units", "Units", ["<p>The plan has no units.</p>"])
     where = [
-        row(escape(unit.label), [str(unit.address), standing(unit, stands), "may choose" if unit.may_choose else "fixed",
+        row(escape(unit.label), [str(unit.address), standing(unit, stands), "arbitrary" if unit.may_choose else "fixed",
             unit.chooser if unit.may_choose else "–", str(unit.window)])
         for unit in units
     ]
     names = [
-        row(escape(unit.label), [f"<code>{unit.name}</code>", *(str(unit.fields[key]) for key in FIELDS)])
+        row(escape(unit.label), [f"<code>{unit.name}</code>", *(str(unit.fields.get(key, "any")) for key in FIELDS)])
         for unit in units
     ]
     kept = ", ".join(map(str, top.kept))
-    heads = ("Unit", "Planned address", "In every run", "By its NAME", "Looks for another", "Window")
+    heads = ("Unit", "Planned address", "Keeps it", "Address capability", "New address", "Packets per CTS")
     parts = [
         table("Units and where they stand", heads, where),
         table("NAMEs of the units", ("Unit", "NAME", *map(spaced, FIELDS)), names, "numbers"),
@@ -179,7 +180,7 @@ def signal_row(signal: Signal, is_named: bool) -> str:
     cells = [f"{signal.byte}.{signal.bit}", str(signal.bits), signal.kind, formula(signal), range_of(signal), signal.unit or "–"]
     named = "<br>".join(f"{raw} {escape(name)}" for raw, name in sorted(signal.values.items()))
     more = ["–" if signal.spn is None else str(signal.spn), named or "–"] if is_named else []
-    return row(escape(signal.shown), [*map(escape, cells), *more])
+    return row(escape(signal.shown), [*(escape(cell) for cell in cells), *more])
 
 
 def text_row(text: Text) -> str:
@@ -319,14 +320,14 @@ def load_section(tables: Tables, load: Load) -> str:
     if rows:
         parts.append("<p>The times count from when a frame is ready in its controller, and hold where the bus keeps the premises of "
                      "<code>load</code>.</p>")
-        heads = ("Flow", "Group", "From", "To", "Period", "bus load", "On the bus within", "Limit", "of its limit")
+        heads = ("Flow", "Group", "From", "To", "Period", "Bus load", "On the bus within", "Limit", "Of its limit")
         parts.append(table("Delays of the flows", heads, rows))
     return section("load", "Load", parts)
 
 
 def page(title: str, top: Top, tables: Tables, found: list[Finding], stands: dict[str, Stand], load: Load | None, version: str) -> str:
     """The whole page. The title is the name of the plan's file; a plan that says nothing of the bus has no load."""
-    title = escape(title)
+    heading, title = escape(os.path.basename(title)), escape(title)
     counts = f"{len(tables.units)} units, {len(tables.groups)} groups, {len(tables.flows)} flows, findings: {len(found)}"
     sections = {"findings": finding_section(title, found), "units": unit_section(top, tables, stands), "flows": flow_section(tables),
                 **({"needs": need_section(tables, load)} if tables.needs else {}),
@@ -340,14 +341,14 @@ def page(title: str, top: Top, tables: Tables, found: list[Finding], stands: dic
 <meta http-equiv="Content-Security-Policy" content="default-src 'none'; style-src 'unsafe-inline'">
 <meta name="viewport" content="width=device-width, initial-scale=1">
 <meta name="color-scheme" content="light dark">
-<title>Plan {title}</title>
+<title>Plan {heading}</title>
 <style>
 {STYLE}</style>
 </head>
 <body>
 <a class="skip" href="#content">To the content</a>
 <header>
-<h1>Plan {title}</h1>
+<h1>Plan {heading}</h1>
 <p>Version {top.version} of the format: {counts}.</p>
 <nav aria-label="Sections"><ul>{links}</ul></nav>
 </header>

@@ -10,7 +10,7 @@ import re
 from collections.abc import Iterable
 
 from . import program
-from .answer_places import Plan, refusal
+from .plan_files import refused_at
 from .plan_format import Value, keys_of, schema
 from .toml_places import Place, Places
 
@@ -84,9 +84,11 @@ class Part:
 
     def __getitem__(self, key: str) -> Value:
         """What a key is, by its default where it isn't said; None where it has none. Of a table in it each key has its default."""
-        value = self.said.get(key, keys_of(self.table).get(key))
+        value: Value = self.said.get(key, keys_of(self.table).get(key))
         if isinstance(value, dict) and key in schema()["definitions"]:
-            return {**{inner: default for inner, default in keys_of(key).items() if default is not None}, **value}
+            whole: dict[str, Value] = {inner: default for inner, default in keys_of(key).items() if default is not None}
+            whole.update(value)
+            return whole
         return value
 
     def text(self, key: str) -> str:
@@ -98,6 +100,11 @@ class Part:
         """The integer of a key, 0 where it has none."""
         value = self[key]
         return value if isinstance(value, int) else 0
+
+    def values(self, key: str) -> list[Value]:
+        """The elements of a key, none where it has none."""
+        value = self[key]
+        return value if isinstance(value, list) else []
 
     @property
     def label(self) -> str:
@@ -137,8 +144,7 @@ def text_of(name: str) -> str:
         return text
     if status != program.UNREADABLE or not answer:
         raise program.Refused(status, f"{name}: it can't be read as a plan")
-    line, hint = refusal(Plan(text), data, answer.strip())
-    raise program.Refused(status, f"{name}:{line}: {answer.strip()}" + (f"  ({hint})" if hint else ""))
+    raise program.Refused(status, refused_at(name, data, answer.strip()))
 
 
 def sources_of(names: Iterable[str]) -> list[Source]:

@@ -49,6 +49,8 @@ def spelled(value: Any) -> str:
     """A value as TOML spells it."""
     if isinstance(value, bool):
         return str(value).lower()
+    if value == {}:
+        return "{}"
     if isinstance(value, dict):
         return "{ " + ", ".join(f"{key} = {spelled(part)}" for key, part in value.items()) + " }"
     if isinstance(value, str):
@@ -63,7 +65,7 @@ def lines_of(table: Table) -> Iterator[str]:
     comment = f"  # {'; '.join(table.remarks)}" if table.remarks else ""
     defaults = plan_format.keys_of(table.header.rpartition(".")[2])
     for key, value in table.keys.items():
-        if value not in (defaults.get(key), {}):
+        if value not in (defaults.get(key), {}) or key == "name":
             yield f"{key} = {spelled(value)}{comment}"
             comment = ""
     for part in table.inside:
@@ -78,7 +80,7 @@ def timing_of(bitrate: int) -> list[str]:
 
 def text_of(tables: Iterable[Table], source: str, version: int = WRITTEN[-1], bitrate: int | None = None) -> str:
     """The plan's file."""
-    lines = [f"# From {plain(source)}: look it through.", f"version = {version}"]
+    lines = [f"# From {plain(source)}: review it.", f"version = {version}"]
     if bitrate and plan_format.knows(version, (None, "timing")):
         lines += timing_of(bitrate)
     for table in tables:

@@ -118,7 +118,7 @@ def file_of(text: str) -> Iterator[str]:
 class Version(argparse.Action):
     """Prints the tool's name, and the version of the program and thus of all this."""
 
-    def __call__(self, words: argparse.ArgumentParser, *_: object) -> NoReturn:
+    def __call__(self, words: argparse.ArgumentParser, given: argparse.Namespace, value: object, option: str | None = None) -> None:
         status, answer = call(["--version"])
         if status != 0:
             raise Refused(status)
@@ -128,7 +128,7 @@ class Version(argparse.Action):
 
 def parser(description: str, own_version: bool = False) -> argparse.ArgumentParser:
     """The words of a tool's command line, its help and its version among them, unless the tool has a `--version` of its own."""
-    words = argparse.ArgumentParser(description=description.split("\n", maxsplit=1)[0])
+    words = argparse.ArgumentParser(description=" ".join(description.split("\n\n", maxsplit=1)[0].split()))
     if own_version:
         return words
     words.add_argument("--version", action=Version, nargs=0, help="print the version and exit")
@@ -138,6 +138,14 @@ def parser(description: str, own_version: bool = False) -> argparse.ArgumentPars
 def plan_word(words: argparse.ArgumentParser) -> None:
     """The word of a plan, of a tool that takes one."""
     words.add_argument("plan", metavar="PLAN", help="the name of a plan file")
+
+
+def same(text: str) -> tuple[str, str]:
+    """Another name of a unit, and what it is called, by `NAME=OTHER`."""
+    name, _, other = text.partition("=")
+    if not name or not other or name == other:
+        raise argparse.ArgumentTypeError("two names of one unit, as ENGINE=EMS")
+    return other, name
 
 
 def note_options(words: argparse.ArgumentParser) -> None:

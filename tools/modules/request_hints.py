@@ -11,10 +11,16 @@ from .toml_places import Place, Places
 ENDS = ("group", "from", "to")
 
 
+def asked_by(places: Places, request: Place) -> plan_tables.Request:
+    """A request by its ends."""
+    group, asking, asked = (places.texts[request + (key,)] for key in ENDS)
+    return plan_tables.Request(group, asking, asked)
+
+
 def serves(places: Places, flow: Place, request: Place) -> bool:
     """Whether a flow answers a request."""
     group, sender, to = (places.texts[flow + (key,)] for key in ENDS)
-    return plan_tables.serves(group, sender, to, plan_tables.Request(*(places.texts[request + (key,)] for key in ENDS)))
+    return plan_tables.serves(group, sender, to, asked_by(places, request))
 
 
 def is_on_request(places: Places, flow: Place) -> bool:

@@ -47,7 +47,7 @@ def text_of(spelled: str) -> str:
     if spelled.startswith('"'):
         spelled = ESCAPE.sub(_older, spelled)
     try:
-        return tomllib.loads(f"x = {spelled}")["x"]
+        return str(tomllib.loads(f"x = {spelled}")["x"])
     except tomllib.TOMLDecodeError:
         return spelled.strip("\"'")
 

@@ -563,7 +563,7 @@ class Against(InFolder):
         for plan, status, said in [
             (example("findings/f07_signal_outside.toml"), 1,
              program.call(["follow", example("findings/f07_signal_outside.toml"), log])[1].strip()),
-            (self.write("plan.toml", "version = 5\n"), 2, "refused Range top key version"),
+            (self.write("plan.toml", "version = 5\n"), 2, f"{self.path('plan.toml')}:1: refused Range top key version  (version = 5: integer 1..4)"),
         ]:
             self.assertEqual(run("against.py", plan, log), (status, "", f"against: {said}\n"))
         missing = self.path("none.log")

@@ -59,7 +59,7 @@ class CheckPlans(InFolder):
         self.assertEqual((ended.returncode, ended.stderr), (2, f"check-plans: {CLEAN} could not be checked, status 70\n"))
 
     def test_plans_as_tests_of_junit(self):
-        """One that has to be mended is a failure, one that couldn't be checked an error; what is written besides is the same."""
+        """One that has to be mended is a failure by its first finding, one that couldn't be checked an error; what is written besides is the same."""
         odd, missing, report = self.write('a<&">.toml', text_of(FOUND)), self.path("none.toml"), self.path("plans.xml")
         bad = self.write("bad.toml", 'version = 1\n[[unit]]\nlabel = "\x01"\n')
         plans = (CLEAN, FOUND, odd, bad, missing)
@@ -68,7 +68,7 @@ class CheckPlans(InFolder):
         self.assertEqual((suite.tag, suite.attrib), ("testsuite", {"name": "check-plans", "tests": "5", "failures": "3", "errors": "1"}))
         told = [(test.get("name"), [(part.tag, part.get("message")) for part in test]) for test in suite]
         refusal = self.status(bad)[1].splitlines()[-1]
-        self.assertEqual(told, [(CLEAN, []), (FOUND, [("failure", "findings 1")]), (odd, [("failure", "findings 1")]), (bad, [("failure", refusal)]),
+        self.assertEqual(told, [(CLEAN, []), (FOUND, [("failure", "F10 FlowToSelf 1")]), (odd, [("failure", "F10 FlowToSelf 1")]), (bad, [("failure", refusal)]),
                                 (missing, [("error", "it isn't there")])])
         self.assertEqual(suite[1][0].text, "F10 FlowToSelf 1\nfindings 1")
 
@@ -118,7 +118,7 @@ class CheckPlans(InFolder):
         """The file at the top names the command that a package installs."""
         text = text_of(os.path.join(TOP, ".pre-commit-hooks.yaml"))
         self.assertRegex(text, r"(?m)^- id: j39plan-check-plans$")
-        self.assertRegex(text, r"(?m)^  entry: j39plan-check-plans$")
+        self.assertRegex(text, r"(?m)^  entry: env CHECK=j39plan-where j39plan-check-plans$")
         self.assertRegex(text, r"(?m)^  language: system$")
         self.assertRegex(text_of(os.path.join(TOP, "docs", "TOOLS.md")), r"(?m)^ +- id: j39plan-check-plans$")
         if shutil.which("pre-commit"):

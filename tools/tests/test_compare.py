@@ -123,6 +123,16 @@ class Changes(Compared):
             "new.toml:25: signal F004.Speed: it was called SPN190 (old.toml:25)", "changes 3 breaks 0",
         ]))
 
+    def test_a_serial_number_that_comes_or_goes(self):
+        """It is a change, and breaks nothing: by it nobody is looked for. A unit that is called otherwise too is known by the rest of its NAME."""
+        old = OLD.replace("version = 3", "version = 4")
+        new = old.replace("identity = 1, ", "").replace('"ENGINE"', '"ECM"')
+        self.assertEqual(self.compare(old, new), (0, [
+            "new.toml:4: unit ECM: it was called ENGINE (old.toml:4)", "new.toml:6: unit ECM: name.identity none, it was 1 (old.toml:6)",
+            "changes 2 breaks 0"]))
+        self.assertEqual(self.compare(new, new.replace("{ manufacturer", "{ identity = 9, manufacturer"))[1],
+                         ["new.toml:6: unit ECM: name.identity 9, it was none (old.toml:6)", "changes 1 breaks 0"])
+
     def test_what_is_new_or_gone(self):
         more = signal("SPN899", 1, 4, "raw")
         found = self.changed(("[[group]]\nlabel = \"TSC1\"", more + "\n[[group]]\nlabel = \"TSC1\""))
@@ -145,17 +155,54 @@ class Changes(Compared):
             fixed, moving + '[[unit]]\nlabel = "X"\naddress = 130\nname = { identity = 1 }\n')[1])
 
     def test_needs(self):
-        """New, gone, otherwise; and how old what they ask for is, by `load`. They break nothing."""
+        """New, gone, otherwise; and how old what they ask for is, by `load`."""
         old = text_of(example("findings/f20_need_too_old.toml")).replace("within = 21", "within = 22")
         lines = old.count("\n")
-        status, found = self.compare(old, old.replace("within = 22", "within = 30").replace("pause = 20", "pause = 25"))
+        status, found = self.compare(old, old.replace("within = 22", "within = 30").replace("pause = 20", "pause = 15"))
         self.assertEqual((status, [re.sub(r"^\S+:\d+: | \(.*\)$", "", line) for line in found]), (0, [
-            "flow EEC1 from ENGINE to all: pause 25, it was 20", "need group EEC1 unit CLUSTER: within 30, it was 22",
-            "need group EEC1 unit CLUSTER: age 26280 of 30000 us, it was 21280 of 22000 us", "changes 3 breaks 0"]))
+            "flow EEC1 from ENGINE to all: pause 15, it was 20", "need group EEC1 unit CLUSTER: within 30, it was 22",
+            "need group EEC1 unit CLUSTER: age 16280 of 30000 us, it was 21280 of 22000 us", "changes 3 breaks 0"]))
         more = old + '\n[[need]]\nunit = "CLUSTER"\ngroup = "EEC1"\nfrom = "ENGINE"\n'
         new = f"new.toml:{lines + 2}: need group EEC1 from ENGINE unit CLUSTER: new"
         self.assertEqual(self.compare(old, more), (0, [new, "changes 1 breaks 0"]))
         self.assertEqual(self.compare(more, old)[1][0], new.replace("new.toml", "old.toml").replace(": new", ": gone"))
+
+    def test_the_need_of_a_signal_that_is_called_otherwise(self):
+        old = OLD.replace("version = 3", "version = 4") + '\n[[need]]\nunit = "BRAKES"\ngroup = "EEC1"\nsignal = "SPN190"\n'
+        status, found = self.compare(old, old.replace('"SPN190"', '"Speed"'))
+        self.assertEqual((status, found), (0, ["new.toml:25: signal EEC1.Speed: it was called SPN190 (old.toml:25)", "changes 1 breaks 0"]))
+
+
+class Needed(Compared):
+    def test_a_need_that_becomes_too_old(self):
+        """By the age that its unit knows, whatever the new plan asks for."""
+        old = text_of(example("findings/f20_need_too_old.toml")).replace("within = 21", "within = 22")
+        for within, age in ((22, "not shown young enough, of 22000 us"), (30, "26280 of 30000 us")):
+            new = old.replace("within = 22", f"within = {within}").replace("pause = 20", "pause = 25")
+            status, found = self.compare(old, new)
+            told = [re.sub(r"^\S+:\d+: | \(.*\)$", "", line) for line in found if ": breaks: " in line or ": age " in line]
+            self.assertEqual((status, told), (1, [f"need group EEC1 unit CLUSTER: age {age}, it was 21280 of 22000 us",
+                                                  f"breaks: CLUSTER needs EEC1 younger: its age is {age}, it was 21280 of 22000 us"]))
+
+    def test_who_needs_it_is_named_first(self):
+        old = OLD.replace("version = 3", "version = 4") + '\n[[need]]\nunit = "BRAKES"\ngroup = "EEC1"\nsignal = "SPN190"\n'
+        why = "wrongly: it lies at 5.1, 16 bits, and not at 4.1, 16 bits (old.toml:24)"
+        self.assertEqual(self.breaks(("byte = 4", "byte = 5"), old=old), [f"BRAKES needs it; all read EEC1.SPN190 of ENGINE {why}"])
+        told = json.loads("\n".join(self.compare(old, old.replace("byte = 4", "byte = 5"), "--json")[1]))["breaks"]
+        self.assertEqual([(found["receivers"], found["needed_by"]) for found in told], [(["BRAKES", "CLUSTER"], ["BRAKES"])])
+        self.assertEqual(self.breaks(("byte = 3\n", "byte = 2\n"), old=old),
+                         ["all read EEC1.SPN513 of ENGINE wrongly: it lies at 2.1, 8 bits, and not at 3.1, 8 bits (old.toml:32)"])
+
+    def test_names_that_change_places(self):
+        """A number whose name is another one is read wrongly; a name that only one plan has breaks nothing."""
+        old = OLD.replace("version = 3", "version = 4").replace('label = "SPN513"', 'label = "SPN513"\nvalues = { 0 = "idle", 1 = "pedal" }')
+        swapped = old.replace('0 = "idle", 1 = "pedal"', '1 = "idle", 0 = "pedal"')
+        status, found = self.compare(old, swapped)
+        self.assertEqual((status, found[-2:]), (1, [
+            'new.toml:32: breaks: all read EEC1.SPN513 of ENGINE wrongly: 0 is "pedal", and not "idle"; 1 is "idle", and not "pedal" (old.toml:32)',
+            "changes 2 breaks 1"]))
+        for names in ('0 = "idle"', '0 = "idle", 1 = "pedal", 2 = "cruise"'):
+            self.assertEqual(self.compare(old, old.replace('0 = "idle", 1 = "pedal"', names))[0], 0)
 
 
 class Broken(Compared):

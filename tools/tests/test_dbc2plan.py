@@ -83,26 +83,31 @@ def random_frame(canmatrix, chance, nodes, number):
 class Units(WithDbc):
     def test_units(self):
         plan, said = self.plan()
-        self.assertEqual(plan["unit"], [
-            {"label": "ENGINE", "address": 0, "name": {"identity": 4711, "manufacturer": 310}},
-            {"label": "RETARDER", "address": 15,
-             "name": {"identity": 4712, "function": 10, "industry": 1, "arbitrary": True}},
-        ])
+        units = [{"label": "ENGINE", "address": 0, "name": {"manufacturer": 310}},
+                 {"label": "RETARDER", "address": 15, "name": {"function": 10, "industry": 1, "arbitrary": True}}]
+        self.assertEqual(plan["unit"], units)
+        for unit, number in (("ENGINE", 4711), ("RETARDER", 4712)):
+            self.assertIn(f"unit {unit}, NmJ1939IdentityNumber: {number} is left away: each box has a number of its own", said)
+        numbered = [{**unit, "name": {"identity": number, **unit["name"]}} for unit, number in zip(units, (4711, 4712))]
+        for words in (("--identity",), ("--version", "3")):
+            plan, told = self.plan(*words)
+            self.assertEqual(plan["unit"], numbered)
+            self.assertNotIn("left away", " ".join(told))
         self.assertIn("unit TOOL: no address is given", said)
         self.assertIn("unit RETARDER, NmJ1939ManufacturerCode: 3000 is outside 0..2047", said)
 
     def test_an_address_by_the_frames(self):
         plan, said = self.plan(data='BU_: A B\nBO_ 2364539909 EEC1: 8 A\n SG_ S : 0|8@1+ (1,0) [0|0] "" B\n')
         self.assertEqual([(unit["label"], unit["address"]) for unit in plan["unit"]], [("A", 5)])
-        self.assertIn("unit A: no identity number is given: 1 stands in its place", said)
+        self.assertEqual((plan["unit"][0]["name"], said), ({}, ["unit B: no address is given", "1 units 1 groups 1 flows, notes 1"]))
 
     def test_frames_from_several_addresses(self):
         _, said = self.plan(data=NODES + message(FROM_0, "EEC1", "ENGINE") + message(0x18FEEE17, "ET1", "ENGINE"))
         self.assertIn("unit ENGINE: its frames come from several addresses", said)
 
     def test_a_default_is_no_identity_and_no_address(self):
-        """Nodes that have only defaults of the file would all be one unit."""
-        plan, said = self.plan(data=NODES + message(FROM_0, "EEC1", "ENGINE") + (
+        """Nodes that have only defaults of the file would all be one unit. A version that asks for a number gets a free one."""
+        plan, said = self.plan("--version", "3", data=NODES + message(FROM_0, "EEC1", "ENGINE") + (
             'BA_DEF_ BU_ "NmJ1939IdentityNumber" INT 0 2097151;\n'
             'BA_DEF_DEF_ "NmJ1939IdentityNumber" 0;\nBA_DEF_DEF_ "NmStationAddress" 7;\n'))
         self.assertEqual([(unit["address"], unit["name"]) for unit in plan["unit"]], [(0, {"identity": 1}), (15, {"identity": 2})])
@@ -110,14 +115,27 @@ class Units(WithDbc):
             self.assertIn(f"unit {name}: no identity number is given: {identity} stands in its place", said)
 
     def test_a_free_identity_is_one_that_no_node_has(self):
-        plan, _ = self.plan(data=NODES + message(FROM_0, "EEC1", "ENGINE") + (
+        plan, _ = self.plan("--version", "3", data=NODES + message(FROM_0, "EEC1", "ENGINE") + (
             'BA_DEF_ BU_ "NmJ1939IdentityNumber" INT 0 2097151;\nBA_ "NmJ1939IdentityNumber" BU_ RETARDER 1;\n'))
         self.assertEqual([unit["name"]["identity"] for unit in plan["unit"]], [2, 1])
+
+    def test_numbers_that_tell_units_apart(self):
+        """Two boxes of one kind keep theirs: the plan fits one vehicle then. One of another kind has none."""
+        numbers = ('BA_DEF_ BU_ "NmJ1939IdentityNumber" INT 0 2097151;\nBA_DEF_ BU_ "NmJ1939Function" INT 0 255;\n'
+                   'BA_ "NmJ1939Function" BU_ TOOL 129;\nBA_ "NmStationAddress" BU_ TOOL 249;\n'
+                   + "".join(f'BA_ "NmJ1939IdentityNumber" BU_ {unit} {number};\n' for unit, number in (("ENGINE", 5), ("RETARDER", 6), ("TOOL", 7))))
+        plan, said = self.plan(data="BU_: ENGINE RETARDER TOOL\n" + message(FROM_0, "EEC1", "ENGINE") + message(FROM_15, "EEC1_B", "RETARDER") + (
+            'BA_DEF_ BU_ "NmStationAddress" INT 0 254;\n') + numbers)
+        self.assertEqual([unit["name"] for unit in plan["unit"]], [{"identity": 5}, {"identity": 6}, {"function": 129}])
+        kept = "nothing but its identity number {} tells it from {}: it is kept, and the plan fits one vehicle"
+        self.assertEqual([line for line in said if "number" in line.lower()], [
+            f"unit ENGINE: {kept.format(5, 'RETARDER')}", f"unit RETARDER: {kept.format(6, 'ENGINE')}",
+            "unit TOOL, NmJ1939IdentityNumber: 7 is left away: each box has a number of its own"])
 
     def test_a_default_that_units_share_is_said(self):
         plan, said = self.plan(data=NODES + (
             'BA_DEF_ BU_ "NmJ1939ManufacturerCode" INT 0 2047;\nBA_DEF_DEF_ "NmJ1939ManufacturerCode" 310;\n'))
-        self.assertEqual(plan["unit"][0]["name"], {"identity": 1, "manufacturer": 310})
+        self.assertEqual(plan["unit"][0]["name"], {"manufacturer": 310})
         self.assertIn("unit RETARDER, NmJ1939ManufacturerCode: 310 is the default of the file", said)
 
     def test_attributes_that_are_no_numbers(self):
@@ -163,7 +181,8 @@ class Groups(WithDbc):
         outside = 'D : 40|8@1+ (1,0) [0|0] "" X'
         data = NODES + (message(FROM_0, "EEC1", "ENGINE", first, second, outside, length=5)
                         + message(FROM_15, "EEC1_B", "RETARDER", first, length=2)
-                        + message(0x0CF00417, "EEC1_C", "Vector__XXX", first, second, third, length=12))
+                        + message(0x0CF00417, "EEC1_C", "Vector__XXX", first, second, third, length=12)
+                        + 'BA_DEF_ BU_ "NmJ1939Function" INT 0 255;\nBA_ "NmJ1939Function" BU_ RETARDER 10;\n')
         plan, said = self.plan(data=data)
         (group,) = plan["group"]
         self.assertEqual((group["length"], group["most"]), (2, 12))
@@ -202,7 +221,7 @@ class Groups(WithDbc):
             ((0x18EF0F00, "ENGINE", 8), (0x18EFFF00, "ENGINE", 7), ["ONE"]),               # one receives both
             ((0x18EF0F00, "ENGINE", 8), (0x18EF000F, "RETARDER", 8), ["ONE", "TWO"]),      # A, in both directions
             ((0x19EF0F00, "ENGINE", 8), (0x18EF0F00, "ENGINE", 7), ["ONE", "TWO"]),        # A2 and A
-            ((0x18FF1000, "ENGINE", 8), (0x18FF100F, "Vector__XXX", 7), ["ONE"]),          # without a sender
+            ((0x18FF1000, "ENGINE", 8), (0x18FF10FE, "Vector__XXX", 7), ["ONE"]),          # without a sender
             ((0x18FF1000, "ENGINE", 8), (0x18EF0F0F, "RETARDER", 7), ["ONE"]),             # to itself
             ((0x18FF1000, "ENGINE", 8), (0x19FFFF0F, "RETARDER", 7), ["ONE", "TWO"]),      # B with the data page
         )):
@@ -210,7 +229,7 @@ class Groups(WithDbc):
                 data = NODES + message(FROM_0, "EEC1", "ENGINE") + "".join(
                     message(identifier, name, sender, length=length)
                     for name, (identifier, sender, length) in (("ONE", first), ("TWO", second)))
-                plan, said = self.plan(data=data)
+                plan, said = self.plan("--version", "3", data=data)
                 private = [group["label"] for group in plan["group"] if group.get("private")]
                 self.assertEqual(private, groups)
                 self.assertLessEqual(set(private), {flow["group"] for flow in plan["flow"]})
@@ -226,14 +245,15 @@ class Groups(WithDbc):
     def test_frames_of_one_group_mean_the_same(self):
         """Of two frames of one PGN the group has what the first one says; what the second says otherwise is noted, and at its flow too."""
         first, table = 'SPN1 : 8|8@1+ (1,-40) [0|0] "" RETARDER', 'VAL_ {} SPN1 254 "hot" ;\n'.format(FROM_15 | 1 << 31)
-        scale, lies, unit = "has another factor or offset", "lies over it", "has another unit of measurement"
+        scale, unit, kept = "has another factor or offset", "has another unit of measurement", "signal SPN1 of EEC1_B: SPN1 of EEC1 {}; only that one is in the plan"
+        place = "signal SPN1 of EEC1_B: it is at {}, 8 bits, and SPN1 of EEC1 at 2.1, 8 bits; only that one is in the plan"
         for second, more, other in (
-            ('SPN1 : 8|8@1+ (2,-40) [0|0] "" ENGINE', "", scale), ('SPN1 : 8|8@1+ (1,0) [0|0] "" ENGINE', "", scale),
-            ('SPN1 : 8|8@1- (1,-40) [0|0] "" ENGINE', "", "has another sign and another kind of numbers that are values"),
-            ('SPN1 : 8|8@1+ (1,-40) [0|0] "°C" ENGINE', "", unit), ('SPN1 : 16|8@1+ (1,-40) [0|0] "" ENGINE', "", ""),
-            (first, table.replace("254", "1"), "has another kind of numbers that are values"), ('SPN1 : 12|8@1+ (1,-40) [0|0] "" ENGINE', "", lies),
-            ('SPN1 : 15|8@0+ (1,-40) [0|0] "" ENGINE', "", lies), ('SPN1 m0 : 8|8@1+ (1,-40) [0|0] "" ENGINE', "", "has another way of coding"),
-            (first, "", ""), ('OTHER : 8|8@1+ (1.0,-40.00) [0|0] "" ENGINE', table, ""),
+            ('SPN1 : 8|8@1+ (2,-40) [0|0] "" ENGINE', "", kept.format(scale)), ('SPN1 : 8|8@1+ (1,0) [0|0] "" ENGINE', "", kept.format(scale)),
+            ('SPN1 : 8|8@1- (1,-40) [0|0] "" ENGINE', "", kept.format("has another sign and another kind")),
+            ('SPN1 : 8|8@1+ (1,-40) [0|0] "°C" ENGINE', "", kept.format(unit)), ('SPN1 : 16|8@1+ (1,-40) [0|0] "" ENGINE', "", place.format("3.1")),
+            ('SPN1 : 12|8@1+ (1,-40) [0|0] "" ENGINE', "", place.format("2.5")),
+            ('SPN1 m0 : 8|8@1+ (1,-40) [0|0] "" ENGINE', "", kept.format("has another way of coding")),
+            ('SPN1 : 15|8@0+ (1,-40) [0|0] "" ENGINE', "", ""), (first, table.replace("254", "1"), ""), (first, "", ""),
         ):
             text, said = self.text(
                 data=NODES + message(FROM_0, "EEC1", "ENGINE", first) + message(FROM_15, "EEC1_B", "RETARDER", second) + more)
@@ -241,11 +261,9 @@ class Groups(WithDbc):
             self.assertEqual([flow["from"] for flow in plan["flow"]], ["ENGINE", "RETARDER"], second)
             self.assertEqual(len(plan["group"]), 1)
             told = [line for line in said if line.startswith("signal ")]
-            wanted = f"signal SPN1 of EEC1_B: SPN1 of EEC1 {other}, and is in the plan alone"
-            self.assertEqual(told, [wanted] if other else [], second)
+            self.assertEqual(told, [other] if other else [], second)
             self.assertEqual('"laid out otherwise: SPN1"' in text, bool(other))
-            places = [signal["byte"] for signal in plan["group"][0]["signal"]]
-            self.assertEqual(places, [2, 3] if "16|8" in second else [2])
+            self.assertEqual([signal["byte"] for signal in plan["group"][0]["signal"]], [2])
 
     def test_a_group_has_one_priority(self):
         plan, said = self.plan(data=NODES + message(FROM_0, "EEC1", "ENGINE") + message(0x18F0040F, "AGAIN", "RETARDER"))
@@ -403,7 +421,7 @@ class Signals(WithDbc):
         """Nobody sends it, or it goes to somebody else: that is said, and check finds it. What only its receiver sends is no need."""
         signal = 'S : 0|8@1+ (1,0) [0|0] "" {}'
         for identifier, sender, receiver, unmet in (
-            (FROM_0, "Vector__XXX", "RETARDER", True), (FROM_0, "ENGINE", "RETARDER", False), (0x0C000F00, "ENGINE", "RETARDER", False),
+            (FROM_0 | 0xFE, "Vector__XXX", "RETARDER", True), (FROM_0, "ENGINE", "RETARDER", False), (0x0C000F00, "ENGINE", "RETARDER", False),
             (FROM_0, "ENGINE", "ENGINE", None), (0x0C000F00, "ENGINE", "ENGINE", None),
         ):
             data = NODES + 'BA_ "NmStationAddress" BU_ ENGINE 0;\n' + message(identifier, "G", sender, signal.format(receiver))
@@ -414,7 +432,7 @@ class Signals(WithDbc):
 
     def test_what_is_left_out_of_a_group_of_a_maker(self):
         _, said = self.plan(data=NODES + message(FROM_0, "EEC1", "ENGINE") + message(0x18FF1000, "ONE", "ENGINE") + (
-            message(0x18FF1000, "TWO", "ENGINE", length=7) + message(0x18FF1100, "THREE", "Vector__XXX")))
+            message(0x18FF1000, "TWO", "ENGINE", length=7) + message(0x18FF11FE, "THREE", "Vector__XXX")))
         self.assertIn("group TWO: ONE has the same PGN 65296 from the same unit to the same receiver, and is another group", said)
         self.assertIn("group THREE: PGN 65297 is proprietary, and no unit in the plan sends it to another one", said)
 

@@ -93,7 +93,7 @@ class Spelling(WithDbc):
             os.rename(self.write("file.dbc", DBC), self.path(name))
             status, plan, said = run("dbc2plan.py", self.path(name))
             self.assertEqual(status, 0, said)
-            self.assertEqual(self.checked(plan).splitlines()[0], f"# From {shown}: look it through.")
+            self.assertEqual(self.checked(plan).splitlines()[0], f"# From {shown}: review it.")
 
 
 @needs("canmatrix", "python3-canmatrix")

@@ -37,7 +37,7 @@ class WithFiles(WithDbc):
 class Suppliers(WithFiles):
     def test_a_truck_of_four_files(self):
         """Each has its own units' NAMEs, and of the others' groups what it receives. What contradicts is said with both files' names."""
-        plan, flows, said = self.joined(*SUPPLIERS)
+        plan, flows, said = self.joined(*SUPPLIERS, words=("--identity",))
         units = [(unit["label"], unit["address"], unit["name"]["identity"], unit["name"]["manufacturer"]) for unit in plan["unit"]]
         self.assertEqual(units, [("ENGINE", 0, 204817, 310), ("GEARBOX", 3, 5512, 401), ("BRAKES", 11, 30722, 201),
                                  ("RETARDER", 15, 11204, 201), ("CLUSTER", 23, 7733, 310)])
@@ -48,10 +48,10 @@ class Suppliers(WithFiles):
             ("ETC1", "GEARBOX", "all"), ("ETC2", "GEARBOX", "all"), ("EBC1", "BRAKES", "all"), ("EBC2", "BRAKES", "all"),
             ("ERC1", "RETARDER", "all"), ("CCVS", "CLUSTER", "all")})
         self.assertEqual(said, [
-            f"{CAB}: unit GEARBOX, NmJ1939ManufacturerCode: 44 is passed over: {GEARBOX} has 401",
+            f"{CAB}: unit GEARBOX, NmJ1939ManufacturerCode: 44 is ignored: {GEARBOX} has 401",
             f"{GEARBOX}: signal SPN190 of EEC1: its unit 'RPM' is 'rpm' in EEC1 in {ENGINE}, as in the plan",
             f"{BRAKES}: flow of EEC1 from ENGINE to all: its cycle times are 10 ms in {ENGINE} and 20 ms: the lesser one is its period",
-            f"{CAB}: signal SPN174 of ET1: SPN174 of ET1 in {ENGINE} has another factor or offset, and is in the plan alone",
+            f"{CAB}: signal SPN174 of ET1: SPN174 of ET1 in {ENGINE} has another factor or offset; only that one is in the plan",
             f"{CAB}: signal SPN183 of LFE1: its unit 'L/h' is 'l/h' in LFE1 in {ENGINE}, as in the plan",
             "5 units 14 groups 18 flows 20 needs, notes 5"])
         self.assertEqual(program.call(["check", self.path("plan.toml")]), (0, "ok 5 units 14 groups 18 flows\n"))
@@ -84,7 +84,7 @@ class Suppliers(WithFiles):
         first = self.write("first.dbc", "BU_: ONE TWO\n" + message(EEC1, "EEC1", "ONE") + message(0x18FEEE07, "ET1", "TWO"))
         second = self.write("second.dbc", "BU_: THREE FOUR\n" + message(0x18FEEF08, "EFL", "THREE") + message(0x18FEF109, "CCVS", "FOUR") + (
             'BA_DEF_ BU_ "NmJ1939IdentityNumber" INT 0 2097151;\nBA_ "NmJ1939IdentityNumber" BU_ THREE 1;\n'))
-        plan, _, _ = self.joined(first, second)
+        plan, _, _ = self.joined(first, second, words=("--version", "3"))
         self.assertEqual([unit["name"]["identity"] for unit in plan["unit"]], [2, 3, 1, 4])
 
     def test_a_file_without_addresses(self):
@@ -95,7 +95,7 @@ class Suppliers(WithFiles):
     def test_the_same_file_twice(self):
         copy = self.write("copy.dbc", text_of(ENGINE))
         plan, _, said = self.joined(ENGINE, copy)
-        self.assertEqual(said[0], f"{copy}: file: it holds the same as {ENGINE}, and is passed over")
+        self.assertEqual(said[0], f"{copy}: file: it holds the same as {ENGINE}, and is ignored")
         alone, _, _ = self.joined(ENGINE)
         self.assertEqual(plan, alone)
 
@@ -143,13 +143,13 @@ class OneGroup(WithFiles):
             plan, flows, said = self.joined(name)
             told = [line for line in said if line.startswith("signal ")]
             self.assertEqual((len(plan["group"]), len(flows), len(told)), (1, 2, 1 if agree is None else agree), (unit, said))
-            self.assertEqual("and is in the plan alone" in "".join(told), agree is None)
+            self.assertEqual("only that one is in the plan" in "".join(told), agree is None)
 
     def test_tables_of_values_that_differ(self):
         tables = "".join(f'VAL_ {identifier | 1 << 31} S 0 "{name}" ;\n' for identifier, name in ((EEC1, "off"), (EEC1_AT_15, "open")))
         _, said = self.text(data=NODES + message(EEC1, "EEC1", "ENGINE", 'S : 0|2@1+ (1,0) [0|0] "" RETARDER') + message(
             EEC1_AT_15, "EEC1_B", "RETARDER", 'S : 0|2@1+ (1,0) [0|0] "" ENGINE') + tables)
-        self.assertIn("signal S of EEC1_B: its table of values isn't that of S of EEC1, which is kept", said)
+        self.assertIn('signal S of EEC1_B: it has another table of values; the plan has that of EEC1: 0 is "open", there "off"', said)
 
     def test_who_receives_what(self):
         """The flow has all that receive something of it, a signal those that receive it, where not all receive all."""
@@ -239,18 +239,18 @@ class WhatAFileSays(WithFiles):
         self.assertEqual(program.call(["load", name])[1].splitlines()[-1], "load 16000 of 500000")
         slow, fast = (self.write(name, beside + define + f'BA_ "Baudrate" {told};\n') for name, told in (("a.dbc", 250000), ("b.dbc", 500000)))
         _, _, said = self.joined(slow, fast)
-        self.assertIn(f"{fast}: the bus, Baudrate: 500000 is passed over: {slow} has 250000", said)
+        self.assertIn(f"{fast}: the bus, Baudrate: 500000 is ignored: {slow} has 250000", said)
 
 
 @needs("canmatrix", "python3-canmatrix")
 class NotesAndForms(WithFiles):
     def test_notes_as_json(self):
         name = self.path("notes.json")
-        status, _, said = run("dbc2plan.py", *SUPPLIERS, "--notes", name)
+        status, _, said = run("dbc2plan.py", *SUPPLIERS, "--identity", "--notes", name)
         notes = [json.loads(line) for line in text_of(name).splitlines()]
         self.assertEqual((status, len(notes)), (0, 5))
         self.assertEqual([": ".join(note.values()) for note in notes], said.splitlines()[:-1])
-        self.assertEqual(notes[0], {"file": CAB, "what": "unit GEARBOX, NmJ1939ManufacturerCode", "why": f"44 is passed over: {GEARBOX} has 401"})
+        self.assertEqual(notes[0], {"file": CAB, "what": "unit GEARBOX, NmJ1939ManufacturerCode", "why": f"44 is ignored: {GEARBOX} has 401"})
         run("plan2dbc.py", example("first_plan.toml"), "--notes", name)
         self.assertEqual(text_of(name), "")
 
@@ -265,9 +265,9 @@ class NotesAndForms(WithFiles):
 
     def test_standard_input_has_a_kind(self):
         whole = text_of(example("vehicle.dbc"))
-        status, plan, said = run("dbc2plan.py", "--kind", "dbc", "/dev/stdin", text=whole)
+        status, plan, said = run("dbc2plan.py", "--identity", "--kind", "dbc", "/dev/stdin", text=whole)
         self.assertEqual((status, said), (0, "group ERC1: its identifier has the source address 15, RETARDER has 0\n3 units 4 groups 4 flows 5 needs, notes 1\n"))
-        self.assertEqual(plan.splitlines()[1:], run("dbc2plan.py", example("vehicle.dbc"))[1].splitlines()[1:])
+        self.assertEqual(plan.splitlines()[1:], run("dbc2plan.py", "--identity", example("vehicle.dbc"))[1].splitlines()[1:])
         self.assertEqual(run("dbc2plan.py", "/dev/stdin", text=whole)[0], 2)
 
     def test_encodings(self):

@@ -157,8 +157,8 @@ class Tasks(Fleets):
                                "fleet: early.log: the same log as early.log, so it is read once\n")
 
     def test_a_plan_that_is_none(self):
-        self.assertEqual(self.fleet([self.early], plan=self.write("none.toml", "version = 9\n")),
-                         (2, "", "fleet: refused Range top key version\n"))
+        none = self.write("none.toml", "version = 9\n")
+        self.assertEqual(self.fleet([self.early], plan=none), (2, "", "fleet: none.toml:1: refused Range top key version  (version = 9: integer 1..4)\n"))
         bad = example("findings/f07_signal_outside.toml")
         self.assertEqual(self.fleet([self.early], plan=bad)[0], 1)
         missing = self.path("missing.toml")

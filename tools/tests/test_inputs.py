@@ -1,5 +1,6 @@
 """What the tools make of files that aren't what they want, and of those that aren't regular ones."""
 
+import gzip
 import importlib.util
 import os
 import random
@@ -103,12 +104,13 @@ class OtherFiles(InFolder):
                 file.write(data)
 
     def test_as_a_plan(self):
-        """The program's refusal, and status 2; `where` puts its line before it."""
+        """The program's refusal with its line and a hint, as `where` has it, and status 2."""
         for name in self.files:
             refused = program.call(["check", name])[1].strip()
             self.assertTrue(refused.startswith("refused "), name)
+            placed = run("where.py", name)[1]
             for words in (["startup.py", name], ["report.py", name], ["against.py", name, LOG], ["signals.py", name, LOG]):
-                self.assertEqual(run(*words), (2, "", f"{words[0][:-3]}: {refused}\n"))
+                self.assertEqual(run(*words), (2, "", f"{words[0][:-3]}: {placed}"))
             for form in ([], ["--github"]):
                 status, answer, said = run("where.py", *form, name)
                 self.assertEqual((status, said, answer.count("\n")), (2, "", 1), name)
@@ -150,6 +152,16 @@ class OtherFiles(InFolder):
                 self.assertEqual((status, answer), (2, ""), words)
                 self.assertIn(f"has no frame, and {text.count(chr(10))} lines that spell none: {CONVERTER}\n", said)
             self.assertFalse(os.path.exists(self.path("a.svg")))
+
+    def test_one_of_several_logs_that_is_none(self):
+        """It is named; a log of one frame is one, and a packed one is told apart."""
+        drive, short, other = self.write("a.log", text_of(LOG)), self.write("b.log", "18FEEE00#8AFF0030FFFFFFFF\n"), self.write("c.asc", "date Mon Nov 23\n")
+        for tool in ("against.py", "signals.py"):
+            self.assertIn(run(tool, PLAN, drive, short)[0], (0, 1))
+            self.assertEqual(run(tool, PLAN, drive, other)[::2], (2, f"{tool[:-3]}: {other} has no frame: {CONVERTER}\n"))
+            with gzip.open(self.path("a.log.gz"), "wb") as file:
+                file.write(text_of(LOG).encode())
+            self.assertRegex(run(tool, PLAN, self.path("a.log.gz"))[2], r"/a\.log\.gz has no frame, and .*: it is packed by gzip: read it as <\(zcat FILE\)\n")
 
     def test_names_of_any_bytes(self):
         """A name that is no text, or has a line feed, is no fault of a plan."""

@@ -7,7 +7,7 @@ from modules import j1939, plan_format, program
 from tests.support import TOP, InFolder, text_of
 
 GROUP = '[[group]]\nlabel = "G{0}"\npgn = {0}\npriority = 6\nlength = 8\n'
-PAGE = text_of(os.path.join(TOP, "docs", "PLAN.md"))
+PAGE, FINDINGS = (text_of(os.path.join(TOP, "docs", name)) for name in ("PLAN.md", "FINDINGS.md"))
 
 
 class Numbers(InFolder):
@@ -29,7 +29,7 @@ class Numbers(InFolder):
     def test_other_services_are_taken(self):
         """They are those that the page names behind the table of F4."""
         self.assertEqual(self.bad(j1939.OTHER_SERVICES), set())
-        named = re.search(r"Only these are found\. Other groups .*?\n\n", PAGE, re.DOTALL).group()
+        named = re.search(r"Only these are found\. Other groups .*?\n\n", FINDINGS, re.DOTALL).group()
         self.assertEqual(sorted(map(int, re.findall(r"\b\d{5}\b", named))), sorted(j1939.OTHER_SERVICES))
 
     def test_the_fields_of_a_name_are_those_of_the_page_and_of_the_schema(self):

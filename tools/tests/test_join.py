@@ -250,10 +250,51 @@ class Contradictions(Joined):
         """A NAME that another unit has, a fixed address that another one has, and one that may choose, which is none."""
         first = "version = 1\n" + unit("A", 1, 1)
         self.assertEqual(self.contradicted(first, "version = 1\n" + unit("B", 2, 1))[0], [
-            "b.toml:5: unit B has the NAME of unit A at a.toml:5", "b.toml:4: unit B: address = 2, and 1 at a.toml:4"])
+            "b.toml:5: unit B has the NAME of unit A at a.toml:5"])
         self.assertEqual(self.contradicted(first, "version = 1\n" + unit("B", 1, 2))[0],
-                         ["b.toml:4: unit B is fixed at address 1, as unit A is at a.toml:4"])
+                         ["b.toml:4: unit B is fixed at address 1, as unit A is at a.toml:4: --same A=B, if they are one"])
         self.joined(first, "version = 1\n" + unit("B", 1, 2, ", arbitrary = true"))
+
+    def test_a_unit_of_another_label_and_address_is_another_one(self):
+        """Whatever its NAME is; with --first both are in the plan, and check finds the NAME that they have."""
+        names = [self.write(f"{label}.toml", "version = 3\n" + unit(label, address, 1) + group(sent, pgn, private=False) + flow(sent, label))
+                 for label, address, sent, pgn in (("ENGINE", 0, "EEC1", 61444), ("HVAC", 25, "AMB", 65269))]
+        status, text, said = run("join.py", "--first", *names)
+        plan = tomllib.loads(text)
+        self.assertEqual((status, [(unit["label"], unit["address"]) for unit in plan["unit"]]), (1, [("ENGINE", 0), ("HVAC", 25)]))
+        self.assertEqual([(flow["group"], flow["from"]) for flow in plan["flow"]], [("EEC1", "ENGINE"), ("AMB", "HVAC")])
+        self.assertEqual(said.splitlines(), [f"{names[1]}:5: unit HVAC has the NAME of unit ENGINE at {names[0]}:5",
+                                             "2 plans: findings 1, notes 0, contradictions 1"])
+        self.assertIn("F1 SameName ENGINE HVAC", program.call(["check", self.write("joined.toml", text)])[1])
+
+    def test_serial_numbers(self):
+        """Units that may be one are, at one address; a number stays where each file has it, and of two at other addresses that is told."""
+        tables = [f'version = 4\n[[unit]]\nlabel = "{label}"\naddress = {address}\nname = {{ {number}manufacturer = 310 }}\n'
+                  for label, address, number in (("ENGINE", 0, "identity = 5, "), ("EMS", 0, ""), ("HVAC", 25, ""))]
+        for first, other, called in ((0, 1, "ENGINE"), (1, 0, "EMS")):
+            status, text, said = self.join(tables[first], tables[other])
+            self.assertEqual((status, tomllib.loads(text)["unit"]), (0, [{"label": called, "address": 0, "name": {"manufacturer": 310}}]))
+            unit = ("EMS", "ENGINE")[first]
+            self.assertEqual(said[:-1], [
+                f"b.toml:5: note: unit {unit}: its identity number 5 is left away, since not each file has one",
+                f"b.toml:3: note: unit {unit} is called {called}, as at a.toml:2"])
+        self.assertEqual(self.contradicted(tables[0], tables[2])[0],
+                         ["b.toml:5: unit HVAC has the NAME of unit ENGINE at a.toml:5, whatever their numbers are"])
+        self.assertEqual(self.contradicted(tables[0], tables[0].replace("= 5,", "= 6,"))[0],
+                         ["b.toml:5: unit ENGINE: name.identity = 6, and 5 at a.toml:5"])
+
+    def test_units_that_are_one(self):
+        """As --same says, whichever file comes first."""
+        names = [self.write(f"{label}.toml", "version = 3\n" + unit(label, 0, 1) + group(sent, pgn, private=False) + flow(sent, label))
+                 for label, sent, pgn in (("ENGINE", "EEC1", 61444), ("EMS", "ET1", 65262))]
+        for files in (names, names[::-1]):
+            status, text, said = run("join.py", "--same", "ENGINE=EMS", *files)
+            plan = tomllib.loads(text)
+            self.assertEqual((status, [unit["label"] for unit in plan["unit"]]), (0, ["ENGINE"]), said)
+            self.assertEqual({(flow["group"], flow["from"]) for flow in plan["flow"]}, {("EEC1", "ENGINE"), ("ET1", "ENGINE")})
+            self.assertIn(f"{names[1]}:3: note: unit EMS is called ENGINE", said)
+        self.assertEqual(run("join.py", "--same", "ENGINE=ECM", *names)[::2], (2, "join: --same ENGINE=ECM: no unit is called ECM\n"))
+        self.assertEqual(run("join.py", "--same", "ENGINE", *names)[0], 2)
 
     def test_groups_and_periods(self):
         first = "version = 3\n" + unit("A", 1, 1) + group("G", 65262, private=False) + flow("G", "A", more="period = 10\n")

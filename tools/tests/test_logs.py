@@ -1,4 +1,4 @@
-"""The routes from logs of other tools to `read`, as docs/GUIDE.md shows them."""
+"""The routes from logs of other tools to `read`, as docs/LOGS.md shows them."""
 
 import os
 import re
@@ -18,16 +18,16 @@ LOG = example("tractor_and_implement.start.log")
 # The log without its bad line.
 LINES = [line for line in text_of(LOG).splitlines() if not line.endswith(" R")]
 
-GUIDE = text_of(os.path.join(TOP, "docs", "GUIDE.md"))
+PAGE = text_of(os.path.join(TOP, "docs", "LOGS.md"))
 
 # Its sentences, wherever their lines break.
-PROSE = " ".join(GUIDE.split())
+PROSE = " ".join(PAGE.split())
 
 
 class ShownLines(InFolder):
     def shown(self, line):
         """Runs a line that the guide shows."""
-        self.assertIn(line, GUIDE.replace("\\|", "|"))
+        self.assertIn(line, PAGE.replace("\\|", "|"))
         self.shell(line)
 
     def shell(self, line):
@@ -71,7 +71,7 @@ class Logs(ShownLines):
     @needs("can", "python3-can")
     def test_asc_blf_and_trc_by_python_can(self):
         import can
-        convert, mend = re.search(r"`(python3 -m can\.logconvert [^`]*)`, then `([^`]*)`", GUIDE).groups()
+        convert, mend = re.search(r"`(python3 -m can\.logconvert [^`]*)`, then `([^`]*)`", PAGE).groups()
         messages = list(can.LogReader(self.write("plain.log", "".join(f"{line}\n" for line in LINES))))
         for ending in ("asc", "blf", "trc"):
             with can.Logger(self.path(f"drive.{ending}")) as logger:
@@ -83,7 +83,7 @@ class Logs(ShownLines):
 
 
 class NotShown(InFolder):
-    """What docs/GUIDE.md says that `read` doesn't show."""
+    """What docs/LOGS.md says that `read` doesn't show."""
 
     GROUP = 'version = 1\n[[group]]\nlabel = "G"\npgn = {}\npriority = 6\nlength = {}\n'
     SIGNAL = '[[group.signal]]\nlabel = "S"\nbyte = 1\nbits = 8\nkind = "raw"\n'
@@ -144,7 +144,7 @@ class Shown(ShownLines):
 
     def test_a_running_bus(self):
         line = "candump -L can0 | ./j39plan read plan.toml /dev/stdin"
-        self.assertIn(line, GUIDE)
+        self.assertIn(line, PAGE)
         self.stand_in("candump", f'[ "$*" = "-L can0" ] && cat "{LOG}"')
         self.shell(f"PATH=.:$PATH; {line} > live.txt")
         self.assertEqual(text_of(self.path("live.txt")), self.answer)
@@ -152,7 +152,7 @@ class Shown(ShownLines):
     def test_an_interrupt_of_the_shell(self):
         """What ends `candump`, and all of its pipe with it, lets `follow` tell what came: it is of a process group that is interrupted."""
         line = "candump -L can0 | (trap '' INT; exec ./j39plan follow plan.toml /dev/stdin)"
-        self.assertIn(line, GUIDE)
+        self.assertIn(line, PAGE)
         self.stand_in("candump", f'cat "{LOG}"; exec sleep 60')
         with open(self.path("live.txt"), "wb") as live, subprocess.Popen(
                 ["sh", "-c", f"PATH=.:$PATH; {line}"], cwd=self.folder, stdout=live, start_new_session=True,
@@ -171,7 +171,7 @@ class Shown(ShownLines):
 
     def test_one_interface_of_a_running_bus(self):
         line = "candump -L can0 can1 | grep --line-buffered ' can1 ' | ./j39plan follow plan.toml /dev/stdin"
-        self.assertIn(line, GUIDE)
+        self.assertIn(line, PAGE)
         other = self.write("other.log", text_of(LOG).replace(" can0 ", " can1 "))
         self.stand_in("candump", f'[ "$*" = "-L can0 can1" ] && paste -d "\\n" "{LOG}" "{other}"')
         self.shell(f"PATH=.:$PATH; {line} > live.txt")

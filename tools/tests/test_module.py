@@ -8,6 +8,8 @@ import re
 import subprocess
 import sys
 import unittest
+import warnings
+from decimal import Decimal
 
 import j39plan
 from modules import program
@@ -148,6 +150,86 @@ class Logs(InFolder):
         with self.assertRaises(j39plan.Refused):
             list(j39plan.signals(self.plan, LOG, ["SPN999999"]))
         self.assertEqual(j39plan.drive(self.plan, self.path("missing.log"))["status"], 4)
+
+
+    def test_what_the_tools_refuse(self):
+        """Logs of other programs, and options by which there is no list of deviations."""
+        for name, text in (("drive.asc", "date Thu Nov 26\n base hex timestamps absolute\n 0.1 1 CF00400x Rx d 8 FF\n"), ("noise.log", "\0\1\2\n"),
+                           ("console.log", "  can0  0CF00400   [8]  FF FF FF FF FF FF FF FF\n")):
+            for call in (j39plan.follow, j39plan.signals, j39plan.frame, j39plan.deviations):
+                if call is j39plan.frame and importlib.util.find_spec("pandas") is None:
+                    continue
+                with self.assertRaises(j39plan.Refused) as caught:
+                    list(call(self.plan, self.write(name, text)))
+                self.assertEqual((caught.exception.status, "has no frame, and" in str(caught.exception)), (2, True), (name, call))
+        with self.assertRaises(j39plan.Refused) as caught:
+            j39plan.deviations(self.plan, LOG, ["--table"])
+        self.assertEqual(str(caught.exception), "with --table against writes no list of deviations")
+
+    def test_one_name_is_a_text(self):
+        self.assertEqual(list(j39plan.signals(self.plan, LOG, "SPN190")), list(j39plan.signals(self.plan, LOG, ["SPN190"])))
+
+    def test_what_a_tool_says_is_a_warning(self):
+        """How many lines spell no frame, and how many are of other interfaces; a log that is read whole has none."""
+        log = self.write("drive.log", text_of(LOG) + "(1764230402.000000) can1 0CF00400#FFFFFF0019FFFFFF\nno frame\n")
+        calls = [j39plan.follow, j39plan.signals, j39plan.deviations] + [j39plan.frame] * (importlib.util.find_spec("pandas") is not None)
+        for call in calls:
+            for name, told in ((log, ["1 lines spell no frame", "the first interface is read; 1 lines of others are passed over"]), (LOG, [])):
+                with warnings.catch_warnings(record=True) as caught:
+                    warnings.simplefilter("always", j39plan.Notice)
+                    list(call(self.plan, name))
+                said = [warning for warning in caught if warning.category is j39plan.Notice]
+                self.assertEqual([str(warning.message) for warning in said], told, call)
+                self.assertEqual({os.path.basename(warning.filename) for warning in said}, {"test_module.py"} if told else set())
+
+    def test_signals_by_their_labels(self):
+        """Of a message, with exact values; a code and a fault by their parts."""
+        message = next(report for report in j39plan.follow(self.plan, LOG) if isinstance(report, j39plan.Message))
+        self.assertEqual(message.signals["SPN190"], j39plan.Reading("value", Decimal(800), "rpm", ""))
+        self.assertEqual(set(message.signals), {signal.label for group in self.plan.groups if group.label == "EEC1" for signal in group.signals})
+        self.assertNotIn("SPN999", message.signals)
+
+    def test_a_frame_is_decoded(self):
+        """As `follow` does, whose sender the plan tells; in the standard's bits: 0x1900 of 0.125 rpm are 800 rpm."""
+        for data in ("FFFFFF0019FFFFFF", bytes.fromhex("FFFFFF0019FFFFFF")):
+            message = self.plan.decode(0x0CF00400, data)
+            self.assertEqual((message.group, message.sender.label, message.signals["SPN190"].value), ("EEC1", "ENGINE", 800))
+        self.assertEqual(self.plan.decode(0x0CF00400, "FFFFFFFFFEFFFFFF").signals["SPN190"].state, "fault")
+        self.assertIsNone(self.plan.decode(0x18FEDF00, "FF" * 8))
+        for identifier, data in ((1 << 29, "00"), (0x0CF00400, "00" * 1786), (0x0CF00400, "0")):
+            with self.assertRaises(ValueError):
+                self.plan.decode(identifier, data)
+
+    def test_a_longer_message_is_decoded(self):
+        """A broadcast, and one that goes to one unit."""
+        plan = j39plan.read_plan(example("identification.toml"))
+        group = next(group for group in plan.groups if group.texts and group.length > 8)
+        flow = next(flow for flow in plan.flows if flow.group == group.label)
+        source = next(unit.address for unit in plan.units if unit.label == flow.sender)
+        message = plan.decode(6 << 26 | group.pgn << 8 | source, b"A" * group.length)
+        self.assertEqual((message.group, message.sender.label, message.data), (group.label, flow.sender, "41" * group.length))
+        self.assertIn("text", {reading.state for reading in message.signals.values()})
+        text = ("version = 1\n" + "".join(f'[[unit]]\nlabel = "{label}"\naddress = {at}\nname = {{ identity = {at} }}\n' for label, at in (("A", 1), ("B", 2)))
+                + '[[group]]\nlabel = "G"\npgn = 0xD400\npriority = 6\nlength = 20\n[[group.signal]]\nlabel = "S"\nbyte = 20\nbits = 8\nkind = "raw"\n'
+                + '[[flow]]\ngroup = "G"\nfrom = "A"\nto = "B"\n')
+        message = j39plan.read_plan(self.write("plan.toml", text)).decode(0x18D40201, bytes(range(20)))
+        self.assertEqual((message.group, message.sender.label, message.to.label, message.signals["S"].value), ("G", "A", "B", 19))
+
+    @unittest.skipUnless(importlib.util.find_spec("pandas"), "pandas isn't there: apt-get install python3-pandas")
+    def test_a_table_of_pandas(self):
+        """The rows are those of `signals`, with small types; the times are exact."""
+        table, rows = j39plan.frame(self.plan, LOG), list(j39plan.signals(self.plan, LOG))
+        self.assertEqual(len(table), len(rows))
+        self.assertEqual({column: str(table[column].dtype) for column in ("from", "group", "signal", "unit", "source", "line", "value")}, {
+            "from": "category", "group": "category", "signal": "category", "unit": "category", "source": "UInt8", "line": "int64", "value": "float64"})
+        for at, row in ((0, rows[0]), (len(rows) - 1, rows[-1])):
+            self.assertEqual([table.iloc[at][key] for key in ("line", "from", "signal", "state")], [row[key] for key in ("line", "from", "signal", "state")])
+        self.assertEqual(table[table["signal"] == "SPN190"]["value"].iloc[0], 800)
+        first, _, micro = text_of(LOG).split()[0].strip("()").partition(".")
+        self.assertEqual((table.index[0].value, str(table.index.tz)), (int(first) * 10**9 + int(f"{micro:0<9}"), "UTC"))
+        self.assertEqual(set(j39plan.frame(self.plan, LOG, "SPN190")["signal"]), {"SPN190"})
+        with self.assertRaises(j39plan.Refused):
+            j39plan.frame(self.plan, LOG, "SPN999999")
 
 
 class Documents(unittest.TestCase):

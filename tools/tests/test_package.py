@@ -18,7 +18,7 @@ from tests.support import TOOLS, TOP, InFolder, text_of
 
 PACKAGE = os.path.join(TOOLS, "package")
 COMMANDS = ["show", "check", "addresses", "load", "run", "read", "follow", "frame", "help"]
-INSTALLED = ["where", "startup", "dbc2plan", "plan2dbc", "join", "compare", "against", "fleet", "report", "signals", "plot", "tolog",
+INSTALLED = ["where", "answer", "startup", "dbc2plan", "plan2dbc", "join", "compare", "against", "fleet", "report", "signals", "plot", "tolog",
              "check-plans"]
 PAGE = text_of(os.path.join(TOP, "docs", "TOOLS.md"))
 
@@ -191,6 +191,8 @@ class Pages(unittest.TestCase):
         for tool in INSTALLED:
             name = tool if tool == "check-plans" else f"{tool}.py"
             shown = "\n".join(lines_of(os.path.join(TOOLS, name), "--help"))
+            if tool != "check-plans":
+                self.assertRegex(shown.split("\n\n")[1], r"\.\Z", tool)
             options = set(re.findall(r"--[a-z][a-z-]*", shown))
             page = text_of(os.path.join(PACKAGE, "man", f"j39plan-{tool}.1")).replace("\\-", "-")
             synopsis = page[page.index(".SH SYNOPSIS"):page.index(".SH DESCRIPTION")]
@@ -248,6 +250,9 @@ class Completions(InFolder):
             self.assertIn("--help", shown)
             self.assertEqual(self.complete_bash(f"j39plan-{tool}", "-"), shown)
         self.assertEqual(self.complete_bash("j39plan-where", "--g"), ["--github", "--gitlab"])
+        self.assertEqual(self.complete_bash("j39plan-dbc2plan", "--kind", ""), ["dbc", "arxml", "kcd", "sym"])
+        self.assertEqual(self.complete_bash("j39plan-answer", "l"), ["load"])
+        self.assertEqual(self.complete_bash("j39plan-report", "plan.toml", "-o", "where."), ["where.py"])
 
     @unittest.skipUnless(shutil.which("fish"), "fish isn't there: apt-get install fish")
     def test_fish(self):

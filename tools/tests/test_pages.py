@@ -12,13 +12,20 @@ import unittest
 from modules import program
 from tests.support import TOP, InFolder, example, text_of
 
-PAGES = ["README.md", *(f"docs/{name}" for name in sorted(os.listdir(os.path.join(TOP, "docs"))) if name.endswith(".md"))]
+PAGES = ["README.md", "CONTRIBUTING.md", "SECURITY.md", "CHANGELOG.md", *(f"docs/{name}" for name in sorted(os.listdir(os.path.join(TOP, "docs"))) if name.endswith(".md"))]
+
+# Pages with cells that are still longer than others may be.
+LONG_CELLS = {"docs/TOOLS.md"}
 
 # A command that can be run here: the program or a tool, at the beginning or behind another command.
 COMMAND = re.compile(r"(?:^|[\n;|] ?)(?:\./j39plan|tools/(?!package)[\w.-]+)(?: |$)")
 
 # A file that is named and then shown.
 FILE = re.compile(r"`examples/([\w./]+)`[^`]*(?:`(?!examples/)[^`\n]+`[^`]*)*?```(?:toml|text)\n(.*?)```", re.DOTALL)
+
+# Kinds of files that pages name, and those names among them that are of files of the reader or that a command makes.
+KINDS = "rt|antt|py|toml|md|json|check|load|run|read|follow|addresses|schedule|log|dbc|txt|c|sh|html|edit|show"
+OTHERS = {"gate/times.md", ".taplo.toml", ".vscode/tasks.json", "drive.log", "j1939.dbc"}
 
 # A definition, by the head of its line: an abbreviation, a function, a record or a family. Fields and constructors have no such head.
 DEFINITION = re.compile(r"^(?: *(?:abbrev|unfoldable)(?: pub)?| *pub (?:record|data)|record|data) ([^\s({:]+)", re.MULTILINE)
@@ -59,9 +66,11 @@ class Shown(InFolder):
         return ended.stdout.replace(self.folder + "/", "/tmp/")
 
     def test_commands_write_what_is_shown(self):
-        for name, least in (("README.md", 7), ("docs/PROMISES.md", 3), ("docs/PLAN.md", 1), ("docs/GUIDE.md", 20), ("docs/TOOLS.md", 11)):
+        least = {"README.md": 7, "docs/PROMISES.md": 3, "docs/PLAN.md": 6, "docs/TIMING.md": 10, "docs/SIMULATOR.md": 13, "docs/LOGS.md": 9,
+                 "docs/TOOLS.md": 11}
+        for name in PAGES:
             commands = [(command, shown) for command, shown in blocks(page(name)) if COMMAND.search(command)]
-            self.assertGreaterEqual(len(commands), least)
+            self.assertGreaterEqual(len(commands), least.get(name, 0), name)
             for command, shown in commands:
                 with self.subTest(command):
                     if missing(command):
@@ -69,19 +78,20 @@ class Shown(InFolder):
                     self.assertEqual(self.output(command), shown + "\n")
 
     def test_plans_are_answered_as_shown(self):
-        shown = re.findall(r"```toml\n([^`]*)```\n(?:(?!```).)*```text\n([^`]*)```", page("docs/PLAN.md"), re.DOTALL)
+        pages = page("docs/PLAN.md") + page("docs/TIMING.md")
+        shown = re.findall(r"```toml\n([^`]*)```\n(?:(?!```).)*```text\n([^`]*)```", pages, re.DOTALL)
         self.assertGreaterEqual(len(shown), 14)
         for plan, answer in shown:
             self.assertEqual(program.call(["check", self.write("plan.toml", plan)])[1], answer, plan)
 
     def test_examples_are_answered_as_shown(self):
-        shown = re.findall(r"`examples/(findings/\w+\.toml)`[^\n]*:\n\n```text\n(.*?)```", page("docs/PLAN.md"), re.DOTALL)
+        shown = re.findall(r"`examples/(findings/\w+\.toml)`[^\n]*:\n\n```text\n(.*?)```", page("docs/FINDINGS.md"), re.DOTALL)
         self.assertGreaterEqual(len(shown), 11)
         for plan, answer in shown:
             self.assertEqual(program.call(["check", example(plan)])[1], answer, plan)
 
     def test_files_are_as_shown(self):
-        for name, least in (("README.md", 1), ("docs/GUIDE.md", 4)):
+        for name, least in (("README.md", 1), ("docs/SIMULATOR.md", 4)):
             shown = re.findall(FILE, page(name))
             self.assertGreaterEqual(len(shown), least)
             for file, text in shown:
@@ -92,9 +102,17 @@ class Shown(InFolder):
 class Form(unittest.TestCase):
     def test_the_readme_ends_where_a_newcomer_has_an_answer(self):
         text = page("README.md")
-        self.assertLessEqual(len(text.splitlines()), 330)
-        self.assertLessEqual(len(text.split()), 3500)
+        self.assertLessEqual(len(text.split()), 2500)
         self.assertEqual([sentence for sentence in sentences(text) if len(sentence.split()) > 40], [])
+
+    def test_the_changelog_is_for_users(self):
+        """In the form of Keep a Changelog: versions, below them kinds of changes, and items; at most 60 lines."""
+        lines = page("CHANGELOG.md").splitlines()
+        self.assertLessEqual(len(lines), 60)
+        kinds = [line[4:] for line in lines if line.startswith("### ")]
+        self.assertLessEqual(set(kinds), {"Added", "Changed", "Deprecated", "Removed", "Fixed", "Security"})
+        versions = [line for line in lines if line.startswith("## ")]
+        self.assertEqual([line for line in versions if not re.fullmatch(r"## \d+\.\d+\.\d+ - (\d{4}-\d\d-\d\d|Unreleased)", line)], [])
 
     def test_sentences_are_told_apart(self):
         text = "# One\n\nTwo [a b](c d) `e f`. (Three\nfour.) Five\n- six\n- seven. Eight\n\n    code. Here\n\n| nine. | ten |\n"
@@ -105,9 +123,20 @@ class Form(unittest.TestCase):
         """But for tables, pictures and code."""
         for name in PAGES:
             lines = [line for line in without_code(page(name)).splitlines() if not line.startswith(("|", "![", "#"))]
-            self.assertGreaterEqual(len(lines), 60)
+            self.assertTrue(lines)
             self.assertEqual([line for line in lines if len(line) > 120], [], name)
 
+    def test_cells_of_tables_are_short(self):
+        """A cell of a table has at most 50 words: what needs more is prose, whose sentences are counted too."""
+        for name in [name for name in PAGES if name not in LONG_CELLS]:
+            with self.subTest(name):
+                self.assertEqual([cell for cell in cells(page(name)) if len(cell.split()) > 50], [])
+
+    def test_decisions_are_short(self):
+        """Each is an item of at most 60 words: what was chosen, in place of what, and why."""
+        items = [" ".join(it.split()) for it in re.split(r"\n(?=- |\n)", page("docs/DECISIONS.md")) if it.startswith("- ")]
+        self.assertGreaterEqual(len(items), 150)
+        self.assertEqual([item for item in items if len(item.split()) > 61], [])
 
     def test_what_was_tried_and_left_has_a_line_each(self):
         section = page("docs/DECISIONS.md").split("## Tried and left\n")[1].split("\n## ")[0].strip()
@@ -117,7 +146,7 @@ class Form(unittest.TestCase):
 class Names(InFolder):
     def test_links_lead_somewhere(self):
         for name in PAGES:
-            for link in re.findall(r"\]\(([^)\s]+)\)", page(name)):
+            for link in re.findall(r"\]\((?!https:)([^)\s]+)\)", page(name)):
                 file, _, heading = link.partition("#")
                 target = os.path.normpath(os.path.join(os.path.dirname(name), file)) if file else name
                 self.assertTrue(os.path.exists(os.path.join(TOP, target)), f"{name}: {link}")
@@ -125,15 +154,19 @@ class Names(InFolder):
                     self.assertIn(heading, anchors(page(target)), f"{name}: {link}")
 
     def test_what_is_called_proved_is_there(self):
+        """A row of docs/PROOFS.md: names, at most 40 words with clauses in brackets, and the files that have the names' contracts."""
         sections = proved_sections()
         self.assertGreaterEqual(len(sections), 10)
+        self.assertGreaterEqual(sum(len(rows_of(body)) for _, body in sections), 180)
         for crates, body in sections:
             heading, source = ", ".join(crates), "\n".join(source_of(crate) for crate in crates)
             promised = promises(source)
-            for names, proved in re.findall(r"\n\| (`[^|]*) \| (.*) \|", body):
+            for names, proved, links in rows_of(body):
+                self.assertLessEqual(len(words_of(proved).split()), 40, names)
+                linked = "\n".join(public(text_of(os.path.join(TOP, "docs", link))) for link in re.findall(r"\]\(([^)]*)\)", links))
                 for name in re.findall(r"`([\w:]+)`", names):
                     pattern = rf"pub (?:fn|struct|enum|trait|type) {name.split('::')[-1]}\b"
-                    self.assertTrue(re.search(pattern, source), f"{heading}: {name}")
+                    self.assertTrue(re.search(pattern, linked), f"{heading}: {name}")
                 for name in re.findall(r"\(((?:`\w+`(?:, )?)+)\)", proved):
                     for clause in re.findall(r"\w+", name):
                         self.assertIn(clause, promised, heading)
@@ -202,6 +235,35 @@ class Names(InFolder):
         for name in files:
             self.assertTrue(any(os.path.exists(os.path.join(TOP, below, name)) for below in ("crates", "")), name)
 
+    def test_files_to_change_are_all_that_have_a_case(self):
+        """The lists of docs/ARCHITECTURE.md on what is added name each source that has a case of the step or finding that they show."""
+        text = page("docs/ARCHITECTURE.md")
+        for heading, word in (("To add a step", "Down"), ("To add a finding", "KeptAddress")):
+            section = text.split(f"## {heading}\n")[1].split("\n## ")[0]
+            self.assertIn(f"`git grep -w {word} -- crates`", section)
+            named = tuple(name for name in re.findall(r"`([\w./-]+)`", section) if "/" in name)
+            files = [name for part in ("src", "specs", "proofs")
+                     for name in glob.glob(f"*/{part}/**/*.*t", root_dir=os.path.join(TOP, "crates"), recursive=True)]
+            having = [name for name in files if re.search(rf"\b{word}\b", text_of(os.path.join(TOP, "crates", name)))]
+            self.assertGreaterEqual(len(having), 10)
+            self.assertEqual(sorted(name for name in having if not name.startswith(named)), [], heading)
+
+    def test_files_in_backticks_are_there(self):
+        """Each name of a file that a page has in backticks is a file or a folder of the repository, but for those of the reader."""
+        known = {name for folder, folders, files in os.walk(TOP) if not folder.startswith(os.path.join(TOP, ".git"))
+                 for name in (os.path.relpath(os.path.join(folder, it), TOP) for it in (*folders, *files))}
+        ends = {name[at:] for name in known for at in (0, *(found.end() for found in re.finditer("/", name)))}
+        for name in PAGES:
+            shown = set(re.findall(rf"`((?:[\w.-]+/)*[\w.-]+\.(?:{KINDS}))`", without_code(page(name))))
+            with self.subTest(name):
+                self.assertEqual(sorted(it for it in shown - OTHERS if it not in ends), [])
+
+    def test_each_example_is_named(self):
+        """The table of docs/EXAMPLES.md has each plan of examples/, and no other."""
+        named = re.findall(r"^\| `(\w+\.toml)` \|", page("docs/EXAMPLES.md"), re.MULTILINE)
+        plans = glob.glob("*.toml", root_dir=os.path.join(TOP, "examples"))
+        self.assertEqual(sorted(named), sorted(plans))
+
     def test_numbers_of_services_have_one_home(self):
         """The number of a group by which the network runs stands in j39_id alone, once as code and once as a definition."""
         homes = ["crates/j39_id/specs/Services.antt", "crates/j39_id/src/services.rt"]
@@ -241,10 +303,20 @@ def promises(source):
     return set(re.findall(r"ensures (\w+)\b", source)).union(*facts)
 
 
+def rows_of(section):
+    """The rows of a section's table: the calls, what is proved of them, and links to the files of their contracts."""
+    return re.findall(r"\n\| (`[^|]*) \| (.*) \| (\[[^|]*) \|", section)
+
+
+def public(source):
+    """A source, in which a trait's functions are as public as it is."""
+    return re.sub(r"\n    fn ", "\n    pub fn ", source)
+
+
 def source_of(crate):
-    """The sources of a crate; a trait's functions are as public as it is."""
+    """The sources of a crate."""
     names = glob.glob(os.path.join(TOP, "crates", crate, "src", "**", "*.rt"), recursive=True)
-    return "\n".join(re.sub(r"\n    fn ", "\n    pub fn ", text_of(name)) for name in names if "tests" not in name)
+    return "\n".join(public(text_of(name)) for name in names if "tests" not in name)
 
 
 def laws_of(crate):
@@ -260,15 +332,28 @@ def without_code(text):
     return re.sub(r"```.*?```|^    .*?$|^!\[.*?$", "", text, flags=re.DOTALL | re.MULTILINE)
 
 
+def cells_of(block):
+    """The cells of a table."""
+    return [cell for row in block.splitlines() for cell in re.split(r"(?<!\\)\|", row) if cell.strip(" -")]
+
+
+def words_of(part):
+    """The words of a part of a page: code is one word, and a link its text."""
+    return " ".join(re.sub(r"`[^`]*`", "CODE", re.sub(r"\]\([^)]*\)", "]", part)).split())
+
+
+def cells(text):
+    """The cells of all tables of a page, by their words."""
+    blocks = re.split(r"\n\s*\n", without_code(text))
+    return [words_of(cell) for block in blocks if block.startswith("|") for cell in cells_of(block)]
+
+
 def sentences(text):
     """The sentences of a page, each cell of a table, each heading and each item for itself; code is one word, and a link its text."""
     for block in re.split(r"\n\s*\n", without_code(text)):
-        if block.startswith("|"):
-            parts = [cell for row in block.splitlines() for cell in re.split(r"(?<!\\)\|", row) if cell.strip(" -")]
-        else:
-            parts = re.split(r"\n(?=\s*(?:-|\d+\.) )", block)
+        parts = cells_of(block) if block.startswith("|") else re.split(r"\n(?=\s*(?:-|\d+\.) )", block)
         for part in parts:
-            words = " ".join(re.sub(r"`[^`]*`", "CODE", re.sub(r"\]\([^)]*\)", "]", part)).split())
+            words = words_of(part)
             yield from filter(None, re.split(r"(?:(?<=[.!?])|(?<=[.!?]\))) (?=[(A-Z*\[])", words))
 
 

@@ -110,8 +110,8 @@ class WithPlans(InFolder):
         return self.write("file.dbc", dbc), told
 
     def back(self, plan):
-        """The plan that comes of a plan's DBC."""
-        status, text, told = run("dbc2plan.py", self.made(plan)[0])
+        """The plan that comes of a plan's DBC, whose units have the numbers that the plan has."""
+        status, text, told = run("dbc2plan.py", "--identity", self.made(plan)[0])
         self.assertEqual(status, 0, told)
         return tomllib.loads(text)
 
@@ -211,6 +211,21 @@ class Multiplexed(WithPlans):
         dbc, told, _ = self.dbc(text, "LEFT", "RIGHT")
         self.assertIn("flow of RIGHT from TIRES to all: another group's message has its identifier\n", told)
         self.assertEqual(dbc.count("\nBO_ "), 1)
+
+    def test_a_signal_of_several_groups_keeps_its_name(self):
+        """As DBCs have it by SG_MUL_VAL_; canmatrix decodes it by its name for each value, and the plan comes back."""
+        import canmatrix.formats
+
+        third = TOLD[TOLD.index('[[group]]\nlabel = "{1}"'):].replace('"{1}"', '"TIRE_m3"').replace("value = 2", "value = 3")
+        door = '[[group.signal]]\nlabel = "DOOR"\nbyte = 3\nbits = 2\nkind = "discrete"\n'
+        text = TOLD + door + third + door + FLOWS + '[[flow]]\ngroup = "TIRE_m3"\nfrom = "TIRES"\nto = "all"\n'
+        dbc, told, is_back = self.dbc(text, "TIRE_m1", "TIRE_m2")
+        self.assertEqual((is_back, told), (True, "2 nodes 1 messages, notes 0\n"))
+        self.assertEqual(re.findall(r"SG_ (DOOR\S*) (m\d)", dbc), [("DOOR", "m2")])
+        self.assertIn("SG_MUL_VAL_ 2566845491 DOOR AXLE 2-2, 3-3;\n", dbc)
+        frame = canmatrix.formats.loads_flat(dbc.encode(), "dbc").frames[0]
+        for value, names in ((1, {"AXLE", "PRESSURE"}), (2, {"AXLE", "DOOR"}), (3, {"AXLE", "DOOR"})):
+            self.assertEqual(set(frame.decode(bytes((value << 4, 7, 1, 0, 0, 0, 0, 0)))), names)
 
     def test_several_lengths(self):
         text = (TOLD + FLOWS).replace("length = 8", "length = 7", 1)
@@ -362,9 +377,9 @@ to = "all"
 period = 10
 """
 
-    def received(self, needs, beside=""):
+    def received(self, asked, beside=""):
         """Who receives each signal in each message of the plan's DBC, and what is said."""
-        plan = self.PLAN % beside + "".join(f"[[need]]\n{need}\n" for need in needs)
+        plan = self.PLAN % beside + "".join(f"[[need]]\n{need}\n" for need in asked)
         dbc, told = self.made(self.write("plan.toml", plan))
         found = re.findall(r"^(?:BO_ \d+ (\w+)| SG_ (\w+) .* ([\w,]+)$)", text_of(dbc), re.MULTILINE)
         names, message = {}, ""
@@ -377,15 +392,15 @@ period = 10
     def test_receivers(self):
         """Of each message that meets the need, by a need of one signal of that one; of a group that nobody sends too."""
         nobody = "Vector__XXX"
-        for needs, wanted in (
+        for asked, wanted in (
             ([], [nobody] * 5),
             (['unit = "DASH"\ngroup = "EEC1"'], ["DASH", "DASH", "DASH", "DASH", nobody]),
             (['unit = "BOX"\ngroup = "EEC1"', 'unit = "DASH"\ngroup = "EEC1"'], ["BOX,DASH", "BOX,DASH", "DASH", "DASH", nobody]),
             (['unit = "DASH"\ngroup = "EEC1"\nsignal = "SPN190"\nfrom = "BOX"'], [nobody, nobody, nobody, "DASH", nobody]),
             (['unit = "DASH"\ngroup = "ALONE"'], [nobody, nobody, nobody, nobody, "DASH"]),
         ):
-            names, _ = self.received(needs)
-            self.assertEqual(list(names.values()), wanted, needs)
+            names, _ = self.received(asked)
+            self.assertEqual(list(names.values()), wanted, asked)
         names, _ = self.received(['unit = "DASH"\ngroup = "EEC1"', 'unit = "BOX"\ngroup = "EEC1"'], "  # for DASH")
         self.assertEqual(list(names.values())[:4], ["DASH,BOX", "BOX", "DASH", nobody])
 
@@ -562,6 +577,14 @@ to = "DISPLAY"
         self.assertIn('BA_DEF_ BO_ "GenMsgSendType" ENUM "cyclic","OnChange";', dbc)
         self.assertEqual(said(self.back(self.path("plan.toml"))), said(tomllib.loads(plan)))
 
+    def test_units_of_any_serial_number(self):
+        """A DBC says nothing of their numbers."""
+        plan = "version = 4\n" + "".join(written("unit", {"label": label, "address": at}) + f"name = {{ {name} }}\n" for label, at, name in (
+            ("ENGINE", 0, "manufacturer = 310"), ("TOOL", 249, "identity = 0, manufacturer = 310, function = 129")))
+        dbc, _ = self.made(self.write("plan.toml", plan))
+        self.assertEqual([line for line in text_of(dbc).splitlines() if line.startswith('BA_ "NmJ1939IdentityNumber"')], ['BA_ "NmJ1939IdentityNumber" BU_ TOOL 0;'])
+        self.assertEqual(said(self.back(self.path("plan.toml"))), said(tomllib.loads(plan)))
+
     def test_a_destination_that_no_unit_has(self):
         """It is that of the file again."""
         name = self.write("file.dbc", f'BU_: GEARBOX\nBO_ {0x8C000003} TSC1: 8 GEARBOX\n SG_ S : 0|8@1+ (1,0) [0|0] "" Vector__XXX\n')
@@ -595,7 +618,7 @@ to = "DISPLAY"
         self.assertEqual([line for line in newer.splitlines() if not line.startswith("CM_ ")], marked.splitlines())
 
     def test_plans_that_cannot_be_read(self):
-        status, dbc, told = run("plan2dbc.py", self.write("plan.toml", "version = 9\n"))
-        self.assertEqual((status, dbc, told), (2, "", "plan2dbc: refused Range top key version\n"))
+        refused = self.write("plan.toml", "version = 9\n")
+        self.assertEqual(run("plan2dbc.py", refused), (2, "", f"plan2dbc: {refused}:1: refused Range top key version  (version = 9: integer 1..4)\n"))
         missing = self.path("none.toml")
         self.assertEqual(run("plan2dbc.py", missing), (4, "", f"plan2dbc: {missing}: No such file or directory\n"))

@@ -142,12 +142,12 @@ class Drawn(WithLog):
 
     def test_what_the_axis_counts(self):
         """Seconds, and lines in a log without times."""
-        self.assertIn("seconds from 100.000000, the log's first time", self.texts(self.drawn("a.svg", "SPN110")))
+        self.assertIn("time in s from the log's first frame, at 100.000000", self.texts(self.drawn("a.svg", "SPN110")))
         bare = self.write("bare.log", "".join(f"{line.split()[-1]}\n" for line in LINES))
         for words in (["SPN110"], ["--addresses"]):
             texts = self.texts(self.drawn("b.svg", *words, log=bare))
             self.assertIn("lines of the log", texts)
-            self.assertNotIn("seconds", "".join(texts))
+            self.assertNotIn("time in s", "".join(texts))
 
     def test_what_is_not_in_the_log(self):
         status, _, said = run("plot.py", PLAN, self.log, "SPN544", "-o", self.path("a.svg"))
@@ -182,7 +182,7 @@ class Drawn(WithLog):
         self.assertEqual(run("plot.py", PLAN, self.log, "SPN190", "-o", "/none/a.png")[0], 4)
         refused = self.write("plan.toml", "version = 9\n")
         self.assertEqual(run("plot.py", refused, self.log, "SPN190", "-o", self.path("a.png")),
-                         (2, "", "plot: refused Range top key version\n"))
+                         (2, "", f"plot: {refused}:1: refused Range top key version  (version = 9: integer 1..4)\n"))
 
     @unittest.skipUnless(shutil.which("chromium"), "chromium isn't there: apt-get install chromium")
     def test_the_pictures_of_the_pages(self):
@@ -247,9 +247,44 @@ class Drawn(WithLog):
         axes = []
         for words in (["SPN110"], ["SPN190"], ["--addresses"]):
             texts = self.texts(self.drawn("a.svg", *words, log=log))
-            self.assertIn("seconds from 1000.000000, the log's first time", texts)
-            axes.append(texts[:texts.index("seconds from 1000.000000, the log's first time")])
+            self.assertIn("time in s from the log's first frame, at 1000.000000", texts)
+            axes.append(texts[:texts.index("time in s from the log's first frame, at 1000.000000")])
         self.assertEqual(axes, [["0", "200", "400", "600", "800", "1000"]] * 3)
+
+    def test_values_have_their_names(self):
+        """At the axis, where they are few; of a signed signal by the numbers that its bits spell, and in the unit that is shown."""
+        head = 'version = 4\n[[group]]\nlabel = "G"\npgn = 65267\npriority = 6\nlength = 8\n'
+        plan = self.write("plan.toml", head + signal("MODE", 1, 4, "states", 'values = { 0 = "idle", 1 = "cruise", 7 = "unseen" }\n')
+                          + signal("TURN", 2, 8, "signed", 'unit = "1/2 deg"\nvalues = { 254 = "left", 2 = "right" }\n'))
+        frames = [f"({number}.0) can0 18FEF300#F{mode}{turn}FFFFFFFFFFFF\n" for number, (mode, turn) in enumerate([(0, "FE"), (1, "02"), (3, "04")], 1)]
+        texts = self.texts(self.drawn("a.svg", "MODE", "TURN", log=self.write("a.log", "".join(frames)), plan=plan))
+        for text in ("idle 0", "cruise 1", "3", "left -1", "right 1", "2"):
+            self.assertIn(text, texts)
+        self.assertNotIn("unseen 7", texts)
+        many = "".join(f"({number}.0) can0 18FEF300#FF{number:02X}FFFFFFFFFFFF\n" for number in range(20))
+        self.assertNotIn("right 1", self.texts(self.drawn("b.svg", "TURN", log=self.write("b.log", many), plan=plan)))
+
+    def test_who_is_not_sure_looks_otherwise(self):
+        """The same colour, and another line with other points."""
+        from modules.log_chart import look_of
+
+        sure, guessed = look_of("ENGINE"), look_of("ENGINE?")
+        self.assertTrue(all(sure.get(key) != guessed[key] for key in ("linewidth", "marker", "alpha")))
+        lines = ["(1.0) can0 18FEEE00#7DFFFFFFFFFFFFFF", "(2.0) can0 18EEFF00#1120C32600000000", "(3.0) can0 18FEEE00#7EFFFFFFFFFFFFFF"]
+        picture = self.drawn("a.svg", "SPN110", log=self.write("a.log", "".join(f"{line}\n" for line in lines))).decode()
+        self.assertEqual(picture.count("stroke: #0072b2; stroke-opacity: 0.6; stroke-width: 0.7"), 2)  # the line, and that of the legend
+
+    def test_what_is_not_in_a_part_is_not_drawn(self):
+        """Neither in the legend nor by the axis: of what came before the part only the value that still holds."""
+        lines = [f"({number}.0) can0 18FEEE00#{60 + number:02X}FFFFFFFFFFFFFF" for number in range(10, 20)]
+        lines += ["(11.5) can0 18FEEE03#FAFFFFFFFFFFFFFF", "(12.0) can0 18FEEE03#FAFFFFFFFFFFFFFF"]
+        log = self.write("a.log", "".join(f"{line}\n" for line in sorted(lines)))
+        texts = self.texts(self.drawn("a.svg", "SPN110", "--from", "5.5", "--to", "7.5", log=log))
+        self.assertIn("ENGINE?", texts)
+        self.assertNotIn("TRANSMISSION?", texts)
+        degrees = [float(text) for text in texts if text.isdecimal()]
+        self.assertLessEqual({degree for degree in degrees if degree > 8}, set(range(34, 39)))
+        self.assertIn("not in this part of the log", self.texts(self.drawn("b.svg", "SPN110", "--from", "9.5", "--to", "9.8", log=log)))
 
     def test_a_part_of_a_log(self):
         """By times as the axis has them, with no other labels than the whole."""

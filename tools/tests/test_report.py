@@ -8,6 +8,7 @@ import unittest
 from html.parser import HTMLParser
 
 from modules import answers, program
+from modules.answer_grammar import line_of
 from modules.answers import Age, Delay
 from modules.plan_tables import Tables
 from tests.support import MARKED, NEWER, TOP, InFolder, example, examples, run, signal, text_of
@@ -127,8 +128,8 @@ class Report(InFolder):
 
     def test_units_stand_as_addresses_says(self):
         rows = self.page(example("address_contest.toml")).rows
-        self.assertIn(["A", "128", "stays", "may choose", "lowest", "255"], rows)
-        self.assertIn(["B", "128", "may move", "may choose", "lowest", "255"], rows)
+        self.assertIn(["A", "128", "in every run", "arbitrary", "lowest", "255"], rows)
+        self.assertIn(["B", "128", "may move", "arbitrary", "lowest", "255"], rows)
         self.assertIn("not known: the addresses have findings", [cell for row in self.page(FAULTY).rows for cell in row])
 
     def test_strangers(self):
@@ -261,6 +262,11 @@ length = 20
         self.assertEqual([row[7] for row in rows if row[0] in "12" and len(row) == 8], ["not shown to be so young", "21.28 ms"])
         self.assertNotIn('id="needs"', run("report.py", PLAN)[1])
 
+    def test_units_of_any_serial_number(self):
+        """`any` for the number, and a NAME without the digits that have bits of it."""
+        rows = self.page(example("first_plan.toml")).rows
+        self.assertIn(["CLUSTER", "0000130026......", "any", "310", "0", "0", "19", "0", "0", "0"], rows)
+
     def test_requests_names_and_units_that_come_or_never_claim(self):
         """A row a request with who answers it; the numbers and names of signals; and what is said of units."""
         text = text_of(example("service_requests.toml")).replace("version = 4\n", "version = 4\nstrangers = 2\n")
@@ -268,7 +274,7 @@ length = 20
         rows = self.page(name).rows
         for row in (["1", "VI", "TOOL", "ENGINE", "ENGINE", "–"], ["3", "ERC1", "TOOL", "RETARDER", "RETARDER", "–"],
                     ["SPN900", "1.1", "4", "states", "raw", "0 to 13", "–", "900", "0 low_idle_governor1 operator2 cruise_control"],
-                    ["AXLE_SENSOR", "46", "stays, and never claims its address", "fixed", "–", "255"],
+                    ["AXLE_SENSOR", "46", "in every run, and never claims it", "fixed", "–", "255"],
                     ["ENGINE", "HOURS on request", "VI on request"]):
             self.assertIn(row, rows)
         self.assertIn("stand in no plan, and may choose their addresses: up to 2.", run("report.py", name)[1])
@@ -281,9 +287,9 @@ length = 20
             ("flow 5 G A all frames 7 whole within 605760 of 700000 us", Delay(5, 605760, 700000, 7)),
             ("flow 6 G A all frames 7 late of 600000 us", Delay(6, None, 600000, 7)),
         ):
-            self.assertEqual(answers.delay_of(line), delay)
-        self.assertEqual(answers.age_of("need 1 B G age 21280 of 22000 us"), Age(1, 21280, 22000))
-        self.assertEqual(answers.age_of("need 2 B G S old of 21000 us"), Age(2, None, 21000))
+            self.assertEqual(answers.delay_of(line_of(line)), delay)
+        self.assertEqual(answers.age_of(line_of("need 1 B G age 21280 of 22000 us")), Age(1, 21280, 22000))
+        self.assertEqual(answers.age_of(line_of("need 2 B G S old of 21000 us")), Age(2, None, 21000))
 
     def test_load(self):
         """The delays and the load are those that `load` prints; a plan that says nothing of the bus has no such section."""
@@ -303,7 +309,7 @@ length = 20
     def test_what_a_flow_takes_of_the_bus(self):
         """Its own bits of a second beside the load of all, and the delay beside its limit; neither is called by the other's name."""
         rows = self.page(example("axle.toml")).rows
-        self.assertIn(["Flow", "Group", "From", "To", "Period", "bus load", "On the bus within", "Limit", "of its limit"], rows)
+        self.assertIn(["Flow", "Group", "From", "To", "Period", "Bus load", "On the bus within", "Limit", "Of its limit"], rows)
         self.assertIn(["1", "TSC1", "RETARDER", "ENGINE", "10 ms", "6.4 %", "1.28 ms", "10 ms", "12.8 %"], rows)
         self.assertIn(["3", "ET1", "ENGINE", "all", "1000 ms", "0.1 %", "3.2 ms", "50 ms", "6.4 %"], rows)
 
@@ -323,7 +329,7 @@ length = 20
         plan = self.write("plan.toml", large_plan())
         rows = self.page(plan).rows
         self.assertEqual(sum(row[0] == "Byte" for row in rows), 256)
-        self.assertIn(["U127", "127", "stays", "fixed", "–", "255"], rows)
+        self.assertIn(["U127", "127", "in every run", "fixed", "–", "255"], rows)
 
     def test_a_plan_with_nothing_in_it(self):
         self.page(self.write("plan.toml", "version = 1\n"))
@@ -338,7 +344,7 @@ length = 20
         self.assertEqual(run("report.py", PLAN, "-o", name), (0, "", ""))
         self.assertEqual(text_of(name), run("report.py", PLAN)[1])
         refused = self.write("plan.toml", "version = 9\n")
-        self.assertEqual(run("report.py", refused, "-o", name), (2, "", "report: refused Range top key version\n"))
+        self.assertEqual(run("report.py", refused, "-o", name), (2, "", f"report: {refused}:1: refused Range top key version  (version = 9: integer 1..4)\n"))
         self.assertEqual(text_of(name), run("report.py", PLAN)[1])
         self.assertEqual(run("report.py", PLAN, "-o", "/none/page.html")[0], 4)
 

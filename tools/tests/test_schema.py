@@ -65,7 +65,7 @@ def rules(table):
 def page_rows():
     """The rows of the tables of keys in docs/PLAN.md: table, key, type and range, default."""
     page = text_of(os.path.join(TOP, "docs", "PLAN.md"))
-    page = page[page.index("\n## Tables and keys"):page.index("\n## Bytes and bits")]
+    page = page[page.index("\n## Tables and keys"):page.index("\n## Byte order: bytes and bits")]
     for heading, body in re.findall(r"\n### (.*?)\n(.*?)(?=\n### |\Z)", page, re.DOTALL):
         for row in re.findall(r"\n\| `.*", body):
             key, kind, default = (cell.strip() for cell in row.split("|")[1:4])
@@ -98,7 +98,7 @@ class Schema(InFolder):
 
     def test_it_has_the_defaults_of_the_page(self):
         for table, key, _, default in page_rows():
-            if default not in ("", "none"):  # an array that isn't there has no elements
+            if default not in ("", "none", "`length`"):  # an array that isn't there has no elements; `most` is as `length` then
                 shown = {"empty": "", "`false`": "False", "`true`": "True"}.get(default, default.strip('`"'))
                 self.assertEqual(str(rules(table)["properties"][key]["default"]), shown, (table, key))
 
@@ -109,6 +109,14 @@ class Validated(InFolder):
         """What the schema finds wrong with a plan."""
         import jsonschema
         return list(jsonschema.Draft7Validator(SCHEMA).iter_errors(tomllib.loads(text)))
+
+    def test_a_number_may_be_absent_from_version_4_on(self):
+        unit = '[[unit]]\nlabel = "A"\naddress = 0\nname = {{ {} }}\n'
+        for version in range(1, 5):
+            for name, is_there in (("manufacturer = 1", False), ("identity = 1", True)):
+                text = f"version = {version}\n" + unit.format(name)
+                is_plan = program.call(["check", self.write("plan.toml", text)])[0] == 0
+                self.assertEqual((is_plan, self.faults(text) == []), (is_there or version == 4,) * 2, text)
 
     def test_it_is_a_schema(self):
         import jsonschema

@@ -222,7 +222,7 @@ class Signals(InFolder):
         for names in (["SPN190"], ["ET1"], ["EEC1.SPN512", "CCVS"]):
             wanted = [row for row in whole if {row["signal"], row["group"], f"{row['group']}.{row['signal']}"}.intersection(names)]
             self.assertEqual(self.rows(PLAN, log, *names), wanted, names)
-        said = "signals: no group or signal is called SPN1900; did you mean SPN190?\n"
+        said = "signals: no group, signal or log is called SPN1900; did you mean SPN190?\n"
         self.assertEqual(run("signals.py", PLAN, log, "SPN1900"), (2, "", said))
         self.assertEqual(self.rows(PLAN, log, "VI"), [])
 
@@ -306,7 +306,7 @@ class Signals(InFolder):
 
     def test_what_is_refused(self):
         refused = self.write("plan.toml", "version = 9\n")
-        self.assertEqual(run("signals.py", refused, LOG), (2, "", "signals: refused Range top key version\n"))
+        self.assertEqual(run("signals.py", refused, LOG), (2, "", f"signals: {refused}:1: refused Range top key version  (version = 9: integer 1..4)\n"))
         self.assertEqual(run("signals.py", example("findings/f07_signal_outside.toml"), LOG)[::2],
                          (1, "signals: " + program.call(["read", example("findings/f07_signal_outside.toml"), "/dev/null"])[1]))
         self.assertEqual(run("signals.py", PLAN, self.folder), (4, "", f"signals: {self.folder}: Is a directory\n"))

@@ -133,7 +133,7 @@ class Startup(InFolder):
     def test_why_there_is_none(self):
         for plan, first, status, said in [
             (example("findings/f01_same_name.toml"), [], 1, "refused plan SameName BOOM_LEFT BOOM_RIGHT"),
-            (self.write("plan.toml", "version = 5\n"), [], 2, "refused Range top key version"),
+            (self.write("plan.toml", "version = 5\n"), [], 2, f"{self.path('plan.toml')}:1: refused Range top key version  (version = 5: integer 1..4)"),
             (example("first_plan.toml"), ["MOTOR"], 2, "no unit is called MOTOR"),
         ]:
             self.assertEqual(run("startup.py", plan, *first), (status, "", f"startup: {said}\n"))

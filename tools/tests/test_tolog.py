@@ -1,5 +1,6 @@
 """Logs of other formats: what comes of ASC, BLF, TRC and CSV, by channels, and what is refused."""
 
+import gzip
 import os
 import subprocess
 import sys
@@ -12,6 +13,9 @@ LOG = example("truck.drive.log")
 
 # The frames of the log.
 FRAMES = [line.split()[-1] for line in text_of(LOG).splitlines()]
+
+# What is said of each CSV.
+NO_CHANNELS = "tolog: drive.csv has no channels, as each CSV of python-can: all its frames are of can0\n"
 
 
 @needs("can", "python3-can")
@@ -40,7 +44,7 @@ class Converted(InFolder):
         _, whole = program.call(["follow", example("truck.toml"), LOG])
         for ending in ("asc", "blf", "trc", "csv", "db"):
             status, answer, said = run("tolog.py", self.recorded(f"drive.{ending}", self.messages()))
-            self.assertEqual((status, said), (0, ""), ending)
+            self.assertEqual((status, said), (0, NO_CHANNELS if ending == "csv" else ""), ending)
             self.assertEqual([line.split()[2] for line in answer.splitlines()], FRAMES, ending)
             log = self.write("drive.log", answer)
             told = program.call(["follow", example("truck.toml"), log])[1]
@@ -71,7 +75,34 @@ class Converted(InFolder):
                     can.Message(arbitration_id=0x18FEEE00, is_remote_frame=True)]
         status, answer, said = run("tolog.py", self.recorded("drive.csv", messages))
         self.assertEqual((status, [line.split()[-1] for line in answer.splitlines()]), (0, ["123#01"]))
-        self.assertEqual(said, "tolog: 1 error frames are left out\ntolog: 1 remote frames are left out\n")
+        self.assertEqual(said, f"{NO_CHANNELS}tolog: 1 error frames are left out\ntolog: 1 remote frames are left out\n")
+
+    def test_frames_of_can_fd_are_known_by_their_length(self):
+        """A CSV doesn't say that they are."""
+        import can
+
+        messages = [can.Message(arbitration_id=0x18FF0055, data=bytes(length), is_fd=length > 8) for length in (8, 12, 64)]
+        status, answer, said = run("tolog.py", self.recorded("drive.csv", messages))
+        self.assertEqual((status, [line.split()[-1] for line in answer.splitlines()]), (0, ["18FF0055#0000000000000000"]))
+        self.assertEqual(said, f"{NO_CHANNELS}tolog: 2 frames of CAN FD are left out\n")
+
+    def test_the_first_channel_is_can0(self):
+        """In each format: ASC and TRC count them from 1."""
+        for ending in ("asc", "blf", "trc"):
+            file = self.recorded(f"drive.{ending}", self.messages(channel=0))
+            self.assertEqual({line.split()[1] for line in run("tolog.py", file)[1].splitlines()}, {"can0"}, ending)
+        file = self.write("two.trc", ";$FILEVERSION=2.1\n;$STARTTIME=45256.5\n;$COLUMNS=N,O,T,B,I,d,R,L,D\n" + "".join(
+            f"{at:>7} {at:13.3f} DT {bus:>2} 0CF00400 Rx - 1 {at:02X}\n" for at, bus in ((1, 1), (2, 2))))
+        self.assertEqual([line.split()[1:] for line in run("tolog.py", file)[1].splitlines()], [["can0", "0CF00400#01"], ["can1", "0CF00400#02"]])
+
+    def test_a_log_is_one_already(self):
+        """Its error frames would become frames of TSC1."""
+        error = "(1.000000) can0 20000004#0004000000000000\n"
+        self.assertEqual(run("tolog.py", self.write("drive.log", error)), (2, "", f"tolog: {self.path('drive.log')} is a log already\n"))
+        packed = self.path("drive.log.gz")
+        with gzip.open(packed, "wt") as file:
+            file.write(error)
+        self.assertEqual(run("tolog.py", packed), (2, "", f"tolog: {packed} is a log already: zcat {packed}\n"))
 
     def test_what_is_refused(self):
         """One line, and status 2: a file without frames, of another format than its ending says, cut in its midst, of no known ending."""
@@ -79,7 +110,7 @@ class Converted(InFolder):
         with open(blf, "rb") as file:
             data = file.read()
         for name, content in {"empty.asc": b"", "empty.blf": b"", "other.blf": b"no such file" * 100, "cut.blf": data[:len(data) // 2],
-                              "random.trc": os.urandom(3000), "random.csv": os.urandom(3000), "drive.xyz": data, "drive.mf4": data}.items():
+                              "empty.trc": b"", "random.trc": os.urandom(3000), "random.csv": os.urandom(3000), "drive.xyz": data, "drive.mf4": data}.items():
             with open(self.path(name), "wb") as file:
                 file.write(content)
             status, answer, said = run("tolog.py", self.path(name))

@@ -9,7 +9,7 @@ import sys
 import unittest
 
 import where
-from modules import answer_places, program
+from modules import answer_places, plan_places, program
 from tests.support import MARKED, NEWER, TOOLS, TOP, InFolder, example, examples, run, shown_refusals, text_of
 
 CASES = os.path.join(TOP, "crates", "examples_check", "data")
@@ -83,6 +83,30 @@ HINTS = [
 ]
 
 
+class SerialNumbers(InFolder):
+    def told(self, *names, version=4):
+        """What `where` says of two units of these NAMEs."""
+        text = f"version = {version}\n" + "".join(f'[[unit]]\nlabel = "{label}"\naddress = {at}\nname = {{ {name} }}\n'
+                                                  for label, at, name in zip("AB", (0, 3), names))
+        name = self.write("plan.toml", text)
+        return run("where.py", name)[1].replace(f"{name}:", "").splitlines()
+
+    def test_units_that_may_have_one_name(self):
+        """Both, or one of them, without a number: only the serial numbers of their boxes tell them apart."""
+        for names in (("manufacturer = 1", "manufacturer = 1"), ("manufacturer = 1", "identity = 7, manufacturer = 1")):
+            self.assertEqual(self.told(*names), [
+                "9: F1 SameName A B  (nothing but serial numbers tells A at line 5 from B: give them different function_instance or ecu; or both "
+                "their numbers: then the plan fits one vehicle)", "findings 1"])
+        self.assertEqual(self.told("identity = 7", "identity = 7"), ["9: F1 SameName A B  (key name: the same as of A at line 5)", "findings 1"])
+        for names in (("identity = 7", "identity = 8"), ("function = 1", "function = 2"), ("", "identity = 7, ecu = 1")):
+            self.assertEqual(self.told(*names), ["ok 2 units 0 groups 0 flows"])
+
+    def test_earlier_versions_ask_for_a_number(self):
+        for version in (1, 2, 3):
+            self.assertEqual(self.told("manufacturer = 1", "identity = 2", version=version), [
+                "5: refused Missing unit 1 name key identity  (key identity isn't there: integer 0..2097151; from version = 4 on it may be left away)"])
+
+
 class Lint(InFolder):
     def lines(self, text, *words):
         """What `where --lint` answers of a plan, without the file's name, and its status."""
@@ -90,6 +114,10 @@ class Lint(InFolder):
         status, answer, said = run("where.py", "--lint", *words, name)
         self.assertEqual(said, "")
         return status, answer.replace(f"{name}:", "").replace(f"file={name},", "").splitlines()
+
+    def test_units_without_numbers_are_not_compared_by_them(self):
+        status, lines = self.lines(re.sub(r"version = \d", "version = 4", LINTED, count=1).replace("identity = 7, ", ""))
+        self.assertEqual((status, lines), (0, [*(hint for hint in HINTS if "identity" not in hint), "ok 4 units 4 groups 3 flows"]))
 
     def test_each_hint(self):
         self.assertEqual(self.lines(LINTED), (0, [*HINTS, "ok 4 units 4 groups 3 flows"]))
@@ -241,7 +269,7 @@ class Where(InFolder):
         for label, line in (("S", 8), ("T", 13)):
             repeated = f"17: refused Repeated group 1 text 2 key label  (key label: {label} is at line {line} too)"
             self.assertEqual(self.answer(f'{plan}[[group.text]]\nlabel = "{label}"\nbyte = 1\n'), (2, [repeated]))
-        early = "12: refused UnknownKey group 1  (key text: only from version = 3 on)"
+        early = "12: refused UnknownKey group 1  (key text: only from version = 3 on: write version = 4)"
         self.assertEqual(self.answer(plan.replace("version = 3", "version = 2")), (2, [early]))
 
     def test_flows_are_named(self):
@@ -270,7 +298,7 @@ class Where(InFolder):
             "[[group]]", '[[unit]]\nlabel = "B"\naddress = 1\nname = { identity = 2 }\n[[group]]').replace("61444", "256")
         full = "3: F17 Overload 320000  (key bitrate: the flows take more at their periods; load shows how much)"
         self.assertEqual(self.answer(both)[1][0], full)
-        early = "2: refused UnknownKey top  (key timing: only from version = 3 on)"
+        early = "2: refused UnknownKey top  (key timing: only from version = 3 on: write version = 4)"
         self.assertEqual(self.answer(head.replace("version = 3", "version = 2")), (2, [early]))
         wrong = "3: refused Range timing key bitrate  (bitrate = 125000: 250000 or 500000)"
         self.assertEqual(self.answer(head.replace("250000", "125000")), (2, [wrong]))
@@ -371,7 +399,7 @@ class Where(InFolder):
         lines = plan.count("\n")
         late = "G from A to all: key deadline: its long messages aren't shown to be whole within it"
         for most, at, hint in (("", lines + 5, "G from A to all: key period: within the deadline, or"), ("most = 9\n", lines + 7, late)):
-            line, told = answer_places.finding(answer_places.Plan(plan + most + flow), "F18 LateFlow 1")
+            line, told = answer_places.finding(plan_places.Plan(plan + most + flow), "F18 LateFlow 1")
             self.assertEqual((line, told[:len(hint)]), (at, hint))
 
     def test_names_in_needs(self):
@@ -386,7 +414,7 @@ class Where(InFolder):
         ):
             answer = f"{lines + 4}: refused UnknownLabel need 1 key {key}  (key {key}: {meant})"
             self.assertEqual(self.answer(plan + flow + need.format("B") + given), (2, [answer]))
-        early = f"{lines + 1}: refused UnknownKey top  (key need: only from version = 4 on)"
+        early = f"{lines + 1}: refused UnknownKey top  (key need: only from version = 4 on: write version = 4)"
         bare = plan + flow.replace("pause = 20\n", "") + need.format("B")
         self.assertEqual(self.answer(bare.replace("version = 4", "version = 3")), (2, [early.replace(f"{lines + 1}:", f"{lines}:")]))
         asked = f"{lines - 5}: refused Missing flow 1 key period  (key period isn't there, which a jitter needs: integer 1..65535)"
@@ -405,7 +433,7 @@ class Where(InFolder):
         """What `most` can be, and from which version on it is known."""
         plan = 'version = 3\n[[group]]\nlabel = "G"\npgn = 65242\npriority = 6\nlength = 8\nmost = 7\n'
         self.assertEqual(self.answer(plan), (2, ["7: refused Range group 1 key most  (most = 7: integer 1..1785, at least the length)"]))
-        early = "7: refused UnknownKey group 1  (key most: only from version = 3 on)"
+        early = "7: refused UnknownKey group 1  (key most: only from version = 3 on: write version = 4)"
         self.assertEqual(self.answer(plan.replace("version = 3", "version = 2")), (2, [early]))
 
     def test_records(self):
@@ -420,9 +448,9 @@ class Where(InFolder):
         self.assertEqual(self.answer(plan), (1, [itself, other, "findings 2"]))
         alone = "12: refused Range group 1 signal 1 key repeated  (repeated = true: the group has no key every)"
         self.assertEqual(self.answer(plan.replace("every = 3\n", "")), (2, [alone]))
-        early = "7: refused UnknownKey group 1  (key every: only from version = 3 on)"
+        early = "7: refused UnknownKey group 1  (key every: only from version = 3 on: write version = 4)"
         self.assertEqual(self.answer(plan.replace("version = 3", "version = 2")), (2, [early]))
-        early = "12: refused UnknownKey group 1 signal 1  (key repeated: only from version = 3 on)"
+        early = "12: refused UnknownKey group 1 signal 1  (key repeated: only from version = 3 on: write version = 4)"
         self.assertEqual(self.answer(plan.replace("version = 3", "version = 2").replace("every = 3\n", "")), (2, [early]))
 
     def test_groups_told_by_their_data(self):
@@ -457,7 +485,7 @@ class Where(InFolder):
         self.assertEqual(self.answer(plan.replace("byte = 13", "byte = 12")), (0, ["ok 0 units 1 groups 0 flows"]))
         both = "14: refused Range group 1 signal 1 key optional  (optional = true: the signal is repeated)"
         self.assertEqual(self.answer(plan + "repeated = true\n"), (2, [both]))
-        early = "14: refused UnknownKey group 1 signal 1  (key optional: only from version = 4 on)"
+        early = "14: refused UnknownKey group 1 signal 1  (key optional: only from version = 4 on: write version = 4)"
         self.assertEqual(self.answer(plan.replace("version = 4", "version = 3")), (2, [early]))
 
     def test_each_shown_refusal_has_its_line(self):
@@ -566,11 +594,13 @@ class Where(InFolder):
             answer = [f"5: refused {cause} top key keep_free  {wanted}"]
             self.assertEqual(self.answer(plan.format(element)), (2, answer))
         self.assertEqual(self.answer("version = 2\nkeep_free = 240\n"), (2, [f"2: refused WrongType top key keep_free  {wanted}"]))
-        hint = "(key keep_free: only from version = 2 on)"
+        hint = "(key keep_free: only from version = 2 on: write version = 4)"
         self.assertEqual(self.answer("version = 1\nkeep_free = []\n"), (2, [f"2: refused UnknownKey top  {hint}"]))
-        hint = "(key keep_free: only from version = 2 on, and the version is none of 1 to 4)"
         for version in ("5", '"2"', "2.0"):
-            self.assertEqual(self.answer(f"version = {version}\nkeep_free = []\n"), (2, [f"2: refused UnknownKey top  {hint}"]))
+            hint = f"(version = {version}: integer 1..4)"
+            self.assertEqual(self.answer(f"keep_free = []\nversion = {version}\n"), (2, [f"2: refused UnknownKey top  {hint}"]))
+        hint = "(key version isn't there: integer 1..4)"
+        self.assertEqual(self.answer("\nkeep_free = []\n"), (2, [f"1: refused UnknownKey top  {hint}"]))
         unit = UNIT.format("A", 241, 1).replace("identity = 1", "identity = 1, arbitrary = true")
         hint = "(key address: kept free: a unit with arbitrary = true may not hold it)"
         self.assertEqual(self.answer(plan.format("242") + unit)[1][0], f"9: F12 KeptAddress A 241  {hint}")
@@ -578,7 +608,7 @@ class Where(InFolder):
     def test_strangers(self):
         hint = "(strangers = 121: integer 0..120)"
         self.assertEqual(self.answer("version = 4\nstrangers = 121\n"), (2, [f"2: refused Range top key strangers  {hint}"]))
-        hint = "(key strangers: only from version = 4 on)"
+        hint = "(key strangers: only from version = 4 on: write version = 4)"
         self.assertEqual(self.answer("version = 3\nstrangers = 1\n"), (2, [f"2: refused UnknownKey top  {hint}"]))
 
     def test_what_only_version_3_knows_of_a_signal(self):
@@ -586,9 +616,9 @@ class Where(InFolder):
                   '[[group.signal]]\nlabel = "S"\nbyte = 1\nbits = 32\nkind = "{}"\n')
         place = "group 1 signal 1"
         for plan, answer in (
-            ("version = 2\n" + signal.format("raw") + "per = 8\n", f"12: refused UnknownKey {place}  (key per: only from version = 3 on)"),
+            ("version = 2\n" + signal.format("raw") + "per = 8\n", f"12: refused UnknownKey {place}  (key per: only from version = 3 on: write version = 4)"),
             ("version = 2\n" + signal.format("states"),
-             f'11: refused Range {place} key kind  (kind = "states": only from version = 3 on)'),
+             f'11: refused Range {place} key kind  (kind = "states": only from version = 3 on: write version = 4)'),
             ("version = 3\n" + signal.format("text"), f'11: refused Range {place} key kind  (kind = "text": '
              '"measured" or "discrete" or "raw" or "states" or "signed" or "dtc")'),
             ("version = 3\n" + signal.format("raw") + "per = 3\n",
@@ -607,14 +637,14 @@ class Where(InFolder):
             hint = "(key keep_free: an array of integers 128..247, each once)"
             self.assertEqual(self.answer(plan), (2, [f"4: refused Repeated top key keep_free  {hint}"]))
         for version in ("1", "0x1", "+1"):
-            hint = "(key keep_free: only from version = 2 on)"
+            hint = "(key keep_free: only from version = 2 on: write version = 4)"
             self.assertEqual(self.answer(f"version = {version}\nkeep_free = []\n"), (2, [f"2: refused UnknownKey top  {hint}"]))
 
     def test_a_byte_order_mark(self):
         plan = "\ufeffversion = 1\n\n" + UNIT.format("A", 254, 1)
         self.assertEqual(self.answer(plan), (2, ["5: refused Range unit 1 key address  (address = 254: integer 0..253)"]))
         status, answer = self.answer(plan.replace("254", "x"))
-        self.assertEqual((status, answer), (2, ["5: refused Text  (Invalid value (at line 5, column 11))"]))
+        self.assertEqual((status, answer), (2, ["5: refused Text  (address = x: an integer is wanted)"]))
 
     def test_what_toml_1_1_allows_is_no_fault(self):
         for plan in (NEWER, MARKED):
@@ -645,7 +675,7 @@ class Where(InFolder):
             self.assertEqual(self.answer(f"version = 1\nx = 1\ny = {fault}\nz = 2\n"), (2, ["3: refused Text"]))
 
     def test_a_key_that_is_given_twice(self):
-        hint = "(Cannot overwrite a value (at line 5, column 12))"
+        hint = "(key address stands at line 3 too)"
         self.assertEqual(self.answer("version = 1\n[[unit]]\naddress = 1\nlabel = 'A'\naddress = 2\nx = 1\n"),
                          (2, [f"5: refused Text  {hint}"]))
 

@@ -74,6 +74,11 @@ const RUN: [&str; 5] = ["unit", "settled", "not", "report", "refused"];
 
 const READ: [&str; 4] = ["group", "", "frames", "refused"];
 
+// Those of follow that don't begin with the number of a line of the log.
+const FOLLOW: [&str; 8] = [
+    "", "flow", "group", "unit", "need", "request", "frames", "refused",
+];
+
 fn word(line: &str, place: usize) -> &str {
     line.split(' ').nth(place).unwrap_or("")
 }
@@ -125,6 +130,7 @@ fn is_line_of(command: Command, line: &str) -> bool {
         Command::Load => LOAD.contains(&first) || CHECK.contains(&first),
         Command::Run => RUN.contains(&first) || first.contains('#'),
         Command::Read => READ.contains(&first),
+        Command::Follow => FOLLOW.contains(&first) || first.parse::<u64>().is_ok(),
     }
 }
 

@@ -1,5 +1,5 @@
 -- What a plan has in which nothing is wrong: it is sound, and where something is known of its bus, the messages of its flows are in time,
--- and what its units need is as young as they ask for, and reads as it was written.
+-- and of each need that asks for an age some flow brings what is as young, while it keeps its `pause`, and reads as it was written.
 use Rattle.std.specs.Prelude.{◌≡◌, Some}
 use Rattle.j39_findings.specs.declared.plan.Plan.{Plan}
 use Rattle.j39_findings.specs.declared.plan.timing.Timing.{Timing}
@@ -19,7 +19,7 @@ pub record IsCertified (plan : Plan) : Type 0 where
   -- each flow whose messages go in one frame has a delay within its limit, which bounds its frames' time in every schedule of such flows,
   -- whether units keep order or don't; and each with long messages to all and a written deadline has a time within it, which bounds theirs
   pub in_time : (timing : Timing) → plan.timing ≡ Some timing → ArePlannedFramesInTime plan timing
-  -- of each need that asks for an age some flow that meets it brings nothing older, in every schedule of such flows
+  -- of each need that asks for an age some flow that meets it brings nothing older while it keeps its `pause`, in every schedule of such flows
   pub fresh : (timing : Timing) → plan.timing ≡ Some timing → AreNeedsFresh plan timing
   -- and where the frames of this flow carry bytes that were written signal after signal, each signal reads as it was written in those that
   -- were received last, which are no older than that

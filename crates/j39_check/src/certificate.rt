@@ -11,8 +11,8 @@ use j39_load::{
 };
 
 /// A checked plan with whose load nothing is wrong is sound, and where something is known of its bus, its planned frames are in time on
-/// it, and what its units need is never older there than they ask for, and reads as it was written. It does nothing when it runs; it rests on
-/// the certificate of the plan and on the laws of delays and of needs.
+/// it, and of each need that asks for an age some flow brings nothing older while it keeps its `pause`, and reads as it was written. It does
+/// nothing when it runs; it rests on the certificate of the plan and on the laws of delays and of needs.
 pub fn certify_with_load(checked: &CheckedPlan)
     requires { AreLoadFindings checked.now checked.now.timing [] }
     ensures { IsCertified checked.now }

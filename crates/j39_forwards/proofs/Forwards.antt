@@ -11,7 +11,7 @@ use Rattle.j39_signal.specs.Parts.{SignalParts}
 use Rattle.j39_world.specs.Sound.{AreReportsSound, IsSubsequence, reported}
 use Rattle.j39_world.specs.Transfers.{Begun}
 use Rattle.j39_world.specs.World.{World}
-use Rattle.j39_forwards.specs.Forwards.{HasMessage, Among, Gateway, IsFaithful, IsFromOrigin, Forwarded, bytes_of, ReadsAsBefore, Link, IsWay, last_link, carried_over, IsFromFirst}
+use Rattle.j39_forwards.specs.Forwards.{HasMessage, Among, Gateway, IsFaithful, IsFromOrigin, Forwarded, forwarded_bytes, ReadsAsBefore, Link, AreLinks, last_link, carried_over, IsFromFirst}
 
 -- what is one of a part is one of the whole
 among_whole : (m : Begun) (xs ys : List Begun) → IsSubsequence xs ys → (earlier later : List Begun) → xs ≡ earlier ++ m ∷ later → Among ys m
@@ -44,8 +44,8 @@ begun_before l from sound faithful sender flow hearer bytes same alike message =
     among_whole _ (reported from.reports l.gateway.hears l.gateway.sender) (from.begun l.gateway.sender l.gateway.hears)
     (sound.begun l.gateway.hears l.gateway.sender) heard.earlier heard.later heard.at
 
-pub from_first : (from : World) (l : Link) (ls : List Link) → AreReportsSound from → IsWay from l ls → IsFromFirst from l ls
-unfolding IsWay last_link carried_over
+pub from_first : (from : World) (l : Link) (ls : List Link) → AreReportsSound from → AreLinks from l ls → IsFromFirst from l ls
+unfolding AreLinks last_link carried_over
 from_first from l [] sound way hearer bytes message = from_origin l.gateway l.carried from l.world sound way.0 way.1 hearer bytes message
 from_first from l (n ∷ ns) sound way hearer bytes message =
     let (there, faithful, same, alike, rest) = way in
@@ -54,7 +54,7 @@ from_first from l (n ∷ ns) sound way hearer bytes message =
 
 pub reads_as_before : (plan : Plan) → SoundSignals plan → (place : ℕ) (group : GroupPlan) → slice_get plan.groups.items place ≡ Some group
     → (s : SignalParts) (before : List ℕ) (m : Forwarded group s before)
-    → HoldsAt (λ t. ReadsAsBefore s before t (bytes_of m)) (signals_in group (length m.start)) m.write.place
+    → HoldsAt (λ t. ReadsAsBefore s before t (forwarded_bytes m)) (signals_in group (length m.start)) m.write.place
 reads_as_before plan sound place group its s before m t =
     let inside = slice_get_within plan.groups.items place group its in
     let at : get_or plan.groups.items place group ≡ group = get_or_from_slice_get plan.groups.items place group group its in

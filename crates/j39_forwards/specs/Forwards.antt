@@ -54,10 +54,10 @@ pub record Link : Type 0 where
   pub world : World
 
 -- each hears what the one before sends, on the bus where it sends, and hands it on faithfully
-unfoldable pub IsWay : World → Link → List Link → Type 0
-IsWay from l [] = AreReportsSound l.world × IsFaithful l.gateway l.carried from l.world
-IsWay from l (n ∷ ns) = AreReportsSound l.world × IsFaithful l.gateway l.carried from l.world
-    × (n.gateway.sender ≡ l.gateway.sends) × (n.gateway.input ≡ l.gateway.output) × IsWay l.world n ns
+unfoldable pub AreLinks : World → Link → List Link → Type 0
+AreLinks from l [] = AreReportsSound l.world × IsFaithful l.gateway l.carried from l.world
+AreLinks from l (n ∷ ns) = AreReportsSound l.world × IsFaithful l.gateway l.carried from l.world
+    × (n.gateway.sender ≡ l.gateway.sends) × (n.gateway.input ≡ l.gateway.output) × AreLinks l.world n ns
 
 -- the last gateway
 unfoldable pub last_link : Link → List Link → Link
@@ -98,8 +98,8 @@ pub record Forwarded (group : GroupPlan) (s : SignalParts) (before : List ℕ) :
   pub last : LeaveAlone later write.place
   pub put : HoldsAt (λ t. IsPutFrom s before t write.raw) (signals_in group (length start)) write.place
 
-abbrev pub bytes_of : {group : GroupPlan} {s : SignalParts} {before : List ℕ} → Forwarded group s before → List ℕ
-bytes_of m = last_payload m.start (m.earlier ++ m.write ∷ m.later)
+abbrev pub forwarded_bytes : {group : GroupPlan} {s : SignalParts} {before : List ℕ} → Forwarded group s before → List ℕ
+forwarded_bytes m = last_payload m.start (m.earlier ++ m.write ∷ m.later)
 
 -- the signal reads there what s reads in the other message, or is unset
 abbrev pub ReadsAsBefore : SignalParts → List ℕ → SignalParts → List ℕ → Type 0

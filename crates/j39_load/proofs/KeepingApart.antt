@@ -17,7 +17,7 @@ use Rattle.j39_findings.specs.declared.plan.timing.Bitrate.TheVariants.{Kbit125,
 use Rattle.j39_findings.specs.declared.plan.timing.Timing.{Timing}
 use Rattle.j39_findings.specs.declared.plan.to.To.TheVariants.{One}
 use Rattle.j39_findings.proofs.Members.{all_at}
-use Rattle.j39_load.specs.KeepsPlan.{CanBeKept, Held, IsFrameOf, IsMsBehind, KeepsPlan, Sent, bit_time, goes_to}
+use Rattle.j39_load.specs.KeepsPlan.{CanBeKept, Held, IsFrameOf, IsMsBehind, KeepsToPlan, FrameFlows, bit_time, goes_to}
 use Rattle.j39_load.specs.Loads.{bits_per_ms}
 use Rattle.j39_load.specs.Ranks.{AreHeldApart}
 use Rattle.j39_load.proofs.WhoStays.{placed}
@@ -60,7 +60,7 @@ module _ (plan : Plan) (timing : Timing) (apart : ArePlannedApart (units_of plan
   abbrev bus : Schedule
   bus = in_rounds alone n
 
-  abbrev sent : Sent
+  abbrev sent : FrameFlows
   sent = record { flow = λ p. f; moment = λ p. p * step }
 
   are_senders : AreSenders alone
@@ -120,7 +120,7 @@ module _ (plan : Plan) (timing : Timing) (apart : ArePlannedApart (units_of plan
       let same : flow ≡ other = same_Some _ _ (sym its ∙ at) in
       same_Some _ _ (sym paced ∙ (ap (λ (g : FlowPlan). g.pace) same ∙ told))
 
-  keeps : KeepsPlan plan timing bus all_planned sent held
+  keeps : KeepsToPlan plan timing bus all_planned sent held
   keeps = record {
     frames = λ p in_p is. frame p;
     apart = λ p q other its_pace in_p in_q differ is_p is_q one_flow at told.

@@ -19,11 +19,12 @@ use Rattle.j39_load.specs.AnyQueues.{keep_order}
 use Rattle.j39_load.specs.Asked.{announcements_of_unit, asked_of, frames_asked, frames_of_flow, frames_of_request, packets_of_unit, singles_of_flow}
 use Rattle.j39_load.specs.Damage.{damage_frames, damage_stream, first_frames}
 use Rattle.j39_load.specs.KeepsErrors.{KeepsErrors, origins_with, planned_with}
-use Rattle.j39_load.specs.KeepsPlan.{Held, IsFrameOf, KeepsPlan, Sent, goes_to, origins_of}
+use Rattle.j39_load.specs.KeepsPlan.{Held, IsFrameOf, KeepsToPlan, FrameFlows, goes_to, origins_of}
 use Rattle.j39_load.specs.Loads.{bits_of_ms, load_of_flow}
 use Rattle.j39_load.specs.PlannedFrames.{AreFramesOfPlan, no_frames, planned_at}
 use Rattle.j39_load.specs.Standing.{TellsWhoStays}
 use Rattle.j39_load.specs.Twins.{is_same}
+use Rattle.j39_load.proofs.Attempts.{a_window_apart}
 use Rattle.j39_load.proofs.KeepingPlan.{behind_bits, between, frame_at_most, here, keeps_stream, of_streams, one, own, own_identifier, read, traffic}
 use Rattle.j39_load.proofs.StreamsBefore.{get_or_inside}
 use Rattle.j39_timing.specs.Errors.{Damaged, IsBusWithErrors, IsLegalWithErrors, with_errors}
@@ -57,7 +58,7 @@ zero_parts priority pgn destination source none = go (is_pdu2 pgn) refl none
     go false is zero = (omega (arith, zero), omega (arith, zero))
 
 module _ (plan : Plan) (timing : Timing) (stays : UnitPlan → Bool) (tells : TellsWhoStays plan stays) (clean : Clean plan) (s : Schedule) (d : Damaged)
-    (bus : IsBusWithErrors s d) (planned : ℕ → Bool) (sent : Sent) (held : Held) (keeps : KeepsPlan plan timing s planned sent held)
+    (bus : IsBusWithErrors s d) (planned : ℕ → Bool) (sent : FrameFlows) (held : Held) (keeps : KeepsToPlan plan timing s planned sent held)
     (rate : ErrorRate) (errors : KeepsErrors timing rate s d planned) where
   abbrev asks : List (Option FlowFrames)
   asks = frames_asked (asked_of timing plan stays)
@@ -254,7 +255,7 @@ module _ (plan : Plan) (timing : Timing) (stays : UnitPlan → Bool) (tells : Te
   far : (e f : ℕ) → f < d.count → e < f → e % rate.count ≡ f % rate.count → d.begin e + bits_of_ms timing rate.every ≤ d.begin f
   far e f below less same =
       let next = next_turn e f rate.count same less in
-      let window = behind_bits timing.bitrate rate.every (d.begin e) (d.begin (e + rate.count)) (errors.seldom e (omega (arith, next, below))) in
+      let window = behind_bits timing.bitrate rate.every (d.begin e) (d.begin (e + rate.count)) (a_window_apart timing rate.every rate.count d errors.in_order errors.seldom e (omega (arith, next, below))) in
       let later = errors.in_order (e + rate.count) f next below in
       omega (arith, window, later)
 
@@ -448,8 +449,8 @@ module _ (plan : Plan) (timing : Timing) (stays : UnitPlan → Bool) (tells : Te
 
 -- the flows stand at the first places
 pub keeps_damaged : (plan : Plan) (timing : Timing) (stays : UnitPlan → Bool) → Clean plan → TellsWhoStays plan stays
-    → (s : Schedule) (d : Damaged) (planned : ℕ → Bool) (sent : Sent) (held : Held) (rate : ErrorRate) (i : ℕ) → IsLegalWithErrors s d
-    → KeepsPlan plan timing s planned sent held → KeepsErrors timing rate s d planned → i < length plan.flows.items
+    → (s : Schedule) (d : Damaged) (planned : ℕ → Bool) (sent : FrameFlows) (held : Held) (rate : ErrorRate) (i : ℕ) → IsLegalWithErrors s d
+    → KeepsToPlan plan timing s planned sent held → KeepsErrors timing rate s d planned → i < length plan.flows.items
     → AreFramesOfPlan timing (frames_asked (asked_of timing plan stays)) (with_errors s d) (planned_with s planned)
     (origins_with s d rate (length (frames_asked (asked_of timing plan stays))) sent) i
 keeps_damaged plan timing stays clean tells s d planned sent held rate i legal keeps errors below =

@@ -27,7 +27,7 @@ use Rattle.j39_load.specs.declared.messages.Messages.TheVariants.{Short}
 use Rattle.j39_load.specs.AnyQueues.{are_of_unit, is_member, is_of_company, keep_order, leasts_of, with_unplanned}
 use Rattle.j39_load.specs.Asked.{Asked, asked_of, frames_asked}
 use Rattle.j39_load.specs.Damage.{damage_frames}
-use Rattle.j39_load.specs.KeepsPlan.{Held, IsFrameOf, KeepsPlan, KeepsQueues, Sent, bit_time, goes_to, origins_of}
+use Rattle.j39_load.specs.KeepsPlan.{Held, IsFrameOf, KeepsToPlan, KeepsQueues, FrameFlows, bit_time, goes_to, origins_of}
 use Rattle.j39_load.specs.Loads.{any_unit, bits_per_ms, destination_at, flow_load, group_ident, is_always_short, is_any, load_of_flow, loads_of, single_frames}
 use Rattle.j39_load.specs.PlannedFrames.{AreFramesInAnyOrder, AreFramesOfPlan, KeepToCompany, company_of, no_frames, planned_at, traffic_of}
 use Rattle.j39_load.specs.Ranks.{AreUnitsPlanned, IsShortFlow}
@@ -163,7 +163,7 @@ module _ (plan : Plan) (timing : Timing) (stays : UnitPlan → Bool) where
   -- ---- a planned frame
 
   module _ (tells : TellsWhoStays plan stays) (clean : Clean plan) (s : Schedule) (queued_first : (p : ℕ) → p < s.count → s.queued p ≤ s.start p)
-      (planned : ℕ → Bool) (sent : Sent) (held : Held) (keeps : KeepsPlan plan timing s planned sent held) where
+      (planned : ℕ → Bool) (sent : FrameFlows) (held : Held) (keeps : KeepsToPlan plan timing s planned sent held) where
     module _ (p : ℕ) (in_p : p < s.count) (is : planned p ≡ true) where
       abbrev pub one : IsFrameOf plan timing s held (sent.flow p) (sent.moment p) p
       one = keeps.frames p in_p is
@@ -373,14 +373,14 @@ module _ (plan : Plan) (timing : Timing) (stays : UnitPlan → Bool) where
       }
 
 pub keeps_in_order : (plan : Plan) (timing : Timing) (stays : UnitPlan → Bool) → Clean plan → TellsWhoStays plan stays
-    → (s : Schedule) (planned : ℕ → Bool) (sent : Sent) (held : Held) (i : ℕ) → IsLegal s → KeepsPlan plan timing s planned sent held
+    → (s : Schedule) (planned : ℕ → Bool) (sent : FrameFlows) (held : Held) (i : ℕ) → IsLegal s → KeepsToPlan plan timing s planned sent held
     → AreFramesOfPlan timing (frames_asked (asked_of timing plan stays)) s planned (origins_of sent) i
 keeps_in_order plan timing stays clean tells s planned sent held i legal keeps =
     keeps_premises plan timing stays tells clean s legal.queued_first planned sent held keeps i
 
 pub keeps_in_any_order : (plan : Plan) (timing : Timing) (stays : UnitPlan → Bool) → Clean plan → TellsWhoStays plan stays
-    → (s : Schedule) (controllers : Controllers) (planned : ℕ → Bool) (sent : Sent) (held : Held) (i : ℕ) → IsLegalInAnyOrder s controllers
-    → KeepsPlan plan timing s planned sent held → KeepsQueues plan timing s controllers planned sent
+    → (s : Schedule) (controllers : Controllers) (planned : ℕ → Bool) (sent : FrameFlows) (held : Held) (i : ℕ) → IsLegalInAnyOrder s controllers
+    → KeepsToPlan plan timing s planned sent held → KeepsQueues plan timing s controllers planned sent
     → AreFramesInAnyOrder timing (frames_asked (asked_of timing plan stays)) s controllers planned (origins_of sent) i
 keeps_in_any_order plan timing stays clean tells s controllers planned sent held i legal keeps queues =
     keeps_any plan timing stays tells clean s legal.queued_first planned sent held keeps controllers queues i

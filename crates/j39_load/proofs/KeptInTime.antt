@@ -15,7 +15,7 @@ use Rattle.j39_load.specs.declared.flow_load.FlowLoad.{FlowLoad}
 use Rattle.j39_load.specs.Ages.{old_needs}
 use Rattle.j39_load.specs.Asked.{asked_of, frames_asked, total_load}
 use Rattle.j39_load.specs.KeepsErrors.{AreInTimeWithErrors, origins_with, planned_with}
-use Rattle.j39_load.specs.KeepsPlan.{AreFramesInTime, AreSentInTime, Held, IsFrameOf, IsMsBefore, IsWithinMs, KeepsPlan, Sent, bit_time, origins_of}
+use Rattle.j39_load.specs.KeepsPlan.{AreFramesInTime, AreSentInTime, Held, IsFrameOf, IsMsBefore, IsWithinMs, KeepsToPlan, FrameFlows, bit_time, origins_of}
 use Rattle.j39_load.specs.LoadFindings.{AreLoadFindings, AsksOfBus, load_findings}
 use Rattle.j39_load.specs.Loads.{bits_per_ms, deadline_of, time_limit}
 use Rattle.j39_load.specs.PlannedFrames.{IsBounded}
@@ -76,7 +76,7 @@ module _ (plan : Plan) (timing : Timing) (stays : UnitPlan → Bool) (delays : L
 
   -- ---- frames
 
-  module _ (s : Schedule) (planned : ℕ → Bool) (sent : Sent) (held : Held) (keeps : KeepsPlan plan timing s planned sent held)
+  module _ (s : Schedule) (planned : ℕ → Bool) (sent : FrameFlows) (held : Held) (keeps : KeepsToPlan plan timing s planned sent held)
       (in_time : (i bits : ℕ) (bound : IsBounded timing (asked_of timing plan stays) i bits)
       → IsStreamInTime s planned (origins_of sent) i bound.frames.stream bound.wait) where
     module _ (p : ℕ) (in_p : p < s.count) (is : planned p ≡ true) where

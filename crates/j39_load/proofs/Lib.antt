@@ -1,6 +1,7 @@
 pub mod AgeLaws
 pub mod AnyQueues
 pub mod AnyTraffic
+pub mod Attempts
 pub mod Before
 pub mod BoundedFlows
 pub mod Broadcasting

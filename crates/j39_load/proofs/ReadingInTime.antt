@@ -30,7 +30,7 @@ use Rattle.j39_load.specs.FreshNeeds.{IsNeedFresh}
 use Rattle.j39_load.specs.LoadFindings.{AreLoadFindings}
 use Rattle.j39_load.specs.Loads.{bits_of_ms}
 use Rattle.j39_load.specs.PlannedFrames.{AreFramesOfPlan, IsBounded, planned_at, traffic_of}
-use Rattle.j39_load.specs.ReadInTime.{AreNeedsRead, AreReadYoung, AreWritten, CarryWritten, IsNeedRead, ReadAsWritten, signals_of}
+use Rattle.j39_load.specs.ReadInTime.{AreNeedsRead, AreReadYoung, AreWritten, CarryWritten, IsNeedRead, ReadAsWritten, signals_of_bytes}
 use Rattle.j39_load.proofs.AgeLaws.{fresh_where_checked}
 use Rattle.j39_load.proofs.PositivePeriods.{ArePaced, of_loads}
 use Rattle.j39_load.proofs.StreamsBefore.{own_read, with_damage}
@@ -75,11 +75,11 @@ module _ (plan : Plan) (clean : Clean plan) (g : ℕ) (group : GroupPlan) (at : 
 
     -- what holds of the payload after the last write holds of the bytes
     in_bytes : (P : List ℕ → SignalParts → Type 0) (place : ℕ) → HoldsAt (P (last_payload w.start w.writes)) signals place
-        → HoldsAt (P bytes) (signals_of group bytes) place
+        → HoldsAt (P bytes) (signals_of_bytes group bytes) place
     in_bytes P place is = subst (λ (n : ℕ). HoldsAt (P bytes) (signals_in group n) place) (sym same_length)
         (subst (λ (b : List ℕ). HoldsAt (P b) signals place) w.last is)
 
-    inside : (place : ℕ) → place < length (signals_of group bytes) → place < length signals
+    inside : (place : ℕ) → place < length (signals_of_bytes group bytes) → place < length signals
     inside place less = subst (λ (n : ℕ). place < length (signals_in group n)) same_length less
 
     -- a signal of a blank payload without a selector

@@ -16,7 +16,7 @@ use Rattle.j39_findings.specs.declared.plan.unit_plan.UnitPlan.{UnitPlan}
 use Rattle.j39_load.specs.declared.delay.Delay.{Delay}
 use Rattle.j39_load.specs.declared.flow_load.FlowLoad.{FlowLoad}
 use Rattle.j39_load.specs.Asked.{asked_of}
-use Rattle.j39_load.specs.KeepsPlan.{Sent, bit_time, origins_of}
+use Rattle.j39_load.specs.KeepsPlan.{FrameFlows, bit_time, origins_of}
 use Rattle.j39_load.specs.LoadFindings.{AreLoadFindings, AsksOfBus}
 use Rattle.j39_load.specs.Loads.{bits_of_ms, bits_per_ms, deadline_of, load_of_flow, time_limit}
 use Rattle.j39_load.specs.ReadInTime.{AreReadYoung, CarryWritten, IsNeedRead}
@@ -67,7 +67,7 @@ module _ (plan : Plan) (timing : Timing) (clean : Clean plan) (stays : UnitPlan 
       let period = at_most_second timing.bitrate (deadline_of its_pace.pace) its_pace.pace.period in
       omega (arith, inside, limit, period)
 
-  arrive : (s : Schedule) (planned : ℕ → Bool) (sent : Sent)
+  arrive : (s : Schedule) (planned : ℕ → Bool) (sent : FrameFlows)
       → ((bytes : ℕ → List ℕ) (written : CarryWritten s planned (origins_of sent) read.fresh.place read.group bytes) (from to : ℕ)
       → KeepsComing s planned (origins_of sent) read.fresh.place (bits_of_ms timing read.fresh.pause) from to
       → to + (read.fresh.bounded.frames.stream.late + read.fresh.bounded.wait) < s.now

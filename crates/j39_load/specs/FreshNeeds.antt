@@ -1,4 +1,5 @@
--- What a plan is good for that finds no need too old: on every bus what the unit needs is never older than it asks for.
+-- What a plan is good for that finds no need too old: on every bus, while some flow that meets the need keeps its `pause`, what this flow
+-- brings is never older than the need asks for.
 use Rattle.std.specs.Prelude.{◌≡◌, ℕ, ◌+◌, ◌<◌, ◌≤◌, Bool, false, List, Option, Some}
 use Rattle.std.specs.List.{slice_get}
 use Rattle.j39_findings.specs.Findings.{Meets}

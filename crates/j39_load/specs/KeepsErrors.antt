@@ -1,11 +1,12 @@
 -- What a bus on which frames are damaged keeps of a plan, in the plan's own words, beside what its frames keep.
-use Rattle.std.specs.Prelude.{◌≡◌, ℕ, suc, ◌+◌, ◌%◌, ◌<◌, ◌≤◌, Bool, true, cond, nat_lt, Some}
+use Rattle.std.specs.Prelude.{◌≡◌, ℕ, suc, ◌+◌, ◌*◌, ◌%◌, ◌<◌, ◌≤◌, ◌&&◌, Bool, true, cond, nat_lt, not, Some}
 use Rattle.j39_findings.specs.declared.plan.Plan.{Plan}
 use Rattle.j39_findings.specs.declared.plan.timing.ErrorRate.{ErrorRate}
 use Rattle.j39_findings.specs.declared.plan.timing.Timing.{Timing}
-use Rattle.j39_load.specs.KeepsPlan.{AreSentInTime, Held, IsMsBehind, KeepsAllOrder, KeepsPlan, Sent}
+use Rattle.j39_load.specs.KeepsPlan.{AreSentInTime, Held, KeepsAllOrder, KeepsToPlan, FrameFlows, bit_time}
 use Rattle.j39_timing.specs.Errors.{Damaged, IsLegalWithErrors, at_place, with_errors}
 use Rattle.j39_timing.specs.FrameStreams.{Origins}
+use Rattle.j39_timing.specs.Sums.{total}
 use Rattle.j39_timing.specs.TimedFrames.{Schedule, Waits}
 use Rattle.j39_timing.specs.Traffic.{PlannedFramesWait, others_queued}
 
@@ -13,19 +14,28 @@ use Rattle.j39_timing.specs.Traffic.{PlannedFramesWait, others_queued}
 abbrev pub planned_with : Schedule → (ℕ → Bool) → ℕ → Bool
 planned_with s planned p = cond (nat_lt p s.count) (planned p) true
 
+-- an attempt begins at a bit or in so many milliseconds from it on
+abbrev pub begins_within : Timing → ℕ → Damaged → ℕ → ℕ → Bool
+begins_within timing ms d from e =
+    not (nat_lt (d.begin e) from) && nat_lt (d.begin e * bit_time timing.bitrate) (from * bit_time timing.bitrate + 1000 * ms)
+
+-- how many do
+abbrev pub attempts_within : Timing → ℕ → Damaged → ℕ → ℕ
+attempts_within timing ms d from = total d.count (λ e. cond (begins_within timing ms d from e) 1 0)
+
 -- attempts are damaged as seldom as the plan tells, in the order of their places
 pub record KeepsErrors (timing : Timing) (rate : ErrorRate) (s : Schedule) (d : Damaged) (planned : ℕ → Bool) : Type 0 where
   pub told : timing.errors ≡ Some rate
   pub in_order : (e f : ℕ) → e ≤ f → f < d.count → d.begin e ≤ d.begin f
-  -- of one more in a row than may be in a window the last begins this window behind the first
-  pub seldom : (e : ℕ) → e + rate.count < d.count → IsMsBehind timing rate.every (d.begin e) (d.begin (e + rate.count))
+  -- at most `count` of them begin in any `every` milliseconds
+  pub seldom : (from : ℕ) → attempts_within timing rate.every d from ≤ rate.count
   -- no more frames of no flow go before a planned one, also while it waits for what comes of damage
   pub few_others : (p from to : ℕ) → p < s.count → planned p ≡ true → to < s.now → Waits (with_errors s d) p to
       → PlannedFramesWait (with_errors s d) (planned_with s planned) ((with_errors s d).ident p) from to
       → others_queued (with_errors s d) (planned_with s planned) ((with_errors s d).ident p) from to ≤ timing.unplanned
 
 -- what a frame, an attempt and an error frame is of its stream: the attempts stand behind so many streams, and take turns in a window
-abbrev pub origins_with : Schedule → Damaged → ErrorRate → ℕ → Sent → Origins
+abbrev pub origins_with : Schedule → Damaged → ErrorRate → ℕ → FrameFlows → Origins
 origins_with s d rate count sent = record {
   source = at_place s d sent.flow (λ e. count) (λ e. suc count);
   turn = at_place s d (λ p. 0) (λ e. e % rate.count) (λ e. e % rate.count);
@@ -34,5 +44,5 @@ origins_with s d rate count sent = record {
 
 -- on each such bus whose units keep order each frame has been sent in time
 abbrev pub AreInTimeWithErrors : Plan → Timing → Type 0
-AreInTimeWithErrors plan timing = KeepsAllOrder plan → (s : Schedule) (d : Damaged) (planned : ℕ → Bool) (sent : Sent) (held : Held) (rate : ErrorRate)
-    → IsLegalWithErrors s d → KeepsPlan plan timing s planned sent held → KeepsErrors timing rate s d planned → AreSentInTime plan timing s planned sent
+AreInTimeWithErrors plan timing = KeepsAllOrder plan → (s : Schedule) (d : Damaged) (planned : ℕ → Bool) (sent : FrameFlows) (held : Held) (rate : ErrorRate)
+    → IsLegalWithErrors s d → KeepsToPlan plan timing s planned sent held → KeepsErrors timing rate s d planned → AreSentInTime plan timing s planned sent

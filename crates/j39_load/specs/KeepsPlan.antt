@@ -46,7 +46,7 @@ IsMsBefore timing ms a b = a * bit_time timing.bitrate + 1000 * ms < b * bit_tim
 -- ---- frames
 
 -- of which flow a frame is, by the places of both, and when its message had its moment
-pub record Sent : Type 0 where
+pub record FrameFlows : Type 0 where
   pub flow : ℕ → ℕ
   pub moment : ℕ → ℕ
 
@@ -81,7 +81,7 @@ pub record IsFrameOf (plan : Plan) (timing : Timing) (s : Schedule) (held : Held
       → s.ident p ≡ identifier_of group.priority group.pgn (goes_to (held.address t) flow.to) (held.address t flow.sender)
 
 -- the planned frames of a bus are those of flows, and what else is on it keeps to what the plan tells of it
-pub record KeepsPlan (plan : Plan) (timing : Timing) (s : Schedule) (planned : ℕ → Bool) (sent : Sent) (held : Held) : Type 0 where
+pub record KeepsToPlan (plan : Plan) (timing : Timing) (s : Schedule) (planned : ℕ → Bool) (sent : FrameFlows) (held : Held) : Type 0 where
   pub frames : (p : ℕ) → p < s.count → planned p ≡ true → IsFrameOf plan timing s held (sent.flow p) (sent.moment p) p
   -- the moments of two messages of a flow are a period apart
   pub apart : (p q : ℕ) (flow : FlowPlan) (pace : Pace) → p < s.count → q < s.count → p ≢ q → planned p ≡ true → planned q ≡ true
@@ -102,7 +102,7 @@ pub record KeepsPlan (plan : Plan) (timing : Timing) (s : Schedule) (planned : �
 -- ---- units that keep no order
 
 -- who sends the frames, where units keep order or don't, and what else is asked of such a bus
-pub record KeepsQueues (plan : Plan) (timing : Timing) (s : Schedule) (controllers : Controllers) (planned : ℕ → Bool) (sent : Sent) : Type 0 where
+pub record KeepsQueues (plan : Plan) (timing : Timing) (s : Schedule) (controllers : Controllers) (planned : ℕ → Bool) (sent : FrameFlows) : Type 0 where
   -- a frame is sent by its flow's unit, and one with `queue = "priority"` keeps order
   pub sender : (p : ℕ) (flow : FlowPlan) → p < s.count → planned p ≡ true → slice_get plan.flows.items (sent.flow p) ≡ Some flow
       → controllers.unit p ≡ flow.sender
@@ -120,13 +120,13 @@ pub record KeepsQueues (plan : Plan) (timing : Timing) (s : Schedule) (controlle
 -- ---- streams
 
 -- what a frame is of its flow's stream: each message has one frame
-abbrev pub origins_of : Sent → Origins
+abbrev pub origins_of : FrameFlows → Origins
 origins_of sent = record { source = sent.flow; turn = λ p. 0; since = sent.moment }
 
 -- ---- what is promised of it
 
 -- each frame that should have been sent by now has been sent within the period of its flow from its moment, and within a deadline that is written
-abbrev pub AreSentInTime : Plan → Timing → Schedule → (ℕ → Bool) → Sent → Type 0
+abbrev pub AreSentInTime : Plan → Timing → Schedule → (ℕ → Bool) → FrameFlows → Type 0
 AreSentInTime plan timing s planned sent = (p : ℕ) (flow : FlowPlan) (pace : Pace) → p < s.count → planned p ≡ true
     → slice_get plan.flows.items (sent.flow p) ≡ Some flow → flow.pace ≡ Some pace → IsMsBefore timing pace.period (sent.moment p) s.now
     → IsWithinMs timing pace.period (sent.moment p) (frame_end s p)
@@ -138,10 +138,10 @@ KeepsAllOrder plan = (u : ℕ) (unit : UnitPlan) → slice_get plan.units.items 
 
 -- so it is on every bus that keeps to the plan, where all units keep order, and where they do or don't
 pub record AreFramesInTime (plan : Plan) (timing : Timing) : Type 0 where
-  pub in_order : KeepsAllOrder plan → (s : Schedule) (planned : ℕ → Bool) (sent : Sent) (held : Held) → IsLegal s
-      → KeepsPlan plan timing s planned sent held → AreSentInTime plan timing s planned sent
-  pub in_any_order : (s : Schedule) (controllers : Controllers) (planned : ℕ → Bool) (sent : Sent) (held : Held) → IsLegalInAnyOrder s controllers
-      → KeepsPlan plan timing s planned sent held → KeepsQueues plan timing s controllers planned sent → AreSentInTime plan timing s planned sent
+  pub in_order : KeepsAllOrder plan → (s : Schedule) (planned : ℕ → Bool) (sent : FrameFlows) (held : Held) → IsLegal s
+      → KeepsToPlan plan timing s planned sent held → AreSentInTime plan timing s planned sent
+  pub in_any_order : (s : Schedule) (controllers : Controllers) (planned : ℕ → Bool) (sent : FrameFlows) (held : Held) → IsLegalInAnyOrder s controllers
+      → KeepsToPlan plan timing s planned sent held → KeepsQueues plan timing s controllers planned sent → AreSentInTime plan timing s planned sent
 
 -- ---- that it can be kept
 
@@ -149,10 +149,10 @@ pub record AreFramesInTime (plan : Plan) (timing : Timing) : Type 0 where
 pub record CanBeKept (plan : Plan) (timing : Timing) (f n : ℕ) : Type 0 where
   pub s : Schedule
   pub planned : ℕ → Bool
-  pub sent : Sent
+  pub sent : FrameFlows
   pub held : Held
   pub legal : IsLegal s
-  pub keeps : KeepsPlan plan timing s planned sent held
+  pub keeps : KeepsToPlan plan timing s planned sent held
   pub frames : s.count ≡ n
   pub all_planned : (p : ℕ) → planned p ≡ true
   pub of_flow : (p : ℕ) → sent.flow p ≡ f

@@ -1,5 +1,6 @@
--- A value arrives in time: on every bus what was received last of a flow that brings a unit what it needs is never older than this asks for,
--- and each signal in its bytes reads there what was last written to it. How long frames wait and how signals read back, put together.
+-- A value arrives in time: on every bus, while a flow that brings a unit what it needs keeps its `pause`, what was received last of it is never
+-- older than the need asks for, and each signal in its bytes reads there what was last written to it. How long frames wait and how signals
+-- read back, put together.
 use Rattle.std.specs.Prelude.{◌≡◌, ℕ, ◌+◌, ◌<◌, ◌≤◌, ℤ, Bool, List, ◌∷◌, ◌++◌, length as count, Option, Some, None}
 use Rattle.std.specs.List.{HoldsAt, slice_get}
 use Rattle.j39_signal.specs.Bits.{all_ones, raw_of}
@@ -38,20 +39,20 @@ pub record AreWritten (group : GroupPlan) (bytes : List ℕ) : Type 0 where
   pub last : last_payload start writes ≡ bytes
 
 -- the signals that they have
-abbrev pub signals_of : GroupPlan → List ℕ → List SignalParts
-signals_of group bytes = signals_in group (count bytes)
+abbrev pub signals_of_bytes : GroupPlan → List ℕ → List SignalParts
+signals_of_bytes group bytes = signals_in group (count bytes)
 
 -- a signal whose last write gave a value reads that value in these bytes, one whose last write gave it up reads as unset, and one that no
 -- write was for reads what it has in the blank payload, which without a selector is that it is unset
 pub record ReadAsWritten (group : GroupPlan) (bytes : List ℕ) (w : AreWritten group bytes) : Type 0 where
   pub given : (earlier later : List Write) (x : Write) → w.writes ≡ earlier ++ x ∷ later → LeaveAlone later x.place → (value : ℤ)
-      → HoldsAt (λ s. IsRawOf s value x.raw → state_of s (raw_of bytes s) ≡ Value value) (signals_of group bytes) x.place
+      → HoldsAt (λ s. IsRawOf s value x.raw → state_of s (raw_of bytes s) ≡ Value value) (signals_of_bytes group bytes) x.place
   pub given_up : (earlier later : List Write) (x : Write) → w.writes ≡ earlier ++ x ∷ later → LeaveAlone later x.place
-      → HoldsAt (λ s. x.raw ≡ all_ones s → state_of s (raw_of bytes s) ≡ unset_state s) (signals_of group bytes) x.place
-  pub never_given : (place : ℕ) → place < count (signals_of group bytes) → LeaveAlone w.writes place
-      → HoldsAt (λ s. state_of s (raw_of bytes s) ≡ state_of s (raw_of w.start s)) (signals_of group bytes) place
-  pub unset : group.when ≡ None → (place : ℕ) → place < count (signals_of group bytes) → LeaveAlone w.writes place
-      → HoldsAt (λ s. state_of s (raw_of bytes s) ≡ unset_state s) (signals_of group bytes) place
+      → HoldsAt (λ s. x.raw ≡ all_ones s → state_of s (raw_of bytes s) ≡ unset_state s) (signals_of_bytes group bytes) x.place
+  pub never_given : (place : ℕ) → place < count (signals_of_bytes group bytes) → LeaveAlone w.writes place
+      → HoldsAt (λ s. state_of s (raw_of bytes s) ≡ state_of s (raw_of w.start s)) (signals_of_bytes group bytes) place
+  pub unset : group.when ≡ None → (place : ℕ) → place < count (signals_of_bytes group bytes) → LeaveAlone w.writes place
+      → HoldsAt (λ s. state_of s (raw_of bytes s) ≡ unset_state s) (signals_of_bytes group bytes) place
 
 -- ---- frames
 

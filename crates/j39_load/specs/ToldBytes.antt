@@ -7,11 +7,11 @@ use Rattle.j39_findings.specs.PrivateGroups.{CanBe}
 use Rattle.j39_findings.specs.declared.plan.Plan.{Plan}
 use Rattle.j39_findings.specs.declared.plan.flow_plan.FlowPlan.{FlowPlan}
 use Rattle.j39_findings.specs.declared.plan.group_plan.GroupPlan.{GroupPlan}
-use Rattle.j39_load.specs.ReadInTime.{signals_of}
+use Rattle.j39_load.specs.ReadInTime.{signals_of_bytes}
 
 -- no signal in these bytes has a bit of the group's selector
 abbrev pub LeaveSelector : GroupPlan → List ℕ → Type 0
-LeaveSelector group bytes = (j : ℕ) → IsSelectorBit group.when j → All (λ s. ¬ Covers s j) (signals_of group bytes)
+LeaveSelector group bytes = (j : ℕ) → IsSelectorBit group.when j → All (λ s. ¬ Covers s j) (signals_of_bytes group bytes)
 
 -- a message of the group's number with these bytes, from the flow's sender to where it goes, can be one of the group, and of no other one
 pub record IsToldOf (plan : Plan) (flow : FlowPlan) (group : GroupPlan) (bytes : List ℕ) : Type 0 where

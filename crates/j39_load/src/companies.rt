@@ -170,10 +170,7 @@ fn with_unplanned(timing: Timing, own: &FlowFrames) -> FlowFrames
     } else {
         536_870_912
     };
-    FlowFrames {
-        last_ident,
-        ..*own
-    }
+    FlowFrames { last_ident, ..*own }
 }
 
 // Adds the stream of these frames, where they are of the company, or one of them may have a smaller identifier than its

@@ -14,7 +14,7 @@ ghost use Rattle.j39_findings.specs.declared.plan.unit_plan.UnitPlan.{UnitPlan a
 ghost use Rattle.j39_load.specs.declared.delay.Delay.{Delay as Delays};
 ghost use Rattle.j39_load.specs.FreshNeeds.{AreNeedsFresh};
 ghost use Rattle.j39_load.specs.KeepsErrors.{AreInTimeWithErrors, KeepsErrors, origins_with, planned_with};
-ghost use Rattle.j39_load.specs.KeepsPlan.{AreFramesInTime, CanBeKept, Held, KeepsPlan, KeepsQueues, Sent, origins_of};
+ghost use Rattle.j39_load.specs.KeepsPlan.{AreFramesInTime, CanBeKept, Held, KeepsToPlan, KeepsQueues, FrameFlows, origins_of};
 ghost use Rattle.j39_load.specs.LoadFindings.{AreLoadFindings, AsksOfBus, load_findings};
 ghost use Rattle.j39_load.specs.Loads.{group_ident};
 ghost use Rattle.j39_load.specs.Asked.{asked_of, frames_asked, total_load};
@@ -93,19 +93,19 @@ pub fn identifiers_lie_between()
 {}
 
 /// A bus that keeps to a clean plan in the plan's own words, whose planned frames are those of flows each message of which goes in one frame, keeps
-/// the premises of each delay, where units keep order (`legal`) or don't (`any_order`), and where frames are damaged (`with_errors`): so what `delays_are_bounds` and `needs_stay_fresh` promise
-/// holds of it.
+/// the premises of each delay, where units keep order (`legal`) or don't (`any_order`), and where frames are damaged (`with_errors`): so what
+/// `delays_are_bounds` and `needs_stay_fresh` promise holds of it.
 pub fn frames_that_keep_a_plan()
     ensures legal { (plan : Plans) (timing : Timings) (stays : PlannedUnits → Bool) → Clean plan → TellsWhoStays plan stays
-        → (s : Schedule) (planned : ℕ → Bool) (sent : Sent) (held : Held) (i : ℕ) → IsLegal s → KeepsPlan plan timing s planned sent held
+        → (s : Schedule) (planned : ℕ → Bool) (sent : FrameFlows) (held : Held) (i : ℕ) → IsLegal s → KeepsToPlan plan timing s planned sent held
         → AreFramesOfPlan timing (frames_asked (asked_of timing plan stays)) s planned (origins_of sent) i }
     ensures any_order { (plan : Plans) (timing : Timings) (stays : PlannedUnits → Bool) → Clean plan → TellsWhoStays plan stays
-        → (s : Schedule) (controllers : Controllers) (planned : ℕ → Bool) (sent : Sent) (held : Held) (i : ℕ) → IsLegalInAnyOrder s controllers
-        → KeepsPlan plan timing s planned sent held → KeepsQueues plan timing s controllers planned sent
+        → (s : Schedule) (controllers : Controllers) (planned : ℕ → Bool) (sent : FrameFlows) (held : Held) (i : ℕ) → IsLegalInAnyOrder s controllers
+        → KeepsToPlan plan timing s planned sent held → KeepsQueues plan timing s controllers planned sent
         → AreFramesInAnyOrder timing (frames_asked (asked_of timing plan stays)) s controllers planned (origins_of sent) i }
     ensures with_errors { (plan : Plans) (timing : Timings) (stays : PlannedUnits → Bool) → Clean plan → TellsWhoStays plan stays
-        → (s : Schedule) (d : Damaged) (planned : ℕ → Bool) (sent : Sent) (held : Held) (rate : ErrorRates) (i : ℕ) → IsLegalWithErrors s d
-        → KeepsPlan plan timing s planned sent held → KeepsErrors timing rate s d planned → i < length plan.flows.items
+        → (s : Schedule) (d : Damaged) (planned : ℕ → Bool) (sent : FrameFlows) (held : Held) (rate : ErrorRates) (i : ℕ) → IsLegalWithErrors s d
+        → KeepsToPlan plan timing s planned sent held → KeepsErrors timing rate s d planned → i < length plan.flows.items
         → AreFramesOfPlan timing (frames_asked (asked_of timing plan stays)) (with_errors s d) (planned_with s planned)
         (origins_with s d rate (length (frames_asked (asked_of timing plan stays))) sent) i }
 {}

@@ -319,3 +319,7 @@ module _ (s : Schedule) (d : Damaged) where
       never_idle = never_idle legal.bus;
       in_order = offered;
     }
+
+-- each frame is of the unit that it was of
+pub units_stay : (s : Schedule) (controllers : Controllers) (own p : ℕ) → p < s.count → (damage_ordered s controllers own).unit p ≡ controllers.unit p
+units_stay s controllers own p below = rw (lt-ltb p s.count below) refl

@@ -3,7 +3,7 @@ use Rattle.std.proofs.Common.{List, [], ◌∷◌, ◌≡◌, ◌≢◌, ℕ, �
 use Rattle.std.proofs.Math.Nat.{mul-le-mul_left, mul-div-le, lt-mul-div-succ, lt_of_mul-lt-mul_left}
 use Rattle.j39_timing.specs.FreshFrames.{KeepsComing}
 use Rattle.j39_timing.specs.Traffic.{IsStreamInTime, delay_of}
-use Rattle.j39_timing.specs.Gateways.{Carrier, IsIts, end_time, queue_time, time_of, Comes, IsYoung, HasOwnMoments, IsOldAtMost, KeepTo, HandsOn, SendsNewest, IsHandedOn, AreApart, EndWithin, KeepsToStream, Coming, ComesSo, age_of, Mode, directly, at_its_beat, Hop, coming_behind, IsPrompt, IsInTimeThere, IsWay, last_of, coming_at_last}
+use Rattle.j39_timing.specs.Gateways.{Carrier, IsIts, end_time, queue_time, time_of, Comes, IsYoung, HasOwnMoments, IsOldAtMost, KeepTo, HandsOn, SendsNewest, IsHandedOn, AreApart, EndWithin, KeepsToStream, Coming, ComesSo, age_of, Mode, directly, at_its_beat, Hop, coming_behind, IsPrompt, IsInTimeThere, AreHops, last_of, coming_at_last}
 use Rattle.j39_timing.specs.declared.stream.Stream.{Stream}
 
 -- a stream that is in time on its bus and keeps coming there, whose moments are the bus's own
@@ -112,12 +112,12 @@ comes_behind x c h (at_its_beat pause first last) coming there prompt =
     (λ p its low high. old p its low (omega arith))
 
 -- and all of a way
-pub comes_over : (x : Carrier) (c : Coming) (hops : List Hop) → ComesSo x c → IsWay x c hops → ComesSo (last_of x hops) (coming_at_last c hops)
-unfolding IsWay last_of coming_at_last
+pub comes_over : (x : Carrier) (c : Coming) (hops : List Hop) → ComesSo x c → AreHops x c hops → ComesSo (last_of x hops) (coming_at_last c hops)
+unfolding AreHops last_of coming_at_last
 comes_over x c [] coming way = coming
 comes_over x c (h ∷ hs) coming way = comes_over h.to (coming_behind h h.mode c) hs (comes_behind x c h h.mode coming way.0 way.1) way.2
 
-pub young_at_last : (x : Carrier) (c : Coming) (hops : List Hop) → ComesSo x c → IsWay x c hops → let d = coming_at_last c hops in
+pub young_at_last : (x : Carrier) (c : Coming) (hops : List Hop) → ComesSo x c → AreHops x c hops → let d = coming_at_last c hops in
     IsYoung (last_of x hops) (age_of d) (d.from + d.behind) (d.to + d.behind)
 young_at_last x c hops coming way = let d = coming_at_last c hops in
     comes_young (last_of x hops) d.old d.silent d.behind d.from d.to (comes_over x c hops coming way)

@@ -1,5 +1,5 @@
--- Units whose controllers keep no order: such a unit takes part in each arbitration with one of its waiting frames, whichever (a queue of
--- which the oldest frame goes first, few mailboxes, one buffer).
+-- Units whose controllers keep no order: such a unit takes part in each arbitration with one of its waiting frames, whichever (a FIFO
+-- queue, few mailboxes, or one buffer that is filled again within the intermission of three bits).
 use Rattle.std.specs.Prelude.{◌≡◌, ℕ, zero, suc, ◌+◌, ◌<◌, ◌≤◌, Bool, true, false, ◌&&◌, cond, nat_lt, nat_le}
 use Rattle.j39_timing.specs.declared.stream.Stream.{Stream}
 use Rattle.j39_timing.specs.TimedFrames.{Schedule, IsOnBusAt, Waits}

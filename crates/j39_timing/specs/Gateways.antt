@@ -157,9 +157,9 @@ abbrev pub IsInTimeThere : Hop → Type 0
 IsInTimeThere h = IsStreamInTime h.to.schedule h.to.planned h.to.of h.to.source h.stream h.wait × KeepTo h.to h.stream
 
 -- from gateway to gateway
-unfoldable pub IsWay : Carrier → Coming → List Hop → Type 0
-IsWay x c [] = Unit {0}
-IsWay x c (h ∷ hs) = IsInTimeThere h × IsPrompt x c h h.mode × IsWay h.to (coming_behind h h.mode c) hs
+unfoldable pub AreHops : Carrier → Coming → List Hop → Type 0
+AreHops x c [] = Unit {0}
+AreHops x c (h ∷ hs) = IsInTimeThere h × IsPrompt x c h h.mode × AreHops h.to (coming_behind h h.mode c) hs
 
 -- where it comes at last, and how
 unfoldable pub last_of : Carrier → List Hop → Carrier

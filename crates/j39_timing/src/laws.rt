@@ -7,7 +7,7 @@ ghost use Rattle.j39_timing.specs.Messages.{LongMessage, AreSentInTurn, AreSentW
 ghost use Rattle.j39_timing.specs.FreshFrames.{ComeOneByOne, IsFresh, IsNewest, IsNewestFresh, KeepsComing};
 ghost use Rattle.j39_timing.specs.Vehicles.{IsKnown, KeepsItsStreams, Vehicle};
 ghost use Rattle.j39_timing.specs.Prefixes.{IsPlannedUntil, AreBegunUntil, HaveWaitsUntil, IsCompanyUntil};
-ghost use Rattle.j39_timing.specs.Gateways.{Carrier, IsIts, time_of, Comes, IsYoung, HasOwnMoments, IsOldAtMost, KeepTo, HandsOn, SendsNewest, IsHandedOn, AreApart, EndWithin, KeepsToStream, Coming, ComesSo, Hop, IsWay, age_of, coming_at_last, last_of};
+ghost use Rattle.j39_timing.specs.Gateways.{Carrier, IsIts, time_of, Comes, IsYoung, HasOwnMoments, IsOldAtMost, KeepTo, HandsOn, SendsNewest, IsHandedOn, AreApart, EndWithin, KeepsToStream, Coming, ComesSo, Hop, AreHops, age_of, coming_at_last, last_of};
 ghost use Rattle.j39_timing.specs.AnyOrder.{AreBegunWithin, Controllers, HaveWaits, IsLegalInAnyOrder, IsFromOrdered, IsOrderedStream, IsUnordered, as_offered, offered_traffic};
 ghost use Rattle.j39_timing.specs.Companies.{Company, HasRoomInCompany, IsTrafficOfCompany};
 ghost use Rattle.j39_timing.specs.declared.stream.Stream.{Stream as TheStream};
@@ -54,11 +54,14 @@ pub fn newest_frames_are_fresh()
 {}
 
 /// A bus on which frames are damaged has a legal schedule, in which damaged attempts and the error frames behind them are frames of the least
-/// identifier: so each law of legal schedules holds of it (`legal`). So it is where units keep no order (`any_order`).
+/// identifier: so each law of legal schedules holds of it (`legal`). So it is where units keep no order (`any_order`), and there each frame is
+/// of the unit that it was of (`units`).
 pub fn a_bus_with_errors_is_legal()
     ensures legal { (s : Schedule) (damaged : Damaged) → IsLegalWithErrors s damaged → IsLegal (with_errors s damaged) }
     ensures any_order { (s : Schedule) (controllers : Controllers) (damaged : Damaged) → IsLegalInAnyOrderWithErrors s controllers damaged
         → (own : ℕ) → IsLegalInAnyOrder (with_errors s damaged) (damage_ordered s controllers own) }
+    ensures units { (s : Schedule) (controllers : Controllers) (own p : ℕ) → p < s.count
+        → (damage_ordered s controllers own).unit p ≡ controllers.unit p }
 {}
 
 /// Where each frame of a stream without twins is queued after the end of the one before, however late this is, each begins within a wait that
@@ -82,8 +85,8 @@ pub fn messages_in_turn_are_whole_in_time()
         → all_whole_at s by messages ≤ by + time_of_messages (wait + announcements.bits) gap (more + packets.bits) messages }
 {}
 
-/// The premises can be met, and the bound is the best there is: there is a legal schedule of planned traffic in which a
-/// frame waits for exactly as long as it says.
+/// The premises can be met, and there is a bus on which the bound is reached: a legal schedule of planned traffic in which a frame waits
+/// for exactly as long as it says.
 pub fn a_bound_is_reached()
     ensures { (s : Schedule) × (traffic : Traffic) × (others : Others) × (planned : ℕ → Bool) × (of : Origins) × IsLegal s
         × IsPlannedTraffic s traffic others 160 planned of 0 × HasRoom traffic others 160 0 160 × (1 < s.count) × (planned 1 ≡ true)
@@ -186,7 +189,7 @@ pub fn ages_add_over_gateways()
         → IsOldAtMost y (age + within) (from + within) (to + within) }
     ensures young { (x : Carrier) (old silent behind from to : ℕ) → Comes x old silent behind from to
         → IsYoung x (old + (silent + behind)) (from + behind) (to + behind) }
-    ensures at_last { (x : Carrier) (c : Coming) (hops : List Hop) → ComesSo x c → IsWay x c hops → let d = coming_at_last c hops in
+    ensures at_last { (x : Carrier) (c : Coming) (hops : List Hop) → ComesSo x c → AreHops x c hops → let d = coming_at_last c hops in
         IsYoung (last_of x hops) (age_of d) (d.from + d.behind) (d.to + d.behind) }
 {}
 

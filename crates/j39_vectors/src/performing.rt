@@ -1,8 +1,8 @@
 //! Commands, by what they read.
 use crate::Command;
 use j39_app::{
-    Fault, Sink, Source, Verdict, addresses_text, check_text, input_text, load_text, plan_text,
-    read_text, run_planned, show_text,
+    Fault, Sink, Source, Verdict, addresses_text, check_text, follow_text, input_text, load_text,
+    plan_text, read_text, run_planned, show_text,
 };
 use std::alloc::Global;
 
@@ -20,14 +20,14 @@ pub fn perform<P: Source, S: Source, W: Sink>(
         Command::Show => return show_text(alloc, plan, sink),
         Command::Addresses => return addresses_text(alloc, plan, sink),
         Command::Load => return load_text(alloc, plan, sink),
-        Command::Run | Command::Read => {}
+        Command::Run | Command::Read | Command::Follow => {}
     }
     let Some(plan) = plan_text(alloc, plan, sink)? else {
         return Ok(Verdict::Unreadable);
     };
-    if command == Command::Run {
-        run_planned(alloc, &plan, input, sink)
-    } else {
-        read_text(alloc, &plan, input, sink)
+    match command {
+        Command::Run => run_planned(alloc, &plan, input, sink),
+        Command::Follow => follow_text(alloc, &plan, input, sink),
+        _ => read_text(alloc, &plan, input, sink),
     }
 }

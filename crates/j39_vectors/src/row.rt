@@ -18,6 +18,8 @@ pub enum Command {
     Run,
     /// The reading of a log, the input.
     Read,
+    /// Who sent what in a log, the input.
+    Follow,
 }
 
 /// A command with what it reads, the text that it writes then, and its verdict.

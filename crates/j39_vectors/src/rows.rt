@@ -118,6 +118,36 @@ from = \"A\"
 within = 22
 ";
 
+// Two units that may choose, at one address, and a fixed one, which asks the first of them for a group.
+const ASKED: &str = "version = 4
+[[unit]]
+label = \"A\"
+address = 128
+name = { identity = 1, arbitrary = true }
+[[unit]]
+label = \"B\"
+address = 128
+name = { identity = 2, arbitrary = true }
+[[unit]]
+label = \"C\"
+address = 5
+name = { identity = 3 }
+[[group]]
+label = \"STATE\"
+pgn = 65263
+priority = 6
+length = 8
+[[flow]]
+group = \"STATE\"
+from = \"A\"
+to = \"all\"
+on_request = true
+[[request]]
+group = \"STATE\"
+from = \"C\"
+to = \"A\"
+";
+
 // A group with one signal.
 const TEMPERATURE: &str = "version = 1
 [[group]]
@@ -383,8 +413,60 @@ frames 4 skipped 0 bad 0
     verdict: Verdict::Done,
 };
 
+const FOLLOWED_REQUESTS: Row = Row {
+    name: "a log with requests, followed",
+    command: Command::Follow,
+    plan: ASKED,
+    input: "(1) can0 18EEFF80#0100000000000080
+(1.1) can0 18EEFF05#0300000000000000
+(1.2) can0 18EA8005#EFFE00
+(1.25) can0 18FEEF80#1111111111111111
+(1.3) can0 18EA8005#EFFE00
+(1.35) can0 18E8FF80#01FFFFFF05EFFE00
+",
+    text: "1 (1) claim A@128
+2 (1.1) claim C@5
+3 (1.2) request 65263 from C@5 to A@128 request 1
+4 (1.25) group STATE from A@128 to all flow 1 bytes 1111111111111111
+5 (1.3) request 65263 from C@5 to A@128 request 1
+6 (1.35) refused 65263 from A@128 to C@5
+flow 1 STATE from A to all sent 1
+group STATE no_flow 0 other 0
+unit A address 128
+unit B unclaimed
+unit C address 5
+request 1 STATE from C to A asked 2 answered 1 refused 1
+frames 6 skipped 0 bad 0 elsewhere 0
+",
+    verdict: Verdict::Done,
+};
+
+const FOLLOWED_CONTEST: Row = Row {
+    name: "a log with a contest, followed",
+    command: Command::Follow,
+    plan: ASKED,
+    input: "(1) can0 18EEFF80#0100000000000080
+(2) can0 18EEFF80#0200000000000080
+(2.1) can0 18FEEF80#1111111111111111
+(2.3) can0 18FEEF80#2222222222222222
+",
+    text: "1 (1) claim A@128
+2 (2) claim B@128
+3 (2.1) group STATE from A?@128 to all flow 1 bytes 1111111111111111
+4 (2.3) group STATE from B@128 to all no flow bytes 2222222222222222
+flow 1 STATE from A to all sent 1
+group STATE no_flow 1 other 0
+unit A none
+unit B address 128
+unit C unclaimed
+request 1 STATE from C to A asked 0 answered 0 refused 0
+frames 4 skipped 0 bad 0 elsewhere 0
+",
+    verdict: Verdict::Done,
+};
+
 /// Each row.
-pub const ROWS: [Row; 15] = [
+pub const ROWS: [Row; 17] = [
     FRAME,
     CHECK_OF_NOTHING,
     CHECK_OF_A_PLAN,
@@ -400,4 +482,6 @@ pub const ROWS: [Row; 15] = [
     RUN_OF_NO_PLAN,
     READ_OF_A_SIGNAL,
     READ_OF_A_MESSAGE,
+    FOLLOWED_REQUESTS,
+    FOLLOWED_CONTEST,
 ];

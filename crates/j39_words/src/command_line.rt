@@ -1,9 +1,9 @@
 //! The words of the command line, read.
-ghost use Rattle.std.specs.Prelude.{◌≡◌, Err, None, true, false, [], IfOk, Some, codes, map, string_bytes};
+ghost use Rattle.std.specs.Prelude.{◌≡◌, ◌≢◌, Err, None, true, false, [], IfOk, Some, codes, map, string_bytes};
 ghost use Rattle.clap.specs.Words.{first_of, found_of, kind_of, rows_of, subcommand_of, subcommand_rows_of};
 ghost use Rattle.j39_words.specs.Commands.{commands};
 ghost use Rattle.j39_words.specs.Orders.{IsOrdered, AreRefused, AsksHelp, IsHelp, Orders, OrdersNothing, asks_for_text};
-ghost use Rattle.j39_words.specs.declared.orders.WordsFault.TheVariants.{Bad};
+ghost use Rattle.j39_words.specs.declared.orders.WordsFault.TheVariants.{Bad, Memory};
 ghost use Rattle.clap.specs.declared.error.kind.ErrorKind.TheVariants.{OutOfMemory};
 
 use crate::commands::commands;
@@ -99,6 +99,7 @@ pub fn order(alloc: Global, words: Vec<String>) -> Result<Order, WordsFault>
     ensures ordered { IfOk result (IsOrdered (map string_bytes words.items)) }
     ensures helped { IfOk result (λ o. IsHelp o → AsksHelp (map string_bytes words.items)) }
     ensures refused { result ≡ Err Bad → AreRefused (map string_bytes words.items) }
+    ensures memory { result ≡ Err Memory → words.items ≢ [] }
 {
     if words.is_empty() {
         Ok(Order::Input)

@@ -162,15 +162,8 @@ pub(super) fn commands<'a>(alloc: Global) -> Result<Command<'a>, AllocError>
         "Shows within which time the frames of each flow of the plan are on the bus, and how full it is",
         "PLAN",
         "The name of a plan file with the table timing and a period of each flow. A time counts from when the frame is ready \
-        in its controller, of a flow with jitter from its message's moment, and holds where no more frames are damaged than \
-        errors says, none is lost, none has an 11-bit identifier, and nobody sends overload frames; the moments of two \
-        messages of one flow are at least its period apart, and each is queued at most its jitter after its moment; a long \
-        one to one unit ends before the next and takes no more frames than load counts; a unit sends one long message to all \
-        at a time, its frames at least broadcast_gap (50 ms) and at most broadcast_gap_most (200 ms) apart; announcements, \
-        answers and packets have priority transport_priority (7) or a larger number; each controller offers its queued frame \
-        of the smallest identifier first, or any where its unit's queue says so; no claim and no request for claims is under \
-        way, and no unit changes its address while a frame of it waits; and other frames have priority unplanned_priority (6) \
-        or a larger number and 8 bytes at most, and at most as many as unplanned says go before one that waits",
+        in its controller, of a flow with jitter from its message's moment. It is a bound on each bus that meets the \
+        assumptions listed in j39plan(1), ASSUMPTIONS",
     );
     let runs = with_two(
         loads,

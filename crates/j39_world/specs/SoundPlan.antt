@@ -1,7 +1,7 @@
 -- What a plan without findings has: its addresses, its signals and its reports are sound, addresses also with strangers, planned ones that
 -- differ stay, what units have noted of one another is right where no claim is undelivered, what it keeps free stays free, its claims die
--- down, and its messages come to their end; one of which nothing is lost arrives; its requests are answered; and what its units need is
--- sent to them, and reads there as it was written.
+-- down, and its messages come to their end; one of which nothing is lost arrives; some flow of it answers each request, and some flow brings
+-- each unit what it needs; and a message of such a flow of which nothing is lost reads there as it was written.
 use Rattle.std.specs.Prelude.{◌≡◌, ℕ, ◌<◌, false, List, length, Some}
 use Rattle.j39_findings.specs.Needs.{AreNeedsMet}
 use Rattle.j39_findings.specs.PlannedRequests.{AreAnsweredWell, AreRequestsServed}

@@ -28,12 +28,19 @@ complete -F _j39plan j39plan
 
 # The options of a tool are those of its help.
 _j39plan_tool() {
-  local word=${COMP_WORDS[COMP_CWORD]} tool=${COMP_WORDS[0]##*/}
+  local word=${COMP_WORDS[COMP_CWORD]} tool=${COMP_WORDS[0]##*/} before=${COMP_WORDS[COMP_CWORD - 1]}
   COMPREPLY=()
-  if [[ $word == -* ]]; then
+  if [ "$before" = --kind ]; then
+    mapfile -t COMPREPLY < <(compgen -W 'dbc arxml kcd sym' -- "$word")
+  elif [[ $before =~ ^(-o|--output|--notes|--gitlab|--junit)$ ]]; then
+    compopt -o filenames 2> /dev/null
+    mapfile -t COMPREPLY < <(compgen -f -- "$word")
+  elif [[ $word == -* ]]; then
     mapfile -t COMPREPLY < <(compgen -W "$("${COMP_WORDS[0]}" --help 2> /dev/null | grep -oE -- '--[a-z][a-z-]*' | sort -u)" -- "$word")
   elif [ "$tool" = j39plan-dbc2plan ]; then
     _j39plan_files "$word" dbc arxml kcd sym
+  elif [ "$tool" = j39plan-answer ] && [ "$COMP_CWORD" -eq 1 ]; then
+    mapfile -t COMPREPLY < <(compgen -W 'check addresses load' -- "$word")
   elif [ "$tool" = j39plan-tolog ]; then
     _j39plan_files "$word" asc blf trc mf4 csv
   elif [[ $tool =~ ^j39plan-(against|fleet|signals|plot)$ ]] && [ "$COMP_CWORD" -gt 1 ]; then
@@ -42,4 +49,4 @@ _j39plan_tool() {
     _j39plan_files "$word" toml
   fi
 }
-complete -F _j39plan_tool j39plan-where j39plan-startup j39plan-dbc2plan j39plan-plan2dbc j39plan-join j39plan-compare j39plan-against j39plan-fleet j39plan-report j39plan-signals j39plan-plot j39plan-tolog j39plan-check-plans
+complete -F _j39plan_tool j39plan-where j39plan-answer j39plan-startup j39plan-dbc2plan j39plan-plan2dbc j39plan-join j39plan-compare j39plan-against j39plan-fleet j39plan-report j39plan-signals j39plan-plot j39plan-tolog j39plan-check-plans

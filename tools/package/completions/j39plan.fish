@@ -16,18 +16,23 @@ complete -c j39plan -n '__fish_seen_subcommand_from show check addresses load ru
 complete -c j39plan -n '__fish_seen_subcommand_from help' -a 'show check addresses load run read follow frame'
 
 # The tools.
-for tool in where startup dbc2plan plan2dbc join compare against fleet report signals plot tolog check-plans
+for tool in where answer startup dbc2plan plan2dbc join compare against fleet report signals plot tolog check-plans
     complete -c j39plan-$tool -l help -s h -d 'print the help'
     complete -c j39plan-$tool -l version -d 'print the version'
 end
+complete -c j39plan-answer -n '__fish_is_first_arg' -x -a 'check addresses load'
 complete -c j39plan-startup -l traffic -d 'then each flow sends one message'
+complete -c j39plan-where -l json -d 'as a JSON object'
 complete -c j39plan-where -l lint -d 'with hints that are no findings'
 complete -c j39plan-where -l github -d 'as annotations of GitHub\'s CI'
 complete -c j39plan-where -l gitlab -r -F -d 'write a code quality report of GitLab\'s CI, too'
 complete -c j39plan-dbc2plan -l sender -x -d 'only groups that this unit sends'
 complete -c j39plan-dbc2plan -l group -x -d 'only this group, by name or PGN'
+complete -c j39plan-dbc2plan -l same -x -d 'the nodes of two names are one, as ENGINE=EMS'
+complete -c j39plan-dbc2plan -l address -x -d 'the address of a node, as TCU=3'
 complete -c j39plan-dbc2plan -l bus -x -d 'which bus of the file'
 complete -c j39plan-dbc2plan -l version -a '2 3 4' -d 'the version of the plan'
+complete -c j39plan-dbc2plan -l identity -d 'keep identity numbers'
 complete -c j39plan-dbc2plan -l no-needs -d 'leave out who needs what'
 complete -c j39plan-dbc2plan -l strict -d 'keep signals that lie outside or overlap'
 complete -c j39plan-dbc2plan -l kind -x -a 'dbc arxml kcd sym' -d 'of which kind the files are'
@@ -37,6 +42,7 @@ for tool in dbc2plan plan2dbc
     complete -c j39plan-$tool -l fail-on-notes -d 'status 1 where there is a note'
 end
 complete -c j39plan-join -l first -d 'write the plan with what the earliest file says'
+complete -c j39plan-join -l same -x -d 'the units of two labels are one, as ENGINE=EMS'
 complete -c j39plan-compare -l json -d 'as a JSON object'
 complete -c j39plan-report -l output -s o -r -F -d 'the name of the HTML file'
 complete -c j39plan-report -l watch -d 'serve the page, drawn anew as the plan is saved'

@@ -5,6 +5,6 @@
 pub enum Queue {
     /// With the one that has the least identifier.
     Priority,
-    /// With any of them: a queue of which the oldest frame goes first, few mailboxes, one buffer.
+    /// With any of them: a FIFO queue, few mailboxes, or one buffer that is filled again within the intermission of three bits.
     Any,
 }

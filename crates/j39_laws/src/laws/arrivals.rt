@@ -8,9 +8,9 @@ ghost use Rattle.j39_world.specs.World.{World, all_off};
 
 /// In every world of every run of every plan, a message to all or of one frame that is begun there arrives where nothing of it is lost,
 /// no receiver of it hears nothing in time, and its sender isn't made idle: once its sender can send no more and its receivers can take
-/// no more of this sender, it rests, and each of its receivers has reported it once since and nothing else of this sender, whatever other
-/// messages go beside it and whatever is lost of them, of what the sender answers its receivers, and before. Its receivers are the one
-/// unit that it is for, or, of a message to all, each other unit that was on when it was begun.
+/// no more of this sender, it rests, and each of its receivers has since reported it once as a message that was begun, and no other message
+/// that this sender began, whatever other messages go beside it and whatever is lost of them, of what the sender answers its receivers, and
+/// before. Its receivers are the one unit that it is for, or, of a message to all, each other unit that was on when it was begun.
 pub fn unanswered_messages_arrive()
     ensures { (plan : Plans) (steps : List Steps) (w : World) → Run plan all_off steps w → ArrivesUnanswered plan w }
 {}
@@ -18,9 +18,9 @@ pub fn unanswered_messages_arrive()
 /// In every world of every run of every plan, a message of several frames to one unit that is begun there arrives where no frame of it and no
 /// answer to it is lost, neither of the two hears nothing of it in time, its sender isn't made idle, and from its beginning on its receiver
 /// isn't between the beginning and the rest of a message of the same group to its sender alone, not even of one that has ended: once its
-/// sender can send no more and neither of the two can take more of the other, its sender rests acknowledged, and its receiver has reported
-/// it once since and nothing else of this sender, whatever other messages go beside it and whatever is lost of them and before. From each
-/// such beginning some run does so.
+/// sender can send no more and neither of the two can take more of the other, its sender rests acknowledged, and its receiver has since
+/// reported it once as a message that was begun, and no other message that this sender began, whatever other messages go beside it and
+/// whatever is lost of them and before. From each such beginning some run does so.
 pub fn answered_messages_arrive()
     ensures arrives { (plan : Plans) (steps : List Steps) (w : World) → Run plan all_off steps w
         → (m : Answered plan w) → IsAlone plan w m → HasArrivedAnswered plan w m }

@@ -1,0 +1,81 @@
+#!/usr/bin/env python3
+"""Looks at what needs no proof: the format of the crates' sources, scripts of the shell, and names in Python. What a missing program
+keeps from being looked at is skipped and said. The last line is 'N passed, M failed'.
+"""
+
+from __future__ import annotations
+
+import os
+import shutil
+import subprocess
+import sys
+import tempfile
+
+sys.dont_write_bytecode = True
+import crates
+from tally import Tally
+
+PARTS = ("src", "specs", "proofs", "must-fail")
+
+
+def tracked() -> list[str]:
+    """The files of the repository, from its top."""
+    listed = subprocess.run(["git", "ls-files", "-z"], cwd=crates.TOP, capture_output=True, text=True, check=True).stdout
+    return [name for name in listed.split("\0") if name and os.path.isfile(f"{crates.TOP}/{name}")]
+
+
+def begins_with(name: str, word: str) -> bool:
+    """Whether the first line of a file names a program."""
+    with open(f"{crates.TOP}/{name}", "rb") as file:
+        line = file.readline(200)
+    return line.startswith(b"#!") and word.encode() in line
+
+
+def scripts() -> list[str]:
+    return [name for name in tracked() if name.endswith(".sh") or begins_with(name, "bash") or begins_with(name, "/sh")]
+
+
+def python_files() -> list[str]:
+    return [name for name in tracked() if name.endswith(".py") or begins_with(name, "python")]
+
+
+def otherwise(copied: str) -> list[str]:
+    """The sources that rt formats otherwise than they stand, tried in a copy."""
+    names = [name for name in tracked() if name.startswith("crates/") and name.split("/")[2] in PARTS]
+    for name in [*names, "crates.txt"]:
+        os.makedirs(os.path.dirname(f"{copied}/{name}"), exist_ok=True)
+        shutil.copy(f"{crates.TOP}/{name}", f"{copied}/{name}")
+    for crate in crates.listed():
+        subprocess.run(["rt", "fmt"], cwd=f"{copied}/crates/{crate}", stdin=subprocess.DEVNULL, capture_output=True, check=False)
+    return [name for name in names if bytes_of(f"{copied}/{name}") != bytes_of(f"{crates.TOP}/{name}")]
+
+
+def bytes_of(name: str) -> bytes:
+    with open(name, "rb") as file:
+        return file.read()
+
+
+def look(tally: Tally, program: str, what: str, words: list[str]) -> None:
+    """Counts what a program says of files: nothing is right."""
+    if not shutil.which(program):
+        print(f"{what}: skipped, since {program} is missing")
+        return
+    ran = subprocess.run([program, *words], cwd=crates.TOP, stdin=subprocess.DEVNULL, capture_output=True, text=True, check=False)
+    tally.count(what, ran.returncode == 0, f"\n{ran.stdout}{ran.stderr}")
+
+
+def main() -> int:
+    tally = Tally()
+    if shutil.which("rt"):
+        with tempfile.TemporaryDirectory() as copied:
+            found = otherwise(copied)
+        tally.count("format", not found, f"rt fmt changes {', '.join(found)}")
+    else:
+        print("format: skipped, since rt is missing")
+    look(tally, "shellcheck", "scripts", ["--severity=warning", *scripts()])
+    look(tally, "pyflakes3", "names in Python", python_files())
+    return tally.end()
+
+
+if __name__ == "__main__":
+    sys.exit(main())
