@@ -1,5 +1,5 @@
 -- A NAME whose identity number is left open has 0 there.
-use Rattle.std.proofs.Common.{◌≡◌, ℕ, ◌+◌, ◌*◌, ◌^◌, ◌%◌, Bool, true, false, not, None, Option, Some, refl, arith}
+use Rattle.std.proofs.Common.{◌≡◌, ℕ, ◌+◌, ◌*◌, ◌^◌, ◌%◌, Bool, true, false, not, None, Option, Some, refl, sym, ap, ◌∙◌, arith}
 use Rattle.std.specs.List.{sum_by}
 use Rattle.std.proofs.lemmas.Bool.{false≢true}
 use Rattle.std.specs.Prelude.{is_some}
@@ -22,7 +22,11 @@ zero_there ms none = rw none refl
 of_fields : (f : NameFields) → f.identity ≡ 0 → name_number f % 2 ^ 21 ≡ 0
 of_fields f zero = omega (arith, zero)
 
-pub open_number : (fourth : Bool) (ms : Members) → lacks_identity fourth ms ≡ true → name_number (name_fields_of fourth ms) % 2 ^ 21 ≡ 0
+at_zero : (fourth : Bool) (ms : Members) → lacks_identity fourth ms ≡ true → name_number (name_fields_of fourth ms) % 2 ^ 21 ≡ 0
 unfolding has_key name_fields_of
-open_number true ms lacks = of_fields _ (zero_there ms (none_there (get_member (word_of key.Identity) ms) lacks))
-open_number false ms lacks = absurd (false≢true lacks)
+at_zero true ms lacks = of_fields _ (zero_there ms (none_there (get_member (word_of key.Identity) ms) lacks))
+at_zero false ms lacks = absurd (false≢true lacks)
+
+pub open_number : (fourth : Bool) (ms : Members) (n : ℕ) (is_open : Bool) → n ≡ name_number (name_fields_of fourth ms) → is_open ≡ lacks_identity fourth ms
+    → is_open ≡ true → n % 2 ^ 21 ≡ 0
+open_number fourth ms n is_open is lacks told = ap (λ k. k % 2 ^ 21) is ∙ at_zero fourth ms (sym lacks ∙ told)

@@ -37,8 +37,8 @@ fn identity(fourth: bool, members: &toml::Table, table: Table) -> Result<u32, Pl
     }
 }
 
-/// Whether a NAME leaves its identity number open.
-pub fn lacks_identity(fourth: bool, members: &toml::Table) -> bool
+// Whether a NAME leaves its identity number open.
+fn lacks_identity(fourth: bool, members: &toml::Table) -> bool
     ensures { result ≡ lacks_identity fourth (table_view members.now) }
 {
     fourth && !has_key(members, Key::Identity)
@@ -75,16 +75,24 @@ fn name_fields(fourth: bool, index: usize, members: &toml::Table) -> Result<Name
 }
 
 /// The NAME that a table tells, with 0 for an identity number that is left open.
-#[tactic(auto, using(crate::proofs::OpenNumbers::open_number))]
 pub fn name(fourth: bool, index: usize, members: &toml::Table) -> Result<Name, PlanError>
     ensures gives { Gives result (name_faults fourth index (table_view members.now))
         (λ n. n ≡ name_number (name_fields_of fourth (table_view members.now))) }
     ensures range { IfOk result (λ n. n < 2 ^ 64) }
-    ensures open { IfOk result (λ n. lacks_identity fourth (table_view members.now) ≡ true → n % 2 ^ 21 ≡ 0) }
 {
     let fields = name_fields(fourth, index, members)?;
     match Name::from_fields(fields) {
         Ok(name) => Ok(name),
         Err(_) => unreachable!(),
     }
+}
+
+/// Whether the NAME of a table leaves its identity number open, and so has 0 there.
+#[tactic(auto, using(crate::proofs::OpenNumbers::open_number))]
+pub fn is_open(fourth: bool, members: &toml::Table, name: Name) -> bool
+    requires { name ≡ name_number (name_fields_of fourth (table_view members.now)) }
+    ensures value { result ≡ lacks_identity fourth (table_view members.now) }
+    ensures number { result ≡ true → name % 2 ^ 21 ≡ 0 }
+{
+    lacks_identity(fourth, members)
 }

@@ -10,7 +10,7 @@ ghost use Rattle.j39_plan.specs.UnitTables.{way_of, address_rule, chooser_rule, 
 
 use super::elements::ReadElement;
 use super::labels::untaken;
-use super::names::{lacks_identity, name};
+use super::names::{is_open, name};
 use super::tables::{inner, only, table_of};
 use super::text_kind::TextKind;
 use super::values::{flag, number, refused, short_text, text};
@@ -174,7 +174,7 @@ fn unit(fourth: bool, index: usize, members: &toml::Table) -> Result<UnitPlan, P
         label,
         address,
         name,
-        any_identity: lacks_identity(fourth, last.inside),
+        any_identity: is_open(fourth, last.inside, name),
         way,
         window: window as u8,
         queue: last.queue,
