@@ -205,7 +205,9 @@ class Join:
         names = name_in(here), name_in(unit)
         if len([name for name in names if "identity" in name]) == 1:
             number = next(name.pop("identity") for name in names if "identity" in name)
-            here.values["name"] = {key: value for key, value in here.first.said["name"].items() if key != "identity"}
+            said = here.values["name"]
+            assert isinstance(said, dict)
+            here.values["name"] = {key: value for key, value in said.items() if key != "identity"}
             self._note(unit, f"{name_of(unit)}: its identity number {number} is left away, since not each file has one", "name")
         for inner, one, other in parts_of("name", *names):
             self._contradict(here, unit, "name", f"{name_of(unit)}: {inner} = {spelled(other)}, and {spelled(one)} at {here.first.at('name')}")

@@ -394,8 +394,8 @@ class Signals(WithDbc):
         messages of several lengths the first one's."""
         plan, said = self.plan("--version", "2")
         signals = {signal["label"]: signal for group in plan["group"] for signal in group.get("signal", [])}
-        newer, older = (self.plan("--version", version)[0] for version in ("4", "3"))
-        self.assertEqual((plan["version"], older["version"], newer), (2, 3, self.plan()[0]))
+        newer, older = self.plan("--version", "4", "--identity")[0], self.plan("--version", "3")[0]
+        self.assertEqual((plan["version"], older["version"], newer), (2, 3, self.plan("--identity")[0]))
         named = [signal for group in newer["group"] for signal in group.get("signal", []) if signal.pop("values", None)]
         self.assertEqual([signal["label"] for signal in named], ["SPN695", "SPN897"])
         self.assertEqual([(group["label"], group["length"]) for group in older["group"] if group["label"] == "ET1"], [("ET1", 8)])
@@ -412,7 +412,7 @@ class Signals(WithDbc):
         plan, said = self.plan()
         needs = [("RETARDER", "EEC1"), ("RETARDER", "ET1"), ("ENGINE", "TSC1"), ("RETARDER", "ODD"), ("RETARDER", "MAKER"), ("ENGINE", "EEC1")]
         self.assertEqual([(need.pop("unit"), need.pop("group"), need) for need in plan["need"]], [(*need, {}) for need in needs])
-        self.assertEqual(said[-1], "2 units 5 groups 7 flows 6 needs, notes 7")
+        self.assertEqual(said[-1], "2 units 5 groups 7 flows 6 needs, notes 9")
         for words in (("--no-needs",), ("--version", "3"), ("--version", "2")):
             less, said = self.plan(*words)
             self.assertEqual(("need" in less, "needs" in said[-1]), (False, False), words)
@@ -645,7 +645,7 @@ class Remarks(WithDbc):
             f'BA_ "SystemSignalLongSymbol" SG_ {number} SPEED "Actual speed";\n'))
         for line in ('"ENGINE"  # The engine', '"Controller_1"  # Controller 1', '"Actual_speed"  # Actual speed'):
             self.assertIn(f"label = {line}", text.splitlines())
-        self.assertEqual(said[-1], "2 units 1 groups 1 flows 1 needs, notes 2")
+        self.assertEqual(said[-1], "2 units 1 groups 1 flows 1 needs, notes 0")
 
     def test_a_plan_that_is_too_long(self):
         """The program takes a file of at most 16 MiB."""

@@ -9,7 +9,6 @@ import tomllib
 import unittest
 
 import dbc2plan
-from modules import program
 from modules.left_out import Notes
 from modules.plan_text import text_of
 from tests.dbc_files import WithDbc, message

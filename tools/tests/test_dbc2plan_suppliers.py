@@ -233,7 +233,8 @@ class WhatAFileSays(WithFiles):
             self.assertEqual(f"# [timing]\n# bitrate = {bitrate}\n# unplanned = 1\n" in text, bitrate is not None, told)
             rates = "250000 and 500000" if words else "250000 and 500000 and 125000 and 1000000"
             self.assertEqual(f"the bus, Baudrate: {told} is none of {rates}" in said, told != "0" and bitrate is None, told)
-        text, _ = self.text(data=beside + define + f'BA_ "Baudrate" 500000;\n{TIMES}BA_ "GenMsgCycleTime" BO_ {EEC1 | 1 << 31} 10;\n')
+        apart = 'BA_DEF_ BU_ "NmJ1939Function" INT 0 255;\nBA_ "NmJ1939Function" BU_ RETARDER 10;\n'
+        text, _ = self.text(data=beside + apart + define + f'BA_ "Baudrate" 500000;\n{TIMES}BA_ "GenMsgCycleTime" BO_ {EEC1 | 1 << 31} 10;\n')
         whole = text.replace("# [timing]", "[timing]").replace("# bitrate", "bitrate").replace("# unplanned", "unplanned")
         name = self.write("timed.toml", whole)
         self.assertEqual(program.call(["load", name])[1].splitlines()[-1], "load 16000 of 500000")
