@@ -24,7 +24,7 @@ of_fields f zero = omega (arith, zero)
 
 at_zero : (fourth : Bool) (ms : Members) → lacks_identity fourth ms ≡ true → name_number (name_fields_of fourth ms) % 2 ^ 21 ≡ 0
 unfolding has_key name_fields_of
-at_zero true ms lacks = of_fields _ (zero_there ms (none_there (get_member (word_of key.Identity) ms) lacks))
+at_zero true ms lacks = of_fields (name_fields_of true ms) (zero_there ms (none_there (get_member (word_of key.Identity) ms) lacks))
 at_zero false ms lacks = absurd (false≢true lacks)
 
 pub open_number : (fourth : Bool) (ms : Members) (n : ℕ) (is_open : Bool) → n ≡ name_number (name_fields_of fourth ms) → is_open ≡ lacks_identity fourth ms

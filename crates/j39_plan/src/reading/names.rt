@@ -88,7 +88,6 @@ pub fn name(fourth: bool, index: usize, members: &toml::Table) -> Result<Name, P
 }
 
 /// Whether the NAME of a table leaves its identity number open, and so has 0 there.
-#[tactic(auto, using(crate::proofs::OpenNumbers::open_number))]
 pub fn is_open(fourth: bool, members: &toml::Table, name: Name) -> bool
     requires { name ≡ name_number (name_fields_of fourth (table_view members.now)) }
     ensures value { result ≡ lacks_identity fourth (table_view members.now) }
