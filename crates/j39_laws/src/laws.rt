@@ -20,9 +20,9 @@ mod staying;
 mod strangers;
 mod transfers;
 
-pub use arrivals::{answered_messages_arrive, unanswered_messages_arrive};
+pub use arrivals::{answered_messages_arrive, sent_frames_arrive, unanswered_messages_arrive};
 pub use lengths::flows_have_one_length;
-pub use needs::a_needed_value_arrives;
+pub use needs::{a_needed_value_arrives, a_sent_value_arrives};
 pub use staying::{
     alone_units_are_undisturbed, planned_addresses_stay, silent_units_are_undisturbed,
     smaller_names_are_undisturbed, units_hold_planned_or_pool_addresses, who_stays,

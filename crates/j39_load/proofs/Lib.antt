@@ -8,6 +8,7 @@ pub mod Broadcasting
 pub mod CompanyStreams
 pub mod Different
 pub mod EachFrames
+pub mod DamagedFirst
 pub mod KeepingApart
 pub mod KeepingErrors
 pub mod KeepingPlan

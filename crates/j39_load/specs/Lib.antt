@@ -6,6 +6,7 @@ pub mod Damage
 pub mod Delays
 pub mod FreshNeeds
 pub mod KeepsErrors
+pub mod KeptTogether
 pub mod KeepsPlan
 pub mod LoadFindings
 pub mod Loads

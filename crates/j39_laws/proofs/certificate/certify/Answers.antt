@@ -6,5 +6,6 @@ pub returns : goal.returns
 returns c = record {
   sound = sound_by_laws c.args.checked.now (search rules) (search rules) (search rules) (search rules) (search rules) (search rules) (search rules)
       (search rules) (search rules) (search rules) (search rules) (search rules) (search rules) (search rules) (search rules) (search rules)
-      (search rules) (search rules) (search rules) (search rules) (search rules) (search rules) (search rules);
+      (search rules) (search rules) (search rules) (search rules) (search rules) (search rules) (search rules)
+      (search rules) (search rules) (search rules);
 }
