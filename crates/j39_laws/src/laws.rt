@@ -27,7 +27,7 @@ pub use staying::{
     alone_units_are_undisturbed, planned_addresses_stay, silent_units_are_undisturbed,
     smaller_names_are_undisturbed, units_hold_planned_or_pool_addresses, who_stays,
 };
-pub use strangers::{strangers_keep_addresses, who_stays_with_strangers};
+pub use strangers::{strangers_can_come, strangers_keep_addresses, who_stays_with_strangers};
 pub use transfers::{every_transfer_ends, sent_frames_are_sound, steps_lead_somewhere};
 
 /// In every world of every run of a plan without findings, with all lawful choices, addresses are sound: each unit that is on holds
