@@ -63,7 +63,7 @@ class Shown(InFolder):
         return ended.stdout.replace(self.folder + "/", "/tmp/")
 
     def test_commands_write_what_is_shown(self):
-        least = {"README.md": 7, "docs/PROMISES.md": 3, "docs/PLAN.md": 6, "docs/TIMING.md": 10, "docs/SIMULATOR.md": 13, "docs/LOGS.md": 9,
+        least = {"README.md": 7, "docs/PROMISES.md": 3, "docs/PLAN.md": 3, "docs/TIMING.md": 8, "docs/SIMULATOR.md": 11, "docs/LOGS.md": 9,
                  "docs/TOOLS.md": 11}
         for name in PAGES:
             commands = [(command, shown) for command, shown in blocks(page(name)) if COMMAND.search(command)]
