@@ -40,9 +40,9 @@ def words_of(words: list[str] | None) -> argparse.Namespace:
                         help="by how much messages may come nearer than their flow's period, beside the plan's jitter, and further apart than its pause: in "
                         "ms, as 2.5, or a share of these, as 10%% (0)")
     parser.add_argument("--silence", metavar="N", type=periods_of, default=SILENCE,
-                        help=f"after how many periods without a message a flow without a pause is silent; 0: such silences aren't shown ({SILENCE})")
+                        help=f"after how many periods without a message a flow without a pause is silent; 0: such silences aren't told ({SILENCE})")
     parser.add_argument("--events", metavar="FLOW", action="append", default=[],
-                        help="a group, or a flow by its number, that is sent when something happens: no silence of it is shown; may be given several times")
+                        help="a group, or a flow by its number, that is sent when something happens: no silence of it is told; may be given several times")
     parser.add_argument("--table", action="store_true", help="a table of the flows first: how often each was sent, and how far apart")
     parser.add_argument("--all", action="store_true", help="all lines of each deviation below it")
     parser.add_argument("--live", action="store_true", help="each deviation as soon as it is met, with --all each time; at the end all of them")
