@@ -9,7 +9,7 @@ import shutil
 import subprocess
 import unittest
 
-from modules import program
+from j39plan import program
 from tests.support import TOP, InFolder, example, text_of
 
 PAGES = ["README.md", "CONTRIBUTING.md", "SECURITY.md", "CHANGELOG.md", *(f"docs/{name}" for name in sorted(os.listdir(os.path.join(TOP, "docs"))) if name.endswith(".md"))]
@@ -225,11 +225,11 @@ class Names(InFolder):
         })
 
     def test_each_module_of_the_tools_is_named(self):
-        """The table of docs/ARCHITECTURE.md has each module of tools/modules/ once, and no other."""
+        """The table of docs/ARCHITECTURE.md has each module of tools/j39plan/ once, and no other."""
         section = page("docs/ARCHITECTURE.md").split("## The tools\n")[1].split("\n## ")[0]
-        named = [name for cell in re.findall(r"\n\| (`.*?) \|", section) for name in re.findall(r"`(\w+)`", cell)]
-        modules = glob.glob(os.path.join(TOP, "tools", "modules", "[!_]*.py"))
-        self.assertEqual(sorted(named), sorted(os.path.basename(name)[:-3] for name in modules))
+        named = [folder + name for folder, cell in re.findall(r"\n\| (?:`(\w[\w/]*/)`: )?(`.*?) \|", section) for name in re.findall(r"`(\w+)`", cell)]
+        modules = glob.glob("**/[!_]*.py", root_dir=os.path.join(TOP, "tools", "j39plan"), recursive=True)
+        self.assertEqual(sorted(named), sorted(name[:-3] for name in modules))
 
     def test_files_to_change_are_there(self):
         """The lists of docs/ARCHITECTURE.md on what is added where name files and folders that are there."""
