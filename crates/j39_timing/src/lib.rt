@@ -7,6 +7,7 @@ mod frame_length;
 mod laws;
 mod stream;
 mod waiting;
+mod wants;
 
 pub use frame_length::{ERROR_FRAME, frame_bits};
 pub use laws::{
@@ -19,3 +20,4 @@ pub use laws::{
 };
 pub use stream::Stream;
 pub use waiting::least_wait;
+pub use wants::{Want, Wanted};
