@@ -103,7 +103,7 @@ module _ (n : ℕ) (passes : ℕ → Bool) (at bits : ℕ → ℕ) (period most 
       let rest : within (t + period) (span - period) ≤ k * most = windows k (t + period) (span - period) (omega arith) in
       omega arith
 
-  windows_sum : (k t span : ℕ) → span ≤ k * period → total n (λ i. cond (passes i && inside t span (at i)) (bits i) 0) ≤ k * most
+  pub windows_sum : (k t span : ℕ) → span ≤ k * period → total n (λ i. cond (passes i && inside t span (at i)) (bits i) 0) ≤ k * most
   unfolding within
   windows_sum k t span le = windows k t span le
 
