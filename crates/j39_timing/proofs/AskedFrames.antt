@@ -376,6 +376,6 @@ module _ (s : Schedule) (planned : ℕ → Bool) (of : Origins) (j : ℕ) (deman
             let since : of.since p ≡ messages.announced m = subst (λ (k : ℕ). of.since p ≡ messages.announced k) at (are p its) in
             let gone : messages.announced m < t = ltb-true (messages.announced m) t is in
             omega (arith, low, since, gone)
-          )
+            )
       ]) in
       omega (arith, most)

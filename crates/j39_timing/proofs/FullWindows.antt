@@ -169,11 +169,12 @@ module _ (s : Schedule) (count : ℕ) (stream : ℕ → Stream) (demands : List 
       let (low, high) = inside_parts t (wait + 1) (s.queued p) one.1 in
       let keeps = known.keeps p in_p of_plan in
       let first : of.since p ≤ s.queued p = keeps.moment_first in
-      let last : s.queued p ≤ of.since p + (stream j).late = subst (λ i. s.queued p ≤ of.since p + (stream i).late) at keeps.late_at_most in
-      (and_from (planned p) (eqb (of.source p) j && (leb (t - (stream j).late) (of.since p) && ltb (of.since p) (t - (stream j).late + (wait + 1 + (stream j).late))))
-      of_plan (and_from (eqb (of.source p) j) (leb (t - (stream j).late) (of.since p) && ltb (of.since p) (t - (stream j).late + (wait + 1 + (stream j).late))) two.1
-      (inside_from (t - (stream j).late) (wait + 1 + (stream j).late) (of.since p) (omega (arith, low, last)) (omega (arith, high, first)))),
-      subst (λ i. (stream i).bits ≤ (stream j).bits) (sym at) (omega arith))) in
+      let last : s.queued p ≤ of.since p + (stream j).late = subst (λ i. s.queued p ≤ of.since p + (stream i).late) at keeps.late_at_most in (
+        and_from (planned p) (eqb (of.source p) j && (leb (t - (stream j).late) (of.since p) && ltb (of.since p) (t - (stream j).late + (wait + 1 + (stream j).late))))
+            of_plan (and_from (eqb (of.source p) j) (leb (t - (stream j).late) (of.since p) && ltb (of.since p) (t - (stream j).late + (wait + 1 + (stream j).late))) two.1
+            (inside_from (t - (stream j).late) (wait + 1 + (stream j).late) (of.since p) (omega (arith, low, last)) (omega (arith, high, first)))),
+        subst (λ i. (stream i).bits ≤ (stream j).bits) (sym at) (omega arith),
+      )) in
       let most : (stream j).bits * moments_in s planned of j (t - (stream j).late) (wait + 1 + (stream j).late)
       ≤ (stream j).bits * frames_wanted (wait + 1 + (stream j).late) wanted = mul-le-mul_left (stream j).bits few in
       let turned : (stream j).bits * frames_wanted (wait + 1 + (stream j).late) wanted ≡ frames_wanted (wait + 1 + (stream j).late) wanted * (stream j).bits = grind arith in

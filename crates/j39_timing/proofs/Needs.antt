@@ -101,6 +101,7 @@ demand-sound demands x all = go x.wanted
     at place None is = rw (is) tt
     at place (Some demand) is = rw (is) (subst IsDemand (get_or_from_slice_get demands place demand demand is)
         (All-get_or IsDemand demands place demand (slice_get_within demands place demand is) all))
+
     go : (place : Option ℕ) → IfSome (option_and_then (λ p. slice_get demands p) place) IsDemand
     go None = tt
     go (Some place) = at place (slice_get demands place) refl
