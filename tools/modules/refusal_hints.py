@@ -8,7 +8,7 @@ from fractions import Fraction
 from math import lcm
 
 from .group_hints import of_identifier
-from .plan_format import VERSIONS, most_of, since
+from .plan_format import ABSENT, VERSIONS, most_of, since
 from .plan_places import Plan, table_of
 from .plan_text import as_label
 from .text_faults import Told, text_fault
@@ -228,7 +228,9 @@ def refusal(plan: Plan, data: bytes, line: str) -> Told:
         return plan.line(place), "a table is wanted"
     if cause == "Missing":
         why = f", which a {asking(plan, place)} needs" if key == "period" else ""
-        return plan.line(place), f"key {key} isn't there{why}: {plan.wanted(place, key)}"
+        first = since().get((ABSENT, table_of(place), key))
+        may_be_absent = f"; from version = {first} on it may be left away" if first else ""
+        return plan.line(place), f"key {key} isn't there{why}: {plan.wanted(place, key)}{may_be_absent}"
     if cause in ("Repeated", "UnknownLabel") and key != "keep_free":
         return label_fault(plan, place, key, cause)
     return value_fault(plan, place, key, cause)

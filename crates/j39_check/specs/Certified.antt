@@ -9,11 +9,13 @@ use Rattle.j39_load.specs.KeepsPlan.{AreFramesInTime}
 use Rattle.j39_load.specs.PlannedFrames.{ArePlannedFramesInTime}
 use Rattle.j39_load.specs.ReadInTime.{AreNeedsRead}
 use Rattle.j39_load.specs.ValuesInTime.{AreValuesInTime}
-use Rattle.j39_world.specs.SoundPlan.{IsSound}
+use Rattle.j39_world.specs.SoundPlan.{AreVehiclesSound, IsSound}
 
 pub record IsCertified (plan : Plan) : Type 0 where
   -- what holds in every run of the plan, and of its signals
   pub sound : IsSound plan
+  -- and of each vehicle's, whatever the serial numbers of its boxes are
+  pub vehicles : AreVehiclesSound plan
   -- each flow whose messages go in one frame has a delay within its limit, which bounds its frames' time in every schedule of such flows,
   -- whether units keep order or don't; and each with long messages to all and a written deadline has a time within it, which bounds theirs
   pub in_time : (timing : Timing) → plan.timing ≡ Some timing → ArePlannedFramesInTime plan timing

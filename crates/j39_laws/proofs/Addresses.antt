@@ -10,4 +10,5 @@ pub mod SoundAddresses
 pub mod Staying
 pub mod PlannedApart
 pub mod Alone
+pub mod Boxes
 pub mod Strangers

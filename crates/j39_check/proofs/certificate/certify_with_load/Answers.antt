@@ -14,6 +14,7 @@ returns c =
     let clean : Clean c.args.checked.now = c.plan-plan.ensures.clean in
     record {
       sound = c.certify.ensures.sound;
+      vehicles = c.certify.ensures.vehicles;
       in_time = λ timing told. c.delays_are_bounds.ensures.checked c.args.checked.now timing (found c.args.checked.now timing c.requires told);
       fresh = λ timing told. c.needs_stay_fresh.ensures c.args.checked.now timing clean (found c.args.checked.now timing c.requires told);
       read = λ timing told. c.needed_values_are_read_in_time.ensures c.args.checked.now timing clean (found c.args.checked.now timing c.requires told);
