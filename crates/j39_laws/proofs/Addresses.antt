@@ -10,5 +10,4 @@ pub mod SoundAddresses
 pub mod Staying
 pub mod PlannedApart
 pub mod Alone
-pub mod Boxes
 pub mod Strangers

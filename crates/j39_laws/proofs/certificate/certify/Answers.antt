@@ -8,9 +8,9 @@ use Rattle.j39_laws.proofs.certificate.certify.Goals as goal
 pub returns : goal.returns
 returns c =
     let each : (plan : Plan) → Clean plan → IsSound plan = λ plan clean.
-        sound_by_laws plan clean (search rules) (search rules) (search rules) (search rules) (search rules) (search rules)
-        (search rules) (search rules) (search rules) (search rules) (search rules) (search rules) (search rules) (search rules) (search rules)
-        (search rules) (search rules) (search rules) (search rules) (search rules) (search rules) (search rules) in
+    sound_by_laws plan clean (search rules) (search rules) (search rules) (search rules) (search rules) (search rules)
+    (search rules) (search rules) (search rules) (search rules) (search rules) (search rules) (search rules) (search rules) (search rules)
+    (search rules) (search rules) (search rules) (search rules) (search rules) (search rules) (search rules) in
     let clean : Clean c.args.checked.now = search rules in
     record {
       sound = each c.args.checked.now clean;

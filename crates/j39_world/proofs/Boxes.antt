@@ -168,7 +168,7 @@ module _ (plan vehicle : Plan) (is : IsVehicleOf plan vehicle) (apart : AreToldA
       → nat_lt (unit_at bs v).name (unit_at bs u).name ≡ nat_lt (unit_at us v).name (unit_at us u).name
   same_orders u v differ one other =
       let alike = ordered plan vehicle is apart v u other.unit one.unit other.box one.box other.unit_is one.unit_is other.of one.of
-          (λ same. differ (sym same)) in
+      (λ same. differ (sym same)) in
       ap (λ (p : PlannedUnit). nat_lt p.name (unit_at bs u).name) other.boxed
       ∙ ap (λ (p : PlannedUnit). nat_lt other.box.name p.name) one.boxed
       ∙ alike.order
