@@ -120,6 +120,14 @@ class Validated(InFolder):
         import jsonschema
         return list(jsonschema.Draft7Validator(SCHEMA).iter_errors(tomllib.loads(text)))
 
+    def test_a_number_may_be_absent_from_version_4_on(self):
+        unit = '[[unit]]\nlabel = "A"\naddress = 0\nname = {{ {} }}\n'
+        for version in range(1, 5):
+            for name, is_there in (("manufacturer = 1", False), ("identity = 1", True)):
+                text = f"version = {version}\n" + unit.format(name)
+                is_plan = program.call(["check", self.write("plan.toml", text)])[0] == 0
+                self.assertEqual((is_plan, self.faults(text) == []), (is_there or version == 4,) * 2, text)
+
     def test_it_is_a_schema(self):
         import jsonschema
         jsonschema.Draft7Validator.check_schema(SCHEMA)

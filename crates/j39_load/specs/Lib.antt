@@ -21,4 +21,5 @@ pub mod Standing
 pub mod ToldBytes
 pub mod Twins
 pub mod ValuesInTime
+pub mod VehicleLoads
 pub mod inside

@@ -6,6 +6,7 @@ use Rattle.std.specs.Prelude.{◌≡◌, ℕ, ◌<◌, false, List, length, Some
 use Rattle.j39_findings.specs.Needs.{AreNeedsMet}
 use Rattle.j39_findings.specs.PlannedRequests.{AreAnsweredWell, AreRequestsServed}
 use Rattle.j39_findings.specs.SoundSignals.{SoundSignals}
+use Rattle.j39_findings.specs.VehiclePlans.{IsVehicleOf}
 use Rattle.j39_findings.specs.declared.plan.Plan.{Plan}
 use Rattle.j39_findings.specs.declared.plan.unit_plan.UnitPlan.{UnitPlan}
 use Rattle.j39_findings.specs.declared.steps.Step.{Step}
@@ -81,3 +82,7 @@ pub record IsSound (plan : Plan) : Type 0 where
   pub needed : Always plan (NeededValuesArrive plan)
   -- and so is one that is sent in a frame alone
   pub needed_sent : Always plan (SentValuesArrive plan)
+
+-- and so is the plan of each vehicle, whatever the serial numbers of its boxes are
+abbrev pub AreVehiclesSound : Plan → Type 0
+AreVehiclesSound plan = (vehicle : Plan) → IsVehicleOf plan vehicle → IsSound vehicle

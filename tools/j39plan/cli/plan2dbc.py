@@ -443,7 +443,8 @@ class Dbc:
         """Addresses and NAMEs of the units; what a DBC can't say of them is noted."""
         for unit in self.units:
             label, name = self.label(unit), unit + ("name",)
-            fields = [(IDENTITY_ATTRIBUTE, "identity"), *((attribute, key) for key, attribute in NAME_ATTRIBUTES.items())]
+            fields = [(attribute, key) for key, attribute in (("identity", IDENTITY_ATTRIBUTE), *NAME_ATTRIBUTES.items())
+                      if key != "identity" or name + (key,) in self.places.spelled]
             numbers = {ADDRESS_ATTRIBUTE: self.addresses[label],
                        ARBITRARY_ATTRIBUTE: int(self.places.spelled.get(name + ("arbitrary",)) == "true"),
                        **{attribute[0]: self.number(name, key, 0) for attribute, key in fields}}

@@ -14,6 +14,9 @@ from j39plan.plan.toml_places import Place
 # The key to look at, of each finding that names two units or two groups.
 PAIR_KEYS = {"F1": ("unit", "name"), "F2": ("unit", "address"), "F5": ("group", "pgn"), "F26": ("unit", "address")}
 
+# What units need that differ by their serial numbers alone, or not by them (SAE J1939-81).
+ALIKE = "give them different function_instance or ecu; or both their numbers: then the plan fits one vehicle"
+
 # The key to look at of each finding that names one unit, group, signal, text or flow, and what is to be known of it.
 KEYS = {
     "F7": ("signal", "byte", "the signal ends behind the group's length, or, where it is optional, behind its longest messages"),
@@ -96,6 +99,8 @@ def of_two(plan: Plan, number: str, words: list[str]) -> Told:
         return plan.line(flow), f"{flow_named(plan, flow)}: the same as at line {plan.line(('flow', int(words[0])))}"
     kind, key = PAIR_KEYS[number]
     first, second = (plan.labelled((kind,), label) for label in words[:2])
+    if number == "F1" and any(place + ("name", "identity") not in plan.places.lines for place in (first, second)):
+        return plan.line(second + (key,)), f"nothing but serial numbers tells {words[0]} at line {plan.line(first + (key,))} from {words[1]}: {ALIKE}"
     told = told_apart(plan, first, second) if number == "F5" else ""
     return plan.line(second + (key,)), f"key {key}: the same as of {words[0]} at line {plan.line(first + (key,))}{told}"
 

@@ -80,7 +80,7 @@ def unit_section(top: Top, tables: Tables, stands: dict[str, Stand]) -> str:
         for unit in units
     ]
     names = [
-        row(escape(unit.label), [f"<code>{unit.name}</code>", *(str(unit.fields[key]) for key in FIELDS)])
+        row(escape(unit.label), [f"<code>{unit.name}</code>", *(str(unit.fields.get(key, "any")) for key in FIELDS)])
         for unit in units
     ]
     kept = ", ".join(map(str, top.kept))

@@ -8,7 +8,7 @@ from fractions import Fraction
 from itertools import count, takewhile
 
 from j39plan import program
-from j39plan.j1939 import NAME_FIELDS
+from j39plan.j1939 import IDENTITY_DIGITS, NAME_FIELDS
 from j39plan.plan.toml_places import Places
 
 # A line of `show`: a table, a key of it, and the value, which may have spaces.
@@ -19,7 +19,8 @@ LINE = re.compile(
 
 @dataclass(frozen=True)
 class Unit:
-    """A planned unit, with the fields of its NAME by their keys, whether it claims its address, and in which order its controller sends."""
+    """A planned unit, with the fields of its NAME by their keys (without `identity` where it is of any serial number), whether it claims its
+    address, and in which order its controller sends."""
 
     label: str
     address: int
@@ -31,8 +32,9 @@ class Unit:
 
     @property
     def name(self) -> str:
-        """Its NAME as 16 hex digits."""
-        return f"{sum(self.fields[key] << first for key, first, _ in NAME_FIELDS):016X}"
+        """Its NAME as 16 hex digits, with `.` for those in which the serial number is, where it has any."""
+        digits = f"{sum(number << first for key, first, _ in NAME_FIELDS if (number := self.fields.get(key, 0))):016X}"
+        return digits if "identity" in self.fields else digits[:-IDENTITY_DIGITS] + "." * IDENTITY_DIGITS
 
     @property
     def may_choose(self) -> bool:
@@ -292,7 +294,7 @@ class Tables:
 
     def _unit(self, words: str) -> Unit:
         unit, name = self._shown[words], self._shown[f"{words} name"]
-        fields = {key: name.number(key) for key, _, _ in NAME_FIELDS if key != "arbitrary"}
+        fields = {key: name.number(key) for key, _, _ in NAME_FIELDS if key != "arbitrary" and (key != "identity" or key in name)}
         fields["arbitrary"] = int(name.is_true("arbitrary"))
         return Unit(unit.text("label"), unit.number("address"), unit.text("chooser"), unit.number("window"), fields, unit.is_true("claims"), unit.text("queue"))
 

@@ -109,6 +109,8 @@ class Lint:
         first: dict[int, list[Place]] = {}
         for unit in self.units:
             name = unit + ("name",)
+            if name + ("identity",) not in self.places.lines:
+                continue
             others = first.setdefault(self.places.integer(name + ("identity",)), [])
             other = next((other for other in others if self.maker(other) != self.maker(unit)), None)
             if other is not None:
