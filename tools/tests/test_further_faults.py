@@ -106,7 +106,7 @@ class WithoutTheLibrary(InFolder):
 
     @unittest.mock.patch.dict("sys.modules", {"jsonschema": None})
     def test_it_is_not_there(self):
-        import where
+        from j39plan.cli import where
         name, written = self.write("plan.toml", PLAN), []
         with unittest.mock.patch("sys.stdout.write", written.append):
             self.assertEqual(where.main([name]), 2)

@@ -96,6 +96,8 @@ def faults_of(error: Any) -> Iterator[Fault]:
         table, key = path[:keys[-1]], str(path[keys[-1]])
         if "values" in table:  # a name of a number: the key is the table of names
             table, key = table[:table.index("values")], "values"
+        elif key == "arbitrary" and error.validator == "const":  # of a unit that never claims, which is said of that key
+            table, key = table[:-1], "claims"
         cause = {None: "UnknownKey", "type": "WrongType", "maxItems": "TooMany", "maxProperties": "TooMany"}.get(error.validator, "Range")
         yield Fault(table, key, cause)
 
