@@ -91,15 +91,25 @@ def key_meant(plan: Plan, place: Place, key: str) -> str:
 def unknown_key(plan: Plan, place: Place) -> Told:
     """Line and hint of the table's first key that isn't listed."""
     listed = list(plan.listed(place))
-    for key in plan.places.keys(place):
-        if key in listed:
-            continue
-        if first := since().get((table_of(place), key)):
-            if plan.places.number(("version",)) not in VERSIONS:
-                return version_fault(plan)
-            return plan.line(place + (key,)), f"key {key}: {since_when(first)}"
-        return plan.line(place + (key,)), f"key {key}{key_meant(plan, place, key)}"
-    return plan.line(place), None
+    key = next((key for key in plan.places.keys(place) if key not in listed), None)
+    return (plan.line(place), None) if key is None else unlisted_key(plan, place, key)
+
+
+def unlisted_key(plan: Plan, place: Place, key: str) -> Told:
+    """Line and hint of a key that isn't listed, or not by the plan's version."""
+    if first := since().get((table_of(place), key)):
+        if plan.places.number(("version",)) not in VERSIONS:
+            return version_fault(plan)
+        return plan.line(place + (key,)), f"key {key}: {since_when(first)}"
+    return plan.line(place + (key,)), f"key {key}{key_meant(plan, place, key)}"
+
+
+def missing_key(plan: Plan, place: Place, key: str) -> Told:
+    """Line and hint of a table that lacks a key."""
+    why = f", which a {asking(plan, place)} needs" if key == "period" else ""
+    first = since().get((ABSENT, table_of(place), key))
+    may_be_absent = f"; from version = {first} on it may be left away" if first else ""
+    return plan.line(place), f"key {key} isn't there{why}: {plan.wanted(place, key)}{may_be_absent}"
 
 
 def kept_fault(plan: Plan, key: str) -> Place:
@@ -227,10 +237,7 @@ def refusal(plan: Plan, data: bytes, line: str) -> Told:
     if key is None:
         return plan.line(place), "a table is wanted"
     if cause == "Missing":
-        why = f", which a {asking(plan, place)} needs" if key == "period" else ""
-        first = since().get((ABSENT, table_of(place), key))
-        may_be_absent = f"; from version = {first} on it may be left away" if first else ""
-        return plan.line(place), f"key {key} isn't there{why}: {plan.wanted(place, key)}{may_be_absent}"
+        return missing_key(plan, place, key)
     if cause in ("Repeated", "UnknownLabel") and key != "keep_free":
         return label_fault(plan, place, key, cause)
     return value_fault(plan, place, key, cause)
