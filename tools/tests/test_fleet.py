@@ -1,8 +1,8 @@
 """The table of a fleet: each log a task, on this machine's processors and on a Dask cluster; what fails is named, and nothing is lost."""
 
 import contextlib
-import importlib.util
 import gzip
+import importlib.util
 import json
 import os
 import pty
