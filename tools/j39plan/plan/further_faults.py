@@ -107,7 +107,7 @@ def faults_of(error: Any) -> Iterator[Fault]:
             table, key = table[:table.index("values")], "values"
         elif key == "arbitrary" and error.validator == "const":  # of a unit that never claims, which is said of that key
             table, key = table[:-1], "claims"
-        if path[-1] != key and key != "keep_free":  # an element of an array
+        if isinstance(path[-1], int) and key != "keep_free":  # an element of an array
             return
         cause = {None: "UnknownKey", "type": "WrongType", "maxItems": "TooMany", "maxProperties": "TooMany"}.get(error.validator, "Range")
         yield Fault(table, key, cause)
