@@ -83,16 +83,13 @@ module _ (plan : Plan) (holders : Holders) (u : ℕ) (unit : UnitPlan) where
   -- ---- what a table tells of a unit
 
   module _ (frames : List Frame) (of : Recounts plan holders frames) where
-    pub held_for : (a : ℕ) → IsHeldByUnit plan holders u unit a → HoldsForUnit plan frames u unit a
-    held_for a held = record { name = held.name; name_of = held.name_of; holds = of.held a held.name held.named }
-
     pub is_held : (a : ℕ) → HoldsForUnit plan frames u unit a → IsHeldByUnit plan holders u unit a
     is_held a h = record { name = h.name; named = of.holds a h.name h.holds; name_of = h.name_of }
 
     pub stands_at : (many a : ℕ) → ((b n : ℕ) → HasNameAt holders b n → b < many) → IsLatestBelow plan holders u unit many (Some a)
         → StandsAt plan frames u unit a
     stands_at many a within latest = record {
-      there = held_for a latest.0;
+      there = record { name = latest.0.name; name_of = latest.0.name_of; holds = of.held a latest.0.name latest.0.named };
       last = λ other h.
           let held = is_held other h in
           let first = latest.1 other (within other held.name held.named) held in
@@ -127,10 +124,10 @@ module _ (plan : Plan) (holders : Holders) (u : ℕ) (unit : UnitPlan) where
   held_or_not a None is = inr (λ held. none_some (Some held.name) (sym is ∙ held.named))
   held_or_not a (Some None) is = inr (λ held. none_some held.name (some_same None (Some held.name) (sym is ∙ held.named)))
   held_or_not a (Some (Some n)) is = elim (cases_Bool (is_name_of plan u unit n)) [
-    | inl yes ↦ inl (record { name = n; named = is; name_of = yes })
-    | inr no ↦ inr (λ held.
+    | inl its ↦ inl (record { name = n; named = is; name_of = its })
+    | inr other ↦ inr (λ held.
         let same : n ≡ held.name = some_same n held.name (some_same (Some n) (Some held.name) (sym is ∙ held.named)) in
-        true_false (sym held.name_of ∙ sym (ap (is_name_of plan u unit) same) ∙ no))
+        true_false (sym held.name_of ∙ sym (ap (is_name_of plan u unit) same) ∙ other))
   ]
 
   order_of : (a b : ℕ) → (a ≤ b) ⊎ (b ≤ a)
@@ -254,4 +251,6 @@ unit_lines_from plan frames k (unit ∷ units) each =
 pub unit_lines : (plan : Plan) (holders : Holders) (frames : List Frame) → Recounts plan holders frames
     → (text : List ℕ) × AreUnitLines plan frames 0 plan.units.items text
 unit_lines plan holders frames of =
-    unit_lines_from plan frames 0 plan.units.items (λ u unit at. a_unit_line plan holders frames u unit of at)
+    unit_lines_from plan frames 0 plan.units.items (λ u unit at.
+    let same : u ≡ 0 + u = omega arith in
+    subst (λ (v : ℕ). (text : List ℕ) × IsUnitLine plan frames v unit text) same (a_unit_line plan holders frames u unit of at))

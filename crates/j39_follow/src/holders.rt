@@ -99,6 +99,7 @@ impl Holders {
     // Puts the NAME at an address that it claims behind so many frames.
     fn put(&mut self, name: u64, address: u8, count: u64)
         requires { address < null_address }
+        ensures room { address < length self.old.names }
         ensures names { self.new.names ≡ slice_set self.old.names address (Some name) }
         ensures claimed { self.new.claimed ≡ slice_set self.old.claimed address count }
         ensures marks { self.new.told ≡ self.old.told }

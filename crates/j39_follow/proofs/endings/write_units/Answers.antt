@@ -14,7 +14,8 @@ loop-place-preserved c = λ frames of.
     let test = c.loop-place-test.true in
     let count = c.len-place-end.ensures in
     let before = c.loop-place.invariant frames of in
-    let size : length (take k units) ≡ k = length-take-le k units (omega (arith, test, count)) in
+    let taken = length-take-le k units (omega (arith, test, count)) in
+    let size : 0 + length (take k units) ≡ k = omega (arith, taken) in
     let one = c.in_ok-write_unit.ensures frames of in
     let more = take_more units k unit (omega (arith, test, count)) ∙ ap (λ (u : UnitPlan). take k units ++ u ∷ []) (sym c.index.ensures) in (
       before.0 ++ one.0,

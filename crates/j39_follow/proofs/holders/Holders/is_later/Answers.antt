@@ -1,4 +1,4 @@
-use Rattle.std.proofs.Common.{◌≡◌, ◌≤◌, ℕ, Some, None, sym, subst, ◌∙◌}
+use Rattle.std.proofs.Common.{◌≤◌, ℕ, sym, subst, ◌∙◌}
 use Rattle.j39_follow.specs.inside.Recounting.{claimed_at}
 use Rattle.j39_follow.proofs.Tables.{none_some, some_same}
 use Rattle.j39_follow.proofs.holders.Holders.is_later.Goals as goal

@@ -1,4 +1,4 @@
-use Rattle.std.proofs.Common.{◌≡◌, ℕ, true, false, Option, Some, None, sym, subst, ◌∙◌}
+use Rattle.std.proofs.Common.{◌≡◌, ℕ, true, false, sym, subst, ◌∙◌}
 use Rattle.j39_follow.specs.Who.{is_name_of}
 use Rattle.j39_follow.proofs.Tables.{none_some, there_same}
 use Rattle.j39_follow.proofs.holders.Holders.is_of.Goals as goal
