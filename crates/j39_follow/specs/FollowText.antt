@@ -1,5 +1,5 @@
 -- The text that the follow command writes for a plan and a log.
-use Rattle.std.specs.Prelude.{◌≡◌, ℕ, ◌+◌, ◌==◌, ◌⊎◌, Bool, false, if◌then◌else◌, List}
+use Rattle.std.specs.Prelude.{◌≡◌, ℕ, ◌+◌, ◌≤◌, ◌==◌, ◌⊎◌, Bool, true, false, if◌then◌else◌, List}
 use Rattle.std.specs.Prelude.{[], ◌∷◌, ◌++◌, length, map, count_by, codes, Some, None, Option}
 use Rattle.std.specs.List.{All, position}
 use Rattle.std.specs.Option.{option_eq, option_map_or}
