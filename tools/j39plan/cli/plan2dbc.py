@@ -22,12 +22,12 @@ from j39plan.dbc.names import (
 )
 from j39plan.dbc.signals import values_of
 from j39plan.dbc.text import Names, decimal, definitions, in_quotes
-from j39plan.j1939 import GLOBAL_ADDRESS, NULL_ADDRESS
+from j39plan.j1939 import GLOBAL_ADDRESS, NULL_ADDRESS, identifier_of, is_pdu2
 from j39plan.left_out import Notes
 from j39plan.log.readings import scale_of
 from j39plan.plan.files import opened
-from j39plan.plan.hints import needs
-from j39plan.plan.toml_places import Place, Places
+from j39plan.plan.parts import Source
+from j39plan.plan.toml_places import Place
 
 # What stands behind the text of a key on its line.
 COMMENT = re.compile(r"""["']?\s*=\s*(?:"[^"]*"|'[^']*')\s*#\s*(.*?)\s*$""")
@@ -105,7 +105,8 @@ class Dbc:
     """A DBC in the making."""
 
     def __init__(self, text: str, notes: Notes) -> None:
-        self.places, self.lines, self.notes = Places(text), text.split("\n"), notes
+        source = Source(text)
+        self.places, self.tables, self.lines, self.notes = source.places, source.tables, text.split("\n"), notes
         self.nodes, self.taken = Names(), Names()
         self.units = self.places.elements(("unit",))
         self.names = {self.label(unit): self.nodes.label(self.label(unit)) for unit in self.units}
@@ -208,15 +209,13 @@ class Dbc:
                 self.notes.say(f"flow of {self.label(group)} from {sender} to {receiver}", f"a DBC has no {key}")
         if self.places.spelled.get(flow + ("on_request",)) == "true" and not told.sent:
             self.notes.say(f"flow of {self.label(group)} from {sender} to {receiver}", "a DBC doesn't say that it is sent on request alone")
-        if receiver != "all" and message.identifier >> 16 & 0xFF >= 240:
+        if receiver != "all" and is_pdu2(self.pgn(group)):
             self.notes.say(f"flow of {self.label(group)} from {sender} to {receiver}", "its identifier names no destination")
 
     def add(self, group: Place, name: str, source: int, destination: int, told: remarks.Remark | None = None) -> Message | None:
         """The message of a group with this source and destination, unless one of another group has its identifier."""
         pgn, priority = self.pgn(group), self.places.integer(group + ("priority",))
-        identifier = priority << 26 | (pgn & 0x3FFFF) << 8 | source
-        if pgn >> 8 & 0xFF < 240:
-            identifier |= destination << 8
+        identifier = identifier_of(priority, pgn, source, destination)
         told = told or remarks.Remark()
         if identifier not in self.messages:
             wanted = next(iter(told.messages), "" if group in self.used else self.long_name(group))
@@ -243,9 +242,9 @@ class Dbc:
     def add_needs(self) -> None:
         """Those who need a group receive the messages of it that are for them, or the one that stands for it alone. Who is named beside the group's
         flows or signals receives it as it stands there."""
-        for need in self.places.elements(("need",)):
-            unit, group = (self.places.texts[need + (key,)] for key in ("unit", "group"))
-            met = [message for label, flow, message in self.carried if label == group and (flow is None or needs.meets(self.places, flow, need))]
+        for wanted in self.tables.needs:
+            need, unit, group = wanted.place, wanted.unit, wanted.group
+            met = [message for label, flow, message in self.carried if label == group and (flow is None or wanted.is_met_by(self.tables.flows[int(flow[-1]) - 1]))]
             what = f"need {need[-1]} of {group} by {unit}"
             if not met:
                 self.notes.say(what, "no message of it goes there")

@@ -8,79 +8,78 @@ from j39plan.j1939 import FRAME_BYTES
 from j39plan.plan.hints import groups, needs, requests
 from j39plan.plan.hints.refusals import refusal
 from j39plan.plan.hints.text_faults import Told
-from j39plan.plan.places import Plan
+from j39plan.plan.parts import Source
+from j39plan.plan.tables import Flow
 from j39plan.plan.toml_places import Place
 
 # The key to look at, of each finding that names two units or two groups.
 PAIR_KEYS = {"F1": ("unit", "name"), "F2": ("unit", "address"), "F5": ("group", "pgn"), "F26": ("unit", "address")}
 
-# The key to look at of each finding that names one unit, group, signal, text or flow, and what is to be known of it.
+# The key to look at of each finding that names one flow, and what is to be known of it.
+FLOW_KEYS = {
+    "F9": ("to", "a frame of this group goes to all"),
+    "F10": ("to", "the sender itself"),
+    "F16": ("period", "it isn't there, and a plan with timing asks for it"),
+    "F18": ("period", "within the deadline, or the period, there isn't room for all that may go before it: load shows the delays"),
+}
+
+# The key to look at of each finding that names one unit, group, signal or text, and what is to be known of it.
 KEYS = {
     "F7": ("signal", "byte", "the signal ends behind the group's length, or, where it is optional, behind its longest messages"),
-    "F9": ("flow", "to", "a frame of this group goes to all"),
-    "F10": ("flow", "to", "the sender itself"),
     "F12": ("unit", "address", "kept free: a unit with arbitrary = true may not hold it"),
     "F13": ("group", "private", "no flow sends this group"),
     "F15": ("text", "byte", "the text ends behind the group's longest messages, or begins behind what follows its shortest"),
     "F24": ("group", "when", "its bits end behind the group's length"),
     "F27": ("unit", "address", "one of 128..247, which others may choose: a unit that never claims it can't defend it"),
-    "F16": ("flow", "period", "it isn't there, and a plan with timing asks for it"),
-    "F18": ("flow", "period", "within the deadline, or the period, there isn't room for all that may go before it: load shows the delays"),
 }
 
 
-# What is to be known of the number of a group, and of the width of a signal.
-GROUP_HINTS = {"F4": groups.wrong_number, "F6": groups.wrong_width}
-
-
-def of_group(plan: Plan, number: str, words: list[str]) -> Told:
+def of_group(plan: Source, number: str, words: list[str]) -> Told:
     """Line and hint of a finding about the number of a group, or the width of a signal of one."""
-    place = plan.labelled(("group",), words[0])
-    if number == "F6":
-        place = plan.labelled(place + ("signal",), words[1])
-    key, hint = GROUP_HINTS[number](plan.places, place)
+    group = next(group for group in plan.tables.groups if group.label == words[0])
+    if number == "F4":
+        place, (key, hint) = group.place, groups.wrong_number(group, plan.version)
+    else:
+        signal = next(signal for signal in group.signals if signal.label == words[1])
+        place, (key, hint) = signal.place, groups.wrong_width(signal)
     return plan.line(place + (key,)), f"key {key}: {hint}"
 
 
-def of_one(plan: Plan, number: str, words: list[str]) -> Told:
-    """Line and hint of a finding about one group, signal, text or flow."""
+def of_one(plan: Source, number: str, words: list[str]) -> Told:
+    """Line and hint of a finding about one unit, group, signal or text."""
     kind, key, hint = KEYS[number]
-    place: Place
-    if kind == "flow":
-        place = (kind, int(words[0]))
-    elif kind == "unit":
-        place = plan.labelled(("unit",), words[0])
-    else:
-        place = plan.labelled(("group",), words[0])
-        if kind in ("signal", "text"):
-            place = plan.labelled(place + (kind,), words[1])
-    named = f"{flow_named(plan, place)}: " if kind == "flow" else ""
-    return plan.line(place + (key,)), f"{named}key {key}: {hint}"
+    place = plan.labelled(("unit" if kind == "unit" else "group",), words[0])
+    if kind in ("signal", "text"):
+        place = plan.labelled(place + (kind,), words[1])
+    return plan.line(place + (key,)), f"key {key}: {hint}"
 
 
-def of_need(plan: Plan, number: str, need: Place) -> Told:
+def of_flow(plan: Source, number: str, flow: Flow) -> Told:
+    """Line and hint of a finding about one flow."""
+    key, hint = FLOW_KEYS[number]
+    if number == "F18" and plan.tables.longest(flow.group) > FRAME_BYTES:
+        key, hint = "deadline", "its long messages aren't shown to be whole within it"
+    return plan.line(flow.place + (key,)), f"{flow.what}: key {key}: {hint}"
+
+
+def of_need(plan: Source, number: str, words: list[str]) -> Told:
     """Line and hint of a finding about a need."""
-    key, hint = needs.unmet(plan.places, need) if number == "F19" else ("within", needs.old(plan.places, need))
-    return plan.line(need + (key,)), f"{needs.named(plan.places, need)}: key {key}: {hint}"
+    need = plan.tables.needs[int(words[0]) - 1]
+    key, hint = needs.unmet(plan.tables, need) if number == "F19" else ("within", needs.old(plan.tables, need))
+    return plan.line(need.place + (key,)), f"{needs.named(need)}: key {key}: {hint}"
 
 
-def of_request(plan: Plan, number: str, words: list[str]) -> Told:
+def of_request(plan: Source, number: str, words: list[str]) -> Told:
     """Line and hint of a finding about a request, or about two."""
-    request = ("request", int(words[-1]))
-    name = requests.named(plan.places, request)
+    first, request = (plan.tables.requests[int(word) - 1] for word in (words[0], words[-1]))
+    name = requests.named(request)
     if number == "F25":
-        return plan.line(request), f"{name}: on the bus the same as at line {plan.line(('request', int(words[0])))}"
-    key, hint = requests.of_one(plan.places, number, request)
-    return plan.line(request + (key,)), f"{name}: key {key}: {hint}"
+        return plan.line(request.place), f"{name}: on the bus the same as at line {plan.line(first.place)}"
+    key, hint = requests.astray(request) if number == "F23" else requests.unserved(plan.tables, request)
+    return plan.line(request.place + (key,)), f"{name}: key {key}: {hint}"
 
 
-def flow_named(plan: Plan, flow: Place) -> str:
-    """A flow by what is sent, by whom and to whom, as answers have flows by their numbers alone."""
-    group, sender, receiver = (plan.places.texts.get(flow + (key,), "?") for key in ("group", "from", "to"))
-    return f"{group} from {sender} to {receiver}"
-
-
-def of_two(plan: Plan, number: str, words: list[str]) -> Told:
+def of_two(plan: Source, number: str, words: list[str]) -> Told:
     """Line and hint of a finding about two units, groups, signals or flows: where the second stands."""
     if number == "F8":
         signals = plan.labelled(("group",), words[0]) + ("signal",)
@@ -92,15 +91,15 @@ def of_two(plan: Plan, number: str, words: list[str]) -> Told:
         other = "itself" if first == second else f"{words[2]} at line {plan.line(second)}"
         return plan.line(first + ("repeated",)), f"key repeated: in a later record {words[1]} and {other} share a bit"
     if number == "F11":
-        flow = ("flow", int(words[1]))
-        return plan.line(flow), f"{flow_named(plan, flow)}: the same as at line {plan.line(('flow', int(words[0])))}"
+        first_flow, flow = (plan.tables.flows[int(word) - 1] for word in words)
+        return plan.line(flow.place), f"{flow.what}: the same as at line {plan.line(first_flow.place)}"
     kind, key = PAIR_KEYS[number]
     first, second = (plan.labelled((kind,), label) for label in words[:2])
     told = told_apart(plan, first, second) if number == "F5" else ""
     return plan.line(second + (key,)), f"key {key}: the same as of {words[0]} at line {plan.line(first + (key,))}{told}"
 
 
-def told_apart(plan: Plan, first: Place, second: Place) -> str:
+def told_apart(plan: Source, first: Place, second: Place) -> str:
     """Why two groups of one number aren't told apart by their data, where one of them has a key for that."""
     whens = [place + ("when",) for place in (first, second)]
     without = [plan.places.texts.get(when[:-1] + ("label",), "") for when in whens if when not in plan.places.lines]
@@ -110,22 +109,21 @@ def told_apart(plan: Plan, first: Place, second: Place) -> str:
     return ", and when names other bits" if bits[0] != bits[1] else ", and when has the same value"
 
 
-def finding(plan: Plan, line: str) -> Told:
+def finding(plan: Source, line: str) -> Told:
     """Line and hint of a finding."""
     number, _, *words = line.split()
     if number == "F3":
         return plan.line(("unit", 1)), "units with arbitrary = true, and others at addresses of 128..247 that aren't kept free"
     if number == "F17":
         return plan.line(("timing", "bitrate")), "key bitrate: the flows take more at their periods; load shows how much"
-    if number == "F18" and needs.longest(plan.places, plan.places.texts.get(("flow", int(words[0]), "group"), "")) > FRAME_BYTES:
-        flow = ("flow", int(words[0]))
-        return plan.line(flow + ("deadline",)), f"{flow_named(plan, flow)}: key deadline: its long messages aren't shown to be whole within it"
     if number in ("F19", "F20"):
-        return of_need(plan, number, ("need", int(words[0])))
+        return of_need(plan, number, words)
     if number in ("F21", "F22", "F23", "F25"):
         return of_request(plan, number, words)
-    if number in GROUP_HINTS:
+    if number in ("F4", "F6"):
         return of_group(plan, number, words)
+    if number in FLOW_KEYS:
+        return of_flow(plan, number, plan.tables.flows[int(words[0]) - 1])
     if number in KEYS:
         return of_one(plan, number, words)
     return of_two(plan, number, words)
@@ -159,7 +157,7 @@ class Placed(NamedTuple):
 
 def placed(data: bytes, answer: str) -> Iterator[Placed]:
     """The answer's parts; those that say what is wrong with their place in the file."""
-    plan = Plan(data.decode(errors="replace"))
+    plan = Source(data.decode(errors="replace"))
     for line, *below in parted(answer):
         if line.startswith("refused ") and not line.startswith("refused plan "):
             at, hint = refusal(plan, data, line)

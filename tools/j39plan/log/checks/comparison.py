@@ -3,7 +3,9 @@
 from dataclasses import dataclass
 from typing import NamedTuple
 
-from j39plan.j1939 import ADDRESS_CLAIMED, FRAME_BYTES, GLOBAL_ADDRESS, NAME_FIELDS, NULL_ADDRESS, OTHER_SERVICES, PROPRIETARY, REQUEST, SERVICES
+from j39plan.j1939 import (
+    ADDRESS_CLAIMED, FRAME_BYTES, NAME_FIELDS, NULL_ADDRESS, OTHER_SERVICES, PROPRIETARY, REQUEST, SERVICES, identifier_of,
+)
 from j39plan.log.checks.damage import Damage
 from j39plan.log.checks.deviations import Found
 from j39plan.log.checks.distances import Distances, Rule, Tolerance
@@ -86,7 +88,7 @@ class Comparison:
             for begun in self._begun.values():
                 if address in (begun.pair[0][2], begun.pair[1][2]) and not begun.between:
                     begun.between = f"address {address} changed hands at line {line}"
-        self.unplanned.came(line, at, 6 << 26 | (ADDRESS_CLAIMED | GLOBAL_ADDRESS) << 8)
+        self.unplanned.came(line, at, identifier_of(6, ADDRESS_CLAIMED, 0))
         claims = "could not claim an address" if who.address is None else f"claims address {who.address}"
         unit = self.units.get(who.label or "")
         if unit is None:
@@ -131,7 +133,7 @@ class Comparison:
         if sender.label:
             self.found.tell("no-flow", f"{group} from {sender.label} to {to.shown}: no flow", first, began, unit=sender.label)
         if begun is None:
-            self.passes(line, at, priority << 26 | self.planned[group].pgn << 8, group if sender.label else "", sender)
+            self.passes(line, at, identifier_of(priority, self.planned[group].pgn, 0, 0), group if sender.label else "", sender)
 
     def sends(self, number: int, line: int, at: int | None) -> None:
         """A message of a flow has come, by where it began."""
@@ -272,7 +274,7 @@ class Comparison:
         self.asks(line, at, request)
         self.asked.asks(line, at, request)
         if request.request == 0 or self.requests[request.request - 1].period is None:
-            self.unplanned.came(line, at, 6 << 26 | (REQUEST | GLOBAL_ADDRESS) << 8)
+            self.unplanned.came(line, at, identifier_of(6, REQUEST, 0))
 
     def end(self, begun: Begun | None) -> None:
         """A message that comes to nothing, if there is one."""
