@@ -115,7 +115,7 @@ def blank(group: Group) -> bytes:
     """The shortest message of a group, of bytes FF but for the bits that tell it from others."""
     number, when = (1 << 8 * group.length) - 1, group.when
     if when:
-        number = number & ~((1 << when.bits) - 1 << when.start) | when.value << when.start
+        number = number & ~((1 << when.bits) - 1 << when.span.start) | when.value << when.span.start
     return number.to_bytes(group.length, "little")
 
 

@@ -112,14 +112,15 @@ class When:
     value: int
 
     @property
-    def start(self) -> int:
-        """Its first bit, counted from 0 in the group's data."""
-        return 8 * (self.byte - 1) + self.bit - 1
+    def span(self) -> range:
+        """Its bits, counted from 0 in the group's data."""
+        start = 8 * (self.byte - 1) + self.bit - 1
+        return range(start, start + self.bits)
 
     def takes(self, data: bytes) -> bool:
         """Whether data has the bits, and they have the number."""
-        number = int.from_bytes(data, "little") >> self.start & (1 << self.bits) - 1
-        return self.start + self.bits <= 8 * len(data) and number == self.value
+        number = int.from_bytes(data, "little") >> self.span.start & (1 << self.bits) - 1
+        return self.span.stop <= 8 * len(data) and number == self.value
 
 
 @dataclass(frozen=True)
