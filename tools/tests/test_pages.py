@@ -161,7 +161,7 @@ class Names(InFolder):
         """A row of docs/PROOFS.md: names, at most 40 words with clauses in brackets, and the files that have the names' contracts."""
         sections = proved_sections()
         self.assertGreaterEqual(len(sections), 10)
-        self.assertGreaterEqual(sum(len(rows_of(body)) for _, body in sections), 180)
+        self.assertGreaterEqual(sum(len(rows_of(body)) for _, body in sections), 150)
         for crates, body in sections:
             heading, source = ", ".join(crates), "\n".join(source_of(crate) for crate in crates)
             promised = promises(source)
