@@ -20,6 +20,7 @@ from j39plan.log.reports import Acknowledgement, Claim, Request, Who
 from j39plan.plan import answers
 from j39plan.plan.answers import Age, Delay, Finding, Load, Stand
 from j39plan.plan.files import text_of
+from j39plan.plan.measures import measure_of
 from j39plan.plan.parts import Source
 from j39plan.plan.tables import Flow, Group, Need, Signal, Tables, Text, Unit
 from j39plan.plan.tables import Request as Asking
@@ -60,8 +61,8 @@ class Readings(Mapping[str, Reading]):
         self._said = {label: said for label, _, said in (line.strip().partition(" ") for line in lines)}
 
     def __getitem__(self, label: str) -> Reading:
-        scale = readings.scale_of(self._units.get(label.partition("[")[0], ""))
-        state, value, unit, detail = readings.reading_of(self._said[label], scale)
+        measure = measure_of(self._units.get(label.partition("[")[0], ""))
+        state, value, unit, detail = readings.reading_of(self._said[label], measure)
         return Reading(state, Decimal(value) if value else None, unit, detail)
 
     def __iter__(self) -> Iterator[str]:

@@ -16,7 +16,7 @@ from j39plan.dbc.names import (
 from j39plan.dbc.signals import values_of
 from j39plan.dbc.text import decimal, definitions, in_quotes
 from j39plan.left_out import Notes
-from j39plan.log.readings import scale_of
+from j39plan.plan.measures import measure_of
 from j39plan.plan.parts import Source
 from j39plan.plan.tables import Signal, Text
 
@@ -42,13 +42,13 @@ def spelled_text(message: Message, text: Text) -> str:
 
 def spelled_signal(signal: Signal, told: remarks.Remark) -> str:
     """Where a signal lies, and what it means: in a unit of measurement without a fraction."""
-    scale = scale_of(signal.unit)
-    step, per, offset = signal.step, signal.per * scale.parts, signal.offset
+    measure = measure_of(signal.unit)
+    step, per, offset = signal.step, signal.per * measure.parts, signal.offset
     least, greatest = (decimal(offset + step * raw, per) for raw in values_of(signal.kind, signal.bits))
     if told.range and all(map(NUMBER.fullmatch, told.range)):
         least, greatest = told.range
     place = f"{signal.span.start}|{signal.bits}@1{'-' if signal.kind == 'signed' else '+'}"
-    return f"{place} ({decimal(step, per)},{decimal(offset, per)}) [{least}|{greatest}] {in_quotes(scale.unit)}"
+    return f"{place} ({decimal(step, per)},{decimal(offset, per)}) [{least}|{greatest}] {in_quotes(measure.unit)}"
 
 
 def named_values(part: Part) -> dict[int, str]:
