@@ -5,11 +5,11 @@ from collections.abc import Iterator
 from typing import NamedTuple
 
 from j39plan.j1939 import FRAME_BYTES
+from j39plan.plan.answer_grammar import Line, line_of
 from j39plan.plan.hints import groups, needs, requests
 from j39plan.plan.hints.refusals import refusal
 from j39plan.plan.hints.text_faults import Told
 from j39plan.plan.parts import Source
-from j39plan.plan.tables import Flow
 from j39plan.plan.toml_places import Place
 
 # The key to look at, of each finding that names two units or two groups.
@@ -34,69 +34,74 @@ KEYS = {
 }
 
 
-def of_group(plan: Source, number: str, words: list[str]) -> Told:
+def of_group(plan: Source, line: Line) -> Told:
     """Line and hint of a finding about the number of a group, or the width of a signal of one."""
-    group = next(group for group in plan.tables.groups if group.label == words[0])
-    if number == "F4":
+    group = next(group for group in plan.tables.groups if group.label == line.word("group"))
+    if line.word("finding") == "F4":
         place, (key, hint) = group.place, groups.wrong_number(group, plan.version)
     else:
-        signal = next(signal for signal in group.signals if signal.label == words[1])
+        signal = next(signal for signal in group.signals if signal.label == line.word("signal"))
         place, (key, hint) = signal.place, groups.wrong_width(signal)
     return plan.line(place + (key,)), f"key {key}: {hint}"
 
 
-def of_one(plan: Source, number: str, words: list[str]) -> Told:
+def of_one(plan: Source, line: Line) -> Told:
     """Line and hint of a finding about one unit, group, signal or text."""
-    kind, key, hint = KEYS[number]
-    place = plan.labelled(("unit" if kind == "unit" else "group",), words[0])
+    kind, key, hint = KEYS[line.word("finding")]
+    array = "unit" if kind == "unit" else "group"
+    place = plan.labelled((array,), line.word(array))
     if kind in ("signal", "text"):
-        place = plan.labelled(place + (kind,), words[1])
+        place = plan.labelled(place + (kind,), line.word(kind))
     return plan.line(place + (key,)), f"key {key}: {hint}"
 
 
-def of_flow(plan: Source, number: str, flow: Flow) -> Told:
+def of_flow(plan: Source, line: Line) -> Told:
     """Line and hint of a finding about one flow."""
-    key, hint = FLOW_KEYS[number]
-    if number == "F18" and plan.tables.longest(flow.group) > FRAME_BYTES:
+    flow, (key, hint) = plan.tables.flows[line.number("flow") - 1], FLOW_KEYS[line.word("finding")]
+    if line.word("finding") == "F18" and plan.tables.longest(flow.group) > FRAME_BYTES:
         key, hint = "deadline", "its long messages aren't shown to be whole within it"
     return plan.line(flow.place + (key,)), f"{flow.what}: key {key}: {hint}"
 
 
-def of_need(plan: Source, number: str, words: list[str]) -> Told:
+def of_need(plan: Source, line: Line) -> Told:
     """Line and hint of a finding about a need."""
-    need = plan.tables.needs[int(words[0]) - 1]
-    key, hint = needs.unmet(plan.tables, need) if number == "F19" else ("within", needs.old(plan.tables, need))
+    need = plan.tables.needs[line.number("need") - 1]
+    key, hint = needs.unmet(plan.tables, need) if line.word("finding") == "F19" else ("within", needs.old(plan.tables, need))
     return plan.line(need.place + (key,)), f"{needs.named(need)}: key {key}: {hint}"
 
 
-def of_request(plan: Source, number: str, words: list[str]) -> Told:
+def of_request(plan: Source, line: Line) -> Told:
     """Line and hint of a finding about a request, or about two."""
-    first, request = (plan.tables.requests[int(word) - 1] for word in (words[0], words[-1]))
-    name = requests.named(request)
-    if number == "F25":
-        return plan.line(request.place), f"{name}: on the bus the same as at line {plan.line(first.place)}"
-    key, hint = requests.astray(request) if number == "F23" else requests.unserved(plan.tables, request)
-    return plan.line(request.place + (key,)), f"{name}: key {key}: {hint}"
+    request = plan.tables.requests[line.number("request") - 1]
+    if line.word("finding") == "F25":
+        other = plan.tables.requests[line.number("other") - 1]
+        return plan.line(other.place), f"{requests.named(other)}: on the bus the same as at line {plan.line(request.place)}"
+    key, hint = requests.astray(request) if line.word("finding") == "F23" else requests.unserved(plan.tables, request)
+    return plan.line(request.place + (key,)), f"{requests.named(request)}: key {key}: {hint}"
 
 
-def of_two(plan: Source, number: str, words: list[str]) -> Told:
-    """Line and hint of a finding about two units, groups, signals or flows: where the second stands."""
-    if number == "F8":
-        signals = plan.labelled(("group",), words[0]) + ("signal",)
-        first, second = (plan.labelled(signals, label) for label in words[1:])
-        return plan.line(second), f"shares a bit with {words[1]} at line {plan.line(first)}"
-    if number == "F14":
-        signals = plan.labelled(("group",), words[0]) + ("signal",)
-        first, second = (plan.labelled(signals, label) for label in words[1:])
-        other = "itself" if first == second else f"{words[2]} at line {plan.line(second)}"
-        return plan.line(first + ("repeated",)), f"key repeated: in a later record {words[1]} and {other} share a bit"
-    if number == "F11":
-        first_flow, flow = (plan.tables.flows[int(word) - 1] for word in words)
-        return plan.line(flow.place), f"{flow.what}: the same as at line {plan.line(first_flow.place)}"
-    kind, key = PAIR_KEYS[number]
-    first, second = (plan.labelled((kind,), label) for label in words[:2])
-    told = told_apart(plan, first, second) if number == "F5" else ""
-    return plan.line(second + (key,)), f"key {key}: the same as of {words[0]} at line {plan.line(first + (key,))}{told}"
+def of_signals(plan: Source, line: Line) -> Told:
+    """Line and hint of a finding about two signals of a group."""
+    signals = (*plan.labelled(("group",), line.word("group")), "signal")
+    first, second = (plan.labelled(signals, line.word(part)) for part in ("signal", "other"))
+    if line.word("finding") == "F8":
+        return plan.line(second), f"shares a bit with {line.word('signal')} at line {plan.line(first)}"
+    other = "itself" if first == second else f"{line.word('other')} at line {plan.line(second)}"
+    return plan.line(first + ("repeated",)), f"key repeated: in a later record {line.word('signal')} and {other} share a bit"
+
+
+def of_two(plan: Source, line: Line) -> Told:
+    """Line and hint of a finding about two units or groups: where the second stands."""
+    kind, key = PAIR_KEYS[line.word("finding")]
+    first, second = (plan.labelled((kind,), line.word(part)) for part in (kind, "other"))
+    told = told_apart(plan, first, second) if kind == "group" else ""
+    return plan.line(second + (key,)), f"key {key}: the same as of {line.word(kind)} at line {plan.line(first + (key,))}{told}"
+
+
+def of_flows(plan: Source, line: Line) -> Told:
+    """Line and hint of a finding about two flows: where the second stands."""
+    first, second = (plan.tables.flows[line.number(part) - 1] for part in ("flow", "other"))
+    return plan.line(second.place), f"{second.what}: the same as at line {plan.line(first.place)}"
 
 
 def told_apart(plan: Source, first: Place, second: Place) -> str:
@@ -109,24 +114,25 @@ def told_apart(plan: Source, first: Place, second: Place) -> str:
     return ", and when names other bits" if bits[0] != bits[1] else ", and when has the same value"
 
 
-def finding(plan: Source, line: str) -> Told:
-    """Line and hint of a finding."""
-    number, _, *words = line.split()
-    if number == "F3":
+def of_plan(plan: Source, line: Line) -> Told:
+    """Line and hint of a finding about the plan as a whole."""
+    if line.word("finding") == "F3":
         return plan.line(("unit", 1)), "units with arbitrary = true, and others at addresses of 128..247 that aren't kept free"
-    if number == "F17":
-        return plan.line(("timing", "bitrate")), "key bitrate: the flows take more at their periods; load shows how much"
-    if number in ("F19", "F20"):
-        return of_need(plan, number, words)
-    if number in ("F21", "F22", "F23", "F25"):
-        return of_request(plan, number, words)
-    if number in ("F4", "F6"):
-        return of_group(plan, number, words)
-    if number in FLOW_KEYS:
-        return of_flow(plan, number, plan.tables.flows[int(words[0]) - 1])
-    if number in KEYS:
-        return of_one(plan, number, words)
-    return of_two(plan, number, words)
+    return plan.line(("timing", "bitrate")), "key bitrate: the flows take more at their periods; load shows how much"
+
+
+# What is to be said of a finding by its number.
+HINTS = {
+    **dict.fromkeys(PAIR_KEYS, of_two), **dict.fromkeys(FLOW_KEYS, of_flow), **dict.fromkeys(KEYS, of_one), **dict.fromkeys(("F3", "F17"), of_plan),
+    **dict.fromkeys(("F4", "F6"), of_group), **dict.fromkeys(("F8", "F14"), of_signals), "F11": of_flows, **dict.fromkeys(("F19", "F20"), of_need),
+    **dict.fromkeys(("F21", "F22", "F23", "F25"), of_request),
+}
+
+
+def finding(plan: Source, text: str) -> Told:
+    """Line and hint of a finding."""
+    line = line_of(text)
+    return HINTS[line.word("finding")](plan, line)
 
 
 def parted(answer: str) -> list[list[str]]:
