@@ -12,6 +12,9 @@ NAME_FIELDS = (
     ("system", 49, 7), ("system_instance", 56, 4), ("industry", 60, 3), ("arbitrary", 63, 1),
 )
 
+# How many hex digits of a NAME have bits of its identity number.
+IDENTITY_DIGITS = 6
+
 # Addresses (J1939-81): that of a unit without one, that of all units, and those among which a unit may choose.
 NULL_ADDRESS, GLOBAL_ADDRESS = 254, 255
 POOL = range(128, 248)

@@ -123,6 +123,16 @@ class Changes(Compared):
             "new.toml:25: signal F004.Speed: it was called SPN190 (old.toml:25)", "changes 3 breaks 0",
         ]))
 
+    def test_a_serial_number_that_comes_or_goes(self):
+        """It is a change, and breaks nothing: by it nobody is looked for. A unit that is called otherwise too is known by the rest of its NAME."""
+        old = OLD.replace("version = 3", "version = 4")
+        new = old.replace("identity = 1, ", "").replace('"ENGINE"', '"ECM"')
+        self.assertEqual(self.compare(old, new), (0, [
+            "new.toml:4: unit ECM: it was called ENGINE (old.toml:4)", "new.toml:6: unit ECM: name.identity none, it was 1 (old.toml:6)",
+            "changes 2 breaks 0"]))
+        self.assertEqual(self.compare(new, new.replace("{ manufacturer", "{ identity = 9, manufacturer"))[1],
+                         ["new.toml:6: unit ECM: name.identity 9, it was none (old.toml:6)", "changes 1 breaks 0"])
+
     def test_what_is_new_or_gone(self):
         more = signal("SPN899", 1, 4, "raw")
         found = self.changed(("[[group]]\nlabel = \"TSC1\"", more + "\n[[group]]\nlabel = \"TSC1\""))

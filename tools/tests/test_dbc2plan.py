@@ -84,26 +84,31 @@ def random_frame(canmatrix, chance, nodes, number):
 class Units(WithDbc):
     def test_units(self):
         plan, said = self.plan()
-        self.assertEqual(plan["unit"], [
-            {"label": "ENGINE", "address": 0, "name": {"identity": 4711, "manufacturer": 310}},
-            {"label": "RETARDER", "address": 15,
-             "name": {"identity": 4712, "function": 10, "industry": 1, "arbitrary": True}},
-        ])
+        units = [{"label": "ENGINE", "address": 0, "name": {"manufacturer": 310}},
+                 {"label": "RETARDER", "address": 15, "name": {"function": 10, "industry": 1, "arbitrary": True}}]
+        self.assertEqual(plan["unit"], units)
+        for unit, number in (("ENGINE", 4711), ("RETARDER", 4712)):
+            self.assertIn(f"unit {unit}, NmJ1939IdentityNumber: {number} is left away: each box has a number of its own", said)
+        numbered = [{**unit, "name": {"identity": number, **unit["name"]}} for unit, number in zip(units, (4711, 4712))]
+        for words in (("--identity",), ("--version", "3")):
+            plan, told = self.plan(*words)
+            self.assertEqual(plan["unit"], numbered)
+            self.assertNotIn("left away", " ".join(told))
         self.assertIn("unit TOOL: no address is given", said)
         self.assertIn("unit RETARDER, NmJ1939ManufacturerCode: 3000 is outside 0..2047", said)
 
     def test_an_address_by_the_frames(self):
         plan, said = self.plan(data='BU_: A B\nBO_ 2364539909 EEC1: 8 A\n SG_ S : 0|8@1+ (1,0) [0|0] "" B\n')
         self.assertEqual([(unit["label"], unit["address"]) for unit in plan["unit"]], [("A", 5)])
-        self.assertIn("unit A: no identity number is given: 1 stands in its place", said)
+        self.assertEqual((plan["unit"][0]["name"], said), ({}, ["unit B: no address is given", "1 units 1 groups 1 flows, notes 1"]))
 
     def test_frames_from_several_addresses(self):
         _, said = self.plan(data=NODES + message(FROM_0, "EEC1", "ENGINE") + message(0x18FEEE17, "ET1", "ENGINE"))
         self.assertIn("unit ENGINE: its frames come from several addresses", said)
 
     def test_a_default_is_no_identity_and_no_address(self):
-        """Nodes that have only defaults of the file would all be one unit."""
-        plan, said = self.plan(data=NODES + message(FROM_0, "EEC1", "ENGINE") + (
+        """Nodes that have only defaults of the file would all be one unit. A version that asks for a number gets a free one."""
+        plan, said = self.plan("--version", "3", data=NODES + message(FROM_0, "EEC1", "ENGINE") + (
             'BA_DEF_ BU_ "NmJ1939IdentityNumber" INT 0 2097151;\n'
             'BA_DEF_DEF_ "NmJ1939IdentityNumber" 0;\nBA_DEF_DEF_ "NmStationAddress" 7;\n'))
         self.assertEqual([(unit["address"], unit["name"]) for unit in plan["unit"]], [(0, {"identity": 1}), (15, {"identity": 2})])
@@ -111,14 +116,27 @@ class Units(WithDbc):
             self.assertIn(f"unit {name}: no identity number is given: {identity} stands in its place", said)
 
     def test_a_free_identity_is_one_that_no_node_has(self):
-        plan, _ = self.plan(data=NODES + message(FROM_0, "EEC1", "ENGINE") + (
+        plan, _ = self.plan("--version", "3", data=NODES + message(FROM_0, "EEC1", "ENGINE") + (
             'BA_DEF_ BU_ "NmJ1939IdentityNumber" INT 0 2097151;\nBA_ "NmJ1939IdentityNumber" BU_ RETARDER 1;\n'))
         self.assertEqual([unit["name"]["identity"] for unit in plan["unit"]], [2, 1])
+
+    def test_numbers_that_tell_units_apart(self):
+        """Two boxes of one kind keep theirs: the plan fits one vehicle then. One of another kind has none."""
+        numbers = ('BA_DEF_ BU_ "NmJ1939IdentityNumber" INT 0 2097151;\nBA_DEF_ BU_ "NmJ1939Function" INT 0 255;\n'
+                   'BA_ "NmJ1939Function" BU_ TOOL 129;\nBA_ "NmStationAddress" BU_ TOOL 249;\n'
+                   + "".join(f'BA_ "NmJ1939IdentityNumber" BU_ {unit} {number};\n' for unit, number in (("ENGINE", 5), ("RETARDER", 6), ("TOOL", 7))))
+        plan, said = self.plan(data="BU_: ENGINE RETARDER TOOL\n" + message(FROM_0, "EEC1", "ENGINE") + message(FROM_15, "EEC1_B", "RETARDER") + (
+            'BA_DEF_ BU_ "NmStationAddress" INT 0 254;\n') + numbers)
+        self.assertEqual([unit["name"] for unit in plan["unit"]], [{"identity": 5}, {"identity": 6}, {"function": 129}])
+        kept = "nothing but its identity number {} tells it from {}: it is kept, and the plan fits one vehicle"
+        self.assertEqual([line for line in said if "number" in line.lower()], [
+            f"unit ENGINE: {kept.format(5, 'RETARDER')}", f"unit RETARDER: {kept.format(6, 'ENGINE')}",
+            "unit TOOL, NmJ1939IdentityNumber: 7 is left away: each box has a number of its own"])
 
     def test_a_default_that_units_share_is_said(self):
         plan, said = self.plan(data=NODES + (
             'BA_DEF_ BU_ "NmJ1939ManufacturerCode" INT 0 2047;\nBA_DEF_DEF_ "NmJ1939ManufacturerCode" 310;\n'))
-        self.assertEqual(plan["unit"][0]["name"], {"identity": 1, "manufacturer": 310})
+        self.assertEqual(plan["unit"][0]["name"], {"manufacturer": 310})
         self.assertIn("unit RETARDER, NmJ1939ManufacturerCode: 310 is the default of the file", said)
 
     def test_attributes_that_are_no_numbers(self):
@@ -164,7 +182,8 @@ class Groups(WithDbc):
         outside = 'D : 40|8@1+ (1,0) [0|0] "" X'
         data = NODES + (message(FROM_0, "EEC1", "ENGINE", first, second, outside, length=5)
                         + message(FROM_15, "EEC1_B", "RETARDER", first, length=2)
-                        + message(0x0CF00417, "EEC1_C", "Vector__XXX", first, second, third, length=12))
+                        + message(0x0CF00417, "EEC1_C", "Vector__XXX", first, second, third, length=12)
+                        + 'BA_DEF_ BU_ "NmJ1939Function" INT 0 255;\nBA_ "NmJ1939Function" BU_ RETARDER 10;\n')
         plan, said = self.plan(data=data)
         (group,) = plan["group"]
         self.assertEqual((group["length"], group["most"]), (2, 12))
@@ -211,7 +230,7 @@ class Groups(WithDbc):
                 data = NODES + message(FROM_0, "EEC1", "ENGINE") + "".join(
                     message(identifier, name, sender, length=length)
                     for name, (identifier, sender, length) in (("ONE", first), ("TWO", second)))
-                plan, said = self.plan(data=data)
+                plan, said = self.plan("--version", "3", data=data)
                 private = [group["label"] for group in plan["group"] if group.get("private")]
                 self.assertEqual(private, groups)
                 self.assertLessEqual(set(private), {flow["group"] for flow in plan["flow"]})
@@ -376,8 +395,8 @@ class Signals(WithDbc):
         messages of several lengths the first one's."""
         plan, said = self.plan("--version", "2")
         signals = {signal["label"]: signal for group in plan["group"] for signal in group.get("signal", [])}
-        newer, older = (self.plan("--version", version)[0] for version in ("4", "3"))
-        self.assertEqual((plan["version"], older["version"], newer), (2, 3, self.plan()[0]))
+        newer, older = self.plan("--version", "4", "--identity")[0], self.plan("--version", "3")[0]
+        self.assertEqual((plan["version"], older["version"], newer), (2, 3, self.plan("--identity")[0]))
         named = [signal for group in newer["group"] for signal in group.get("signal", []) if signal.pop("values", None)]
         self.assertEqual([signal["label"] for signal in named], ["SPN695", "SPN897"])
         self.assertEqual([(group["label"], group["length"]) for group in older["group"] if group["label"] == "ET1"], [("ET1", 8)])
@@ -394,7 +413,7 @@ class Signals(WithDbc):
         plan, said = self.plan()
         needs = [("RETARDER", "EEC1"), ("RETARDER", "ET1"), ("ENGINE", "TSC1"), ("RETARDER", "ODD"), ("RETARDER", "MAKER"), ("ENGINE", "EEC1")]
         self.assertEqual([(need.pop("unit"), need.pop("group"), need) for need in plan["need"]], [(*need, {}) for need in needs])
-        self.assertEqual(said[-1], "2 units 5 groups 7 flows 6 needs, notes 7")
+        self.assertEqual(said[-1], "2 units 5 groups 7 flows 6 needs, notes 9")
         for words in (("--no-needs",), ("--version", "3"), ("--version", "2")):
             less, said = self.plan(*words)
             self.assertEqual(("need" in less, "needs" in said[-1]), (False, False), words)
@@ -627,7 +646,7 @@ class Remarks(WithDbc):
             f'BA_ "SystemSignalLongSymbol" SG_ {number} SPEED "Actual speed";\n'))
         for line in ('"ENGINE"  # The engine', '"Controller_1"  # Controller 1', '"Actual_speed"  # Actual speed'):
             self.assertIn(f"label = {line}", text.splitlines())
-        self.assertEqual(said[-1], "2 units 1 groups 1 flows 1 needs, notes 2")
+        self.assertEqual(said[-1], "2 units 1 groups 1 flows 1 needs, notes 0")
 
     def test_a_plan_that_is_too_long(self):
         """The program takes a file of at most 16 MiB."""

@@ -44,7 +44,7 @@ class Agreement(WithDbc):
         names = [self.write(f"{chr(97 + place)}.dbc", text) for place, text in enumerate(data)]
         status, plan, said = run("dbc2plan.py", *words, *names)
         self.assertEqual(status, 0, said)
-        return tomllib.loads(self.checked(plan)), [line for line in said.replace(self.folder + "/", "").splitlines() if "identity number" not in line]
+        return tomllib.loads(self.checked(plan)), said.replace(self.folder + "/", "").splitlines()
 
     def test_one_signal_at_two_places(self):
         """By its name, or by its number where the names differ; the earlier file's place is in the plan."""
@@ -211,7 +211,7 @@ class Orders(WithDbc):
             ("EEC1", "EMS", "all"), ("TSC1", "TCU", "EMS"), ("TSC1", "ABS", "EMS"), ("EBC1", "ABS", "all"), ("CCVS", "BCM", "all")})
         self.assertEqual({(need["unit"], need["group"]) for need in whole["need"]}, {
             ("TCU", "EEC1"), ("ICL", "EEC1"), ("EMS", "TSC1"), ("EMS", "EBC1"), ("ICL", "EBC1"), ("ICL", "CCVS")})
-        self.assertEqual([note["what"] for note in notes if "identity" not in note["why"]], ["group UDS"])
+        self.assertEqual([note["what"] for note in notes], ["group UDS"])
         for files in self.orders(SUPPLIERS):
             plan, told = self.made_of(files)
             self.assertEqual(self.tables(plan), self.tables(whole), list(files))

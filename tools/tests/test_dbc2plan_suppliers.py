@@ -37,7 +37,7 @@ class WithFiles(WithDbc):
 class Suppliers(WithFiles):
     def test_a_truck_of_four_files(self):
         """Each has its own units' NAMEs, and of the others' groups what it receives. What contradicts is said with both files' names."""
-        plan, flows, said = self.joined(*SUPPLIERS)
+        plan, flows, said = self.joined(*SUPPLIERS, words=("--identity",))
         units = [(unit["label"], unit["address"], unit["name"]["identity"], unit["name"]["manufacturer"]) for unit in plan["unit"]]
         self.assertEqual(units, [("ENGINE", 0, 204817, 310), ("GEARBOX", 3, 5512, 401), ("BRAKES", 11, 30722, 201),
                                  ("RETARDER", 15, 11204, 201), ("CLUSTER", 23, 7733, 310)])
@@ -84,7 +84,7 @@ class Suppliers(WithFiles):
         first = self.write("first.dbc", "BU_: ONE TWO\n" + message(EEC1, "EEC1", "ONE") + message(0x18FEEE07, "ET1", "TWO"))
         second = self.write("second.dbc", "BU_: THREE FOUR\n" + message(0x18FEEF08, "EFL", "THREE") + message(0x18FEF109, "CCVS", "FOUR") + (
             'BA_DEF_ BU_ "NmJ1939IdentityNumber" INT 0 2097151;\nBA_ "NmJ1939IdentityNumber" BU_ THREE 1;\n'))
-        plan, _, _ = self.joined(first, second)
+        plan, _, _ = self.joined(first, second, words=("--version", "3"))
         self.assertEqual([unit["name"]["identity"] for unit in plan["unit"]], [2, 3, 1, 4])
 
     def test_a_file_without_addresses(self):
@@ -233,7 +233,8 @@ class WhatAFileSays(WithFiles):
             self.assertEqual(f"# [timing]\n# bitrate = {bitrate}\n# unplanned = 1\n" in text, bitrate is not None, told)
             rates = "250000 and 500000" if words else "250000 and 500000 and 125000 and 1000000"
             self.assertEqual(f"the bus, Baudrate: {told} is none of {rates}" in said, told != "0" and bitrate is None, told)
-        text, _ = self.text(data=beside + define + f'BA_ "Baudrate" 500000;\n{TIMES}BA_ "GenMsgCycleTime" BO_ {EEC1 | 1 << 31} 10;\n')
+        apart = 'BA_DEF_ BU_ "NmJ1939Function" INT 0 255;\nBA_ "NmJ1939Function" BU_ RETARDER 10;\n'
+        text, _ = self.text(data=beside + apart + define + f'BA_ "Baudrate" 500000;\n{TIMES}BA_ "GenMsgCycleTime" BO_ {EEC1 | 1 << 31} 10;\n')
         whole = text.replace("# [timing]", "[timing]").replace("# bitrate", "bitrate").replace("# unplanned", "unplanned")
         name = self.write("timed.toml", whole)
         self.assertEqual(program.call(["load", name])[1].splitlines()[-1], "load 16000 of 500000")
@@ -246,7 +247,7 @@ class WhatAFileSays(WithFiles):
 class NotesAndForms(WithFiles):
     def test_notes_as_json(self):
         name = self.path("notes.json")
-        status, _, said = run("dbc2plan.py", *SUPPLIERS, "--notes", name)
+        status, _, said = run("dbc2plan.py", *SUPPLIERS, "--identity", "--notes", name)
         notes = [json.loads(line) for line in text_of(name).splitlines()]
         self.assertEqual((status, len(notes)), (0, 5))
         self.assertEqual([": ".join(note.values()) for note in notes], said.splitlines()[:-1])
@@ -265,9 +266,9 @@ class NotesAndForms(WithFiles):
 
     def test_standard_input_has_a_kind(self):
         whole = text_of(example("vehicle.dbc"))
-        status, plan, said = run("dbc2plan.py", "--kind", "dbc", "/dev/stdin", text=whole)
+        status, plan, said = run("dbc2plan.py", "--identity", "--kind", "dbc", "/dev/stdin", text=whole)
         self.assertEqual((status, said), (0, "group ERC1: its identifier has the source address 15, RETARDER has 0\n3 units 4 groups 4 flows 5 needs, notes 1\n"))
-        self.assertEqual(plan.splitlines()[1:], run("dbc2plan.py", example("vehicle.dbc"))[1].splitlines()[1:])
+        self.assertEqual(plan.splitlines()[1:], run("dbc2plan.py", "--identity", example("vehicle.dbc"))[1].splitlines()[1:])
         self.assertEqual(run("dbc2plan.py", "/dev/stdin", text=whole)[0], 2)
 
     def test_encodings(self):

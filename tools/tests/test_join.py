@@ -267,6 +267,22 @@ class Contradictions(Joined):
                                              "2 plans: findings 1, notes 0, contradictions 1"])
         self.assertIn("F1 SameName ENGINE HVAC", program.call(["check", self.write("joined.toml", text)])[1])
 
+    def test_serial_numbers(self):
+        """Units that may be one are, at one address; a number stays where each file has it, and of two at other addresses that is told."""
+        tables = [f'version = 4\n[[unit]]\nlabel = "{label}"\naddress = {address}\nname = {{ {number}manufacturer = 310 }}\n'
+                  for label, address, number in (("ENGINE", 0, "identity = 5, "), ("EMS", 0, ""), ("HVAC", 25, ""))]
+        for first, other, called in ((0, 1, "ENGINE"), (1, 0, "EMS")):
+            status, text, said = self.join(tables[first], tables[other])
+            self.assertEqual((status, tomllib.loads(text)["unit"]), (0, [{"label": called, "address": 0, "name": {"manufacturer": 310}}]))
+            unit = ("EMS", "ENGINE")[first]
+            self.assertEqual(said[:-1], [
+                f"b.toml:5: note: unit {unit}: its identity number 5 is left away, since not each file has one",
+                f"b.toml:3: note: unit {unit} is called {called}, as at a.toml:2"])
+        self.assertEqual(self.contradicted(tables[0], tables[2])[0],
+                         ["b.toml:5: unit HVAC has the NAME of unit ENGINE at a.toml:5, whatever their numbers are"])
+        self.assertEqual(self.contradicted(tables[0], tables[0].replace("= 5,", "= 6,"))[0],
+                         ["b.toml:5: unit ENGINE: name.identity = 6, and 5 at a.toml:5"])
+
     def test_units_that_are_one(self):
         """As --same says, whichever file comes first."""
         names = [self.write(f"{label}.toml", "version = 3\n" + unit(label, 0, 1) + group(sent, pgn, private=False) + flow(sent, label))

@@ -96,7 +96,7 @@ class Built(InFolder):
         self.assertEqual(drawn.returncode, 0 if importlib.util.find_spec("matplotlib") else 69)
         made = subprocess.run(["j39plan-tolog", self.write("a.csv", "")], env=environment, capture_output=True, check=False)
         self.assertEqual(made.returncode, 2 if importlib.util.find_spec("can") else 69)
-        self.assertEqual(lines_of("j39plan-join", f"{examples}/axle.toml", f"{examples}/first_plan.toml", env=environment)[1], "version = 3")
+        self.assertEqual(lines_of("j39plan-join", f"{examples}/axle.toml", f"{examples}/first_plan.toml", env=environment)[1], "version = 4")
         self.assertEqual(lines_of("j39plan-compare", f"{examples}/axle.toml", f"{examples}/axle.toml", env=environment), ["changes 0 breaks 0"])
         followed = f"{examples}/two_units_one_address"
         self.assertEqual(lines_of("j39plan-fleet", f"{followed}.toml", f"{followed}.drive.log", env=environment)[-1],

@@ -110,8 +110,8 @@ class WithPlans(InFolder):
         return self.write("file.dbc", dbc), told
 
     def back(self, plan):
-        """The plan that comes of a plan's DBC."""
-        status, text, told = run("dbc2plan.py", self.made(plan)[0])
+        """The plan that comes of a plan's DBC, whose units have the numbers that the plan has."""
+        status, text, told = run("dbc2plan.py", "--identity", self.made(plan)[0])
         self.assertEqual(status, 0, told)
         return tomllib.loads(text)
 
@@ -575,6 +575,14 @@ to = "DISPLAY"
                      f'VAL_ {number} MODE 0 "idle" 14 "not \'so\'" ;'):
             self.assertIn(line, dbc)
         self.assertIn('BA_DEF_ BO_ "GenMsgSendType" ENUM "cyclic","OnChange";', dbc)
+        self.assertEqual(said(self.back(self.path("plan.toml"))), said(tomllib.loads(plan)))
+
+    def test_units_of_any_serial_number(self):
+        """A DBC says nothing of their numbers."""
+        plan = "version = 4\n" + "".join(written("unit", {"label": label, "address": at}) + f"name = {{ {name} }}\n" for label, at, name in (
+            ("ENGINE", 0, "manufacturer = 310"), ("TOOL", 249, "identity = 0, manufacturer = 310, function = 129")))
+        dbc, _ = self.made(self.write("plan.toml", plan))
+        self.assertEqual([line for line in text_of(dbc).splitlines() if line.startswith('BA_ "NmJ1939IdentityNumber"')], ['BA_ "NmJ1939IdentityNumber" BU_ TOOL 0;'])
         self.assertEqual(said(self.back(self.path("plan.toml"))), said(tomllib.loads(plan)))
 
     def test_a_destination_that_no_unit_has(self):

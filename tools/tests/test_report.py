@@ -264,6 +264,11 @@ length = 20
         self.assertEqual([row[7] for row in rows if row[0] in "12" and len(row) == 8], ["not shown to be so young", "21.28 ms"])
         self.assertNotIn('id="needs"', run("report.py", PLAN)[1])
 
+    def test_units_of_any_serial_number(self):
+        """`any` for the number, and a NAME without the digits that have bits of it."""
+        rows = self.page(example("first_plan.toml")).rows
+        self.assertIn(["CLUSTER", "0000130026......", "any", "310", "0", "0", "19", "0", "0", "0"], rows)
+
     def test_requests_names_and_units_that_come_or_never_claim(self):
         """A row a request with who answers it; the numbers and names of signals; and what is said of units."""
         text = text_of(example("service_requests.toml")).replace("version = 4\n", "version = 4\nstrangers = 2\n")

@@ -46,7 +46,7 @@ class Kept(InFolder):
 
     def made(self, name):
         """The same, made."""
-        status, plan, said = run("dbc2plan.py", *self.words, name)
+        status, plan, said = run("dbc2plan.py", "--identity", *self.words, name)
         self.assertEqual(status, 0, said)
         status, dbc, noted = run("plan2dbc.py", self.write("plan.toml", plan))
         self.assertEqual((status, noted.splitlines()[:-1]), (0, []), name)

@@ -64,14 +64,14 @@ def rules(table):
 
 
 def page_rows():
-    """The rows of the tables of keys in docs/PLAN.md: table, key, type and range, default, the first version where it isn't 1."""
+    """The rows of the tables of keys in docs/PLAN.md: table, key, type and range, default, the first version where it isn't 1, meaning."""
     page = text_of(os.path.join(TOP, "docs", "PLAN.md"))
     page = page[page.index("\n## Tables and keys"):page.index("\n## Byte order: bytes and bits")]
     for heading, body in re.findall(r"\n### (.*?)\n(.*?)(?=\n### |\Z)", page, re.DOTALL):
         has_since = "| Since |" in body
         for row in re.findall(r"\n\| `.*", body):
-            key, kind, default, first = (cell.strip() for cell in row.split("|")[1:5])
-            yield TABLES[heading], key.strip("`"), kind, default, first if has_since else ""
+            cells = [cell.strip() for cell in row.split("|")[1:-1]]
+            yield TABLES[heading], cells[0].strip("`"), cells[1], cells[2], cells[3] if has_since else "", cells[-1]
 
 
 class Schema(InFolder):
@@ -95,19 +95,21 @@ class Schema(InFolder):
                 self.assertEqual(rule["enum"], words, (table, key))
 
     def test_it_has_the_versions_of_the_page(self):
-        """Of keys by the column Since, of kinds and bitrates by the words before them."""
-        shown = {(table, key): int(first) for table, key, _, _, first in page_rows() if first}
-        for _, _, kind, *_ in page_rows():
+        """Of keys by the column Since, of kinds and bitrates by the words before them, of keys that may be absent by those on what they mean."""
+        shown = {(table, key): int(first) for table, key, _, _, first, _ in page_rows() if first}
+        for table, key, kind, *_, meaning in page_rows():
+            if found := re.search(r"up to version (\d) it has to be there", meaning):
+                shown[schema.ABSENT, table, key] = int(found.group(1)) + 1
             if found := re.search(r"from version (\d) on also (.*)", kind):
                 shown.update((int(word) if word.isdigit() else word, int(found.group(1))) for word in re.findall(r"\w{3,}", found.group(2)))
         self.assertEqual(shown, schema.since())
 
     def test_it_wants_the_keys_without_a_default(self):
-        for table, key, _, default, _ in page_rows():
+        for table, key, _, default, *_ in page_rows():
             self.assertEqual(key in rules(table).get("required", []), default == "", (table, key))
 
     def test_it_has_the_defaults_of_the_page(self):
-        for table, key, _, default, _ in page_rows():
+        for table, key, _, default, *_ in page_rows():
             if default not in ("", "none", "`length`"):  # an array that isn't there has no elements; `most` is as `length` then
                 shown = {"empty": "", "`false`": "False", "`true`": "True"}.get(default, default.strip('`"'))
                 self.assertEqual(str(rules(table)["properties"][key]["default"]), shown, (table, key))
@@ -119,6 +121,14 @@ class Validated(InFolder):
         """What the schema finds wrong with a plan."""
         import jsonschema
         return list(jsonschema.Draft7Validator(SCHEMA).iter_errors(tomllib.loads(text)))
+
+    def test_a_number_may_be_absent_from_version_4_on(self):
+        unit = '[[unit]]\nlabel = "A"\naddress = 0\nname = {{ {} }}\n'
+        for version in range(1, 5):
+            for name, is_there in (("manufacturer = 1", False), ("identity = 1", True)):
+                text = f"version = {version}\n" + unit.format(name)
+                is_plan = program.call(["check", self.write("plan.toml", text)])[0] == 0
+                self.assertEqual((is_plan, self.faults(text) == []), (is_there or version == 4,) * 2, text)
 
     def test_it_is_a_schema(self):
         import jsonschema

@@ -85,6 +85,30 @@ HINTS = [
 ]
 
 
+class SerialNumbers(InFolder):
+    def told(self, *names, version=4):
+        """What `where` says of two units of these NAMEs."""
+        text = f"version = {version}\n" + "".join(f'[[unit]]\nlabel = "{label}"\naddress = {at}\nname = {{ {name} }}\n'
+                                                  for label, at, name in zip("AB", (0, 3), names))
+        name = self.write("plan.toml", text)
+        return run("where.py", name)[1].replace(f"{name}:", "").splitlines()
+
+    def test_units_that_may_have_one_name(self):
+        """Both, or one of them, without a number: only the serial numbers of their boxes tell them apart."""
+        for names in (("manufacturer = 1", "manufacturer = 1"), ("manufacturer = 1", "identity = 7, manufacturer = 1")):
+            self.assertEqual(self.told(*names), [
+                "9: F1 SameName A B  (nothing but serial numbers tells A at line 5 from B: give them different function_instance or ecu; or both "
+                "their numbers: then the plan fits one vehicle)", "findings 1"])
+        self.assertEqual(self.told("identity = 7", "identity = 7"), ["9: F1 SameName A B  (key name: the same as of A at line 5)", "findings 1"])
+        for names in (("identity = 7", "identity = 8"), ("function = 1", "function = 2"), ("", "identity = 7, ecu = 1")):
+            self.assertEqual(self.told(*names), ["ok 2 units 0 groups 0 flows"])
+
+    def test_earlier_versions_ask_for_a_number(self):
+        for version in (1, 2, 3):
+            self.assertEqual(self.told("manufacturer = 1", "identity = 2", version=version), [
+                "5: refused Missing unit 1 name key identity  (key identity isn't there: integer 0..2097151; from version = 4 on it may be left away)"])
+
+
 class Lint(InFolder):
     def lines(self, text, *words):
         """What `where --lint` answers of a plan, without the file's name, and its status."""
@@ -92,6 +116,10 @@ class Lint(InFolder):
         status, answer, said = run("where.py", "--lint", *words, name)
         self.assertEqual(said, "")
         return status, answer.replace(f"{name}:", "").replace(f"file={name},", "").splitlines()
+
+    def test_units_without_numbers_are_not_compared_by_them(self):
+        status, lines = self.lines(re.sub(r"version = \d", "version = 4", LINTED, count=1).replace("identity = 7, ", ""))
+        self.assertEqual((status, lines), (0, [*(hint for hint in HINTS if "identity" not in hint), "ok 4 units 4 groups 3 flows"]))
 
     def test_each_hint(self):
         self.assertEqual(self.lines(LINTED), (0, [*HINTS, "ok 4 units 4 groups 3 flows"]))

@@ -1,7 +1,8 @@
 -- A new bus stands for the first world.
 use Rattle.std.proofs.Common.{◌≡◌, ℕ, zero, suc, ◌+◌, ◌<◌, ◌≤◌, List, [], ◌∷◌, ◌++◌, length, map, take, get_or, replicate, refl, sym}
-use Rattle.std.proofs.Common.{ap, ◌∙◌, subst, arith, Option, Some, None}
-use Rattle.std.proofs.lemmas.Bool.{true≢false}
+use Rattle.std.proofs.Common.{ap, ◌∙◌, subst, arith, Bool, true, false, Option, Some, None}
+use Rattle.std.proofs.lemmas.Bool.{false≢true, true≢false}
+use Rattle.std.proofs.lemmas.Option.{same_Some}
 use Rattle.std.proofs.lemmas.List.{length-replicate, map_more}
 use Rattle.std.specs.List.{slice_get}
 use Rattle.std.specs.Option.{is_some}
@@ -10,7 +11,10 @@ use Rattle.std.specs.FinMap.{get, get-empty}
 use Rattle.std.specs.FinSet.{FinSet}
 use Rattle.j39_claim.specs.ClaimRule.{PlannedUnit, ClaimState, off}
 use Rattle.j39_claim.specs.ClaimerValue.{ClaimerValue}
+use Rattle.j39_findings.specs.Kinds.{MayBeOne, MayBeOneAt, may_be_one}
+use Rattle.j39_findings.specs.declared.plan.Plan.{Plan}
 use Rattle.j39_findings.specs.declared.plan.unit_plan.UnitPlan.{UnitPlan}
+use Rattle.j39_findings.proofs.Deciding.{Decides-may_be_one}
 use Rattle.j39_claim.specs.declared.item.Item.{Item}
 use Rattle.j39_world.specs.PlannedUnits.{planned_unit, unit_at}
 use Rattle.j39_world.specs.Transfers.{Outgoing}
@@ -70,15 +74,24 @@ sessions_first n list is = record {
   each = λ u s at. absurd (none_some s (sym (ap (λ l. session_at l u) is ∙ none_sent n u) ∙ at));
 }
 
--- the NAME at a place of the plan
-pub named_at : (kept : FinSet nat_cmp) (units : List UnitPlan) (k : ℕ) (p : UnitPlan) → k < length units → p ≡ get_or units k p
-    → (unit_at (map (planned_unit kept) units) k).name ≡ p.name
-named_at kept [] k p inside is = absurd (omega arith)
-named_at kept (q ∷ units) zero p inside is = ap (λ (u : UnitPlan). u.name) (sym is)
-named_at kept (q ∷ units) (suc k) p inside is = named_at kept units k p (omega arith) is
-
 -- the value at a place
 pub got : {X : Type 0} (xs : List X) (i : ℕ) (x : X) → i < length xs → x ≡ get_or xs i x → slice_get xs i ≡ Some x
 got [] i x inside is = absurd (omega arith)
 got (y ∷ xs) zero x inside is = ap Some (sym is)
 got (y ∷ xs) (suc i) x inside is = got xs i x (omega arith) is
+
+-- ---- units that may be one
+
+pub one_at : (plan : Plan) (i j : ℕ) (u v : UnitPlan) → i < j → slice_get plan.units.items i ≡ Some u → slice_get plan.units.items j ≡ Some v
+    → may_be_one u v ≡ true → MayBeOneAt plan i j
+one_at plan i j u v below first second one =
+    record { first = u; second = v; below = below; first_is = first; second_is = second; related = (Decides-may_be_one u v).0 one }
+
+pub not_one_at : (plan : Plan) (i j : ℕ) (u v : UnitPlan) → slice_get plan.units.items i ≡ Some u → slice_get plan.units.items j ≡ Some v
+    → may_be_one u v ≡ false → ¬ MayBeOneAt plan i j
+not_one_at plan i j u v first second none pair =
+    let P : UnitPlan → Type 0 = λ x. MayBeOne x pair.second in
+    let Q : UnitPlan → Type 0 = λ y. MayBeOne u y in
+    let one : MayBeOne u pair.second = subst P (same_Some _ _ (sym pair.first_is ∙ first)) pair.related in
+    let both : MayBeOne u v = subst Q (same_Some _ _ (sym pair.second_is ∙ second)) one in
+    false≢true (sym none ∙ (Decides-may_be_one u v).1 both)

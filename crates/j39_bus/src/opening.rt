@@ -1,8 +1,8 @@
 //! A new bus.
 ghost use Rattle.std.specs.Prelude.{◌≡◌, ◌<◌, ℕ, length, map, All, IfOk, IfErr, IfSome, IfNone, OnOk};
-ghost use Rattle.j39_world.specs.PlannedUnits.{units_of};
+ghost use Rattle.j39_findings.specs.Kinds.{MayBeOneAt, AreToldApart};
 ghost use Rattle.j39_bus.specs.Stations.{unstarted};
-ghost use Rattle.j39_world.specs.Opening.{HaveOneName, AreNamesDistinct, IsFirstOfOneName, CanOpen, IsNotOpened};
+ghost use Rattle.j39_world.specs.Opening.{AreFirstThatMayBeOne, CanOpen, IsNotOpened};
 ghost use Rattle.j39_bus.specs.BusState.{histories_of};
 ghost use Rattle.j39_bus.specs.Stands.{Stands};
 ghost use Rattle.j39_bus.specs.inside.Network.{HasHeld, IsNetwork, IsOfPlan, world_in};
@@ -16,30 +16,30 @@ use crate::places::empty_places;
 use crate::receivers::Receivers;
 use crate::{Bus, BusError};
 use j39_claim::{AddressSet, Choose, Claimer};
-use j39_findings::{GroupFault, GroupPlan, Plan, UnitPlan, layout_of};
+use j39_findings::{GroupFault, GroupPlan, Plan, UnitPlan, layout_of, may_be_one};
 use j39_queues::Queues;
 use std::alloc::{AllocError, Global};
 
-/// The least place after the first at which the first's NAME stands again.
+/// The least place after the first whose unit may be the first's.
 fn same_name_after(plan: &Plan, first: usize) -> Option<usize>
     requires { first < length plan.now.units.items }
-    ensures some { IfSome result (λ second. HaveOneName (units_of plan.now) first second × ((k : ℕ) → k < second → ¬ HaveOneName (units_of plan.now) first k)) }
-    ensures none { IfNone result ((k : ℕ) → ¬ HaveOneName (units_of plan.now) first k) }
+    ensures some { IfSome result (λ second. MayBeOneAt plan.now first second × ((k : ℕ) → k < second → ¬ MayBeOneAt plan.now first k)) }
+    ensures none { IfNone result ((k : ℕ) → ¬ MayBeOneAt plan.now first k) }
 {
     let units = plan.units.as_slice();
-    let name = units[first].name;
+    let unit = &units[first];
     for second in first + 1..units.len() {
-        if units[second].name == name {
+        if may_be_one(unit, &units[second]) {
             return Some(second);
         }
     }
     None
 }
 
-/// The first two places of one NAME.
+/// The first two places whose units may be one.
 fn same_name(plan: &Plan) -> Option<(usize, usize)>
-    ensures some { IfSome result (λ places. IsFirstOfOneName (units_of plan.now) places.0 places.1) }
-    ensures none { IfNone result (AreNamesDistinct (units_of plan.now)) }
+    ensures some { IfSome result (λ places. AreFirstThatMayBeOne plan.now places.0 places.1) }
+    ensures none { IfNone result (AreToldApart plan.now) }
 {
     for first in 0..plan.units.len() {
         if let Some(second) = same_name_after(plan, first) {

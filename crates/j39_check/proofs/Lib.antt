@@ -2,5 +2,8 @@ pub mod FindingLists
 pub mod LoadReports
 pub mod OneText
 pub mod Reported
+pub mod StaysTexts
 pub mod UnitLists
+pub mod VehicleReports
+pub mod VehicleTexts
 pub mod WrittenRuns

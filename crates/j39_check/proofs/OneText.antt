@@ -1,9 +1,8 @@
 -- Check has one text, and so has addresses.
-use Rattle.std.proofs.Common.{◌≡◌, ℕ, suc, zero, ◌+◌, Bool, cond, codes, count_by, length, List, [], ◌∷◌, ◌++◌, Option, Some, None, inl, inr, Err, refl, subst, sym, ap, ◌∙◌}
+use Rattle.std.proofs.Common.{◌≡◌, ℕ, suc, zero, Bool, List, [], ◌∷◌, ◌++◌, Option, Some, None, inl, inr, Err, refl, subst, sym, ap, ◌∙◌}
 use Rattle.std.proofs.lemmas.Bool.{cases_Bool}
-use Rattle.std.proofs.lemmas.List.Sums.{sum_by-cons}
 use Rattle.std.proofs.lemmas.Option.{same_Some}
-use Rattle.std.specs.List.{slice_get}
+use Rattle.std.specs.List.{AllZip, slice_get}
 use Rattle.j39_findings.specs.declared.plan.Plan.{Plan}
 use Rattle.j39_findings.specs.declared.plan.unit_plan.UnitPlan.{UnitPlan}
 use Rattle.j39_plan.specs.declared.reading.fault.Fault.{Fault}
@@ -20,10 +19,10 @@ use Rattle.j39_load.specs.declared.load_finding.LoadFinding.{LoadFinding}
 use Rattle.j39_load.specs.LoadFindings.{AreLoadFindings, all_findings}
 use Rattle.j39_load.specs.Asked.{Asked, asked_of, total_load}
 use Rattle.j39_load.proofs.OneLoad.{one_asked, told_once}
-use Rattle.j39_check.specs.AddressesText.{HasOneAddressesReport, stays_text, stays_word, staying_line, staying_lines}
+use Rattle.j39_check.specs.AddressesText.{HasOneAddressesReport}
+use Rattle.j39_check.proofs.StaysTexts.{IsToldAlike, stays_text_same}
 use Rattle.j39_check.specs.PlanText.{Describes, IsRefusalLine, fault_line}
 use Rattle.j39_stream.specs.declared.verdict.Verdict.TheVariants.{Done, Findings, Refused, Unreadable}
-use Rattle.j39_text.specs.Texts.{field}
 use Rattle.j39_check.specs.CheckText.{HasOneRefusal, HasOneReport, IsNotRefused, IsReport, findings_text}
 use Rattle.j39_check.specs.LoadLines.{loads_text}
 use Rattle.j39_check.specs.LoadText.{HasOneLoadReport, IsLoadReport, TellsLoads, load_verdict, tells_times, untold_text}
@@ -95,39 +94,21 @@ not_refused bytes plan text described refused = described_only bytes plan refuse
 
 -- ---- addresses
 
-module _ (stays other : UnitPlan → Bool) where
-  abbrev TellSame : List UnitPlan → Type 0
-  TellSame units = (u : ℕ) (unit : UnitPlan) → slice_get units u ≡ Some unit → stays unit ≡ other unit
-
-  line_same : (unit : UnitPlan) → stays unit ≡ other unit → staying_line stays unit ≡ staying_line other unit
-  unfolding staying_line
-  line_same unit same = ap (λ b. codes "unit " ++ (unit.label.bytes ++ (field (stays_word b) unit.address ++ 10 ∷ []))) same
-
-  lines_same : (units : List UnitPlan) → TellSame units → staying_lines stays units ≡ staying_lines other units
-  unfolding staying_lines
-  lines_same [] same = refl
-  lines_same (unit ∷ units) same =
-      ap (λ line. line ++ staying_lines stays units) (line_same unit (same zero unit refl))
-      ∙ ap (λ lines. staying_line other unit ++ lines) (lines_same units (λ u. same (suc u)))
-
-  count_same : (units : List UnitPlan) → TellSame units → count_by stays units ≡ count_by other units
-  count_same [] same = refl
-  count_same (unit ∷ units) same =
-      sum_by-cons (λ x. cond (stays x) 1 0) unit units
-      ∙ ap (λ b. cond b 1 0 + count_by stays units) (same zero unit refl)
-      ∙ ap (λ n. cond (other unit) 1 0 + n) (count_same units (λ u. same (suc u)))
-      ∙ sym (sum_by-cons (λ x. cond (other x) 1 0) unit units)
-
-  text_same : (units : List UnitPlan) → TellSame units → stays_text stays units ≡ stays_text other units
-  unfolding stays_text
-  text_same units same =
-      ap (λ lines. lines ++ (field (codes "stay ") (count_by stays units) ++ (field (codes " of ") (length units) ++ 10 ∷ []))) (lines_same units same)
-      ∙ ap (λ n. staying_lines other units ++ (field (codes "stay ") n ++ (field (codes " of ") (length units) ++ 10 ∷ []))) (count_same units same)
+-- each unit, as the two tell of it
+told_same : (stays other : UnitPlan → Bool) (units : List UnitPlan)
+    → ((u : ℕ) (unit : UnitPlan) → slice_get units u ≡ Some unit → stays unit ≡ other unit) → AllZip (IsToldAlike stays other) units units
+told_same stays other [] same = tt
+told_same stays other (unit ∷ units) same = (
+  record { label = refl; address = refl; standing = sym (same zero unit refl) },
+  told_same stays other units (λ u. same (suc u)),
+)
 
 pub one_addresses_report : (plan : Plan) → HasOneAddressesReport plan
 one_addresses_report plan text other Done Done is another =
-    let same = text_same is.2 another.2 plan.units.items (λ u unit at. told_once _ _ _ (is.3 u unit at) (another.3 u unit at)) in
-    (is.4 ∙ same ∙ sym another.4, refl)
+    let units = plan.units.items in
+    let same = stays_text_same is.2 another.2 units units
+    (told_same is.2 another.2 units (λ u unit at. told_once _ _ _ (is.3 u unit at) (another.3 u unit at))) in
+    (is.4 ∙ sym same ∙ sym another.4, refl)
 one_addresses_report plan text other Done Findings is another = absurd (is.0 another.0.0 another.0.1 another.0.2)
 one_addresses_report plan text other Findings Done is another = absurd (another.0 is.0.0 is.0.1 is.0.2)
 one_addresses_report plan text other Findings Findings is another = one_report plan text other Findings Findings is.1 another.1

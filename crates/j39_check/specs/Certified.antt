@@ -1,6 +1,8 @@
 -- What a plan has in which nothing is wrong: it is sound, and where something is known of its bus, the messages of its flows are in time,
--- and of each need that asks for an age some flow brings what is as young, while it keeps its `pause`, and reads as it was written.
+-- and of each need that asks for an age some flow brings what is as young, while it keeps its `pause`, and reads as it was written. All of it
+-- holds of the plan of each vehicle too.
 use Rattle.std.specs.Prelude.{◌≡◌, Some}
+use Rattle.j39_findings.specs.VehiclePlans.{IsVehicleOf}
 use Rattle.j39_findings.specs.declared.plan.Plan.{Plan}
 use Rattle.j39_findings.specs.declared.plan.timing.Timing.{Timing}
 use Rattle.j39_load.specs.FreshNeeds.{AreNeedsFresh}
@@ -11,7 +13,7 @@ use Rattle.j39_load.specs.ReadInTime.{AreNeedsRead}
 use Rattle.j39_load.specs.ValuesInTime.{AreValuesInTime}
 use Rattle.j39_world.specs.SoundPlan.{IsSound}
 
-pub record IsCertified (plan : Plan) : Type 0 where
+pub record IsSoundInTime (plan : Plan) : Type 0 where
   -- what holds in every run of the plan, and of its signals
   pub sound : IsSound plan
   -- each flow whose messages go in one frame has a delay within its limit, which bounds its frames' time in every schedule of such flows,
@@ -27,3 +29,9 @@ pub record IsCertified (plan : Plan) : Type 0 where
   pub kept : (timing : Timing) → plan.timing ≡ Some timing → AreFramesInTime plan timing
   pub damaged : (timing : Timing) → plan.timing ≡ Some timing → AreInTimeWithErrors plan timing
   pub values : (timing : Timing) → plan.timing ≡ Some timing → AreValuesInTime plan timing
+
+pub record IsCertified (plan : Plan) : Type 0 where
+  -- what holds of the plan
+  pub plan_holds : IsSoundInTime plan
+  -- and of the plan of each vehicle, whatever the serial numbers of its boxes are
+  pub vehicles_hold : (vehicle : Plan) → IsVehicleOf plan vehicle → IsSoundInTime vehicle

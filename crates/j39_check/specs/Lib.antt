@@ -6,3 +6,4 @@ pub mod LoadLines
 pub mod LoadText
 pub mod PlanText
 pub mod ShowText
+pub mod VehicleReports

@@ -110,10 +110,14 @@ abbrev pub queue_text : Queue → List ℕ
 queue_text queues.Priority = codes "priority"
 queue_text queues.Any = codes "any"
 
+-- a unit of any serial number has no line of it
+abbrev pub identity_lines : Table → Bool → ℕ → List ℕ
+identity_lines table any identity = if any then [] else value_line table key.Identity (decimal identity)
+
 -- the fields of a NAME, from the lowest up, in two parts
-unfoldable pub lower_name_lines : Table → NameFields → List ℕ
-lower_name_lines table f =
-    value_line table key.Identity (decimal f.identity) ++ (value_line table key.Manufacturer (decimal f.manufacturer)
+unfoldable pub lower_name_lines : Table → Bool → NameFields → List ℕ
+lower_name_lines table any f =
+    identity_lines table any f.identity ++ (value_line table key.Manufacturer (decimal f.manufacturer)
     ++ (value_line table key.Ecu (decimal f.ecu) ++ (value_line table key.FunctionInstance (decimal f.function_instance)
     ++ value_line table key.Function (decimal f.function))))
 
@@ -122,8 +126,8 @@ upper_name_lines table f =
     value_line table key.System (decimal f.system) ++ (value_line table key.SystemInstance (decimal f.system_instance)
     ++ (value_line table key.Industry (decimal f.industry) ++ truth_line table key.Arbitrary (f.arbitrary == 1)))
 
-unfoldable pub name_field_lines : Table → NameFields → List ℕ
-name_field_lines table f = lower_name_lines table f ++ upper_name_lines table f
+unfoldable pub name_field_lines : Table → Bool → NameFields → List ℕ
+name_field_lines table any f = lower_name_lines table any f ++ upper_name_lines table f
 
 -- how it chooses addresses and what it grants and offers
 unfoldable pub unit_way_lines : Table → UnitPlan → List ℕ
@@ -135,7 +139,7 @@ unfoldable pub unit_value_lines : ℕ → UnitPlan → List ℕ
 unit_value_lines u unit =
     value_line (at.Unit u) key.Label unit.label.bytes ++ (value_line (at.Unit u) key.Address (decimal unit.address)
     ++ (unit_way_lines (at.Unit u) unit
-    ++ (name_field_lines (at.UnitName u) (fields_of unit.name) ++ truth_line (at.Unit u) key.Claims unit.claims)))
+    ++ (name_field_lines (at.UnitName u) unit.any_identity (fields_of unit.name) ++ truth_line (at.Unit u) key.Claims unit.claims)))
 
 -- ---- groups
 

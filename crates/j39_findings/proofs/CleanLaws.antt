@@ -16,6 +16,7 @@ use Rattle.j39_findings.specs.declared.plan.text_plan.TextPlan.{TextPlan}
 use Rattle.j39_findings.specs.declared.checking.finding.Finding.TheVariants.{SameName, SameFixedAddress, TooFewAddresses, BadPgn, SamePgn, SignalWidth}
 use Rattle.j39_findings.specs.declared.checking.finding.Finding.TheVariants.{SignalOutside, SignalOverlap, FlowToOne, FlowToSelf, FlowRepeated, KeptAddress, PrivateUnsent, RecordOverlap, TextOutside, NeedUnmet}
 use Rattle.j39_findings.specs.declared.checking.finding.Finding.TheVariants.{RequestUnanswered, RequestUnheard, AnswerAstray, WhenOutside, RequestRepeated}
+use Rattle.j39_findings.specs.Kinds.{MayBeOne}
 use Rattle.j39_findings.specs.ListPlaces.{ValueAt, PairAt}
 use Rattle.j39_findings.specs.Findings.{EndsOutside, IsSelectorInside, IsProprietary, HasBadPgn, IsOutside, Clean}
 use Rattle.j39_findings.specs.SignalPlaces.{room_of_signal}
@@ -29,6 +30,7 @@ use Rattle.j39_findings.specs.Lengths.{IsLengthOf}
 use Rattle.j39_findings.specs.TextPlaces.{last_byte}
 use Rattle.j39_findings.specs.Records.{signals_in}
 use Rattle.j39_findings.proofs.RecordBits.{IsApart, bits_once, laid_with_records}
+use Rattle.j39_findings.proofs.Boxes.{names_apart}
 use Rattle.j39_findings.proofs.Deciding.{Decides-differ_in_value, Decides-is_pgn, Decides-is_proprietary, Decides-sends_some, Decides-some_meets}
 use Rattle.j39_findings.proofs.Deciding.{Decides-is_served, Decides-is_served_to_one, Decides-is_served_to_all, asks_one_or_all, served_to_one, served_to_all}
 
@@ -180,7 +182,9 @@ unreached plan u silent none = record {
 
 pub parts_of : (plan : Plan) → Clean plan → CleanParts plan
 parts_of plan clean = record {
-  names = no_pair_at _ plan.units.items (λ i j. clean (SameName i j));
+  told_apart = no_pair_at MayBeOne plan.units.items (λ i j. clean (SameName i j));
+  names = λ i j d below less. names_apart (get_or plan.units.items i d) (get_or plan.units.items j d)
+      (no_pair_at MayBeOne plan.units.items (λ k l. clean (SameName k l)) i j d below less);
   fixed_addresses = λ i j d below less first second one other same.
       no_pair_at _ plan.units.items (λ k l. clean (SameFixedAddress k l)) i j d below less (first, second, same, one, other);
   addresses = λ n are. elim (cases_lt (free_count plan.keep_free) n) [ inl more ↦ absurd (clean (TooFewAddresses n) (are, more)) | inr few ↦ few ];

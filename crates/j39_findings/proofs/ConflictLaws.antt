@@ -3,7 +3,7 @@ use Rattle.std.proofs.Common.{◌≡◌, ◌≢◌, ℕ, ◌<◌, ◌⊎◌, Boo
 use Rattle.std.proofs.Common.{nat_lt, List, Option, Some, None, Decides, refl, sym, ◌∙◌, inl, inr, arith}
 use Rattle.std.specs.List.{slice_get}
 use Rattle.std.proofs.lemmas.Bool.{cases_Bool}
-use Rattle.std.proofs.lemmas.Bool.Decides.{Decides-eqb, Decides-and, Decides-not, Decides-ltb, not_from_Decides}
+use Rattle.std.proofs.lemmas.Bool.Decides.{Decides-and, Decides-not, Decides-ltb, not_from_Decides}
 use Rattle.std.proofs.lemmas.Option.{same_Some}
 use Rattle.j39_findings.specs.declared.plan.Plan.{Plan}
 use Rattle.j39_findings.specs.declared.plan.unit_plan.UnitPlan.{UnitPlan}
@@ -13,13 +13,16 @@ use Rattle.j39_findings.specs.declared.checking.finding.Finding.TheVariants.{Sig
 use Rattle.j39_findings.specs.declared.checking.finding.Finding.TheVariants.{RequestUnanswered, RequestUnheard, AnswerAstray, WhenOutside, RequestRepeated}
 use Rattle.j39_findings.specs.declared.checking.finding.Finding.TheVariants.{SilentAddress, SilentInPool}
 use Rattle.j39_findings.specs.declared.steps.Step.{Step}
+use Rattle.j39_findings.specs.Kinds.{kind_of_name, MayBeOne}
 use Rattle.j39_findings.specs.Findings.{HaveSameFixedAddress}
 use Rattle.j39_findings.specs.ConflictRuns.{conflict_steps, AreInConflict, TellsOfConflict, IsConflictRun, are_in_conflict}
 use Rattle.j39_findings.specs.ConflictRuns.{steps_between, run_of_units, run_of_places, conflict_run, RunsAreExact}
-use Rattle.j39_findings.proofs.Deciding.{Decides-have_same_fixed_address}
+use Rattle.j39_findings.proofs.Deciding.{Decides-have_same_fixed_address, Decides-may_be_one}
+use Rattle.j39_findings.proofs.Boxes.{names_apart}
 
-conflict_decides : (u v : UnitPlan) → Decides (are_in_conflict u v) (HaveSameFixedAddress u v × (u.name ≢ v.name))
-conflict_decides u v = Decides-and _ _ (Decides-have_same_fixed_address u v) (Decides-not _ (Decides-eqb u.name v.name))
+conflict_decides : (u v : UnitPlan) → Decides (are_in_conflict u v) (HaveSameFixedAddress u v × (¬ MayBeOne u v))
+unfolding are_in_conflict
+conflict_decides u v = Decides-and _ _ (Decides-have_same_fixed_address u v) (Decides-not _ (Decides-may_be_one u v))
 
 some_of_if : {A : Type 0} (b : Bool) (x y : A) → (if b then Some x else None) ≡ Some y → (b ≡ true) × (x ≡ y)
 some_of_if true x y e = (refl, same_Some _ _ e)
@@ -36,11 +39,11 @@ larger_of i j u v other = elim (cases_Bool (nat_lt u.name v.name)) [
 
 run_of : (plan : Plan) (i j : ℕ) (u v : UnitPlan) (steps : List Step) → slice_get plan.units.items i ≡ Some u → slice_get plan.units.items j ≡ Some v
     → i < j
-    → HaveSameFixedAddress u v × (u.name ≢ v.name) → steps_between i j u v ≡ steps → IsConflictRun plan (SameFixedAddress i j) steps
+    → HaveSameFixedAddress u v × (¬ MayBeOne u v) → steps_between i j u v ≡ steps → IsConflictRun plan (SameFixedAddress i j) steps
 run_of plan i j u v steps first second below apart is =
     let both : AreInConflict plan i j = record { first = u; second = v; below = below; first_is = first; second_is = second; related = apart } in
     let tells : TellsOfConflict plan (SameFixedAddress i j) = (i, j, refl, both) in
-    elim (larger_of i j u v apart.1) [
+    elim (larger_of i j u v (names_apart u v apart.1)) [
       | inl (above, e) ↦ record {
         tells = tells;
         larger = i;
@@ -106,7 +109,7 @@ sound plan (SilentAddress u v) steps is = cc
 sound plan (SilentInPool u) steps is = cc
 
 given : (plan : Plan) (i j : ℕ) (u v : UnitPlan) → slice_get plan.units.items i ≡ Some u → slice_get plan.units.items j ≡ Some v → i < j
-    → HaveSameFixedAddress u v × (u.name ≢ v.name) → run_of_places plan i j ≡ Some (steps_between i j u v)
+    → HaveSameFixedAddress u v × (¬ MayBeOne u v) → run_of_places plan i j ≡ Some (steps_between i j u v)
 unfolding run_of_places run_of_units
 given plan i j u v first second below apart =
     let less = (Decides-ltb i j).1 below in

@@ -31,10 +31,11 @@ use Rattle.j39_findings.specs.declared.plan.to.To.{To}
 use Rattle.j39_findings.specs.declared.plan.to.To.TheVariants.{All, One}
 use Rattle.j39_findings.specs.Findings.{HaveSilentAddress, IsSilentInPool}
 use Rattle.j39_findings.specs.Found.{have_silent_address, is_silent_in_pool}
-use Rattle.j39_findings.specs.Findings.{HaveSameName, HaveSameFixedAddress, NeedsPoolAddress, PrefersKept, IsProprietary, IsForNoPlan}
+use Rattle.j39_findings.specs.Kinds.{kind_of_name, MayBeOne, may_be_one}
+use Rattle.j39_findings.specs.Findings.{HaveSameFixedAddress, NeedsPoolAddress, PrefersKept, IsProprietary, IsForNoPlan}
 use Rattle.j39_findings.specs.Findings.{IsWronglyPrivate, HasBadPgn, Sends, DoReceiversMeet, AreSentTogether, HaveSamePgn, IsPrivateUnsent, IsOneFrameToAll, MayBeOneFrameToAll, CannotGoToOne, GoesToItsSender, AreOneFlow, IsOutside, Meets, IsUnmet}
 use Rattle.j39_findings.specs.Findings.{IsToOne, Serves, IsServed, IsServedToOne, IsServedToAll, AsksOne, AsksAll, GoesUnanswered, GoesUnheard, MayNameReceiver, IsAnsweredAstray, AskForOneNumber, AskTheSame, IsAskedFor}
-use Rattle.j39_findings.specs.Found.{have_same_name, have_same_fixed_address, needs_pool_address, prefers_kept, is_for_no_plan, is_wrongly_private}
+use Rattle.j39_findings.specs.Found.{have_same_fixed_address, needs_pool_address, prefers_kept, is_for_no_plan, is_wrongly_private}
 use Rattle.j39_findings.specs.SignalPlaces.{room_of_signal}
 use Rattle.j39_signal.specs.Selectors.{DifferInValue, differ_in_value, selector_end}
 use Rattle.j39_signal.specs.declared.selector.Selector.{Selector}
@@ -55,8 +56,10 @@ not_is : (b : Bool) → Decides (not b) (b ≡ false)
 not_is true = (λ e. sym e, λ e. sym e)
 not_is false = (λ e. refl, λ e. refl)
 
-pub Decides-have_same_name : (u v : UnitPlan) → Decides (have_same_name u v) (HaveSameName u v)
-Decides-have_same_name u v = Decides-eqb u.name v.name
+pub Decides-may_be_one : (u v : UnitPlan) → Decides (may_be_one u v) (MayBeOne u v)
+Decides-may_be_one u v =
+    Decides-and _ _ (Decides-eqb (kind_of_name u.name) (kind_of_name v.name))
+    (Decides-or _ _ (Decides-eqb u.name v.name) (Decides-or _ _ (λ e. e, λ e. e) (λ e. e, λ e. e)))
 
 pub Decides-have_same_fixed_address : (u v : UnitPlan) → Decides (have_same_fixed_address u v) (HaveSameFixedAddress u v)
 Decides-have_same_fixed_address u v =

@@ -16,7 +16,8 @@ use Rattle.j39_findings.specs.declared.checking.finding.Finding.TheVariants.{Req
 use Rattle.j39_findings.specs.declared.checking.finding.Finding.TheVariants.{SilentAddress, SilentInPool}
 use Rattle.j39_findings.specs.ListPlaces.{found_if, in_each, each, pairs, ValueAt, PairAt}
 use Rattle.j39_claim.specs.AddressSets.{free_count}
-use Rattle.j39_findings.specs.Findings.{HaveSameName, HaveSameFixedAddress, HasBadPgn, HaveSamePgn, CannotGoToOne}
+use Rattle.j39_findings.specs.Kinds.{MayBeOne}
+use Rattle.j39_findings.specs.Findings.{HaveSameFixedAddress, HasBadPgn, HaveSamePgn, CannotGoToOne}
 use Rattle.j39_findings.specs.Findings.{EndsOutside, GoesToItsSender, AreOneFlow, Holds, PrefersKept, IsPrivateUnsent, IsOutside, IsUnmet, IsBefore, IsBelow, finding_number, places_of}
 use Rattle.j39_findings.specs.Findings.{GoesUnanswered, GoesUnheard, IsAnsweredAstray, AskTheSame, IsSelectorInside}
 use Rattle.j39_findings.specs.Findings.{HaveSilentAddress, IsSilentInPool}
@@ -27,7 +28,7 @@ use Rattle.j39_findings.specs.Found.{ends_outside, lies_outside, overlap_finding
 use Rattle.j39_findings.proofs.Meeting.{of_signal_made, of_group_overlaps}
 use Rattle.j39_findings.proofs.Members.{of_in_each, of_found_if, of_each, of_pairs}
 use Rattle.j39_findings.proofs.Rising.{Rises, Rises-append, Rises-found_if, Rises-in_each, Rises-each, Rises-pairs}
-use Rattle.j39_findings.proofs.Deciding.{Decides-have_same_name, Decides-have_same_fixed_address, Decides-needs_pool_address, Decides-has_bad_pgn, passing_meet}
+use Rattle.j39_findings.proofs.Deciding.{Decides-may_be_one, Decides-have_same_fixed_address, Decides-needs_pool_address, Decides-has_bad_pgn, passing_meet}
 use Rattle.j39_findings.proofs.Deciding.{Decides-have_silent_address, Decides-is_silent_in_pool}
 use Rattle.j39_findings.proofs.Deciding.{Decides-have_same_pgn, Decides-has_other_width, Decides-ends_outside, Decides-shares_bit}
 use Rattle.j39_findings.proofs.Deciding.{Decides-cannot_go_to_one, Decides-goes_to_its_sender, Decides-are_one_flow, Decides-prefers_kept, Decides-is_private_unsent, Decides-lies_outside, Decides-is_unmet}
@@ -128,7 +129,7 @@ units_covered plan =
     let kept = plan.keep_free in
     let units = plan.units.items in
     Covers-append plan 1 1 2 3 _ _ (omega arith) (omega arith) (omega arith)
-    (pairs_family plan 1 HaveSameName Decides-have_same_name SameName units (λ i j h. h) (λ i j. record { number = refl; places = refl }))
+    (pairs_family plan 1 MayBeOne Decides-may_be_one SameName units (λ i j h. h) (λ i j. record { number = refl; places = refl }))
     (Covers-append plan 2 2 3 3 _ _ (omega arith) (omega arith) (omega arith)
     (pairs_family plan 2 HaveSameFixedAddress Decides-have_same_fixed_address SameFixedAddress units (λ i j h. h)
     (λ i j. record { number = refl; places = refl }))

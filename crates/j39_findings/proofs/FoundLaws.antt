@@ -13,12 +13,13 @@ use Rattle.j39_findings.specs.declared.checking.finding.Finding.TheVariants.{Req
 use Rattle.j39_findings.specs.declared.checking.finding.Finding.TheVariants.{SilentAddress, SilentInPool}
 use Rattle.j39_findings.specs.ListPlaces.{in_each, each, pairs}
 use Rattle.j39_claim.specs.AddressSets.{free_count}
-use Rattle.j39_findings.specs.Findings.{HaveSameName, HaveSameFixedAddress, HasBadPgn, HaveSamePgn, CannotGoToOne}
+use Rattle.j39_findings.specs.Kinds.{MayBeOne, may_be_one}
+use Rattle.j39_findings.specs.Findings.{HaveSameFixedAddress, HasBadPgn, HaveSamePgn, CannotGoToOne}
 use Rattle.j39_findings.specs.Findings.{EndsOutside, GoesToItsSender, AreOneFlow, PrefersKept, IsPrivateUnsent, IsOutside, IsUnmet, Holds, IsBefore, AreFindings, Clean}
 use Rattle.j39_findings.specs.Findings.{GoesUnanswered, GoesUnheard, IsAnsweredAstray, AskTheSame}
 use Rattle.j39_findings.specs.Found.{goes_unanswered, goes_unheard, is_answered_astray, is_selector_outside, ask_the_same, request_findings}
 use Rattle.j39_findings.specs.Findings.{IsSelectorInside}
-use Rattle.j39_findings.specs.Found.{have_same_name, have_same_fixed_address, needed_addresses, too_few_addresses, unit_findings, has_bad_pgn, have_same_pgn}
+use Rattle.j39_findings.specs.Found.{have_same_fixed_address, needed_addresses, too_few_addresses, unit_findings, has_bad_pgn, have_same_pgn}
 use Rattle.j39_findings.specs.Found.{group_findings, width_findings, outside_findings, overlap_findings, signal_findings, cannot_go_to_one}
 use Rattle.j39_findings.specs.Found.{goes_to_its_sender, are_one_flow, flow_findings, prefers_kept, kept_findings, is_private_unsent, unsent_findings, group_overlaps, record_findings, outside_text_findings, text_findings, is_unmet, need_findings, found}
 use Rattle.j39_findings.specs.Findings.{HaveSilentAddress, IsSilentInPool}
@@ -26,7 +27,7 @@ use Rattle.j39_findings.specs.Found.{have_silent_address, is_silent_in_pool, sil
 use Rattle.j39_findings.proofs.Meeting.{group_overlaps_of}
 use Rattle.j39_findings.proofs.Members.{in_each_of, found_if_of, each_of, pairs_of}
 use Rattle.j39_findings.proofs.Rising.{AllPairs-from_Rises}
-use Rattle.j39_findings.proofs.Deciding.{Decides-have_same_name, Decides-have_same_fixed_address, Decides-needs_pool_address, Decides-has_bad_pgn, meeting_pass}
+use Rattle.j39_findings.proofs.Deciding.{Decides-may_be_one, Decides-have_same_fixed_address, Decides-needs_pool_address, Decides-has_bad_pgn, meeting_pass}
 use Rattle.j39_findings.proofs.Deciding.{Decides-have_silent_address, Decides-is_silent_in_pool}
 use Rattle.j39_findings.proofs.Deciding.{Decides-have_same_pgn, Decides-has_other_width, Decides-ends_outside, Decides-shares_bit}
 use Rattle.j39_findings.proofs.Deciding.{Decides-cannot_go_to_one, Decides-goes_to_its_sender, Decides-are_one_flow, Decides-prefers_kept, Decides-is_private_unsent, Decides-lies_outside, Decides-is_unmet}
@@ -175,12 +176,12 @@ of_five xs ys zs us vs f (inl one) = Contains-append_left xs (ys ++ (zs ++ (us +
 of_five xs ys zs us vs f (inr more) = Contains-append_right xs (ys ++ (zs ++ (us ++ vs))) f (of_four ys zs us vs f more)
 
 unit_found : (plan : Plan) (f : Finding)
-    → Contains (pairs have_same_name SameName plan.units.items) f
+    → Contains (pairs may_be_one SameName plan.units.items) f
     ⊎ (Contains (pairs have_same_fixed_address SameFixedAddress plan.units.items) f ⊎ Contains (too_few_addresses plan.keep_free plan.strangers plan.units.items) f)
     → Contains (found plan) f
 unfolding unit_findings
 unit_found plan f h =
-    let names = pairs have_same_name SameName plan.units.items in
+    let names = pairs may_be_one SameName plan.units.items in
     let addresses = pairs have_same_fixed_address SameFixedAddress plan.units.items in
     in_units plan f (of_three names addresses (too_few_addresses plan.keep_free plan.strangers plan.units.items) f h)
 
@@ -231,7 +232,7 @@ request_found plan f h =
     in_requests plan f (of_five unanswered unheard astray selectors (pairs (ask_the_same groups) RequestRepeated requests) f h)
 
 found_of : (plan : Plan) (f : Finding) → Holds plan f → Contains (found plan) f
-found_of plan (SameName i j) h = unit_found plan _ (inl (pairs_of HaveSameName Decides-have_same_name SameName plan.units.items i j h))
+found_of plan (SameName i j) h = unit_found plan _ (inl (pairs_of MayBeOne Decides-may_be_one SameName plan.units.items i j h))
 found_of plan (SameFixedAddress i j) h =
     unit_found plan _ (inr (inl (pairs_of HaveSameFixedAddress Decides-have_same_fixed_address SameFixedAddress plan.units.items i j h)))
 found_of plan (TooFewAddresses n) ((m, are, with_strangers), more) =

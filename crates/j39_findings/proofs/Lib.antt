@@ -1,4 +1,5 @@
 pub mod AddingLemmas
+pub mod Boxes
 pub mod CleanLaws
 pub mod ConflictLaws
 pub mod Deciding
@@ -15,3 +16,4 @@ pub mod RecordBits
 pub mod RecordCounts
 pub mod Rising
 pub mod Selectors
+pub mod Vehicles

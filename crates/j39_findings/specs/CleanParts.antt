@@ -8,6 +8,7 @@ use Rattle.j39_id.specs.Pgn.{IsPgn, extended_page}
 use Rattle.j39_id.specs.Services.{service_groups}
 use Rattle.j39_signal.specs.Places.{Covers, LaysOutFrom, further}
 use Rattle.j39_signal.specs.Selectors.{DifferInValue}
+use Rattle.j39_findings.specs.Kinds.{MayBeOne}
 use Rattle.j39_findings.specs.ListPlaces.{ValueAt, SomeMeets}
 use Rattle.j39_findings.specs.Records.{record_count}
 use Rattle.j39_findings.specs.TextPlaces.{last_byte}
@@ -68,6 +69,7 @@ pub record IsAnsweredWell (plan : Plan) (r : RequestPlan) : Type 0 where
   pub to_all : AsksAll r → IsServedToAll plan.flows.items r
 
 pub record CleanParts (plan : Plan) : Type 0 where
+  pub told_apart : AllPairs (λ u v. ¬ MayBeOne u v) plan.units.items
   pub names : AllPairs (λ u v. u.name ≢ v.name) plan.units.items
   pub fixed_addresses : AllPairs HoldApart plan.units.items
   pub addresses : (n : ℕ) → AreNeeded plan n → n ≤ free_count plan.keep_free

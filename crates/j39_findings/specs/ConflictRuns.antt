@@ -1,7 +1,7 @@
 -- A run that shows the conflict of two fixed units with one address (SAE J1939-81): both are switched on, and each hears
 -- the other's claim, so that the one with the larger NAME is left without an address.
 use Rattle.std.specs.Prelude.{◌≡◌, ◌≢◌, ℕ, ◌<◌, ◌⊎◌, List, [], ◌∷◌, Bool, not}
-use Rattle.std.specs.Prelude.{◌&&◌, ◌==◌, nat_lt, if◌then◌else◌, Option, Some, None}
+use Rattle.std.specs.Prelude.{◌&&◌, nat_lt, if◌then◌else◌, Option, Some, None}
 use Rattle.std.specs.List.{slice_get}
 use Rattle.j39_findings.specs.declared.plan.Plan.{Plan}
 use Rattle.j39_findings.specs.declared.plan.unit_plan.UnitPlan.{UnitPlan}
@@ -9,6 +9,7 @@ use Rattle.j39_findings.specs.declared.checking.finding.Finding.{Finding}
 use Rattle.j39_findings.specs.declared.checking.finding.Finding.TheVariants.{SameFixedAddress}
 use Rattle.j39_findings.specs.declared.steps.Step.{Step}
 use Rattle.j39_findings.specs.declared.steps.Step.TheVariants.{Up, Give}
+use Rattle.j39_findings.specs.Kinds.{MayBeOne, may_be_one}
 use Rattle.j39_findings.specs.ListPlaces.{PairAt}
 use Rattle.j39_findings.specs.Findings.{HaveSameFixedAddress}
 use Rattle.j39_findings.specs.Found.{have_same_fixed_address}
@@ -19,9 +20,9 @@ conflict_steps larger smaller = Up larger ∷ Up smaller ∷ Give smaller larger
 
 -- ---- in plain words
 
--- units at two places, the first below the second, are fixed, have one address and different NAMEs
+-- units at two places, the first below the second, are fixed, have one address and can't be one
 abbrev pub AreInConflict : Plan → ℕ → ℕ → Type 0
-AreInConflict plan = PairAt (λ u v. HaveSameFixedAddress u v × (u.name ≢ v.name)) plan.units.items
+AreInConflict plan = PairAt (λ u v. HaveSameFixedAddress u v × (¬ MayBeOne u v)) plan.units.items
 
 -- the finding tells of two units that are in conflict
 abbrev pub TellsOfConflict : Plan → Finding → Type 0
@@ -46,8 +47,8 @@ pub record IsConflictRun (plan : Plan) (finding : Finding) (steps : List Step) :
 
 -- ---- as a test
 
-abbrev pub are_in_conflict : UnitPlan → UnitPlan → Bool
-are_in_conflict u v = have_same_fixed_address u v && not (u.name == v.name)
+unfoldable pub are_in_conflict : UnitPlan → UnitPlan → Bool
+are_in_conflict u v = have_same_fixed_address u v && not (may_be_one u v)
 
 -- the run of these units at these places, by which of them has the larger NAME
 unfoldable pub steps_between : ℕ → ℕ → UnitPlan → UnitPlan → List Step

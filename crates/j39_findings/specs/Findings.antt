@@ -15,6 +15,7 @@ use Rattle.std.specs.List.{slice_get}
 use Rattle.j39_signal.specs.Selectors.{DifferInValue, EndsInside}
 use Rattle.j39_signal.specs.Parts.{SignalParts}
 use Rattle.j39_signal.specs.Places.{Covers, WidthFits, IsInside, SharesBit, further}
+use Rattle.j39_findings.specs.Kinds.{MayBeOne}
 use Rattle.j39_findings.specs.ListPlaces.{ValueAt, PairAt, SomeMeets, SoManyMeet}
 use Rattle.j39_findings.specs.Records.{record_count}
 use Rattle.j39_findings.specs.SignalPlaces.{room_of_signal}
@@ -38,9 +39,6 @@ use Rattle.j39_findings.specs.declared.checking.finding.Finding.TheVariants.{Sil
 -- a unit that never moves to another address
 abbrev pub IsFixed : UnitPlan → Type 0
 IsFixed unit = is_arbitrary unit.name ≡ false
-
-abbrev pub HaveSameName : UnitPlan → UnitPlan → Type 0
-HaveSameName u v = u.name ≡ v.name
 
 -- two of those claim one address
 abbrev pub HaveSameFixedAddress : UnitPlan → UnitPlan → Type 0
@@ -252,7 +250,7 @@ IsUnmet requests flows need = ¬ SomeMeets (Meets requests need) flows
 
 -- what a finding says of a plan
 abbrev pub Holds : Plan → Finding → Type 0
-Holds plan (SameName i j) = PairAt HaveSameName plan.units.items i j
+Holds plan (SameName i j) = PairAt MayBeOne plan.units.items i j
 Holds plan (SameFixedAddress i j) = PairAt HaveSameFixedAddress plan.units.items i j
 Holds plan (TooFewAddresses n) = AreNeeded plan n × (free_count plan.keep_free < n)
 Holds plan (BadPgn g) = ValueAt HasBadPgn plan.groups.items g

@@ -15,6 +15,7 @@ use Rattle.j39_id.specs.Services.{is_service}
 use Rattle.j39_signal.specs.Selectors.{differ_in_value, selector_end}
 use Rattle.j39_signal.specs.Parts.{SignalParts}
 use Rattle.j39_signal.specs.Places.{width_fits, is_inside, shares_bit, end_of, further}
+use Rattle.j39_findings.specs.Kinds.{may_be_one}
 use Rattle.j39_findings.specs.ListPlaces.{found_if, each, pairs, in_each}
 use Rattle.j39_findings.specs.Records.{record_count}
 use Rattle.j39_findings.specs.SignalPlaces.{room_of_signal}
@@ -36,9 +37,6 @@ use Rattle.j39_findings.specs.declared.checking.finding.Finding.TheVariants.{Sil
 
 -- ---- units
 
-abbrev pub have_same_name : UnitPlan → UnitPlan → Bool
-have_same_name u v = u.name == v.name
-
 abbrev pub is_fixed : UnitPlan → Bool
 is_fixed unit = not (is_arbitrary unit.name)
 
@@ -59,7 +57,7 @@ too_few_addresses kept strangers units =
 
 unfoldable pub unit_findings : FinSet nat_cmp → ℕ → List UnitPlan → List Finding
 unit_findings kept strangers units =
-    pairs have_same_name SameName units ++ (pairs have_same_fixed_address SameFixedAddress units ++ too_few_addresses kept strangers units)
+    pairs may_be_one SameName units ++ (pairs have_same_fixed_address SameFixedAddress units ++ too_few_addresses kept strangers units)
 
 -- ---- units at addresses that are kept free
 

@@ -3,6 +3,7 @@ pub mod CleanParts
 pub mod ConflictRuns
 pub mod Findings
 pub mod Found
+pub mod Kinds
 pub mod LabelForm
 pub mod Lengths
 pub mod ListPlaces
@@ -17,6 +18,7 @@ pub mod PlannedRequests
 pub mod SignalPlaces
 pub mod SoundSignals
 pub mod TextPlaces
+pub mod VehiclePlans
 pub mod WithoutOptional
 pub mod WithoutRecords
 pub mod WithoutSelectors

@@ -3,10 +3,12 @@ ghost use Rattle.std.specs.Prelude.{◌≡◌, ◌≢◌, IfOk, OnErr, option_ma
 ghost use Rattle.j39_findings.specs.ConflictRuns.{are_in_conflict, conflict_steps, steps_between, run_of_places, conflict_run};
 
 use crate::checking::Finding;
+use crate::kinds::may_be_one;
 use crate::plan::{Plan, UnitPlan};
 use crate::steps::Step;
 use std::alloc::{AllocError, Global};
 
+#[tactic(auto, unfolding(crate::specs::ConflictRuns::are_in_conflict))]
 fn are_in_conflict(first: &UnitPlan, second: &UnitPlan) -> bool
     ensures { result ≡ are_in_conflict first.now second.now }
 {
@@ -15,7 +17,7 @@ fn are_in_conflict(first: &UnitPlan, second: &UnitPlan) -> bool
         && first.address == second.address
         && first.claims
         && second.claims
-        && first.name != second.name
+        && !may_be_one(first, second)
 }
 
 fn conflict_steps(alloc: Global, larger: usize, smaller: usize) -> Result<Vec<Step>, AllocError>
@@ -66,7 +68,7 @@ fn conflict(plan: &Plan, first: usize, second: usize) -> Option<(usize, usize)>
 /// The steps of a run that shows a conflict: both units are switched on, and each hears the other's claim.
 ///
 /// There are such steps exactly for a finding that two fixed units of the plan, the first before the second, have one
-/// address, where their NAMEs differ. The unit of the larger NAME is named first and is left without an address.
+/// address, where they can't be one unit. The unit of the larger NAME is named first and is left without an address.
 #[tactic(auto, unfolding(crate::specs::ConflictRuns::conflict_run))]
 pub fn bad_run(
     alloc: Global,

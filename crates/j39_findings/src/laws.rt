@@ -11,6 +11,7 @@ mod requests;
 mod selectors;
 mod signals;
 mod texts;
+mod vehicles;
 
 pub use conflict_runs::conflict_runs_are_exact;
 pub use findings::{clean_parts, clean_where_none, found_exactly};
@@ -23,3 +24,4 @@ pub use requests::{plans_without_requests, requests_are_served};
 pub use selectors::plans_without_selectors;
 pub use signals::signals_are_sound;
 pub use texts::plans_without_texts;
+pub use vehicles::serial_numbers_change_nothing;

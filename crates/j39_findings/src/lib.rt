@@ -3,6 +3,7 @@
 
 mod checking;
 mod conflict_run;
+mod kinds;
 mod laws;
 pub mod limits;
 mod plan;
@@ -15,12 +16,13 @@ pub use checking::{
     is_served, meets, serves,
 };
 pub use conflict_run::bad_run;
+pub use kinds::{kind_of_name, may_be_one};
 pub use laws::{
     clean_parts, clean_where_none, conflict_runs_are_exact, found_exactly, needs_are_met,
     one_group_fits, plans_of_one_length_each, plans_without_needs, plans_without_optional_signals,
     plans_without_private_groups, plans_without_records, plans_without_requests,
     plans_without_selectors, plans_without_texts, records_are_counted, requests_are_served,
-    signals_are_sound,
+    serial_numbers_change_nothing, signals_are_sound,
 };
 pub use plan::{
     Bitrate, ErrorRate, FlowPlan, GroupPlan, Meaning, NeedPlan, Pace, Plan, Queue, RequestPlan,

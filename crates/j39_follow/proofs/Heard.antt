@@ -108,12 +108,12 @@ both_so : (a b : Bool) → a ≡ true → b ≡ true → (a && b) ≡ true
 both_so true b first second = second
 both_so false b first second = cc
 
-party_same : (a b : Who) → is_same_party a b ≡ true → IsSameParty a b
+pub party_same : (a b : Who) → is_same_party a b ≡ true → IsSameParty a b
 party_same a b e =
     let parts = both (is_same_number (unit_of a) (unit_of b)) (is_same_number (stranger_of a) (stranger_of b)) e in
     record { unit = same_number (unit_of a) (unit_of b) parts.0; stranger = same_number (stranger_of a) (stranger_of b) parts.1 }
 
-party_again : (a b : Who) → IsSameParty a b → is_same_party a b ≡ true
+pub party_again : (a b : Who) → IsSameParty a b → is_same_party a b ≡ true
 party_again a b same =
     both_so (is_same_number (unit_of a) (unit_of b)) (is_same_number (stranger_of a) (stranger_of b))
     (subst (λ (u : Option ℕ). is_same_number (unit_of a) u ≡ true) same.unit (number_itself (unit_of a)))

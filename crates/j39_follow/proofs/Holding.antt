@@ -13,7 +13,7 @@ ending {A} (x ∷ xs) = elim (ending xs) [
   | inr more ↦ inr (x ∷ more.0, more.1, ap (λ (t : List A). x ∷ t) more.2)
 ]
 
-all_front : {A : Type 0} (P : A → Type 0) (xs : List A) (y : A) → All P (xs ++ y ∷ []) → All P xs × P y
+pub all_front : {A : Type 0} (P : A → Type 0) (xs : List A) (y : A) → All P (xs ++ y ∷ []) → All P xs × P y
 all_front P [] y all = (All-nil P, All-head P y [] all)
 all_front P (x ∷ xs) y all =
     let rest = all_front P xs y (All-tail P x (xs ++ y ∷ []) all) in

@@ -23,7 +23,7 @@ knows_on plan directory frames f silent of =
     }
 
 -- the frames of the lines are those that were seen
-timed_more : (log : List Timed) (x : Timed) → frames_of (log ++ x ∷ []) ≡ frames_of log ++ x.frame ∷ []
+pub timed_more : (log : List Timed) (x : Timed) → frames_of (log ++ x ∷ []) ≡ frames_of log ++ x.frame ∷ []
 timed_more [] x = refl
 timed_more (y ∷ log) x = ap (λ (t : List Frame). y.frame ∷ t) (timed_more log x)
 

@@ -1,5 +1,8 @@
 pub mod Alike
+pub mod Beginning
+pub mod Claimed
 pub mod Contested
+pub mod Contending
 pub mod EndLines
 pub mod Exchanged
 pub mod FirstWords

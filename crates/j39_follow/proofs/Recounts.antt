@@ -34,7 +34,7 @@ pub claim_new : (f : Frame) (name : ℕ) (place : Option ℕ) (n a : ℕ) → Te
 claim_new f name (Some b) n a t c = (ap Some (sym t.source_is ∙ c.source_is), sym c.name_is ∙ t.name_is)
 claim_new f name None n a t c = absurd (t.1 n a c)
 
-new_claim : (f : Frame) (name : ℕ) (place : Option ℕ) (n a : ℕ) → TellsPlace f name place → IsNew place name a n → Claims f n a
+pub new_claim : (f : Frame) (name : ℕ) (place : Option ℕ) (n a : ℕ) → TellsPlace f name place → IsNew place name a n → Claims f n a
 new_claim f name (Some b) n a t is = rw (is.1, sym (some_same b a is.0)) t
 new_claim f name None n a t is = absurd (let e = is.0 in cc)
 
@@ -116,7 +116,7 @@ neither : (a b : Bool) → a ≡ false → b ≡ false → (a || b) ≡ false
 neither true b e d = absurd (true_false e)
 neither false b e d = d
 
-or_right : (a b : Bool) → b ≡ true → (a || b) ≡ true
+pub or_right : (a b : Bool) → b ≡ true → (a || b) ≡ true
 or_right true b e = refl
 or_right false b e = e
 

@@ -18,8 +18,8 @@ fn stranger(who: Who) -> Option<u64>
     }
 }
 
-// Whether the two are one unit, one NAME, or both nobody.
-fn is_same_party(a: Who, b: Who) -> bool
+/// Whether the two are one unit, one NAME, or both nobody.
+pub(crate) fn is_same_party(a: Who, b: Who) -> bool
     ensures { result ≡ is_one_party a b }
 {
     a.unit() == b.unit() && stranger(a) == stranger(b)

@@ -1,7 +1,9 @@
 //! Who stands behind each address.
 ghost use Rattle.std.specs.Prelude.{◌≡◌, [], ◌∷◌, ◌++◌, List};
 ghost use Rattle.j39_id.specs.declared.frame.Frame.{Frame as AFrame};
-ghost use Rattle.j39_follow.specs.inside.Contesting.{IsBehind, IsLikelyName, IsNameAt};
+ghost use Rattle.j39_findings.specs.declared.plan.Plan.{Plan as APlan};
+ghost use Rattle.j39_follow.specs.Holders.{IsHolder};
+ghost use Rattle.j39_follow.specs.inside.Contesting.{IsGuess, IsLikelyName, IsNameAt};
 ghost use Rattle.j39_follow.specs.inside.Recounting.{ArePartiesOf, HasNames, Knows, Recounts};
 
 use crate::holders::Holders;
@@ -99,14 +101,18 @@ impl Directory {
         self.parties.all
     }
 
-    /// The NAME behind an address: the one that holds it, or that of the unit that is likely.
-    pub fn name_behind(&self, plan: &Plan, address: u8) -> Option<u64>
-        ensures { (frames : List AFrame) → Knows plan.now self.now frames → IsBehind plan.now frames address result }
+    /// The NAME that holds an address.
+    pub fn holder(&self, address: u8) -> Option<u64>
+        ensures { (plan : APlan) (frames : List AFrame) → Knows plan self.now frames → IsHolder frames address result }
     {
-        match self.holders.holder(address) {
-            Some(name) => Some(name),
-            None => likely_name(plan, self.parties.party(address)),
-        }
+        self.holders.holder(address)
+    }
+
+    /// The NAME of the unit that is guessed at an address, if no NAME holds it.
+    pub fn guessed(&self, plan: &Plan, address: u8) -> Option<u64>
+        ensures { (frames : List AFrame) → Knows plan.now self.now frames → IsGuess plan.now frames address result }
+    {
+        likely_name(plan, self.parties.party(address))
     }
 
     /// Notes what a frame tells.

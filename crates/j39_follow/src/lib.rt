@@ -4,6 +4,8 @@
 mod acknowledgement;
 mod asking;
 mod changed_hands;
+mod claim;
+mod claimants;
 mod contest;
 mod contests;
 mod directory;

@@ -6,12 +6,12 @@ ghost use Rattle.j39_findings.specs.declared.plan.Plan.{Plan as APlan};
 ghost use Rattle.j39_log.specs.inside.Listening.{AreAllInRange};
 ghost use Rattle.j39_log.specs.LogPairs.{Seen};
 ghost use Rattle.j39_id.specs.FrameMeaning.{cannot_claim, claims_address};
-ghost use Rattle.j39_follow.specs.Contests.{Timed, frames_of};
+ghost use Rattle.j39_follow.specs.Contests.{IsNow, Timed, frames_of};
 ghost use Rattle.j39_follow.specs.FollowText.{AreUnitLines, FollowedPast, FollowsFrame, FollowsLines, FollowsShort, follow_counts_line, frames_seen, lines_with, nothing_followed, line_passed_over};
 ghost use Rattle.j39_follow.specs.LogLines.{interface_behind, moment_of};
 ghost use Rattle.j39_follow.specs.LoggedRequests.{acknowledges};
 ghost use Rattle.j39_follow.specs.declared.event.Event.{Event as AnEvent};
-ghost use Rattle.j39_follow.specs.inside.Contesting.{AreContests, IsDefender, IsTimed};
+ghost use Rattle.j39_follow.specs.inside.Contesting.{AreContests, IsDefender};
 ghost use Rattle.j39_follow.specs.inside.Exchanging.{AreExchanges, AreNoted};
 ghost use Rattle.j39_follow.specs.inside.FrameWriting.{IsFrameWritten};
 ghost use Rattle.j39_follow.specs.inside.Hearing.{HaveHeardSince};
@@ -22,7 +22,7 @@ ghost use Rattle.j39_follow.specs.inside.Tallies.{IsTally};
 
 use crate::acknowledgement::{acknowledges, told_address};
 use crate::changed_hands::begin_anew;
-use crate::contests::{Contests, begun};
+use crate::contests::Contests;
 use crate::directory::Directory;
 use crate::endings::write_endings;
 use crate::exchanges::Exchanges;
@@ -105,7 +105,7 @@ impl Reading {
             alloc,
             text: TextBuffer::new(alloc),
             directory: Directory::new(alloc, plan),
-            contests: Contests::new(),
+            contests: Contests::new(alloc),
             listeners: Listeners::new(alloc),
             tally: Tally::new(),
             exchanges: Exchanges::new(),
@@ -128,16 +128,15 @@ impl Reading {
     ) -> Result<(Sort, Option<Sort>), AllocError>
         ensures stays { IsSameButWritten self.old self.new }
         ensures written { IfOk result (λ sorts. (seen : List Seen) (log : List Timed) → Knows groups.now self.old.directory (frames_of log)
-            → AreContests groups.now self.old.contests log → IsTimed log (moment_of stamp.entry.time.now)
+            → AreContests groups.now self.old.contests log → IsNow log (moment_of stamp.entry.time.now)
             → HaveHeardSince groups.now self.old.listeners seen → AreAllInRange seen
             → IsFrameWritten groups.now self.new.listeners seen log (front_of stamp.entry) frame.now sorts.0 sorts.1 self.old.text self.new.text) }
         ensures noted { IfOk result (λ sorts. (log : List Timed) (events : List AnEvent) → Knows groups.now self.old.directory (frames_of log)
-            → AreContests groups.now self.old.contests log → IsTimed log (moment_of stamp.entry.time.now)
+            → AreContests groups.now self.old.contests log → IsNow log (moment_of stamp.entry.time.now)
             → length events + 3 < 2 ^ 64 → AreExchanges groups.now self.old.exchanges events
             → AreNoted groups.now log frame.now (sorts.0 ∷ option_to_list sorts.1) events self.new.exchanges) }
     {
         let parties = taken(
-            groups.plan(),
             self.directory.parties(),
             &self.contests,
             frame.ident,
@@ -194,11 +193,11 @@ impl Reading {
     ) -> Result<(Sort, Option<Sort>), AllocError>
         ensures stays { IsSameButWritten self.old self.new }
         ensures written { IfOk result (λ sorts. (seen : List Seen) (log : List Timed) → Knows groups.now self.old.directory (frames_of log)
-            → AreContests groups.now self.old.contests log → IsTimed log (moment_of stamp.entry.time.now)
+            → AreContests groups.now self.old.contests log → IsNow log (moment_of stamp.entry.time.now)
             → HaveHeardSince groups.now self.old.listeners seen → AreAllInRange seen
             → IsFrameWritten groups.now self.new.listeners seen log (front_of stamp.entry) frame.now sorts.0 sorts.1 self.old.text self.new.text) }
         ensures noted { IfOk result (λ sorts. (log : List Timed) (events : List AnEvent) → Knows groups.now self.old.directory (frames_of log)
-            → AreContests groups.now self.old.contests log → IsTimed log (moment_of stamp.entry.time.now)
+            → AreContests groups.now self.old.contests log → IsNow log (moment_of stamp.entry.time.now)
             → length events + 3 < 2 ^ 64 → AreExchanges groups.now self.old.exchanges events
             → AreNoted groups.now log frame.now (sorts.0 ∷ option_to_list sorts.1) events self.new.exchanges) }
     {
@@ -245,9 +244,8 @@ impl Reading {
             → IsFollowed groups.now self.old self.new past time.now frame.now) }
     {
         let before = self.directory.all_parties();
-        let now = moment(time);
-        let contest = begun(groups.plan(), &self.directory, frame, now);
-        self.contests.hear(frame, contest);
+        self.contests
+            .hear(groups.plan(), &self.directory, frame, moment(time))?;
         self.directory.hear(groups.plan(), frame);
         self.report(groups, time, frame)?;
         let after = self.directory.all_parties();

@@ -5,55 +5,48 @@ ghost use Rattle.j39_follow.specs.inside.Recounting.{party_at};
 
 use crate::contests::Contests;
 use crate::known_parties::Parties;
-use crate::who::{Who, likely_named};
-use j39_findings::Plan;
+use crate::who::Who;
 use j39_id::Ident;
 
-// Who is taken to be behind an address: the smaller NAME of a contest, else who stands there.
-fn taken_for(plan: &Plan, who: Who, defender: Option<u64>) -> Who
-    ensures { result ≡ taken_party plan.now who defender }
+// Who is taken to be behind an address: who defends it in a contest, else who stands there.
+fn taken_for(who: Who, defender: Option<Who>) -> Who
+    ensures { result ≡ taken_party who defender }
 {
     match defender {
-        Some(name) => likely_named(plan, name),
+        Some(defender) => defender,
         None => who,
     }
 }
 
 /// Who is taken to be behind an address on a line with this time.
 pub(crate) fn taken_at(
-    plan: &Plan,
     parties: &Parties,
     contests: &Contests,
     address: u8,
     time: Option<u64>,
 ) -> Who
-    ensures { result ≡ taken_party plan.now (party_at parties.now.all address) (defender_at contests.now address time) }
+    ensures { result ≡ taken_party (party_at parties.now.all address) (defender_at contests.now address time) }
 {
-    taken_for(
-        plan,
-        parties.party(address),
-        contests.defender(address, time),
-    )
+    taken_for(parties.party(address), contests.defender(address, time))
 }
 
 /// The parties, with who is taken to be behind the addresses of a frame, and behind one more, on a line with this time.
 pub(crate) fn taken(
-    plan: &Plan,
     parties: &Parties,
     contests: &Contests,
     ident: Ident,
     asker: u8,
     time: Option<u64>,
 ) -> Parties
-    ensures source { party_at result.all ident.sa ≡ taken_party plan.now (party_at parties.now.all ident.sa) (defender_at contests.now ident.sa time) }
-    ensures receiver { party_at result.all ident.ps ≡ taken_party plan.now (party_at parties.now.all ident.ps) (defender_at contests.now ident.ps time) }
-    ensures asker { party_at result.all asker ≡ taken_party plan.now (party_at parties.now.all asker) (defender_at contests.now asker time) }
+    ensures source { party_at result.all ident.sa ≡ taken_party (party_at parties.now.all ident.sa) (defender_at contests.now ident.sa time) }
+    ensures receiver { party_at result.all ident.ps ≡ taken_party (party_at parties.now.all ident.ps) (defender_at contests.now ident.ps time) }
+    ensures asker { party_at result.all asker ≡ taken_party (party_at parties.now.all asker) (defender_at contests.now asker time) }
     ensures names { result.names ≡ None }
 {
     let mut all = parties.all;
-    let source = taken_at(plan, parties, contests, ident.sa, time);
-    let receiver = taken_at(plan, parties, contests, ident.ps, time);
-    let third = taken_at(plan, parties, contests, asker, time);
+    let source = taken_at(parties, contests, ident.sa, time);
+    let receiver = taken_at(parties, contests, ident.ps, time);
+    let third = taken_at(parties, contests, asker, time);
     all[usize::from(asker)] = third;
     all[usize::from(ident.sa)] = source;
     all[usize::from(ident.ps)] = receiver;

@@ -1,5 +1,5 @@
 //! What a check of a plan is good for.
-ghost use Rattle.j39_world.specs.SoundPlan.{IsSound};
+ghost use Rattle.j39_world.specs.SoundPlan.{AreVehiclesSound, IsSound};
 
 use crate::laws::{
     a_needed_value_arrives, acknowledged_messages_were_reported, addresses_are_sound,
@@ -8,16 +8,21 @@ use crate::laws::{
     sent_frames_are_sound, silent_units_are_undisturbed, strangers_keep_addresses,
     unanswered_messages_arrive,
 };
-use j39_findings::{CheckedPlan, needs_are_met, requests_are_served, signals_are_sound};
+use j39_findings::{
+    CheckedPlan, needs_are_met, requests_are_served, serial_numbers_change_nothing,
+    signals_are_sound,
+};
 
 /// A checked plan is sound: in every world of every run of it, with all lawful choices and whatever is lost, addresses and reports
 /// are sound, addresses also with strangers, planned addresses stay where they differ, a unit that is alone at its own is undisturbed, and
 /// so is one that never claims, what units have noted of one another is right where no claim is undelivered, what it keeps free stays free,
 /// claims die down, messages come to their end, those of which nothing is lost arrive, its signals read back what they were last given, some
 /// flow of it answers each request, some flow brings each unit what it needs, and a message of such a flow of which nothing is lost reads
-/// there as it was written. `docs/PROMISES.md` has it in plain words. It does nothing when it runs; it rests on the laws that it calls.
+/// there as it was written. So is the plan of each vehicle, whatever the serial numbers of its boxes are.
+/// `docs/PROMISES.md` has it in plain words. It does nothing when it runs; it rests on the laws that it calls.
 pub fn certify(checked: &CheckedPlan)
     ensures sound { IsSound checked.now }
+    ensures vehicles { AreVehiclesSound checked.now }
 {
     let _plan = checked.plan();
     addresses_are_sound();
@@ -37,5 +42,6 @@ pub fn certify(checked: &CheckedPlan)
     answered_messages_arrive();
     requests_are_served();
     needs_are_met();
+    serial_numbers_change_nothing();
     a_needed_value_arrives();
 }

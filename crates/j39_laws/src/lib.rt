@@ -12,6 +12,6 @@ pub use laws::{
     kept_addresses_stay_free, planned_addresses_stay, quiet_notes_are_right, reports_are_sound,
     runs_through_are_runs, sent_frames_are_sound, silent_units_are_undisturbed,
     smaller_names_are_undisturbed, steps_lead_somewhere, strangers_keep_addresses,
-    unanswered_messages_arrive, units_hold_planned_or_pool_addresses, who_stays,
-    who_stays_with_strangers,
+    unanswered_messages_arrive, units_hold_planned_or_pool_addresses, units_stay_in_each_vehicle,
+    who_stays, who_stays_with_strangers,
 };

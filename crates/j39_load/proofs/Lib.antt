@@ -23,6 +23,7 @@ pub mod StreamsBefore
 pub mod ToldBytes
 pub mod TurnTimes
 pub mod ValuesInTime
+pub mod Vehicles
 pub mod WantedMemory
 pub mod WhoStays
 pub mod WholeMessages

@@ -1,23 +1,28 @@
--- What a plan asks of a bus is one: whoever tells who stays tells the same loads and the same delays.
+-- What a plan asks of a bus is one: whoever tells who stays tells the same loads and the same delays. So do two plans whose units are alike.
 use Rattle.std.proofs.Common.{◌≡◌, ℕ, ◌<◌, ◌≤◌, Bool, true, false, not, ◌&&◌, if◌then◌else◌, List, [], ◌∷◌, length, map, min, max, inl, inr, Option, Some, None}
 use Rattle.std.proofs.Common.{refl, sym, ap, ◌∙◌, subst, arith, option_map}
 use Rattle.std.proofs.lemmas.Bool.{cases_lt}
 use Rattle.std.proofs.lemmas.List.{ext_get_or}
 use Rattle.std.proofs.lemmas.Option.{same_Some, none-some}
 use Rattle.std.specs.Bool.{MatchBool}
+use Rattle.std.specs.Int.{div_ceil}
 use Rattle.std.specs.List.{range_with_len, slice_get}
-use Rattle.std.specs.Prelude.{slice_index_or}
+use Rattle.std.specs.Option.{option_map_or}
+use Rattle.std.specs.Prelude.{slice_index_or, ◌+◌}
+use Rattle.j39_id.specs.Addresses.{pool_first, pool_last}
 use Rattle.j39_id.specs.Name.{is_arbitrary}
 use Rattle.j39_id.specs.Services.{connection_management, data_transfer}
 use Rattle.j39_findings.specs.declared.plan.Plan.{Plan}
 use Rattle.j39_findings.specs.declared.plan.flow_plan.FlowPlan.{FlowPlan}
 use Rattle.j39_findings.specs.declared.plan.group_plan.GroupPlan.{GroupPlan}
 use Rattle.j39_findings.specs.declared.plan.pace.Pace.{Pace}
+use Rattle.j39_findings.specs.declared.plan.queue.Queue.{Queue}
 use Rattle.j39_findings.specs.declared.plan.request_plan.RequestPlan.{RequestPlan}
 use Rattle.j39_findings.specs.declared.plan.timing.Timing.{Timing}
 use Rattle.j39_findings.specs.declared.plan.to.To.{To}
 use Rattle.j39_findings.specs.declared.plan.to.To.TheVariants.{All as ToAllUnits, One}
 use Rattle.j39_findings.specs.declared.plan.unit_plan.UnitPlan.{UnitPlan}
+use Rattle.j39_findings.proofs.Vehicles.{AreBoth}
 use Rattle.j39_load.specs.declared.broadcast.Broadcast.{Broadcast}
 use Rattle.j39_load.specs.declared.delay.Delay.{Delay}
 use Rattle.j39_load.specs.declared.delay.Delay.TheVariants.{Within, Late, Long, Whole}
@@ -33,7 +38,8 @@ use Rattle.j39_load.specs.Asked.{Asked, asked_by, asked_of, frames_asked}
 use Rattle.j39_load.specs.Broadcasts.{broadcast_frames, broadcasts_by, known_unit_load, least_packets, unit_loads_of}
 use Rattle.j39_load.specs.Delays.{HasDelayBy, IsDelay, IsDelayOf, IsFrameDelay, IsLeastWait, IsShortDelay, IsTurnTimeBy, IsWaitIn, IsWaitOf, IsWholeTime, TellDelays, announcements_place, any_delay, known_turn_time, need_of, packets_place, whole_time}
 use Rattle.j39_load.specs.LoadFindings.{AsksOfBus}
-use Rattle.j39_load.specs.Loads.{destination_at, flow_load, group_ident, load_of_flow, loads_of, long_messages, of_unit, packet_frames, packet_ident, session_ident, single_frames}
+use Rattle.j39_load.specs.Loads.{any_unit, destination_at, flow_load, frames_to_one, greatest_address, group_ident, is_any, least_address, load_of_flow, loads_of, long_messages}
+use Rattle.j39_load.specs.Loads.{of_unit, packet_frames, packet_ident, session_ident, single_frames}
 use Rattle.j39_load.specs.RequestLoads.{load_of_request, request_ident, request_load, request_loads_of}
 use Rattle.j39_load.specs.Standing.{TellsWhoStays}
 use Rattle.j39_timing.specs.Traffic.{delay_of}
@@ -50,128 +56,216 @@ told_once false false S is another = refl
 
 -- ---- loads
 
-module _ (plan : Plan) (timing : Timing) (stays other : UnitPlan → Bool) (tells : TellsWhoStays plan stays) (tell : TellsWhoStays plan other) where
-  same : (u : ℕ) (unit : UnitPlan) → slice_get plan.units.items u ≡ Some unit → stays unit ≡ other unit
-  same u unit is = told_once (stays unit) (other unit) _ (tells u unit is) (tell u unit is)
+-- what a load sees of two units, where it is told of one by the first whether it stays, and of the other by the second
+pub record AreSeenAlike (stays other : UnitPlan → Bool) (unit box : UnitPlan) : Type 0 where
+  pub address : box.address ≡ unit.address
+  pub choice : is_arbitrary box.name ≡ is_arbitrary unit.name
+  pub window : box.window ≡ unit.window
+  pub queue : box.queue ≡ unit.queue
+  pub standing : other box ≡ stays unit
 
-  -- an address that is read of a unit by whether it stays
-  module _ (by : Bool → UnitPlan → ℕ) where
-    read_same : (unit : Option UnitPlan) → ((x : UnitPlan) → unit ≡ Some x → stays x ≡ other x) → (v : ℕ) → slice_get plan.units.items v ≡ unit
-        → of_unit plan.units.items (λ x. by (stays x) x) v ≡ of_unit plan.units.items (λ x. by (other x) x) v
-    read_same None agree v is = rw is refl
-    read_same (Some x) agree v is = rw (is) (ap (λ (b : Bool). by b x) (agree x refl))
+-- a unit that may choose and doesn't stay may move so far
+abbrev end_by : (far : ℕ → ℕ) (chooses standing : Bool) (address : ℕ) → ℕ
+end_by far chooses standing address = if chooses && not standing then far address else address
 
-    pub unit_same : (v : ℕ) → of_unit plan.units.items (λ x. by (stays x) x) v ≡ of_unit plan.units.items (λ x. by (other x) x) v
-    unit_same v = read_same (slice_get plan.units.items v) (λ x is. same v x is) v refl
+module _ (timing : Timing) (stays other : UnitPlan → Bool) (units boxes : List UnitPlan) (count : length boxes ≡ length units)
+    (both : (v : ℕ) → AreBoth (AreSeenAlike stays other) (slice_get units v) (slice_get boxes v)) where
+  abbrev Alike : UnitPlan → UnitPlan → Type 0
+  Alike = AreSeenAlike stays other
 
-    destination_same : (to : To) → destination_at (of_unit plan.units.items (λ x. by (stays x) x)) to ≡ destination_at (of_unit plan.units.items (λ x. by (other x) x)) to
+  -- what is read of two units that are alike
+  module _ (f g : UnitPlan → ℕ) (same : (x y : UnitPlan) → Alike x y → f x ≡ g y) where
+    read_same : (o p : Option UnitPlan) → AreBoth Alike o p → option_map_or f o 0 ≡ option_map_or g p 0
+    read_same None None alike = refl
+    read_same None (Some y) alike = absurd alike
+    read_same (Some x) None alike = absurd alike
+    read_same (Some x) (Some y) alike = same x y alike
+
+    unit_same : (v : ℕ) → of_unit units f v ≡ of_unit boxes g v
+    unit_same v = read_same (slice_get units v) (slice_get boxes v) (both v)
+
+    destination_same : (to : To) → destination_at (of_unit units f) to ≡ destination_at (of_unit boxes g) to
     destination_same ToAllUnits = refl
     destination_same (One v) = unit_same v
 
-    pub group_same : (group : GroupPlan) (flow : FlowPlan)
-        → group_ident (of_unit plan.units.items (λ x. by (stays x) x)) group flow ≡ group_ident (of_unit plan.units.items (λ x. by (other x) x)) group flow
+    group_same : (group : GroupPlan) (flow : FlowPlan) → group_ident (of_unit units f) group flow ≡ group_ident (of_unit boxes g) group flow
     group_same group flow = rw (destination_same flow.to, unit_same flow.sender) refl
 
-    pub packet_same : (flow : FlowPlan)
-        → packet_ident timing (of_unit plan.units.items (λ x. by (stays x) x)) flow ≡ packet_ident timing (of_unit plan.units.items (λ x. by (other x) x)) flow
+    packet_same : (flow : FlowPlan) → packet_ident timing (of_unit units f) flow ≡ packet_ident timing (of_unit boxes g) flow
     packet_same flow = rw (destination_same flow.to, unit_same flow.sender) refl
 
-    pub asking_same : (request : RequestPlan)
-        → request_ident (of_unit plan.units.items (λ x. by (stays x) x)) request ≡ request_ident (of_unit plan.units.items (λ x. by (other x) x)) request
+    asking_same : (request : RequestPlan) → request_ident (of_unit units f) request ≡ request_ident (of_unit boxes g) request
     asking_same request = rw (destination_same request.to, unit_same request.sender) refl
 
-  abbrev least_by : Bool → UnitPlan → ℕ
-  least_by b x = if is_arbitrary x.name && not b then min x.address 128 else x.address
+  -- an end of the addresses that a unit may hold, by how far it may move
+  end_same : (far : ℕ → ℕ) (x y : UnitPlan) → Alike x y → end_by far (is_arbitrary x.name) (stays x) x.address ≡ end_by far (is_arbitrary y.name) (other y) y.address
+  end_same far x y alike =
+      sym (ap (end_by far (is_arbitrary y.name) (other y)) alike.address
+      ∙ ap (λ choice. end_by far choice (other y) x.address) alike.choice
+      ∙ ap (λ standing. end_by far (is_arbitrary x.name) standing x.address) alike.standing)
 
-  abbrev greatest_by : Bool → UnitPlan → ℕ
-  greatest_by b x = if is_arbitrary x.name && not b then max x.address 247 else x.address
+  least_same : (x y : UnitPlan) → Alike x y → least_address stays x ≡ least_address other y
+  least_same = end_same (λ address. min address pool_first)
+
+  greatest_same : (x y : UnitPlan) → Alike x y → greatest_address stays x ≡ greatest_address other y
+  greatest_same = end_same (λ address. max address pool_last)
+
+  any_same : (v : ℕ) → any_unit units v ≡ any_unit boxes v
+  any_same v = go (slice_get units v) (slice_get boxes v) (both v) where
+    any_by : Option UnitPlan → Option ℕ
+    any_by o = if option_map_or (λ (unit : UnitPlan). is_any unit.queue) o false then Some v else None
+
+    go : (o p : Option UnitPlan) → AreBoth Alike o p → any_by o ≡ any_by p
+    go None None alike = refl
+    go None (Some y) alike = absurd alike
+    go (Some x) None alike = absurd alike
+    go (Some x) (Some y) alike = ap (λ (q : Queue). if is_any q then Some v else None) (sym alike.queue)
+
+  answers_same : (packets v : ℕ) → frames_to_one units packets v ≡ frames_to_one boxes packets v
+  answers_same packets v =
+      ap (λ window. 2 + packets + div_ceil packets window)
+      (unit_same (λ (unit : UnitPlan). unit.window) (λ (unit : UnitPlan). unit.window) (λ x y alike. sym alike.window) v)
 
   singles_same : (flow : FlowPlan) (pace : Pace) (group : GroupPlan)
-      → single_frames timing plan.units.items stays flow pace group ≡ single_frames timing plan.units.items other flow pace group
-  singles_same flow pace group = rw (group_same least_by group flow, group_same greatest_by group flow) refl
+      → single_frames timing units stays flow pace group ≡ single_frames timing boxes other flow pace group
+  singles_same flow pace group =
+      rw (
+        group_same (least_address stays) (least_address other) least_same group flow,
+        group_same (greatest_address stays) (greatest_address other) greatest_same group flow,
+        any_same flow.sender,
+      ) refl
 
-  session_same : (flow : FlowPlan) (v : ℕ) → session_ident timing (of_unit plan.units.items (λ x. greatest_by (stays x) x)) flow v
-      ≡ session_ident timing (of_unit plan.units.items (λ x. greatest_by (other x) x)) flow v
-  session_same flow v = rw (unit_same greatest_by v, unit_same greatest_by flow.sender) refl
+  session_same : (flow : FlowPlan) (v : ℕ) → session_ident timing (of_unit units (greatest_address stays)) flow v
+      ≡ session_ident timing (of_unit boxes (greatest_address other)) flow v
+  session_same flow v =
+      rw (
+        unit_same (greatest_address stays) (greatest_address other) greatest_same v,
+        unit_same (greatest_address stays) (greatest_address other) greatest_same flow.sender,
+      ) refl
 
   packets_same : (flow : FlowPlan) (v : ℕ) (pace : Pace) (packets : ℕ)
-      → packet_frames timing plan.units.items stays flow v pace packets ≡ packet_frames timing plan.units.items other flow v pace packets
-  packets_same flow v pace packets = rw (packet_same least_by flow, packet_same greatest_by flow, session_same flow v) refl
+      → packet_frames timing units stays flow v pace packets ≡ packet_frames timing boxes other flow v pace packets
+  packets_same flow v pace packets =
+      rw (
+        packet_same (least_address stays) (least_address other) least_same flow,
+        packet_same (greatest_address stays) (greatest_address other) greatest_same flow,
+        session_same flow v,
+        any_same flow.sender,
+        any_same v,
+        answers_same packets v,
+      ) refl
 
   long_same : (flow : FlowPlan) (pace : Pace) (group : GroupPlan) (to : To)
-      → long_messages timing plan.units.items stays flow pace group to ≡ long_messages timing plan.units.items other flow pace group to
+      → long_messages timing units stays flow pace group to ≡ long_messages timing boxes other flow pace group to
   long_same flow pace group ToAllUnits = refl
   long_same flow pace group (One v) = ap ToOne (packets_same flow v pace (packets_of group.most))
 
   load_same : (flow : FlowPlan) (pace : Pace) (group : GroupPlan)
-      → flow_load timing plan.units.items stays flow pace group ≡ flow_load timing plan.units.items other flow pace group
+      → flow_load timing units stays flow pace group ≡ flow_load timing boxes other flow pace group
   load_same flow pace group = rw (singles_same flow pace group, long_same flow pace group flow.to) refl
 
-  flow_same : (flow : FlowPlan) (pace : Option Pace) (group : Option GroupPlan) → flow.pace ≡ pace → slice_get plan.groups.items flow.group ≡ group
-      → load_of_flow timing plan stays flow ≡ load_of_flow timing plan other flow
-  flow_same flow None group paced is = rw paced refl
-  flow_same flow (Some pace) None paced is = rw (paced, is) refl
-  flow_same flow (Some pace) (Some group) paced is = rw (paced, is) (ap Some (load_same flow pace group))
-
-  loads_same : (flows : List FlowPlan) → map (load_of_flow timing plan stays) flows ≡ map (load_of_flow timing plan other) flows
-  loads_same [] = refl
-  loads_same (flow ∷ flows) =
-      ap (λ (x : Option FlowLoad). x ∷ map (load_of_flow timing plan stays) flows) (flow_same flow flow.pace (slice_get plan.groups.items flow.group) refl refl)
-      ∙ ap (λ (xs : List (Option FlowLoad)). load_of_flow timing plan other flow ∷ xs) (loads_same flows)
-
-  one_load : loads_of timing plan stays ≡ loads_of timing plan other
-  one_load = loads_same plan.flows.items
-
-  broadcast_same : (pgn u gaps : ℕ)
-      → broadcast_frames timing plan.units.items stays pgn u gaps ≡ broadcast_frames timing plan.units.items other pgn u gaps
-  broadcast_same pgn u gaps = rw (unit_same least_by u, unit_same greatest_by u) refl
+  broadcast_same : (pgn u gaps : ℕ) → broadcast_frames timing units stays pgn u gaps ≡ broadcast_frames timing boxes other pgn u gaps
+  broadcast_same pgn u gaps =
+      rw (
+        unit_same (least_address stays) (least_address other) least_same u,
+        unit_same (greatest_address stays) (greatest_address other) greatest_same u,
+        any_same u,
+      ) refl
 
   unit_load_same : (u : ℕ) (broadcasts : List Broadcast)
-      → known_unit_load timing plan.units.items stays u broadcasts ≡ known_unit_load timing plan.units.items other u broadcasts
+      → known_unit_load timing units stays u broadcasts ≡ known_unit_load timing boxes other u broadcasts
   unit_load_same u [] = refl
   unit_load_same u (b ∷ bs) =
       rw (broadcast_same data_transfer u 1, broadcast_same connection_management u (least_packets (b ∷ bs))) refl
 
   units_same : (loads : List (Option FlowLoad)) (places : List ℕ)
-      → map (λ u. known_unit_load timing plan.units.items stays u (broadcasts_by u loads)) places
-      ≡ map (λ u. known_unit_load timing plan.units.items other u (broadcasts_by u loads)) places
+      → map (λ u. known_unit_load timing units stays u (broadcasts_by u loads)) places
+      ≡ map (λ u. known_unit_load timing boxes other u (broadcasts_by u loads)) places
   units_same loads [] = refl
   units_same loads (u ∷ us) =
-      ap (λ (x : Option UnitLoad). x ∷ map (λ v. known_unit_load timing plan.units.items stays v (broadcasts_by v loads)) us)
+      ap (λ (x : Option UnitLoad). x ∷ map (λ v. known_unit_load timing units stays v (broadcasts_by v loads)) us)
       (unit_load_same u (broadcasts_by u loads))
-      ∙ ap (λ (xs : List (Option UnitLoad)). known_unit_load timing plan.units.items other u (broadcasts_by u loads) ∷ xs) (units_same loads us)
+      ∙ ap (λ (xs : List (Option UnitLoad)). known_unit_load timing boxes other u (broadcasts_by u loads) ∷ xs) (units_same loads us)
 
-  unit_loads_same : (loads : List (Option FlowLoad))
-      → unit_loads_of timing plan.units.items stays loads ≡ unit_loads_of timing plan.units.items other loads
+  unit_loads_same : (loads : List (Option FlowLoad)) → unit_loads_of timing units stays loads ≡ unit_loads_of timing boxes other loads
   unit_loads_same [] = refl
-  unit_loads_same (load ∷ loads) = units_same (load ∷ loads) (range_with_len 0 (length plan.units.items))
+  unit_loads_same (load ∷ loads) =
+      units_same (load ∷ loads) (range_with_len 0 (length units))
+      ∙ ap (λ n. map (λ u. known_unit_load timing boxes other u (broadcasts_by u (load ∷ loads))) (range_with_len 0 n)) (sym count)
 
   request_load_same : (request : RequestPlan) (period : ℕ)
-      → request_load timing plan.units.items stays request period ≡ request_load timing plan.units.items other request period
-  request_load_same request period = rw (asking_same least_by request, asking_same greatest_by request) refl
+      → request_load timing units stays request period ≡ request_load timing boxes other request period
+  request_load_same request period =
+      rw (
+        asking_same (least_address stays) (least_address other) least_same request,
+        asking_same (greatest_address stays) (greatest_address other) greatest_same request,
+        any_same request.sender,
+      ) refl
 
   request_same : (request : RequestPlan) (period : Option ℕ)
-      → option_map (request_load timing plan.units.items stays request) period
-      ≡ option_map (request_load timing plan.units.items other request) period
+      → option_map (request_load timing units stays request) period ≡ option_map (request_load timing boxes other request) period
   request_same request None = refl
   request_same request (Some period) = ap Some (request_load_same request period)
 
   requests_same : (requests : List RequestPlan)
-      → map (load_of_request timing plan.units.items stays) requests ≡ map (load_of_request timing plan.units.items other) requests
+      → map (load_of_request timing units stays) requests ≡ map (load_of_request timing boxes other) requests
   requests_same [] = refl
   requests_same (request ∷ requests) =
-      ap (λ (x : Option RequestLoad). x ∷ map (load_of_request timing plan.units.items stays) requests) (request_same request request.period)
-      ∙ ap (λ (xs : List (Option RequestLoad)). load_of_request timing plan.units.items other request ∷ xs) (requests_same requests)
+      ap (λ (x : Option RequestLoad). x ∷ map (load_of_request timing units stays) requests) (request_same request request.period)
+      ∙ ap (λ (xs : List (Option RequestLoad)). load_of_request timing boxes other request ∷ xs) (requests_same requests)
 
-  pub same_asked : asked_of timing plan stays ≡ asked_of timing plan other
-  same_asked =
+-- two plans whose units are alike, place by place, ask the same
+module _ (plan vehicle : Plan) (timing : Timing) (stays other : UnitPlan → Bool)
+    (both : (v : ℕ) → AreBoth (AreSeenAlike stays other) (slice_get plan.units.items v) (slice_get vehicle.units.items v))
+    (count : length vehicle.units.items ≡ length plan.units.items) (groups : vehicle.groups.items ≡ plan.groups.items)
+    (flows : vehicle.flows.items ≡ plan.flows.items) (requests : vehicle.requests.items ≡ plan.requests.items) where
+  flow_same : (flow : FlowPlan) (pace : Option Pace) (group : Option GroupPlan) → flow.pace ≡ pace → slice_get plan.groups.items flow.group ≡ group
+      → load_of_flow timing plan stays flow ≡ load_of_flow timing vehicle other flow
+  flow_same flow None group paced is = rw paced refl
+  flow_same flow (Some pace) None paced is = rw (groups, paced, is) refl
+  flow_same flow (Some pace) (Some group) paced is =
+      rw (groups, paced, is) (ap Some (load_same timing stays other plan.units.items vehicle.units.items count both flow pace group))
+
+  loads_same : (list : List FlowPlan) → map (load_of_flow timing plan stays) list ≡ map (load_of_flow timing vehicle other) list
+  loads_same [] = refl
+  loads_same (flow ∷ list) =
+      ap (λ (x : Option FlowLoad). x ∷ map (load_of_flow timing plan stays) list) (flow_same flow flow.pace (slice_get plan.groups.items flow.group) refl refl)
+      ∙ ap (λ (xs : List (Option FlowLoad)). load_of_flow timing vehicle other flow ∷ xs) (loads_same list)
+
+  one_load : loads_of timing plan stays ≡ loads_of timing vehicle other
+  one_load = loads_same plan.flows.items ∙ sym (ap (map (load_of_flow timing vehicle other)) flows)
+
+  one_request_load : request_loads_of timing plan stays ≡ request_loads_of timing vehicle other
+  one_request_load =
+      requests_same timing stays other plan.units.items vehicle.units.items count both plan.requests.items
+      ∙ sym (ap (map (load_of_request timing vehicle.units.items other)) requests)
+
+  pub asked_alike : asked_of timing plan stays ≡ asked_of timing vehicle other
+  asked_alike =
       ap (λ (loads : List (Option FlowLoad)).
       asked_by loads (unit_loads_of timing plan.units.items stays loads) (request_loads_of timing plan stays)) one_load
-      ∙ ap (λ (units : List (Option UnitLoad)). asked_by (loads_of timing plan other) units (request_loads_of timing plan stays))
-      (unit_loads_same (loads_of timing plan other))
-      ∙ ap (λ (requests : List (Option RequestLoad)).
-      asked_by (loads_of timing plan other) (unit_loads_of timing plan.units.items other (loads_of timing plan other)) requests)
-      (requests_same plan.requests.items)
+      ∙ ap (λ (units : List (Option UnitLoad)). asked_by (loads_of timing vehicle other) units (request_loads_of timing plan stays))
+      (unit_loads_same timing stays other plan.units.items vehicle.units.items count both (loads_of timing vehicle other))
+      ∙ ap (λ (asking : List (Option RequestLoad)).
+      asked_by (loads_of timing vehicle other) (unit_loads_of timing vehicle.units.items other (loads_of timing vehicle other)) asking)
+      one_request_load
+
+-- who stays is told in one way, and so is what a plan asks
+module _ (plan : Plan) (timing : Timing) (stays other : UnitPlan → Bool) (tells : TellsWhoStays plan stays) (tell : TellsWhoStays plan other) where
+  seen : (v : ℕ) → AreBoth (AreSeenAlike stays other) (slice_get plan.units.items v) (slice_get plan.units.items v)
+  seen v = go (slice_get plan.units.items v) refl where
+    go : (o : Option UnitPlan) → slice_get plan.units.items v ≡ o → AreBoth (AreSeenAlike stays other) o o
+    go None at = tt
+    go (Some unit) at = record {
+      address = refl;
+      choice = refl;
+      window = refl;
+      queue = refl;
+      standing = told_once (other unit) (stays unit) _ (tell v unit at) (tells v unit at);
+    }
+
+  pub same_asked : asked_of timing plan stays ≡ asked_of timing plan other
+  same_asked = asked_alike plan plan timing stays other seen refl refl refl refl
 
 -- ---- delays
 

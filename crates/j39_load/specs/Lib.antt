@@ -19,4 +19,5 @@ pub mod Standing
 pub mod ToldBytes
 pub mod Twins
 pub mod ValuesInTime
+pub mod VehicleLoads
 pub mod inside

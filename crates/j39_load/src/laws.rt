@@ -2,6 +2,8 @@
 ghost use Rattle.std.specs.Prelude.{◌≡◌, ◌≢◌, ℕ, ◌<◌, ◌≤◌, List, [], length, Bool, Option, Some};
 ghost use Rattle.std.specs.List.{slice_get};
 ghost use Rattle.j39_findings.specs.Findings.{Clean};
+ghost use Rattle.j39_findings.specs.Kinds.{AreToldApart};
+ghost use Rattle.j39_findings.specs.VehiclePlans.{IsVehicleOf};
 ghost use Rattle.j39_findings.specs.declared.plan.Plan.{Plan as Plans};
 ghost use Rattle.j39_findings.specs.declared.plan.flow_plan.FlowPlan.{FlowPlan as PlannedFlows};
 ghost use Rattle.j39_findings.specs.declared.plan.group_plan.GroupPlan.{GroupPlan as PlannedGroups};
@@ -25,6 +27,7 @@ ghost use Rattle.j39_load.specs.RequestLoads.{request_ident};
 ghost use Rattle.j39_load.specs.Standing.{TellsWhoStays};
 ghost use Rattle.j39_load.specs.ToldBytes.{IsToldOf, LeaveSelector};
 ghost use Rattle.j39_load.specs.ValuesInTime.{AreValuesInTime};
+ghost use Rattle.j39_load.specs.VehicleLoads.{AreLoadsAlike};
 ghost use Rattle.j39_timing.specs.AnyOrder.{Controllers, IsLegalInAnyOrder};
 ghost use Rattle.j39_timing.specs.Errors.{Damaged, IsLegalWithErrors, with_errors};
 ghost use Rattle.j39_timing.specs.TimedFrames.{IsLegal, Schedule};
@@ -143,4 +146,10 @@ pub fn short_flows_have_different_identifiers()
     ensures requests { (plan : Plans) → Clean plan → (on : ℕ → Bool) (held : ℕ → ℕ) → AreHeldApart on held
         → (f : ℕ) (flow : PlannedFlows) (group : PlannedGroups) → IsShortFlow plan on f flow group
         → (request : PlannedRequests) → IsAskedBetween on request → group_ident held group flow ≢ request_ident held request }
+{}
+
+/// The plan of each vehicle asks the same of its bus, and the same is wrong with it, whatever the serial numbers of its boxes are, where no two
+/// units of the plan may be one.
+pub fn serial_numbers_change_no_load()
+    ensures { (plan vehicle : Plans) → IsVehicleOf plan vehicle → AreToldApart plan → AreLoadsAlike plan vehicle }
 {}

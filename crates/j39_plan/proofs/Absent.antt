@@ -13,7 +13,7 @@ use Rattle.j39_plan.specs.Words.{word_of}
 use Rattle.j39_plan.specs.Outcome.{first}
 use Rattle.j39_plan.specs.TableFaults.{is_key_word, has_only, unknown_faults}
 use Rattle.j39_plan.specs.Elements.{inside, each_faults, Each}
-use Rattle.j39_plan.specs.FlowTables.{has_key}
+use Rattle.j39_plan.specs.Schema.{has_key}
 use Rattle.j39_plan.specs.Versions.{Lacks, EachTable}
 
 -- ---- keys

@@ -10,10 +10,10 @@ use Rattle.j39_plan.specs.declared.reading.key.Key.TheVariants as key
 use Rattle.j39_plan.specs.declared.reading.place.Table.{Table}
 use Rattle.j39_plan.specs.declared.reading.place.Table.TheVariants as at
 use Rattle.j39_plan.specs.Words.{word_of}
-use Rattle.j39_plan.specs.Schema.{bitrate_of_bus, natural, standing, number_of, given_number, flag_of, table_of}
+use Rattle.j39_plan.specs.Schema.{has_key, bitrate_of_bus, natural, standing, number_of, given_number, flag_of, table_of}
 use Rattle.j39_plan.specs.TableFaults.{is_bitrate, standing_cause, key_faults, table_faults, is_key_word}
 use Rattle.j39_plan.specs.Elements.{inside}
-use Rattle.j39_plan.specs.FlowTables.{has_key, period_rule, given_period, jitter_rule, jitter_most, jitter_of, pause_rule, on_request_rule, on_request_of, flow_rules, flow_table_faults, flow_faults, IsFlowOf}
+use Rattle.j39_plan.specs.FlowTables.{period_rule, given_period, jitter_rule, jitter_most, jitter_of, pause_rule, on_request_rule, on_request_of, flow_rules, flow_table_faults, flow_faults, IsFlowOf}
 use Rattle.j39_plan.specs.TimingTables.{bitrate_of, TellsErrors, bitrate_rule, unplanned_priority_rule, transport_priority_rule, gap_rule, gap_most_rule, errors_rule, timing_table_faults, errors_table, TellsBus}
 use Rattle.j39_plan.specs.Versions.{fourth_bus_keys, fourth_flow_keys, IsThirdBus, IsThirdFlow}
 use Rattle.j39_plan.proofs.Absent.{lacked, IsNone, only_same, Alike, alike_both, alike_unknown, alike_inside}

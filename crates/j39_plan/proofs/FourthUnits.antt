@@ -1,7 +1,9 @@
 -- A unit of version 4 in whose table nothing stands that it alone knows is one of version 3.
-use Rattle.std.proofs.Common.{◌≡◌, ℕ, true, false, arith, List, [], ◌∷◌, None, refl, sym, ◌∙◌}
+use Rattle.std.proofs.Common.{◌≡◌, ℕ, true, false, arith, List, [], ◌∷◌, Option, None, Some, is_some, unwrap_or, IfSome, refl, sym, ap, ◌∙◌}
 use Rattle.std.specs.Option.{option_map_or}
-use Rattle.toml.specs.Data.{Data, Members, get_member, as_table}
+use Rattle.std.proofs.lemmas.Bool.{false≢true}
+use Rattle.toml.specs.Data.{Data, Members, no_members, get_member, as_table}
+use Rattle.j39_id.specs.Name.{name_number}
 use Rattle.j39_findings.specs.declared.plan.queue.Queue.TheVariants.{Priority}
 use Rattle.j39_findings.specs.declared.plan.unit_plan.UnitPlan.{UnitPlan}
 use Rattle.j39_plan.specs.declared.reading.key.Key.{Key}
@@ -10,18 +12,19 @@ use Rattle.j39_plan.specs.declared.reading.place.Table.{Table}
 use Rattle.j39_plan.specs.declared.reading.place.Table.TheVariants as at
 use Rattle.j39_plan.specs.declared.reading.text_kind.TextKind.TheVariants as texts
 use Rattle.j39_plan.specs.Words.{word_of}
-use Rattle.j39_plan.specs.Schema.{flag_of, text_of}
+use Rattle.j39_plan.specs.Schema.{flag_of, has_key, number_of, table_of, text_of}
 use Rattle.j39_plan.specs.TableFaults.{key_faults, table_faults, table_only_faults, is_key_word}
 use Rattle.j39_plan.specs.Elements.{inside, repeated_faults}
+use Rattle.j39_plan.specs.UnitTables.{any_identity_of, lacks_identity, name_faults, name_fields_of, name_of, name_rule}
 use Rattle.j39_plan.specs.UnitTables.{claims_rule, claims_of, queue_rule, queue_of, unit_rules, unit_label_in, unit_table_faults, unit_faults, IsUnitOf}
 use Rattle.j39_plan.specs.Versions.{IsThirdUnit}
 use Rattle.j39_plan.proofs.Absent.{lacked, IsNone, only_same, Alike, alike_both, alike_between, alike_unknown, alike_inside}
 
 no_claims : (ms : Members) → IsThirdUnit ms → get_member (word_of key.Claims) ms ≡ None
-no_claims ms lacks = lacked key.Claims ms (lacks 1 key.Claims (omega arith))
+no_claims ms lacks = lacked key.Claims ms (lacks.keys 1 key.Claims (omega arith))
 
 no_queue : (ms : Members) → IsThirdUnit ms → get_member (word_of key.Queue) ms ≡ None
-no_queue ms lacks = lacked key.Queue ms (lacks 0 key.Queue (omega arith))
+no_queue ms lacks = lacked key.Queue ms (lacks.keys 0 key.Queue (omega arith))
 
 -- the keys of a unit in the third version, and in the fourth
 abbrev older_keys : List Key
@@ -43,7 +46,7 @@ queue_unfaulted at ms lacks = rw (no_queue ms lacks)
 
 unit_keys_alike : (at : Table) (ms : Members) → IsThirdUnit ms → Alike (table_faults at (unit_rules true) ms) (table_faults at (unit_rules false) ms)
 unit_keys_alike at ms lacks =
-    alike_both _ _ _ _ (alike_unknown at _ _ ms ms (only_same later_keys older_keys (key.Queue ∷ key.Claims ∷ []) unit_words ms lacks))
+    alike_both _ _ _ _ (alike_unknown at _ _ ms ms (only_same later_keys older_keys (key.Queue ∷ key.Claims ∷ []) unit_words ms lacks.keys))
     (rw (queue_unfaulted at ms lacks, claims_unfaulted at ms lacks) refl)
 
 claims_is : (ms : Members) → IsThirdUnit ms → claims_of true ms ≡ true
@@ -54,6 +57,49 @@ queue_is : (ms : Members) → IsThirdUnit ms → queue_of true ms ≡ Priority
 unfolding text_of
 queue_is ms lacks = rw (no_queue ms lacks)
 
+-- a NAME with an identity number has the same faults and the same fields in both
+has_number : (ms : Members) → has_key key.Identity ms ≡ true → (d : Data) × (get_member (word_of key.Identity) ms ≡ Some d)
+unfolding has_key
+has_number ms has = go (get_member (word_of key.Identity) ms) refl has where
+  go : (o : Option Data) → get_member (word_of key.Identity) ms ≡ o → is_some o ≡ true → (d : Data) × (get_member (word_of key.Identity) ms ≡ Some d)
+  go None is e = absurd (false≢true e)
+  go (Some d) is e = (d, is)
+
+name_faults_same : (i : ℕ) (ms : Members) → has_key key.Identity ms ≡ true → name_faults true i ms ≡ name_faults false i ms
+unfolding name_faults key_faults
+name_faults_same i ms has = rw ((has_number ms has).1) refl
+
+name_fields_same : (ms : Members) → has_key key.Identity ms ≡ true → name_fields_of true ms ≡ name_fields_of false ms
+unfolding name_fields_of number_of
+name_fields_same ms has = rw ((has_number ms has).1) refl
+
+no_name_same : name_fields_of true no_members ≡ name_fields_of false no_members
+unfolding name_fields_of number_of
+no_name_same = refl
+
+names_same : (i : ℕ) (found : Option Members) → IfSome found (λ inner. has_key key.Identity inner ≡ true)
+    → (option_map_or (name_faults true i) found [] ≡ option_map_or (name_faults false i) found [])
+    × (name_fields_of true (unwrap_or found no_members) ≡ name_fields_of false (unwrap_or found no_members))
+    × (option_map_or (lacks_identity true) found false ≡ false)
+names_same i None has = (refl, no_name_same, refl)
+names_same i (Some ms) has = (name_faults_same i ms has, name_fields_same ms has, rw has refl)
+
+none_lack : (found : Option Members) → option_map_or (lacks_identity false) found false ≡ false
+none_lack None = refl
+none_lack (Some ms) = refl
+
+names_of : (i : ℕ) (ms : Members) → IsThirdUnit ms
+    → (option_map_or (name_faults true i) (table_of name_rule ms) [] ≡ option_map_or (name_faults false i) (table_of name_rule ms) [])
+    × (name_fields_of true (unwrap_or (table_of name_rule ms) no_members) ≡ name_fields_of false (unwrap_or (table_of name_rule ms) no_members))
+    × (any_identity_of true ms ≡ false)
+names_of i ms third = names_same i (table_of name_rule ms) third.number
+
+name_is : (ms : Members) → IsThirdUnit ms → name_of true ms ≡ name_of false ms
+name_is ms third = ap name_number (names_of 0 ms third).1
+
+number_is : (ms : Members) → IsThirdUnit ms → any_identity_of true ms ≡ any_identity_of false ms
+number_is ms third = (names_of 0 ms third).2 ∙ sym (none_lack (table_of name_rule ms))
+
 pub unit_alike : (i : ℕ) (seen : List (List ℕ)) (d : Data) → IsThirdUnit (inside d) → Alike (unit_faults true i seen d) (unit_faults false i seen d)
 unfolding unit_faults unit_table_faults
 unit_alike i seen d lacks =
@@ -62,7 +108,7 @@ unit_alike i seen d lacks =
     alike_between (table_only_faults (at.Unit i) d) (option_map_or fourth (as_table d) []) (option_map_or third (as_table d) [])
     (repeated_faults (at.Unit i) texts.UnitLabel seen (unit_label_in d))
     (alike_inside fourth third d
-    (alike_both _ _ _ _ (unit_keys_alike (at.Unit i) (inside d) lacks) (rw (claims_is (inside d) lacks) refl)))
+    (alike_both _ _ _ _ (unit_keys_alike (at.Unit i) (inside d) lacks) (rw ((names_of i (inside d) lacks).0, claims_is (inside d) lacks, name_is (inside d) lacks) refl)))
 
 pub third_unit : (d : Data) (u : UnitPlan) → IsThirdUnit (inside d) → IsUnitOf true d u → IsUnitOf false d u
 third_unit d u lacks told = record {
@@ -70,7 +116,8 @@ third_unit d u lacks told = record {
   has_address = told.has_address;
   has_way = told.has_way;
   has_window = told.has_window;
-  has_name = told.has_name;
+  has_name = told.has_name ∙ name_is (inside d) lacks;
+  has_number = told.has_number ∙ number_is (inside d) lacks;
   has_queue = told.has_queue ∙ queue_is (inside d) lacks;
   has_claims = told.has_claims ∙ claims_is (inside d) lacks;
 }
@@ -81,7 +128,8 @@ fourth_unit d u lacks told = record {
   has_address = told.has_address;
   has_way = told.has_way;
   has_window = told.has_window;
-  has_name = told.has_name;
+  has_name = told.has_name ∙ sym (name_is (inside d) lacks);
+  has_number = told.has_number ∙ sym (number_is (inside d) lacks);
   has_queue = told.has_queue ∙ sym (queue_is (inside d) lacks);
   has_claims = told.has_claims ∙ sym (claims_is (inside d) lacks);
 }

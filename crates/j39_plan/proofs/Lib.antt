@@ -13,6 +13,7 @@ pub mod NeedSignals
 pub mod NoFaults
 pub mod Numbers
 pub mod OneAnswer
+pub mod OpenNumbers
 pub mod OtherVersion
 pub mod ReadAlike
 pub mod ReadGroups

@@ -53,6 +53,7 @@ one_unit fourth d u v a b = record {
   labels = a.has_label ∙ sym b.has_label;
   addresses = a.has_address ∙ sym b.has_address;
   names = a.has_name ∙ sym b.has_name;
+  numbers = a.has_number ∙ sym b.has_number;
   ways = a.has_way ∙ sym b.has_way;
   windows = a.has_window ∙ sym b.has_window;
   queues = a.has_queue ∙ sym b.has_queue;

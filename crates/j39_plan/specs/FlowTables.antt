@@ -4,7 +4,7 @@ use Rattle.std.specs.Prelude.{◌≡◌, ℕ, ◌-◌, List, [], ◌∷◌, ◌+
 use Rattle.std.specs.Prelude.{Some, None, IfSome, option_map, option_and_then, codes, is_some, position}
 use Rattle.std.specs.Str.{bytes_eq}
 use Rattle.std.specs.Option.{option_map_or}
-use Rattle.toml.specs.Data.{Data, Members, get_member, as_table}
+use Rattle.toml.specs.Data.{Data, Members, as_table}
 use Rattle.j39_findings.specs.declared.plan.to.To.{To}
 use Rattle.j39_findings.specs.declared.plan.to.To.TheVariants.{All, One}
 use Rattle.j39_findings.specs.declared.plan.flow_plan.FlowPlan.{FlowPlan}
@@ -16,8 +16,7 @@ use Rattle.j39_plan.specs.declared.reading.place.Table.{Table}
 use Rattle.j39_plan.specs.declared.reading.place.Table.TheVariants as at
 use Rattle.j39_plan.specs.declared.reading.fault.Fault.{Fault}
 use Rattle.j39_plan.specs.declared.reading.text_kind.TextKind.TheVariants as texts
-use Rattle.j39_plan.specs.Schema.{Rule, text, number, optional, flag, found_text, number_of, given_number, flag_of}
-use Rattle.j39_plan.specs.Words.{word_of}
+use Rattle.j39_plan.specs.Schema.{Rule, has_key, text, number, optional, flag, found_text, number_of, given_number, flag_of}
 use Rattle.j39_plan.specs.TableFaults.{table_faults, table_only_faults, fault}
 use Rattle.j39_plan.specs.Elements.{inside}
 
@@ -34,10 +33,6 @@ to_rule = text key.To texts.Any None
 abbrev pub period_of : Bool → Rule
 period_of true = number key.Period 1 65535 None
 period_of false = optional key.Period 1 65535
-
--- something stands in the table at this key
-unfoldable pub has_key : Key → Members → Bool
-has_key k ms = is_some (get_member (word_of k) ms)
 
 -- a deadline asks for a period, and so does a jitter in a version that knows it
 abbrev pub asks_for_period : Bool → Members → Bool

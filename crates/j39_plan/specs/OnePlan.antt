@@ -26,6 +26,7 @@ pub record AreOneUnit (u v : UnitPlan) : Type 0 where
   pub labels : u.label.bytes ≡ v.label.bytes
   pub addresses : u.address ≡ v.address
   pub names : u.name ≡ v.name
+  pub numbers : u.any_identity ≡ v.any_identity
   pub ways : u.way ≡ v.way
   pub windows : u.window ≡ v.window
   pub queues : u.queue ≡ v.queue

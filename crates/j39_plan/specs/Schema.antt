@@ -1,6 +1,6 @@
 -- What a table asks of its keys: one list of rules, from which both its faults and its values are read.
 use Rattle.std.specs.Prelude.{ℕ, ℤ, pos, negsuc, suc, List, [], ◌∷◌, Bool, false}
-use Rattle.std.specs.Prelude.{if◌then◌else◌, Option, Some, None, option_map, option_and_then, unwrap_or, nat_le}
+use Rattle.std.specs.Prelude.{if◌then◌else◌, Option, Some, None, is_some, option_map, option_and_then, unwrap_or, nat_le}
 use Rattle.std.specs.FinSet.{FinSet, from_list}
 use Rattle.std.specs.Option.{option_or}
 use Rattle.std.specs.Ordering.{nat_cmp}
@@ -83,6 +83,10 @@ abbrev pub optional : Key → ℕ → ℕ → Rule
 optional k low high = record { key = k; kind = given_integer_in (pos low) (pos high); default = None }
 
 -- ---- values
+
+-- something stands in the table at this key
+unfoldable pub has_key : Key → Members → Bool
+has_key k ms = is_some (get_member (word_of k) ms)
 
 -- what stands at a key
 abbrev pub standing : Rule → Members → Option Data

@@ -1,5 +1,5 @@
 -- The tables of units, and of their NAMEs (SAE J1939-81, NAME fields). The fourth version knows units whose controllers keep no order,
--- and units that never claim.
+-- units that never claim, and units of any serial number.
 use Rattle.std.specs.Prelude.{◌≡◌, ℕ, List, [], ◌∷◌, ◌++◌, Bool, true, false, not, ◌&&◌, if◌then◌else◌, Some, None, unwrap_or, codes}
 use Rattle.std.specs.Str.{bytes_eq}
 use Rattle.std.specs.Option.{option_map_or}
@@ -16,14 +16,19 @@ use Rattle.j39_plan.specs.declared.reading.key.Key.TheVariants as key
 use Rattle.j39_plan.specs.declared.reading.place.Table.TheVariants as at
 use Rattle.j39_plan.specs.declared.reading.fault.Fault.{Fault}
 use Rattle.j39_plan.specs.declared.reading.text_kind.TextKind.TheVariants as texts
-use Rattle.j39_plan.specs.Schema.{Rule, number, flag, text, inner_table, number_of, flag_of, text_of, table_of}
+use Rattle.j39_plan.specs.Schema.{Rule, has_key, number, flag, text, inner_table, number_of, flag_of, text_of, table_of}
 use Rattle.j39_plan.specs.TableFaults.{table_faults, table_only_faults, fault}
 use Rattle.j39_plan.specs.Elements.{inside, repeated_faults}
 
 -- ---- the NAME
 
-abbrev pub identity_rule : Rule
-identity_rule = number key.Identity 0 2097151 None
+-- the identity number is each box's own: in the fourth version a plan may leave it open, and then it counts as 0
+abbrev pub identity_rule : Bool → Rule
+identity_rule true = number key.Identity 0 2097151 (Some 0)
+identity_rule false = number key.Identity 0 2097151 None
+
+abbrev pub lacks_identity : Bool → Members → Bool
+lacks_identity fourth ms = fourth && not (has_key key.Identity ms)
 
 abbrev pub manufacturer_rule : Rule
 manufacturer_rule = number key.Manufacturer 0 2047 (Some 0)
@@ -49,14 +54,14 @@ industry_rule = number key.Industry 0 7 (Some 0)
 abbrev pub arbitrary_rule : Rule
 arbitrary_rule = flag key.Arbitrary false
 
-abbrev pub name_rules : List Rule
-name_rules = identity_rule ∷ manufacturer_rule ∷ ecu_rule ∷ function_instance_rule ∷ function_rule
+abbrev pub name_rules : Bool → List Rule
+name_rules fourth = identity_rule fourth ∷ manufacturer_rule ∷ ecu_rule ∷ function_instance_rule ∷ function_rule
     ∷ system_rule ∷ system_instance_rule ∷ industry_rule ∷ arbitrary_rule ∷ []
 
 -- the fields that a table tells; the reserved bit of a planned NAME is 0
-unfoldable pub name_fields_of : Members → NameFields
-name_fields_of ms = record {
-  identity = number_of identity_rule ms;
+unfoldable pub name_fields_of : Bool → Members → NameFields
+name_fields_of fourth ms = record {
+  identity = number_of (identity_rule fourth) ms;
   manufacturer = number_of manufacturer_rule ms;
   ecu = number_of ecu_rule ms;
   function_instance = number_of function_instance_rule ms;
@@ -68,8 +73,8 @@ name_fields_of ms = record {
   arbitrary = if flag_of arbitrary_rule ms then 1 else 0;
 }
 
-unfoldable pub name_faults : ℕ → Members → List Fault
-name_faults i = table_faults (at.UnitName i) name_rules
+unfoldable pub name_faults : Bool → ℕ → Members → List Fault
+name_faults fourth i = table_faults (at.UnitName i) (name_rules fourth)
 
 -- ---- the unit
 
@@ -125,8 +130,12 @@ claims_of true ms = flag_of claims_rule ms
 claims_of false ms = true
 
 -- the NAME that the inner table tells
-abbrev pub name_of : Members → ℕ
-name_of ms = name_number (name_fields_of (unwrap_or (table_of name_rule ms) no_members))
+abbrev pub name_of : Bool → Members → ℕ
+name_of fourth ms = name_number (name_fields_of fourth (unwrap_or (table_of name_rule ms) no_members))
+
+-- a unit whose NAME has no identity number is of any
+abbrev pub any_identity_of : Bool → Members → Bool
+any_identity_of fourth ms = option_map_or (lacks_identity fourth) (table_of name_rule ms) false
 
 -- the unit that a table tells
 pub record TellsUnit (fourth : Bool) (ms : Members) (u : UnitPlan) : Type 0 where
@@ -134,7 +143,8 @@ pub record TellsUnit (fourth : Bool) (ms : Members) (u : UnitPlan) : Type 0 wher
   pub has_address : u.address ≡ number_of address_rule ms
   pub has_way : u.way ≡ way_of (text_of chooser_rule ms)
   pub has_window : u.window ≡ number_of window_rule ms
-  pub has_name : u.name ≡ name_of ms
+  pub has_name : u.name ≡ name_of fourth ms
+  pub has_number : u.any_identity ≡ any_identity_of fourth ms
   pub has_queue : u.queue ≡ queue_of fourth ms
   pub has_claims : u.claims ≡ claims_of fourth ms
 
@@ -150,8 +160,8 @@ silent_faults i claims name = if not claims && is_arbitrary name then fault Rang
 
 unfoldable pub unit_table_faults : Bool → ℕ → Members → List Fault
 unit_table_faults fourth i ms = table_faults (at.Unit i) (unit_rules fourth) ms
-    ++ (option_map_or (name_faults i) (table_of name_rule ms) []
-    ++ silent_faults i (claims_of fourth ms) (name_of ms))
+    ++ (option_map_or (name_faults fourth i) (table_of name_rule ms) []
+    ++ silent_faults i (claims_of fourth ms) (name_of fourth ms))
 
 -- the faults of the i-th unit, behind those with the labels seen
 unfoldable pub unit_faults : Bool → ℕ → List (List ℕ) → Data → List Fault

@@ -7,12 +7,12 @@ use Rattle.j39_plan.specs.declared.reading.plan_error.PlanError.{PlanError}
 use Rattle.j39_plan.specs.declared.reading.key.Key.{Key}
 use Rattle.j39_plan.specs.declared.reading.key.Key.TheVariants as key
 use Rattle.j39_plan.specs.Words.{word_of}
-use Rattle.j39_plan.specs.Schema.{number_of, text_of, table_of, tables_of}
+use Rattle.j39_plan.specs.Schema.{has_key, number_of, text_of, table_of, tables_of}
 use Rattle.j39_plan.specs.Elements.{inside}
 use Rattle.j39_plan.specs.SignalTables.{kind_rule}
 use Rattle.j39_plan.specs.GroupTables.{signal_rule}
-use Rattle.j39_plan.specs.FlowTables.{has_key}
 use Rattle.j39_plan.specs.TimingTables.{bitrate_rule}
+use Rattle.j39_plan.specs.UnitTables.{name_rule}
 use Rattle.j39_plan.specs.PlanFaults.{version_rule, timing_rule, units_rule, groups_rule, flows_rule}
 use Rattle.j39_plan.specs.Described.{Reads}
 
@@ -45,9 +45,10 @@ pub record IsThirdBus (ms : Members) : Type 0 where
   pub not_slowest : number_of (bitrate_rule true) ms ≢ 125000
   pub not_fastest : number_of (bitrate_rule true) ms ≢ 1000000
 
--- nor in the table of a unit
-abbrev pub IsThirdUnit : Members → Type 0
-IsThirdUnit = Lacks (key.Queue ∷ key.Claims ∷ [])
+-- nor in the table of a unit, whose NAME has an identity number
+pub record IsThirdUnit (ms : Members) : Type 0 where
+  pub keys : Lacks (key.Queue ∷ key.Claims ∷ []) ms
+  pub number : IfSome (table_of name_rule ms) (λ inner. has_key key.Identity inner ≡ true)
 
 -- nor in that of a signal
 abbrev pub IsThirdSignal : Members → Type 0

@@ -84,8 +84,8 @@ no_time (f ∷ frames) (y ∷ before) x behind e =
 -- so nothing is contested, and who is told to be behind an address stands there
 stands : (plan : Plan) (frames : List Frame) (a : ℕ) (who : Who) → IsTaken plan (untimed frames) a who → IsWho plan frames a who
 stands plan frames a who (inl (c, contested, is)) =
-    let (before, x, row, time) = contested.now_is in
-    absurd (none_some contested.now (sym (no_time frames before x [] row) ∙ time))
+    let (before, x, row, time) = contested.time_is in
+    absurd (none_some contested.runs.now (sym (no_time frames before x [] row) ∙ time ∙ contested.runs.now_is))
 stands plan frames a who (inr (calm, is)) = subst (λ (fs : List Frame). IsWho plan fs a who) (frames_untimed frames) is
 
 unit_there : (plan : Plan) (frames : List Frame) (a u : ℕ) (who : Who) → IsWho plan frames a (Holder u) → IsTaken plan (untimed frames) a who

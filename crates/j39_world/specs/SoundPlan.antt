@@ -6,6 +6,7 @@ use Rattle.std.specs.Prelude.{◌≡◌, ℕ, ◌<◌, false, List, length, Some
 use Rattle.j39_findings.specs.Needs.{AreNeedsMet}
 use Rattle.j39_findings.specs.PlannedRequests.{AreAnsweredWell, AreRequestsServed}
 use Rattle.j39_findings.specs.SoundSignals.{SoundSignals}
+use Rattle.j39_findings.specs.VehiclePlans.{IsVehicleOf}
 use Rattle.j39_findings.specs.declared.plan.Plan.{Plan}
 use Rattle.j39_findings.specs.declared.plan.unit_plan.UnitPlan.{UnitPlan}
 use Rattle.j39_findings.specs.declared.steps.Step.{Step}
@@ -76,3 +77,7 @@ pub record IsSound (plan : Plan) : Type 0 where
   pub needs : AreNeedsMet plan
   -- and a message of it of which nothing is lost is reported once by this unit, and its signals read there what they were last given
   pub needed : Always plan (NeededValuesArrive plan)
+
+-- and so is the plan of each vehicle, whatever the serial numbers of its boxes are
+abbrev pub AreVehiclesSound : Plan → Type 0
+AreVehiclesSound plan = (vehicle : Plan) → IsVehicleOf plan vehicle → IsSound vehicle

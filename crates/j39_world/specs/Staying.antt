@@ -1,6 +1,6 @@
 -- Where units stand: which of them hold their planned addresses, whatever the others do (SAE J1939-81, address claim procedures). Units
 -- are named by place.
-use Rattle.std.specs.Prelude.{◌≡◌, ◌≢◌, ℕ, ◌<◌, ◌≤◌, true, false, ◌⊎◌, List, length, Some}
+use Rattle.std.specs.Prelude.{◌≡◌, ◌≢◌, ℕ, ◌<◌, ◌≤◌, ◌↔◌, true, false, ◌⊎◌, List, length, Some}
 use Rattle.std.specs.FinSet.{FinSet, contains}
 use Rattle.std.specs.Ordering.{nat_cmp}
 use Rattle.j39_id.specs.Addresses.{in_pool}
@@ -68,6 +68,12 @@ pub record IsAloneThere (keep_free : FinSet nat_cmp) (units : List PlannedUnit) 
   pub planned : EachOther units u (λ v. (unit_at units v).preferred ≢ (unit_at units u).preferred)
   pub unreached : IsOutsidePool units u ⊎ ((contains keep_free (unit_at units u).preferred ≡ true)
       ⊎ EachOther units u (λ v. is_arbitrary (unit_at units v).name ≡ true → Stays units v))
+
+-- the same units stay in both lists, also beside as many strangers, and the same are alone
+pub record StayAlike (keep_free : FinSet nat_cmp) (strangers : ℕ) (units others : List PlannedUnit) : Type 0 where
+  pub stay : (u : ℕ) → Stays units u ↔ Stays others u
+  pub beside : (u : ℕ) → StaysBeside strangers units u ↔ StaysBeside strangers others u
+  pub alone : (u : ℕ) → IsAloneThere keep_free units u ↔ IsAloneThere keep_free others u
 
 -- the unit, while it is on, holds its planned address, and no other one that is on does
 pub record HoldsAlone (units : List PlannedUnit) (w : World) (u : ℕ) : Type 0 where

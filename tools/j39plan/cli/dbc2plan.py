@@ -56,7 +56,7 @@ def plan_of(given: argparse.Namespace, notes: Notes) -> Conversion:
     network = merge.load(given.files, Form(given.bus, given.kind, given.encoding), notes, given.version, known)
     give_senders(network.sent, addresses_of(network, Unsaid()), notes)
     sent = chosen(network.sent, given.sender, given.group)
-    plan = Conversion(network, notes, given.strict, given.version, not given.no_needs)
+    plan = Conversion(network, notes, given.strict, given.version, not given.no_needs, given.identity)
     plan.add_units()
     plan.add_frames(sent)
     if not plan.units and not plan.groups:
@@ -109,6 +109,7 @@ def options(words: list[str] | None) -> argparse.Namespace:
     parser.add_argument("--encoding", type=encoding, help="in which encoding the lines of DBC and SYM files are")
     parser.add_argument("--strict", action="store_true",
                         help="keep signals that lie outside of their group or over an earlier one, which check then finds")
+    parser.add_argument("--identity", action="store_true", help="keep the identity numbers of nodes, each of which is one box's own")
     parser.add_argument("--no-needs", action="store_true", help="leave out who needs what, which version 4 has by the receivers of signals")
     program.note_options(parser)
     return parser.parse_args(words)

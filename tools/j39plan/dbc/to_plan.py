@@ -6,7 +6,7 @@ import os
 from collections import defaultdict
 from collections.abc import Iterable, Iterator
 from dataclasses import dataclass, field
-from itertools import count, takewhile
+from itertools import takewhile
 from typing import TYPE_CHECKING, Any
 
 from j39plan.dbc.agreement import agree
@@ -16,6 +16,7 @@ from j39plan.dbc.names import (
     ADDRESS_ATTRIBUTE, ARBITRARY_ATTRIBUTE, EVERY_ATTRIBUTE, GROUP_ATTRIBUTE, IDENTITY_ATTRIBUTE, MOST_ATTRIBUTE, NAME_ATTRIBUTES, NOBODY,
     UNIT_ATTRIBUTE,
 )
+from j39plan.dbc.numbers import Box, numbers_of
 from j39plan.dbc.remarks import long, milliseconds, quoted, received_by, remark
 from j39plan.dbc.signals import BYTES, Signals
 from j39plan.dbc.times import Times, number_of, times_of
@@ -57,20 +58,10 @@ def shared(node: Node, attribute: str, most: int, notes: Notes) -> int | None:
     return number
 
 
-def has_identity(node: Node) -> bool:
-    """Whether a file gives a node an identity number that a NAME can have."""
-    number = number_of(node.given.get(IDENTITY_ATTRIBUTE[0]))
-    return number is not None and 0 <= number <= IDENTITY_ATTRIBUTE[1]
-
-
-def name_of(node: Node, free_identity: int | None, notes: Notes) -> dict[str, Any]:
-    """The NAME of a unit, as the keys of a plan; one without an identity number has the free one."""
-    identity = own(node, *IDENTITY_ATTRIBUTE, notes)
-    if identity is None:
-        identity = free_identity
-        notes.say(f"unit {node.name}", f"no identity number is given: {identity} stands in its place")
+def name_of(node: Node, notes: Notes) -> dict[str, Any]:
+    """The NAME of a unit without its identity number, as the keys of a plan."""
     fields = {key: shared(node, attribute, most, notes) for key, (attribute, most) in NAME_ATTRIBUTES.items()}
-    name: dict[str, Any] = {"identity": identity, **{key: number for key, number in fields.items() if number}}
+    name: dict[str, Any] = {key: number for key, number in fields.items() if number}
     if shared(node, ARBITRARY_ATTRIBUTE, 1, notes):
         name["arbitrary"] = True
     return name
@@ -200,8 +191,9 @@ class Flow:
 class Conversion:
     """A plan in the making."""
 
-    def __init__(self, network: Network, notes: Notes, strict: bool = False, version: int = WRITTEN[-1], with_needs: bool = True) -> None:
-        self.network, self.notes, self.strict, self.version = network, notes, strict, version
+    def __init__(self, network: Network, notes: Notes, strict: bool = False, version: int = WRITTEN[-1], with_needs: bool = True,
+                 keeps_numbers: bool = False) -> None:
+        self.network, self.notes, self.strict, self.version, self.keeps_numbers = network, notes, strict, version, keeps_numbers
         self.has_needs = with_needs and knows(version, (None, "need"))
         self.needs: dict[tuple[str, str], Table] = {}
         self.units: dict[str, Table] = {}
@@ -224,23 +216,18 @@ class Conversion:
     def add_units(self) -> None:
         """The units of the network that have an address."""
         addresses = addresses_of(self.network, self.notes)
-        identities = self.free_identities(addresses)
-        for name, address in addresses.items():
-            if len(self.units) == UNITS:
-                self.notes.say(f"unit {name}", f"a plan has at most {UNITS} units")
-            else:
-                self.add_unit(self.network.nodes[name], address, identities.get(name))
+        for name in list(addresses)[UNITS:]:
+            self.notes.say(f"unit {name}", f"a plan has at most {UNITS} units")
+        nodes = [(self.network.nodes[name], address) for name, address in list(addresses.items())[:UNITS]]
+        boxes = [Box(node.name, address, name_of(node, self.notes), own(node, *IDENTITY_ATTRIBUTE, self.notes)) for node, address in nodes]
+        numbers = numbers_of(boxes, self.keeps_numbers, self.version, self.notes)
+        for (node, address), box in zip(nodes, boxes, strict=True):
+            number = numbers.get(node.name)
+            self.add_unit(node, address, box.name if number is None else {"identity": number, **box.name})
 
-    def free_identities(self, addresses: dict[str, int]) -> dict[str, int]:
-        """An identity number for each node, in the order of their addresses, that no file gives to a node."""
-        given = {number_of(node.given.get(IDENTITY_ATTRIBUTE[0])) for node in self.network.nodes.values()}
-        free = (number for number in count(1) if number not in given)
-        without = [name for name in addresses if not has_identity(self.network.nodes[name])]
-        return dict(zip(sorted(without, key=lambda name: (addresses[name], name)), free))
-
-    def add_unit(self, node: Node, address: int, free_identity: int | None) -> None:
-        """A unit."""
-        name, wanted = name_of(node, free_identity, self.notes), plain(node.given.get(UNIT_ATTRIBUTE) or node.name or "")
+    def add_unit(self, node: Node, address: int, name: dict[str, Any]) -> None:
+        """A unit of this NAME."""
+        wanted = plain(node.given.get(UNIT_ATTRIBUTE) or node.name or "")
         label, long = self.unit_labels.label(wanted), plain(node.given.get("LongName") or node.name)
         if label != as_label(wanted):
             self.notes.say(f"unit {node.name}", f"it is called {label}: {as_label(wanted)} is {'a word of plans' if wanted == 'all' else 'another unit'}")

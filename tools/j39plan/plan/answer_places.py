@@ -15,6 +15,9 @@ from j39plan.plan.toml_places import Place
 # The key to look at, of each finding that names two units or two groups.
 PAIR_KEYS = {"F1": ("unit", "name"), "F2": ("unit", "address"), "F5": ("group", "pgn"), "F26": ("unit", "address")}
 
+# What units need that differ by their serial numbers alone, or not by them (SAE J1939-81).
+ALIKE = "give them different function_instance or ecu; or both their numbers: then the plan fits one vehicle"
+
 # The key to look at of each finding that names one flow, and what is to be known of it.
 FLOW_KEYS = {
     "F9": ("to", "a frame of this group goes to all"),
@@ -94,8 +97,11 @@ def of_two(plan: Source, line: Line) -> Told:
     """Line and hint of a finding about two units or groups: where the second stands."""
     kind, key = PAIR_KEYS[line.word("finding")]
     first, second = (plan.labelled((kind,), line.word(part)) for part in (kind, "other"))
+    at, there = plan.line(second + (key,)), f"{line.word(kind)} at line {plan.line(first + (key,))}"
+    if line.word("finding") == "F1" and any((*place, "name", "identity") not in plan.places.lines for place in (first, second)):
+        return at, f"nothing but serial numbers tells {there} from {line.word('other')}: {ALIKE}"
     told = told_apart(plan, first, second) if kind == "group" else ""
-    return plan.line(second + (key,)), f"key {key}: the same as of {line.word(kind)} at line {plan.line(first + (key,))}{told}"
+    return at, f"key {key}: the same as of {there}{told}"
 
 
 def of_flows(plan: Source, line: Line) -> Told:

@@ -59,6 +59,13 @@ def name_key(unit: Part) -> str:
     return spelled(unit["name"])
 
 
+def kind_key(unit: Part) -> str:
+    """The NAME of a unit without its serial number."""
+    name = unit["name"]
+    assert isinstance(name, dict)
+    return spelled({key: value for key, value in name.items() if key != "identity"})
+
+
 def text_place(text: Part) -> Hashable:
     """Where a text lies."""
     return text.number("byte"), text.number("bytes")
@@ -73,12 +80,12 @@ def inside_pairs(old: Part, new: Part, table: str) -> Pairs:
 
 
 class Matched:
-    """Two plans, and which of their tables are the same ones: units by label, else by NAME; groups by label, else by their number;
+    """Two plans, and which of their tables are the same ones: units by label, else by NAME, else by all of it but the number; groups by label, else by their number;
     flows and others by what they name."""
 
     def __init__(self, old: Source, new: Source) -> None:
         self.old, self.new = old, new
-        self.units = pairs_of(old["unit"], new["unit"], label_of, name_key)
+        self.units = pairs_of(old["unit"], new["unit"], label_of, name_key, kind_key)
         self.groups = pairs_of(old["group"], new["group"], label_of, lambda group: (group.number("pgn"), spelled(group["when"])), lambda group: group.number("pgn"))
         self._renamed = {
             (table, old.label): new.label for table, pairs in (("unit", self.units), ("group", self.groups))

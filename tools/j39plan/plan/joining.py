@@ -178,17 +178,19 @@ class Join:
         return merged
 
     def _unit(self, unit: Part) -> None:
-        """Joins a unit: that of its label, else that of its NAME and address, which is another one where its label is."""
+        """Joins a unit: that of its label, else one of its address that may be it by its NAME."""
         earlier = [merged for merged in self.arrays["unit"] if self._is_new(merged, unit)]
         label = self._same.get(unit.label, unit.label)
         here = next((merged for merged in earlier if merged.label == label), None)
-        same = next((merged for merged in earlier if merged.first["name"] == unit["name"]), None)
-        if here is None and same is not None and same.first["address"] == unit["address"]:
-            here = same
-        if same is not None and same is not here:
-            self._contradict(same, unit, "name", f"{name_of(unit)} has the NAME of unit {same.label} at {same.first.at('name')}")
+        alike = [merged for merged in earlier if may_be_one(name_in(merged), name_in(unit))]
+        here = here or next((merged for merged in alike if merged.first["address"] == unit["address"]), None)
+        for same in [merged for merged in alike if merged is not here][:1]:
+            text = f"{name_of(unit)} has the NAME of unit {same.label} at {same.first.at('name')}"
+            unnumbered = "" if "identity" in name_in(same) and "identity" in name_in(unit) else ", whatever their numbers are"
+            self._contradict(same, unit, "name", text + unnumbered)
         if here is not None:
-            self._joined(here, unit, name_of(unit))
+            self._joined(here, unit, name_of(unit), ("name",))
+            self._unit_name(here, unit)
             self._call("unit", unit, here)
             return
         taken = next((merged for merged in earlier if merged.first["address"] == unit["address"] and not may_choose(unit)
@@ -197,6 +199,18 @@ class Join:
             text = f"{name_of(unit)} is fixed at address {unit['address']}, as unit {taken.label} is at {taken.first.at('address')}"
             self._contradict(taken, unit, "address", f"{text}: --same {taken.label}={unit.label}, if they are one")
         self._add("unit", unit, label)
+
+    def _unit_name(self, here: Merged, unit: Part) -> None:
+        """Joins the NAMEs of a unit. A number stays where each file has one."""
+        names = name_in(here), name_in(unit)
+        if len([name for name in names if "identity" in name]) == 1:
+            number = next(name.pop("identity") for name in names if "identity" in name)
+            said = here.values["name"]
+            assert isinstance(said, dict)
+            here.values["name"] = {key: value for key, value in said.items() if key != "identity"}
+            self._note(unit, f"{name_of(unit)}: its identity number {number} is left away, since not each file has one", "name")
+        for inner, one, other in parts_of("name", *names):
+            self._contradict(here, unit, "name", f"{name_of(unit)}: {inner} = {spelled(other)}, and {spelled(one)} at {here.first.at('name')}")
 
     def _group(self, group: Part) -> None:
         """Joins a group: that of its number, and of makers' own ones that of its senders too."""
@@ -308,6 +322,20 @@ class Join:
 def names_no_receiver(group: Part) -> bool:
     """Whether messages of a group may go in a frame whose identifier names no receiver."""
     return is_pdu2(group.number("pgn")) and group.number("length") <= FRAME_BYTES
+
+
+def name_in(unit: Part | Merged) -> dict[str, Value]:
+    """The NAME of a unit with its defaults."""
+    part, said = (unit.first, unit.values["name"]) if isinstance(unit, Merged) else (unit, unit.said["name"])
+    name = part["name"]
+    assert isinstance(name, dict) and isinstance(said, dict)
+    return {key: value for key, value in name.items() if key != "identity" or key in said}
+
+
+def may_be_one(one: dict[str, Value], other: dict[str, Value]) -> bool:
+    """Whether two NAMEs may be one: they differ in nothing, or one of them has no number and they differ in nothing else."""
+    names = [{key: value for key, value in name.items() if key != "identity"} for name in (one, other)]
+    return names[0] == names[1] and (one.get("identity") == other.get("identity") or not ("identity" in one and "identity" in other))
 
 
 def may_choose(unit: Part) -> bool:

@@ -81,7 +81,7 @@ def unit_section(source: Source, tables: Tables, stands: dict[str, Stand]) -> st
         for unit in units
     ]
     names = [
-        row(escape(unit.label), [f"<code>{unit.name}</code>", *(str(unit.fields[key]) for key in FIELDS)])
+        row(escape(unit.label), [f"<code>{unit.name}</code>", *(str(unit.fields.get(key, "any")) for key in FIELDS)])
         for unit in units
     ]
     kept = ", ".join(map(str, source.kept))

@@ -49,14 +49,17 @@ def arrays() -> list[str]:
     return [key for key, rule in schema()["properties"].items() if "$ref" in rule.get("items", {})]
 
 
+# What stands before a table and a key of it that may be absent.
+ABSENT = "absent"
+
 # The versions of the format.
 VERSIONS = range(1, most_of("", "version") + 1)
 
 
 @functools.cache
 def since() -> dict[object, int]:
-    """The keys of tables, kinds of signals and bitrates that the first version doesn't know, each with the first that does: by the rules
-    of the schema on what a plan of none of some versions may not have."""
+    """The keys of tables, kinds of signals and bitrates that the first version doesn't know, and keys that may be absent (`ABSENT`), each with the
+    first version that does: by the rules of the schema on what a plan of none of some versions may not have, or has to."""
     found: dict[object, int] = {}
     for rule in schema()["allOf"]:
         versions = rule["if"]["not"]["properties"]["version"]
@@ -67,7 +70,8 @@ def since() -> dict[object, int]:
 def _later(table: str | None, rule: Rule, first: int, found: dict[object, int]) -> None:
     """Adds what a rule keeps from a table, and from those in it: a version is the first that knows it."""
     keys = (schema()["definitions"][table] if table else schema())["properties"]
-    for key, narrower in rule["properties"].items():
+    found.update(((ABSENT, table, key), first) for key in rule.get("required", ()))
+    for key, narrower in rule.get("properties", {}).items():
         if narrower is False:
             found[table, key] = first
         elif "enum" in narrower:

@@ -9,7 +9,7 @@ from itertools import count, takewhile
 from typing import Protocol
 
 from j39plan import program
-from j39plan.j1939 import NAME_FIELDS
+from j39plan.j1939 import IDENTITY_DIGITS, NAME_FIELDS
 from j39plan.plan.toml_places import Place, place_of
 
 # A line of `show`: a table, a key of it, and the value, which may have spaces.
@@ -20,7 +20,8 @@ LINE = re.compile(
 
 @dataclass(frozen=True)
 class Unit:
-    """A planned unit, with the fields of its NAME by their keys, whether it claims its address, and in which order its controller sends."""
+    """A planned unit, with the fields of its NAME by their keys (without `identity` where it is of any serial number), whether it claims its
+    address, and in which order its controller sends."""
 
     label: str
     address: int
@@ -33,8 +34,9 @@ class Unit:
 
     @property
     def name(self) -> str:
-        """Its NAME as 16 hex digits."""
-        return f"{sum(self.fields[key] << first for key, first, _ in NAME_FIELDS):016X}"
+        """Its NAME as 16 hex digits, with `.` for those in which the serial number is, where it has any."""
+        digits = f"{sum(number << first for key, first, _ in NAME_FIELDS if (number := self.fields.get(key, 0))):016X}"
+        return digits if "identity" in self.fields else digits[:-IDENTITY_DIGITS] + "." * IDENTITY_DIGITS
 
     @property
     def may_choose(self) -> bool:

@@ -49,6 +49,8 @@ def spelled(value: Any) -> str:
     """A value as TOML spells it."""
     if isinstance(value, bool):
         return str(value).lower()
+    if value == {}:
+        return "{}"
     if isinstance(value, dict):
         return "{ " + ", ".join(f"{key} = {spelled(part)}" for key, part in value.items()) + " }"
     if isinstance(value, str):
@@ -63,7 +65,7 @@ def lines_of(table: Table) -> Iterator[str]:
     comment = f"  # {'; '.join(table.remarks)}" if table.remarks else ""
     defaults = schema.keys_of(table.header.rpartition(".")[2])
     for key, value in table.keys.items():
-        if value not in (defaults.get(key), {}):
+        if value not in (defaults.get(key), {}) or key == "name":
             yield f"{key} = {spelled(value)}{comment}"
             comment = ""
     for part in table.inside:

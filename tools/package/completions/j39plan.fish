@@ -32,6 +32,7 @@ complete -c j39plan-dbc2plan -l same -x -d 'the nodes of two names are one, as E
 complete -c j39plan-dbc2plan -l address -x -d 'the address of a node, as TCU=3'
 complete -c j39plan-dbc2plan -l bus -x -d 'which bus of the file'
 complete -c j39plan-dbc2plan -l version -a '2 3 4' -d 'the version of the plan'
+complete -c j39plan-dbc2plan -l identity -d 'keep identity numbers'
 complete -c j39plan-dbc2plan -l no-needs -d 'leave out who needs what'
 complete -c j39plan-dbc2plan -l strict -d 'keep signals that lie outside or overlap'
 complete -c j39plan-dbc2plan -l kind -x -a 'dbc arxml kcd sym' -d 'of which kind the files are'

@@ -1,6 +1,6 @@
 //! The lines of units.
 ghost use Rattle.std.specs.Prelude.{◌≡◌, ◌++◌, OnOk};
-ghost use Rattle.j39_check.specs.ShowText.{chooser_text, lower_name_lines, name_field_lines as name_lines, queue_text, unit_value_lines as unit_lines};
+ghost use Rattle.j39_check.specs.ShowText.{chooser_text, identity_lines, lower_name_lines, name_field_lines as name_lines, queue_text, unit_value_lines as unit_lines};
 ghost use Rattle.j39_check.specs.ShowText.{unit_way_lines, upper_name_lines};
 ghost use Rattle.j39_load.specs.LineLists.{lines_of_each};
 
@@ -29,15 +29,32 @@ fn queue_word(queue: Queue) -> &'static str
     }
 }
 
+// The identity number, where the unit isn't of any.
+fn write_identity(
+    text: &mut TextBuffer,
+    table: Table,
+    any: bool,
+    identity: u32,
+) -> Result<(), AllocError>
+    ensures { OnOk result (text.new ≡ text.old ++ identity_lines table any identity) }
+{
+    if any {
+        Ok(())
+    } else {
+        write_number(text, table, Key::Identity, identity)
+    }
+}
+
 #[tactic(auto, unfolding(crate::specs::ShowText::lower_name_lines))]
 fn write_lower_name(
     text: &mut TextBuffer,
     table: Table,
+    any: bool,
     fields: NameFields,
 ) -> Result<(), AllocError>
-    ensures { OnOk result (text.new ≡ text.old ++ lower_name_lines table fields) }
+    ensures { OnOk result (text.new ≡ text.old ++ lower_name_lines table any fields) }
 {
-    write_number(text, table, Key::Identity, fields.identity)?;
+    write_identity(text, table, any, fields.identity)?;
     write_number(text, table, Key::Manufacturer, fields.manufacturer)?;
     write_number(text, table, Key::Ecu, fields.ecu)?;
     write_number(text, table, Key::FunctionInstance, fields.function_instance)?;
@@ -59,10 +76,15 @@ fn write_upper_name(
 }
 
 #[tactic(auto, unfolding(crate::specs::ShowText::name_field_lines))]
-fn write_name(text: &mut TextBuffer, table: Table, fields: NameFields) -> Result<(), AllocError>
-    ensures { OnOk result (text.new ≡ text.old ++ name_lines table fields) }
+fn write_name(
+    text: &mut TextBuffer,
+    table: Table,
+    any: bool,
+    fields: NameFields,
+) -> Result<(), AllocError>
+    ensures { OnOk result (text.new ≡ text.old ++ name_lines table any fields) }
 {
-    write_lower_name(text, table, fields)?;
+    write_lower_name(text, table, any, fields)?;
     write_upper_name(text, table, fields)
 }
 
@@ -84,7 +106,12 @@ fn write_unit(text: &mut TextBuffer, place: usize, unit: &UnitPlan) -> Result<()
     write_word(text, table, Key::Label, unit.label.as_str())?;
     write_number(text, table, Key::Address, unit.address.number())?;
     write_ways(text, table, unit)?;
-    write_name(text, Table::UnitName(place), unit.name.fields())?;
+    write_name(
+        text,
+        Table::UnitName(place),
+        unit.any_identity,
+        unit.name.fields(),
+    )?;
     write_truth(text, table, Key::Claims, unit.claims)
 }
 

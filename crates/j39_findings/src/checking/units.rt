@@ -2,10 +2,12 @@
 ghost use Rattle.std.specs.Prelude.{◌≡◌, ◌≤◌, length};
 ghost use Rattle.j39_id.specs.Limits.{unit_limit};
 ghost use Rattle.j39_findings.specs.Adding.{Adds};
-ghost use Rattle.j39_findings.specs.Found.{have_same_name, have_same_fixed_address, is_fixed, needed_addresses, needs_pool_address, unit_findings};
+ghost use Rattle.j39_findings.specs.Kinds.{may_be_one};
+ghost use Rattle.j39_findings.specs.Found.{have_same_fixed_address, is_fixed, needed_addresses, needs_pool_address, unit_findings};
 
 use crate::checking::finding::Finding;
 use crate::checking::rules::{PairRule, find_pairs, push_if};
+use crate::kinds::may_be_one;
 use crate::plan::UnitPlan;
 use j39_claim::AddressSet;
 use j39_id::addresses::is_in_pool;
@@ -17,12 +19,12 @@ struct SameName;
 impl PairRule<UnitPlan> for SameName {
     ghost use Rattle.j39_findings.specs.declared.checking.finding.Finding.TheVariants.{SameName as SameNames};
 
-    ghost test = { λ _. have_same_name };
+    ghost test = { λ _. may_be_one };
 
     ghost make = { λ _ i j. SameNames i j };
 
     fn holds(&self, first: &UnitPlan, second: &UnitPlan) -> bool {
-        first.name == second.name
+        may_be_one(first, second)
     }
 
     fn finding(&self, first: usize, second: usize) -> Finding {

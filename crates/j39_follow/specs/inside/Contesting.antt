@@ -1,65 +1,139 @@
 -- What a table of contests keeps, and what it stands for.
-use Rattle.std.specs.Prelude.{◌≡◌, ◌+◌, ◌<◌, ◌==◌, ◌&&◌, ◌||◌, ℕ, nat_le, nat_lt, not, Bool, false, if◌then◌else◌}
-use Rattle.std.specs.Prelude.{List, ◌∷◌, [], ◌++◌, Option, Some, None, slice_index_or}
+use Rattle.std.specs.Prelude.{◌≡◌, ◌+◌, ◌<◌, ◌==◌, ◌&&◌, ◌||◌, ℕ, nat_le, nat_lt, not, Bool, true, false, if◌then◌else◌}
+use Rattle.std.specs.Prelude.{List, Option, Some, None, slice_index_or}
+use Rattle.std.specs.BTreeMap.{get}
 use Rattle.std.specs.List.{slice_get}
+use Rattle.std.specs.Option.{unwrap_or}
+use Rattle.std.specs.Ordering.{nat_cmp}
 use Rattle.j39_id.specs.declared.frame.Frame.{Frame}
 use Rattle.j39_id.specs.declared.ident.Ident.{Ident}
 use Rattle.j39_findings.specs.declared.plan.Plan.{Plan}
 use Rattle.j39_findings.specs.declared.plan.unit_plan.UnitPlan.{UnitPlan}
 use Rattle.j39_id.specs.FrameMeaning.{claims_address}
-use Rattle.j39_follow.specs.Contests.{Begins, IsContest, IsContested, IsNameBehind, IsTaken, Timed, claim_wait, likely_named}
+use Rattle.j39_follow.specs.Contests.{Begins, BeginsNone, ClaimedLast, IsContention, IsContested, IsGuessed, IsTaken, Opposes, Timed, claim_wait, frames_of, likely_named, nothing_contended}
+use Rattle.j39_follow.specs.Holders.{Claims}
 use Rattle.j39_follow.specs.LoggedRequests.{told_address}
+use Rattle.j39_follow.specs.declared.claim.Claim.{Claim}
+use Rattle.j39_follow.specs.declared.claimants.Claimant.{Claimant}
+use Rattle.j39_follow.specs.declared.claimants.Claimants.{Claimants}
+use Rattle.j39_follow.specs.declared.contest.Contention.{Contention}
 use Rattle.j39_follow.specs.declared.contest.Contest.{Contest}
 use Rattle.j39_follow.specs.declared.contests.Contests.{Contests}
 use Rattle.j39_follow.specs.declared.known_parties.Parties.{Parties}
 use Rattle.j39_follow.specs.declared.who.Who.{Who}
 use Rattle.j39_follow.specs.declared.who.Who.TheVariants.{Likely}
+use Rattle.j39_follow.specs.inside.Hearing.{is_same_party}
 use Rattle.j39_follow.specs.inside.Recounting.{HasNames, party_at}
 
--- ---- a table
+-- ---- NAMEs
 
-abbrev pub contest_at : List (Option Contest) → ℕ → Option Contest
-contest_at table address = slice_index_or table address None
+abbrev pub known_in : Claimants → ℕ → Option Claimant
+known_in claimants name = get nat_cmp claimants.known name
 
--- the contest at an address, or that there is none
-abbrev pub IsContestOf : Plan → List Timed → ℕ → Option Contest → Type 0
-IsContestOf plan log address (Some c) = IsContest plan log address c
-IsContestOf plan log address None = (c : Contest) → ¬ IsContest plan log address c
+-- what is known of a NAME
+abbrev pub claimant_in : Plan → Claimants → ℕ → Claimant
+claimant_in plan claimants name = unwrap_or (known_in claimants name) (record { party = likely_named plan name; address = None })
 
--- the contests are those of these lines
-abbrev pub AreContests : Plan → Contests → List Timed → Type 0
-AreContests plan contests log = (address : ℕ) → address < 256 → IsContestOf plan log address (contest_at contests.table address)
+-- this is who the NAME is, and the address that it claimed last
+pub record IsClaimant (plan : Plan) (frames : List Frame) (name : ℕ) (k : Claimant) : Type 0 where
+  pub party : k.party ≡ likely_named plan name
+  pub claimed : (address : ℕ) → k.address ≡ Some address → ClaimedLast frames name address
+  pub claims : (address : ℕ) → ClaimedLast frames name address → k.address ≡ Some address
 
--- ---- a frame
-
--- the contest that the last line begins, or that it begins none
-abbrev pub IsBegun : Plan → List Timed → Timed → Option Contest → Type 0
-IsBegun plan log x (Some c) = Begins plan log x x.frame.ident.sa c
-IsBegun plan log x None = (address : ℕ) (c : Contest) → ¬ Begins plan log x address c
+abbrev pub AreClaimants : Plan → Claimants → List Frame → Type 0
+AreClaimants plan claimants frames = (name : ℕ) → IsClaimant plan frames name (claimant_in plan claimants name)
 
 abbrev pub claimed_place : Frame → Option ℕ
 claimed_place f = if claims_address f then Some f.ident.sa else None
 
--- a frame of this NAME, which claims the address or not, ends the contest
-abbrev pub ends : ℕ → Bool → Contest → Bool
-ends name claimed c = c.defender == name || (claimed && not (c.claimant == name))
+-- ---- a table
 
--- what is left of a contest at a frame of this NAME, which claims the address or not
-abbrev pub contest_left : ℕ → Bool → Option Contest → Option Contest
-contest_left name claimed None = None
-contest_left name claimed (Some c) = if ends name claimed c then None else Some c
+abbrev pub contention_at : List Contention → ℕ → Contention
+contention_at table address = slice_index_or table address nothing_contended
+
+-- what is kept of contests and NAMEs is that of these lines
+pub record AreContests (plan : Plan) (contests : Contests) (log : List Timed) : Type 0 where
+  pub contentions : (address : ℕ) → address < 256 → IsContention plan log address (contention_at contests.table address)
+  pub claimants : AreClaimants plan contests.claimants (frames_of log)
+
+-- ---- a contest
+
+abbrev pub is_lasting : Contest → ℕ → Bool
+is_lasting c now = nat_le c.since now && nat_lt now (c.since + claim_wait)
+
+-- the contest that runs at a time
+abbrev pub running_of : Option Contest → Option ℕ → Option Contest
+running_of (Some c) (Some now) = if is_lasting c now then Some c else None
+running_of _ _ = None
+
+abbrev pub is_heard : Option ℕ → ℕ → Bool
+is_heard (Some since) now = nat_le (since + claim_wait) now
+is_heard None now = true
+
+-- who defends the address in a contest at this time, and isn't silent
+abbrev pub defender_in : Option Contest → Option ℕ → Option Who
+defender_in (Some c) (Some now) = if is_lasting c now && is_heard c.taken now then Some c.defender else None
+defender_in _ _ = None
+
+abbrev pub defender_at : Contests → ℕ → Option ℕ → Option Who
+defender_at contests address time = defender_in (contention_at contests.table address).contest time
+
+-- what is left of a contest at a frame that tells of this one
+abbrev pub remaining_of : Who → Option Contest → Option Contest
+remaining_of party None = None
+remaining_of party (Some c) = if is_same_party party c.defender then None else Some c
+
+abbrev pub remaining_at : Who → Contention → Contention
+remaining_at party old = record { taken = old.taken; contest = remaining_of party old.contest }
+
+abbrev pub AreRemaining : List Contention → List Contention → Who → Type 0
+AreRemaining old new party = (address : ℕ) → address < 256 → contention_at new address ≡ remaining_at party (contention_at old address)
+
+-- ---- a claim
+
+-- this is what the frame of a line claims, behind these
+pub record IsClaimAt (plan : Plan) (before : List Timed) (x : Timed) (k : Claim) : Type 0 where
+  pub claims : Claims x.frame k.name k.address
+  pub claimant : IsClaimant plan (frames_of before) k.name k.claimant
+  pub time : k.time ≡ x.time
 
 abbrev pub is_place : Option ℕ → ℕ → Bool
 is_place None address = false
 is_place (Some place) address = place == address
 
-abbrev pub AreContestsLeft : List (Option Contest) → List (Option Contest) → ℕ → Option ℕ → Type 0
-AreContestsLeft old new name place = (address : ℕ) → address < 256
-    → contest_at new address ≡ contest_left name (is_place place address) (contest_at old address)
+abbrev pub defends_in : Option Contest → Who → Bool
+defends_in None party = false
+defends_in (Some c) party = is_same_party c.defender party
 
-abbrev pub begun_or : ℕ → Option Contest → ℕ → Option Contest → Option Contest
-begun_or place None address old = old
-begun_or place (Some c) address old = if place == address then Some c else old
+abbrev pub is_defended : Option Contest → Claim → Bool
+is_defended kept k = is_place k.claimant.address k.address || defends_in (running_of kept k.time) k.claimant.party
+
+abbrev pub smaller_of : Option ℕ → ℕ → Option ℕ
+smaller_of None claimant = None
+smaller_of (Some name) claimant = if nat_lt name claimant then Some name else None
+
+abbrev pub opponent_of : ℕ → ℕ → Bool → Option ℕ
+opponent_of holder claimant defence = if nat_lt holder claimant || not defence then Some holder else None
+
+-- the contest of a claim that meets this NAME
+abbrev pub contest_with : Plan → Option ℕ → Claim → ℕ → ℕ → Option Contest
+contest_with plan taken k opponent since =
+    if is_same_party (likely_named plan opponent) k.claimant.party then None
+    else Some (record {
+      defender = likely_named plan opponent;
+      since = since;
+      taken = if nat_lt k.name opponent then taken else None;
+    })
+
+-- the NAME that a claim meets, or that it meets none
+abbrev pub IsMet : Plan → List Timed → Option Contest → Timed → Claim → Option ℕ → Type 0
+IsMet plan before kept x k (Some name) = Opposes plan (frames_of before) kept x.time k.address k.name name
+IsMet plan before kept x k None = (name : ℕ) → ¬ Opposes plan (frames_of before) kept x.time k.address k.name name
+
+-- the contest that a line begins at an address, or that it begins none
+abbrev pub IsBegun : Plan → List Timed → Contention → Timed → ℕ → Option Contest → Type 0
+IsBegun plan before old x address (Some c) = Begins plan before old x address c
+IsBegun plan before old x address None = BeginsNone plan before old x address
 
 -- ---- names behind addresses
 
@@ -71,33 +145,21 @@ abbrev pub IsLikelyName : Plan → Who → Option ℕ → Type 0
 IsLikelyName plan (Likely u) name = IsNameAt plan u name
 IsLikelyName plan _ name = name ≡ None
 
--- the NAME behind an address, or that none is
-abbrev pub IsBehind : Plan → List Frame → ℕ → Option ℕ → Type 0
-IsBehind plan frames address (Some name) = IsNameBehind plan frames address name
-IsBehind plan frames address None = (name : ℕ) → ¬ IsNameBehind plan frames address name
+-- the NAME that is guessed at an address that none holds, or that none is
+abbrev pub IsGuess : Plan → List Frame → ℕ → Option ℕ → Type 0
+IsGuess plan frames address (Some name) = IsGuessed plan frames address name
+IsGuess plan frames address None = (name : ℕ) → ¬ IsGuessed plan frames address name
 
 -- ---- who is taken to be behind an address
 
--- the last line has this time
-abbrev pub IsTimed : List Timed → Option ℕ → Type 0
-IsTimed log time = (before : List Timed) × (x : Timed) × (log ≡ before ++ x ∷ []) × (x.time ≡ time)
-
--- the smaller NAME of a contest that goes on at this time
-abbrev pub defender_of : Option Contest → Option ℕ → Option ℕ
-defender_of (Some c) (Some now) = if nat_le c.since now && nat_lt now (c.since + claim_wait) then Some c.defender else None
-defender_of _ _ = None
-
-abbrev pub defender_at : Contests → ℕ → Option ℕ → Option ℕ
-defender_at contests address time = defender_of (contest_at contests.table address) time
-
--- the smaller NAME of the contest at an address that goes on at the last line, or that none does
-abbrev pub IsDefender : Plan → List Timed → ℕ → Option ℕ → Type 0
-IsDefender plan log address (Some name) = (c : Contest) × IsContested plan log address c × (c.defender ≡ name)
+-- who defends the address in the contest that goes on at the last line, or that none does
+abbrev pub IsDefender : Plan → List Timed → ℕ → Option Who → Type 0
+IsDefender plan log address (Some who) = (c : Contest) × IsContested plan log address c × (c.defender ≡ who)
 IsDefender plan log address None = (c : Contest) → ¬ IsContested plan log address c
 
-abbrev pub taken_party : Plan → Who → Option ℕ → Who
-taken_party plan who (Some name) = likely_named plan name
-taken_party plan who None = who
+abbrev pub taken_party : Who → Option Who → Who
+taken_party who (Some defender) = defender
+taken_party who None = who
 
 -- the parties have who is taken to be behind the two addresses of a frame, and their texts
 pub record ShowsParties (plan : Plan) (parties : Parties) (log : List Timed) (i : Ident) : Type 0 where

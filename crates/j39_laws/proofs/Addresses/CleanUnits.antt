@@ -14,6 +14,7 @@ use Rattle.j39_findings.specs.Findings.{Clean, Holds}
 use Rattle.j39_findings.specs.Found.{needed_addresses, needs_pool_address}
 use Rattle.j39_findings.proofs.Deciding.{Decides-needs_pool_address, passing_meet}
 use Rattle.j39_findings.specs.declared.checking.finding.Finding.TheVariants.{SameName, SameFixedAddress, TooFewAddresses, KeptAddress, SilentAddress, SilentInPool}
+use Rattle.j39_findings.specs.Kinds.{kind_of_name}
 use Rattle.j39_findings.specs.declared.plan.Plan.{Plan}
 use Rattle.j39_findings.specs.declared.plan.unit_plan.UnitPlan.{UnitPlan}
 use Rattle.j39_world.specs.PlannedUnits.{planned_unit, units_of, unit_at}
@@ -178,13 +179,14 @@ clean_units plan clean = record {
       let inside : j < length (units_of plan) = one.inside in
       let (p, p_is, at_i) = placed plan.keep_free plan.units.items i (omega arith) in
       let (q, q_is, at_j) = placed plan.keep_free plan.units.items j inside in
+      let same : p.name ≡ q.name = sym (ap (λ (c : PlannedUnit). c.name) at_i) ∙ one.same ∙ ap (λ (c : PlannedUnit). c.name) at_j in
       clean (SameName i j) (record {
         first = p;
         second = q;
         below = below;
         first_is = p_is;
         second_is = q_is;
-        related = sym (ap (λ (c : PlannedUnit). c.name) at_i) ∙ one.same ∙ ap (λ (c : PlannedUnit). c.name) at_j;
+        related = (ap kind_of_name same, inl same);
       });
   fixed = fixed_in_order plan (λ i j. clean (SameFixedAddress i j)) (λ i j. clean (SilentAddress i j));
   kept_free = plan.keep_free;

@@ -4,12 +4,14 @@ ghost use Rattle.j39_id.specs.Addresses.{in_pool};
 ghost use Rattle.j39_id.specs.Name.{is_arbitrary};
 ghost use Rattle.j39_claim.specs.ClaimRule.{PlannedUnit as PlannedUnits};
 ghost use Rattle.j39_findings.specs.Findings.{Clean, Holds};
+ghost use Rattle.j39_findings.specs.Kinds.{AreToldApart};
+ghost use Rattle.j39_findings.specs.VehiclePlans.{IsVehicleOf};
 ghost use Rattle.j39_findings.specs.declared.plan.Plan.{Plan as Plans};
 ghost use Rattle.j39_findings.specs.declared.checking.finding.Finding.TheVariants.{SameFixedAddress, SilentAddress};
 ghost use Rattle.j39_findings.specs.declared.steps.Step.{Step as Steps};
 ghost use Rattle.j39_world.specs.PlannedUnits.{units_of, unit_at};
 ghost use Rattle.j39_world.specs.Run.{Run};
-ghost use Rattle.j39_world.specs.Staying.{ArePlannedApart, ArePlannedApartTo, HoldsAlone, HoldsPlanned, IsAloneThere, Stays, StaysByOthers};
+ghost use Rattle.j39_world.specs.Staying.{ArePlannedApart, ArePlannedApartTo, HoldsAlone, HoldsPlanned, IsAloneThere, StayAlike, Stays, StaysByOthers};
 ghost use Rattle.j39_world.specs.World.{World, all_off};
 
 /// In every world of every run of each plan, with all lawful choices, a unit that stays holds its planned address while it is on. Whether
@@ -59,4 +61,11 @@ pub fn alone_units_are_undisturbed()
 pub fn silent_units_are_undisturbed()
     ensures { (plan : Plans) (steps : List Steps) (w : World) → Clean plan → Run plan all_off steps w
         → (u : ℕ) → u < length (units_of plan) → (unit_at (units_of plan) u).claims ≡ false → HoldsAlone (units_of plan) w u }
+{}
+
+/// The same units stay in the plan and in that of each vehicle, also beside strangers, and the same are alone at their addresses, whatever the
+/// serial numbers of the boxes are, where no two units of the plan may be one.
+pub fn units_stay_in_each_vehicle()
+    ensures { (plan vehicle : Plans) → IsVehicleOf plan vehicle → AreToldApart plan
+        → StayAlike plan.keep_free plan.strangers (units_of plan) (units_of vehicle) }
 {}

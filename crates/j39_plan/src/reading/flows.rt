@@ -9,7 +9,7 @@ ghost use Rattle.j39_plan.specs.FlowTables as spec;
 use super::elements::ReadElement;
 use super::labels::{Labelled, place_of};
 use super::tables::{only, table_of};
-use super::values::{any_text, flag, number, optional_number, refused, value_at};
+use super::values::{any_text, flag, has_key, number, optional_number, refused};
 use super::{Cause, Key, PlanError, Table};
 use j39_findings::{FlowPlan, GroupPlan, Pace, To, UnitPlan};
 use std::alloc::Global;
@@ -71,13 +71,6 @@ pub fn to(units: &[UnitPlan], word: &str, table: Table) -> Result<To, PlanError>
         Some(to) => Ok(to),
         None => Err(refused(Cause::UnknownLabel, table, Key::To)),
     }
-}
-
-#[tactic(auto, unfolding(crate::specs::FlowTables::has_key))]
-fn has_key(members: &toml::Table, key: Key) -> bool
-    ensures { result ≡ spec.has_key key (table_view members.now) }
-{
-    value_at(members, key).is_some()
 }
 
 /// A number of milliseconds, in the type of a plan.

@@ -1,12 +1,14 @@
 //! The NAMEs of units.
-ghost use Rattle.std.specs.Prelude.{◌≡◌, ◌<◌, ◌^◌, IfOk};
+ghost use Rattle.std.specs.Prelude.{◌≡◌, ◌<◌, ◌^◌, ◌%◌, true, IfOk};
 ghost use Rattle.toml.specs.View.{table_view};
 ghost use Rattle.j39_id.specs.Name.{name_number, first_out};
 ghost use Rattle.j39_plan.specs.Outcome.{Gives};
-ghost use Rattle.j39_plan.specs.UnitTables.{name_faults, name_fields_of};
+ghost use Rattle.j39_plan.specs.UnitTables.{identity_rule, lacks_identity, name_faults, name_fields_of};
+ghost use Rattle.j39_plan.specs.Schema.{number_of};
+ghost use Rattle.j39_plan.specs.TableFaults.{key_faults};
 
 use super::tables::only;
-use super::values::{flag, number};
+use super::values::{flag, has_key, number};
 use super::{Key, PlanError, Table};
 use j39_id::{Name, NameFields};
 
@@ -22,14 +24,34 @@ const NAME_KEYS: [Key; 9] = [
     Key::Arbitrary,
 ];
 
+// The identity number, which the fourth version lets be absent.
+fn identity(fourth: bool, members: &toml::Table, table: Table) -> Result<u32, PlanError>
+    ensures gives { Gives result (key_faults table (table_view members.now) (identity_rule fourth))
+        (λ n. n ≡ number_of (identity_rule fourth) (table_view members.now)) }
+    ensures range { IfOk result (λ n. n < 2 ^ 21) }
+{
+    if fourth {
+        number(members, table, Key::Identity, 0, 2_097_151, Some(0))
+    } else {
+        number(members, table, Key::Identity, 0, 2_097_151, None)
+    }
+}
+
+// Whether a NAME leaves its identity number open.
+fn lacks_identity(fourth: bool, members: &toml::Table) -> bool
+    ensures { result ≡ lacks_identity fourth (table_view members.now) }
+{
+    fourth && !has_key(members, Key::Identity)
+}
+
 #[tactic(auto, using(crate::proofs::FirstFaults::faults_after), unfolding(crate::specs::UnitTables::name_faults, crate::specs::UnitTables::name_fields_of))]
-fn name_fields(index: usize, members: &toml::Table) -> Result<NameFields, PlanError>
-    ensures gives { Gives result (name_faults index (table_view members.now)) (λ f. f ≡ name_fields_of (table_view members.now)) }
+fn name_fields(fourth: bool, index: usize, members: &toml::Table) -> Result<NameFields, PlanError>
+    ensures gives { Gives result (name_faults fourth index (table_view members.now)) (λ f. f ≡ name_fields_of fourth (table_view members.now)) }
     ensures in_range { IfOk result (λ f. first_out f ≡ None) }
 {
     let table = Table::UnitName(index);
     only(members, table, &NAME_KEYS)?;
-    let identity = number(members, table, Key::Identity, 0, 2_097_151, None)?;
+    let identity = identity(fourth, members, table)?;
     let manufacturer = number(members, table, Key::Manufacturer, 0, 2047, Some(0))?;
     let ecu = number(members, table, Key::Ecu, 0, 7, Some(0))?;
     let function_instance = number(members, table, Key::FunctionInstance, 0, 31, Some(0))?;
@@ -52,14 +74,24 @@ fn name_fields(index: usize, members: &toml::Table) -> Result<NameFields, PlanEr
     })
 }
 
-/// The NAME that a table tells.
-pub fn name(index: usize, members: &toml::Table) -> Result<Name, PlanError>
-    ensures gives { Gives result (name_faults index (table_view members.now)) (λ n. n ≡ name_number (name_fields_of (table_view members.now))) }
+/// The NAME that a table tells, with 0 for an identity number that is left open.
+pub fn name(fourth: bool, index: usize, members: &toml::Table) -> Result<Name, PlanError>
+    ensures gives { Gives result (name_faults fourth index (table_view members.now))
+        (λ n. n ≡ name_number (name_fields_of fourth (table_view members.now))) }
     ensures range { IfOk result (λ n. n < 2 ^ 64) }
 {
-    let fields = name_fields(index, members)?;
+    let fields = name_fields(fourth, index, members)?;
     match Name::from_fields(fields) {
         Ok(name) => Ok(name),
         Err(_) => unreachable!(),
     }
+}
+
+/// Whether the NAME of a table leaves its identity number open, and so has 0 there.
+pub fn is_open(fourth: bool, members: &toml::Table, name: Name) -> bool
+    requires { name ≡ name_number (name_fields_of fourth (table_view members.now)) }
+    ensures value { result ≡ lacks_identity fourth (table_view members.now) }
+    ensures number { result ≡ true → name % 2 ^ 21 ≡ 0 }
+{
+    lacks_identity(fourth, members)
 }

@@ -10,7 +10,7 @@ ghost use Rattle.j39_plan.specs.UnitTables.{way_of, address_rule, chooser_rule, 
 
 use super::elements::ReadElement;
 use super::labels::untaken;
-use super::names::name;
+use super::names::{is_open, name};
 use super::tables::{inner, only, table_of};
 use super::text_kind::TextKind;
 use super::values::{flag, number, refused, short_text, text};
@@ -168,12 +168,13 @@ fn unit(fourth: bool, index: usize, members: &toml::Table) -> Result<UnitPlan, P
     let way = way(members, table)?;
     let window = number(members, table, Key::Window, 1, 255, Some(255))?;
     let last = last_keys(fourth, members, table)?;
-    let name = name(index, last.inside)?;
+    let name = name(fourth, index, last.inside)?;
     silent_stays(index, last.claims, name)?;
     Ok(UnitPlan {
         label,
         address,
         name,
+        any_identity: is_open(fourth, last.inside, name),
         way,
         window: window as u8,
         queue: last.queue,

@@ -37,6 +37,14 @@ pub fn value_at(members: &toml::Table, key: Key) -> Option<&Value>
     members.get(key.word())
 }
 
+/// Whether something stands at a key.
+#[tactic(auto, unfolding(crate::specs::Schema::has_key))]
+pub fn has_key(members: &toml::Table, key: Key) -> bool
+    ensures { result ≡ schema.has_key key (table_view members.now) }
+{
+    value_at(members, key).is_some()
+}
+
 /// The integer at a key, within a range, or the default where there is one.
 #[tactic(auto, unfolding(crate::specs::TableFaults::key_faults, crate::specs::Schema::integer_of))]
 pub fn integer(

@@ -11,7 +11,7 @@ from j39plan.plan.hints.groups import of_identifier
 from j39plan.plan.hints.text_faults import Told, text_fault
 from j39plan.plan.hints.wanted import is_known, listed, rule_of, tables_with, wanted
 from j39plan.plan.parts import Source
-from j39plan.plan.schema import VERSIONS, most_of, schema, since
+from j39plan.plan.schema import ABSENT, VERSIONS, most_of, schema, since
 from j39plan.plan.text import as_label
 from j39plan.plan.toml_places import Place, place_of, table_of
 
@@ -222,7 +222,9 @@ def refusal(plan: Source, data: bytes, line: str) -> Told:
         return plan.line(place), "a table is wanted"
     if cause == "Missing":
         why = f", which a {asking(plan, place)} needs" if key == "period" else ""
-        return plan.line(place), f"key {key} isn't there{why}: {wanted(plan, place, key)}"
+        first = since().get((ABSENT, table_of(place) or None, key))
+        may_be_absent = f"; from version = {first} on it may be left away" if first else ""
+        return plan.line(place), f"key {key} isn't there{why}: {wanted(plan, place, key)}{may_be_absent}"
     if cause in ("Repeated", "UnknownLabel") and key != "keep_free":
         return label_fault(plan, place, key, cause)
     return value_fault(plan, place, key, cause)

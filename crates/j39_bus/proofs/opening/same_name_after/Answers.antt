@@ -1,21 +1,39 @@
-use Rattle.std.proofs.Common.{◌≡◌, ◌<◌, length, sym, ap, ◌∙◌, arith, below_more}
-use Rattle.std.proofs.lemmas.Bool.{eqb-false}
-use Rattle.j39_findings.specs.declared.plan.unit_plan.UnitPlan.{UnitPlan}
-use Rattle.j39_bus.proofs.Opened.{named_at}
+use Rattle.std.proofs.Common.{◌≡◌, ◌<◌, ◌≤◌, length, sym, ◌∙◌, arith, below_more}
+use Rattle.std.proofs.lemmas.Option.{slice_get_within}
+use Rattle.j39_bus.proofs.Opened.{got, not_one_at, one_at}
 use Rattle.j39_bus.proofs.opening.same_name_after.Goals as goal
 
 pub loop-second-preserved : goal.loop-second-preserved
 loop-second-preserved c =
-    let units = c.args.plan.now.units.items in
-    let kept = c.args.plan.now.keep_free in
+    let plan = c.args.plan.now in
+    let units = plan.units.items in
+    let first = c.index-units-first.result in
+    let second = c.index-units-second.result in
     let first_is = rw c.as_slice-units.ensures.value at c.index-units-first.is in
     let second_is = rw c.as_slice-units.ensures.value at c.index-units-second.is in
-    let below : c.loop-second.second < length c.as_slice-units.result.now = omega arith in
-    let inside : c.loop-second.second < length units = rw c.as_slice-units.ensures.value at below in
+    let inside : c.loop-second.second < length units = rw c.as_slice-units.ensures.value at c.loop-second-test.true in
     below_more _ _ c.loop-second.invariant
-    (λ have.
-    let first : _ ≡ _ = named_at kept units c.args.first c.index-units-first.result c.requires first_is in
-    let second : _ ≡ _ = named_at kept units c.loop-second.second c.index-units-second.result inside second_is in
-    let same : c.index-units-second.result.name ≡ c.index-units-first.result.name = sym second ∙ sym have.same ∙ first in
-    eqb-false _ _ (sym c.eq.ensures ∙ c.if-eq.false)
-    (ap (λ (u : UnitPlan). u.name) (sym c.index-units-second.is) ∙ same ∙ ap (λ (u : UnitPlan). u.name) c.index-units-first.is))
+    (not_one_at plan c.args.first c.loop-second.second first second (got units c.args.first first c.requires first_is)
+    (got units c.loop-second.second second inside second_is) (sym c.may_be_one.ensures ∙ c.if-may_be_one.false))
+
+pub returns-then-may_be_one-clause-some : goal.returns-then-may_be_one-clause-some
+returns-then-may_be_one-clause-some c =
+    let plan = c.args.plan.now in
+    let units = plan.units.items in
+    let first = c.index-units-first.result in
+    let second = c.index-units-second.result in
+    let first_is = rw c.as_slice-units.ensures.value at c.index-units-first.is in
+    let second_is = rw c.as_slice-units.ensures.value at c.index-units-second.is in
+    let inside : c.loop-second.second < length units = rw c.as_slice-units.ensures.value at c.loop-second-test.true in
+    let behind = c.loop-second.auto.second in (
+      one_at plan c.args.first c.loop-second.second first second (omega (arith, behind)) (got units c.args.first first c.requires first_is)
+          (got units c.loop-second.second second inside second_is) (sym c.may_be_one.ensures ∙ c.if-may_be_one.true),
+      c.loop-second.invariant,
+    )
+
+pub returns-clause-none : goal.returns-clause-none
+returns-clause-none c = λ k one.
+    let units = c.args.plan.now.units.items in
+    let end : length units ≤ c.loop-second.second = rw c.as_slice-units.ensures.value at c.loop-second-test.false in
+    let inside = slice_get_within units k one.second one.second_is in
+    c.loop-second.invariant k (omega (arith, end, inside)) one

@@ -1,10 +1,11 @@
-use Rattle.std.proofs.Common.{◌≡◌, ◌<◌, ◌==◌, ℕ, Option, None, length, subst, ◌∙◌, inl, inr, arith, eqb-true}
+use Rattle.std.proofs.Common.{◌≡◌, ◌<◌, ◌==◌, ℕ, length, subst, ◌∙◌, inl, inr, arith, eqb-true}
 use Rattle.std.specs.Prelude.{slice_set}
 use Rattle.std.proofs.lemmas.Bool.{cases_Bool, eqb-false}
 use Rattle.std.proofs.lemmas.Grind.{common_steps}
 use Rattle.std.proofs.lemmas.List.{length-set}
-use Rattle.j39_follow.specs.declared.contest.Contest.{Contest}
-use Rattle.j39_follow.specs.inside.Contesting.{contest_at, is_place, contest_left}
+use Rattle.j39_follow.specs.Contests.{nothing_contended}
+use Rattle.j39_follow.specs.declared.contest.Contention.{Contention}
+use Rattle.j39_follow.specs.inside.Contesting.{contention_at, remaining_at}
 use Rattle.j39_follow.proofs.Tables.{set_here, set_there}
 use Rattle.j39_follow.proofs.contests.all_left.Goals as goal
 
@@ -13,19 +14,19 @@ loop-address-preserved c =
     let table = c.args.table.now in
     let rest = c.loop-address.rest in
     let k = c.loop-address.address in
-    let new : Option Contest = c.left.result in
+    let new : Contention = record { taken = (contention_at table k).taken; contest = c.contest_left.result } in
     let before = c.loop-address.invariant in
     let room : k < length rest = (let count = before.0 in let test = c.loop-address-test.true in omega (arith, count, test)) in
-    let is_new : new ≡ contest_left c.args.name (is_place c.args.place k) (contest_at table k) = grind (arith, common_steps) in (
+    let is_new : new ≡ remaining_at c.args.party (contention_at table k) = grind (arith, common_steps) in (
       length-set rest k new ∙ before.0,
       λ a less. elim (cases_Bool (k == a)) [
         | inl same ↦
             let is : k ≡ a = eqb-true k a same in
-            subst (λ (i : ℕ). contest_at (slice_set rest k new) i ≡ contest_left c.args.name (is_place c.args.place i) (contest_at table i)) is
-            (set_here rest k new None room ∙ is_new)
+            subst (λ (i : ℕ). contention_at (slice_set rest k new) i ≡ remaining_at c.args.party (contention_at table i)) is
+            (set_here rest k new nothing_contended room ∙ is_new)
         | inr other ↦
             let apart = eqb-false k a other in
-            set_there rest k a new None apart ∙ before.1 a (omega (arith, less, apart))
+            set_there rest k a new nothing_contended apart ∙ before.1 a (omega (arith, less, apart))
       ],
     )
 

@@ -30,7 +30,7 @@ pub returns-clause-source : goal.returns-clause-source
 returns-clause-source c =
     let all : List Who = c.args.parties.now.all in
     let i = c.args.ident in
-    let t : ℕ → Who = λ a. taken_party c.args.plan.now (party_at all a) (defender_at c.args.contests.now a c.args.time) in
+    let t : ℕ → Who = λ a. taken_party (party_at all a) (defender_at c.args.contests.now a c.args.time) in
     let first : List Who = slice_set all c.from.result c.taken_at-third.result in
     let second : List Who = slice_set first c.from-2.result c.taken_at-source.result in
     let size : length all ≡ 256 = search rules in
@@ -46,7 +46,7 @@ pub returns-clause-receiver : goal.returns-clause-receiver
 returns-clause-receiver c =
     let all : List Who = c.args.parties.now.all in
     let i = c.args.ident in
-    let t : ℕ → Who = λ a. taken_party c.args.plan.now (party_at all a) (defender_at c.args.contests.now a c.args.time) in
+    let t : ℕ → Who = λ a. taken_party (party_at all a) (defender_at c.args.contests.now a c.args.time) in
     let first : List Who = slice_set all c.from.result c.taken_at-third.result in
     let second : List Who = slice_set first c.from-2.result c.taken_at-source.result in
     let size : length all ≡ 256 = search rules in
@@ -61,7 +61,7 @@ returns-clause-asker c =
     let all : List Who = c.args.parties.now.all in
     let i = c.args.ident in
     let asker = c.args.asker in
-    let t : ℕ → Who = λ a. taken_party c.args.plan.now (party_at all a) (defender_at c.args.contests.now a c.args.time) in
+    let t : ℕ → Who = λ a. taken_party (party_at all a) (defender_at c.args.contests.now a c.args.time) in
     let first : List Who = slice_set all c.from.result c.taken_at-third.result in
     let second : List Who = slice_set first c.from-2.result c.taken_at-source.result in
     let size : length all ≡ 256 = search rules in

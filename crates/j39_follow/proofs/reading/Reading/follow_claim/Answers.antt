@@ -1,4 +1,4 @@
-use Rattle.std.proofs.Common.{◌+◌, ◌<◌, ◌^◌, ℕ, List, Option, length, sym, subst, arith}
+use Rattle.std.proofs.Common.{◌+◌, ◌<◌, ◌^◌, ◌∷◌, ◌++◌, [], ℕ, List, Option, length, sym, subst, arith}
 use Rattle.j39_findings.specs.declared.plan.Plan.{Plan}
 use Rattle.j39_follow.specs.FollowText.{frames_seen, lines_with}
 use Rattle.j39_follow.specs.declared.directory.Directory.{Directory}
@@ -6,7 +6,7 @@ use Rattle.j39_follow.specs.Contests.{Timed, frames_of}
 use Rattle.j39_follow.specs.LogLines.{moment_of}
 use Rattle.j39_follow.specs.declared.contests.Contests.{Contests}
 use Rattle.j39_follow.specs.declared.who.Who.{Who}
-use Rattle.j39_follow.specs.inside.Contesting.{AreContests, IsBegun}
+use Rattle.j39_follow.specs.inside.Contesting.{AreContests}
 use Rattle.j39_follow.proofs.Knowing.{frames_as_well}
 use Rattle.j39_follow.specs.inside.FrameWriting.{frames_with}
 use Rattle.j39_follow.specs.inside.Recounting.{ArePartiesOf, Knows}
@@ -27,11 +27,11 @@ returns-clause-followed c = λ past of few.
     subst (λ (p : Plan). Knows p c.hear-2.new.self (frames_with past.seen f)) c.plan-2.ensures
     (c.hear-2.ensures (frames_seen past.seen) (subst (λ (p : Plan). Knows p c.args.self.now.directory (frames_seen past.seen)) (sym c.plan-2.ensures) of.knows)) in
     let first = subst (Knows plan c.args.self.now.directory) (sym of.frames) of.knows in
-    let begun : IsBegun plan past.timed (record { frame = f; time = time }) c.begun-contest.result =
-    subst (λ (t : Option ℕ). IsBegun plan past.timed (record { frame = f; time = t }) c.begun-contest.result) c.moment-now.ensures
-    (subst (λ (p : Plan). IsBegun p past.timed (record { frame = f; time = c.moment-now.result }) c.begun-contest.result) c.plan.ensures
-    (c.begun-contest.ensures past.timed (subst (λ (p : Plan). Knows p c.args.self.now.directory (frames_of past.timed)) (sym c.plan.ensures) first))) in
-    let contests = c.hear.ensures plan past.timed time of.contests begun in
+    let contests : AreContests plan c.hear.new.self log =
+    subst (λ (t : Option ℕ). AreContests plan c.hear.new.self (past.timed ++ record { frame = f; time = t } ∷ [])) c.moment.ensures
+    (subst (λ (p : Plan). AreContests p c.hear.new.self (past.timed ++ record { frame = f; time = c.moment.result } ∷ [])) c.plan.ensures
+    (c.in_ok-hear.ensures past.timed (subst (λ (p : Plan). Knows p c.args.self.now.directory (frames_of past.timed)) (sym c.plan.ensures) first)
+    (subst (λ (p : Plan). AreContests p c.args.self.now.contests past.timed) (sym c.plan.ensures) of.contests))) in
     let same = frames_as_well past f c.args.time.now of.frames in
     let told = c.in_ok-report.ensures.reported past (subst (Knows plan c.hear-2.new.self) (sym same) heard) contests of.heard of.ranges of.tally of.exchanges room room_told in
     let w = told.written in

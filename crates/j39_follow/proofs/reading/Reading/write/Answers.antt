@@ -1,7 +1,7 @@
 use Rattle.std.proofs.Common.{ℕ, Option, subst}
 use Rattle.std.proofs.lemmas.Result.{IfOk-weaker}
 use Rattle.j39_follow.specs.LogLines.{moment_of}
-use Rattle.j39_follow.specs.inside.Contesting.{IsDefender, contest_at}
+use Rattle.j39_follow.specs.inside.Contesting.{IsDefender, contention_at}
 use Rattle.j39_follow.proofs.Contested.{defends}
 use Rattle.j39_follow.proofs.reading.Reading.write.Goals as goal
 
@@ -15,9 +15,9 @@ returns-then-are_calm-clause-written c =
     (λ _ written. λ seen log knows contests timed have ranges.
     written seen log knows
     (subst (IsDefender plan log i.sa) (c.are_calm.ensures.source c.if-are_calm.true)
-    (defends plan log i.sa (contest_at table i.sa) time (contests i.sa i.sa_range) timed))
+    (defends plan log i.sa (contention_at table i.sa) time (contests.contentions i.sa i.sa_range) timed))
     (subst (IsDefender plan log i.ps) (c.are_calm.ensures.receiver c.if-are_calm.true)
-    (defends plan log i.ps (contest_at table i.ps) time (contests i.ps i.ps_range) timed)) have ranges)
+    (defends plan log i.ps (contention_at table i.ps) time (contests.contentions i.ps i.ps_range) timed)) have ranges)
     c.write_plain.ensures.written
 
 pub returns-then-are_calm-clause-noted : goal.returns-then-are_calm-clause-noted
@@ -30,7 +30,7 @@ returns-then-are_calm-clause-noted c =
     (λ _ noted. λ log events knows contests timed few are.
     noted log events knows
     (subst (IsDefender plan log i.sa) (c.are_calm.ensures.source c.if-are_calm.true)
-    (defends plan log i.sa (contest_at table i.sa) time (contests i.sa i.sa_range) timed))
+    (defends plan log i.sa (contention_at table i.sa) time (contests.contentions i.sa i.sa_range) timed))
     (subst (IsDefender plan log i.ps) (c.are_calm.ensures.receiver c.if-are_calm.true)
-    (defends plan log i.ps (contest_at table i.ps) time (contests i.ps i.ps_range) timed)) few are)
+    (defends plan log i.ps (contention_at table i.ps) time (contests.contentions i.ps i.ps_range) timed)) few are)
     c.write_plain.ensures.noted

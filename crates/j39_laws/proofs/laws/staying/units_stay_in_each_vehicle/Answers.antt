@@ -1,0 +1,5 @@
+use Rattle.j39_world.proofs.Boxes.{stay_alike}
+use Rattle.j39_laws.proofs.laws.staying.units_stay_in_each_vehicle.Goals as goal
+
+pub returns : goal.returns
+returns c = stay_alike

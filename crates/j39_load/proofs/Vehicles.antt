@@ -1,0 +1,147 @@
+-- The plan of each vehicle asks the same of its bus as the plan, where no two units may be one.
+use Rattle.std.proofs.Common.{◌≡◌, ◌≢◌, ℕ, zero, suc, ◌<◌, Bool, true, false, List, [], ◌∷◌, length, Option, Some, None, if◌then◌else◌, ◌==◌, ◌++◌}
+use Rattle.std.proofs.Common.{refl, sym, ◌∙◌, ap, subst, inl, inr, arith}
+use Rattle.std.specs.Bool.{MatchBool}
+use Rattle.std.specs.List.{AllZip, slice_get}
+use Rattle.std.proofs.lemmas.Bool.{cases_Bool, cases_lt, eqb-true, eq-eqb}
+use Rattle.std.proofs.lemmas.Option.{none-some, same_Some}
+use Rattle.std.proofs.lemmas.Slice.Zip.{AllZip-long}
+use Rattle.j39_findings.specs.Kinds.{AreToldApart}
+use Rattle.j39_findings.specs.VehiclePlans.{IsBoxOf, IsVehicleOf}
+use Rattle.j39_findings.specs.declared.plan.Plan.{Plan}
+use Rattle.j39_findings.specs.declared.plan.flow_plan.FlowPlan.{FlowPlan}
+use Rattle.j39_findings.specs.declared.plan.need_plan.NeedPlan.{NeedPlan}
+use Rattle.j39_findings.specs.declared.plan.request_plan.RequestPlan.{RequestPlan}
+use Rattle.j39_findings.specs.declared.plan.timing.Timing.{Timing}
+use Rattle.j39_findings.specs.declared.plan.unit_plan.UnitPlan.{UnitPlan}
+use Rattle.j39_findings.proofs.Boxes.{AreOrderedAlike}
+use Rattle.j39_findings.proofs.Vehicles.{AreBoth, both_at, box_chooses, ordered, unit_of}
+use Rattle.j39_load.specs.declared.delay.Delay.{Delay}
+use Rattle.j39_load.specs.declared.load_finding.LoadFinding.{LoadFinding}
+use Rattle.j39_load.specs.Ages.{old_needs}
+use Rattle.j39_load.specs.Asked.{Asked, asked_of, total_load}
+use Rattle.j39_load.specs.Delays.{TellDelays}
+use Rattle.j39_load.specs.LoadFindings.{AreLoadFindings, AsksOfBus, all_findings, load_findings}
+use Rattle.j39_load.specs.Standing.{TellsWhoStays}
+use Rattle.j39_load.specs.VehicleLoads.{AreLoadsAlike, StandAlike}
+use Rattle.j39_load.proofs.OneLoad.{AreSeenAlike, asked_alike, told_once}
+use Rattle.j39_world.specs.PlannedUnits.{units_of}
+use Rattle.j39_world.specs.Staying.{StaysBeside}
+use Rattle.j39_world.proofs.Boxes.{stay_alike}
+
+-- what is told of a unit is told of the box at its place, which is known by its NAME
+told_by : List UnitPlan → List UnitPlan → (UnitPlan → Bool) → UnitPlan → Bool
+told_by [] boxes stays x = false
+told_by (unit ∷ units) [] stays x = false
+told_by (unit ∷ units) (box ∷ boxes) stays x = if box.name == x.name then stays unit else told_by units boxes stays x
+
+abbrev HaveOwnNames : List UnitPlan → Type 0
+HaveOwnNames boxes = (i j : ℕ) (b c : UnitPlan) → i < j → slice_get boxes i ≡ Some b → slice_get boxes j ≡ Some c → b.name ≢ c.name
+
+told_at : (stays : UnitPlan → Bool) (units boxes : List UnitPlan) → HaveOwnNames boxes → (k : ℕ) (unit box : UnitPlan)
+    → slice_get units k ≡ Some unit → slice_get boxes k ≡ Some box → told_by units boxes stays box ≡ stays unit
+unfolding told_by
+told_at stays [] boxes own k unit box at_unit at_box = absurd (none-some _ at_unit)
+told_at stays (x ∷ units) [] own k unit box at_unit at_box = absurd (none-some _ at_box)
+told_at stays (x ∷ units) (y ∷ boxes) own zero unit box at_unit at_box =
+    let same : y ≡ box = same_Some _ _ at_box in
+    ap (λ (z : UnitPlan). if y.name == z.name then stays x else told_by units boxes stays z) (sym same)
+    ∙ ap (λ b. if b then stays x else told_by units boxes stays y) (eq-eqb y.name y.name refl) ∙ ap stays (same_Some _ _ at_unit)
+told_at stays (x ∷ units) (y ∷ boxes) own (suc k) unit box at_unit at_box = elim (cases_Bool (y.name == box.name)) [
+  | inl same ↦ absurd (own zero (suc k) y box (omega arith) refl at_box (eqb-true y.name box.name same))
+  | inr other ↦
+      ap (λ b. if b then stays x else told_by units boxes stays box) other
+      ∙ told_at stays units boxes (λ i j b c below first second. own (suc i) (suc j) b c (omega (arith, below)) first second) k unit box at_unit at_box
+]
+
+module _ (plan vehicle : Plan) (is : IsVehicleOf plan vehicle) (apart : AreToldApart plan) where
+  abbrev units : List UnitPlan
+  units = plan.units.items
+
+  abbrev boxes : List UnitPlan
+  boxes = vehicle.units.items
+
+  own_names : HaveOwnNames boxes
+  own_names i j b c below first second =
+      let (u, at_u, one) = unit_of plan vehicle is apart i b first in
+      let (v, at_v, other) = unit_of plan vehicle is apart j c second in
+      let alike = ordered plan vehicle is apart i j u v b c at_u at_v one other (λ same. absurd (omega (arith, below, same))) in
+      alike.apart
+
+  -- a statement and one that holds where it does
+  told_over : (told : Bool) (S R : Type 0) → (S → R) → (R → S) → MatchBool told S (¬ S) → MatchBool told R (¬ R)
+  told_over true S R there back is = there is
+  told_over false S R there back is = λ holds. is (back holds)
+
+  beside : (u : ℕ) → StaysBeside plan.strangers (units_of plan) u → StaysBeside vehicle.strangers (units_of vehicle) u
+  beside u stays =
+      subst (λ n. StaysBeside n (units_of vehicle) u) (sym is.strangers) (((stay_alike plan vehicle is apart).beside u).0 stays)
+
+  alone : (u : ℕ) → StaysBeside vehicle.strangers (units_of vehicle) u → StaysBeside plan.strangers (units_of plan) u
+  alone u stays =
+      ((stay_alike plan vehicle is apart).beside u).1 (subst (λ n. StaysBeside n (units_of vehicle) u) is.strangers stays)
+
+  stand_alike : (stays : UnitPlan → Bool) → TellsWhoStays plan stays → StandAlike plan vehicle stays
+  stand_alike stays tells = record {
+    told = told_by units boxes stays;
+    tells = λ u box at_box.
+        let (unit, at_unit, of_box) = unit_of plan vehicle is apart u box at_box in
+        subst (λ b. MatchBool b (StaysBeside vehicle.strangers (units_of vehicle) u) (¬ StaysBeside vehicle.strangers (units_of vehicle) u))
+        (sym (told_at stays units boxes own_names u unit box at_unit at_box))
+        (told_over (stays unit) _ _ (beside u) (alone u) (tells u unit at_unit));
+    same = λ u unit box at_unit at_box. told_at stays units boxes own_names u unit box at_unit at_box;
+  }
+
+  module _ (stays told : UnitPlan → Bool) (tells : TellsWhoStays plan stays) (tell : TellsWhoStays vehicle told) where
+    seen : (v : ℕ) → AreBoth (AreSeenAlike stays told) (slice_get units v) (slice_get boxes v)
+    seen v = go (slice_get units v) (slice_get boxes v) refl refl (both_at IsBoxOf units boxes is.boxes v) where
+      go : (o p : Option UnitPlan) → slice_get units v ≡ o → slice_get boxes v ≡ p → AreBoth IsBoxOf o p → AreBoth (AreSeenAlike stays told) o p
+      go None None at_unit at_box both = tt
+      go None (Some box) at_unit at_box both = absurd both
+      go (Some unit) None at_unit at_box both = absurd both
+      go (Some unit) (Some box) at_unit at_box both = record {
+        address = both.address;
+        choice = box_chooses unit box both;
+        window = both.window;
+        queue = both.queue;
+        standing = told_once (told box) (stays unit) _ (tell v box at_box) (told_over (stays unit) _ _ (beside v) (alone v) (tells v unit at_unit));
+      }
+
+    same_asked : (timing : Timing) → asked_of timing plan stays ≡ asked_of timing vehicle told
+    same_asked timing =
+        asked_alike plan vehicle timing stays told seen (AllZip-long IsBoxOf units boxes is.boxes) is.groups is.flows is.requests
+
+  -- what is wrong with the same
+  pub same_findings : (timing : Timing) (load : ℕ) (delays : List (Option Delay)) → all_findings plan timing load delays ≡ all_findings vehicle timing load delays
+  same_findings timing load delays =
+      ap (λ (requests : List RequestPlan). load_findings timing load delays ++ old_needs timing requests plan.flows.items delays plan.needs.items) (sym is.requests)
+      ∙ ap (λ (flows : List FlowPlan). load_findings timing load delays ++ old_needs timing vehicle.requests.items flows delays plan.needs.items) (sym is.flows)
+      ∙ ap (λ (needs : List NeedPlan). load_findings timing load delays ++ old_needs timing vehicle.requests.items vehicle.flows.items delays needs)
+      (sym is.needs)
+
+  pub asks_alike : (timing : Timing) (stays : UnitPlan → Bool) (delays : List (Option Delay)) → AsksOfBus plan timing stays delays
+      → (told : UnitPlan → Bool) → TellsWhoStays vehicle told → AsksOfBus vehicle timing told delays
+  asks_alike timing stays delays asks told tells = record {
+    standing = tells;
+    waits = subst (λ (asked : Asked). TellDelays timing asked delays) (same_asked stays told asks.standing tells timing) asks.waits;
+  }
+
+  findings_alike : (timing : Option Timing) (findings : List LoadFinding) → AreLoadFindings plan timing findings → AreLoadFindings vehicle timing findings
+  findings_alike None findings are = are
+  findings_alike (Some timing) findings (stays, delays, asks, are) =
+      let there = stand_alike stays asks.standing in
+      let asked = same_asked stays there.told asks.standing there.tells timing in (
+        there.told,
+        delays,
+        asks_alike timing stays delays asks there.told there.tells,
+        are ∙ same_findings timing (total_load timing (asked_of timing plan stays)) delays
+            ∙ ap (λ (a : Asked). all_findings vehicle timing (total_load timing a) delays) asked,
+      )
+
+  pub loads_alike : AreLoadsAlike plan vehicle
+  loads_alike = record {
+    standing = stand_alike;
+    asked = λ timing stays told tells tell. same_asked stays told tells tell timing;
+    findings = λ findings are. subst (λ (timing : Option Timing). AreLoadFindings vehicle timing findings) (sym is.timing)
+        (findings_alike plan.timing findings are);
+  }

@@ -1,0 +1,50 @@
+"""Which identity numbers of nodes a plan has: each is one box's own serial number, so a plan of a type of vehicle has none."""
+
+from __future__ import annotations
+
+from itertools import count
+from typing import Any, NamedTuple
+
+from j39plan.dbc.names import IDENTITY_ATTRIBUTE
+from j39plan.left_out import Notes
+from j39plan.plan.schema import ABSENT, knows
+
+
+class Box(NamedTuple):
+    """A unit of a file: its name and address, its NAME without the identity number, and this, None where the file gives none."""
+
+    unit: str
+    address: int
+    name: dict[str, Any]
+    number: int | None
+
+
+def numbers_of(boxes: list[Box], keeps: bool, version: int, notes: Notes) -> dict[str, int]:
+    """The identity numbers in a plan of this version, by units: those that tell units from one another, and all that are given where they are to
+    be kept. A version that asks for a number of each unit has a free one where none is given."""
+    given = {box.unit: box.number for box in boxes if box.number is not None}
+    if not knows(version, (ABSENT, "name", "identity")):
+        return with_free_ones(boxes, given, notes)
+    if keeps:
+        return given
+    kept: dict[str, int] = {}
+    for box in boxes:
+        alike = [other for other in boxes if other.name == box.name and None not in (other.number, box.number) and other.number != box.number]
+        if alike:
+            kept[box.unit] = given[box.unit]
+            told = f"nothing but its identity number {box.number} tells it from {alike[0].unit}: it is kept, and the plan fits one vehicle"
+            notes.say(f"unit {box.unit}", told)
+        elif box.number:
+            notes.say(f"unit {box.unit}, {IDENTITY_ATTRIBUTE[0]}", f"{box.number} is left away: each box has a number of its own")
+    return kept
+
+
+def with_free_ones(boxes: list[Box], given: dict[str, int], notes: Notes) -> dict[str, int]:
+    """The numbers that are given, and free ones of other units in the order of their addresses."""
+    free = (number for number in count(1) if number not in given.values())
+    without = sorted((box for box in boxes if box.number is None), key=lambda box: (box.address, box.unit))
+    found = {**given, **{box.unit: number for box, number in zip(without, free)}}
+    for box in boxes:
+        if box.number is None:
+            notes.say(f"unit {box.unit}", f"no identity number is given: {found[box.unit]} stands in its place")
+    return found
