@@ -180,11 +180,11 @@ class Wheel(InFolder):
         """That of the package, which a file of its name in tools/ runs; its version is that of the program."""
         with open(os.path.join(TOOLS, "pyproject.toml"), "rb") as file:
             project = tomllib.load(file)["project"]
-        self.assertEqual(project["scripts"], {f"j39plan-{tool}": f"j39plan.cli.{tool}:main" for tool in INSTALLED if tool != "check-plans"})
+        self.assertEqual(project["scripts"], {f"j39plan-{tool}": f"j39plan.cli.{tool.replace('-', '_')}:main" for tool in INSTALLED})
         self.assertEqual(project["version"], lines_of(program.path(), "--version")[0].split()[1])
         modules = glob.glob("[!_]*.py", root_dir=os.path.join(TOOLS, "j39plan", "cli"))
-        self.assertEqual(sorted(modules), sorted(glob.glob("*.py", root_dir=TOOLS)))
-        self.assertEqual(sorted(modules), sorted(f"{tool}.py" for tool in INSTALLED if tool != "check-plans"))
+        self.assertEqual(sorted(modules), sorted([*glob.glob("*.py", root_dir=TOOLS), "check_plans.py"]))
+        self.assertEqual(sorted(modules), sorted(f"{tool.replace('-', '_')}.py" for tool in INSTALLED))
 
     @unittest.skipUnless(all(map(importlib.util.find_spec, ("pip", "setuptools", "wheel"))), "pip, setuptools or wheel isn't there: apt-get install python3-pip")
     def test_what_pip_installs_works(self):
@@ -196,7 +196,7 @@ class Wheel(InFolder):
         subprocess.run([sys.executable, "-m", *words, self.path("there"), self.path("tools")], check=True, capture_output=True)
         there = {**os.environ, "J39PLAN": os.path.abspath(program.path()), "PYTHONPATH": self.path("there")}
         plan, log = (os.path.join(TOP, "examples", f"two_units_one_address.{end}") for end in ("toml", "drive.log"))
-        for tool in (tool for tool in INSTALLED if tool != "check-plans"):
+        for tool in INSTALLED:
             said = lines_of(self.path(f"there/bin/j39plan-{tool}"), "--version", env=there, cwd=self.folder)
             self.assertEqual(said, [f"{tool} (j39plan) {lines_of(program.path(), '--version')[0].split()[1]}"])
         for tool, words in (("fleet", (plan, log)), ("signals", (plan, log)), ("where", ("--lint", plan)), ("join", (plan, os.path.join(TOP, "examples/axle.toml")))):

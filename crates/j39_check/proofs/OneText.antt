@@ -1,5 +1,5 @@
--- Check has one text, and so has addresses.
-use Rattle.std.proofs.Common.{◌≡◌, ℕ, suc, zero, Bool, List, [], ◌∷◌, ◌++◌, Option, Some, None, inl, inr, Err, refl, subst, sym, ap, ◌∙◌}
+-- Check has one text, and so have addresses, load and show.
+use Rattle.std.proofs.Common.{◌≡◌, ℕ, suc, zero, ◌+◌, Bool, cond, codes, count_by, length, List, [], ◌∷◌, ◌++◌, Option, Some, None, inl, inr, Err, refl, subst, sym, ap, ◌∙◌}
 use Rattle.std.proofs.lemmas.Bool.{cases_Bool}
 use Rattle.std.proofs.lemmas.Option.{same_Some}
 use Rattle.std.specs.List.{AllZip, slice_get}
@@ -25,6 +25,7 @@ use Rattle.j39_check.specs.PlanText.{Describes, IsRefusalLine, fault_line}
 use Rattle.j39_stream.specs.declared.verdict.Verdict.TheVariants.{Done, Findings, Refused, Unreadable}
 use Rattle.j39_check.specs.CheckText.{HasOneRefusal, HasOneReport, IsNotRefused, IsReport, findings_text}
 use Rattle.j39_check.specs.LoadLines.{loads_text}
+use Rattle.j39_check.specs.ShowText.{HasOneShowReport}
 use Rattle.j39_check.specs.LoadText.{HasOneLoadReport, IsLoadReport, TellsLoads, load_verdict, tells_times, untold_text}
 use Rattle.j39_stream.specs.declared.verdict.Verdict.{Verdict}
 
@@ -159,3 +160,14 @@ one_load_answer plan (Some timing) text other verdict another is are =
 
 pub one_load_report : (plan : Plan) → HasOneLoadReport plan
 one_load_report plan text other verdict another = one_load_answer plan plan.timing text other verdict another
+
+-- ---- show
+
+pub one_show_report : (plan : Plan) → HasOneShowReport plan
+one_show_report plan text other Done Done is another = (is ∙ sym another, refl)
+one_show_report plan text other Done Findings is another = absurd another
+one_show_report plan text other Done Refused is another = absurd another
+one_show_report plan text other Done Unreadable is another = absurd another
+one_show_report plan text other Findings another_verdict is another = absurd is
+one_show_report plan text other Refused another_verdict is another = absurd is
+one_show_report plan text other Unreadable another_verdict is another = absurd is

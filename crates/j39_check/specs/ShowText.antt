@@ -267,3 +267,10 @@ IsShowReport plan text Unreadable = ⊥
 -- what is written for a file
 abbrev pub IsShowText : List ℕ → List ℕ → Verdict → Type 0
 IsShowText = IsReportedText IsShowReport
+
+-- ---- laws
+
+-- a plan has one report of its values
+abbrev pub HasOneShowReport : Plan → Type 0
+HasOneShowReport plan = (text other : List ℕ) (verdict another : Verdict)
+    → IsShowReport plan text verdict → IsShowReport plan other another → (text ≡ other) × (verdict ≡ another)

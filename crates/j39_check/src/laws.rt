@@ -1,4 +1,4 @@
-//! The laws of what check and addresses write.
+//! The laws of what check, addresses, load and show write.
 ghost use Rattle.std.specs.Prelude.{ℕ, List};
 ghost use Rattle.j39_findings.specs.Kinds.{AreToldApart};
 ghost use Rattle.j39_findings.specs.VehiclePlans.{IsVehicleOf};
@@ -6,6 +6,7 @@ ghost use Rattle.j39_findings.specs.declared.plan.Plan.{Plan};
 ghost use Rattle.j39_check.specs.AddressesText.{HasOneAddressesReport};
 ghost use Rattle.j39_check.specs.CheckText.{HasOneRefusal, HasOneReport, IsNotRefused};
 ghost use Rattle.j39_check.specs.LoadText.{HasOneLoadReport};
+ghost use Rattle.j39_check.specs.ShowText.{HasOneShowReport};
 ghost use Rattle.j39_check.specs.FindingLines.{RunReadsBack, RunShowsConflict};
 ghost use Rattle.j39_check.specs.VehicleReports.{AreReportedAlike};
 
@@ -26,6 +27,11 @@ pub fn addresses_have_one_text()
 /// A plan has one text of load, with one verdict.
 pub fn load_has_one_text()
     ensures { (plan : Plan) → HasOneLoadReport plan }
+{}
+
+/// A plan has one text of show, with one verdict.
+pub fn show_has_one_text()
+    ensures { (plan : Plan) → HasOneShowReport plan }
 {}
 
 /// The lines that are written below a finding are a schedule of the run that shows its conflict, and there are none below a

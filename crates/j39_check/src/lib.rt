@@ -22,6 +22,7 @@ pub use certificate::certify_with_load;
 pub use check::check_text;
 pub use laws::{
     addresses_have_one_text, check_has_one_text, load_has_one_text, serial_numbers_change_no_text,
+    show_has_one_text,
     written_runs_read_back, written_runs_show_the_conflict,
 };
 pub use load::load_text;

@@ -25,19 +25,17 @@ pub(crate) struct Contests {
     claimants: Claimants,
 }
 
-// What is left of all contests at a frame that tells of this one. Not in line: tables of its own take much of the stack.
-#[inline(never)]
-fn all_left(table: &[Contention; ADDRESSES], party: Who) -> [Contention; ADDRESSES]
-    ensures { AreRemaining table.now result party }
+// Ends each contest that a frame that tells of this one ends.
+fn leave_contests(table: &mut [Contention; ADDRESSES], party: Who)
+    ensures { AreRemaining table.old table.new party }
 {
-    let mut rest = [Contention::new(); ADDRESSES];
     for address in 0..ADDRESSES {
-        rest[address] = Contention {
-            taken: table[address].taken,
-            contest: contest_left(table[address].contest, party),
+        let old = table[address];
+        table[address] = Contention {
+            taken: old.taken,
+            contest: contest_left(old.contest, party),
         };
     }
-    rest
 }
 
 // Puts what is known of one address in its place.
@@ -45,6 +43,38 @@ fn put_contention(table: &mut [Contention; ADDRESSES], address: u8, new: Content
     ensures { (a : ℕ) → a < 256 → contention_at table.new a ≡ (if address == a then new else contention_at table.old a) }
 {
     table[usize::from(address)] = new;
+}
+
+// Notes what a frame of this NAME ends and begins. The table is changed in place: another one takes much of the stack.
+fn note_contests(
+    table: &mut [Contention; ADDRESSES],
+    plan: &Plan,
+    directory: &Directory,
+    frame: &Frame,
+    name: u64,
+    claimant: Claimant,
+    time: Option<u64>,
+)
+    requires told { (claims_address frame.now || cannot_claim frame.now) ≡ true }
+    requires name { name_in frame.now ≡ name }
+    ensures { (log : List Timed) (address : ℕ) → address < 256 → Knows plan.now directory.now (frames_of log)
+        → IsClaimant plan.now (frames_of log) name claimant → IsContentionBehind plan.now log (contention_at table.old address)
+        (record { frame = frame.now; time = time }) address (contention_at table.new address) }
+{
+    let address = frame.ident.sa;
+    let old = table[usize::from(address)];
+    leave_contests(table, claimant.party);
+    if !claims_address(frame) {
+        return;
+    }
+    let claim = Claim {
+        name,
+        claimant,
+        address,
+        time,
+    };
+    let new = contention_behind(plan, directory, old, claim);
+    put_contention(table, address, new);
 }
 
 // The address that a frame claims.
@@ -82,42 +112,7 @@ impl Contests {
         }
     }
 
-    // What is known of all addresses behind a frame of this NAME.
-    #[inline(never)]
-    fn behind(
-        &self,
-        plan: &Plan,
-        directory: &Directory,
-        frame: &Frame,
-        name: u64,
-        claimant: Claimant,
-        time: Option<u64>,
-    ) -> [Contention; ADDRESSES]
-        requires told { (claims_address frame.now || cannot_claim frame.now) ≡ true }
-        requires name { name_in frame.now ≡ name }
-        ensures { (log : List Timed) (address : ℕ) → address < 256 → Knows plan.now directory.now (frames_of log)
-            → IsClaimant plan.now (frames_of log) name claimant → IsContentionBehind plan.now log (contention_at self.now.table address)
-            (record { frame = frame.now; time = time }) address (contention_at result address) }
-    {
-        let mut rest = all_left(&self.table, claimant.party);
-        if !claims_address(frame) {
-            return rest;
-        }
-        let address = frame.ident.sa;
-        let claim = Claim {
-            name,
-            claimant,
-            address,
-            time,
-        };
-        let old = self.table[usize::from(address)];
-        let new = contention_behind(plan, directory, old, claim);
-        put_contention(&mut rest, address, new);
-        rest
-    }
-
     /// Notes a frame that claims an address or tells that a NAME can't, on a line with this time: what it ends and begins.
-    #[inline(never)]
     pub fn hear(
         &mut self,
         plan: &Plan,
@@ -131,7 +126,15 @@ impl Contests {
     {
         let name = carried_name(frame).to_bits();
         let claimant = self.claimants.claimant(plan, name);
-        self.table = self.behind(plan, directory, frame, name, claimant, time);
+        note_contests(
+            &mut self.table,
+            plan,
+            directory,
+            frame,
+            name,
+            claimant,
+            time,
+        );
         let told = Claimant {
             party: claimant.party,
             address: claimed(frame),

@@ -5,10 +5,15 @@ ghost use Rattle.std.specs.List.{list_all, position};
 ghost use Rattle.std.specs.Str.Parse.{digits_value};
 ghost use Rattle.j39_follow.specs.LogLines.{are_decimals as have_decimals, are_seconds as have_seconds, microseconds as many_microseconds, moment_of, time_with_point};
 
+use crate::words::WHOLE_TIME;
+
 // The most digits of whole seconds.
 const MOST_SECONDS: usize = 12;
 
 const MICROSECONDS: u64 = 1_000_000;
+
+// The place of the point in a time as `candump -L` writes it.
+const USUAL_POINT: usize = 10;
 
 fn is_digit(byte: u8) -> bool
     ensures { result ≡ is_ascii_digit byte }
@@ -16,6 +21,7 @@ fn is_digit(byte: u8) -> bool
     matches!(byte, b'0'..=b'9')
 }
 
+#[inline(always)]
 fn are_digits(text: &[u8]) -> bool
     ensures { result ≡ list_all is_ascii_digit text.now }
 {
@@ -23,6 +29,7 @@ fn are_digits(text: &[u8]) -> bool
 }
 
 // Whether these are whole seconds.
+#[inline(always)]
 fn are_seconds(digits: &[u8]) -> bool
     ensures { result ≡ have_seconds digits.now }
 {
@@ -30,6 +37,7 @@ fn are_seconds(digits: &[u8]) -> bool
 }
 
 // Whether these are decimals.
+#[inline(always)]
 fn are_decimals(digits: &[u8]) -> bool
     ensures { result ≡ have_decimals digits.now }
 {
@@ -37,6 +45,7 @@ fn are_decimals(digits: &[u8]) -> bool
 }
 
 // The number of at most 12 digits.
+#[inline(always)]
 fn number_of(digits: &[u8]) -> u64
     requires digits { list_all is_ascii_digit digits.now ≡ true }
     requires few { length digits.now ≤ 12 }
@@ -62,6 +71,7 @@ fn decimal(decimals: &[u8], place: usize) -> u8
 }
 
 // The first six decimals.
+#[inline(always)]
 fn six_decimals(decimals: &[u8]) -> [u8; 6]
     ensures { result ≡ take 6 (decimals.now ++ codes "000000") }
 {
@@ -75,6 +85,7 @@ fn six_decimals(decimals: &[u8]) -> [u8; 6]
     ]
 }
 
+#[inline(always)]
 fn microseconds(whole: &[u8], decimals: &[u8]) -> u64
     requires whole { have_seconds whole.now ≡ true }
     requires decimals { list_all is_ascii_digit decimals.now ≡ true }
@@ -97,6 +108,7 @@ fn time_of_whole(digits: &[u8]) -> Option<u64>
 }
 
 // The time of digits of which a point stands at this place.
+#[inline(always)]
 fn time_of_parts(digits: &[u8], point: usize) -> Option<u64>
     requires { point < length digits.now }
     ensures { result ≡ time_with_point digits.now (Some point) }
@@ -117,9 +129,27 @@ fn point_of(digits: &[u8]) -> Option<usize>
     digits.iter().position(|byte| *byte == b'.')
 }
 
+// Whether a point stands behind ten digits, and six bytes behind it, as in the times that most loggers write.
+#[inline(always)]
+fn has_usual_point(digits: &[u8]) -> bool
+    ensures size { result ≡ true → length digits.now ≡ 17 }
+    ensures point { result ≡ true → position (λ c. c == 46) digits.now ≡ Some 10 }
+{
+    if digits.len() != WHOLE_TIME {
+        return false;
+    }
+    if digits[USUAL_POINT] != b'.' {
+        return false;
+    }
+    are_digits(&digits[..USUAL_POINT])
+}
+
 fn time_of(digits: &[u8]) -> Option<u64>
     ensures { result ≡ time_with_point digits.now (position (λ c. c == 46) digits.now) }
 {
+    if has_usual_point(digits) {
+        return time_of_parts(digits, USUAL_POINT);
+    }
     match point_of(digits) {
         Some(point) => time_of_parts(digits, point),
         None => time_of_whole(digits),

@@ -7,8 +7,8 @@ ghost use Rattle.j39_follow.specs.inside.Splitting.{IsEnclosed, IsWordAt, TellsD
 
 use j39_id::{Frame, is_separator, split_last, words_end};
 
-// The digits and the point of a time as `candump -L` writes it: seconds and microseconds.
-const WHOLE_TIME: usize = 17;
+/// The digits and the point of a time as `candump -L` writes it: seconds and microseconds.
+pub(crate) const WHOLE_TIME: usize = 17;
 
 // How many separators stand before the first word of a line.
 fn blank_start(line: &[u8]) -> usize

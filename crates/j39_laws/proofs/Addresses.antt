@@ -11,3 +11,4 @@ pub mod Staying
 pub mod PlannedApart
 pub mod Alone
 pub mod Strangers
+pub mod StrangersComing

@@ -17,7 +17,8 @@ use Rattle.j39_world.specs.Opening.{AreNamesDistinct}
 use Rattle.j39_world.specs.Settling.{Settles}
 use Rattle.j39_world.specs.Ending.{TransfersEnd}
 use Rattle.j39_world.specs.Arriving.{ArrivesUnanswered, ArrivesAnswered}
-use Rattle.j39_world.specs.Needed.{Delivered, ReportsNeeded, LastWrite, ReadsAsWritten}
+use Rattle.j39_world.specs.Needed.{Delivered, ReportsNeeded, LastWrite, ReadsAsWritten, bytes_of}
+use Rattle.j39_world.specs.SentArriving.{HasArrivedAlone, NeededAlone, SentFramesArrive}
 use Rattle.j39_world.specs.Sound.{AreAddressesSound, AreAddressesDifferent, AreNotesRight, AreKeptFree, IsQuiet, AreReportsSound, AreSentFramesSound, IsAcknowledgedReported}
 use Rattle.j39_world.specs.SoundPlan.{AlwaysBeside, IsSound}
 use Rattle.j39_world.specs.Staying.{ArePlannedApart, HoldsAlone, HoldsPlanned, IsAloneThere}
@@ -53,15 +54,20 @@ pub sound_by_laws : (plan : Plan) → Clean plan
     → ((p : Plan) (steps : List Step) (w : World) → Run p all_off steps w → TransfersEnd p w)
     → ((p : Plan) (steps : List Step) (w : World) → Run p all_off steps w → ArrivesUnanswered p w)
     → ((p : Plan) (steps : List Step) (w : World) → Run p all_off steps w → ArrivesAnswered p w)
+    → ((p : Plan) (steps : List Step) (w : World) → Run p all_off steps w → SentFramesArrive p w)
     → ((p : Plan) → Clean p → AreRequestsServed p)
     → ((p : Plan) → Clean p → AreAnsweredWell p)
     → ((p : Plan) → Clean p → AreNeedsMet p)
     → ((p : Plan) (steps : List Step) (w : World) → Clean p → Run p all_off steps w → (d : Delivered p w) → ReportsNeeded p w d)
     → ((p : Plan) (steps : List Step) (w : World) → Clean p → Run p all_off steps w
     → (d : Delivered p w) (x : LastWrite d.message) → ReadsAsWritten d.message x x.write.place)
+    → ((p : Plan) (steps : List Step) (w : World) → Run p all_off steps w → (n : NeededAlone p w)
+    → HasArrivedAlone w n.frame.after n.message.flow.sender n.message.need.unit (record { flow = n.message.place; bytes = bytes_of n.message }))
+    → ((p : Plan) (steps : List Step) (w : World) → Clean p → Run p all_off steps w
+    → (n : NeededAlone p w) (x : LastWrite n.message) → ReadsAsWritten n.message x x.write.place)
     → IsSound plan
 sound_by_laws plan clean addresses different planned alone silent strangers strangers_quiet notes kept settles signals reports sent_frames acknowledged ends
-    arrives arrives_answered served answered needs needed read = record {
+    arrives arrives_answered sent_arrive served answered needs needed read needed_sent read_sent = record {
       addresses = λ steps w run. addresses plan steps w clean run;
       quiet = λ steps w run. different plan steps w clean run;
       sending = λ steps w run (u, o, is). different plan steps w clean run (quiet_where_empty w.claims ((reports plan steps w run).delivered u o is));
@@ -80,8 +86,10 @@ sound_by_laws plan clean addresses different planned alone silent strangers stra
       ends = λ steps w run. ends plan steps w run;
       arrives = λ steps w run. arrives plan steps w run;
       arrives_answered = λ steps w run. arrives_answered plan steps w run;
+      sent_arrive = λ steps w run. sent_arrive plan steps w run;
       served = served plan clean;
       answered = answered plan clean;
       needs = needs plan clean;
       needed = λ steps w run d. (needed plan steps w clean run d, read plan steps w clean run d);
+      needed_sent = λ steps w run n. (needed_sent plan steps w run n, read_sent plan steps w clean run n);
     }

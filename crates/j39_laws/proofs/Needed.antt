@@ -27,6 +27,7 @@ use Rattle.j39_world.specs.Arriving.{HasArrived}
 use Rattle.j39_world.specs.Flows.{flow_of, flows_of}
 use Rattle.j39_world.specs.Needed.{Delivered, IsDelivered, ReportsNeeded, LastWrite, NeededMessage, ReadsAsWritten, bytes_of}
 use Rattle.j39_world.specs.Run.{Run, count_of, is_on}
+use Rattle.j39_world.specs.SentArriving.{HasArrivedAlone, NeededAlone}
 use Rattle.j39_world.specs.Sound.{reported}
 use Rattle.j39_world.specs.TransferSteps.{outgoing, targets_of}
 use Rattle.j39_world.specs.Transfers.{is_among}
@@ -34,6 +35,7 @@ use Rattle.j39_world.specs.World.{World, Stations, all_off, is_other_on}
 use Rattle.j39_world.specs.declared.flow.Flow.{Flow}
 use Rattle.j39_laws.proofs.Transfers.Arriving.{arrives_unanswered}
 use Rattle.j39_laws.proofs.Transfers.ArrivingAnswered.{arrives_answered}
+use Rattle.j39_laws.proofs.Transfers.SentArriving.{arrives_alone}
 
 -- ---- among the receivers
 
@@ -140,3 +142,17 @@ module _ (plan : Plan) (m : NeededMessage plan) where
 
 pub is_reported : (plan : Plan) (steps : List Step) (w : World) → Clean plan → Run plan all_off steps w → (d : Delivered plan w) → ReportsNeeded plan w d
 is_reported plan steps w clean run d = from_delivery plan d.message steps w d.after run d.on d.through
+
+-- and so is one that is sent in a frame alone
+pub is_reported_alone : (plan : Plan) (steps : List Step) (w : World) → Run plan all_off steps w → (n : NeededAlone plan w)
+    → HasArrivedAlone w n.frame.after n.message.flow.sender n.message.need.unit (record { flow = n.message.place; bytes = bytes_of n.message })
+is_reported_alone plan steps w run n =
+    let m = n.message in
+    let has : HasArrivedAlone w n.frame.after n.frame.flow.sender n.frame.receiver (record { flow = n.frame.place; bytes = n.frame.bytes }) =
+    arrives_alone plan steps w run n.frame in
+    let planned : slice_get (flows_of plan) m.place ≡ Some n.frame.flow = subst (λ (k : ℕ). slice_get (flows_of plan) k ≡ Some n.frame.flow) n.place n.frame.planned in
+    let by : n.frame.flow.sender ≡ m.flow.sender = ap (λ (f : Flow). f.sender) (flow_here plan m n.frame.flow planned) in
+    let unit = subst (λ (k : ℕ). HasArrivedAlone w n.frame.after n.frame.flow.sender k (record { flow = n.frame.place; bytes = n.frame.bytes })) n.receiver has in
+    let from = subst (λ (k : ℕ). HasArrivedAlone w n.frame.after k m.need.unit (record { flow = n.frame.place; bytes = n.frame.bytes })) by unit in
+    let placed = subst (λ (k : ℕ). HasArrivedAlone w n.frame.after m.flow.sender m.need.unit (record { flow = k; bytes = n.frame.bytes })) n.place from in
+    subst (λ (bs : List ℕ). HasArrivedAlone w n.frame.after m.flow.sender m.need.unit (record { flow = m.place; bytes = bs })) n.bytes placed

@@ -21,3 +21,5 @@ pub mod Answered
 pub mod AnsweredTaken
 pub mod ArrivingAnswered
 pub mod AnsweredRuns
+pub mod UnansweredRuns
+pub mod SentArriving

@@ -2,11 +2,11 @@
 ghost use Rattle.j39_world.specs.SoundPlan.{AreVehiclesSound, IsSound};
 
 use crate::laws::{
-    a_needed_value_arrives, acknowledged_messages_were_reported, addresses_are_sound,
-    alone_units_are_undisturbed, answered_messages_arrive, claims_die_down, every_transfer_ends,
-    kept_addresses_stay_free, planned_addresses_stay, quiet_notes_are_right, reports_are_sound,
-    sent_frames_are_sound, silent_units_are_undisturbed, strangers_keep_addresses,
-    unanswered_messages_arrive,
+    a_needed_value_arrives, a_sent_value_arrives, acknowledged_messages_were_reported,
+    addresses_are_sound, alone_units_are_undisturbed, answered_messages_arrive, claims_die_down,
+    every_transfer_ends, kept_addresses_stay_free, planned_addresses_stay, quiet_notes_are_right,
+    reports_are_sound, sent_frames_are_sound, sent_frames_arrive, silent_units_are_undisturbed,
+    strangers_keep_addresses, unanswered_messages_arrive,
 };
 use j39_findings::{
     CheckedPlan, needs_are_met, requests_are_served, serial_numbers_change_nothing,
@@ -40,8 +40,10 @@ pub fn certify(checked: &CheckedPlan)
     every_transfer_ends();
     unanswered_messages_arrive();
     answered_messages_arrive();
+    sent_frames_arrive();
     requests_are_served();
     needs_are_met();
     serial_numbers_change_nothing();
     a_needed_value_arrives();
+    a_sent_value_arrives();
 }

@@ -20,15 +20,15 @@ mod staying;
 mod strangers;
 mod transfers;
 
-pub use arrivals::{answered_messages_arrive, unanswered_messages_arrive};
+pub use arrivals::{answered_messages_arrive, sent_frames_arrive, unanswered_messages_arrive};
 pub use lengths::flows_have_one_length;
-pub use needs::a_needed_value_arrives;
+pub use needs::{a_needed_value_arrives, a_sent_value_arrives};
 pub use staying::{
     alone_units_are_undisturbed, planned_addresses_stay, silent_units_are_undisturbed,
     smaller_names_are_undisturbed, units_hold_planned_or_pool_addresses,
     units_stay_in_each_vehicle, who_stays,
 };
-pub use strangers::{strangers_keep_addresses, who_stays_with_strangers};
+pub use strangers::{strangers_can_come, strangers_keep_addresses, who_stays_with_strangers};
 pub use transfers::{every_transfer_ends, sent_frames_are_sound, steps_lead_somewhere};
 
 /// In every world of every run of a plan without findings, with all lawful choices, addresses are sound: each unit that is on holds

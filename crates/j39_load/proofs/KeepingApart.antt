@@ -1,29 +1,45 @@
--- A bus can keep to a plan in the plan's own words: one flow of it alone, whose frames come one behind the other.
-use Rattle.std.proofs.Common.{◌≡◌, ℕ, ◌+◌, ◌*◌, ◌<◌, ◌≤◌, ◌⊎◌, true, ltb, length, Some}
+-- A bus can keep to a plan in the plan's own words: one flow of it alone, whose frames come one behind the other, in time or as late as its
+-- jitter allows, undamaged or with the first one damaged once.
+use Rattle.std.proofs.Common.{◌≡◌, ℕ, ◌+◌, ◌*◌, ◌^◌, ◌%◌, ◌<◌, ◌≤◌, ◌⊎◌, Bool, true, false, not, ◌&&◌, cond, if◌then◌else◌, ltb, nat_le, nat_lt, length, Option, Some}
 use Rattle.std.proofs.Common.{refl, sym, ap, ◌∙◌, subst, inl, inr, arith}
 use Rattle.std.proofs.Math.Nat.{mul-le-mul_left}
-use Rattle.std.proofs.lemmas.Bool.{cases_lt, lt-ltb, ltb-true, true≢false}
+use Rattle.std.proofs.lemmas.Bool.{cases_lt, cond_both, leb-false, lt-ltb, ltb-true, true≢false}
 use Rattle.std.proofs.lemmas.List.{length-map}
 use Rattle.std.proofs.lemmas.Option.{same_Some}
 use Rattle.std.specs.List.{slice_get}
+use Rattle.std.specs.Option.{option_map_or}
 use Rattle.j39_claim.specs.ClaimRule.{PlannedUnit}
 use Rattle.j39_id.specs.Ident.{identifier_of}
+use Rattle.j39_id.specs.Pgn.{IsPgn, is_pdu2, pdu2_first, pf_of}
 use Rattle.j39_findings.specs.declared.plan.Plan.{Plan}
 use Rattle.j39_findings.specs.declared.plan.flow_plan.FlowPlan.{FlowPlan}
 use Rattle.j39_findings.specs.declared.plan.group_plan.GroupPlan.{GroupPlan}
 use Rattle.j39_findings.specs.declared.plan.pace.Pace.{Pace}
+use Rattle.j39_findings.specs.declared.plan.queue.Queue.{Queue}
 use Rattle.j39_findings.specs.declared.plan.timing.Bitrate.{Bitrate}
 use Rattle.j39_findings.specs.declared.plan.timing.Bitrate.TheVariants.{Kbit125, Kbit250, Kbit500, Mbit1}
+use Rattle.j39_findings.specs.declared.plan.timing.ErrorRate.{ErrorRate}
 use Rattle.j39_findings.specs.declared.plan.timing.Timing.{Timing}
-use Rattle.j39_findings.specs.declared.plan.to.To.TheVariants.{One}
+use Rattle.j39_findings.specs.declared.plan.to.To.{To}
+use Rattle.j39_findings.specs.declared.plan.to.To.TheVariants.{All, One}
+use Rattle.j39_findings.specs.declared.plan.unit_plan.UnitPlan.{UnitPlan}
 use Rattle.j39_findings.proofs.Members.{all_at}
-use Rattle.j39_load.specs.KeepsPlan.{CanBeKept, Held, IsFrameOf, IsMsBehind, KeepsToPlan, FrameFlows, bit_time, goes_to}
-use Rattle.j39_load.specs.Loads.{bits_per_ms}
+use Rattle.j39_load.specs.KeepsErrors.{KeepsErrors, begins_within, planned_with}
+use Rattle.j39_load.specs.KeepsPlan.{CanBeKept, Held, IsFrameOf, IsMsBehind, KeepsQueues, KeepsToPlan, FrameFlows, bit_time, goes_to}
+use Rattle.j39_load.specs.KeptTogether.{CanBeKeptTogether}
+use Rattle.j39_load.specs.Loads.{bits_per_ms, is_any}
 use Rattle.j39_load.specs.Ranks.{AreHeldApart}
+use Rattle.j39_load.proofs.DamagedFirst as damaged_first
 use Rattle.j39_load.proofs.WhoStays.{placed}
 use Rattle.j39_timing.proofs.Rounds.{rounds_legal}
+use Rattle.j39_timing.proofs.Sums.{total-none}
+use Rattle.j39_timing.specs.AnyOrder.{Controllers}
+use Rattle.j39_timing.specs.Companies.{unplanned_queued}
+use Rattle.j39_timing.specs.Errors.{Damaged, with_errors}
 use Rattle.j39_timing.specs.Rounds.{AreSenders, Senders, all_planned, in_rounds}
+use Rattle.j39_timing.specs.Sums.{total}
 use Rattle.j39_timing.specs.TimedFrames.{Schedule}
+use Rattle.j39_timing.specs.Traffic.{others_queued}
 use Rattle.j39_world.specs.PlannedUnits.{planned_unit, unit_at, units_of}
 use Rattle.j39_world.specs.Staying.{ArePlannedApart}
 
@@ -32,6 +48,36 @@ in_ms_behind Kbit125 ms a b behind = omega arith
 in_ms_behind Kbit250 ms a b behind = omega arith
 in_ms_behind Kbit500 ms a b behind = omega arith
 in_ms_behind Mbit1 ms a b behind = omega arith
+
+within_ms : (bitrate : Bitrate) (ms a : ℕ) → (a + ms * bits_per_ms bitrate) * bit_time bitrate ≤ a * bit_time bitrate + 1000 * ms
+within_ms Kbit125 ms a = omega arith
+within_ms Kbit250 ms a = omega arith
+within_ms Kbit500 ms a = omega arith
+within_ms Mbit1 ms a = omega arith
+
+-- an identifier has 29 bits
+few_bits : (priority pgn d s : ℕ) → priority ≤ 7 → IsPgn pgn → d ≤ 255 → s ≤ 255 → identifier_of priority pgn d s < 2 ^ 29
+few_bits priority pgn d s top number few_d few_s = go (is_pdu2 pgn) refl
+  where
+    range : pgn < 2 ^ 18
+    range = number.range
+
+    go : (b : Bool) → is_pdu2 pgn ≡ b → priority * 2 ^ 26 + pgn * 2 ^ 8 + (if b then 0 else d * 2 ^ 8) + s < 2 ^ 29
+    go true is = omega (arith, top, range, few_s)
+    go false isnt = let low : pgn % 256 ≡ 0 = number.low (leb-false pdu2_first (pf_of pgn) isnt) in omega (arith, top, range, low, few_d, few_s)
+
+-- where all is planned nothing else is queued
+none_other : (s : Schedule) (planned : ℕ → Bool) → ((p : ℕ) → planned p ≡ true) → (c from to : ℕ) → others_queued s planned c from to ≡ 0
+none_other s planned all c from to = total-none s.count _ (λ p in_p.
+    ap (λ (b : Bool). cond (not b && (nat_lt (s.ident p) c && (nat_le (s.queued p) to && nat_lt from (s.start p)))) 1 0) (all p))
+
+none_unplanned : (s : Schedule) (from to : ℕ) → unplanned_queued s all_planned from to ≡ 0
+none_unplanned s from to = total-none s.count _ (λ p in_p. refl)
+
+-- one attempt is no more than one
+one_at_most : (f : ℕ → ℕ) → f 0 ≤ 1 → total 1 f ≤ 1
+unfolding total
+one_at_most f few = omega (arith, few)
 
 module _ (plan : Plan) (timing : Timing) (apart : ArePlannedApart (units_of plan)) (f : ℕ) (flow : FlowPlan) (pace : Pace) (group : GroupPlan)
     (its : slice_get plan.flows.items f ≡ Some flow) (paced : flow.pace ≡ Some pace) (of : slice_get plan.groups.items flow.group ≡ Some group)
@@ -96,6 +142,13 @@ module _ (plan : Plan) (timing : Timing) (apart : ArePlannedApart (units_of plan
         apart u v (omega (arith, below_u, size)) (omega (arith, below_v, size)) other;
   }
 
+  sender_on : ltb flow.sender (length plan.units.items) ≡ true
+  sender_on = units_on flow.sender (all_at (λ (g : FlowPlan). g.sender < length plan.units.items) plan.flows.items plan.flow_senders f flow its)
+
+  receiver_on : (v : ℕ) → flow.to ≡ One v → ltb v (length plan.units.items) ≡ true
+  receiver_on v goes = units_on v
+      (all_at (λ (g : FlowPlan). (u : ℕ) → g.to ≡ One u → u < length plan.units.items) plan.flows.items plan.flow_receivers f flow its v goes)
+
   frame : (p : ℕ) → IsFrameOf plan timing bus held f (p * step) p
   frame p = record {
     flow = flow;
@@ -108,10 +161,8 @@ module _ (plan : Plan) (timing : Timing) (apart : ArePlannedApart (units_of plan
     length = omega arith;
     moment_first = omega arith;
     late_at_most = omega arith;
-    sender_on = λ t queued. units_on flow.sender
-        (all_at (λ (g : FlowPlan). g.sender < length plan.units.items) plan.flows.items plan.flow_senders f flow its);
-    receiver_on = λ t v queued goes. units_on v
-        (all_at (λ (g : FlowPlan). (u : ℕ) → g.to ≡ One u → u < length plan.units.items) plan.flows.items plan.flow_receivers f flow its v goes);
+    sender_on = λ t queued. sender_on;
+    receiver_on = λ t v queued goes. receiver_on v goes;
     identifier = λ t queued. refl;
   }
 
@@ -150,3 +201,132 @@ module _ (plan : Plan) (timing : Timing) (apart : ArePlannedApart (units_of plan
     all_planned = λ p. refl;
     of_flow = λ p. refl;
   }
+
+  -- ---- each frame as late as the jitter allows, and the first damaged once
+
+  abbrev late : ℕ
+  late = pace.jitter * bits_per_ms timing.bitrate
+
+  -- from one frame to the next is a period, and room for the two and an error frame
+  abbrev long_step : ℕ
+  long_step = pace.period * bits_per_ms timing.bitrate + 400
+
+  abbrev ident : ℕ
+  ident = identifier_of group.priority group.pgn (goes_to address flow.to) (address flow.sender)
+
+  some_bits : 1 ≤ 80 + 10 * group.most
+  some_bits = omega arith
+
+  room : (80 + 10 * group.most) + (80 + 10 * group.most) + 31 ≤ long_step
+  room = omega (arith, short)
+
+  abbrev late_bus : Schedule
+  late_bus = damaged_first.frames n long_step late (80 + 10 * group.most) ident some_bits room
+
+  abbrev attempt : Damaged
+  attempt = damaged_first.damage n long_step late (80 + 10 * group.most) ident some_bits room
+
+  abbrev late_sent : FrameFlows
+  late_sent = record { flow = λ p. f; moment = λ p. p * long_step }
+
+  long_period_behind : (p q : ℕ) → p < q → IsMsBehind timing pace.period (p * long_step) (q * long_step)
+  long_period_behind p q less =
+      let more : long_step * (p + 1) ≤ long_step * q = mul-le-mul_left long_step (omega (arith, less)) in
+      in_ms_behind timing.bitrate pace.period (p * long_step) (q * long_step) (omega (arith, more))
+
+  late_frame : (p : ℕ) → IsFrameOf plan timing late_bus held f (p * long_step) p
+  late_frame p = record {
+    flow = flow;
+    its = its;
+    pace = pace;
+    paced = paced;
+    group = group;
+    of = of;
+    short = short;
+    length = omega arith;
+    moment_first = omega arith;
+    late_at_most = within_ms timing.bitrate pace.jitter (p * long_step);
+    sender_on = λ t queued. sender_on;
+    receiver_on = λ t v queued goes. receiver_on v goes;
+    identifier = λ t queued. refl;
+  }
+
+  late_keeps : KeepsToPlan plan timing late_bus all_planned late_sent held
+  late_keeps = record {
+    frames = λ p in_p is. late_frame p;
+    apart = λ p q other its_pace in_p in_q differ is_p is_q one_flow at told.
+        subst (λ (x : Pace). IsMsBehind timing x.period (p * long_step) (q * long_step) ⊎ IsMsBehind timing x.period (q * long_step) (p * long_step))
+        (same_period other its_pace at told)
+        (elim (cases_lt p q) [
+          | inl less ↦ inl (long_period_behind p q less)
+          | inr more ↦ inr (long_period_behind q p (omega (arith, more, differ)))
+        ]);
+    held_by_plan = λ t u below. inl refl;
+    held_apart = held_apart;
+    others_length = λ p in_p is. absurd (true≢false is);
+    others_priority = λ p in_p is. absurd (true≢false is);
+    others_identifier = λ p q t in_p in_q seen is_p is_q. absurd (true≢false is_q);
+    few_others = λ p from to in_p is seen waits wait.
+        let none = none_other late_bus all_planned (λ q. refl) (late_bus.ident p) from to in omega (arith, none);
+  }
+
+  -- the flow's unit sends all, and each unit keeps order that the plan tells so of
+  abbrev controllers : Controllers
+  controllers = record {
+    unit = λ p. flow.sender;
+    keeps_order = λ u. option_map_or (λ (x : UnitPlan). not (is_any x.queue)) (slice_get plan.units.items u) true;
+  }
+
+  destination_few : (to : To) → flow.to ≡ to → goes_to address to ≤ 255
+  destination_few All is = omega arith
+  destination_few (One v) is = let few = (held_apart 0).range v (receiver_on v is) in omega (arith, few)
+
+  late_queues : IsPgn group.pgn → KeepsQueues plan timing late_bus controllers all_planned late_sent
+  late_queues number = record {
+    sender = λ p other in_p is at. ap (λ (g : FlowPlan). g.sender) (same_Some _ _ (sym its ∙ at));
+    order = λ u unit at keeps.
+        ap (λ (o : Option UnitPlan). option_map_or (λ (x : UnitPlan). not (is_any x.queue)) o true) at ∙ ap (λ (q : Queue). not (is_any q)) keeps;
+    identifiers = λ p in_p. few_bits group.priority group.pgn (goes_to address flow.to) (address flow.sender) group.priority_range number
+        (destination_few flow.to refl) (let few = (held_apart 0).range flow.sender sender_on in omega (arith, few));
+    few_unplanned = λ p from to other unit in_p is at its_unit any seen waits wait.
+        let none = none_unplanned late_bus from to in omega (arith, none);
+  }
+
+  late_errors : (rate : ErrorRate) → timing.errors ≡ Some rate → KeepsErrors timing rate late_bus attempt all_planned
+  late_errors rate told = record {
+    told = told;
+    in_order = λ e g before in_g. omega arith;
+    seldom = λ from.
+        let once = one_at_most (λ e. cond (begins_within timing rate.every attempt from e) 1 0)
+        (cond_both (begins_within timing rate.every attempt from 0) 1 0 (λ (k : ℕ). k ≤ 1) (λ _. omega arith) (λ _. omega arith)) in
+        let some = rate.count_positive in
+        omega (arith, once, some);
+    few_others = λ p from to in_p is seen waits wait.
+        let none = none_other (with_errors late_bus attempt) (planned_with late_bus all_planned)
+        (λ q. cond_both (nat_lt q late_bus.count) true true (λ (b : Bool). b ≡ true) (λ _. refl) (λ _. refl))
+        ((with_errors late_bus attempt).ident p) from to in
+        omega (arith, none);
+  }
+
+  pub can_be_kept_together : IsPgn group.pgn → (rate : ErrorRate) → timing.errors ≡ Some rate → CanBeKeptTogether plan timing rate f pace n
+  can_be_kept_together number rate told =
+      let legal = damaged_first.legal n long_step late (80 + 10 * group.most) ident some_bits room in
+      record {
+        s = late_bus;
+        damaged = attempt;
+        controllers = controllers;
+        planned = all_planned;
+        sent = late_sent;
+        held = held;
+        legal = legal;
+        any_order = damaged_first.any_order late_bus attempt legal controllers;
+        keeps = late_keeps;
+        queues = late_queues number;
+        errors = late_errors rate told;
+        frames = refl;
+        of_flow = λ p. refl;
+        all_planned = λ p. refl;
+        late = λ p. in_ms_behind timing.bitrate pace.jitter (p * long_step) (p * long_step + late) (omega arith);
+        once = refl;
+        of_first = λ e. refl;
+      }

@@ -6,8 +6,10 @@ pub mod Before
 pub mod BoundedFlows
 pub mod Broadcasting
 pub mod CompanyStreams
+pub mod DemandLaws
 pub mod Different
 pub mod EachFrames
+pub mod DamagedFirst
 pub mod KeepingApart
 pub mod KeepingErrors
 pub mod KeepingPlan

@@ -4,8 +4,10 @@ pub mod Asked
 pub mod Broadcasts
 pub mod Damage
 pub mod Delays
+pub mod Demands
 pub mod FreshNeeds
 pub mod KeepsErrors
+pub mod KeptTogether
 pub mod KeepsPlan
 pub mod LoadFindings
 pub mod Loads

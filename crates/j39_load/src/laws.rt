@@ -1,6 +1,7 @@
 //! Laws of the frames of a plan's flows.
 ghost use Rattle.std.specs.Prelude.{◌≡◌, ◌≢◌, ℕ, ◌<◌, ◌≤◌, List, [], length, Bool, Option, Some};
 ghost use Rattle.std.specs.List.{slice_get};
+ghost use Rattle.j39_id.specs.Pgn.{IsPgn};
 ghost use Rattle.j39_findings.specs.Findings.{Clean};
 ghost use Rattle.j39_findings.specs.Kinds.{AreToldApart};
 ghost use Rattle.j39_findings.specs.VehiclePlans.{IsVehicleOf};
@@ -17,6 +18,7 @@ ghost use Rattle.j39_load.specs.declared.delay.Delay.{Delay as Delays};
 ghost use Rattle.j39_load.specs.FreshNeeds.{AreNeedsFresh};
 ghost use Rattle.j39_load.specs.KeepsErrors.{AreInTimeWithErrors, KeepsErrors, origins_with, planned_with};
 ghost use Rattle.j39_load.specs.KeepsPlan.{AreFramesInTime, CanBeKept, Held, KeepsToPlan, KeepsQueues, FrameFlows, origins_of};
+ghost use Rattle.j39_load.specs.KeptTogether.{CanBeKeptTogether};
 ghost use Rattle.j39_load.specs.LoadFindings.{AreLoadFindings, AsksOfBus, load_findings};
 ghost use Rattle.j39_load.specs.Loads.{group_ident};
 ghost use Rattle.j39_load.specs.Asked.{asked_of, frames_asked, total_load};
@@ -119,6 +121,14 @@ pub fn plans_can_be_kept()
     ensures { (plan : Plans) (timing : Timings) → ArePlannedApart (units_of plan) → (f : ℕ) (flow : PlannedFlows) (pace : PlannedPaces) (group : PlannedGroups)
         → slice_get plan.flows.items f ≡ Some flow → flow.pace ≡ Some pace → slice_get plan.groups.items flow.group ≡ Some group → group.most ≤ 8
         → (n : ℕ) → CanBeKept plan timing f n }
+{}
+
+/// And all of it at once: such a flow can be sent as late as its jitter allows, as often as one likes, where the first frame is damaged once, on a
+/// bus that keeps to the plan and to what it tells of damage, and that is legal whether its units keep order or not.
+pub fn plans_can_be_kept_together()
+    ensures { (plan : Plans) (timing : Timings) → ArePlannedApart (units_of plan) → (f : ℕ) (flow : PlannedFlows) (pace : PlannedPaces) (group : PlannedGroups)
+        → slice_get plan.flows.items f ≡ Some flow → flow.pace ≡ Some pace → slice_get plan.groups.items flow.group ≡ Some group → group.most ≤ 8
+        → IsPgn group.pgn → (rate : ErrorRates) → timing.errors ≡ Some rate → (n : ℕ) → CanBeKeptTogether plan timing rate f pace n }
 {}
 
 /// Of a clean plan with whose load nothing is wrong either: on each bus that keeps to it in the plan's own words, whether units keep order or not,

@@ -66,6 +66,15 @@ ArrivesUnanswered plan w =
     → IsThrough plan after flow.sender (outgoing (count_of plan) w.stations f flow bytes).targets
     → HasArrived w after flow.sender (outgoing (count_of plan) w.stations f flow bytes) Sent
 
+-- each such message that can be begun here can arrive: some run spares it, and all of it is taken
+abbrev pub CanArriveUnanswered : Plan → World → Type 0
+CanArriveUnanswered plan w =
+    (f : ℕ) (flow : Flow) (bytes : List ℕ)
+    → slice_get (flows_of plan) f ≡ Some flow → IsUnanswered flow bytes → begin_refusal (count_of plan) w (Some flow) bytes ≡ None
+    → (steps : List Step) × (after : World)
+    × RunSparing plan flow.sender (outgoing (count_of plan) w.stations f flow bytes).targets (begins (count_of plan) w f flow bytes) steps after
+    × IsThrough plan after flow.sender (outgoing (count_of plan) w.stations f flow bytes).targets
+
 -- ---- a message of several frames to one unit
 
 -- by the step nothing is lost of u's message to v nor of what answers it, neither of the two hears nothing of it in time, and u isn't idle

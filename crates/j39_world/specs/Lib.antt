@@ -17,5 +17,6 @@ pub mod Ending
 pub mod Conflict
 pub mod Arriving
 pub mod Needed
+pub mod SentArriving
 pub mod SoundPlan
 pub mod Opening

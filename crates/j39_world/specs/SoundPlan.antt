@@ -18,6 +18,7 @@ use Rattle.j39_world.specs.Settling.{Settles}
 use Rattle.j39_world.specs.Ending.{TransfersEnd}
 use Rattle.j39_world.specs.Arriving.{ArrivesUnanswered, ArrivesAnswered}
 use Rattle.j39_world.specs.Needed.{NeededValuesArrive}
+use Rattle.j39_world.specs.SentArriving.{SentFramesArrive, SentValuesArrive}
 use Rattle.j39_world.specs.Sound.{AreAddressesSound, AreAddressesDifferent, AreNotesRight, AreKeptFree, IsQuiet, AreReportsSound, AreSentFramesSound, IsAcknowledgedReported}
 use Rattle.j39_world.specs.Staying.{ArePlannedApart, HoldsAlone, HoldsPlanned, IsAloneThere}
 use Rattle.j39_world.specs.Strangers.{HasStrangers}
@@ -70,6 +71,8 @@ pub record IsSound (plan : Plan) : Type 0 where
   -- one of several frames to one unit of which nothing is lost is reported once and acknowledged, where its receiver has none of its group
   -- for its sender alone between its beginning and its rest
   pub arrives_answered : Always plan (ArrivesAnswered plan)
+  -- a frame that is sent alone is reported by each receiver that doesn't lose it, between those that were sent before it and those that were since
+  pub sent_arrive : Always plan (SentFramesArrive plan)
   -- some flow answers each request, to one unit or to all as it was asked
   pub served : AreRequestsServed plan
   pub answered : AreAnsweredWell plan
@@ -77,6 +80,8 @@ pub record IsSound (plan : Plan) : Type 0 where
   pub needs : AreNeedsMet plan
   -- and a message of it of which nothing is lost is reported once by this unit, and its signals read there what they were last given
   pub needed : Always plan (NeededValuesArrive plan)
+  -- and so is one that is sent in a frame alone
+  pub needed_sent : Always plan (SentValuesArrive plan)
 
 -- and so is the plan of each vehicle, whatever the serial numbers of its boxes are
 abbrev pub AreVehiclesSound : Plan → Type 0

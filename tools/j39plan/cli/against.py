@@ -17,10 +17,12 @@ from j39plan.log.checks.deviations import Deviation, Found, Place, lines_of, pla
 from j39plan.log.checks.distances import SILENCE, Distances, Rule, Tolerance
 from j39plan.log.checks.marks import Feed
 from j39plan.log.checks.meter import Meter
+from j39plan.log.checks.summary import requests_of, summary_tables, units_of
 from j39plan.log.checks.unplanned import bounds_of
 from j39plan.log.clock import SECOND, ends_of, nanoseconds
 from j39plan.log.files import Log, interface_option
 from j39plan.log.reports import Counts, follow, tables_of
+from j39plan.plan.cut import bare
 from j39plan.plan.files import opened
 from j39plan.plan.tables import Tables
 
@@ -43,7 +45,8 @@ def words_of(words: list[str] | None) -> argparse.Namespace:
                         help=f"after how many periods without a message a flow without a pause is silent; 0: such silences aren't told ({SILENCE})")
     parser.add_argument("--events", metavar="FLOW", action="append", default=[],
                         help="a group, or a flow by its number, that is sent when something happens: no silence of it is told; may be given several times")
-    parser.add_argument("--table", action="store_true", help="a table of the flows first: how often each was sent, and how far apart")
+    parser.add_argument("--table", action="store_true", help="tables first: how often each flow was sent, and how far apart; when each unit was heard; "
+                        "requests that the plan doesn't have")
     parser.add_argument("--all", action="store_true", help="all lines of each deviation below it")
     parser.add_argument("--live", action="store_true", help="each deviation as soon as it is met, with --all each time; at the end all of them")
     parser.add_argument("--json", action="store_true", help="as JSON objects, each on a line; the last one is of the whole log")
@@ -116,13 +119,15 @@ def say_what_is_left(given: argparse.Namespace, distances: Distances) -> None:
         program.say(f"{count} distances are passed over, since a message may wait so long on the bus by 'load': of flow {flows}")
 
 
-def summary_of(log: Log, meter: Meter, distances: Distances) -> dict[str, Any]:
-    """What the whole log has, for JSON: when it begins and ends, in seconds, the bits of its frames, and how many distances were passed over."""
+def summary_of(log: Log, meter: Meter, comparison: Comparison) -> dict[str, Any]:
+    """What the whole log has, for JSON: when it begins and ends, in seconds, the bits of its frames, how many distances were passed over, when each
+    unit was heard, and the requests that the plan doesn't have."""
     begin, end = ends_of(log)
     meter.end()
     first, last = (None if time is None else time / SECOND for time in (begin, end))
     row = {"begin": first, "end": last, "mean": meter.mean(begin, end), "worst": meter.worst or None, "worst_second": meter.worst_second,
-           "explained": sum(distances.explained.values())}
+           "explained": sum(comparison.distances.explained.values()), "units": units_of(comparison, log.place),
+           "requests": requests_of(comparison, log.place)}
     return {key: value for key, value in row.items() if value is not None}
 
 
@@ -135,10 +140,10 @@ def main(words: list[str] | None = None) -> int:
         found = Found(given.all, output.live if given.live else None)
         settings = Settings(given.jitter, Rule(given.silence, events_of(given.events, tables), given.table))
         feed, comparison = Feed(tables.groups, tables.timing, meter), Comparison(tables, bounds_of(plan, tables), settings, found)
-        for report in follow(plan, log, tables, counts, feed.pieces, given.live):
-            line, mark = feed.place(report)
-            comparison.report(line, report, mark)
-        summary = summary_of(log, meter, comparison.distances) if meter else {}
+        with bare(plan, tables) as (shorter, parts):
+            for report in follow(shorter, log, parts, counts, feed.pieces, given.live):
+                line, mark = feed.place(report)
+                comparison.report(line, report, mark)
     counts.elsewhere -= feed.unread
     counts.frames -= feed.read
     counts.bad -= comparison.damage.frames
@@ -147,11 +152,11 @@ def main(words: list[str] | None = None) -> int:
     counts.say(log)
     comparison.clock.say(log)
     say_what_is_left(given, comparison.distances)
-    if given.table and not given.json:
-        for row in comparison.distances.table():
-            print(row)
     comparison.ends(nanoseconds(feed.last_time), counts.frames > 0)
-    return 1 if output.whole(found, summary) else 0
+    if given.table and not given.json:
+        for row in summary_tables(comparison, log.place):
+            print(row)
+    return 1 if output.whole(found, summary_of(log, meter, comparison) if meter else {}) else 0
 
 
 if __name__ == "__main__":

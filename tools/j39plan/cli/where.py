@@ -9,6 +9,7 @@ from j39plan import program
 from j39plan.plan import code_quality
 from j39plan.plan.answer_objects import check_object
 from j39plan.plan.answer_places import Placed, placed
+from j39plan.plan.further_faults import further_faults
 from j39plan.plan.hints.lint import Lint
 from j39plan.plan.parts import source_in
 
@@ -83,19 +84,22 @@ def main(words: list[str] | None = None) -> int:
     given = words_of(words)
     hints: list[Placed] = []
     parts: list[Placed] = []
+    further: list[Placed] = []
     with program.copied(given.plan) as plan:
         status, answer = program.call(["check", "--", plan])
         if answer:
             with open(plan, "rb") as file:
-                parts = list(placed(file.read(), answer))
+                data = file.read()
+            parts = list(placed(data, answer))
+            further = further_faults(data, parts)
         if status in (0, 1) and given.lint:
             hints = hints_of(plan)
     if given.json:
-        print(json.dumps(check_object(given.plan, status, parts, hints if given.lint else None), indent=1))
+        print(json.dumps(check_object(given.plan, status, parts, hints if given.lint else None, further), indent=1))
     else:
-        sys.stdout.write("".join(f"{line}\n" for line in lines_of(given.plan, hints, parts, given.github)))
+        sys.stdout.write("".join(f"{line}\n" for line in lines_of(given.plan, hints, [*parts, *further], given.github)))
     if given.gitlab and status in (0, 1, 2):
-        issues = [(part.line, part.text, part.below) for part in (*hints, *parts) if part.line is not None]
+        issues = [(part.line, part.text, part.below) for part in (*hints, *parts, *further) if part.line is not None]
         code_quality.write(given.gitlab, given.plan, issues)
     return status
 

@@ -3,7 +3,6 @@
 from __future__ import annotations
 
 import datetime
-import re
 from collections.abc import Iterable, Iterator
 from dataclasses import dataclass
 from typing import Any
@@ -13,6 +12,7 @@ from j39plan.fleet.signals import Code, Spread
 from j39plan.fleet.vehicles import vehicles_of
 from j39plan.log.checks.deviations import KINDS, is_duration
 from j39plan.plan.tables import Flow, Tables
+from j39plan.text_tables import aligned
 
 # How many deviations and NAMEs the text has at most; JSON has all.
 SHOWN = 20
@@ -277,19 +277,3 @@ def extreme_of(row: dict[str, Any], key: str) -> tuple[str, str]:
 def addresses_of(addresses: Iterable[int | None]) -> str:
     """Addresses as a text."""
     return ", ".join("none" if address is None else str(address) for address in addresses)
-
-
-def aligned(heads: tuple[str, ...], rows: Iterable[tuple[Any, ...]], most: int | None = None) -> Iterator[str]:
-    """A table as lines, its columns below one another, numbers to the right, and an empty line behind it; so many rows at most."""
-    cells = [tuple(map(str, row)) for row in rows]
-    shown = [heads, *cells[:most]]
-    if not cells:
-        return
-    numbers = [all(re.fullmatch(r"-|-?[\d.]{1,15}( s| ms| %| bit/s)?", row[at]) for row in shown[1:]) for at in range(len(heads))]
-    widths = [max(len(row[at]) for row in shown) for at in range(len(heads))]
-    for row in shown:
-        parts = (cell.rjust(width) if is_number else cell.ljust(width) for cell, width, is_number in zip(row, widths, numbers))
-        yield "  ".join(parts).rstrip()
-    if len(cells) >= len(shown):
-        yield f"and {len(cells) - len(shown) + 1} others, which --json has"
-    yield ""

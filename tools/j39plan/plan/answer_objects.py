@@ -42,13 +42,16 @@ def answer_object(plan: str, status: int, parts: list[Placed]) -> Object:
     return found
 
 
-def check_object(plan: str, status: int, parts: list[Placed], hints: list[Placed] | None = None) -> Object:
-    """What `check` answers of a plan, and hints that are no findings where they were asked for. Of a plan that can't be read there are neither."""
+def check_object(plan: str, status: int, parts: list[Placed], hints: list[Placed] | None = None, further: list[Placed] | None = None) -> Object:
+    """What `check` answers of a plan, and hints that are no findings where they were asked for. Of a plan that can't be read there are neither, but
+    further faults."""
     found = answer_object(plan, status, parts)
     if status in (0, 1):
         found.setdefault("findings", [])
         if hints is not None:
             found["hints"] = [{"line": hint.line, "hint": hint.answer.removeprefix("hint ")} for hint in hints]
+    if further:
+        found["further"] = [{"line": fault.line, "hint": fault.answer.removeprefix("also ")} for fault in further]
     for part in parts:
         (line,) = lines_of(part.answer)
         if line.kind == "ok":

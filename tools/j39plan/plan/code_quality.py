@@ -14,12 +14,12 @@ Issue = tuple[int, str, list[str]]
 
 def severity(text: str) -> str:
     """How grave it is: a plan that can't be read, a finding, a hint."""
-    return "critical" if text.startswith("refused ") else "info" if text.startswith("hint ") else "major"
+    return "critical" if text.startswith(("refused ", "also ")) else "info" if text.startswith("hint ") else "major"
 
 
 def name_of(text: str) -> str:
-    """By what it is known: the name of a finding, the cause of a refusal, or `hint`."""
-    found = re.match(r"F\d+ (\w+)|(refused \w+)|(hint) ", text)
+    """By what it is known: the name of a finding, the cause of a refusal, `hint`, or `also` of a further fault."""
+    found = re.match(r"F\d+ (\w+)|(refused \w+)|(hint|also) ", text)
     return next(filter(None, found.groups())) if found else text.partition(" ")[0]
 
 

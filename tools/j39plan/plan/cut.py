@@ -4,7 +4,7 @@ import contextlib
 import os
 import re
 import tempfile
-from collections.abc import Iterator
+from collections.abc import Callable, Iterator
 
 from j39plan import program
 from j39plan.log.readings import Choice
@@ -65,30 +65,41 @@ class Scissors:
         return any(signal.repeated for signal in self._group.signals) or (self._group.label, label) in self._choice.columns
 
 
-def shorter(text: str, tables: Tables, choice: Choice) -> str | None:
-    """The text of a plan, which has these tables, without what isn't wanted; None where that can't be had of it."""
-    kinds = {signal.kind for group in tables.groups for signal in group.signals if (group.label, signal.label) in choice.columns}
-    if "dtc" in kinds and any(signal.spn is not None for group in tables.groups for signal in group.signals):
-        return None  # a code is told with the signal of its number, of whatever group
-    scissors, parts, is_kept, begin = Scissors(tables, choice), [], True, 0
+def without(text: str, keeps: Callable[[bool, str, str | None], bool]) -> str | None:
+    """A text of TOML without the tables that aren't kept; of each is told whether it is an element, its first key and its second one. None where
+    keys are spelled so that this isn't known."""
+    parts, is_kept, begin = [], True, 0
     for at in Places(text).statements:
         if text[at] == "[":
             parts.append(text[begin:at] if is_kept else "")
             found = HEADER.match(text, at)
             if found is None:
                 return None
-            is_kept, begin = scissors.keeps(text.startswith("[[", at), *found.groups()), at
-    if (scissors.groups, scissors.flows) != (len(tables.groups), len(tables.flows)):
-        return None
+            is_kept, begin = keeps(text.startswith("[[", at), *found.groups()), at
     return "".join([*parts, text[begin:] if is_kept else ""])
 
 
+def shorter(text: str, tables: Tables, choice: Choice) -> str | None:
+    """The text of a plan, which has these tables, without what isn't wanted; None where that can't be had of it."""
+    kinds = {signal.kind for group in tables.groups for signal in group.signals if (group.label, signal.label) in choice.columns}
+    if "dtc" in kinds and any(signal.spn is not None for group in tables.groups for signal in group.signals):
+        return None  # a code is told with the signal of its number, of whatever group
+    scissors = Scissors(tables, choice)
+    cut_text = without(text, scissors.keeps)
+    return cut_text if (scissors.groups, scissors.flows) == (len(tables.groups), len(tables.flows)) else None
+
+
+def has_no_signal(_: bool, key: str, inner: str | None) -> bool:
+    """Whether a table is none of a signal or a text, and none that may name one."""
+    return key != "need" and inner not in ("signal", "text")
+
+
 @contextlib.contextmanager
-def cut(plan: str, tables: Tables, choice: Choice) -> Iterator[tuple[str, Tables]]:
-    """The name of a plan that tells the same of what is wanted, and its tables; the plan itself where it can't be cut."""
+def _cut(plan: str, tables: Tables, shortened: Callable[[str], str | None]) -> Iterator[tuple[str, Tables]]:
+    """The name of a plan of a shorter text, and its tables; the plan itself where it can't be cut."""
     with open(plan, "rb") as file, tempfile.NamedTemporaryFile() as copy:
         try:
-            text = shorter(file.read().decode(), tables, choice)
+            text = shortened(file.read().decode())
         except (UnicodeDecodeError, IndexError):
             text = None
         if text is not None:
@@ -98,3 +109,13 @@ def cut(plan: str, tables: Tables, choice: Choice) -> Iterator[tuple[str, Tables
             yield plan, tables
         else:
             yield copy.name, Tables.of(copy.name)
+
+
+def cut(plan: str, tables: Tables, choice: Choice) -> contextlib.AbstractContextManager[tuple[str, Tables]]:
+    """The name of a plan that tells the same of what is wanted, and its tables; the plan itself where it can't be cut."""
+    return _cut(plan, tables, lambda text: shorter(text, tables, choice))
+
+
+def bare(plan: str, tables: Tables) -> contextlib.AbstractContextManager[tuple[str, Tables]]:
+    """The same of a plan without its signals, texts and needs: by it `follow` tells the same of who sends which group, flow and request."""
+    return _cut(plan, tables, lambda text: without(text, has_no_signal))

@@ -35,7 +35,7 @@ use Rattle.j39_laws.proofs.Addresses.Turns.{fixed_below, no_own}
 -- ---- the units at their places
 
 -- a planned unit stands where it stood, whatever is kept free of it
-same_at : (k l : FinSet nat_cmp) (ps ss : List UnitPlan) (u : ℕ) → u < length ps
+pub same_at : (k l : FinSet nat_cmp) (ps ss : List UnitPlan) (u : ℕ) → u < length ps
     → ((unit_at (map (planned_unit k) (ps ++ ss)) u).name ≡ (unit_at (map (planned_unit l) ps) u).name)
     × ((unit_at (map (planned_unit k) (ps ++ ss)) u).preferred ≡ (unit_at (map (planned_unit l) ps) u).preferred)
     × ((unit_at (map (planned_unit k) (ps ++ ss)) u).claims ≡ (unit_at (map (planned_unit l) ps) u).claims)
@@ -50,7 +50,7 @@ arbitrary_at k (s ∷ ss) choose zero inside = choose zero s (omega arith)
 arbitrary_at k (s ∷ ss) choose (suc u) inside = arbitrary_at k ss (λ i d less. choose (suc i) d (omega arith)) u (omega arith)
 
 -- what is kept free of a unit changes nothing else of it
-same_but_kept : (k l : FinSet nat_cmp) (ps : List UnitPlan) (u : ℕ)
+pub same_but_kept : (k l : FinSet nat_cmp) (ps : List UnitPlan) (u : ℕ)
     → ((unit_at (map (planned_unit k) ps) u).name ≡ (unit_at (map (planned_unit l) ps) u).name)
     × ((unit_at (map (planned_unit k) ps) u).preferred ≡ (unit_at (map (planned_unit l) ps) u).preferred)
 same_but_kept k l [] u = (refl, refl)

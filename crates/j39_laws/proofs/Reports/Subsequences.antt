@@ -3,6 +3,11 @@ use Rattle.std.proofs.Common.{List, [], ◌∷◌, ◌++◌, refl, inl, inr}
 use Rattle.j39_world.specs.Transfers.{Begun}
 use Rattle.j39_world.specs.Sound.{IsSubsequence}
 
+-- a list is one of itself
+pub subsequence_same : (xs : List Begun) → IsSubsequence xs xs
+subsequence_same [] = tt
+subsequence_same (x ∷ xs) = inl (refl, subsequence_same xs)
+
 -- the whole may grow
 pub subsequence_more : (xs ys : List Begun) (y : Begun) → IsSubsequence xs ys → IsSubsequence xs (ys ++ y ∷ [])
 subsequence_more [] ys y sub = tt

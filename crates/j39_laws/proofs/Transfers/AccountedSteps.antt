@@ -30,7 +30,7 @@ use Rattle.j39_world.specs.Run.{count_of, is_on, at_ends, begin_refusal, begin_r
 use Rattle.j39_world.specs.Run.{is_none_sending, is_no_transfer_open, is_nothing_undelivered}
 use Rattle.j39_world.specs.SoundPlan.{Always}
 use Rattle.j39_world.specs.Transfers.{Outgoing, Reported, Sessions, Wire, is_among, added, outcome_in}
-use Rattle.j39_world.specs.TransferSteps.{targets_of, outgoing, first_item, begins, BeginsAt, SendsAt, sent_to_receivers, session_after, reaction_of}
+use Rattle.j39_world.specs.TransferSteps.{targets_of, outgoing, first_item, begins, BeginsAt, SendsAt, sends_alone, sent_to_receivers, session_after, reaction_of}
 use Rattle.j39_world.specs.TransferSteps.{receiver_replies}
 use Rattle.j39_world.specs.TransferSteps.{sender_replies, hearing, packet_taken, TakenFrom, LostFrom, packets_in, receiver_timed_out, rested}
 use Rattle.j39_world.specs.World.{World, Stations, Undelivered, changed, changed_pair, is_other_on}
@@ -38,7 +38,7 @@ use Rattle.j39_laws.proofs.Reports.Exchanges.{pair_of}
 use Rattle.j39_laws.proofs.Reports.ExchangeSteps.{asides_answer}
 use Rattle.j39_laws.proofs.Reports.Hearings.{packets_aside}
 use Rattle.j39_laws.proofs.Reports.Orderly.{PlannedAt, none_sends, none_sends_while, all_delivered, nothing_between}
-use Rattle.j39_laws.proofs.Reports.SenderSteps.{among_filtered, among_one, no_session, begin_keeps}
+use Rattle.j39_laws.proofs.Reports.SenderSteps.{among_filtered, among_one, no_session, begin_keeps, send_keeps}
 use Rattle.j39_laws.proofs.Reports.SoundReports.{at_first, steps_keep}
 use Rattle.j39_laws.proofs.Reports.TransferInvariant.{TransferInvariant}
 use Rattle.j39_laws.proofs.Runs.Always.{IsPreserved, always}
@@ -151,7 +151,7 @@ module _ (plan : Plan) (w : World) (inv : TransferInvariant plan w) (old : AllAc
       (and_parts (is_none_sending (count_of plan) w) (is_nothing_undelivered (count_of plan) w.wire) closed).0)
 
   -- then nothing of a message is undelivered either
-  none_lies : is_no_transfer_open (count_of plan) w ≡ true → (s t : ℕ) → w.wire s t ≡ []
+  pub none_lies : is_no_transfer_open (count_of plan) w ≡ true → (s t : ℕ) → w.wire s t ≡ []
   none_lies closed s t = of_list (w.wire s t) refl
     where
       idle : (x y : ℕ) → SendsTo (w.sessions x) y → ⊥
@@ -395,6 +395,14 @@ pub begin_kept : (plan : Plan) (w : World) → IsKept plan w → (f : ℕ) (flow
 begin_kept plan w kept f flow bytes allowed = record {
   transfers = begin_keeps plan w kept.transfers f (Some flow) bytes allowed (begins (count_of plan) w f flow bytes) refl;
   accounted = begin_accounted plan w kept.transfers kept.accounted f (Some flow) bytes allowed (begins (count_of plan) w f flow bytes) refl;
+}
+
+-- a frame that is sent alone
+pub send_kept : (plan : Plan) (w : World) → IsKept plan w → (f : ℕ) (flow : Flow) (bytes : List ℕ) → send_refusal (count_of plan) w (Some flow) bytes ≡ None
+    → IsKept plan (sends_alone (count_of plan) w f flow bytes)
+send_kept plan w kept f flow bytes allowed = record {
+  transfers = send_keeps plan w kept.transfers f (Some flow) bytes (sends_alone (count_of plan) w f flow bytes) refl;
+  accounted = send_accounted plan w kept.transfers kept.accounted f (Some flow) bytes allowed (sends_alone (count_of plan) w f flow bytes) refl;
 }
 
 -- ---- while a message is sent

@@ -129,7 +129,7 @@ module _ (plan : Plan) (w : World) (inv : IsWorldFit w) where
         gathered = inv.gathered;
       })
 
-  send_fits : (f : ℕ) (bytes : List ℕ) (o : Option Flow) (new : World) → SendsAt (count_of plan) w f o bytes new → IsWorldFit new
+  pub send_fits : (f : ℕ) (bytes : List ℕ) (o : Option Flow) (new : World) → SendsAt (count_of plan) w f o bytes new → IsWorldFit new
   send_fits f bytes None new never = absurd never
   send_fits f bytes (Some flow) new e = subst IsWorldFit (sym e) (record {
     wire = sent_fits flow.sender (targets_of (count_of plan) w.stations flow.sender flow.to) (wired.Alone f bytes) tt;

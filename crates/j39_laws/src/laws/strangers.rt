@@ -1,14 +1,18 @@
 //! Laws on plans with strangers.
-ghost use Rattle.std.specs.Prelude.{◌≡◌, ◌<◌, ◌⊎◌, ℕ, Some, length, true};
+ghost use Rattle.std.specs.Prelude.{◌≡◌, ◌+◌, ◌<◌, ◌≤◌, ◌⊎◌, ℕ, List, Some, length, true};
 ghost use Rattle.j39_id.specs.Addresses.{in_pool};
+ghost use Rattle.j39_id.specs.Limits.{unit_limit};
 ghost use Rattle.j39_id.specs.Name.{is_arbitrary};
 ghost use Rattle.j39_claim.specs.ClaimRule.{IsFree};
 ghost use Rattle.j39_findings.specs.Findings.{Clean};
 ghost use Rattle.j39_findings.specs.declared.plan.Plan.{Plan as Plans};
+ghost use Rattle.j39_findings.specs.declared.plan.unit_plan.UnitPlan.{UnitPlan as PlannedUnits};
+ghost use Rattle.j39_world.specs.Opening.{AreNamesDistinct};
 ghost use Rattle.j39_world.specs.PlannedUnits.{units_of, unit_at};
 ghost use Rattle.j39_world.specs.Sound.{AreAddressesDifferent, AreAddressesSound, IsQuiet};
 ghost use Rattle.j39_world.specs.SoundPlan.{AlwaysBeside};
 ghost use Rattle.j39_world.specs.Staying.{HoldsPlanned, StaysBeside};
+ghost use Rattle.j39_world.specs.Strangers.{HasStrangers};
 
 /// Units that stand in no plan may come beside those of a plan without findings, at most so many as it tells, each of which may choose and
 /// has a NAME of its own: in every world of every run of all of them, with all lawful choices, whatever the strangers know of what is kept
@@ -31,4 +35,12 @@ pub fn who_stays_with_strangers()
         → (w.stations u).on ≡ true → (w.stations u).address ≡ Some a
         → (a ≡ (unit_at (units_of plan) u).preferred)
         ⊎ ((in_pool a ≡ true) × (is_arbitrary (unit_at (units_of plan) u).name ≡ true) × ¬ StaysBeside plan.strangers (units_of plan) u)) }
+{}
+
+/// And they can come: beside units whose NAMEs differ, of a plan that tells of strangers, as many of them as it tells, while there are no more
+/// units in all than a plan may have.
+pub fn strangers_can_come()
+    ensures { (plan : Plans) → AreNamesDistinct (units_of plan) → (k : ℕ) → 0 < plan.strangers → k ≤ plan.strangers
+        → length plan.units.items + k ≤ unit_limit
+        → (joined : Plans) × (strangers : List PlannedUnits) × (length strangers ≡ k) × HasStrangers plan joined strangers }
 {}

@@ -1,16 +1,18 @@
 """A log compared with a plan, report by report: senders, NAMEs and addresses, groups, lengths, priorities, flows, needs and requests."""
 
+import math
 from dataclasses import dataclass
 from typing import NamedTuple
 
 from j39plan.j1939 import (
-    ADDRESS_CLAIMED, FRAME_BYTES, NAME_FIELDS, NULL_ADDRESS, OTHER_SERVICES, PROPRIETARY, REQUEST, SERVICES, identifier_of,
+    ACKNOWLEDGEMENT, ADDRESS_CLAIMED, FRAME_BYTES, NAME_FIELDS, NULL_ADDRESS, OTHER_SERVICES, PROPRIETARY, REQUEST, SERVICES, identifier_of,
 )
 from j39plan.log.checks.damage import Damage
 from j39plan.log.checks.deviations import Found
 from j39plan.log.checks.distances import Distances, Rule, Tolerance
 from j39plan.log.checks.hands import Hands
 from j39plan.log.checks.marks import Kind, Mark
+from j39plan.log.checks.other_requests import OtherRequests
 from j39plan.log.checks.requests import Asked
 from j39plan.log.checks.transfers import WHOLE, Cause, Pair, Route, Transfers, pair_of
 from j39plan.log.checks.unplanned import Bounds, Unplanned
@@ -70,17 +72,20 @@ class Comparison:
         for group in tables.groups:
             self.groups.setdefault(group.pgn, []).append(group)
         self.planned = {group.label: group for group in tables.groups}
-        self.sent: dict[Way, int] = {(flow.group, flow.sender, flow.to): 0 for flow in tables.flows}
+        self._ways: list[Way] = [(flow.group, flow.sender, flow.to) for flow in tables.flows]
+        self.sent = dict.fromkeys(self._ways, 0)
         self.found, self.clock, self.hands = found, Clock(), Hands(tables, found)
         self.distances = Distances(tables.flows, settings.tolerance, settings.rule, bounds.waits, self.hands.first, found)
         self.asked, self.damage = Asked(tables, settings.tolerance, bounds.requests, found), Damage(tables.timing, found)
         self.transfers, self.unplanned = Transfers(tables.timing, found), Unplanned(tables, bounds.flows, found)
+        labels = {pgn: groups[0].label for pgn, groups in self.groups.items() if len(groups) == 1}
+        self.others = OtherRequests(labels, found, self.hands.is_on)
         self._begun: dict[Pair, Begun] = {}
         self._strange: set[str] = set()  # who was told as nobody's
         self._reported = 0  # the line of the last message that came without an announcement
         self._at: int | None = None  # the time of the last report
         periods = [flow.period for flow in tables.flows if flow.period and not flow.on_request]
-        self._gap = max(SECOND, PERIODS * min(periods, default=0) * MILLISECOND) if len(periods) > 1 else None
+        self._gap = max(SECOND, PERIODS * min(periods) * MILLISECOND) if len(periods) > 1 else math.inf
 
     def claim(self, line: int, at: int | None, who: Who) -> None:
         """A claim of an address, or that none was found."""
@@ -101,8 +106,11 @@ class Comparison:
     def sender(self, line: int, at: int | None, sender: Who, group: str = "") -> None:
         """Who sent something, as a message of a planned group."""
         self.hands.sends(line, at, sender)
-        if sender.label is not None:
-            return
+        if sender.label is None:
+            self.unknown(line, at, sender, group)
+
+    def unknown(self, line: int, at: int | None, sender: Who, group: str) -> None:
+        """Somebody whom the plan doesn't have sends something, as a message of a planned group."""
         former, what = self.hands.former(at, sender), f"sends {group}, a planned group" if group else "sends"
         if former is None:
             spelled = sender.spelled
@@ -114,31 +122,40 @@ class Comparison:
 
     def message(self, line: int, at: int | None, message: Message) -> None:
         """A message of a planned group."""
-        group, sender, to = message.group, message.sender, message.to
-        begun = self._begun.pop(pair_of(sender, to), None) if len(message.data) > 2 * FRAME_BYTES else None
+        _, _, group, sender, to, flow, odd_priority, data, _ = message
+        planned = self.planned[group]
+        begun = self._begun.pop(pair_of(sender, to), None) if len(data) > 2 * FRAME_BYTES else None
         first, began = (begun.line, begun.at) if begun else (line, at)
         if begun:
             self.transfers.reported(line, at, begun.pair)
         else:
             self._reported = line
-            self.sender(line, at, sender, group)
-            self.asked.answers(line, at, sender, to, self.planned[group].pgn)
-        priority = self.planned[group].priority if message.priority is None else message.priority
-        if message.priority is not None:
-            text = f"{group} from {sender.shown} has priority {priority}, planned is {self.planned[group].priority}"
+            self.hands.sends(line, at, sender)
+            if sender.label is None:
+                self.unknown(line, at, sender, group)
+            self.answers(line, at, sender, to, planned.pgn)
+        if odd_priority is not None:
+            text = f"{group} from {sender.shown} has priority {odd_priority}, planned is {planned.priority}"
             self.found.tell("priority", text, first, began, unit=sender.label)
-        if message.flow:
-            self.sends(message.flow, first, began)
+        if flow:
+            self.sends(flow, first, began)
             return
         if sender.label:
             self.found.tell("no-flow", f"{group} from {sender.label} to {to.shown}: no flow", first, began, unit=sender.label)
         if begun is None:
-            self.passes(line, at, identifier_of(priority, self.planned[group].pgn, 0, 0), group if sender.label else "", sender)
+            priority = planned.priority if odd_priority is None else odd_priority
+            self.passes(line, at, identifier_of(priority, planned.pgn, 0, 0), group if sender.label else "", sender)
+
+    def answers(self, line: int, at: int | None, sender: Who, to: Who, pgn: int) -> None:
+        """A message of a group begins, which may be asked for."""
+        if pgn in self.asked.open:
+            self.asked.answers(line, at, sender, to, pgn)
+        if pgn in self.others.open:
+            self.others.answers(at, sender, to, pgn)
 
     def sends(self, number: int, line: int, at: int | None) -> None:
         """A message of a flow has come, by where it began."""
-        flow = self.flows[number - 1]
-        self.sent[flow.group, flow.sender, flow.to] += 1
+        self.sent[self._ways[number - 1]] += 1
         self.distances.sent(number, line, at)
 
     def passes(self, line: int, at: int | None, identifier: int, what: str, sender: Who) -> None:
@@ -210,11 +227,14 @@ class Comparison:
         self.asks(line, at, request)
         group = self.group_of(mark, sender, to)
         self.passes(line, at, mark.identifier, f"PGN {mark.pgn}", sender)
+        if mark.pgn == ACKNOWLEDGEMENT:
+            self.others.acknowledged(at, sender, to, mark.data)
         if group is None:
             self.nobody(line, at, mark, sender)
+            self.answers(line, at, sender, to, mark.pgn)
         elif not group.length <= mark.length <= group.most or group.when is not None:
             self.another_layout(line, at, group, mark, sender)
-            self.asked.answers(line, at, sender, to, mark.pgn)
+            self.answers(line, at, sender, to, mark.pgn)
             way = group.label, sender.label or "", to.shown
             if way in self.sent:
                 self.sent[way] += 1
@@ -247,7 +267,7 @@ class Comparison:
         is_planned = way in self.sent
         self.sender(line, at, sender, group.label if group else "")
         if mark.is_sound:
-            self.asked.answers(line, at, sender, to, mark.pgn)
+            self.answers(line, at, sender, to, mark.pgn)
         route = Route(f"{group.label if group else f'PGN {mark.pgn}'} from {sender.shown} to {to.shown}", is_planned, sender.label, to.label)
         if mark.is_sound:
             self.transfers.announced(line, at, route, mark, sender, to)
@@ -272,7 +292,10 @@ class Comparison:
         if request.pgn == ADDRESS_CLAIMED:
             self.hands.asked(at)
         self.asks(line, at, request)
-        self.asked.asks(line, at, request)
+        if request.request:
+            self.asked.asks(line, at, request)
+        else:
+            self.others.asks(line, at, request)
         if request.request == 0 or self.requests[request.request - 1].period is None:
             self.unplanned.came(line, at, identifier_of(6, REQUEST, 0))
 
@@ -296,16 +319,17 @@ class Comparison:
         """What is measured begins here."""
         self.distances.anew(line, at)
         self.asked.anew()
+        self.others.anew()
 
     def looks_at_time(self, line: int, at: int) -> None:
         """Time goes by. Where the clock was set, nothing at all came, or the interface was off, what is measured begins anew."""
         if self.clock.is_set or self.clock.is_back:
-            self.hands.anew()
+            self.hands.anew(line)
             self.anew(line, at)
         elif self.damage.is_off:
             self.damage.is_off = False
             self.anew(line, at)
-        elif self._at is not None and self._gap is not None and at - self._at > self._gap and self.distances.alive(self._at) > 1:
+        elif self._at is not None and at - self._at > self._gap and self.distances.alive(self._at) > 1:
             text = "nothing at all came for {} ms before: the bus, the log or its clock stood still; distances begin anew"
             self.found.tell("gap", text, line, at, at - self._at)
             self.anew(line, at)
@@ -339,12 +363,13 @@ class Comparison:
         self.unplanned.end()
         self.damage.end()
         self.asked.end(last)
+        self.others.end(last)
         for number, flow in enumerate(self.flows, 1):
-            if self.sent[flow.group, flow.sender, flow.to] == 0 and not flow.on_request:
+            if self.sent[self._ways[number - 1]] == 0 and not flow.on_request:
                 self.found.tell("never-sent", f"{self.distances.name(number)}: never sent", None, flow=number, unit=flow.sender)
         self.unmet()
         for label in self.units:
-            if has_frames and label not in self.hands.seen:
+            if has_frames and label not in self.hands.last:
                 self.found.tell("absent", f"unit {label}: neither claimed an address nor sent anything", None, unit=label)
 
     def unmet(self) -> None:

@@ -1,6 +1,7 @@
 """How far apart messages of flows come: the nearest, the longest silence, and what is usual."""
 
 import argparse
+import math
 import re
 from collections.abc import Iterator
 from typing import NamedTuple
@@ -40,11 +41,11 @@ class Tolerance(NamedTuple):
 
 
 class Limits(NamedTuple):
-    """How near messages of a flow may come in nanoseconds, and how far apart; what the plan has of that; and how long one may wait on the bus,
-    so that it comes as much nearer or later."""
+    """How near messages of a flow may come in nanoseconds, and how far apart, infinite where no silence is told; what the plan has of that; and how
+    long one may wait on the bus, so that it comes as much nearer or later."""
 
     least: int
-    most: int | None
+    most: float
     why: str
     wait: int
 
@@ -58,7 +59,7 @@ def limits_of(flow: Flow, tolerance: Tolerance, silence: int, wait: int) -> Limi
         most = (flow.pause + flow.jitter) * MILLISECOND + tolerance.at(flow.pause)
         return Limits(least, most, f"its pause is {flow.pause} ms" + (f" and its jitter {flow.jitter} ms" if flow.jitter else ""), wait)
     most = silence * flow.period * MILLISECOND
-    return Limits(least, None if flow.on_request or not silence else most, f"its period is {flow.period} ms", wait)
+    return Limits(least, math.inf if flow.on_request or not silence else most, f"its period is {flow.period} ms", wait)
 
 
 class Rule(NamedTuple):
@@ -80,12 +81,11 @@ class Distances:
     def __init__(self, flows: list[Flow], tolerance: Tolerance, rule: Rule, waits: dict[int, int], first: dict[str, int], found: Found) -> None:
         self._flows, self._first, self._found = flows, first, found  # `first` has when each unit was heard first
         self._limits = {number: limits_of(flow, tolerance, rule.silence_of(number, flow), waits.get(number, 0)) for number, flow in enumerate(flows, 1)}
-        self._looked = {number for number, limits in self._limits.items() if limits or rule.is_whole}
         self._usual: dict[int, dict[int, int]] | None = {} if rule.is_whole else None
         self._last: dict[int, tuple[int, int]] = {}
         self._since: tuple[int, int] | None = None  # where the clock was set last
         self._silent: set[int] = set()
-        self.counts: dict[int, int] = {}
+        self.counts = {number: 0 for number, limits in self._limits.items() if limits or rule.is_whole}
         self.explained: dict[int, int] = {}  # of each flow how many distances a wait on the bus explains
         self.without_time = False
 
@@ -97,35 +97,38 @@ class Distances:
 
     def alive(self, at: int) -> int:
         """How many flows aren't silent at a time."""
-        return sum(limits is not None and limits.most is not None and number in self._last and at - self._last[number][1] <= limits.most
+        return sum(limits is not None and limits.most < math.inf and number in self._last and at - self._last[number][1] <= limits.most
                    for number, limits in self._limits.items())
 
     def sent(self, number: int, line: int, at: int | None) -> None:
         """A message of a flow, by when it began. The first one counts from when its unit was heard first."""
-        if number not in self._looked:
+        if number not in self.counts:
             return
-        self.counts[number] = self.counts.get(number, 0) + 1
+        self.counts[number] += 1
+        limits = self._limits[number]
         if at is None:
-            self.without_time = self.without_time or self._limits[number] is not None
+            self.without_time = self.without_time or limits is not None
             return
         last = self._last.get(number)
         self._last[number] = line, at
         if last is None:
             self._begins(number, line, at)
-        elif last[1] <= at:
+        elif self._usual is not None or limits is None or not limits.least <= at - last[1] <= limits.most:
             self._compare(number, line, at, at - last[1])
 
     def _begins(self, number: int, line: int, at: int) -> None:
         """The first message of a flow: how late it comes."""
         limits = self._limits[number]
-        if self._since is not None or self.counts[number] > 1 or limits is None or limits.most is None:
+        if self._since is not None or self.counts[number] > 1 or limits is None:
             return
         late = at - self._first.get(self._flows[number - 1].sender, at)
         if late > max(limits.most, SECOND):
             self._silence(number, line, at, late, limits)
 
     def _compare(self, number: int, line: int, at: int, distance: int) -> None:
-        """A distance of a flow."""
+        """A distance of a flow; where time goes back it is none."""
+        if distance < 0:
+            return
         if self._usual is not None:
             usual = self._usual.setdefault(number, {})
             usual[distance // STEP] = usual.get(distance // STEP, 0) + 1
@@ -134,7 +137,7 @@ class Distances:
             return
         if distance < limits.least:
             self._near(number, line, at, distance, limits)
-        elif limits.most is not None and distance > limits.most:
+        elif distance > limits.most:
             self._silence(number, line, at, distance, limits)
 
     def _near(self, number: int, line: int, at: int, distance: int, limits: Limits) -> None:
@@ -148,7 +151,6 @@ class Distances:
 
     def _silence(self, number: int, line: int, at: int, distance: int, limits: Limits) -> None:
         """A message comes after a silence."""
-        assert limits.most is not None
         if distance <= limits.most + limits.wait:
             self.explained[number] = self.explained.get(number, 0) + 1
             return
@@ -162,7 +164,7 @@ class Distances:
         """Tells what has stopped, where the last time of the log is this one."""
         for number, limits in self._limits.items():
             begin = self._last.get(number, self._since if number in self._silent else None)
-            if limits and limits.most is not None and begin and last is not None and last - begin[1] > limits.most + limits.wait:
+            if limits and begin and last is not None and last - begin[1] > limits.most + limits.wait:
                 self._tell("stopped", number, f"not sent any more, for {{}} ms to the log's end, {limits.why}", begin[0], begin[1], last - begin[1])
 
     def name(self, number: int) -> str:
@@ -175,17 +177,12 @@ class Distances:
         """The flows of which no distance is too small, by what is passed over."""
         return [number for number, limits in self._limits.items() if limits and limits.least <= 0]
 
-    def table(self) -> Iterator[str]:
-        """A line for each flow: its period, how often it was sent, the least, usual and greatest distance, all in ms."""
-        rows: list[tuple[str, ...]] = [("flow", "group", "from", "to", "period", "count", "least", "median", "greatest")]
+    def table(self) -> Iterator[tuple[str, ...]]:
+        """A row for each flow: its period, how often it was sent, the least, usual and greatest distance, all in ms."""
         for number, flow in enumerate(self._flows, 1):
             usual = sorted((self._usual or {}).get(number, {}).items())
             told = [f"{step * STEP / MILLISECOND:.2f}" for step in (usual[0][0], median(usual), usual[-1][0])] if usual else ["-"] * 3
-            rows.append((str(number), flow.group, flow.sender, flow.to, str(flow.period or "-"), str(self.counts.get(number, 0)), *told))
-        widths = [max(len(row[at]) for row in rows) for at in range(9)]
-        for row in rows:
-            left, right = zip(row[:4], widths), zip(row[4:], widths[4:])
-            yield "  ".join([*(f"{cell:<{width}}" for cell, width in left), *(f"{cell:>{width}}" for cell, width in right)])
+            yield str(number), flow.group, flow.sender, flow.to, str(flow.period or "-"), str(self.counts.get(number, 0)), *told
 
 
 def median(usual: list[tuple[int, int]]) -> int:

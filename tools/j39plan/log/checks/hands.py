@@ -23,6 +23,9 @@ HANDS = 3
 # A unit by its label, anybody else by the NAME.
 Key = str
 
+# The line at which somebody was heard, its time, and the address, None of who could claim none.
+Heard = tuple[int, int | None, int | None]
+
 
 class Claimed(NamedTuple):
     """A claim: its line and time, who made it, who held the address before and wasn't heard of elsewhere since, and whether that one is on and
@@ -89,8 +92,8 @@ class Hands:
         self._holders: dict[int, Who] = {}
         self._at: dict[Key, int] = {}
         self.first: dict[Key, int] = {}  # when each was heard first
-        self._heard: dict[Key, int] = {}
-        self._where: dict[Key, int | None] = {}  # at which address each was heard last
+        self.last: dict[Key, Heard] = {}
+        self._since = 0  # the line at which the clock was set last
         self._claimed: dict[Key, int] = {}  # when each claimed an address last
         self._fresh: dict[int, Claimed] = {}  # claims of which it isn't known yet what comes of them
         self._lost: dict[int, tuple[Key, int]] = {}  # of each address who held it before the last change, and when that was
@@ -98,16 +101,14 @@ class Hands:
         self._taken: dict[Key, Taken] = {}
         self._changes: dict[int, Changes] = {}
         self._asked: int | None = None
-        self.seen: set[Key] = set()
 
     def asked(self, at: int | None) -> None:
         """Claims are asked for."""
         self._asked = self._asked if at is None else at
 
-    def anew(self) -> None:
+    def anew(self, line: int) -> None:
         """The clock was set: times before count no more."""
-        self._asked = None
-        self._heard.clear()
+        self._asked, self._since = None, line
         self._claimed.clear()
         self._lost.clear()
         self._fresh.clear()
@@ -126,11 +127,10 @@ class Hands:
             changed.append(address)
             self._takes(line, at, who, before)
         self._is_displaced(key, who)
-        self.seen.add(key)
+        self.last[key] = line, at, address
         if at is not None:
             self.first.setdefault(key, at)
-            self._heard[key] = self._claimed[key] = at
-            self._where[key] = address
+            self._claimed[key] = at
         return tuple(changed)
 
     def _leaves(self, key: Key, at: int | None, who: Who) -> list[int]:
@@ -163,7 +163,7 @@ class Hands:
             if at is not None:
                 self._lost[address] = key_of(before), at
             if before.label and not who.label:
-                self._taken[before.label] = Taken(line, at, who, self._is_on(before.label, at))
+                self._taken[before.label] = Taken(line, at, who, self.is_on(before.label, at))
         if address in POOL and self._is_new(key, address, at) and not is_defence:
             self._fresh[address] = Claimed(line, at, who, before, self._is_contested(at, before, who))
         self._holders[address], self._at[key] = who, address
@@ -198,12 +198,17 @@ class Hands:
 
     def _is_new(self, key: Key, address: int, at: int | None) -> bool:
         """Whether a claim is none that was asked for, nor of one that sends from this address already."""
-        is_there = self._where.get(key) == address
-        return at is not None and not self._was_asked(at) and not (is_there and 0 <= at - self._heard.get(key, at - HEARD) < HEARD)
+        heard = self._heard(key) if key in self.last and self.last[key][2] == address else None
+        return at is not None and not self._was_asked(at) and not (heard is not None and 0 <= at - heard < HEARD)
 
-    def _is_on(self, key: Key, at: int | None) -> bool:
+    def _heard(self, key: Key) -> int | None:
+        """When somebody was heard last, by the clock as it is set now."""
+        line, at, _ = self.last.get(key, (0, None, None))
+        return at if line >= self._since else None
+
+    def is_on(self, key: Key, at: int | None) -> bool:
         """Whether somebody was heard so lately that it is on."""
-        heard = self._heard.get(key)
+        heard = self._heard(key)
         return at is not None and heard is not None and 0 <= at - heard < self._times.get(key, HEARD)
 
     def _is_contested(self, at: int | None, before: Who | None, who: Who) -> bool:
@@ -211,7 +216,7 @@ class Hands:
         if before is None:
             return False
         smaller, larger = (self._names.get(some.label or "", some.name or "") for some in (before, who))
-        return smaller < larger and self._is_on(key_of(before), at)
+        return smaller < larger and self.is_on(key_of(before), at)
 
     def _change(self, line: int, at: int | None, before: Who, who: Who) -> None:
         """An address changes hands."""
@@ -231,18 +236,12 @@ class Hands:
 
     def sends(self, line: int, at: int | None, who: Who) -> None:
         """Somebody sends something that is no claim."""
-        key = key_of(who)
-        is_contested = who.is_guess and who.address in self._holders  # only the contest tells who it is
-        if not is_contested:
-            self.seen.add(key)
-        if at is None:
-            return
-        if key and not is_contested:
-            if key not in self.first:
+        if not who.is_guess or who.address not in self._holders:  # else only the contest tells who it is
+            key = key_of(who)
+            self.last[key] = line, at, who.address
+            if key not in self.first and at is not None:
                 self.first[key] = at
-            self._heard[key] = at
-            self._where[key] = who.address
-        if self._fresh:
+        if self._fresh and at is not None:
             self._pass(at)
             self._is_early(line, at, who)
 

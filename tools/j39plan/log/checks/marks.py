@@ -14,7 +14,8 @@ from enum import Enum
 from typing import BinaryIO, NamedTuple
 
 from j39plan.j1939 import (
-    ADDRESS_CLAIMED, CONNECTION_MANAGEMENT, DATA_TRANSFER, GLOBAL_ADDRESS, NULL_ADDRESS, REQUEST, destination_in, identifier_of, pgn_in, source_in,
+    ACKNOWLEDGEMENT, ADDRESS_CLAIMED, CONNECTION_MANAGEMENT, DATA_TRANSFER, GLOBAL_ADDRESS, NULL_ADDRESS, REQUEST, destination_in, identifier_of,
+    pgn_in, source_in,
 )
 from j39plan.log.checks.meter import Meter
 from j39plan.log.reports import Report
@@ -61,7 +62,7 @@ LONG = (Kind.ANNOUNCEMENT, Kind.PACKET)
 
 class Mark(NamedTuple):
     """What a marked line has: its identifier, and of what PGN and how many bytes; of an announcement those of the message, and whether it
-    keeps the rules; and of connection management the bytes. Of an error frame these are its classes and its bytes."""
+    keeps the rules; and of connection management and acknowledgements the bytes. Of an error frame these are its classes and its bytes."""
 
     kind: Kind
     identifier: int
@@ -217,7 +218,7 @@ def mark_of(identifier: int, data: bytes) -> Mark | None:
     if pgn == DATA_TRANSFER:
         return Mark(Kind.PACKET, identifier, pgn, len(data), data=data)
     if pgn != CONNECTION_MANAGEMENT:
-        return Mark(Kind.MESSAGE, identifier, pgn, len(data))
+        return Mark(Kind.MESSAGE, identifier, pgn, len(data), data=data if pgn == ACKNOWLEDGEMENT else b"")
     if len(data) != 8:
         return None
     announced, size = int.from_bytes(data[5:], "little"), int.from_bytes(data[1:3], "little")

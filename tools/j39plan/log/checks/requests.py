@@ -34,21 +34,22 @@ class Asked:
         self._tolerance, self._waits = tolerance, waits  # how long a request of a unit may wait on the bus, as far as that is known
         self._numbers = {group.label: group.pgn for group in tables.groups}
         self._open: list[deque[Open]] = [deque() for _ in self._requests]
+        self.open: set[int] = set()  # the PGNs of which a request may be open
         self._last: list[int | None] = [None] * len(self._requests)
 
     def anew(self) -> None:
         """The clock was set: what is open counts no more."""
         for waiting in self._open:
             waiting.clear()
+        self.open.clear()
         self._last = [None] * len(self._requests)
 
     def asks(self, line: int, at: int | None, asking: Asking) -> None:
-        """A request, which may be one of the plan."""
-        if asking.request == 0:
-            return
+        """A request of the plan."""
         number = asking.request - 1
         self._pass(number, at)
         self._open[number].append(Open(line, at))
+        self.open.add(self._numbers[self._requests[number].group])
         period, last = self._requests[number].period, self._last[number]
         self._last[number] = at
         if period is not None and last is not None and at is not None:
@@ -58,10 +59,13 @@ class Asked:
 
     def answers(self, line: int, at: int | None, sender: Who, to: Who, pgn: int) -> None:
         """A message of a group begins, which may answer requests for it."""
-        for number, request in enumerate(self._requests):
-            if self._open[number] and self._numbers[request.group] == pgn and self._is_answer(number, sender, to):
+        numbers = [number for number, request in enumerate(self._requests) if self._numbers[request.group] == pgn]
+        for number in numbers:
+            if self._open[number] and self._is_answer(number, sender, to):
                 self._pass(number, at)
                 self._close(number, line, at)
+        if not any(self._open[number] for number in numbers):
+            self.open.discard(pgn)
 
     def _is_answer(self, number: int, sender: Who, to: Who) -> bool:
         """Whether a message from one to another answers a request, by who was asked and who asks."""

@@ -85,15 +85,25 @@ def key_meant(plan: Source, place: Place, key: str) -> str:
 def unknown_key(plan: Source, place: Place) -> Told:
     """Line and hint of the table's first key that isn't listed."""
     known = listed(plan, place)
-    for key in plan.places.keys(place):
-        if key in known:
-            continue
-        if first := since().get((table_of(place) or None, key)):
-            if plan.places.number(("version",)) not in VERSIONS:
-                return version_fault(plan)
-            return plan.line(place + (key,)), f"key {key}: {since_when(first)}"
-        return plan.line(place + (key,)), f"key {key}{key_meant(plan, place, key)}"
-    return plan.line(place), None
+    key = next((key for key in plan.places.keys(place) if key not in known), None)
+    return (plan.line(place), None) if key is None else unlisted_key(plan, place, key)
+
+
+def unlisted_key(plan: Source, place: Place, key: str) -> Told:
+    """Line and hint of a key that isn't listed, or not by the plan's version."""
+    if first := since().get((table_of(place) or None, key)):
+        if plan.places.number(("version",)) not in VERSIONS:
+            return version_fault(plan)
+        return plan.line(place + (key,)), f"key {key}: {since_when(first)}"
+    return plan.line(place + (key,)), f"key {key}{key_meant(plan, place, key)}"
+
+
+def missing_key(plan: Source, place: Place, key: str) -> Told:
+    """Line and hint of a table that lacks a key."""
+    why = f", which a {asking(plan, place)} needs" if key == "period" else ""
+    first = since().get((ABSENT, table_of(place) or None, key))
+    may_be_absent = f"; from version = {first} on it may be left away" if first else ""
+    return plan.line(place), f"key {key} isn't there{why}: {wanted(plan, place, key)}{may_be_absent}"
 
 
 def kept_fault(plan: Source, key: str) -> Place:
@@ -221,10 +231,7 @@ def refusal(plan: Source, data: bytes, line: str) -> Told:
     if key is None:
         return plan.line(place), "a table is wanted"
     if cause == "Missing":
-        why = f", which a {asking(plan, place)} needs" if key == "period" else ""
-        first = since().get((ABSENT, table_of(place) or None, key))
-        may_be_absent = f"; from version = {first} on it may be left away" if first else ""
-        return plan.line(place), f"key {key} isn't there{why}: {wanted(plan, place, key)}{may_be_absent}"
+        return missing_key(plan, place, key)
     if cause in ("Repeated", "UnknownLabel") and key != "keep_free":
         return label_fault(plan, place, key, cause)
     return value_fault(plan, place, key, cause)

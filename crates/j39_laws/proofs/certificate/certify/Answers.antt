@@ -10,7 +10,8 @@ returns c =
     let each : (plan : Plan) → Clean plan → IsSound plan = λ plan clean.
     sound_by_laws plan clean (search rules) (search rules) (search rules) (search rules) (search rules) (search rules)
     (search rules) (search rules) (search rules) (search rules) (search rules) (search rules) (search rules) (search rules) (search rules)
-    (search rules) (search rules) (search rules) (search rules) (search rules) (search rules) (search rules) in
+    (search rules) (search rules) (search rules) (search rules) (search rules) (search rules) (search rules) (search rules) (search rules)
+    (search rules) in
     let clean : Clean c.args.checked.now = search rules in
     record {
       sound = each c.args.checked.now clean;

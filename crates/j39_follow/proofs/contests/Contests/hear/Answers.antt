@@ -14,8 +14,8 @@ use Rattle.j39_follow.proofs.contests.Contests.hear.Goals as goal
 pub carried_name-requires : goal.carried_name-requires
 carried_name-requires c = eight c.args.frame.now c.requires
 
-pub behind-self-requires-clause-name : goal.behind-self-requires-clause-name
-behind-self-requires-clause-name c = sym (c.to_bits-name.ensures.value ∙ c.carried_name.ensures)
+pub note_contests-requires-clause-name : goal.note_contests-requires-clause-name
+note_contests-requires-clause-name c = sym (c.to_bits-name.ensures.value ∙ c.carried_name.ensures)
 
 pub returns : goal.returns
 returns c = on_ok_weaker c.note.result (λ put. λ log knows of.
@@ -29,8 +29,8 @@ returns c = on_ok_weaker c.note.result (λ put. λ log knows of.
     let told : Claimant = record { party = c.claimant-claimant.result.party; address = c.claimed.result } in
     record {
       contentions = λ a less.
-          contention_on plan log a (contention_at old.table a) (contention_at c.behind-self.result a) x (of.contentions a less)
-          (c.behind-self.ensures log a less knows known);
+          contention_on plan log a (contention_at old.table a) (contention_at c.note_contests.new.table a) x (of.contentions a less)
+          (c.note_contests.ensures log a less knows known);
       claimants = subst (AreClaimants plan c.note.new.self) (sym (timed_more log x))
           (known_more plan old.claimants c.note.new.self (frames_of log) f name (claimed_place f) told
           (subst (λ (n : ℕ). TellsPlace f n (claimed_place f)) (sym name_is) (told_place f c.requires)) known.party c.claimed.ensures put of.claimants);

@@ -1,0 +1,79 @@
+-- From where a message that no receiver answers was begun some run spares it, and all of it is taken.
+use Rattle.std.proofs.Common.{◌≡◌, ◌≢◌, ℕ, zero, suc, ◌≤◌, true, eqb, List, [], ◌∷◌, inl, inr, refl, sym, subst, arith, Option, Some, None}
+use Rattle.std.proofs.lemmas.Bool.{eqb-true, or_cases}
+use Rattle.j39_findings.specs.declared.plan.Plan.{Plan}
+use Rattle.j39_findings.specs.declared.steps.Step.{Step}
+use Rattle.j39_findings.specs.declared.steps.Step.TheVariants.{Emit, Take}
+use Rattle.j39_world.specs.declared.step_error.StepError.{StepError}
+use Rattle.j39_world.specs.Arriving.{CanArriveUnanswered, IsThrough, RunSparing, Spares}
+use Rattle.j39_world.specs.Ending.{IsOfTransfers}
+use Rattle.j39_world.specs.Run.{count_of, refusal}
+use Rattle.j39_world.specs.SoundPlan.{Always}
+use Rattle.j39_world.specs.Transfers.{is_among}
+use Rattle.j39_world.specs.TransferSteps.{begins, outgoing}
+use Rattle.j39_world.specs.World.{World}
+use Rattle.j39_laws.proofs.Runs.Always.{leads_to_follows}
+use Rattle.j39_laws.proofs.Transfers.FitSteps.{IsWorldFit, begin_fits, steps_fit, worlds_fit}
+use Rattle.j39_laws.proofs.Transfers.Leading.{leads_on}
+use Rattle.j39_laws.proofs.Transfers.Lowering.{left_of, lowers}
+
+module _ (plan : Plan) (u : ℕ) (targets : List ℕ) where
+  -- a run from here
+  record Comes (w : World) : Type 0 where
+    steps : List Step
+    after : World
+    runs : RunSparing plan u targets w steps after
+    through : IsThrough plan after u targets
+
+  -- a step that goes on with it and isn't refused
+  abbrev GoesOn : World → Type 0
+  GoesOn w = (step : Step) → IsOfTransfers step → Spares w u targets step → refusal plan w step ≡ None → Comes w
+
+  -- some of these can take more of u, or none
+  by_taking : (w : World) (list : List ℕ) → GoesOn w → (((v : ℕ) → is_among list v ≡ true → refusal plan w (Take u v) ≢ None) → Comes w) → Comes w
+  by_taking w [] goes through = through (λ v none. absurd (cc none))
+  by_taking w (x ∷ list) goes through =
+      elim (refusal plan w (Take u x)) as (λ (r : Option StepError). refusal plan w (Take u x) ≡ r → Comes w) [
+        | None ↦ λ none. goes (Take u x) tt tt none
+        | Some e ↦ λ some. by_taking w list goes (λ rest. through (λ v among.
+            elim (or_cases (eqb v x) (is_among list v) among) [
+              | inl is ↦ subst (λ (k : ℕ). refusal plan w (Take u k) ≢ None) (sym (eqb-true v x is)) (λ none. cc (some, none))
+              | inr later ↦ rest v later
+            ]))
+      ] refl
+
+  -- there is a step that goes on, or all was sent and taken
+  by_step : (w : World) → GoesOn w → Comes w
+  by_step w goes =
+      elim (refusal plan w (Emit u)) as (λ (r : Option StepError). refusal plan w (Emit u) ≡ r → Comes w) [
+        | None ↦ λ none. goes (Emit u) tt tt none
+        | Some e ↦ λ some. by_taking w targets goes (λ taken. record {
+          steps = [];
+          after = w;
+          runs = refl;
+          through = record { sent = λ none. cc (some, none); taken = taken };
+        })
+      ] refl
+
+  comes : (fuel : ℕ) (w : World) → IsWorldFit w → left_of (count_of plan) w ≤ fuel → Comes w
+  comes zero w fit most = by_step w (λ step of spares allowed.
+      let (mid, leads) = leads_on plan w fit step allowed in
+      absurd (let less = lowers plan w fit step of allowed mid leads in omega (arith, less, most)))
+  comes (suc fuel) w fit most = by_step w (λ step of spares allowed.
+      let (mid, leads) = leads_on plan w fit step allowed in
+      let less = lowers plan w fit step of allowed mid leads in
+      let more : Comes mid = comes fuel mid (steps_fit plan w fit step allowed mid leads) (omega (arith, less, most)) in
+      record {
+        steps = step ∷ more.steps;
+        after = more.after;
+        runs = (spares, (mid, leads_to_follows plan w step allowed mid leads, more.runs));
+        through = more.through;
+      })
+
+pub can_arrive_unanswered : (plan : Plan) → Always plan (CanArriveUnanswered plan)
+can_arrive_unanswered plan before w run f flow bytes planned unanswered allowed =
+    let begun : World = begins (count_of plan) w f flow bytes in
+    let targets : List ℕ = (outgoing (count_of plan) w.stations f flow bytes).targets in
+    let fit : IsWorldFit begun = begin_fits plan w (worlds_fit plan before w run) f bytes (Some flow) planned allowed begun refl in
+    let run_on : Comes plan flow.sender targets begun = comes plan flow.sender targets (left_of (count_of plan) begun) begun fit (omega arith) in
+    (run_on.steps, run_on.after, run_on.runs, run_on.through)

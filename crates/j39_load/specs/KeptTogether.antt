@@ -1,0 +1,34 @@
+-- That what is asked of a bus in the plan's own words can be met, all of it on one bus: frames that are as late as the jitter allows, an attempt that
+-- is damaged, and units that keep order or don't.
+use Rattle.std.specs.Prelude.{◌≡◌, ℕ, suc, Bool, true}
+use Rattle.j39_findings.specs.declared.plan.Plan.{Plan}
+use Rattle.j39_findings.specs.declared.plan.pace.Pace.{Pace}
+use Rattle.j39_findings.specs.declared.plan.timing.ErrorRate.{ErrorRate}
+use Rattle.j39_findings.specs.declared.plan.timing.Timing.{Timing}
+use Rattle.j39_load.specs.KeepsErrors.{KeepsErrors}
+use Rattle.j39_load.specs.KeepsPlan.{FrameFlows, Held, IsMsBehind, KeepsQueues, KeepsToPlan}
+use Rattle.j39_timing.specs.AnyOrder.{Controllers}
+use Rattle.j39_timing.specs.Errors.{Damaged, IsLegalInAnyOrderWithErrors, IsLegalWithErrors}
+use Rattle.j39_timing.specs.TimedFrames.{Schedule}
+
+-- a bus on which a flow of this pace is sent, one frame and so many more, of which the first is damaged once
+pub record CanBeKeptTogether (plan : Plan) (timing : Timing) (rate : ErrorRate) (f : ℕ) (pace : Pace) (n : ℕ) : Type 0 where
+  pub s : Schedule
+  pub damaged : Damaged
+  pub controllers : Controllers
+  pub planned : ℕ → Bool
+  pub sent : FrameFlows
+  pub held : Held
+  -- it is legal, whether its units keep order or not, and keeps to all that the plan tells
+  pub legal : IsLegalWithErrors s damaged
+  pub any_order : IsLegalInAnyOrderWithErrors s controllers damaged
+  pub keeps : KeepsToPlan plan timing s planned sent held
+  pub queues : KeepsQueues plan timing s controllers planned sent
+  pub errors : KeepsErrors timing rate s damaged planned
+  pub frames : s.count ≡ suc n
+  pub of_flow : (p : ℕ) → sent.flow p ≡ f
+  pub all_planned : (p : ℕ) → planned p ≡ true
+  -- each frame is queued no earlier than its jitter allows at most
+  pub late : (p : ℕ) → IsMsBehind timing pace.jitter (sent.moment p) (s.queued p)
+  pub once : damaged.count ≡ 1
+  pub of_first : (e : ℕ) → damaged.frame e ≡ 0

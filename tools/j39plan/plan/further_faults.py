@@ -1,0 +1,112 @@
+"""What else is wrong in a plan that the program refuses: it tells the first fault alone, and the schema has most of the others.
+
+The schema is checked by the library jsonschema, and nothing further is told where that isn't there. Labels that stand twice or that nothing has are
+none of its faults.
+"""
+
+import re
+import tomllib
+from collections.abc import Iterator
+from typing import Any, NamedTuple
+
+from j39plan.plan.answer_places import Placed
+from j39plan.plan.hints.refusals import missing_key, unlisted_key, value_fault
+from j39plan.plan.hints.text_faults import Told, faulty_statement, is_no_toml, statement_fault
+from j39plan.plan.hints.wanted import listed
+from j39plan.plan.parts import Source
+from j39plan.plan.schema import VERSIONS, schema
+from j39plan.plan.toml_places import MARK, Place, Places
+
+# So many statements that are no TOML are passed over.
+MOST = 20
+
+# The keys that the library names in what it says.
+NAMED = re.compile(r"'(\w+)' is a (?:required property|dependency of '(?:\w+)')")
+
+
+class Fault(NamedTuple):
+    """A fault by the schema: the table, its key, and what is wrong with that, as refusals call it."""
+
+    table: Place
+    key: str
+    cause: str
+
+
+def further_faults(data: bytes, parts: list[Placed]) -> list[Placed]:
+    """What else is wrong in a file that `check` answered so, in the order of its lines."""
+    first = next((part for part in parts if part.answer.startswith("refused ")), None)
+    if first is None or first.answer.startswith("refused plan "):
+        return []
+    try:
+        text = data.decode()
+    except UnicodeDecodeError:
+        return []
+    told, text, left_out = readable(text) if first.answer == "refused Text" else ([], text, set())
+    if text:
+        told += by_schema(text, left_out)
+    others = [(line, hint) for line, hint in dict.fromkeys(told) if hint and (line, hint) != (first.line, first.hint)]
+    return [Placed(line, f"also {hint}", "", []) for line, hint in sorted(others)]
+
+
+def readable(text: str) -> tuple[list[Told], str, set[str]]:
+    """What is wrong in the statements of a text that are no TOML, the text with empty lines in place of these, and their keys; no text where it isn't
+    known how it goes on."""
+    told: list[Told] = []
+    left_out: set[str] = set()
+    while is_no_toml(text):
+        statement = faulty_statement(text, Places(text))
+        spelled = text[statement.start:statement.end]
+        told.append(statement_fault(statement))
+        if spelled.startswith("[") or statement.end == len(text) or len(told) == MOST:
+            return told, "", left_out
+        left_out.add(spelled.partition("=")[0].strip())
+        text = text[:statement.start] + re.sub("[^\n]", "", spelled) + text[statement.end:]
+    return told, text, left_out
+
+
+def by_schema(text: str, left_out: set[str]) -> list[Told]:
+    """The faults of a text by the schema, but for keys that aren't there since they were left out."""
+    try:
+        from jsonschema import Draft7Validator
+        values = tomllib.loads(text.removeprefix(MARK))
+    except (ImportError, ValueError, RecursionError):
+        return []
+    if values.get("version") not in VERSIONS:
+        return []
+    plan = Source(text)
+    faults = dict.fromkeys(fault for error in Draft7Validator(schema()).iter_errors(values) for fault in faults_of(error))
+    unlisted = {fault.table: told_of(plan, fault)[1] or "" for fault in faults if fault.cause == "UnknownKey"}
+    return [told_of(plan, fault) for fault in faults if fault.cause != "Missing" or not is_explained(plan, fault, left_out, unlisted)]
+
+
+def is_explained(plan: Source, fault: Fault, left_out: set[str], unlisted: dict[Place, str]) -> bool:
+    """Whether a key isn't there since it was left out, is misspelled, or isn't known to the plan's version."""
+    is_misspelled = unlisted.get(fault.table, "").endswith(f"; did you mean {fault.key}?")
+    return fault.key in left_out or is_misspelled or fault.key not in listed(plan, fault.table)
+
+
+def faults_of(error: Any) -> Iterator[Fault]:
+    """The faults that an error of the library stands for."""
+    path: Place = tuple(part + 1 if isinstance(part, int) else part for part in error.absolute_path)
+    if error.validator in ("required", "dependencies"):
+        if found := NAMED.match(error.message):
+            yield Fault(path, found.group(1), "Missing")
+    elif error.validator == "additionalProperties":
+        yield from (Fault(path, key, "UnknownKey") for key in error.instance if key not in error.schema["properties"])
+    elif keys := [at for at, part in enumerate(path) if isinstance(part, str)]:
+        table, key = path[:keys[-1]], str(path[keys[-1]])
+        if "values" in table:  # a name of a number: the key is the table of names
+            table, key = table[:table.index("values")], "values"
+        elif key == "arbitrary" and error.validator == "const":  # of a unit that never claims, which is said of that key
+            table, key = table[:-1], "claims"
+        cause = {None: "UnknownKey", "type": "WrongType", "maxItems": "TooMany", "maxProperties": "TooMany"}.get(error.validator, "Range")
+        yield Fault(table, key, cause)
+
+
+def told_of(plan: Source, fault: Fault) -> Told:
+    """The line of a fault, and a hint."""
+    if fault.cause == "Missing":
+        return missing_key(plan, fault.table, fault.key)
+    if fault.cause == "UnknownKey" or fault.key not in listed(plan, fault.table):
+        return unlisted_key(plan, fault.table, fault.key)
+    return value_fault(plan, fault.table, fault.key, fault.cause)

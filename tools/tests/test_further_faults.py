@@ -1,0 +1,113 @@
+"""Faults behind the first one of a plan that the program refuses."""
+
+import json
+import unittest.mock
+
+from tests.support import InFolder, needs, run, shown_refusals
+
+PLAN = """version = 4
+[[unit]]
+label = "ENGINE"
+address = 300
+name = { identity = 1 }
+[[unit]]
+label = "GEARBOX"
+adress = 3
+name = { identity = 9999999, foo = 1 }
+[[group]]
+label = "EEC1"
+pgn = 61444
+priority = 9
+length = 8
+[[group.signal]]
+label = "SPEED"
+byte = 4
+bits = 16
+kind = "measurd"
+factor = 0.125
+values = { 0 = "idle", 1 = "low idle" }
+[[flow]]
+group = "EEC1"
+from = "ENGINE"
+to = "all"
+deadline = 5
+"""
+KINDS = '"measured" or "discrete" or "raw" or "states" or "signed" or "dtc"'
+NAMES = "a table of raw numbers, as decimal numbers that the signal's bits hold, with labels, and none of a dtc"
+FURTHER = [
+    "8: also key adress; did you mean address?",
+    "9: also identity = 9999999: integer 0..2097151",
+    "9: also key foo isn't listed",
+    "13: also priority = 9: integer 0..7",
+    f'19: also kind = "measurd": {KINDS}; did you mean measured?',
+    "20: also key factor isn't listed: step and per",
+    '21: also values = { 0 = "idle", 1 = "low idle" }: ' + NAMES + '; "low idle" is no label, as "low_idle" is: letters, digits and _, at most 32',
+    "22: also key period isn't there, which a deadline needs: integer 1..65535",
+]
+FIRST = "4: refused Range unit 1 key address  (address = 300: integer 0..253)"
+
+
+@needs("jsonschema", "python3-jsonschema")
+class FurtherFaults(InFolder):
+    """By the schema, which the library checks."""
+
+    def answer(self, text, *words):
+        """The lines of where.py without the file's name."""
+        plan = self.write("plan.toml", text)
+        status, answer, said = run("where.py", *words, plan)
+        self.assertEqual((status, said), (2, ""))
+        return answer.replace(f"{plan}:", "").splitlines()
+
+    def test_all_of_a_plan(self):
+        self.assertEqual(self.answer(PLAN), [FIRST, *FURTHER])
+
+    def test_keys_of_later_versions(self):
+        told = self.answer(PLAN.replace("version = 4", "version = 1"))
+        self.assertEqual(told[-2:], ["21: also key values: only from version = 4 on: write version = 4",
+                                     "26: also key deadline: only from version = 3 on: write version = 4"])
+
+    def test_a_plan_of_no_version_has_no_further_fault(self):
+        """Since which keys it may have isn't known."""
+        self.assertEqual(len(self.answer(PLAN.replace("version = 4", "version = 9"))), 1)
+
+    def test_statements_that_are_no_toml(self):
+        """Each is told, and what they would say isn't missed."""
+        text = PLAN.replace('label = "GEARBOX"', "label = GEARBOX").replace("priority = 9", "priority = True").replace("byte = 4", "byte = 0a")
+        told = ["4: also address = 300: integer 0..253", *FURTHER[:3], "13: also priority = True: an integer is wanted",
+                "17: also byte = 0a: a hexadecimal number is 0x0A", *FURTHER[4:]]
+        self.assertEqual(self.answer(text), ['7: refused Text  (label = GEARBOX: a text needs quotes: "GEARBOX")', *told])
+
+    def test_an_unclosed_bracket_hides_the_rest(self):
+        self.assertEqual(len(self.answer(PLAN.replace("foo = 1 }", "foo = 1"))), 1)
+
+    def test_json(self):
+        """In an array of their own, with lines and hints."""
+        found = json.loads("\n".join(self.answer(PLAN, "--json")))
+        self.assertEqual(found["refused"]["line"], 4)
+        self.assertEqual([f"{fault['line']}: also {fault['hint']}" for fault in found["further"]], FURTHER)
+
+    def test_annotations_and_reports(self):
+        told = self.answer(PLAN, "--github", "--gitlab", self.path("report.json"))
+        self.assertEqual([line.partition(" file=")[0] for line in told], ["::error"] * 9)
+        with open(self.path("report.json"), encoding="utf-8") as file:
+            report = json.load(file)
+        self.assertEqual({one["severity"] for one in report}, {"critical"})
+        self.assertEqual([one["location"]["lines"]["begin"] for one in report], [4, 8, 9, 9, 13, 19, 20, 21, 22])
+
+    def test_a_plan_with_one_fault_has_no_other(self):
+        """The refused plans of the page."""
+        for text, answer in shown_refusals():
+            with self.subTest(answer):
+                self.assertEqual([line for line in self.answer(text) if ": also " in line], [])
+
+
+class WithoutTheLibrary(InFolder):
+    """The first fault is told all the same."""
+
+    @unittest.mock.patch.dict("sys.modules", {"jsonschema": None})
+    def test_it_is_not_there(self):
+        from j39plan.cli import where
+        name, written = self.write("plan.toml", PLAN), []
+        with unittest.mock.patch("sys.stdout.write", written.append):
+            self.assertEqual(where.main([name]), 2)
+        self.assertEqual("".join(written), f"{name}:{FIRST}\n")
