@@ -6,75 +6,8 @@ import unittest
 from collections import Counter
 
 from j39plan import program
-from tests import support
-from tests.support import MARKED, NEWER, InFolder, example, text_of
-
-PLAN = """version = 1
-[[unit]]
-label = "ENGINE"
-address = 0
-name = { identity = 1 }
-[[unit]]
-label = "DISPLAY"
-address = 128
-name = { identity = 2, arbitrary = true }
-[[group]]
-label = "ET1"
-pgn = 65262
-priority = 6
-length = 8
-[[group]]
-label = "TSC1"
-pgn = 0
-priority = 3
-length = 8
-[[group]]
-label = "VI"
-pgn = 65260
-priority = 6
-length = 17
-[[flow]]
-group = "ET1"
-from = "ENGINE"
-to = "all"
-[[flow]]
-group = "TSC1"
-from = "DISPLAY"
-to = "ENGINE"
-[[flow]]
-group = "VI"
-from = "ENGINE"
-to = "all"
-"""
-
-# A broadcast of VI, 17 bytes, by its announcement and three packets.
-VI = ["1CECFF00#20110003FFECFE00", *(f"1CEBFF00#0{number}AAAAAAAAAAAAAA" for number in (1, 2, 3))]
-
-# What the plan has, each once: its claims and its flows.
-CLAIMS = ["18EEFF00#0100000000000000", "18EEFF80#0200000000000080"]
-FLOWS = ["18FEEE00#7DFFFFFFFFFFFFFF", "0C000080#FFFFFFFFFFFFFFFF", *VI]
-
-# Two units that prefer one address and may both choose another, of which the one with the larger NAME stands first.
-RIVALS = """version = 1
-[[unit]]
-label = "VALVE"
-address = 128
-name = { identity = 2, arbitrary = true }
-[[unit]]
-label = "PUMP"
-address = 128
-name = { identity = 1, arbitrary = true }
-[[group]]
-label = "ET1"
-pgn = 65262
-priority = 6
-length = 8
-[[flow]]
-group = "ET1"
-from = "%s"
-to = "all"
-"""
-PUMP_CLAIMS, VALVE_CLAIMS, ET1 = "18EEFF80#0100000000000080", "18EEFF80#0200000000000080", "18FEEE80#7DFFFFFFFFFFFFFF"
+from tests.logs_against import CLAIMS, FLOWS, PLAN, RIVALS, VI, Compared, run
+from tests.support import MARKED, NEWER, example, text_of
 
 GROUP = 'version = 1\n[[group]]\nlabel = "VI"\npgn = 65260\npriority = 6\nlength = %d\n'
 
@@ -92,13 +25,6 @@ def random_packet(chance):
     control = chance.choice(["20"] * 10 + ["10"] if destination == "FF" else ["10"] * 10 + ["20", "11", "13", "FF"])
     group = chance.choice(["ECFE00"] * 20 + ["EBFE00", "01EC00", "000004"])
     return f"1CEC{destination}{source}#{control}{length:02X}00{packets:02X}FF{group}"
-
-
-
-def run(*words, **more):
-    """Runs a tool, as support has it; the times beside lines are left out."""
-    status, answer, said = support.run(*words, **more)
-    return status, support.without_times(answer), said
 
 
 def acknowledged(lines, reports, length):
@@ -129,20 +55,7 @@ def acknowledged(lines, reports, length):
     return found
 
 
-class Against(InFolder):
-    def compared(self, text, frames):
-        """The deviations of a log of these frames from this plan."""
-        plan = self.write("plan.toml", text)
-        log = self.write("drive.log", "".join(f"({number}.0) can0 {frame}\n" for number, frame in enumerate(frames)))
-        status, answer, said = run("against.py", plan, log)
-        *found, count = answer.replace(log, "L").replace(plan, "P").splitlines()
-        self.assertEqual((status, count, said), (1 if found else 0, f"deviations {len(found)}", ""))
-        return found
-
-    def deviations(self, *frames):
-        """The deviations of a log of these frames and of the flows, which stand behind them."""
-        return self.compared(PLAN, [*frames, *FLOWS])
-
+class Against(Compared):
     def test_a_log_as_planned(self):
         self.assertEqual(self.deviations(*CLAIMS), [])
 
@@ -157,52 +70,12 @@ class Against(InFolder):
         self.assertEqual(self.deviations("18EEFF05#0300000000000000"),
                          ["L:1: NAME 0000000000000003 (identity 3, manufacturer 0, function 0) claims address 5: no unit has it"])
 
-    def test_the_name_that_claimed_last_holds_an_address(self):
-        """Also where the smaller NAME claimed before: it would have defended its address, had it been on."""
-        self.assertEqual(self.compared(RIVALS % "VALVE", [PUMP_CLAIMS, VALVE_CLAIMS, ET1]), [])
-        self.assertEqual(self.compared(RIVALS % "PUMP", [PUMP_CLAIMS, VALVE_CLAIMS, PUMP_CLAIMS, ET1]), [])
-
     def test_the_log_of_a_run(self):
         """A unit is switched off and one of a larger NAME takes its address: the frames of the run say who holds it then."""
         plan = self.write("plan.toml", RIVALS % "VALVE")
         frames = program.run(plan, ["up PUMP", "down PUMP", "up VALVE", "begin 1 7DFFFFFFFFFFFFFF"])
         self.assertIn("unit VALVE address 128", frames)
         self.assertEqual(self.compared(RIVALS % "VALVE", [frame for frame in frames if "#" in frame]), [])
-
-    def test_without_claims_the_smallest_name_has_an_address(self):
-        self.assertEqual(self.compared(RIVALS % "PUMP", [ET1]), ["P: unit VALVE: neither claimed an address nor sent anything"])
-        self.assertEqual(self.compared(RIVALS % "VALVE", [ET1])[0], "L:1: ET1 from PUMP to all: no flow")
-
-    def test_a_claim_elsewhere_leaves_an_address_to_the_next(self):
-        """PUMP claims 129, so that VALVE is the one of those that prefer 128 of which no claim came."""
-        self.assertEqual(self.compared(RIVALS % "VALVE", ["18EEFF81#0100000000000080", ET1]), [])
-        both = ["18EEFF81#0100000000000080", "18EEFF82#0200000000000080", ET1]
-        self.assertEqual(self.compared(RIVALS % "VALVE", both)[0], "L:3: address 128 sends ET1, a planned group: no unit has it")
-
-    def test_a_name_that_is_not_planned_takes_an_address(self):
-        for name in ("0000000000000000", "0300000000000000"):
-            found = self.deviations(f"18EEFF00#{name}", "18FEEE00#7DFFFFFFFFFFFFFF")
-            told = "".join(reversed(re.findall("..", name)))
-            self.assertEqual(found[:4], [
-                f"L:1: NAME {told} (identity {int(told, 16)}, manufacturer 0, function 0) claims address 0: no unit has it",
-                f"L:2: NAME {told} at address 0 sends ET1, a planned group: no unit has it  (2 times)",
-                f"L:4: TSC1 from DISPLAY to #{told}: no flow",
-                f"L:5: NAME {told} at address 0 sends VI, a planned group: no unit has it"])
-
-    def test_a_claim_of_the_global_address_tells_nothing(self):
-        self.assertEqual(self.deviations("18EEFFFF#0100000000000000", *CLAIMS), [])
-
-    def test_a_fixed_unit_elsewhere(self):
-        found = self.deviations("18EEFF07#0100000000000000", "18EEFF00#0100000000000000")
-        self.assertEqual(found, ["L:1: ENGINE claims address 7, planned is 0"])
-
-    def test_a_unit_that_moved_keeps_its_flows(self):
-        self.assertEqual(self.deviations("18EEFF81#0200000000000080", "0C000081#FFFFFFFFFFFFFFFF")[:1],
-                         ["L:4: address 128 sends TSC1, a planned group: no unit has it"])
-
-    def test_a_unit_without_an_address(self):
-        self.assertEqual(self.deviations("18EEFFFE#0200000000000080", "18EEFF80#0200000000000080"),
-                         ["L:1: DISPLAY could not claim an address"])
 
     def test_another_length(self):
         self.assertEqual(self.deviations("18FEEE00#7DFF"), ["L:1: ET1 from ENGINE has 2 bytes, planned are 8"])
@@ -339,12 +212,6 @@ class Against(InFolder):
                     "1C4DFF00#00", "1C4EFF00#00"]
         self.assertEqual(self.deviations(*services), [])
 
-    def test_a_unit_without_an_address_may_ask_for_claims(self):
-        self.assertEqual(self.deviations("18EAFFFE#00EE00", "18EA00FE#00EE00FFFFFFFFFF", *CLAIMS), [])
-        said = ["L:1: address 254 sends: no unit has it"]
-        for other in ("18EAFFFE#EEFE00", "18EAFFFE#", "18FF10FE#00EE00"):
-            self.assertEqual(self.deviations(other), said)
-
     def test_lines_that_spell_no_frame(self):
         """They are counted as `read` counts bad lines."""
         plan = self.write("plan.toml", PLAN)
@@ -391,43 +258,6 @@ class Against(InFolder):
         self.assertIn("deviations 2\n", answers[0][1])
         self.assertEqual(answers, answers[:1] * 4)
 
-    def periods(self, log, *words, period=10):
-        """What is told of ET1 and VI, which both have a period."""
-        plan = PLAN.replace("version = 1", "version = 3").replace('from = "ENGINE"\n', f'from = "ENGINE"\nperiod = {period}\n')
-        name = self.write("drive.log", "".join(f"({time}) can0 {frame}\n" for time, frame in log))
-        status, answer, said = run("against.py", *words, self.write("plan.toml", plan), name)
-        self.assertEqual((status, said), (int(not answer.startswith("deviations 0")), ""))
-        return [line.replace(name, "L") for line in answer.splitlines() if " the one before" in line]
-
-    def test_periods(self):
-        """The least distance of the messages of a flow, with its line; exactly the period is no deviation."""
-        times = ["5.000000", "5.010000", "5.019999", "5.029000", "5.028000", "5.038", "6"]
-        log = [(time, "18FEEE00#7DFFFFFFFFFFFFFF") for time in times]
-        said = "flow 1, ET1 from ENGINE to all: {} ms after the one before, its period is {} ms"
-        self.assertEqual(self.periods(log), ["L:4: " + said.format("9.001", 10) + "  (2 times)"])
-        self.assertEqual(self.periods(log, "--jitter", "0.999"), [])
-        self.assertEqual(self.periods(log, "--jitter", "0.998999"), ["L:4: " + said.format("9.001", 10)])
-        self.assertEqual(self.periods(log, period=9), [])
-        self.assertEqual(self.periods(log, period=1000), ["L:4: " + said.format("9.001", 1000) + "  (5 times)"])
-
-    def test_periods_of_long_messages(self):
-        """They count from the announcement, also where their last packets are nearer, and only where they were carried whole."""
-        late = [("1.000", VI[0]), ("1.003", VI[1]), ("1.004", VI[2]), ("1.009", VI[3])]
-        soon = [("1.010", VI[0]), ("1.011", VI[1]), ("1.012", VI[2]), ("1.013", VI[3])]
-        self.assertEqual(self.periods(late + soon), [])
-        broken = [("1.012", VI[0]), ("1.013", VI[1])]
-        self.assertEqual(self.periods(late + broken + [(f"1.02{number}", frame) for number, frame in enumerate(VI)]), [])
-        said = "flow 3, VI from ENGINE to all: 10 ms after the one before, its period is 11 ms"
-        self.assertEqual(self.periods(late + soon, period=11), [f"L:5: {said}"])
-
-    def test_periods_without_times(self):
-        plan = PLAN.replace("version = 1", "version = 3").replace('from = "ENGINE"\n', 'from = "ENGINE"\nperiod = 10\n')
-        log = self.write("drive.log", "".join(f"{frame}\n" for frame in FLOWS))
-        said = "against: the log has no times by which the periods of flows could be compared\n"
-        self.assertEqual(run("against.py", self.write("plan.toml", plan), log), (0, "deviations 0\n", said))
-        for jitter in ("-1", "x", "1e3", ""):
-            self.assertEqual(run("against.py", f"--jitter={jitter}", self.path("plan.toml"), log)[0], 2)
-
     def test_needs(self):
         """Those that nothing met in the log, by the flows that meet them; with the signal and the unit."""
         plan = PLAN.replace("version = 1", "version = 4").replace("length = 8\n", 'length = 8\n[[group.signal]]\nlabel = "S"\nbyte = 1\nbits = 8\n'
@@ -442,78 +272,6 @@ class Against(InFolder):
         found = [line for line in self.compared(plan, FLOWS[1:2]) if "need" in line]
         self.assertEqual(found, ["P: need 1, ET1 by DISPLAY: nothing met it", "P: need 2, ET1 S by DISPLAY: nothing met it", none[0],
                                  "P: need 5, VI by DISPLAY: nothing met it", none[1]])
-
-    def test_silences(self):
-        """The longest time without a message of a flow, with the line behind it, and that one has stopped, by the log's last time."""
-        times = ["1.000", "1.010", "1.061", "1.100", "1.200", "1.250"]
-        log = [(time, FLOWS[0]) for time in times] + [("1.250", FLOWS[1])]
-        said = "flow 1, ET1 from ENGINE to all: not sent "
-        self.assertEqual(self.told(log, "not sent"), [f"L:5: {said}for 100 ms before, its period is 10 ms  (2 times)"])
-        self.assertEqual(self.told(log + [("1.300001", FLOWS[1])], "not sent")[1:], [
-            f"L:6: {said}any more, for 50.001 ms to the log's end, its period is 10 ms"])
-        self.assertEqual(self.told(log + [("1.300", FLOWS[1])], "not sent", "--silence", "10"), [])
-        self.assertEqual(self.told(log + [("9.0", FLOWS[1])], "not sent", "--silence", "0"), [])
-        self.assertEqual(self.told(log, "not sent", period=90), [])
-
-    def test_silences_of_clocks_that_are_set(self):
-        """Distances begin anew behind a clock that jumps or is set back, which is said once."""
-        times = ["12.0", "12.01", "1764230400.0", "1764230400.01", "1764230400.02", "9.0", "9.02", "9.1"]
-        lines = "".join(f"({time}) can0 {FLOWS[0]}\n" for time in times)
-        log = self.write("drive.log", lines)
-        status, answer, said = run("against.py", self.timed(10), log)
-        self.assertEqual(said, f"against: {log}:3: time jumps by 20419.3 days; times go back or jump 2 times in all\n")
-        self.assertEqual([line for line in answer.splitlines() if "not sent" in line], [
-            f"{log}:8: flow 1, ET1 from ENGINE to all: not sent for 80 ms before, its period is 10 ms"])
-
-    def test_tolerances(self):
-        """In percent of each period, or in ms; of which flows nothing is left is said."""
-        log = [(f"{time:.4f}", FLOWS[0]) for time in (1, 1.0095, 1.019, 1.0279)]
-        for words, found in ((["--jitter", "5%"], 1), (["--jitter", "11%"], 0), (["--jitter", "0.5"], 1), (["--jitter", "0.5ms"], 1), ([], 3)):
-            told = self.told(log, "the one before", *words)
-            self.assertEqual([re.search(r"\((\d) times\)", line) and line[-8:] for line in told] or [0],
-                             {0: [0], 1: [None], 3: ["3 times)"]}[found], words)
-        name, plan = self.path("drive.log"), self.timed(10)
-        said = "is no less than the period of flow 1, 3: how near messages come isn't told there\n"
-        self.assertEqual(run("against.py", "--jitter", "60", plan, name)[2], f"against: --jitter 60 ms {said}")
-        self.assertEqual(run("against.py", "--jitter", "100%", plan, name)[2], f"against: --jitter 100% {said}")
-        self.assertEqual(run("against.py", "--jitter", "9.9", plan, name)[2], "")
-        self.assertEqual(run("against.py", "--jitter", "5 %", plan, name)[0], 2)
-
-    def test_the_table_of_flows(self):
-        """Of each flow how often it was sent and how far apart, one without a period too."""
-        log = [(f"{time:.4f}", FLOWS[0]) for time in (1, 1.0095, 1.0195, 1.03, 1.3)] + [("1.4", FLOWS[1]), ("1.9", FLOWS[1])]
-        name = self.write("drive.log", "".join(f"({time}) can0 {frame}\n" for time, frame in log))
-        rows = [line.split() for line in run("against.py", "--table", self.timed(10), name)[1].splitlines()]
-        self.assertEqual(rows[:4], [
-            ["flow", "group", "from", "to", "period", "count", "least", "median", "greatest"],
-            ["1", "ET1", "ENGINE", "all", "10", "5", "9.50", "10.00", "270.00"],
-            ["2", "TSC1", "DISPLAY", "ENGINE", "-", "2", "500.00", "500.00", "500.00"],
-            ["3", "VI", "ENGINE", "all", "10", "0", "-", "-", "-"]])
-        self.assertEqual(rows[-1][0], "deviations")
-
-    def test_an_address_that_changes_hands(self):
-        """From three times on it is told, with how near two of these came; a contest that is settled isn't."""
-        plan = RIVALS % "PUMP"
-        fight = [f"({1 + 0.005 * number:.3f}) can0 {(VALVE_CLAIMS, PUMP_CLAIMS)[number % 2]}\n" for number in range(2001)]
-        log, plan = self.write("drive.log", "".join(fight) + f"(12.0) can0 {ET1}\n"), self.write("plan.toml", plan)
-        told = f"{log}:2: address 128 changed hands 2000 times, first from VALVE to PUMP, the nearest 5 ms apart\n"
-        self.assertIn(told, run("against.py", plan, log)[1])
-        settled = [PUMP_CLAIMS, VALVE_CLAIMS, PUMP_CLAIMS, "18EEFF81#0200000000000080", ET1]
-        self.assertEqual(self.compared(RIVALS % "PUMP", settled), [])
-
-    def test_an_address_that_is_not_defended(self):
-        """Of a unit that is on and has the smaller NAME; within 250 ms it claims again, or moves."""
-        def told(*log):
-            name = self.write("drive.log", "".join(f"({time}) can0 {frame}\n" for time, frame in log))
-            answer = run("against.py", self.write("plan.toml", RIVALS % "PUMP"), name)[1]
-            return [line.replace(name, "L") for line in answer.splitlines() if "defend" in line]
-        begin = [("1.0", PUMP_CLAIMS), ("2.0", ET1), ("2.5", VALVE_CLAIMS)]
-        said = ["L:3: VALVE claims address 128, and PUMP doesn't defend it, whose NAME is smaller"]
-        self.assertEqual(told(*begin, ("2.75", "18FEEE05#7DFFFFFFFFFFFFFF")), said)
-        self.assertEqual(told(*begin, ("2.749", "18FEEE05#7DFFFFFFFFFFFFFF")), [])
-        self.assertEqual(told(*begin, ("2.7", PUMP_CLAIMS), ("9.0", ET1)), [])
-        self.assertEqual(told(*begin[:2], ("3.0", VALVE_CLAIMS), ("9.0", ET1)), [])  # it may have been switched off
-        self.assertEqual(told(("1.0", VALVE_CLAIMS), ("1.5", PUMP_CLAIMS), ("9.0", ET1)), [])  # the smaller NAME needn't wait for the larger
 
     def test_requests(self):
         """What the plan asks for and nobody answers in time, or at all, or what is refused; each with its line."""
@@ -534,50 +292,6 @@ class Against(InFolder):
         busy = self.write("busy.log", text_of(log).replace("18E8F90F#01", "18E8F90F#03"))
         self.assertIn("request 3, ERC1 from TOOL to RETARDER: is told that it can't be answered now", run("against.py", plan, busy)[1])
 
-    def test_who_is_guessed_in_a_contest_is_not_heard(self):
-        """What comes after a claim of an address is told as of the smaller NAME, which need not be on: nothing was heard of it yet."""
-        plan = self.write("plan.toml", RIVALS % "PUMP")
-
-        def found(*lines):
-            log = self.write("drive.log", "".join(f"({time}) can0 {frame}\n" for time, frame in lines))
-            return run("against.py", plan, log)[1]
-
-        contest = ("9.0", VALVE_CLAIMS), ("9.1", ET1)
-        self.assertIn("unit PUMP: neither claimed an address nor sent anything", found(*contest))
-        self.assertIn("PUMP sends before 250 ms have passed behind its claim of address 128", found(("9.5", PUMP_CLAIMS), ("9.6", ET1)))
-
-    def test_a_frame_of_a_contest_accuses_nobody(self):
-        """Who holds an address sends on until it has heard of the claim; once it is heard of elsewhere, the claimer is the one that sends."""
-        plan = self.write("plan.toml", RIVALS % "PUMP")
-
-        def early(*lines):
-            log = self.write("drive.log", "".join(f"({time}) can0 {frame}\n" for time, frame in lines))
-            return [line for line in run("against.py", plan, log)[1].splitlines() if "before 250" in line]
-
-        begin = [("9.0", VALVE_CLAIMS), ("10.4", PUMP_CLAIMS), ("10.4006", ET1)]
-        self.assertEqual(early(*begin, ("10.403", "18EEFF81#0200000000000080")), [])
-        self.assertEqual(len(early(*begin, ("10.403", "18EEFF81#0200000000000080"), ("10.404", ET1))), 1)
-
-    def test_who_sends_too_soon_behind_a_claim(self):
-        """A claim of one of the addresses that may be chosen may be contested for 250 ms, unless the unit holds it already."""
-        def told(*log):
-            name = self.write("drive.log", "".join(f"({time}) can0 {frame}\n" for time, frame in log))
-            answer = run("against.py", self.write("plan.toml", RIVALS % "PUMP"), name)[1]
-            return [line.replace(name, "L") for line in answer.splitlines() if "before 250" in line]
-        said = ["L:2: PUMP sends before 250 ms have passed behind its claim of address 128"]
-        self.assertEqual(told(("5.0", PUMP_CLAIMS), ("5.249", ET1), ("5.2495", ET1)), said)
-        self.assertEqual(told(("5.0", PUMP_CLAIMS), ("5.25", ET1)), [])
-        self.assertEqual(told(("4.9", ET1), ("5.0", PUMP_CLAIMS), ("5.1", ET1)), [])
-        self.assertEqual(told(("4.9", "18EAFFFE#00EE00"), ("5.0", PUMP_CLAIMS), ("5.1", ET1)), [])
-
-    def test_units_that_are_not_there(self):
-        """Who neither claimed an address nor sent anything; who only answers does send."""
-        plan = PLAN + '[[unit]]\nlabel = "GHOST"\naddress = 5\nname = { identity = 9 }\n'
-        said = ["P: unit GHOST: neither claimed an address nor sent anything"]
-        self.assertEqual(self.compared(plan, FLOWS), said)
-        for frame in ("18EEFF05#0900000000000000", "18EAFF05#00EE00", "18FF1005#00", "1CEC0005#110301FFFFECFE00"):
-            self.assertEqual(self.compared(plan, [*FLOWS, frame]), [], frame)
-
     def test_an_abort(self):
         """Who gives a message up, and why."""
         plan = PLAN.replace('from = "ENGINE"\nto = "all"\n', 'from = "ENGINE"\nto = "DISPLAY"\n')
@@ -592,17 +306,6 @@ class Against(InFolder):
         self.assertEqual(run("against.py", plan, first, second, self.write("c.log", "")), (1, "".join([
             f"{second}:3: PGN 65265 from ENGINE: no group has it\n", f"{second}:4: address 5 sends: no unit has it\n",
             f"{second}:4: PGN 65265 from 5: no group has it\n", "deviations 3\n"]), ""))
-
-    def timed(self, period):
-        """A plan of ET1 and VI with a period."""
-        plan = PLAN.replace("version = 1", "version = 3").replace('from = "ENGINE"\n', f'from = "ENGINE"\nperiod = {period}\n')
-        return self.write("plan.toml", plan)
-
-    def told(self, log, what, *words, period=10):
-        """The deviations of a log that say this."""
-        name = self.write("drive.log", "".join(f"({time}) can0 {frame}\n" for time, frame in log))
-        answer = run("against.py", *words, self.timed(period), name)[1]
-        return [line.replace(name, "L") for line in answer.splitlines() if what in line]
 
     def test_plans_of_toml_1_1(self):
         for text in (NEWER, MARKED):

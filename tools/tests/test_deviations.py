@@ -278,6 +278,7 @@ class Forms(Deviations):
             "what": "flow 2, EBC1 from BRAKES to all: .. ms after the one before, its period is 100 ms", "times": 2,
             "all": [{"log": self.log, "line": 3, "time": 1.15, "value": 50}, {"log": self.log, "line": 5, "time": 1.34, "value": 90}]})
         self.assertEqual((rows[1]["kind"], rows[1]["flow"], "line" in rows[1]), ("never-sent", 1, False))
+        self.assertEqual((whole.pop("requests"), len(whole.pop("units"))), ([], 3))
         self.assertEqual(whole, {"deviations": len(rows), "begin": 1.0, "end": 1.34, "worst": 800, "worst_second": 1, "explained": 0})
 
     def test_live(self):

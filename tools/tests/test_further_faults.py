@@ -77,6 +77,23 @@ class FurtherFaults(InFolder):
                 "17: also byte = 0a: a hexadecimal number is 0x0A", *FURTHER[4:]]
         self.assertEqual(self.answer(text), ['7: refused Text  (label = GEARBOX: a text needs quotes: "GEARBOX")', *told])
 
+    def test_a_key_without_a_value(self):
+        """What stands on the next line is another key's."""
+        text = PLAN.replace("address = 300\nname", "address =\nname").replace("byte = 4", "byte = # from 1")
+        self.assertEqual(self.answer(text), ["4: refused Text  (key address: one = and then a value)", *FURTHER[:4], "17: also key byte: one = and then a value",
+                                             *FURTHER[4:]])
+
+    def test_what_is_no_integer_for_the_program(self):
+        """10.0 isn't, and no truth value."""
+        self.assertEqual(self.answer(PLAN.replace("length = 8", "length = 8.0").replace("bits = 16", "bits = true"))[5:7],
+                         ["14: also length = 8.0: integer 1..1785", "18: also bits = true: integer 1..64"])
+
+    def test_tables_that_are_lists(self):
+        """A header of one bracket is told which one is meant."""
+        told = self.answer(PLAN.replace("[[flow]]", "[flow]").replace("[[group.signal]]", "[group.signal]"))
+        self.assertEqual(told[0], "22: refused WrongType top key flow  (key flow: an array of tables: [[flow]])")
+        self.assertEqual(told[-1], "15: also key signal: an array of tables: [[group.signal]]")
+
     def test_an_unclosed_bracket_hides_the_rest(self):
         self.assertEqual(len(self.answer(PLAN.replace("foo = 1 }", "foo = 1"))), 1)
 

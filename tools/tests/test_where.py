@@ -220,12 +220,17 @@ class Lint(InFolder):
         self.assertGreater(hints, 3)
 
 
+def first_of(answer):
+    """The lines of an answer without further faults of a plan that is refused."""
+    return [line for line in answer.splitlines() if not re.search(r"\d: also ", line)]
+
+
 class Where(InFolder):
     def answer(self, text, *words):
         """What `where` answers of a plan, without the file's name."""
         name = self.write("plan.toml", text)
         status, answer, _ = run("where.py", *words, name)
-        return status, answer.replace(name + ":", "").splitlines()
+        return status, first_of(answer.replace(name + ":", ""))
 
     def test_a_plan_without_findings_is_passed_on(self):
         self.assertEqual(run("where.py", example("first_plan.toml")), (0, "ok 2 units 1 groups 1 flows\n", ""))
@@ -531,7 +536,7 @@ class Where(InFolder):
                 lines = file.read().decode(errors="replace").split("\n")
             status, answer, said = run("where.py", plan)
             self.assertEqual((status, said), (2, ""), plan)
-            found = re.fullmatch(rf"{re.escape(plan)}:(\d+): {re.escape(refused)}  \((.+)\)\n", answer)
+            found = re.fullmatch(rf"{re.escape(plan)}:(\d+): {re.escape(refused)}  \((.+)\)", "\n".join(first_of(answer)))
             self.assertIsNotNone(found, answer)
             key = re.search(r" key (\w+)$", refused)
             if key and not refused.startswith(("refused Missing", "refused TooMany")):

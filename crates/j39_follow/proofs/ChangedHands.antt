@@ -1,5 +1,5 @@
 -- Pairs of which an address has another party, address after address.
-use Rattle.std.proofs.Common.{◌≡◌, ◌==◌, ◌&&◌, ◌||◌, ◌+◌, ◌<◌, ◌≤◌, ℕ, nat_lt, Bool, true, false, if◌then◌else◌, List, inl, inr, refl, sym, ap, ◌∙◌}
+use Rattle.std.proofs.Common.{◌≡◌, ◌==◌, ◌&&◌, ◌||◌, ◌+◌, ◌<◌, ◌≤◌, ℕ, nat_lt, Bool, true, false, if◌then◌else◌, List, Option, inl, inr, refl, sym, ap, ◌∙◌}
 use Rattle.std.proofs.Common.{arith, eqb-true}
 use Rattle.std.proofs.lemmas.Bool.{cases_Bool, eqb-false, lt-ltb}
 use Rattle.j39_tp.specs.Receiver.{Receiving}
@@ -9,9 +9,9 @@ use Rattle.j39_follow.specs.inside.Hearing.{differs_at, is_changed}
 use Rattle.j39_follow.proofs.Tables.{lt_next_other}
 
 -- one of the two addresses is below this one, and has another party
-abbrev pub is_changed_below : List Who → List Who → ℕ → ℕ → ℕ → Bool
-is_changed_below old new many source destination =
-    (nat_lt source many && differs_at old new source) || (nat_lt destination many && differs_at old new destination)
+abbrev pub is_changed_below : List Who → List Who → Option ℕ → ℕ → ℕ → ℕ → Bool
+is_changed_below old new replaced many source destination =
+    (nat_lt source many && differs_at old new replaced source) || (nat_lt destination many && differs_at old new replaced destination)
 
 or_true : (x : Bool) → (x || true) ≡ true
 or_true true = refl
@@ -59,32 +59,32 @@ merged false false false true f x = refl
 merged false false false false f x = refl
 
 -- a party that differs
-pub changed_here : (old new : List Who) (k s d : ℕ) (f x now before : Receiving) → differs_at old new k ≡ true
-    → now ≡ (if is_of_pair k s d then f else before) → before ≡ (if is_changed_below old new k s d then f else x)
-    → now ≡ (if is_changed_below old new (k + 1) s d then f else x)
-changed_here old new k s d f x now before apart turned was =
-    let source = nat_lt s k && differs_at old new s in
-    let destination = nat_lt d k && differs_at old new d in
+pub changed_here : (old new : List Who) (replaced : Option ℕ) (k s d : ℕ) (f x now before : Receiving) → differs_at old new replaced k ≡ true
+    → now ≡ (if is_of_pair k s d then f else before) → before ≡ (if is_changed_below old new replaced k s d then f else x)
+    → now ≡ (if is_changed_below old new replaced (k + 1) s d then f else x)
+changed_here old new replaced k s d f x now before apart turned was =
+    let source = nat_lt s k && differs_at old new replaced s in
+    let destination = nat_lt d k && differs_at old new replaced d in
     turned ∙ ap (λ (r : Receiving). if is_of_pair k s d then f else r) was
     ∙ merged (k == s) (k == d) source destination f x
-    ∙ sym (ap (λ (b : Bool). if b || (nat_lt d (k + 1) && differs_at old new d) then f else x) (next_yes (differs_at old new) s k apart)
-    ∙ ap (λ (b : Bool). if (source || k == s) || b then f else x) (next_yes (differs_at old new) d k apart))
+    ∙ sym (ap (λ (b : Bool). if b || (nat_lt d (k + 1) && differs_at old new replaced d) then f else x) (next_yes (differs_at old new replaced) s k apart)
+    ∙ ap (λ (b : Bool). if (source || k == s) || b then f else x) (next_yes (differs_at old new replaced) d k apart))
 
 -- one that doesn't
-pub changed_not : (old new : List Who) (k s d : ℕ) (f x now : Receiving) → differs_at old new k ≡ false
-    → now ≡ (if is_changed_below old new k s d then f else x) → now ≡ (if is_changed_below old new (k + 1) s d then f else x)
-changed_not old new k s d f x now together was =
-    was ∙ sym (ap (λ (b : Bool). if b || (nat_lt d (k + 1) && differs_at old new d) then f else x) (next_no (differs_at old new) s k together)
-    ∙ ap (λ (b : Bool). if (nat_lt s k && differs_at old new s) || b then f else x) (next_no (differs_at old new) d k together))
+pub changed_not : (old new : List Who) (replaced : Option ℕ) (k s d : ℕ) (f x now : Receiving) → differs_at old new replaced k ≡ false
+    → now ≡ (if is_changed_below old new replaced k s d then f else x) → now ≡ (if is_changed_below old new replaced (k + 1) s d then f else x)
+changed_not old new replaced k s d f x now together was =
+    was ∙ sym (ap (λ (b : Bool). if b || (nat_lt d (k + 1) && differs_at old new replaced d) then f else x) (next_no (differs_at old new replaced) s k together)
+    ∙ ap (λ (b : Bool). if (nat_lt s k && differs_at old new replaced s) || b then f else x) (next_no (differs_at old new replaced) d k together))
 
-pub changed_all : (old new : List Who) (k s d : ℕ) (f x now : Receiving) → s < 256 → d < 256 → 256 ≤ k
-    → now ≡ (if is_changed_below old new k s d then f else x) → now ≡ (if is_changed old new s d then f else x)
-changed_all old new k s d f x now first second past was =
-    was ∙ ap (λ (b : Bool). if (b && differs_at old new s) || (nat_lt d k && differs_at old new d) then f else x) (lt-ltb s k (omega arith))
-    ∙ ap (λ (b : Bool). if differs_at old new s || (b && differs_at old new d) then f else x) (lt-ltb d k (omega arith))
+pub changed_all : (old new : List Who) (replaced : Option ℕ) (k s d : ℕ) (f x now : Receiving) → s < 256 → d < 256 → 256 ≤ k
+    → now ≡ (if is_changed_below old new replaced k s d then f else x) → now ≡ (if is_changed old new replaced s d then f else x)
+changed_all old new replaced k s d f x now first second past was =
+    was ∙ ap (λ (b : Bool). if (b && differs_at old new replaced s) || (nat_lt d k && differs_at old new replaced d) then f else x) (lt-ltb s k (omega arith))
+    ∙ ap (λ (b : Bool). if differs_at old new replaced s || (b && differs_at old new replaced d) then f else x) (lt-ltb d k (omega arith))
 
-pub none_changed : (old new : List Who) (s d : ℕ) (f x : Receiving) → nat_lt s 0 ≡ false → nat_lt d 0 ≡ false
-    → x ≡ (if is_changed_below old new 0 s d then f else x)
-none_changed old new s d f x first second =
-    sym (ap (λ (b : Bool). if (b && differs_at old new s) || (nat_lt d 0 && differs_at old new d) then f else x) first
-    ∙ ap (λ (b : Bool). if false || (b && differs_at old new d) then f else x) second)
+pub none_changed : (old new : List Who) (replaced : Option ℕ) (s d : ℕ) (f x : Receiving) → nat_lt s 0 ≡ false → nat_lt d 0 ≡ false
+    → x ≡ (if is_changed_below old new replaced 0 s d then f else x)
+none_changed old new replaced s d f x first second =
+    sym (ap (λ (b : Bool). if (b && differs_at old new replaced s) || (nat_lt d 0 && differs_at old new replaced d) then f else x) first
+    ∙ ap (λ (b : Bool). if false || (b && differs_at old new replaced d) then f else x) second)

@@ -117,13 +117,22 @@ unfolding group_ends
 no_groups plan sent k text = append-nil text
 
 -- one unit more is written
-pub one_more_unit : (frames : List Frame) (units : List UnitPlan) (unit : UnitPlan) (text piece : List ℕ) → AreUnitLines frames units text
-    → IsUnitLine frames unit piece → AreUnitLines frames (units ++ unit ∷ []) (text ++ piece)
-one_more_unit frames [] unit text piece are is = (piece, [], is, refl, ap (λ (t : List ℕ). t ++ piece) are ∙ sym (append-nil piece))
-one_more_unit frames (u ∷ units) unit text piece are is = (
+pub one_more_unit : (plan : Plan) (frames : List Frame) (k : ℕ) (units : List UnitPlan) (unit : UnitPlan) (text piece : List ℕ)
+    → AreUnitLines plan frames k units text → IsUnitLine plan frames (k + length units) unit piece
+    → AreUnitLines plan frames k (units ++ unit ∷ []) (text ++ piece)
+one_more_unit plan frames k [] unit text piece are is =
+    let here : k + 0 ≡ k = omega arith in (
+      piece,
+      [],
+      subst (λ (u : ℕ). IsUnitLine plan frames u unit piece) here is,
+      refl,
+      ap (λ (t : List ℕ). t ++ piece) are ∙ sym (append-nil piece),
+    )
+one_more_unit plan frames k (u ∷ units) unit text piece are is = (
   are.0,
   are.1 ++ piece,
   are.2,
-  one_more_unit frames units unit are.1 piece are.3 is,
+  (let on : k + suc (length units) ≡ k + 1 + length units = omega arith in
+      one_more_unit plan frames (k + 1) units unit are.1 piece are.3 (subst (λ (v : ℕ). IsUnitLine plan frames v unit piece) on is)),
   ap (λ (t : List ℕ). t ++ piece) are.4 ∙ append_assoc are.0 are.1 piece,
 )

@@ -15,7 +15,7 @@ use Rattle.j39_tp.specs.Receiver.{Receiving, fresh, receives}
 use Rattle.j39_tp.specs.declared.receiving.manner.Manner.TheVariants.{Listening}
 use Rattle.j39_tp.specs.declared.packet.Packet.{Packet}
 use Rattle.j39_follow.specs.FollowText.{HeardSince, OneChangesHands, frames_seen}
-use Rattle.j39_follow.specs.inside.Hearing.{HaveHeardOneMore, HaveHeardSince, differs_at, is_changed, is_same_number, is_same_party, listener_between}
+use Rattle.j39_follow.specs.inside.Hearing.{AreReplaced, HaveHeardOneMore, HaveHeardSince, differs_at, is_changed, is_same_number, is_same_party, listener_between}
 use Rattle.j39_follow.specs.Who.{ChangesHands, IsSameParty, stranger_of, unit_of}
 use Rattle.j39_follow.specs.declared.who.Who.{Who}
 use Rattle.j39_follow.specs.inside.Recounting.{ArePartiesOf, party_at}
@@ -127,24 +127,6 @@ not_false : (b : Bool) → not b ≡ false → b ≡ true
 not_false true e = refl
 not_false false e = cc
 
-changes : (plan : Plan) (frames : List Frame) (f : Frame) (olds news : List Who) (a : ℕ) → ArePartiesOf plan frames olds
-    → ArePartiesOf plan (frames ++ f ∷ []) news → a < 256 → differs_at olds news a ≡ true → ChangesHands plan frames f a
-changes plan frames f olds news a before after less differs = record {
-  old = party_at olds a;
-  new = party_at news a;
-  old_is = before a less;
-  new_is = after a less;
-  another = λ same. not_true (is_same_party (party_at olds a) (party_at news a)) differs (party_again (party_at olds a) (party_at news a) same);
-}
-
-stays : (plan : Plan) (frames : List Frame) (f : Frame) (olds news : List Who) (a : ℕ) → ArePartiesOf plan frames olds
-    → ArePartiesOf plan (frames ++ f ∷ []) news → a < 256 → differs_at olds news a ≡ false → ¬ ChangesHands plan frames f a
-stays plan frames f olds news a before after less same ch =
-    let old = one_who plan frames a ch.old (party_at olds a) ch.old_is (before a less) in
-    let new = one_who plan (frames ++ f ∷ []) a ch.new (party_at news a) ch.new_is (after a less) in
-    ch.another (subst (λ (w : Who). IsSameParty w ch.new) (sym old) (subst (IsSameParty (party_at olds a)) (sym new)
-    (party_same (party_at olds a) (party_at news a) (not_false (is_same_party (party_at olds a) (party_at news a)) same))))
-
 one_of : (a b : Bool) → (a || b) ≡ true → (a ≡ true) ⊎ (b ≡ true)
 one_of true b e = inl refl
 one_of false b e = inr e
@@ -153,20 +135,57 @@ none_of : (a b : Bool) → (a || b) ≡ false → (a ≡ false) × (b ≡ false)
 none_of true b e = cc
 none_of false b e = (refl, e)
 
-changes_at : (plan : Plan) (seen : List Seen) (x : Seen) (olds news : List Who) (s d : ℕ) → ArePartiesOf plan (frames_seen seen) olds
-    → ArePartiesOf plan (frames_seen seen ++ x.frame ∷ []) news → s < 256 → d < 256 → is_changed olds news s d ≡ true → OneChangesHands plan seen x s d
-changes_at plan seen x olds news s d before after ls ld is = elim (one_of (differs_at olds news s) (differs_at olds news d) is) [
-  | inl source ↦ inl (changes plan (frames_seen seen) x.frame olds news s before after ls source)
-  | inr destination ↦ inr (changes plan (frames_seen seen) x.frame olds news d before after ld destination)
-]
+false_true : false ≡ true → ⊥
+false_true e = cc
 
-stays_at : (plan : Plan) (seen : List Seen) (x : Seen) (olds news : List Who) (s d : ℕ) → ArePartiesOf plan (frames_seen seen) olds
-    → ArePartiesOf plan (frames_seen seen ++ x.frame ∷ []) news → s < 256 → d < 256 → is_changed olds news s d ≡ false → ¬ OneChangesHands plan seen x s d
-stays_at plan seen x olds news s d before after ls ld together one =
-    let same = none_of (differs_at olds news s) (differs_at olds news d) together in
+changes : (plan : Plan) (frames : List Frame) (f : Frame) (olds news : List Who) (replaced : Option ℕ) (a : ℕ) → ArePartiesOf plan frames olds
+    → ArePartiesOf plan (frames ++ f ∷ []) news → AreReplaced frames f replaced → a < 256 → differs_at olds news replaced a ≡ true
+    → ChangesHands plan frames f a
+changes plan frames f olds news replaced a before after are less differs = record {
+  old = party_at olds a;
+  new = party_at news a;
+  old_is = before a less;
+  new_is = after a less;
+  another = elim (one_of (not (is_same_party (party_at olds a) (party_at news a))) (is_same_number replaced (Some a)) differs) [
+    | inl parties ↦
+        inl (λ same. not_true (is_same_party (party_at olds a) (party_at news a)) parties (party_again (party_at olds a) (party_at news a) same))
+    | inr names ↦ inr (are.one a (same_number replaced (Some a) names))
+  ];
+}
+
+stays : (plan : Plan) (frames : List Frame) (f : Frame) (olds news : List Who) (replaced : Option ℕ) (a : ℕ) → ArePartiesOf plan frames olds
+    → ArePartiesOf plan (frames ++ f ∷ []) news → AreReplaced frames f replaced → a < 256 → differs_at olds news replaced a ≡ false
+    → ¬ ChangesHands plan frames f a
+stays plan frames f olds news replaced a before after are less same ch =
+    let old = one_who plan frames a ch.old (party_at olds a) ch.old_is (before a less) in
+    let new = one_who plan (frames ++ f ∷ []) a ch.new (party_at news a) ch.new_is (after a less) in
+    let parts = none_of (not (is_same_party (party_at olds a) (party_at news a))) (is_same_number replaced (Some a)) same in
+    elim ch.another [
+      | inl parties ↦
+          parties (subst (λ (w : Who). IsSameParty w ch.new) (sym old) (subst (IsSameParty (party_at olds a)) (sym new)
+          (party_same (party_at olds a) (party_at news a) (not_false (is_same_party (party_at olds a) (party_at news a)) parts.0))))
+      | inr names ↦
+          false_true (sym parts.1
+          ∙ subst (λ (r : Option ℕ). is_same_number r (Some a) ≡ true) (sym (are.only a names)) (number_itself (Some a)))
+    ]
+
+changes_at : (plan : Plan) (seen : List Seen) (x : Seen) (olds news : List Who) (replaced : Option ℕ) (s d : ℕ)
+    → ArePartiesOf plan (frames_seen seen) olds → ArePartiesOf plan (frames_seen seen ++ x.frame ∷ []) news
+    → AreReplaced (frames_seen seen) x.frame replaced → s < 256 → d < 256 → is_changed olds news replaced s d ≡ true → OneChangesHands plan seen x s d
+changes_at plan seen x olds news replaced s d before after are ls ld is =
+    elim (one_of (differs_at olds news replaced s) (differs_at olds news replaced d) is) [
+      | inl source ↦ inl (changes plan (frames_seen seen) x.frame olds news replaced s before after are ls source)
+      | inr destination ↦ inr (changes plan (frames_seen seen) x.frame olds news replaced d before after are ld destination)
+    ]
+
+stays_at : (plan : Plan) (seen : List Seen) (x : Seen) (olds news : List Who) (replaced : Option ℕ) (s d : ℕ)
+    → ArePartiesOf plan (frames_seen seen) olds → ArePartiesOf plan (frames_seen seen ++ x.frame ∷ []) news
+    → AreReplaced (frames_seen seen) x.frame replaced → s < 256 → d < 256 → is_changed olds news replaced s d ≡ false → ¬ OneChangesHands plan seen x s d
+stays_at plan seen x olds news replaced s d before after are ls ld together one =
+    let same = none_of (differs_at olds news replaced s) (differs_at olds news replaced d) together in
     elim one [
-      | inl source ↦ stays plan (frames_seen seen) x.frame olds news s before after ls same.0 source
-      | inr destination ↦ stays plan (frames_seen seen) x.frame olds news d before after ld same.1 destination
+      | inl source ↦ stays plan (frames_seen seen) x.frame olds news replaced s before after are ls same.0 source
+      | inr destination ↦ stays plan (frames_seen seen) x.frame olds news replaced d before after are ld same.1 destination
     ]
 
 if_true : (b : Bool) (x y : Receiving) → b ≡ true → (if b then x else y) ≡ x
@@ -178,40 +197,41 @@ if_false true x y e = cc
 if_false false x y e = refl
 
 -- once the pairs of which an address has changed hands have begun anew
-pub heard_anew : (plan : Plan) (seen : List Seen) (x : Seen) (olds news : List Who) (mid new : Listeners)
+pub heard_anew : (plan : Plan) (seen : List Seen) (x : Seen) (olds news : List Who) (replaced : Option ℕ) (mid new : Listeners)
     → ArePartiesOf plan (frames_seen seen) olds → ArePartiesOf plan (frames_seen seen ++ x.frame ∷ []) news
+    → AreReplaced (frames_seen seen) x.frame replaced
     → ((s d : ℕ) → s < 256 → d < 256
-    → listener_between new s d ≡ (if is_changed olds news s d then fresh Listening else listener_between mid s d))
+    → listener_between new s d ≡ (if is_changed olds news replaced s d then fresh Listening else listener_between mid s d))
     → HaveHeardOneMore plan mid seen x → HaveHeardSince plan new (seen ++ x ∷ [])
-heard_anew plan seen x olds news mid new before after changed more s d ls ld = elim (cases_Bool (is_changed olds news s d)) [
+heard_anew plan seen x olds news replaced mid new before after are changed more s d ls ld = elim (cases_Bool (is_changed olds news replaced s d)) [
   | inl is ↦ (
     [],
-    begins_anew plan seen x s d (changes_at plan seen x olds news s d before after ls ld is),
-    changed s d ls ld ∙ if_true (is_changed olds news s d) (fresh Listening) (listener_between mid s d) is,
+    begins_anew plan seen x s d (changes_at plan seen x olds news replaced s d before after are ls ld is),
+    changed s d ls ld ∙ if_true (is_changed olds news replaced s d) (fresh Listening) (listener_between mid s d) is,
   )
   | inr together ↦
       let one = more s d ls ld in (
         one.0 ++ heard_of s d x.frame.ident x.packet,
-        goes_on plan seen x s d one.0 one.1 (stays_at plan seen x olds news s d before after ls ld together),
-        changed s d ls ld ∙ if_false (is_changed olds news s d) (fresh Listening) (listener_between mid s d) together ∙ one.2,
+        goes_on plan seen x s d one.0 one.1 (stays_at plan seen x olds news replaced s d before after are ls ld together),
+        changed s d ls ld ∙ if_false (is_changed olds news replaced s d) (fresh Listening) (listener_between mid s d) together ∙ one.2,
       )
 ]
 
 same_itself : (w : Who) → is_same_party w w ≡ true
 same_itself w = party_again w w (record { unit = refl; stranger = refl })
 
-unchanged_hands : (parties : List Who) (s d : ℕ) → is_changed parties parties s d ≡ false
+unchanged_hands : (parties : List Who) (s d : ℕ) → is_changed parties parties None s d ≡ false
 unchanged_hands parties s d =
-    ap (λ (b : Bool). not b || differs_at parties parties d) (same_itself (party_at parties s))
-    ∙ ap (λ (b : Bool). not b) (same_itself (party_at parties d))
+    ap (λ (b : Bool). (not b || false) || differs_at parties parties None d) (same_itself (party_at parties s))
+    ∙ ap (λ (b : Bool). not b || false) (same_itself (party_at parties d))
 
 -- where all parties stay
 pub heard_on : (plan : Plan) (seen : List Seen) (x : Seen) (parties : List Who) (listeners : Listeners)
     → ArePartiesOf plan (frames_seen seen) parties → ArePartiesOf plan (frames_seen seen ++ x.frame ∷ []) parties
-    → HaveHeardOneMore plan listeners seen x → HaveHeardSince plan listeners (seen ++ x ∷ [])
-heard_on plan seen x parties listeners before after more =
-    heard_anew plan seen x parties parties listeners listeners before after
-    (λ s d ls ld. sym (if_false (is_changed parties parties s d) (fresh Listening) (listener_between listeners s d) (unchanged_hands parties s d))) more
+    → AreReplaced (frames_seen seen) x.frame None → HaveHeardOneMore plan listeners seen x → HaveHeardSince plan listeners (seen ++ x ∷ [])
+heard_on plan seen x parties listeners before after are more =
+    heard_anew plan seen x parties parties None listeners listeners before after are
+    (λ s d ls ld. sym (if_false (is_changed parties parties None s d) (fresh Listening) (listener_between listeners s d) (unchanged_hands parties s d))) more
 
 -- ---- a frame
 

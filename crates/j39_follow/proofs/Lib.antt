@@ -22,12 +22,15 @@ pub mod ChangedHands
 pub mod Parties
 pub mod Recalls
 pub mod Recounts
+pub mod Replaced
 pub mod Splitting
+pub mod Standing
 pub mod Tables
 pub mod Tallied
 pub mod TimeNumbers
 pub mod Times
 pub mod ToAll
 pub mod Told
+pub mod UnitNames
 pub mod Ways
 pub mod WordPlaces

@@ -32,12 +32,18 @@ here : (plan : Plan) (i v : ℕ) (unit other : UnitPlan) → slice_get plan.unit
 here plan i v unit other at same there =
     unit_same unit other (sym at ∙ ap (λ (j : ℕ). slice_get plan.units.items j) (sym same) ∙ there)
 
+holds_here : (plan : Plan) (i v : ℕ) (frames : List Frame) (address : ℕ) (unit other : UnitPlan) → slice_get plan.units.items i ≡ Some unit → v ≡ i
+    → slice_get plan.units.items v ≡ Some other → MayHold plan frames address v other → MayHold plan frames address i unit
+holds_here plan i v frames address unit other at same there may =
+    subst (λ (j : ℕ). MayHold plan frames address j unit) same
+    (subst (MayHold plan frames address v) (sym (here plan i v unit other at same there)) may)
+
 -- it can't hold the address
 pub passed : (plan : Plan) (i : ℕ) (frames : List Frame) (address : ℕ) (unit : UnitPlan) (best : Option ℕ)
     → slice_get plan.units.items i ≡ Some unit
-    → ¬ MayHold frames address unit → IsBestOf plan i frames address best → IsBestOf plan (i + 1) frames address best
+    → ¬ MayHold plan frames address i unit → IsBestOf plan i frames address best → IsBestOf plan (i + 1) frames address best
 passed plan i frames address unit None at not_it of = λ v other less there may. elim (below_next v i less) [
-  | inl same ↦ not_it (subst (MayHold frames address) (sym (here plan i v unit other at same there)) may)
+  | inl same ↦ not_it (holds_here plan i v frames address unit other at same there may)
   | inr earlier ↦ of v other earlier there may
 ]
 passed plan i frames address unit (Some u) at not_it of = (
@@ -47,7 +53,7 @@ passed plan i frames address unit (Some u) at not_it of = (
     unit_is = of.1.unit_is;
     may = of.1.may;
     least = λ v other less there may. elim (below_next v i less) [
-      | inl same ↦ absurd (not_it (subst (MayHold frames address) (sym (here plan i v unit other at same there)) may))
+      | inl same ↦ absurd (not_it (holds_here plan i v frames address unit other at same there may))
       | inr earlier ↦ of.1.least v other earlier there may
     ];
     first = of.1.first;
@@ -80,7 +86,7 @@ behind plan i frames address unit (Some u) at not_below of = (
 least_of_earlier : (plan : Plan) (i : ℕ) (frames : List Frame) (address : ℕ) (unit : UnitPlan) (best : Option ℕ)
     → IsBelowBest plan unit.name best
     → IsBestOf plan i frames address best → (v : ℕ) (other : UnitPlan) → v < i → slice_get plan.units.items v ≡ Some other
-    → MayHold frames address other → unit.name < other.name
+    → MayHold plan frames address v other → unit.name < other.name
 least_of_earlier plan i frames address unit None below of v other less there may = absurd (of v other less there may)
 least_of_earlier plan i frames address unit (Some u) below of v other less there may =
     let first = below u of.1.unit refl of.1.unit_is in
@@ -89,7 +95,7 @@ least_of_earlier plan i frames address unit (Some u) below of v other less there
 
 pub better : (plan : Plan) (i : ℕ) (frames : List Frame) (address : ℕ) (unit : UnitPlan) (best : Option ℕ)
     → slice_get plan.units.items i ≡ Some unit
-    → MayHold frames address unit → IsBelowBest plan unit.name best → IsBestOf plan i frames address best
+    → MayHold plan frames address i unit → IsBelowBest plan unit.name best → IsBestOf plan i frames address best
     → IsBestOf plan (i + 1) frames address (Some i)
 better plan i frames address unit best at may below of = (
   omega arith,
@@ -122,5 +128,5 @@ likeliest_of plan frames address u of = record {
 }
 
 pub none_likely : (plan : Plan) (frames : List Frame) (address : ℕ) → IsBestOf plan (length plan.units.items) frames address None
-    → (u : ℕ) → ¬ ValueAt (MayHold frames address) plan.units.items u
+    → (u : ℕ) → ¬ ValueAt (MayHold plan frames address u) plan.units.items u
 none_likely plan frames address of u at = of u at.value (slice_get_within plan.units.items u at.value at.value_is) at.value_is at.meets

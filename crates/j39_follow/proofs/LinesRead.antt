@@ -14,6 +14,7 @@ use Rattle.j39_follow.specs.declared.holders.Holders.{Holders}
 use Rattle.j39_follow.specs.inside.Recounting.{Recounts, is_marked}
 use Rattle.j39_follow.specs.FollowText.{AreUnitLines, IsFollowedLog, IsUnitLine, FollowedPast, FollowsLines, frames_seen, nothing_followed, unit_end_line}
 use Rattle.j39_follow.specs.inside.FollowedSoFar.{HasFollowedLines, RecallsPast, behind_reports}
+use Rattle.j39_follow.proofs.Standing.{unit_lines}
 use Rattle.j39_follow.specs.declared.reading.Reading.{Reading}
 
 -- ---- lines after lines
@@ -84,7 +85,7 @@ put plan told_so_far old written text empty before =
 -- with what stands at the end the text is whole
 pub closed : (plan : Plan) (log : List ℕ) (told : List Line) (reading : Reading) (written text : List ℕ) (before : HasFollowedLines plan told reading written)
     → HasLines true told log
-    → (units : List ℕ) × AreUnitLines (frames_seen before.past.seen) plan.units.items units × (text ≡ reading.text ++ behind_reports plan before.past units)
+    → (units : List ℕ) × AreUnitLines plan (frames_seen before.past.seen) 0 plan.units.items units × (text ≡ reading.text ++ behind_reports plan before.past units)
     → IsFollowedLog plan log (written ++ text)
 closed plan log told reading written text before all ends = record {
   past = before.past;
@@ -96,66 +97,6 @@ closed plan log told reading written text before all ends = record {
       ap (λ (t : List ℕ). written ++ t) ends.2 ∙ sym (append_assoc written reading.text (behind_reports plan before.past ends.0))
       ∙ ap (λ (t : List ℕ). t ++ behind_reports plan before.past ends.0) (sym before.text_is);
 }
-
--- ---- where units stand
-
-past_there : (n : ℕ) → None ≡ Some (Some n) → ⊥
-past_there n e = cc
-
--- the NAME stands at one of the places from the first on, or at none of them
-here : (o : Option ℕ) (name : ℕ) → (o ≡ Some name) ⊎ (o ≢ Some name)
-here None name = inr (λ e. cc e)
-here (Some n) name = elim (cases_Bool (n == name)) [
-  | inl same ↦ inl (ap Some (eqb-true n name same))
-  | inr other ↦ inr (λ e. eqb-false n name other (cc e))
-]
-
-nowhere_else : (o : Option ℕ) (names : List (Option ℕ)) (name : ℕ) → o ≢ Some name → ((a : ℕ) → slice_get names a ≢ Some (Some name))
-    → (a : ℕ) → slice_get (o ∷ names) a ≢ Some (Some name)
-nowhere_else o names name other nowhere zero e = other (cc e)
-nowhere_else o names name other nowhere (suc a) e = nowhere a e
-
-found_from : (names : List (Option ℕ)) (name : ℕ) → ((a : ℕ) × (slice_get names a ≡ Some (Some name))) ⊎ ((a : ℕ) → slice_get names a ≢ Some (Some name))
-found_from [] name = inr (λ a e. past_there name e)
-found_from (o ∷ names) name = elim (here o name) [
-  | inl is ↦ inl (0, ap Some is)
-  | inr other ↦ elim (found_from names name) [
-    | inl there ↦ inl (suc there.0, there.1)
-    | inr nowhere ↦ inr (nowhere_else o names name other nowhere)
-  ]
-]
-
--- a unit has a line
-a_unit_line : (plan : Plan) (holders : Holders) (frames : List Frame) (u : ℕ) (unit : UnitPlan) → Recounts plan holders frames
-    → slice_get plan.units.items u ≡ Some unit → (text : List ℕ) × IsUnitLine frames unit text
-a_unit_line plan holders frames u unit of at = elim (found_from holders.names unit.name) [
-  | inl there ↦ (
-    unit_end_line unit (field (codes " address ") there.0),
-    inl (there.0, of.held there.0 unit.name there.1, refl),
-  )
-  | inr nowhere ↦ elim (cases_Bool (is_marked holders u)) [
-    | inl marked ↦ (
-      unit_end_line unit (codes " none"),
-      inr (inl (of.told u unit at marked, (λ a holds. nowhere a (of.holds a unit.name holds)), refl)),
-    )
-    | inr unmarked ↦ (unit_end_line unit (codes " unclaimed"), inr (inr (of.untold u unit at unmarked, refl)))
-  ]
-]
-
--- all units have theirs
-unit_lines_from : (frames : List Frame) (units : List UnitPlan)
-    → ((u : ℕ) (unit : UnitPlan) → slice_get units u ≡ Some unit → (text : List ℕ) × IsUnitLine frames unit text)
-    → (text : List ℕ) × AreUnitLines frames units text
-unit_lines_from frames [] each = ([], refl)
-unit_lines_from frames (unit ∷ units) each =
-    let first = each 0 unit refl in
-    let rest = unit_lines_from frames units (λ u other at. each (suc u) other at) in
-    (first.0 ++ rest.0, (first.0, rest.0, first.1, rest.1, refl))
-
-pub unit_lines : (plan : Plan) (holders : Holders) (frames : List Frame) → Recounts plan holders frames
-    → (text : List ℕ) × AreUnitLines frames plan.units.items text
-unit_lines plan holders frames of =
-    unit_lines_from frames plan.units.items (λ u unit at. a_unit_line plan holders frames u unit of at)
 
 -- ---- a part of the text
 

@@ -6,26 +6,22 @@ use Rattle.j39_id.specs.Lines.{Line, Short, Long, lines}
 use Rattle.j39_id.specs.declared.frame.Frame.{Frame}
 use Rattle.j39_id.specs.declared.line_error.LineError.{LineError}
 use Rattle.j39_findings.specs.declared.plan.Plan.{Plan}
-use Rattle.j39_findings.specs.declared.plan.unit_plan.UnitPlan.{UnitPlan}
 use Rattle.j39_log.proofs.OneText.{not_all, one_refused}
 use Rattle.j39_log.specs.ReadText.{refused_plan_line}
 use Rattle.j39_stream.specs.declared.verdict.Verdict.{Verdict}
 use Rattle.j39_stream.specs.declared.verdict.Verdict.TheVariants.{Done, Findings, Refused, Unreadable}
-use Rattle.j39_text.specs.Texts.{field}
 use Rattle.j39_tp.specs.declared.packet.Packet.{Packet}
 use Rattle.j39_follow.specs.Contests.{Timed}
 use Rattle.j39_follow.specs.FollowReports.{AreTold, in_frame, stamp}
-use Rattle.j39_follow.specs.FollowText.{AreUnitLines, IsFollowText, IsFollowedLog, IsPacketReport, IsUnitLine, FollowedPast, FollowsFrame, FollowsLine, FollowsLines, FollowsPart, FollowsShort, frames_seen, lines_with, nothing_followed, one_line_more, line_passed_over, unit_end_line}
-use Rattle.j39_follow.specs.Holders.{HoldsByFrames, IsTold}
+use Rattle.j39_follow.specs.FollowText.{AreUnitLines, IsFollowText, IsFollowedLog, IsPacketReport, FollowedPast, FollowsFrame, FollowsLine, FollowsLines, FollowsPart, FollowsShort, frames_seen, lines_with, nothing_followed, one_line_more, line_passed_over}
 use Rattle.j39_follow.specs.LogLines.{IsElsewhere, IsReadPart, IsTimeText, NamesInterface, interface_behind}
 use Rattle.j39_follow.specs.declared.event.Event.{Event}
 use Rattle.j39_follow.specs.declared.message.Sort.{Sort}
 use Rattle.j39_follow.specs.inside.FollowedSoFar.{behind_reports}
 use Rattle.j39_follow.proofs.FirstWords.{one_first_word}
-use Rattle.j39_follow.proofs.HolderLaws.{one_address}
 use Rattle.j39_follow.proofs.OneFrame.{one_heard_as, one_message_report, one_notice, one_packet_report, one_told}
-use Rattle.j39_follow.proofs.Recounts.{claim_tells}
 use Rattle.j39_follow.proofs.Splitting.{one_split}
+use Rattle.j39_follow.proofs.Standing.{one_unit_lines}
 
 -- ---- a line
 
@@ -145,38 +141,13 @@ one_lines_read plan past (line ∷ all) end other t u a b =
       a.5 ∙ ap (λ (x : List ℕ). x ++ a.2) here.1 ∙ ap (λ (x : List ℕ). b.1 ++ x) behind.1 ∙ sym b.5,
     )
 
--- ---- where units stand
-
--- who holds an address claimed it
-holder_is_told : (frames : List Frame) (name address : ℕ) → HoldsByFrames frames name address → IsTold frames name
-holder_is_told frames name address h =
-    record { before = h.before; frame = h.claim; behind = h.behind; row = h.row; tells = claim_tells h.claim name address h.claims }
-
-one_unit_line : (frames : List Frame) (unit : UnitPlan) (t u : List ℕ) → IsUnitLine frames unit t → IsUnitLine frames unit u → t ≡ u
-one_unit_line frames unit t u (inl a) (inl b) =
-    a.2 ∙ ap (λ (n : ℕ). unit_end_line unit (field (codes " address ") n)) (one_address frames unit.name a.0 b.0 a.1 b.1) ∙ sym b.2
-one_unit_line frames unit t u (inl a) (inr (inl b)) = absurd (b.1 a.0 a.1)
-one_unit_line frames unit t u (inl a) (inr (inr b)) = absurd (b.0 (holder_is_told frames unit.name a.0 a.1))
-one_unit_line frames unit t u (inr (inl a)) (inl b) = absurd (a.1 b.0 b.1)
-one_unit_line frames unit t u (inr (inl a)) (inr (inl b)) = a.2 ∙ sym b.2
-one_unit_line frames unit t u (inr (inl a)) (inr (inr b)) = absurd (b.0 a.0)
-one_unit_line frames unit t u (inr (inr a)) (inl b) = absurd (a.0 (holder_is_told frames unit.name b.0 b.1))
-one_unit_line frames unit t u (inr (inr a)) (inr (inl b)) = absurd (a.0 b.0)
-one_unit_line frames unit t u (inr (inr a)) (inr (inr b)) = a.1 ∙ sym b.1
-
-one_unit_lines : (frames : List Frame) (units : List UnitPlan) (t u : List ℕ) → AreUnitLines frames units t → AreUnitLines frames units u → t ≡ u
-one_unit_lines frames [] t u a b = a ∙ sym b
-one_unit_lines frames (unit ∷ units) t u a b =
-    a.4 ∙ ap (λ (x : List ℕ). x ++ a.1) (one_unit_line frames unit a.0 b.0 a.2 b.2)
-    ∙ ap (λ (x : List ℕ). b.0 ++ x) (one_unit_lines frames units a.1 b.1 a.3 b.3) ∙ sym b.4
-
 -- ---- a log
 
 one_log_text : (plan : Plan) (log t u : List ℕ) → IsFollowedLog plan log t → IsFollowedLog plan log u → t ≡ u
 one_log_text plan log t u a b =
     let same = one_lines_read plan nothing_followed (lines log) a.past b.past a.reports b.reports a.read b.read in
-    let there = subst (λ (p : FollowedPast). AreUnitLines (frames_seen p.seen) plan.units.items a.units) same.0 a.units_are in
-    let units = one_unit_lines (frames_seen b.past.seen) plan.units.items a.units b.units there b.units_are in
+    let there = subst (λ (p : FollowedPast). AreUnitLines plan (frames_seen p.seen) 0 plan.units.items a.units) same.0 a.units_are in
+    let units = one_unit_lines plan (frames_seen b.past.seen) 0 plan.units.items a.units b.units there b.units_are in
     a.text_is ∙ ap (λ (x : List ℕ). x ++ behind_reports plan a.past a.units) same.1
     ∙ ap (λ (p : FollowedPast). b.reports ++ behind_reports plan p a.units) same.0 ∙ ap (λ (x : List ℕ). b.reports ++ behind_reports plan b.past x) units
     ∙ sym b.text_is

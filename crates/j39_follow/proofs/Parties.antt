@@ -42,7 +42,7 @@ one_likeliest plan frames address u v first second = elim (cases_order u v) [
 
 -- a likeliest unit may hold the address
 likely_there : (plan : Plan) (frames : List Frame) (address u : ℕ) → IsLikeliest plan frames address u
-    → ValueAt (MayHold frames address) plan.units.items u
+    → ValueAt (MayHold plan frames address u) plan.units.items u
 likely_there plan frames address u l = record { value = l.unit; value_is = l.unit_is; meets = l.may }
 
 pub one_who : (plan : Plan) (frames : List Frame) (address : ℕ) (a b : Who) → IsWho plan frames address a → IsWho plan frames address b → a ≡ b
@@ -77,7 +77,7 @@ one_who plan frames address Unknown Unknown x y = refl
 -- ---- frames of which one table tells
 
 may_as_well : (plan : Plan) (h : Holders) (frames others : List Frame) (address u : ℕ) (unit : UnitPlan) → Recounts plan h frames
-    → Recounts plan h others → slice_get plan.units.items u ≡ Some unit → MayHold frames address unit → MayHold others address unit
+    → Recounts plan h others → slice_get plan.units.items u ≡ Some unit → MayHold plan frames address u unit → MayHold plan others address u unit
 may_as_well plan h frames others address u unit of too at may = elim (cases_Bool (is_marked h u)) [
   | inl marked ↦ absurd (may.untold (of.told u unit at marked))
   | inr unmarked ↦ record { prefers = may.prefers; untold = too.untold u unit at unmarked }

@@ -1,9 +1,9 @@
 -- Tables of holders of which one place is written.
-use Rattle.std.proofs.Common.{◌≡◌, ◌≢◌, ◌==◌, ◌&&◌, ◌<◌, ◌≤◌, ◌+◌, ℕ, zero, suc, Bool, true, false, if◌then◌else◌, nat_lt, eq-eqb, List, [], ◌∷◌, ◌++◌}
+use Rattle.std.proofs.Common.{◌≡◌, ◌≢◌, ◌==◌, ◌&&◌, ◌<◌, ◌≤◌, ◌+◌, ℕ, zero, suc, Bool, true, false, if◌then◌else◌, nat_lt, List, [], ◌∷◌, ◌++◌}
 use Rattle.std.proofs.Common.{length, Option, Some, None, inl, inr, refl, sym, ap, subst, ◌∙◌, arith, eqb-true}
 use Rattle.std.specs.Prelude.{slice_set, slice_index_or, replicate, IfSome}
 use Rattle.std.specs.List.{slice_get}
-use Rattle.std.proofs.lemmas.Bool.{cases_Bool, eqb-false, lt-ltb, ne_eqb}
+use Rattle.std.proofs.lemmas.Bool.{cases_Bool, eqb-false, lt-ltb}
 use Rattle.std.proofs.lemmas.Bool.Decides.{nat_tests}
 use Rattle.std.proofs.lemmas.Option.{get_or_from_slice_get, slice_get-get_or, slice_get_within}
 use Rattle.j39_id.specs.declared.frame.Frame.{Frame}
@@ -11,7 +11,8 @@ use Rattle.j39_follow.specs.Holders.{IsHolder}
 use Rattle.j39_follow.specs.declared.holders.Holders.{Holders}
 use Rattle.j39_findings.specs.declared.plan.Plan.{Plan}
 use Rattle.j39_findings.specs.declared.plan.unit_plan.UnitPlan.{UnitPlan}
-use Rattle.j39_follow.specs.inside.Recounting.{HasNameAt, IsLeft, IsMarked, IsMoved, Recounts, is_marked}
+use Rattle.j39_follow.specs.Who.{is_name_of}
+use Rattle.j39_follow.specs.inside.Recounting.{HasNameAt, IsClaimedBehind, IsLeft, IsMarked, IsMoved, Recounts, is_marked}
 
 get_set_same : {A : Type 0} (xs : List A) (i : ℕ) (y : A) → i < length xs → slice_get (slice_set xs i y) i ≡ Some y
 get_set_same [] i y less = absurd (omega arith)
@@ -28,7 +29,7 @@ get_set_other (x ∷ xs) (suc i) (suc j) y other = get_set_other xs i j y (λ e.
 pub some_same : {A : Type 0} (x y : A) → Some x ≡ Some y → x ≡ y
 some_same x y e = cc
 
-there_same : {A : Type 0} (x y : A) → Some (Some x) ≡ Some (Some y) → x ≡ y
+pub there_same : {A : Type 0} (x y : A) → Some (Some x) ≡ Some (Some y) → x ≡ y
 there_same x y e = cc
 
 pub none_some : {A : Type 0} (x : A) → None ≡ Some x → ⊥
@@ -84,7 +85,8 @@ empty_recounts plan h vacant unmarked = record {
   held = λ a n at. absurd (vacant a n at);
   holds = λ a n h. absurd (no_row h.before h.claim h.behind h.row);
   told = λ u unit at yes. absurd (false_true (sym (unmarked u) ∙ yes));
-  untold = λ u unit at no told. no_row told.before told.frame told.behind told.row;
+  untold = λ u unit at no told. no_row told.told.before told.told.frame told.told.behind told.told.row;
+  since = λ a n h. absurd (no_row h.before h.claim h.behind h.row);
 }
 
 -- ---- a NAME that leaves, address after address
@@ -146,10 +148,10 @@ left_all old new name k past of = record {
 
 -- ---- a NAME that is told elsewhere
 
-pub put : (plan : Plan) (old left new : Holders) (name address : ℕ) → IsLeft old left name → address < length left.names
+pub put : (plan : Plan) (old left new : Holders) (name address count : ℕ) → IsLeft old left name → address < length left.names
     → new.names ≡ slice_set left.names address (Some name)
-    → IsMarked plan old new name → IsMoved plan old new name (Some address)
-put plan old left new name address of room names marked = record {
+    → IsMarked plan old new name → IsClaimedBehind old new (Some address) count → IsMoved plan old new name (Some address) count
+put plan old left new name address count of room names marked claimed = record {
   held = λ a n at. elim (cases_Bool (address == a)) [
     | inl same ↦
         let spot : slice_get new.names address ≡ Some (Some n) = rw (eqb-true address a same) at in
@@ -171,14 +173,26 @@ put plan old left new name address of room names marked = record {
         ∙ get_set_other left.names address a (Some name) (λ e. stays.1 (ap Some e)) ∙ of.stays a n (stays.0, stays.2)
   ];
   marked = marked;
+  claimed = claimed;
 }
 
 some_none : {A B : Type 0} (x : A) → None ≡ Some x → B
 some_none x e = absurd (none_some x e)
 
-pub put_nowhere : (plan : Plan) (old left new : Holders) (name : ℕ) → IsLeft old left name → new.names ≡ left.names
-    → IsMarked plan old new name → IsMoved plan old new name None
-put_nowhere plan old left new name of names marked = record {
+-- the claim of an address is noted
+pub put_claimed : (old new : Holders) (address count : ℕ) → address < length old.claimed → new.claimed ≡ slice_set old.claimed address count
+    → IsClaimedBehind old new (Some address) count
+put_claimed old new address count room claimed = record {
+  here = λ a e.
+      ap (λ (xs : List ℕ). slice_index_or xs a 0) claimed
+      ∙ subst (λ (i : ℕ). slice_index_or (slice_set old.claimed address count) i 0 ≡ count) (some_same address a e) (set_here old.claimed address count 0 room);
+  there = λ a other.
+      ap (λ (xs : List ℕ). slice_index_or xs a 0) claimed ∙ set_there old.claimed address a count 0 (λ e. other (ap Some e));
+}
+
+pub put_nowhere : (plan : Plan) (old left new : Holders) (name count : ℕ) → IsLeft old left name → new.names ≡ left.names
+    → IsMarked plan old new name → new.claimed ≡ old.claimed → IsMoved plan old new name None count
+put_nowhere plan old left new name count of names marked claimed = record {
   held = λ a n at.
       let before : HasNameAt left a n = ap (λ (xs : List (Option ℕ)). slice_get xs a) (sym names) ∙ at in
       inr ((of.left a n before).0, (λ e. none_some a e), (of.left a n before).1);
@@ -187,6 +201,10 @@ put_nowhere plan old left new name of names marked = record {
     | inr stays ↦ ap (λ (xs : List (Option ℕ)). slice_get xs a) names ∙ of.stays a n (stays.0, stays.2)
   ];
   marked = marked;
+  claimed = record {
+    here = λ a e. some_none a e;
+    there = λ a other. ap (λ (xs : List ℕ). slice_index_or xs a 0) claimed;
+  };
 }
 
 -- ---- units that are marked
@@ -194,44 +212,48 @@ put_nowhere plan old left new name of names marked = record {
 -- of the first so many units those of the NAME are marked
 abbrev pub IsMarkedBelow : Plan → List Bool → List Bool → ℕ → ℕ → Type 0
 IsMarkedBelow plan old new name many = (u : ℕ) (unit : UnitPlan) → slice_get plan.units.items u ≡ Some unit
-    → slice_index_or new u false ≡ (if unit.name == name && nat_lt u many then true else slice_index_or old u false)
+    → slice_index_or new u false ≡ (if is_name_of plan u unit name && nat_lt u many then true else slice_index_or old u false)
 
 pub mark_this : (plan : Plan) (old new : List Bool) (unit : UnitPlan) (name k : ℕ) → k < length new → slice_get plan.units.items k ≡ Some unit
-    → unit.name ≡ name → IsMarkedBelow plan old new name k → IsMarkedBelow plan old (slice_set new k true) name (k + 1)
+    → is_name_of plan k unit name ≡ true → IsMarkedBelow plan old new name k → IsMarkedBelow plan old (slice_set new k true) name (k + 1)
 mark_this plan old new unit name k room here same of = λ u other there. elim (cases_Bool (k == u)) [
   | inl is ↦
       let k_is : k ≡ u = eqb-true k u is in
       let unit_is : unit ≡ other = some_same unit other (sym here ∙ ap (slice_get plan.units.items) k_is ∙ there) in
-      let named : (other.name == name) ≡ true = eq-eqb other.name name (sym (ap (λ (x : UnitPlan). x.name) unit_is) ∙ same) in
+      let named : is_name_of plan u other name ≡ true =
+      subst (λ (v : UnitPlan). is_name_of plan u v name ≡ true) unit_is (subst (λ (i : ℕ). is_name_of plan i unit name ≡ true) k_is same) in
       let less : nat_lt u (k + 1) ≡ true = lt-ltb u (k + 1) (omega arith) in
-      rw (named, less) (ap (λ (i : ℕ). slice_index_or (slice_set new k true) i false) (sym k_is) ∙ set_here new k true false room)
+      ap (λ (i : ℕ). slice_index_or (slice_set new k true) i false) (sym k_is) ∙ set_here new k true false room
+      ∙ sym (ap (λ (b : Bool). if b && nat_lt u (k + 1) then true else slice_index_or old u false) named
+      ∙ ap (λ (b : Bool). if b then true else slice_index_or old u false) less)
   | inr differs ↦
       let apart = eqb-false k u differs in
       set_there new k u true false apart ∙ of u other there
-      ∙ ap (λ (b : Bool). if other.name == name && b then true else slice_index_or old u false) (sym (lt_next_other u k apart))
+      ∙ ap (λ (b : Bool). if is_name_of plan u other name && b then true else slice_index_or old u false) (sym (lt_next_other u k apart))
 ]
 
 pub mark_not : (plan : Plan) (old new : List Bool) (unit : UnitPlan) (name k : ℕ) → slice_get plan.units.items k ≡ Some unit
-    → unit.name ≢ name → IsMarkedBelow plan old new name k → IsMarkedBelow plan old new name (k + 1)
+    → is_name_of plan k unit name ≡ false → IsMarkedBelow plan old new name k → IsMarkedBelow plan old new name (k + 1)
 mark_not plan old new unit name k here other of = λ u unit' there. elim (cases_Bool (k == u)) [
   | inl is ↦
       let k_is : k ≡ u = eqb-true k u is in
       let unit_is : unit ≡ unit' = some_same unit unit' (sym here ∙ ap (slice_get plan.units.items) k_is ∙ there) in
-      let named : (unit'.name == name) ≡ false = ne_eqb unit'.name name (λ e. other (ap (λ (x : UnitPlan). x.name) unit_is ∙ e)) in
-      of u unit' there ∙ both_false (unit'.name == name) (nat_lt u k) (nat_lt u (k + 1)) (slice_index_or old u false) named
+      let named : is_name_of plan u unit' name ≡ false =
+      subst (λ (v : UnitPlan). is_name_of plan u v name ≡ false) unit_is (subst (λ (i : ℕ). is_name_of plan i unit name ≡ false) k_is other) in
+      of u unit' there ∙ both_false (is_name_of plan u unit' name) (nat_lt u k) (nat_lt u (k + 1)) (slice_index_or old u false) named
   | inr differs ↦
       of u unit' there
-      ∙ ap (λ (b : Bool). if unit'.name == name && b then true else slice_index_or old u false) (sym (lt_next_other u k (eqb-false k u differs)))
+      ∙ ap (λ (b : Bool). if is_name_of plan u unit' name && b then true else slice_index_or old u false) (sym (lt_next_other u k (eqb-false k u differs)))
 ]
 
 pub none_marked : (plan : Plan) (told : List Bool) (name : ℕ) → IsMarkedBelow plan told told name 0
-none_marked plan told name = λ u unit there. none_below (unit.name == name) (nat_lt u 0) (slice_index_or told u false) (not_below_zero u)
+none_marked plan told name = λ u unit there. none_below (is_name_of plan u unit name) (nat_lt u 0) (slice_index_or told u false) (not_below_zero u)
 
 pub all_marked : (plan : Plan) (old new : Holders) (name k : ℕ) → length plan.units.items ≤ k → IsMarkedBelow plan old.told new.told name k
     → IsMarked plan old new name
 all_marked plan old new name k past of = λ u unit there.
     let within = slice_get_within plan.units.items u unit there in
-    of u unit there ∙ every (unit.name == name) (nat_lt u k) (slice_index_or old.told u false) (lt-ltb u k (omega (arith, within, past)))
+    of u unit there ∙ every (is_name_of plan u unit name) (nat_lt u k) (slice_index_or old.told u false) (lt-ltb u k (omega (arith, within, past)))
 
 -- ---- what is looked up
 

@@ -1,5 +1,5 @@
 -- The lines that report what a frame tells, and what was sent.
-use Rattle.std.specs.Prelude.{◌≡◌, ℕ, ◌==◌, ◌||◌, ◌&&◌, Bool, if◌then◌else◌, List, []}
+use Rattle.std.specs.Prelude.{◌≡◌, ℕ, ◌==◌, ◌||◌, ◌&&◌, ◌%◌, ◌^◌, Bool, if◌then◌else◌, List, []}
 use Rattle.std.specs.Prelude.{◌∷◌, ◌++◌, codes, decimal, map, is_some, option_map, Option, Some, None}
 use Rattle.std.specs.Option.{option_map_or, option_to_list}
 use Rattle.hex.specs.Hex.{encode_upper}
@@ -18,7 +18,7 @@ use Rattle.j39_text.specs.Texts.{field, place_field}
 use Rattle.j39_follow.specs.Contests.{IsTaken, Timed}
 use Rattle.j39_follow.specs.Fits.{IsSentGroup, fitting_flow}
 use Rattle.j39_follow.specs.LoggedRequests.{acknowledged_group, acknowledges, asked_request, asked_text, control_of, control_word, is_refusal, counted_number as number_of, told_address}
-use Rattle.j39_follow.specs.Who.{name_text, unit_of_name, unit_of, who_text}
+use Rattle.j39_follow.specs.Who.{is_of_any, name_text, unit_of_name, unit_of, who_text}
 use Rattle.j39_follow.specs.declared.event.Event.{Event}
 use Rattle.j39_follow.specs.declared.event.Event.TheVariants.{Asked, Brought, Refused}
 use Rattle.j39_follow.specs.declared.event.Reply.{Reply}
@@ -39,15 +39,19 @@ stamp number time = decimal number ++ (codes " " ++ (time ++ codes " "))
 unfoldable pub named_text : Plan → ℕ → List ℕ
 named_text plan name = option_map_or (unit_label plan) (unit_of_name plan name) (name_text name)
 
+-- the serial number of a box, where its unit is of any
+unfoldable pub identity_text : Plan → ℕ → List ℕ
+identity_text plan name = if is_of_any plan (unit_of_name plan name) then field (codes " identity ") (name % 2 ^ 21) else []
+
 unfoldable pub claim_text : Plan → List ℕ → ℕ → ℕ → List ℕ
 claim_text plan front name address =
-    front ++ (codes "claim " ++ (named_text plan name ++ (field (codes "@") address ++ 10 ∷ [])))
+    front ++ (codes "claim " ++ (named_text plan name ++ (field (codes "@") address ++ (identity_text plan name ++ 10 ∷ []))))
 
 abbrev pub claim_line : Plan → List ℕ → Frame → List ℕ
 claim_line plan front f = claim_text plan front (name_in f) f.ident.sa
 
 unfoldable pub cannot_text : Plan → List ℕ → ℕ → List ℕ
-cannot_text plan front name = front ++ (codes "cannot " ++ (named_text plan name ++ 10 ∷ []))
+cannot_text plan front name = front ++ (codes "cannot " ++ (named_text plan name ++ (identity_text plan name ++ 10 ∷ [])))
 
 abbrev pub cannot_line : Plan → List ℕ → Frame → List ℕ
 cannot_line plan front f = cannot_text plan front (name_in f)

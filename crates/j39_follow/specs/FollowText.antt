@@ -33,9 +33,9 @@ use Rattle.j39_follow.specs.LoggedRequests.{times_answered, times_asked, times_r
 use Rattle.j39_follow.specs.declared.event.Event.{Event}
 use Rattle.j39_follow.specs.declared.message.Sort.{Sort}
 use Rattle.j39_follow.specs.declared.message.Sort.TheVariants.{Grouped, Other}
-use Rattle.j39_follow.specs.Holders.{HoldsByFrames, IsTold}
+use Rattle.j39_follow.specs.Holders.{HoldsByFrames}
 use Rattle.j39_follow.specs.LogLines.{IsElsewhere, IsReadPart, IsTimeText, NamesInterface, interface_behind, moment_of}
-use Rattle.j39_follow.specs.Who.{ChangesHands}
+use Rattle.j39_follow.specs.Who.{ChangesHands, IsUnitTold, is_name_of}
 
 -- ---- what each two addresses heard
 
@@ -224,17 +224,29 @@ group_ends plan sent g (group ∷ groups) = group_end plan sent g group ++ group
 unfoldable pub unit_end_line : UnitPlan → List ℕ → List ℕ
 unit_end_line unit words = codes "unit " ++ (unit.label.bytes ++ (words ++ 10 ∷ []))
 
--- where a unit stands: at the address that its NAME holds, at none, or nothing was told of it
-abbrev pub IsUnitLine : List Frame → UnitPlan → List ℕ → Type 0
-IsUnitLine frames unit text =
-    ((address : ℕ) × HoldsByFrames frames unit.name address × (text ≡ unit_end_line unit (field (codes " address ") address)))
-    ⊎ (IsTold frames unit.name × ((address : ℕ) → ¬ HoldsByFrames frames unit.name address) × (text ≡ unit_end_line unit (codes " none")))
-    ⊎ ((¬ IsTold frames unit.name) × (text ≡ unit_end_line unit (codes " unclaimed")))
+-- a NAME of the unit at this place holds the address
+pub record HoldsForUnit (plan : Plan) (frames : List Frame) (u : ℕ) (unit : UnitPlan) (address : ℕ) : Type 0 where
+  pub name : ℕ
+  pub name_of : is_name_of plan u unit name ≡ true
+  pub holds : HoldsByFrames frames name address
 
-abbrev pub AreUnitLines : List Frame → List UnitPlan → List ℕ → Type 0
-AreUnitLines frames [] text = text ≡ []
-AreUnitLines frames (unit ∷ units) text =
-    (front : List ℕ) × (back : List ℕ) × IsUnitLine frames unit front × AreUnitLines frames units back × (text ≡ front ++ back)
+-- and of the addresses that its NAMEs hold it was claimed last
+pub record StandsAt (plan : Plan) (frames : List Frame) (u : ℕ) (unit : UnitPlan) (address : ℕ) : Type 0 where
+  pub there : HoldsForUnit plan frames u unit address
+  pub last : (other : ℕ) (h : HoldsForUnit plan frames u unit other) → length h.holds.before ≤ length there.holds.before
+
+-- where a unit stands: at the address that its NAMEs claimed last of those that they hold, at none, or nothing was told of them
+abbrev pub IsUnitLine : Plan → List Frame → ℕ → UnitPlan → List ℕ → Type 0
+IsUnitLine plan frames u unit text =
+    ((address : ℕ) × StandsAt plan frames u unit address × (text ≡ unit_end_line unit (field (codes " address ") address)))
+    ⊎ (IsUnitTold plan frames u unit × ((address : ℕ) → ¬ HoldsForUnit plan frames u unit address) × (text ≡ unit_end_line unit (codes " none")))
+    ⊎ ((¬ IsUnitTold plan frames u unit) × (text ≡ unit_end_line unit (codes " unclaimed")))
+
+-- so it is with these units, the first of which is at this place
+abbrev pub AreUnitLines : Plan → List Frame → ℕ → List UnitPlan → List ℕ → Type 0
+AreUnitLines plan frames u [] text = text ≡ []
+AreUnitLines plan frames u (unit ∷ units) text =
+    (front : List ℕ) × (back : List ℕ) × IsUnitLine plan frames u unit front × AreUnitLines plan frames (u + 1) units back × (text ≡ front ++ back)
 
 -- from whom to whom a request goes
 unfoldable pub asked_ends_text : Plan → RequestPlan → List ℕ
@@ -302,7 +314,7 @@ pub record IsFollowedLog (plan : Plan) (log text : List ℕ) : Type 0 where
   pub reports : List ℕ
   pub units : List ℕ
   pub read : FollowsLines plan nothing_followed (lines log) past reports
-  pub units_are : AreUnitLines (frames_seen past.seen) plan.units.items units
+  pub units_are : AreUnitLines plan (frames_seen past.seen) 0 plan.units.items units
   pub text_is : text ≡ reports ++ (flow_ends plan past.sent 0 plan.flows.items ++ (group_ends plan past.sent 0 plan.groups.items
       ++ (units ++ (request_ends plan past.told 0 plan.requests.items ++ (need_ends plan past.sent 0 plan.needs.items
       ++ follow_counts_line (length past.seen) past.skipped past.bad past.elsewhere)))))

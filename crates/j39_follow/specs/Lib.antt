@@ -7,5 +7,6 @@ pub mod GroupLines
 pub mod Holders
 pub mod LogLines
 pub mod LoggedRequests
+pub mod UnitsOfNames
 pub mod Who
 pub mod inside

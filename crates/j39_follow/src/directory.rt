@@ -1,5 +1,5 @@
 //! Who stands behind each address.
-ghost use Rattle.std.specs.Prelude.{◌≡◌, [], ◌∷◌, ◌++◌, List};
+ghost use Rattle.std.specs.Prelude.{◌≡◌, [], ◌∷◌, ◌++◌, List, length};
 ghost use Rattle.j39_id.specs.declared.frame.Frame.{Frame as AFrame};
 ghost use Rattle.j39_findings.specs.declared.plan.Plan.{Plan as APlan};
 ghost use Rattle.j39_follow.specs.Holders.{IsHolder};
@@ -115,11 +115,12 @@ impl Directory {
         likely_name(plan, self.parties.party(address))
     }
 
-    /// Notes what a frame tells.
-    pub fn hear(&mut self, plan: &Plan, frame: &Frame)
-        ensures { (frames : List AFrame) → Knows plan.now self.old frames → Knows plan.now self.new (frames ++ frame.now ∷ []) }
+    /// Notes what a frame tells behind so many others.
+    pub fn hear(&mut self, plan: &Plan, frame: &Frame, count: u64)
+        ensures { (frames : List AFrame) → length frames ≡ count → Knows plan.now self.old frames
+            → Knows plan.now self.new (frames ++ frame.now ∷ []) }
     {
-        self.holders.hear(plan, frame);
+        self.holders.hear(plan, frame, count);
         let all = parties_of(plan, &self.holders);
         let names = kept_names(self.alloc, plan, &all);
         self.parties = Parties { all, names };

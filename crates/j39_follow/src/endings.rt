@@ -148,9 +148,9 @@ fn write_unit(
     requires there { slice_get plan.now.units.items place ≡ Some unit.now }
     requires room { place < unit_limit }
     ensures { OnOk result ((frames : List AFrame) → Recounts plan.now holders.now frames
-        → (piece : List ℕ) × IsUnitLine frames unit.now piece × (text.new ≡ text.old ++ piece)) }
+        → (piece : List ℕ) × IsUnitLine plan.now frames place unit.now piece × (text.new ≡ text.old ++ piece)) }
 {
-    if let Some(address) = holders.address(unit.name.to_bits()) {
+    if let Some(address) = holders.address(plan, place, unit) {
         return write_standing(text, unit, address);
     }
     if holders.is_told(place) {
@@ -163,7 +163,7 @@ fn write_unit(
 // Writes where each unit stands.
 fn write_units(text: &mut TextBuffer, plan: &Plan, holders: &Holders) -> Result<(), AllocError>
     ensures { OnOk result ((frames : List AFrame) → Recounts plan.now holders.now frames
-        → (piece : List ℕ) × AreUnitLines frames plan.now.units.items piece × (text.new ≡ text.old ++ piece)) }
+        → (piece : List ℕ) × AreUnitLines plan.now frames 0 plan.now.units.items piece × (text.new ≡ text.old ++ piece)) }
 {
     for place in 0..plan.units.len() {
         write_unit(text, plan, holders, place, &plan.units[place])?;
@@ -179,7 +179,7 @@ pub(crate) fn write_endings(
     holders: &Holders,
 ) -> Result<(), AllocError>
     ensures { OnOk result ((sent : List ASort) (frames : List AFrame) → IsTally plan.now tally.now sent → Recounts plan.now holders.now frames
-        → (units : List ℕ) × AreUnitLines frames plan.now.units.items units
+        → (units : List ℕ) × AreUnitLines plan.now frames 0 plan.now.units.items units
         × (text.new ≡ text.old ++ (flow_ends plan.now sent 0 plan.now.flows.items
         ++ (group_ends plan.now sent 0 plan.now.groups.items ++ units)))) }
 {

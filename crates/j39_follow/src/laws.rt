@@ -3,11 +3,18 @@ ghost use Rattle.j39_follow.specs.Alike.{FollowAndReadSeeAlike};
 ghost use Rattle.j39_follow.specs.FollowText.{LogHasOneFollowText};
 ghost use Rattle.j39_follow.specs.GroupLines.{GroupsAreToldAlike};
 ghost use Rattle.j39_follow.specs.Holders.{HasOneHolder, HoldsOneAddress};
+ghost use Rattle.j39_follow.specs.UnitsOfNames.{NamesAreOfTheirUnits};
 
 /// After any frames an address has one holder or none, and a NAME holds one address at most.
 pub fn holders_are_one_to_one()
     ensures holder { HasOneHolder }
     ensures address { HoldsOneAddress }
+{}
+
+/// Where no two units of a plan may be one, each NAME that a box of a unit may have is taken for this unit's: so a plan of a type knows the
+/// boxes of each vehicle.
+pub fn names_are_of_their_units()
+    ensures { NamesAreOfTheirUnits }
 {}
 
 /// For a plan and a log the definition allows one text of `follow`, with one verdict.

@@ -10,7 +10,7 @@ use crate::asking::{asked_request, write_asked};
 use crate::group_line::sending_of;
 use crate::known_parties::Parties;
 use crate::message::in_frame;
-use crate::party_text::{write_named, write_way};
+use crate::party_text::{write_identity, write_named, write_way};
 use crate::stamp::{Stamp, write_stamp};
 use j39_findings::Plan;
 use j39_id::{Frame, cannot_claim, carried_name, claims_address, requested_group, requests_group};
@@ -31,6 +31,7 @@ fn write_claim(
     text.word("claim ")?;
     write_named(text, plan, name)?;
     text.field("@", address)?;
+    write_identity(text, plan, name)?;
     text.end_line()
 }
 
@@ -46,6 +47,7 @@ fn write_cannot(
     write_stamp(text, stamp)?;
     text.word("cannot ")?;
     write_named(text, plan, name)?;
+    write_identity(text, plan, name)?;
     text.end_line()
 }
 

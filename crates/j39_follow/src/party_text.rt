@@ -1,18 +1,21 @@
 //! The texts of who stands behind an address.
 ghost use Rattle.std.specs.Prelude.{◌≡◌, ◌++◌, ℕ, List, OnOk, codes, if◌then◌else◌};
 ghost use Rattle.j39_follow.specs.Contests.{Timed};
-ghost use Rattle.j39_follow.specs.FollowReports.{IsWay, answer_way_text, is_to_all as goes_to_all, named_text};
+ghost use Rattle.j39_follow.specs.FollowReports.{IsWay, answer_way_text, identity_text, is_to_all as goes_to_all, named_text};
 ghost use Rattle.j39_follow.specs.Who.{name_text, party_text, who_text};
 ghost use Rattle.j39_follow.specs.inside.Contesting.{ShowsParties};
 ghost use Rattle.j39_follow.specs.inside.Recounting.{HasNames, party_at};
 
 use crate::known_parties::Parties;
-use crate::who::{Who, unit_named};
+use crate::who::{Who, is_of_any, unit_named};
 use j39_findings::Plan;
 use j39_id::Ident;
 use j39_id::addresses::GLOBAL_ADDRESS;
 use j39_text::{TextBuffer, unit_label};
 use std::alloc::AllocError;
+
+// The identity numbers of NAMEs: 0 to 2,097,151.
+const IDENTITIES: u64 = 1 << 21;
 
 #[tactic(auto, unfolding(crate::specs::Who::name_text))]
 fn write_name(text: &mut TextBuffer, name: u64) -> Result<(), AllocError>
@@ -30,6 +33,22 @@ pub(crate) fn write_named(text: &mut TextBuffer, plan: &Plan, name: u64) -> Resu
     match unit_named(plan, name) {
         Some(unit) => text.word(unit_label(plan, unit)),
         None => write_name(text, name),
+    }
+}
+
+/// Writes the serial number of the box of a NAME, where its unit is of any.
+#[tactic(auto, unfolding(crate::specs::FollowReports::identity_text))]
+pub(crate) fn write_identity(
+    text: &mut TextBuffer,
+    plan: &Plan,
+    name: u64,
+) -> Result<(), AllocError>
+    ensures { OnOk result (text.new ≡ text.old ++ identity_text plan.now name) }
+{
+    if is_of_any(plan, unit_named(plan, name)) {
+        text.field(" identity ", name % IDENTITIES)
+    } else {
+        Ok(())
     }
 }
 

@@ -21,7 +21,7 @@ ghost use Rattle.j39_follow.specs.inside.Reporting.{front_of};
 ghost use Rattle.j39_follow.specs.inside.Tallies.{IsTally};
 
 use crate::acknowledgement::{acknowledges, told_address};
-use crate::changed_hands::begin_anew;
+use crate::changed_hands::{begin_anew, replaced};
 use crate::contests::Contests;
 use crate::directory::Directory;
 use crate::endings::write_endings;
@@ -241,15 +241,16 @@ impl Reading {
         requires { (claims_address frame.now || cannot_claim frame.now) ≡ true }
         ensures counts { IsSameCounts self.old self.new }
         ensures followed { OnOk result ((past : FollowedPast) → Remembers groups.now self.old past → length past.seen ≤ 2 ^ 62 + 1
-            → IsFollowed groups.now self.old self.new past time.now frame.now) }
+            → length past.seen ≡ self.old.frames → IsFollowed groups.now self.old self.new past time.now frame.now) }
     {
         let before = self.directory.all_parties();
+        let taken = replaced(self.directory.holder(frame.ident.sa), frame);
         self.contests
             .hear(groups.plan(), &self.directory, frame, moment(time))?;
-        self.directory.hear(groups.plan(), frame);
+        self.directory.hear(groups.plan(), frame, self.frames);
         self.report(groups, time, frame)?;
         let after = self.directory.all_parties();
-        begin_anew(&mut self.listeners, &before, &after);
+        begin_anew(&mut self.listeners, &before, &after, taken);
         Ok(())
     }
 
@@ -257,7 +258,7 @@ impl Reading {
     fn follow(&mut self, groups: &Groups<'_>, time: &[u8], frame: &Frame) -> Result<(), AllocError>
         ensures counts { IsSameCounts self.old self.new }
         ensures followed { OnOk result ((past : FollowedPast) → Remembers groups.now self.old past → length past.seen ≤ 2 ^ 62 + 1
-            → IsFollowed groups.now self.old self.new past time.now frame.now) }
+            → length past.seen ≡ self.old.frames → IsFollowed groups.now self.old self.new past time.now frame.now) }
     {
         if claims_address(frame) {
             return self.follow_claim(groups, time, frame);
@@ -362,7 +363,7 @@ impl Reading {
     /// there were of each sort.
     pub fn finish(&mut self, plan: &Plan) -> Result<(), AllocError>
         ensures { OnOk result ((past : FollowedPast) → RecallsPast plan.now self.old past → (units : List ℕ)
-            × AreUnitLines (frames_seen past.seen) plan.now.units.items units × (self.new.text ≡ self.old.text ++ behind_reports plan.now past units)) }
+            × AreUnitLines plan.now (frames_seen past.seen) 0 plan.now.units.items units × (self.new.text ≡ self.old.text ++ behind_reports plan.now past units)) }
     {
         write_endings(&mut self.text, plan, &self.tally, self.directory.holders())?;
         write_requests(&mut self.text, plan, &self.exchanges)?;

@@ -4,12 +4,12 @@ ghost use Rattle.j39_id.specs.declared.frame.Frame.{Frame as AFrame};
 ghost use Rattle.std.specs.List.{slice_get};
 ghost use Rattle.j39_findings.specs.declared.plan.unit_plan.UnitPlan.{UnitPlan as AUnitPlan};
 ghost use Rattle.j39_follow.specs.Contests.{likely_named as likely_who};
-ghost use Rattle.j39_follow.specs.Who.{IsWho, MayHold, unit_of_name as first_named};
+ghost use Rattle.j39_follow.specs.Who.{IsWho, MayHold, is_of_any as is_any, numbered_unit as first_numbered, unit_of_kind as first_of_kind, unit_of_name as first_named};
 ghost use Rattle.j39_follow.specs.inside.Likeliest.{IsBelowBest, IsBestOf, IsNotBelow};
 ghost use Rattle.j39_follow.specs.inside.Recounting.{Recounts};
 
 use crate::holders::Holders;
-use j39_findings::Plan;
+use j39_findings::{Plan, kind_of_name};
 use j39_id::Name;
 
 /// Who stands behind an address of a log. Units are given by their places, from 0.
@@ -42,23 +42,64 @@ impl Who {
     }
 }
 
-/// The first unit of a NAME, by its place.
-pub(crate) fn unit_named(plan: &Plan, name: u64) -> Option<usize>
-    ensures { result ≡ first_named plan.now name }
+// The first unit with a number whose NAME this is, by its place.
+fn numbered_unit(plan: &Plan, name: u64) -> Option<usize>
+    ensures { result ≡ first_numbered plan.now name }
 {
     plan.units
         .as_slice()
         .iter()
-        .position(|unit| unit.name.to_bits() == name)
+        .position(|unit| !unit.any_identity && unit.name.to_bits() == name)
+}
+
+// The first unit of any serial number that is of the kind of this NAME, by its place.
+fn unit_of_kind(plan: &Plan, name: u64) -> Option<usize>
+    ensures { result ≡ first_of_kind plan.now name }
+{
+    let kind = kind_of_name(Name::from_bits(name));
+    plan.units.as_slice().iter().position(|unit| unit.any_identity
+        && kind_of_name(unit.name) == kind)
+}
+
+/// The unit of a NAME, by its place.
+pub(crate) fn unit_named(plan: &Plan, name: u64) -> Option<usize>
+    ensures { result ≡ first_named plan.now name }
+{
+    match numbered_unit(plan, name) {
+        Some(unit) => Some(unit),
+        None => unit_of_kind(plan, name),
+    }
+}
+
+// Whether the unit at a place, if there is one, is of any serial number.
+fn is_any_at(plan: &Plan, place: usize) -> bool
+    ensures { result ≡ is_any plan.now (Some place) }
+{
+    if place < plan.units.len() {
+        let unit = &plan.units[place];
+        unit.any_identity
+    } else {
+        false
+    }
+}
+
+/// Whether there is such a unit, and it is of any serial number.
+pub(crate) fn is_of_any(plan: &Plan, unit: Option<usize>) -> bool
+    ensures { result ≡ is_any plan.now unit }
+{
+    match unit {
+        Some(place) => is_any_at(plan, place),
+        None => false,
+    }
 }
 
 // Whether nothing was told yet of the unit at a place, which prefers the address.
 fn may_hold(plan: &Plan, holders: &Holders, address: u8, place: usize) -> bool
     requires { place < length plan.now.units.items }
     ensures may { result ≡ true → (frames : List AFrame) (unit : AUnitPlan) → Recounts plan.now holders.now frames
-        → slice_get plan.now.units.items place ≡ Some unit → MayHold frames address unit }
+        → slice_get plan.now.units.items place ≡ Some unit → MayHold plan.now frames address place unit }
     ensures not { result ≡ false → (frames : List AFrame) (unit : AUnitPlan) → Recounts plan.now holders.now frames
-        → slice_get plan.now.units.items place ≡ Some unit → ¬ MayHold frames address unit }
+        → slice_get plan.now.units.items place ≡ Some unit → ¬ MayHold plan.now frames address place unit }
 {
     let unit = &plan.units[place];
     if unit.address.number() != address {

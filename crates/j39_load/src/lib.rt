@@ -9,7 +9,6 @@ mod companies;
 mod damage;
 mod delay;
 mod delays;
-mod demands;
 mod extreme;
 mod faults;
 mod flow_frames;

@@ -14,4 +14,3 @@ pub mod Prefixes
 pub mod Vehicles
 pub mod Messages
 pub mod Rounds
-pub mod WantedMessages

@@ -2,12 +2,9 @@
 use Rattle.std.proofs.Common.{◌≡◌, ◌≢◌, ◌⊎◌, ℕ, zero, suc, ◌+◌, ◌<◌, ◌==◌, true, false, List, [], ◌∷◌, ◌++◌, length, map, Option, Some, None}
 use Rattle.std.proofs.Common.{inl, inr, refl, sym, ap, subst, ◌∙◌, arith, append_assoc}
 use Rattle.std.specs.Bool.{MatchBool}
-use Rattle.std.specs.List.{AllByRecursion, Contains, position_from, slice_get}
+use Rattle.std.specs.List.{AllByRecursion, Contains, slice_get}
 use Rattle.std.specs.Option.{is_some}
-use Rattle.std.specs.Ordering.{nat_cmp}
-use Rattle.std.specs.FinSet.{FinSet}
 use Rattle.std.proofs.lemmas.Bool.{cases_Bool, cond_both, eq-eqb, ltb-true, ne_eqb, not-false, or_left, or_right, true≢false}
-use Rattle.std.proofs.lemmas.Iterator.Adapters.{position_from-zero}
 use Rattle.std.proofs.lemmas.List.{append-nil, append_cancel_left}
 use Rattle.j39_id.specs.Addresses.{global_address}
 use Rattle.j39_id.specs.Ident.{identifier_of, pgn_of}
@@ -24,7 +21,6 @@ use Rattle.j39_claim.specs.declared.item.Say.{Say}
 use Rattle.j39_claim.specs.declared.item.Say.TheVariants.{Claim}
 use Rattle.j39_claim.specs.ClaimRule.{ClaimState, claim_of, said_by, started}
 use Rattle.j39_findings.specs.declared.plan.Plan.{Plan}
-use Rattle.j39_findings.specs.declared.plan.unit_plan.UnitPlan.{UnitPlan}
 use Rattle.j39_findings.specs.declared.plan.to.To.{To}
 use Rattle.j39_findings.specs.declared.plan.to.To.TheVariants.{All, One}
 use Rattle.j39_findings.specs.declared.steps.Step.{Step}
@@ -37,7 +33,7 @@ use Rattle.j39_world.specs.declared.wired.Wired.TheVariants as wired
 use Rattle.j39_world.specs.ClaimSteps.{GivenFrom, answer_items, asking_items, first_items}
 use Rattle.j39_world.specs.Flows.{dest_of, flows_of, is_short, window_at, windows_of}
 use Rattle.j39_world.specs.Opening.{AreNamesDistinct}
-use Rattle.j39_world.specs.PlannedUnits.{planned_unit, unit_at, units_of}
+use Rattle.j39_world.specs.PlannedUnits.{unit_at, units_of}
 use Rattle.j39_world.specs.Run.{StepsTo, begin_refusal, begin_refusals, send_refusal, send_refusals, count_of, refusal}
 use Rattle.j39_world.specs.Sent.{Sent, frame_of, sent_of, source_of}
 use Rattle.j39_world.specs.SentTransfers.{address_of, destination_of, group_of, packet_frame, short_frame}
@@ -49,10 +45,9 @@ use Rattle.j39_laws.proofs.Reports.Orderly.{DeliveredBefore, all_delivered}
 use Rattle.j39_laws.proofs.Runs.Changed.{changed_here}
 use Rattle.j39_laws.proofs.Runs.Conditions.{is_unit, none_refuses, units_known}
 use Rattle.j39_laws.proofs.Runs.Elements.{all_map}
-use Rattle.j39_laws.proofs.Runs.Units.{in_units, names_differ}
+use Rattle.j39_laws.proofs.Runs.Units.{in_units}
 use Rattle.j39_laws.proofs.Addresses.CleanUnits.{names_in_range}
 use Rattle.j39_follow.specs.Holders.{HoldsByFrames}
-use Rattle.j39_follow.specs.Who.{unit_of_name}
 use Rattle.j39_traces.specs.Between.{GoesToHolder, IsKnownAt, FlowGoes, IsOfStep, IsSentBehind, IsSentBy, IsTransport, MessagesGoBetweenHolders, SendsTo, tells_of_addresses}
 use Rattle.j39_traces.specs.Telling.{HaveOwnNumbers}
 use Rattle.j39_traces.proofs.Ends.{HasEnds, IsForHolding, IsHolding, all_ends, begun_ends, sent_ends, ends_of}
@@ -61,6 +56,7 @@ use Rattle.j39_traces.proofs.Logs.{IsItemInRange, TellsNothing, silent_keep, spl
 use Rattle.j39_traces.proofs.Replies.{GoesOnTo, late_answers, takers_answer}
 use Rattle.j39_traces.proofs.Standing.{preferred_below, said_held, source_below, turned_any}
 use Rattle.j39_traces.proofs.Telling.{AreTold, all_told, asking_below, first_below, flow_other, packet_group}
+use Rattle.j39_traces.proofs.UnitNames.{named}
 
 -- ---- lists
 
@@ -71,33 +67,6 @@ all_parts P (x ∷ xs) y ys all = let more = all_parts P xs y ys all.1 in ((all.
 all_last : {X : Type 0} (P : X → Type 0) (xs : List X) (y : X) → AllByRecursion P xs → P y → AllByRecursion P (xs ++ y ∷ [])
 all_last P [] y all last = (last, tt)
 all_last P (x ∷ xs) y all last = (all.0, all_last P xs y all.1 last)
-
--- ---- the first unit of a NAME
-
-first_from : (kept : FinSet nat_cmp) (name n u : ℕ) (ps : List UnitPlan) → u < length ps → (unit_at (map (planned_unit kept) ps) u).name ≡ name
-    → ((k : ℕ) → k < u → (unit_at (map (planned_unit kept) ps) k).name ≢ name)
-    → position_from (λ (p : UnitPlan). p.name == name) n ps ≡ Some (n + u)
-first_from kept name n u [] inside is none = absurd (omega arith)
-first_from kept name n zero (p ∷ ps) inside is none =
-    let passes : (p.name == name) ≡ true = eq-eqb p.name name is in
-    let same : n ≡ n + 0 = omega arith in
-    rw passes (ap Some same)
-first_from kept name n (suc u) (p ∷ ps) inside is none =
-    let other : (p.name == name) ≡ false = ne_eqb p.name name (none 0 (omega arith)) in
-    let same : (n + 1) + u ≡ n + suc u = omega arith in
-    rw other (first_from kept name (n + 1) u ps (omega arith) is (λ k below. none (suc k) (omega (arith, below))) ∙ ap Some same)
-
-named : (plan : Plan) → AreNamesDistinct (units_of plan) → (u : ℕ) → is_unit plan u ≡ true
-    → unit_of_name plan (unit_at (units_of plan) u).name ≡ Some u
-named plan distinct u unit =
-    let name : ℕ = (unit_at (units_of plan) u).name in
-    let inside = in_units plan u unit in
-    let below : u < length plan.units.items = ltb-true u (count_of plan) unit in
-    let none : (k : ℕ) → k < u → (unit_at (units_of plan) k).name ≢ name =
-    λ k less. names_differ (units_of plan) distinct k u (omega (arith, less, inside)) inside (omega (arith, less)) in
-    let same : 0 + u ≡ u = omega arith in
-    position_from-zero (λ (p : UnitPlan). p.name == name) plan.units.items
-    ∙ first_from plan.keep_free name 0 u plan.units.items below refl none ∙ ap Some same
 
 -- ---- frames of messages
 

@@ -9,3 +9,4 @@ pub mod SentFrames
 pub mod Standing
 pub mod Telling
 pub mod ToldFlows
+pub mod UnitNames

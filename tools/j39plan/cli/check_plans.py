@@ -82,8 +82,8 @@ def write_junit(name: str, outcomes: Iterable[tuple[str, Outcome]]) -> None:
         test = ElementTree.SubElement(suite, "testcase", classname="check-plans", name=as_xml(plan))
         if outcome.kind:
             ElementTree.SubElement(test, outcome.kind, message=as_xml(outcome.why)).text = as_xml(outcome.answer)
-    for key, kind in (("tests", "testcase"), ("failures", "failure"), ("errors", "error")):
-        suite.set(key, str(len(list(suite.iter(kind)))))
+    for key, parts in (("tests", "testcase"), ("failures", "testcase/failure"), ("errors", "testcase/error")):
+        suite.set(key, str(len(suite.findall(parts))))
     ElementTree.indent(suite, "")
     ElementTree.ElementTree(suite).write(name, encoding="UTF-8", xml_declaration=True)
 

@@ -10,7 +10,7 @@ import argparse
 import sys
 
 from j39plan import program
-from j39plan.dbc.writing import Writer
+from j39plan.dbc.writer import Writer
 from j39plan.left_out import Notes
 from j39plan.plan.files import opened
 from j39plan.plan.parts import source_in

@@ -19,7 +19,7 @@ from typing import Any, NamedTuple, TypedDict
 from j39plan import program
 from j39plan.fleet.signals import Code, Signals, Spread
 from j39plan.log.clock import DAY, SECOND, nanoseconds
-from j39plan.log.files import OneInterface
+from j39plan.log.files import PACKED, OneInterface
 from j39plan.log.reports import Writer, as_it_comes, who_of
 from j39plan.plan.tables import Tables
 
@@ -216,7 +216,9 @@ def followed(plan: str, log: str, tables: Tables, interface: str | None) -> Foll
         raise program.Refused(status if status > 0 else program.FAULT, said.removeprefix("j39plan: ") or f"j39plan ended with {status}")
     found.counts["elsewhere"] += part.elsewhere if part else 0
     if found.counts["frames"] == 0 and found.counts["bad"]:
-        raise program.Refused(program.UNREADABLE, "none of its lines spells a frame: is it a log of candump -L?")
+        with open(log, "rb") as begin:
+            why = "it is packed by gzip: unpack it first" if begin.read(len(PACKED)) == PACKED else "is it a log of candump -L?"
+        raise program.Refused(program.UNREADABLE, f"none of its lines spells a frame: {why}")
     if not found.counts["frames"] + found.counts.get("skipped", 0) + found.counts["elsewhere"]:
         raise program.Refused(program.UNREADABLE, "it has no frame")
     return found

@@ -44,8 +44,14 @@ def further_faults(data: bytes, parts: list[Placed]) -> list[Placed]:
     told, text, left_out = readable(text) if first.answer == "refused Text" else ([], text, set())
     if text:
         told += by_schema(text, left_out)
-    others = [(line, hint) for line, hint in dict.fromkeys(told) if hint and (line, hint) != (first.line, first.hint)]
-    return [Placed(line, f"also {hint}", "", []) for line, hint in sorted(others)]
+    others = {subject(line, hint): (line, hint) for line, hint in reversed(told) if hint}
+    others.pop(subject(first.line or 1, first.hint), None)
+    return [Placed(line, f"also {hint}", "", []) for line, hint in sorted(others.values())]
+
+
+def subject(line: int, hint: str) -> tuple[int, str]:
+    """What a hint is about: its line, and the key, or the key with its value."""
+    return line, hint.partition(": ")[0]
 
 
 def readable(text: str) -> tuple[list[Told], str, set[str]]:
@@ -67,14 +73,15 @@ def readable(text: str) -> tuple[list[Told], str, set[str]]:
 def by_schema(text: str, left_out: set[str]) -> list[Told]:
     """The faults of a text by the schema, but for keys that aren't there since they were left out."""
     try:
-        from jsonschema import Draft7Validator
+        from jsonschema import Draft7Validator, validators
         values = tomllib.loads(text.removeprefix(MARK))
     except (ImportError, ValueError, RecursionError):
         return []
     if values.get("version") not in VERSIONS:
         return []
-    plan = Source(text)
-    faults = dict.fromkeys(fault for error in Draft7Validator(schema()).iter_errors(values) for fault in faults_of(error))
+    plan, types = Source(text), Draft7Validator.TYPE_CHECKER.redefine("integer", lambda _, value: type(value) is int)  # 10.0 is none
+    validator = validators.extend(Draft7Validator, type_checker=types)(schema())
+    faults = dict.fromkeys(fault for error in validator.iter_errors(values) for fault in faults_of(error))
     unlisted = {fault.table: told_of(plan, fault)[1] or "" for fault in faults if fault.cause == "UnknownKey"}
     return [told_of(plan, fault) for fault in faults if fault.cause != "Missing" or not is_explained(plan, fault, left_out, unlisted)]
 
@@ -93,12 +100,16 @@ def faults_of(error: Any) -> Iterator[Fault]:
             yield Fault(path, found.group(1), "Missing")
     elif error.validator == "additionalProperties":
         yield from (Fault(path, key, "UnknownKey") for key in error.instance if key not in error.schema["properties"])
+    elif error.validator == "not" and path[-2:-1] == ("signal",):  # one that is repeated and optional
+        yield Fault(path, "optional", "Range")
     elif keys := [at for at, part in enumerate(path) if isinstance(part, str)]:
         table, key = path[:keys[-1]], str(path[keys[-1]])
         if "values" in table:  # a name of a number: the key is the table of names
             table, key = table[:table.index("values")], "values"
         elif key == "arbitrary" and error.validator == "const":  # of a unit that never claims, which is said of that key
             table, key = table[:-1], "claims"
+        if isinstance(path[-1], int) and key != "keep_free":  # an element of an array
+            return
         cause = {None: "UnknownKey", "type": "WrongType", "maxItems": "TooMany", "maxProperties": "TooMany"}.get(error.validator, "Range")
         yield Fault(table, key, cause)
 
@@ -107,6 +118,6 @@ def told_of(plan: Source, fault: Fault) -> Told:
     """The line of a fault, and a hint."""
     if fault.cause == "Missing":
         return missing_key(plan, fault.table, fault.key)
-    if fault.cause == "UnknownKey" or fault.key not in listed(plan, fault.table):
+    if fault.key not in listed(plan, fault.table):
         return unlisted_key(plan, fault.table, fault.key)
     return value_fault(plan, fault.table, fault.key, fault.cause)

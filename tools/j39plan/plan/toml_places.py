@@ -9,6 +9,7 @@ import re
 import tomllib
 
 BLANK = re.compile(r"(?:[ \t\r\n]|#[^\n]*)*")
+NO_VALUE = re.compile(r"[ \t\r]*(?:#[^\n]*)?(?:\n|\Z)")
 STRING = re.compile(
     r'"""(?:\\.|[^\\])*?"{3,5}'
     r"|'''.*?'{3,5}"
@@ -214,6 +215,9 @@ class Places:
             place += (key,)
             self._note(place, start)
         self._expect("=")
+        if NO_VALUE.match(self._text, self._at):
+            self.spelled[place] = ""
+            return
         self._skip()
         self._value(place)
 

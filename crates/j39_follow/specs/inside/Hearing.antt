@@ -1,7 +1,8 @@
 -- What each pair of addresses heard since one of the two last changed hands.
-use Rattle.std.specs.Prelude.{◌≡◌, ◌<◌, ◌&&◌, ◌||◌, ◌==◌, ℕ, Bool, not, List}
+use Rattle.std.specs.Prelude.{◌≡◌, ◌<◌, ◌&&◌, ◌||◌, ◌==◌, ℕ, Bool, not, List, Some}
 use Rattle.std.specs.Prelude.{◌++◌, Option}
 use Rattle.std.specs.Option.{option_eq}
+use Rattle.j39_id.specs.declared.frame.Frame.{Frame}
 use Rattle.j39_findings.specs.declared.plan.Plan.{Plan}
 use Rattle.j39_log.specs.LogPairs.{Seen, heard_of}
 use Rattle.j39_log.specs.declared.listeners.Listeners.{Listeners}
@@ -9,7 +10,7 @@ use Rattle.j39_log.specs.inside.Listening.{after_all, listener_of_pair}
 use Rattle.j39_tp.specs.Receiver.{Receiving}
 use Rattle.j39_tp.specs.declared.packet.Packet.{Packet}
 use Rattle.j39_follow.specs.FollowText.{HeardSince}
-use Rattle.j39_follow.specs.Who.{stranger_of, unit_of}
+use Rattle.j39_follow.specs.Who.{IsReplaced, stranger_of, unit_of}
 use Rattle.j39_follow.specs.declared.who.Who.{Who}
 use Rattle.j39_follow.specs.inside.Recounting.{party_at}
 
@@ -36,10 +37,16 @@ is_same_number a b = option_eq (λ x y. x == y) a b
 abbrev pub is_same_party : Who → Who → Bool
 is_same_party a b = is_same_number (unit_of a) (unit_of b) && is_same_number (stranger_of a) (stranger_of b)
 
--- the address has another party
-abbrev pub differs_at : List Who → List Who → ℕ → Bool
-differs_at old new address = not (is_same_party (party_at old address) (party_at new address))
+-- at a frame, after these, this address is the one that another NAME comes to hold, or there is none
+pub record AreReplaced (frames : List Frame) (f : Frame) (replaced : Option ℕ) : Type 0 where
+  pub one : (address : ℕ) → replaced ≡ Some address → IsReplaced frames f address
+  pub only : (address : ℕ) → IsReplaced frames f address → replaced ≡ Some address
+
+-- the address has another party, or this is the one that another NAME has come to hold
+abbrev pub differs_at : List Who → List Who → Option ℕ → ℕ → Bool
+differs_at old new replaced address =
+    not (is_same_party (party_at old address) (party_at new address)) || is_same_number replaced (Some address)
 
 -- one of the two addresses has
-abbrev pub is_changed : List Who → List Who → ℕ → ℕ → Bool
-is_changed old new source destination = differs_at old new source || differs_at old new destination
+abbrev pub is_changed : List Who → List Who → Option ℕ → ℕ → ℕ → Bool
+is_changed old new replaced source destination = differs_at old new replaced source || differs_at old new replaced destination

@@ -10,16 +10,16 @@ use Rattle.j39_follow.specs.Who.{MayHold}
 pub record IsBest (plan : Plan) (many : ℕ) (frames : List Frame) (address u : ℕ) : Type 0 where
   pub unit : UnitPlan
   pub unit_is : slice_get plan.units.items u ≡ Some unit
-  pub may : MayHold frames address unit
-  pub least : (v : ℕ) (other : UnitPlan) → v < many → slice_get plan.units.items v ≡ Some other → MayHold frames address other
+  pub may : MayHold plan frames address u unit
+  pub least : (v : ℕ) (other : UnitPlan) → v < many → slice_get plan.units.items v ≡ Some other → MayHold plan frames address v other
       → unit.name ≤ other.name
-  pub first : (v : ℕ) (other : UnitPlan) → v < u → slice_get plan.units.items v ≡ Some other → MayHold frames address other
+  pub first : (v : ℕ) (other : UnitPlan) → v < u → slice_get plan.units.items v ≡ Some other → MayHold plan frames address v other
       → unit.name < other.name
 
 abbrev pub IsBestOf : Plan → ℕ → List Frame → ℕ → Option ℕ → Type 0
 IsBestOf plan many frames address (Some u) = (u < many) × IsBest plan many frames address u
 IsBestOf plan many frames address None =
-    (v : ℕ) (other : UnitPlan) → v < many → slice_get plan.units.items v ≡ Some other → ¬ MayHold frames address other
+    (v : ℕ) (other : UnitPlan) → v < many → slice_get plan.units.items v ≡ Some other → ¬ MayHold plan frames address v other
 
 -- the NAME is below that of the best unit, if there is one
 abbrev pub IsBelowBest : Plan → ℕ → Option ℕ → Type 0

@@ -1,5 +1,5 @@
 -- What a table of holders keeps, and what it stands for.
-use Rattle.std.specs.Prelude.{◌≡◌, ◌≢◌, ◌⊎◌, ◌==◌, ◌<◌, ℕ, Bool, true, false, List, [], length, Option, Some, None, if◌then◌else◌}
+use Rattle.std.specs.Prelude.{◌≡◌, ◌≢◌, ◌⊎◌, ◌==◌, ◌<◌, ◌≤◌, ℕ, Bool, true, false, List, [], length, Option, Some, None, if◌then◌else◌}
 use Rattle.std.specs.Prelude.{slice_index_or}
 use Rattle.std.specs.List.{slice_get}
 use Rattle.std.specs.declared.alloc.Global.{Global}
@@ -7,8 +7,8 @@ use Rattle.std.specs.declared.vec.Vec.{Vec}
 use Rattle.j39_id.specs.declared.frame.Frame.{Frame}
 use Rattle.j39_findings.specs.declared.plan.Plan.{Plan}
 use Rattle.j39_findings.specs.declared.plan.unit_plan.UnitPlan.{UnitPlan}
-use Rattle.j39_follow.specs.Holders.{Claims, HoldsByFrames, IsTold, TellsOf}
-use Rattle.j39_follow.specs.Who.{IsWho, who_text}
+use Rattle.j39_follow.specs.Holders.{Claims, HoldsByFrames, TellsOf}
+use Rattle.j39_follow.specs.Who.{IsUnitTold, IsWho, is_name_of, who_text}
 use Rattle.j39_follow.specs.declared.directory.Directory.{Directory}
 use Rattle.j39_follow.specs.declared.holders.Holders.{Holders}
 use Rattle.j39_follow.specs.declared.who.Who.{Who}
@@ -18,6 +18,10 @@ use Rattle.j39_follow.specs.declared.who.Who.TheVariants.{Holder}
 abbrev pub is_marked : Holders → ℕ → Bool
 is_marked holders u = slice_index_or holders.told u false
 
+-- how many frames came before the claim by which the address is held
+abbrev pub claimed_at : Holders → ℕ → ℕ
+claimed_at holders address = slice_index_or holders.claimed address 0
+
 -- the table has this NAME at this address
 abbrev pub HasNameAt : Holders → ℕ → ℕ → Type 0
 HasNameAt holders address name = slice_get holders.names address ≡ Some (Some name)
@@ -26,9 +30,10 @@ HasNameAt holders address name = slice_get holders.names address ≡ Some (Some 
 pub record Recounts (plan : Plan) (holders : Holders) (frames : List Frame) : Type 0 where
   pub held : (address name : ℕ) → HasNameAt holders address name → HoldsByFrames frames name address
   pub holds : (address name : ℕ) → HoldsByFrames frames name address → HasNameAt holders address name
-  pub told : (u : ℕ) (unit : UnitPlan) → slice_get plan.units.items u ≡ Some unit → is_marked holders u ≡ true → IsTold frames unit.name
+  pub told : (u : ℕ) (unit : UnitPlan) → slice_get plan.units.items u ≡ Some unit → is_marked holders u ≡ true → IsUnitTold plan frames u unit
   pub untold : (u : ℕ) (unit : UnitPlan) → slice_get plan.units.items u ≡ Some unit → is_marked holders u ≡ false
-      → ¬ IsTold frames unit.name
+      → ¬ IsUnitTold plan frames u unit
+  pub since : (address name : ℕ) (h : HoldsByFrames frames name address) → claimed_at holders address ≡ length h.before
 
 -- the frame tells that the NAME stands at this address, or that it could not claim one
 abbrev pub TellsPlace : Frame → ℕ → Option ℕ → Type 0
@@ -47,16 +52,36 @@ KeepsNameAt old place name a n = (n ≢ name) × (place ≢ Some a) × HasNameAt
 abbrev pub IsNew : Option ℕ → ℕ → ℕ → ℕ → Type 0
 IsNew place name a n = (place ≡ Some a) × (n ≡ name)
 
--- the units of this NAME are marked as told of
+-- the unit of this NAME is marked as told of
 abbrev pub IsMarked : Plan → Holders → Holders → ℕ → Type 0
 IsMarked plan old new name = (u : ℕ) (unit : UnitPlan) → slice_get plan.units.items u ≡ Some unit
-    → is_marked new u ≡ (if unit.name == name then true else is_marked old u)
+    → is_marked new u ≡ (if is_name_of plan u unit name then true else is_marked old u)
 
--- a table in which the NAME was told to stand there
-pub record IsMoved (plan : Plan) (old new : Holders) (name : ℕ) (place : Option ℕ) : Type 0 where
+-- the address where it is told to stand was claimed behind so many frames
+pub record IsClaimedBehind (old new : Holders) (place : Option ℕ) (count : ℕ) : Type 0 where
+  pub here : (a : ℕ) → place ≡ Some a → claimed_at new a ≡ count
+  pub there : (a : ℕ) → place ≢ Some a → claimed_at new a ≡ claimed_at old a
+
+-- a table in which the NAME was told to stand there, behind so many frames
+pub record IsMoved (plan : Plan) (old new : Holders) (name : ℕ) (place : Option ℕ) (count : ℕ) : Type 0 where
   pub held : (a n : ℕ) → HasNameAt new a n → IsNew place name a n ⊎ KeepsNameAt old place name a n
   pub holds : (a n : ℕ) → IsNew place name a n ⊎ KeepsNameAt old place name a n → HasNameAt new a n
   pub marked : IsMarked plan old new name
+  pub claimed : IsClaimedBehind old new place count
+
+-- ---- where units stand
+
+-- the table has a NAME of the unit at this place at the address
+pub record IsHeldByUnit (plan : Plan) (holders : Holders) (u : ℕ) (unit : UnitPlan) (address : ℕ) : Type 0 where
+  pub name : ℕ
+  pub named : HasNameAt holders address name
+  pub name_of : is_name_of plan u unit name ≡ true
+
+-- of the first so many addresses that it has NAMEs of the unit at this is the one that was claimed last, or it has none
+abbrev pub IsLatestBelow : Plan → Holders → ℕ → UnitPlan → ℕ → Option ℕ → Type 0
+IsLatestBelow plan holders u unit many (Some address) = IsHeldByUnit plan holders u unit address
+    × ((other : ℕ) → other < many → IsHeldByUnit plan holders u unit other → claimed_at holders other ≤ claimed_at holders address)
+IsLatestBelow plan holders u unit many None = (other : ℕ) → other < many → ¬ IsHeldByUnit plan holders u unit other
 
 -- ---- who stands behind each address
 

@@ -93,6 +93,7 @@ one_new units planned few few_planned =
         label = record { bytes = letters l; spare = [] };
         address = a;
         name = n;
+        any_identity = false;
         way = Lowest;
         window = 1;
         queue = Priority;
@@ -100,6 +101,7 @@ one_new units planned few few_planned =
         label_form = is_label_of l l_most;
         address_range = omega (arith, a_most);
         name_range = omega (arith, n_most);
+        number_absent = λ any. absurd (true≢false (sym any));
         window_positive = omega arith;
         window_range = omega arith;
         silent_stays = λ silent. absurd (true≢false silent);

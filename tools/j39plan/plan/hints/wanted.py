@@ -53,6 +53,7 @@ def wanted(plan: Source, place: Place, key: str) -> str:
         return f"{rule['type']} {rule['minimum']}..{rule['maximum']}" + WORDS.get(key, "")
     if rule.get("items", {}).get("type") == "integer":
         return f"an array of integers {rule['items']['minimum']}..{rule['items']['maximum']}, each once"
-    kinds = {"array": "an array of tables", "object": "a table", "boolean": "true or false"}
+    header = ".".join(str(part) for part in (*place, key) if isinstance(part, str))
+    kinds = {"array": f"an array of tables: [[{header}]]", "object": "a table", "boolean": "true or false"}
     kind = kinds.get(rule.get("type", ""))
     return f"{kind}{WORDS.get(key, '')}" if kind else f"a text, {rule['description']}"

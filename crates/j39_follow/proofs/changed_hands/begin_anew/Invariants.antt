@@ -7,4 +7,4 @@ use Rattle.j39_follow.proofs.changed_hands.begin_anew.Given as goal
 
 abbrev pub invariant-loop-address : goal.invariant-loop-address
 invariant-loop-address l = (s d : ℕ) → s < 256 → d < 256 → listener_between l.listeners s d
-    ≡ (if is_changed_below l.old l.new l.address s d then fresh Listening else listener_between l.fn.listeners s d)
+    ≡ (if is_changed_below l.old l.new l.replaced l.address s d then fresh Listening else listener_between l.fn.listeners s d)

@@ -1,35 +1,43 @@
-use Rattle.std.proofs.Common.{inl, inr, refl, sym, subst, ◌∙◌}
+use Rattle.std.proofs.Common.{rules, ◌≡◌, ◌<◌, ℕ, length, Some, sym, subst, ◌∙◌}
+use Rattle.std.proofs.lemmas.Option.{slice_get_within}
 use Rattle.std.proofs.lemmas.Result.{IfOk-weaker}
-use Rattle.j39_follow.specs.inside.Recounting.{HasNameAt}
+use Rattle.j39_follow.specs.declared.holders.Holders.{Holders}
+use Rattle.j39_follow.specs.inside.Recounting.{HasNameAt, IsLatestBelow}
+use Rattle.j39_follow.proofs.Standing.{line_nowhere, line_there, line_unclaimed}
 use Rattle.j39_follow.proofs.endings.write_unit.Goals as goal
+
+within : (holders : Holders) → length holders.names ≡ 254 → (b n : ℕ) → HasNameAt holders b n → b < 254
+within holders size b n named = subst (λ (k : ℕ). b < k) size (slice_get_within holders.names b (Some n) named)
 
 pub returns-in-Some : goal.returns-in-Some
 returns-in-Some c =
+    let plan = c.args.plan.now in
+    let holders = c.args.holders.now in
+    let place = c.args.place in
+    let unit = c.args.unit.now in
+    let size : length holders.names ≡ 254 = search rules in
     IfOk-weaker c.write_standing.result _ _
     (λ _ written. λ frames of. (
       _,
-      inl (
-        c.in-Some.address,
-        of.held c.in-Some.address c.args.unit.now.name
-            (subst (HasNameAt c.args.holders.now c.in-Some.address) c.to_bits.ensures.value c.in-Some.ensures.some),
-        refl,
-      ),
+      line_there plan holders place unit frames of 254 c.in-Some.address (within holders size)
+          (subst (IsLatestBelow plan holders place unit 254) c.in-Some.is c.address.ensures),
       written,
     ))
     c.write_standing.ensures
 
 pub returns-then-is_told : goal.returns-then-is_told
 returns-then-is_told c =
+    let plan = c.args.plan.now in
+    let holders = c.args.holders.now in
+    let place = c.args.place in
+    let unit = c.args.unit.now in
+    let size : length holders.names ≡ 254 = search rules in
     IfOk-weaker c.write_nowhere.result _ _
     (λ _ written. λ frames of. (
       _,
-      inr (inl (
-        of.told c.args.place c.args.unit.now c.requires.there (sym c.is_told.ensures ∙ c.if-is_told.true),
-        λ address holds.
-            c.in_default.ensures.none address
-            (subst (HasNameAt c.args.holders.now address) (sym c.to_bits.ensures.value) (of.holds address c.args.unit.now.name holds)),
-        refl,
-      )),
+      line_nowhere plan holders place unit frames of 254 (within holders size)
+          (subst (IsLatestBelow plan holders place unit 254) c.in_default.is c.address.ensures) c.requires.there
+          (sym c.is_told.ensures ∙ c.if-is_told.true),
       written,
     ))
     c.write_nowhere.ensures
@@ -39,7 +47,8 @@ returns-else-is_told c =
     IfOk-weaker c.write_nowhere-else-is_told.result _ _
     (λ _ written. λ frames of. (
       _,
-      inr (inr (of.untold c.args.place c.args.unit.now c.requires.there (sym c.is_told.ensures ∙ c.if-is_told.false), refl)),
+      line_unclaimed c.args.plan.now c.args.holders.now c.args.place c.args.unit.now frames of c.requires.there
+          (sym c.is_told.ensures ∙ c.if-is_told.false),
       written,
     ))
     c.write_nowhere-else-is_told.ensures

@@ -6,4 +6,4 @@ use Rattle.j39_follow.proofs.endings.write_units.Given as goal
 
 abbrev pub invariant-loop-place : goal.invariant-loop-place
 invariant-loop-place l = (frames : List Frame) → Recounts l.plan l.holders frames
-    → (piece : List ℕ) × AreUnitLines frames (take l.place l.plan.units.items) piece × (l.text ≡ l.initial.text ++ piece)
+    → (piece : List ℕ) × AreUnitLines l.plan frames 0 (take l.place l.plan.units.items) piece × (l.text ≡ l.initial.text ++ piece)

@@ -1,6 +1,6 @@
 use Rattle.j39_follow.proofs.directory.Directory.hear.Goals as goal
 
 pub returns : goal.returns
-returns c = λ frames of.
-    let told = c.hear.ensures frames of.recounts in
+returns c = λ frames many of.
+    let told = c.hear.ensures frames many of.recounts in
     record { recounts = told; parties = c.parties_of-all.ensures _ told; names = c.kept_names-names.ensures }

@@ -5,7 +5,7 @@ use Rattle.std.proofs.lemmas.Option.{slice_get_read}
 use Rattle.j39_follow.specs.declared.holders.Holders.{Holders}
 use Rattle.j39_follow.proofs.Tables.{IsMarkedBelow, all_marked, mark_not, mark_this}
 use Rattle.j39_follow.proofs.holders.Holders.mark.Goals as goal
-use Rattle.j39_follow.proofs.holders.Holders.mark.Goals.{then-to_bits-name, else-to_bits-name}
+use Rattle.j39_follow.proofs.holders.Holders.mark.Goals.{then-is_name_of, else-is_name_of}
 
 pub loop-place-preserved : goal.loop-place-preserved
 loop-place-preserved c =
@@ -17,27 +17,31 @@ loop-place-preserved c =
     let test = c.loop-place-test.true in
     let count = c.len-place-end.ensures in
     let at : slice_get units k ≡ Some unit = slice_get_read units (length units) k unit refl (omega (arith, test, count)) c.index.ensures in
-    elim c.if-to_bits-name.branch [
-      | then-to_bits-name w ↦
-          let held = before.2 in
+    elim c.if-is_name_of.branch [
+      | then-is_name_of w ↦
+          let held = before.3 in
           let few = plan.unit_count in
           let room : k < length c.loop-place.self.told = omega (arith, held, few, test, count) in
           subst
-          (λ (h : Holders). IsMarkedBelow plan c.args.self.now.told h.told c.args.name (k + 1) × (h.names ≡ c.args.self.now.names) × (length h.told ≡ 128))
+          (λ (h : Holders). IsMarkedBelow plan c.args.self.now.told h.told c.args.name (k + 1) × (h.names ≡ c.args.self.now.names)
+          × (h.claimed ≡ c.args.self.now.claimed) × (length h.told ≡ 128))
           (sym w.self-is) (
             mark_this plan c.args.self.now.told c.loop-place.self.told unit c.args.name k room at
-                (sym c.to_bits.ensures.value ∙ w.if-to_bits-name.true) before.0,
-            before.1,
-            length-set c.loop-place.self.told k true ∙ held,
-          )
-      | else-to_bits-name w ↦
-          subst
-          (λ (h : Holders). IsMarkedBelow plan c.args.self.now.told h.told c.args.name (k + 1) × (h.names ≡ c.args.self.now.names) × (length h.told ≡ 128))
-          (sym w.self-is) (
-            mark_not plan c.args.self.now.told c.loop-place.self.told unit c.args.name k at
-                (λ e. w.if-to_bits-name.false (c.to_bits.ensures.value ∙ e)) before.0,
+                (sym (c.is_name_of.ensures plan c.unit_named-found.ensures) ∙ w.if-is_name_of.true) before.0,
             before.1,
             before.2,
+            length-set c.loop-place.self.told k true ∙ held,
+          )
+      | else-is_name_of w ↦
+          subst
+          (λ (h : Holders). IsMarkedBelow plan c.args.self.now.told h.told c.args.name (k + 1) × (h.names ≡ c.args.self.now.names)
+          × (h.claimed ≡ c.args.self.now.claimed) × (length h.told ≡ 128))
+          (sym w.self-is) (
+            mark_not plan c.args.self.now.told c.loop-place.self.told unit c.args.name k at
+                (sym (c.is_name_of.ensures plan c.unit_named-found.ensures) ∙ w.if-is_name_of.false) before.0,
+            before.1,
+            before.2,
+            before.3,
           )
     ]
 

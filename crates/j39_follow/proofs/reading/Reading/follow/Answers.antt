@@ -11,6 +11,7 @@ use Rattle.j39_follow.proofs.Heard.{heard_on}
 use Rattle.j39_follow.proofs.Contested.{contests_on}
 use Rattle.j39_follow.proofs.Knowing.{frames_as_well, knows_on}
 use Rattle.j39_follow.proofs.Recounts.{or_left, silent}
+use Rattle.j39_follow.proofs.Replaced.{none_told}
 use Rattle.j39_follow.proofs.reading.Reading.follow.Goals as goal
 
 pub returns-clause-followed : goal.returns-clause-followed
@@ -20,7 +21,7 @@ returns-clause-followed c =
     let directory = c.args.self.now.directory in
     let nothing = silent f (sym c.claims_address.ensures ∙ c.if-claims_address.false) (sym c.cannot_claim.ensures ∙ c.if-cannot_claim.false) in
     IfOk-weaker c.report.result _ _
-    (λ _ reported. λ past of few.
+    (λ _ reported. λ past of few _counted.
     let sent = of.few in
     let room : length past.sent + 2 < 2 ^ 64 = omega (arith, few, sent) in
     let told_so_far = of.few_told in
@@ -46,7 +47,7 @@ returns-clause-followed c =
       knows = subst (λ (d : Directory). Knows plan d (frames_with past.seen f)) (sym c.report.ensures.directory) knows;
       contests = subst (λ (cs : Contests). AreContests plan cs (lines_with past f c.args.time.now)) (sym c.report.ensures.contests) contests;
       heard = heard_on plan past.seen (record { frame = f; packet = w.packet }) directory.parties.all c.report.new.self.listeners
-          of.knows.parties knows.parties w.heard;
+          of.knows.parties knows.parties (none_told (frames_seen past.seen) f nothing) w.heard;
       tally = told.tally;
       noted = told.noted;
     })

@@ -1,5 +1,7 @@
-use Rattle.std.proofs.Common.{◌+◌, ◌<◌, ◌^◌, ◌∷◌, ◌++◌, [], ℕ, List, Option, length, sym, subst, arith}
+use Rattle.std.proofs.Common.{◌≡◌, ◌∙◌, ◌+◌, ◌<◌, ◌^◌, ◌∷◌, ◌++◌, [], ℕ, List, Option, length, sym, subst, arith}
+use Rattle.std.proofs.lemmas.List.{length-map}
 use Rattle.j39_findings.specs.declared.plan.Plan.{Plan}
+use Rattle.j39_log.specs.LogPairs.{Seen}
 use Rattle.j39_follow.specs.FollowText.{frames_seen, lines_with}
 use Rattle.j39_follow.specs.declared.directory.Directory.{Directory}
 use Rattle.j39_follow.specs.Contests.{Timed, frames_of}
@@ -14,7 +16,7 @@ use Rattle.j39_follow.proofs.Heard.{heard_anew}
 use Rattle.j39_follow.proofs.reading.Reading.follow_claim.Goals as goal
 
 pub returns-clause-followed : goal.returns-clause-followed
-returns-clause-followed c = λ past of few.
+returns-clause-followed c = λ past of few counted.
     let plan = c.args.groups.now in
     let f = c.args.frame.now in
     let time : Option ℕ = moment_of c.args.time.now in
@@ -23,9 +25,10 @@ returns-clause-followed c = λ past of few.
     let room : length past.sent + 2 < 2 ^ 64 = omega (arith, few, sent) in
     let told_so_far = of.few_told in
     let room_told : length past.told + 3 < 2 ^ 64 = omega (arith, few, told_so_far) in
+    let many : length (frames_seen past.seen) ≡ length past.seen = length-map past.seen (λ (s : Seen). s.frame) in
     let heard : Knows plan c.hear-2.new.self (frames_with past.seen f) =
     subst (λ (p : Plan). Knows p c.hear-2.new.self (frames_with past.seen f)) c.plan-2.ensures
-    (c.hear-2.ensures (frames_seen past.seen) (subst (λ (p : Plan). Knows p c.args.self.now.directory (frames_seen past.seen)) (sym c.plan-2.ensures) of.knows)) in
+    (c.hear-2.ensures (frames_seen past.seen) (many ∙ counted) (subst (λ (p : Plan). Knows p c.args.self.now.directory (frames_seen past.seen)) (sym c.plan-2.ensures) of.knows)) in
     let first = subst (Knows plan c.args.self.now.directory) (sym of.frames) of.knows in
     let contests : AreContests plan c.hear.new.self log =
     subst (λ (t : Option ℕ). AreContests plan c.hear.new.self (past.timed ++ record { frame = f; time = t } ∷ [])) c.moment.ensures
@@ -53,8 +56,9 @@ returns-clause-followed c = λ past of few.
       text_is = w.text_is;
       knows = knows;
       contests = subst (λ (cs : Contests). AreContests plan cs log) (sym c.in_ok-report.ensures.contests) contests;
-      heard = heard_anew plan past.seen (record { frame = f; packet = w.packet }) c.all_parties-before.result c.all_parties-after.result
-          c.report.new.self.listeners c.begin_anew.new.listeners before after c.begin_anew.ensures w.heard;
+      heard = heard_anew plan past.seen (record { frame = f; packet = w.packet }) c.all_parties-before.result c.all_parties-after.result c.replaced-taken.result
+          c.report.new.self.listeners c.begin_anew.new.listeners before after
+          (c.replaced-taken.ensures (frames_seen past.seen) (c.holder.ensures plan (frames_seen past.seen) of.knows)) c.begin_anew.ensures w.heard;
       tally = told.tally;
       noted = told.noted;
     }

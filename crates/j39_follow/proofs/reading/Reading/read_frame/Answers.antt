@@ -29,7 +29,7 @@ returns-clause-frame c = λ past recalls.
     let m = recalls.remembers in
     let frames = recalls.frames_are in
     let room = c.requires.frames in
-    let done = c.in_ok-follow.ensures.followed past m (omega (arith, frames, room)) in
+    let done = c.in_ok-follow.ensures.followed past m (omega (arith, frames, room)) (sym frames) in
     let same = c.in_ok-follow.ensures.counts in
     let x : Seen = record { frame = f; packet = done.packet } in
     let sorts : List Sort = option_to_list done.ended in
