@@ -17,11 +17,13 @@ from j39plan.fleet import drives
 from j39plan.fleet.drives import Deviation, Drive
 from j39plan.log import clock, message_lines, readings, reports
 from j39plan.log.reports import Acknowledgement, Claim, Request, Who
-from j39plan.plan import answers, parts, places
+from j39plan.plan import answers
 from j39plan.plan.answers import Age, Delay, Finding, Load, Stand
-from j39plan.plan.tables import Flow, Group, Need, Signal, Tables, Text, Top, Unit
+from j39plan.plan.files import text_of
+from j39plan.plan.measures import measure_of
+from j39plan.plan.parts import Source
+from j39plan.plan.tables import Flow, Group, Need, Signal, Tables, Text, Unit
 from j39plan.plan.tables import Request as Asking
-from j39plan.plan.toml_places import Places
 from j39plan.program import Refused
 
 if TYPE_CHECKING:
@@ -59,8 +61,8 @@ class Readings(Mapping[str, Reading]):
         self._said = {label: said for label, _, said in (line.strip().partition(" ") for line in lines)}
 
     def __getitem__(self, label: str) -> Reading:
-        scale = readings.scale_of(self._units.get(label.partition("[")[0], ""))
-        state, value, unit, detail = readings.reading_of(self._said[label], scale)
+        measure = measure_of(self._units.get(label.partition("[")[0], ""))
+        state, value, unit, detail = readings.reading_of(self._said[label], measure)
         return Reading(state, Decimal(value) if value else None, unit, detail)
 
     def __iter__(self) -> Iterator[str]:
@@ -103,9 +105,9 @@ class Plan:
         self.name, self.text = name, text
         with _with_program(), program.file_of(text) as plan:
             self.shown = program.shown(plan)
-        top, tables = Top.of(Places(text)), Tables(self.shown)
-        self.version: int = top.version
-        self.kept: list[int] = top.kept
+        source, tables = Source(text), Tables.shown(self.shown)
+        self.version: int = source.version
+        self.kept: list[int] = source.kept
         self.units: list[Unit] = tables.units
         self.groups: list[Group] = tables.groups
         self.flows: list[Flow] = tables.flows
@@ -120,7 +122,7 @@ class Plan:
     def findings(self) -> list[Finding]:
         """What `check` finds: of each its `text`, as `F8 SignalOverlap ..`, the `line` of the file, a `hint`, and the `steps` of a run that shows
         it. The list is empty where `check` says ok."""
-        return list(answers.findings(places.Plan(self.text), self._answer("check")))
+        return list(answers.findings(Source(self.text), self._answer("check")))
 
     def stands(self) -> dict[str, Stand]:
         """By the labels of units whether each `stays` at its `address` in every run. Empty where the addresses have findings."""
@@ -154,7 +156,7 @@ def read_plan(name: str | os.PathLike[str]) -> Plan:
     """
     name = os.fspath(name)
     with _with_program():
-        return Plan(name, parts.text_of(name))
+        return Plan(name, text_of(name))
 
 
 def follow(plan: Plan, log: str | os.PathLike[str]) -> Iterator[Message | Claim | Request | Acknowledgement]:

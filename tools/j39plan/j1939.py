@@ -1,5 +1,7 @@
-"""Numbers of SAE J1939 that the tools know: bytes of frames, the fields of a NAME, addresses, and the groups by which the network itself
-runs."""
+"""What of SAE J1939 the tools know: bytes of frames, identifiers, the fields of a NAME, addresses, and the groups by which the network
+itself runs."""
+
+import functools
 
 # The most bytes of a message that goes in one frame, and how many a packet of a longer one carries (J1939-21).
 FRAME_BYTES, PACKET_BYTES = 8, 7
@@ -31,3 +33,37 @@ OTHER_SERVICES = frozenset((19712, 19968, 37632, 50944, 51200, 51456, 51712))
 
 # Proprietary groups: A, A2, and the two ranges of B.
 PROPRIETARY = frozenset((61184, 126720, *range(65280, 65536), *range(130816, 131072)))
+
+# How many identifiers of 29 bits there are, and from which PDU format on a frame goes to all (J1939-21).
+IDENTIFIERS, PDU2 = 1 << 29, 240
+
+
+def is_pdu2(pgn: int) -> bool:
+    """Whether frames of a group go to all: their identifiers name no destination."""
+    return pgn >> 8 & 0xFF >= PDU2
+
+
+def without_destination(pgn: int) -> int:
+    """A number without what names the destination in a frame that goes to one unit."""
+    return pgn if is_pdu2(pgn) else pgn & ~0xFF
+
+
+def identifier_of(priority: int, pgn: int, source: int, destination: int = GLOBAL_ADDRESS) -> int:
+    """The identifier of a frame of a group, which names the destination where the group can go to one unit."""
+    return priority << 26 | (pgn & 0x3FFFF | (0 if is_pdu2(pgn) else destination)) << 8 | source
+
+
+@functools.lru_cache(4096)
+def pgn_in(identifier: int) -> int:
+    """The number of the group in an identifier."""
+    return without_destination(identifier >> 8 & 0x3FFFF)
+
+
+def source_in(identifier: int) -> int:
+    """The address in an identifier that sends."""
+    return identifier & 0xFF
+
+
+def destination_in(identifier: int) -> int:
+    """The address in an identifier to which the frame goes, that of all where it names none."""
+    return GLOBAL_ADDRESS if is_pdu2(identifier >> 8) else identifier >> 8 & 0xFF

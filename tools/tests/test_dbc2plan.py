@@ -528,7 +528,7 @@ class Periods(InFolder):
         with contextlib.redirect_stderr(said):
             network = Network(Notes())
             network.add(matrix)
-            plan = to_plan.Plan(network, network.notes, version=version)
+            plan = to_plan.Conversion(network, network.notes, version=version)
             plan.add_units()
             plan.add_frames(network.sent)
         flows = [flow.finished() for flow in plan.flows.values()]
@@ -682,7 +682,7 @@ class Whole(WithDbc):
             with contextlib.redirect_stderr(io.StringIO()):
                 network = Network(Notes())
                 network.add(db)
-                plan = to_plan.Plan(network, network.notes, version=version)
+                plan = to_plan.Conversion(network, network.notes, version=version)
                 plan.add_units()
                 plan.add_frames(network.sent)
             needed += len(plan.needs)

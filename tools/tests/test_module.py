@@ -13,6 +13,7 @@ from decimal import Decimal
 
 import j39plan
 from j39plan import program
+from j39plan.j1939 import identifier_of
 from tests.support import TOOLS, TOP, InFolder, example, run, text_of, without_times
 
 PLAN, LOG = example("tractor_and_implement.toml"), example("tractor_and_implement.start.log")
@@ -221,7 +222,7 @@ class Logs(InFolder):
         group = next(group for group in plan.groups if group.texts and group.length > 8)
         flow = next(flow for flow in plan.flows if flow.group == group.label)
         source = next(unit.address for unit in plan.units if unit.label == flow.sender)
-        message = plan.decode(6 << 26 | group.pgn << 8 | source, b"A" * group.length)
+        message = plan.decode(identifier_of(6, group.pgn, source), b"A" * group.length)
         self.assertEqual((message.group, message.sender.label, message.data), (group.label, flow.sender, "41" * group.length))
         self.assertIn("text", {reading.state for reading in message.signals.values()})
         text = ("version = 1\n" + "".join(f'[[unit]]\nlabel = "{label}"\naddress = {at}\nname = {{ identity = {at} }}\n' for label, at in (("A", 1), ("B", 2)))

@@ -9,9 +9,9 @@ from unittest import mock
 import j39plan
 from j39plan import program
 from j39plan.plan.schema import keys_of
-from j39plan.plan.tables import Flow, Need, Request, Tables, Top
-from j39plan.plan.toml_places import places_of
-from tests.support import InFolder, example, examples, needs, run, text_of
+from j39plan.plan.parts import source_in
+from j39plan.plan.tables import Flow, Need, Request, Tables
+from tests.support import NEWER, InFolder, example, examples, needs, run, text_of
 
 PLAN, LOG = example("tractor_and_implement.toml"), example("tractor_and_implement.start.log")
 
@@ -93,10 +93,20 @@ class OfShow(InFolder):
             if counts:
                 self.assertEqual((len(tables.units), len(tables.groups), len(tables.flows)), tuple(map(int, counts.groups())), name)
 
+    def test_the_text_tells_the_same(self):
+        """What `show` answers is what the text has with the defaults of the schema, and each table is found at its place."""
+        for name in (*examples(".toml"), self.write("least.toml", LEAST), self.write("named.toml", NAMED), self.write("newer.toml", NEWER)):
+            shown, source = Tables.of(name), source_in(name)
+            for part in ("units", "groups", "flows", "needs", "requests", "strangers", "timing"):
+                self.assertEqual(getattr(shown, part), getattr(source.tables, part), f"{name}: {part}")
+            for tables in (shown, source.tables):
+                for table in (*tables.units, *tables.groups, *(signal for group in tables.groups for signal in group.signals)):
+                    self.assertEqual(source.places.texts[table.place + ("label",)], table.label, name)
+
     def test_what_it_does_not_tell(self):
         """Of which version a file is, and in which order it has the addresses that are kept free."""
         plan = self.write("plan.toml", NAMED)
-        self.assertEqual(Top.of(places_of(plan)), Top(4, [202, 201]))
+        self.assertEqual((source_in(plan).version, source_in(plan).kept), (4, [202, 201]))
         self.assertIn("Addresses that no unit may choose: 202, 201.", run("report.py", plan)[1])
         read = j39plan.read_plan(plan)
         self.assertEqual((read.version, read.kept, read.shown), (4, [202, 201], program.shown(plan)))

@@ -10,7 +10,8 @@ import unittest
 
 from j39plan import program
 from j39plan.cli import where
-from j39plan.plan import answer_places, places
+from j39plan.plan import answer_places
+from j39plan.plan.parts import Source
 from tests.support import MARKED, NEWER, TOOLS, TOP, InFolder, example, examples, run, shown_refusals, text_of
 
 CASES = os.path.join(TOP, "crates", "examples_check", "data")
@@ -427,7 +428,7 @@ class Where(InFolder):
         lines = plan.count("\n")
         late = "G from A to all: key deadline: its long messages aren't shown to be whole within it"
         for most, at, hint in (("", lines + 5, "G from A to all: key period: within the deadline, or"), ("most = 9\n", lines + 7, late)):
-            line, told = answer_places.finding(places.Plan(plan + most + flow), "F18 LateFlow 1")
+            line, told = answer_places.finding(Source(plan + most + flow), "F18 LateFlow 1")
             self.assertEqual((line, told[:len(hint)]), (at, hint))
 
     def test_names_in_needs(self):

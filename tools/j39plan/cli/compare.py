@@ -10,7 +10,8 @@ from collections.abc import Iterator
 from j39plan import program
 from j39plan.plan.breaks import Break, Breaks
 from j39plan.plan.differences import Answers, Change, Matched, changes_of
-from j39plan.plan.parts import Source, sources_of
+from j39plan.plan.files import sources_of
+from j39plan.plan.parts import Source
 
 
 def answers_of(source: Source) -> Answers:

@@ -16,7 +16,7 @@ from j39plan import program
 from j39plan.dbc import merge
 from j39plan.dbc.reader import KINDS, Form
 from j39plan.dbc.senders import give_senders
-from j39plan.dbc.to_plan import Plan, addresses_of
+from j39plan.dbc.to_plan import Conversion, addresses_of
 from j39plan.j1939 import NULL_ADDRESS
 from j39plan.left_out import LeftOut, Notes, Unsaid, plain
 from j39plan.plan.text import WRITTEN, text_of
@@ -50,13 +50,13 @@ def chosen(sent: list[Sent], senders: list[str], groups: list[str]) -> list[Sent
     return found
 
 
-def plan_of(given: argparse.Namespace, notes: Notes) -> Plan:
+def plan_of(given: argparse.Namespace, notes: Notes) -> Conversion:
     """The plan that can be made of the files."""
     known = merge.Known(dict(given.same), dict(given.address))
     network = merge.load(given.files, Form(given.bus, given.kind, given.encoding), notes, given.version, known)
     give_senders(network.sent, addresses_of(network, Unsaid()), notes)
     sent = chosen(network.sent, given.sender, given.group)
-    plan = Plan(network, notes, given.strict, given.version, not given.no_needs, given.identity)
+    plan = Conversion(network, notes, given.strict, given.version, not given.no_needs, given.identity)
     plan.add_units()
     plan.add_frames(sent)
     if not plan.units and not plan.groups:
@@ -115,7 +115,7 @@ def options(words: list[str] | None) -> argparse.Namespace:
     return parser.parse_args(words)
 
 
-def made(given: argparse.Namespace, notes: Notes) -> tuple[Plan, str]:
+def made(given: argparse.Namespace, notes: Notes) -> tuple[Conversion, str]:
     """The plan, and its text."""
     names = ", ".join(map(plain, given.files))
     try:

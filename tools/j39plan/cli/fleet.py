@@ -122,7 +122,7 @@ def main(words: list[str] | None = None) -> int:
     plan, logs = plan_of(given.plan, options), different(given.logs)
     tasks: list[Task] = [(*plan, log, os.path.abspath(log), options) for log in largest_first(logs)]
     found, is_whole = gathered(team(given.processes, given.scheduler)(tasks), len(tasks))
-    put(Fleet(Tables(plan[1]), [found[log] for log in logs if log in found]), given.json)
+    put(Fleet(Tables.shown(plan[1]), [found[log] for log in logs if log in found]), given.json)
     if not is_whole:
         program.say(f"interrupted: {len(found)} of {len(logs)} logs are done, and in the table")
         sys.stdout.flush()

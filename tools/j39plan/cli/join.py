@@ -7,7 +7,8 @@ import sys
 
 from j39plan import program
 from j39plan.plan.joining import Join, text_of
-from j39plan.plan.parts import Source, sources_of
+from j39plan.plan.files import sources_of
+from j39plan.plan.parts import Source
 
 
 def different(sources: list[Source]) -> list[Source]:

@@ -4,13 +4,16 @@ Each group is a message for each unit that sends it, and where its identifier ha
 that are told by the same bits are one multiplexed message. What a DBC can't say is listed on standard error.
 """
 
+from __future__ import annotations
+
 import argparse
 import sys
 
 from j39plan import program
-from j39plan.dbc.writer import Dbc
+from j39plan.dbc.writer import Writer
 from j39plan.left_out import Notes
 from j39plan.plan.files import opened
+from j39plan.plan.parts import source_in
 
 
 def options(words: list[str] | None) -> argparse.Namespace:
@@ -28,10 +31,9 @@ def main(words: list[str] | None = None) -> int:
     given, notes = options(words), Notes()
     with opened(given.plan) as plan:
         program.checked(plan)
-        with open(plan, encoding="utf-8") as file:
-            dbc = Dbc(file.read(), notes)
+        dbc = Writer(source_in(plan), notes)
     program.put(dbc.text())
-    print(f"{len(dbc.units)} nodes {len(dbc.messages)} messages, notes {notes.count}", file=sys.stderr)
+    print(f"{len(dbc.names)} nodes {len(dbc.messages)} messages, notes {notes.count}", file=sys.stderr)
     return program.noted(given, notes)
 
 

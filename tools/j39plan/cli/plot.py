@@ -15,10 +15,11 @@ from j39plan import program
 from j39plan.log.clock import SECOND, ends_of
 from j39plan.log.curves import Curve, Timeline, curves_of
 from j39plan.log.files import Log, drive_words, interface_option
-from j39plan.log.readings import Choice, Column, Wanted, parted, scale_of
+from j39plan.log.readings import Choice, Column, Wanted, parted
 from j39plan.log.reports import Counts, follow, tables_of
 from j39plan.plan.cut import cut
 from j39plan.plan.files import opened
+from j39plan.plan.measures import measure_of
 from j39plan.plan.tables import Tables
 
 ENDINGS = (".png", ".svg")
@@ -60,7 +61,7 @@ def names_of(tables: Tables, column: Column) -> dict[float, str]:
     """The names of a signal's values, in the unit that is shown."""
     group = next(group for group in tables.groups if group.label == column[0])
     signal = next(signal for signal in group.signals if signal.label == column[1])
-    return {float(value / scale_of(signal.unit).parts): name for value, name in signal.named_values().items()}
+    return {float(value / measure_of(signal.unit).parts): name for value, name in signal.named_values().items()}
 
 
 def in_order(columns: dict[Column, str], names: list[str]) -> dict[Column, str]:

@@ -11,24 +11,23 @@ import sys
 
 from j39plan import program
 from j39plan.left_out import plain
-from j39plan.plan import page_server, parts
+from j39plan.plan import page_server
 from j39plan.plan.answers import findings, load_of, stands
-from j39plan.plan.files import opened
+from j39plan.plan.files import opened, text_of
 from j39plan.plan.page import page
-from j39plan.plan.places import Plan
-from j39plan.plan.tables import Tables, Top
+from j39plan.plan.parts import source_in
+from j39plan.plan.tables import Tables
 
 
 def page_of(plan: str, title: str) -> str:
     """The page of a plan that can be read."""
     answer = program.checked(plan)
-    with open(plan, "rb") as file:
-        told = Plan(file.read().decode(errors="replace"))
+    told = source_in(plan)
     _, addresses = program.call(["addresses", "--", plan])
     load = load_of(program.call(["load", "--", plan])[1])
     found = list(findings(told, answer))
     version = program.call(["--version"])[1].strip()
-    return page(title, Top.of(told.places), Tables.of(plan), found, stands(addresses), load, version)
+    return page(title, told, Tables.of(plan), found, stands(addresses), load, version)
 
 
 def title_of(name: str) -> str:
@@ -44,7 +43,7 @@ def page_of_file(name: str) -> str:
 
 def drawn(name: str) -> str:
     """The page of a plan's file; of one that can't be read it is said with its line why."""
-    with program.file_of(parts.text_of(name)) as plan:
+    with program.file_of(text_of(name)) as plan:
         return page_of(plan, title_of(name))
 
 

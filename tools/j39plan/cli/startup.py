@@ -10,16 +10,13 @@ import sys
 from collections.abc import Iterable
 
 from j39plan import program
-from j39plan.j1939 import FRAME_BYTES, NULL_ADDRESS, PACKET_BYTES, POOL
+from j39plan.j1939 import FRAME_BYTES, NULL_ADDRESS, PACKET_BYTES, POOL, is_pdu2
 from j39plan.plan.answers import stands
 from j39plan.plan.files import opened
-from j39plan.plan.schema import default_of
-from j39plan.plan.toml_places import Place, Places, places_of
+from j39plan.plan.parts import source_in
+from j39plan.plan.tables import Flow, Group, Tables
 
 Frame = tuple[str, str]
-
-# How many packets a unit permits at a time, where no key says it.
-WINDOW = default_of("unit", "window")
 
 
 class Schedule:
@@ -78,14 +75,12 @@ def claim_of(frame: Frame) -> tuple[int, int]:
     return int.from_bytes(bytes.fromhex(payload), "little"), int(identifier[-2:], 16)
 
 
-def units_on(plan: str, labels: list[str], order: list[str]) -> dict[str, Unit | None]:
-    """The units of these labels, once they are switched on in an order; None of those that never claim, and so answer nothing."""
-    places = places_of(plan)
-    ways = {label: places.texts.get(("unit", number, "chooser")) == "upward" for number, label in enumerate(labels, 1)}
-    silent = {label for number, label in enumerate(labels, 1) if places.spelled.get(("unit", number, "claims")) == "false"}
+def units_on(plan: str, order: list[str]) -> dict[str, Unit | None]:
+    """The units, once they are switched on in an order; None of those that never claim, and so answer nothing."""
+    source = source_in(plan)
+    units, kept = {unit.label: unit for unit in source.tables.units}, frozenset(source.kept)
     frames = iter(frames_of(program.run(plan, [f"up {label}" for label in order])))
-    kept = frozenset(places.integer(place) for place in places.elements(("keep_free",)))
-    return {label: None if label in silent else Unit(next(frames), ways[label], kept) for label in order}
+    return {label: Unit(next(frames), units[label].chooser == "upward", kept) if units[label].claims else None for label in order}
 
 
 def start_up(units: dict[str, Unit | None], schedule: Schedule) -> None:
@@ -116,30 +111,23 @@ def settled(plan: str, schedule: Schedule) -> list[str]:
     return [line for line in lines if line.startswith(("unit ", "settled"))]
 
 
-def blank(places: Places, group: Place) -> bytes:
+def blank(group: Group) -> bytes:
     """The shortest message of a group, of bytes FF but for the bits that tell it from others."""
-    length, when = places.integer(group + ("length",)), group + ("when",)
-    number = (1 << 8 * length) - 1
-    if when in places.lines:
-        start = 8 * (places.integer(when + ("byte",)) - 1) + (places.number(when + ("bit",)) or default_of("when", "bit")) - 1
-        bits = (1 << places.integer(when + ("bits",))) - 1
-        number = number & ~(bits << start) | places.integer(when + ("value",)) << start
-    return number.to_bytes(length, "little")
+    number, when = (1 << 8 * group.length) - 1, group.when
+    if when:
+        number = number & ~((1 << when.bits) - 1 << when.span.start) | when.value << when.span.start
+    return number.to_bytes(group.length, "little")
 
 
-class Message:
+class Sending:
     """The shortest message of a flow: which flow it is, who sends it and who hears it."""
 
-    def __init__(self, places: Places, number: int, flow: Place, labels: list[str]) -> None:
-        self.number = number
-        group, self.sender, self.to = (places.texts[flow + (key,)] for key in ("group", "from", "to"))
+    def __init__(self, flow: Flow, group: Group, labels: list[str]) -> None:
+        self.number, self.sender, self.to = flow.number, flow.sender, flow.to
         is_to_all = self.to == "all"
         self.receivers = [label for label in labels if label != self.sender] if is_to_all else [self.to]
-        of = next(place for place in places.elements(("group",)) if places.texts[place + ("label",)] == group)
-        self.data = blank(places, of)
-        most = places.number(of + ("most",)) or len(self.data)
-        is_pdu2 = places.integer(of + ("pgn",)) >> 8 & 0xFF >= 240
-        self.can_go = is_to_all or (self.to != self.sender and not (is_pdu2 and most <= FRAME_BYTES))
+        self.data = blank(group)
+        self.can_go = is_to_all or (self.to != self.sender and not (is_pdu2(group.pgn) and group.most <= FRAME_BYTES))
 
     def steps(self, windows: dict[str, int]) -> list[str]:
         """The steps by which it is sent and heard: a frame at once, to all by a broadcast, to one unit by what this one permits."""
@@ -160,17 +148,16 @@ class Message:
         return [*steps, answer, rest]
 
 
-def traffic(plan: str, labels: list[str], addressed: set[str], schedule: Schedule) -> list[int]:
+def traffic(tables: Tables, addressed: set[str], schedule: Schedule) -> list[int]:
     """Adds the steps by which each flow sends one message; the numbers of the flows that can't: their group can't go to one unit, or the
     sender or the one receiver has no address."""
-    places = places_of(plan)
-    windows = {label: places.number(("unit", number, "window")) or WINDOW for number, label in enumerate(labels, 1)}
+    windows, groups = {unit.label: unit.window for unit in tables.units}, {group.label: group for group in tables.groups}
     left_out = []
-    for number, flow in enumerate(places.elements(("flow",)), 1):
-        message = Message(places, number, flow, labels)
+    for flow in tables.flows:
+        message = Sending(flow, groups[flow.group], list(windows))
         ends = {message.sender} if message.to == "all" else {message.sender, message.to}
         if not message.can_go or not ends <= addressed:
-            left_out.append(number)
+            left_out.append(flow.number)
             continue
         for step in message.steps(windows):
             schedule.add(step)
@@ -216,9 +203,9 @@ def main(words: list[str] | None = None) -> int:
     schedule = Schedule(f"Start-up of {given.plan}: all units are switched on, and every claim is delivered{then}.")
     with opened(given.plan) as plan:
         labels = program.labels_of(plan)
-        start_up(units_on(plan, labels, ordered(labels, given.first)), schedule)
+        start_up(units_on(plan, ordered(labels, given.first)), schedule)
         ends = settled(plan, schedule)
-        left_out = traffic(plan, labels, addressed_in(ends), schedule) if given.traffic else []
+        left_out = traffic(Tables.of(plan), addressed_in(ends), schedule) if given.traffic else []
         ends = told(settled(plan, schedule), sure_of(plan))
     print("\n".join(schedule.lines))
     print("\n".join([*ends, *(f"flow {number} can't be sent" for number in left_out)]), file=sys.stderr)

@@ -11,7 +11,7 @@ from j39plan.plan.answer_objects import check_object
 from j39plan.plan.answer_places import Placed, placed
 from j39plan.plan.further_faults import further_faults
 from j39plan.plan.hints.lint import Lint
-from j39plan.plan.toml_places import places_of
+from j39plan.plan.parts import source_in
 
 # How an answer with a place is written: of file, line, text and the lines that belong to it.
 Form = Callable[[str, int, str, list[str]], list[str]]
@@ -54,7 +54,7 @@ def github_notice(file: str, line: int, text: str, _: list[str]) -> list[str]:
 
 def hints_of(plan: str) -> list[Placed]:
     """The hints at a plan that can be read."""
-    return [Placed(line, f"hint {text}", "", []) for line, text in Lint(places_of(plan)).hints()]
+    return [Placed(line, f"hint {text}", "", []) for line, text in Lint(source_in(plan)).hints()]
 
 
 def lines_of(name: str, hints: list[Placed], parts: list[Placed], github: bool) -> list[str]:

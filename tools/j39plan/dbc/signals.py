@@ -50,7 +50,7 @@ def values_of(kind: str, bits: int) -> tuple[int, int]:
     return 0, max(0, most - reserved.get(kind, 0))
 
 
-class Scale(NamedTuple):
+class Steps(NamedTuple):
     """A value is (offset + step * raw) / parts."""
 
     step: int
@@ -89,7 +89,7 @@ def exactly(value: object) -> Fraction | None:
     return Fraction(number)
 
 
-def scale_of(signal: canmatrix.Signal) -> Scale:
+def steps_of(signal: canmatrix.Signal) -> Steps:
     """Step and offset of a signal, exactly, with the denominator of both."""
     factor, offset = exactly(signal.factor), exactly(signal.offset)
     parts = lcm(factor.denominator if factor else 1, offset.denominator if offset else 1)
@@ -97,7 +97,7 @@ def scale_of(signal: canmatrix.Signal) -> Scale:
         raise LeftOut(f"factor {signal.factor} is no step of 1 to {STEP}")
     if offset is None or abs(offset * parts) > OFFSET:
         raise LeftOut(f"offset {signal.offset} is above 10^12")
-    return Scale(int(factor * parts), int(offset * parts), parts)
+    return Steps(int(factor * parts), int(offset * parts), parts)
 
 
 def unit_of(signal: canmatrix.Signal, parts: int) -> str:
@@ -460,7 +460,7 @@ class Signals:
         """The table of a signal."""
         if len(self.signals) == SIGNALS:
             raise LeftOut(f"a group has at most {SIGNALS} signals")
-        start, scale = place_of(signal, self.version), scale_of(signal)
+        start, scale = place_of(signal, self.version), steps_of(signal)
         per = scale.parts if knows(self.version, ("signal", "per")) and scale.parts <= PER else 1
         unit = unit_of(signal, scale.parts // per)
         self.check_place(signal, frame, start)

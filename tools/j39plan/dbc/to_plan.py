@@ -188,7 +188,7 @@ class Flow:
         return self.table
 
 
-class Plan:
+class Conversion:
     """A plan in the making."""
 
     def __init__(self, network: Network, notes: Notes, strict: bool = False, version: int = WRITTEN[-1], with_needs: bool = True,

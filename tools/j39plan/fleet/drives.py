@@ -233,7 +233,7 @@ def empty(log: str) -> Drive:
 @lru_cache(maxsize=1)
 def tables_of(shown: str) -> Tables:
     """The tables of a plan by what `show` answers of it, which is the same for all logs of a fleet."""
-    return Tables(shown)
+    return Tables.shown(shown)
 
 
 def drive_of(plan: str, shown: str, log: str, path: str, options: list[str]) -> Drive:

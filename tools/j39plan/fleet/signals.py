@@ -6,7 +6,8 @@ import re
 from typing import NamedTuple
 
 from j39plan.log.clock import SECOND
-from j39plan.log.readings import reading_of, scale_of
+from j39plan.log.readings import reading_of
+from j39plan.plan.measures import measure_of
 from j39plan.plan.tables import Tables
 
 # How many lines of signals are counted before they are looked at.
@@ -43,7 +44,7 @@ class Signals:
     """Between which values signals were, those of planned flows apart from all others, and trouble codes."""
 
     def __init__(self, tables: Tables) -> None:
-        self._scales = {(group.label, signal.label): scale_of(signal.unit) for group in tables.groups for signal in group.signals}
+        self._scales = {(group.label, signal.label): measure_of(signal.unit) for group in tables.groups for signal in group.signals}
         self._counts: dict[tuple[bool, str, bytes], list[int]] = {}
         self._found: dict[bool, dict[str, Spread]] = {True: {}, False: {}}
         self._codes: dict[tuple[int, int, str, str], Code] = {}

@@ -4,7 +4,9 @@ from __future__ import annotations
 
 from collections.abc import Iterator
 
-from j39plan.j1939 import CONNECTION_MANAGEMENT, DATA_TRANSFER, FRAME_BYTES, GLOBAL_ADDRESS, PACKET_BYTES
+from j39plan.j1939 import (
+    CONNECTION_MANAGEMENT, DATA_TRANSFER, FRAME_BYTES, GLOBAL_ADDRESS, IDENTIFIERS, PACKET_BYTES, destination_in, identifier_of, pgn_in, source_in,
+)
 
 # The most bytes of a message, the priority of the transport protocol's frames, and how far apart they are here, in ms.
 BYTES, PRIORITY, DISTANCE = 1785, 7, 50
@@ -13,31 +15,24 @@ BYTES, PRIORITY, DISTANCE = 1785, 7, 50
 RTS, CTS, END, BAM = 16, 17, 19, 32
 
 
-def identifier(pgn: int, destination: int, source: int) -> int:
-    """The identifier of a frame of the transport protocol."""
-    return PRIORITY << 26 | pgn << 8 | destination << 8 | source
-
-
 def frames_of(ident: int, data: bytes) -> Iterator[tuple[int, bytes]]:
     """The frames of a message: its identifier is that of a single frame of its group. Raises ValueError where there is no such message."""
-    if not 0 <= ident < 1 << 29 or len(data) > BYTES:
+    if not 0 <= ident < IDENTIFIERS or len(data) > BYTES:
         raise ValueError(f"no message of {len(data)} bytes has the identifier {ident:#x}")
     if len(data) <= FRAME_BYTES:
         yield ident, data
         return
-    source, is_to_one = ident & 0xFF, (ident >> 16 & 0xFF) < 240
-    destination = ident >> 8 & 0xFF if is_to_one else GLOBAL_ADDRESS
-    group = (ident >> 8 & 0x3FFFF & (~0xFF if is_to_one else ~0)).to_bytes(3, "little")
+    source, destination, group = source_in(ident), destination_in(ident), pgn_in(ident).to_bytes(3, "little")
     packets = [data[at:at + PACKET_BYTES] for at in range(0, len(data), PACKET_BYTES)]
     about, count = len(data).to_bytes(2, "little"), len(packets)
-    manages, answers = (identifier(CONNECTION_MANAGEMENT, *ends) for ends in ((destination, source), (source, destination)))
+    manages, answers = (identifier_of(PRIORITY, CONNECTION_MANAGEMENT, *ends) for ends in ((source, destination), (destination, source)))
     if destination == GLOBAL_ADDRESS:
         yield manages, bytes((BAM, *about, count, 0xFF, *group))
     else:
         yield manages, bytes((RTS, *about, count, 0xFF, *group))
         yield answers, bytes((CTS, count, 1, 0xFF, 0xFF, *group))
     for number, packet in enumerate(packets, 1):
-        yield identifier(DATA_TRANSFER, destination, source), bytes((number, *packet.ljust(PACKET_BYTES, b"\xff")))
+        yield identifier_of(PRIORITY, DATA_TRANSFER, source, destination), bytes((number, *packet.ljust(PACKET_BYTES, b"\xff")))
     if destination != GLOBAL_ADDRESS:
         yield answers, bytes((END, *about, count, 0xFF, *group))
 

@@ -2,16 +2,13 @@
 
 import difflib
 import os
-import re
 from collections.abc import Callable, Iterable
 from decimal import Context, Decimal
 from typing import Generic, NamedTuple, TypeVar
 
 from j39plan import program
+from j39plan.plan.measures import Measure, measure_of
 from j39plan.plan.tables import Tables
-
-# A unit of measurement that has the fraction of a value, as `1/8 rpm`.
-PARTS = re.compile(r"1/([1-9]\d{0,11})(?: (.*))?")
 
 EXACT = Context(prec=80)
 
@@ -37,33 +34,12 @@ Made = TypeVar("Made")
 Told = list[tuple[str, Made]]
 
 
-class Scale(NamedTuple):
-    """The unit of measurement as the plan has it, what a value is divided by to be in the one that is shown, and that one."""
-
-    planned: str
-    parts: int
-    unit: str
-
-
-def is_decimal(parts: int) -> bool:
-    """Whether what is divided by this has decimals that come to an end."""
-    return 10 ** 40 % parts == 0
-
-
-def scale_of(unit: str) -> Scale:
-    """The scale of a planned unit: `1/8 rpm` is divided by 8, and is rpm."""
-    found = PARTS.fullmatch(unit)
-    if found is None or not is_decimal(int(found.group(1))):
-        return Scale(unit, 1, unit)
-    return Scale(unit, int(found.group(1)), found.group(2) or "")
-
-
 def divided(spelled: str, parts: int) -> str:
     """A decimal number divided, exactly."""
     return spelled if parts == 1 else f"{EXACT.divide(Decimal(spelled), Decimal(parts)):f}"
 
 
-def reading_of(said: str, scale: Scale) -> Reading:
+def reading_of(said: str, scale: Measure) -> Reading:
     """The reading that `follow` tells of a signal."""
     state, _, behind = said.partition(" ")
     if state == "text":
@@ -97,10 +73,10 @@ class Choice:
     """The signals and texts that are wanted, each by its group and label, with the unit that is shown; where no name is given all, or nothing."""
 
     def __init__(self, tables: Tables, names: Iterable[str], nothing: bool = False) -> None:
-        self.scales: dict[Column, Scale] = {}
+        self.scales: dict[Column, Measure] = {}
         for group in tables.groups:
-            self.scales.update(((group.label, signal.label), scale_of(signal.unit)) for signal in group.signals)
-            self.scales.update(((group.label, text.label), scale_of("")) for text in group.texts)
+            self.scales.update(((group.label, signal.label), measure_of(signal.unit)) for signal in group.signals)
+            self.scales.update(((group.label, text.label), measure_of("")) for text in group.texts)
         self.texts = {(group.label, text.label) for group in tables.groups for text in group.texts}
         self.named = {(group.label, signal.label) for group in tables.groups for signal in group.signals if signal.values}
         wanted = set(names)
@@ -119,7 +95,7 @@ class Readings(dict[str, Made]):
     """What is made of what lines of `follow` say behind the label of a signal of this scale, with the line feed. So much is kept, since signals
     repeat themselves."""
 
-    def __init__(self, scale: Scale, make: Callable[[Reading], Made], most: int) -> None:
+    def __init__(self, scale: Measure, make: Callable[[Reading], Made], most: int) -> None:
         super().__init__()
         self._scale, self._make, self._most = scale, make, most
 
@@ -133,7 +109,7 @@ class Readings(dict[str, Made]):
 class Known(dict[str, Readings[Made] | None]):
     """Of a group the readings of each label that `follow` writes, None where they aren't wanted."""
 
-    def __init__(self, group: str, choice: Choice, readings: dict[Scale, Readings[Made]]) -> None:
+    def __init__(self, group: str, choice: Choice, readings: dict[Measure, Readings[Made]]) -> None:
         super().__init__()
         self._group, self._choice, self._readings = group, choice, readings
 

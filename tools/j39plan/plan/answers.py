@@ -5,7 +5,7 @@ from typing import NamedTuple
 
 from j39plan.plan.answer_grammar import Line, line_of, lines_of
 from j39plan.plan.answer_places import finding, parted
-from j39plan.plan.places import Plan
+from j39plan.plan.parts import Source
 
 
 class Finding(NamedTuple):
@@ -53,7 +53,7 @@ class Load(NamedTuple):
     ages: list[Age] = []
 
 
-def findings(plan: Plan, answer: str) -> Iterator[Finding]:
+def findings(plan: Source, answer: str) -> Iterator[Finding]:
     """The findings of `check`, each with its line, a hint, and the steps of a run that shows it."""
     for line, *below in parted(answer):
         if line_of(line).kind == "finding":

@@ -10,10 +10,11 @@ from collections.abc import Iterator
 from typing import Any, NamedTuple
 
 from j39plan.plan.answer_places import Placed
-from j39plan.plan.schema import VERSIONS, schema
-from j39plan.plan.places import Plan
 from j39plan.plan.hints.refusals import missing_key, unlisted_key, value_fault
 from j39plan.plan.hints.text_faults import Told, faulty_statement, is_no_toml, statement_fault
+from j39plan.plan.hints.wanted import listed
+from j39plan.plan.parts import Source
+from j39plan.plan.schema import VERSIONS, schema
 from j39plan.plan.toml_places import MARK, Place, Places
 
 # So many statements that are no TOML are passed over.
@@ -78,17 +79,17 @@ def by_schema(text: str, left_out: set[str]) -> list[Told]:
         return []
     if values.get("version") not in VERSIONS:
         return []
-    plan, types = Plan(text), Draft7Validator.TYPE_CHECKER.redefine("integer", lambda _, value: type(value) is int)  # 10.0 is none
+    plan, types = Source(text), Draft7Validator.TYPE_CHECKER.redefine("integer", lambda _, value: type(value) is int)  # 10.0 is none
     validator = validators.extend(Draft7Validator, type_checker=types)(schema())
     faults = dict.fromkeys(fault for error in validator.iter_errors(values) for fault in faults_of(error))
     unlisted = {fault.table: told_of(plan, fault)[1] or "" for fault in faults if fault.cause == "UnknownKey"}
     return [told_of(plan, fault) for fault in faults if fault.cause != "Missing" or not is_explained(plan, fault, left_out, unlisted)]
 
 
-def is_explained(plan: Plan, fault: Fault, left_out: set[str], unlisted: dict[Place, str]) -> bool:
+def is_explained(plan: Source, fault: Fault, left_out: set[str], unlisted: dict[Place, str]) -> bool:
     """Whether a key isn't there since it was left out, is misspelled, or isn't known to the plan's version."""
     is_misspelled = unlisted.get(fault.table, "").endswith(f"; did you mean {fault.key}?")
-    return fault.key in left_out or is_misspelled or fault.key not in plan.listed(fault.table)
+    return fault.key in left_out or is_misspelled or fault.key not in listed(plan, fault.table)
 
 
 def faults_of(error: Any) -> Iterator[Fault]:
@@ -113,10 +114,10 @@ def faults_of(error: Any) -> Iterator[Fault]:
         yield Fault(table, key, cause)
 
 
-def told_of(plan: Plan, fault: Fault) -> Told:
+def told_of(plan: Source, fault: Fault) -> Told:
     """The line of a fault, and a hint."""
     if fault.cause == "Missing":
         return missing_key(plan, fault.table, fault.key)
-    if fault.key not in plan.listed(fault.table):
+    if fault.key not in listed(plan, fault.table):
         return unlisted_key(plan, fault.table, fault.key)
     return value_fault(plan, fault.table, fault.key, fault.cause)

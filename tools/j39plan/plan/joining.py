@@ -5,7 +5,7 @@ from __future__ import annotations
 from collections.abc import Iterable, Iterator
 from typing import NamedTuple
 
-from j39plan.j1939 import FRAME_BYTES, PROPRIETARY
+from j39plan.j1939 import FRAME_BYTES, PROPRIETARY, is_pdu2
 from j39plan.left_out import plain
 from j39plan.plan import scales
 from j39plan.plan.parts import Part, Source, spelled
@@ -321,7 +321,7 @@ class Join:
 
 def names_no_receiver(group: Part) -> bool:
     """Whether messages of a group may go in a frame whose identifier names no receiver."""
-    return group.number("pgn") >> 8 & 255 >= 240 and group.number("length") <= FRAME_BYTES
+    return is_pdu2(group.number("pgn")) and group.number("length") <= FRAME_BYTES
 
 
 def name_in(unit: Part | Merged) -> dict[str, Value]:

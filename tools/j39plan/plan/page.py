@@ -9,7 +9,8 @@ from itertools import groupby
 from j39plan.j1939 import NAME_FIELDS
 from j39plan.plan.answers import Delay, Finding, Load, Stand
 from j39plan.plan.page_style import STYLE
-from j39plan.plan.tables import Flow, Group, Signal, Tables, Text, Top, Unit, serves
+from j39plan.plan.parts import Source
+from j39plan.plan.tables import Flow, Group, Signal, Tables, Text, Unit, serves
 
 # How many receivers stand beside one another, so that a matrix fits on a sheet of paper.
 RECEIVERS = 8
@@ -69,7 +70,7 @@ def standing(unit: Unit, stands: dict[str, Stand]) -> str:
     return "in every run" if stands[unit.label].stays else "may move"
 
 
-def unit_section(top: Top, tables: Tables, stands: dict[str, Stand]) -> str:
+def unit_section(source: Source, tables: Tables, stands: dict[str, Stand]) -> str:
     """The units with the fields of their NAMEs and where they stand."""
     units = tables.units
     if not units:
@@ -83,7 +84,7 @@ def unit_section(top: Top, tables: Tables, stands: dict[str, Stand]) -> str:
         row(escape(unit.label), [f"<code>{unit.name}</code>", *(str(unit.fields.get(key, "any")) for key in FIELDS)])
         for unit in units
     ]
-    kept = ", ".join(map(str, top.kept))
+    kept = ", ".join(map(str, source.kept))
     heads = ("Unit", "Planned address", "Keeps it", "Address capability", "New address", "Packets per CTS")
     parts = [
         table("Units and where they stand", heads, where),
@@ -327,11 +328,11 @@ def load_section(tables: Tables, load: Load) -> str:
     return section("load", "Load", parts)
 
 
-def page(title: str, top: Top, tables: Tables, found: list[Finding], stands: dict[str, Stand], load: Load | None, version: str) -> str:
+def page(title: str, source: Source, tables: Tables, found: list[Finding], stands: dict[str, Stand], load: Load | None, version: str) -> str:
     """The whole page. The title is the name of the plan's file; a plan that says nothing of the bus has no load."""
     heading, title = escape(os.path.basename(title)), escape(title)
     counts = f"{len(tables.units)} units, {len(tables.groups)} groups, {len(tables.flows)} flows, findings: {len(found)}"
-    sections = {"findings": finding_section(title, found), "units": unit_section(top, tables, stands), "flows": flow_section(tables),
+    sections = {"findings": finding_section(title, found), "units": unit_section(source, tables, stands), "flows": flow_section(tables),
                 **({"needs": need_section(tables, load)} if tables.needs else {}),
                 **({"requests": request_section(tables)} if tables.requests else {}),
                 **({"load": load_section(tables, load)} if load else {}), "groups": group_section(tables)}
@@ -351,7 +352,7 @@ def page(title: str, top: Top, tables: Tables, found: list[Finding], stands: dic
 <a class="skip" href="#content">To the content</a>
 <header>
 <h1>Plan {heading}</h1>
-<p>Version {top.version} of the format: {counts}.</p>
+<p>Version {source.version} of the format: {counts}.</p>
 <nav aria-label="Sections"><ul>{links}</ul></nav>
 </header>
 <main id="content">

@@ -7,28 +7,60 @@ from __future__ import annotations
 
 import json
 import re
-from collections.abc import Iterable
+from functools import cached_property
 
-from j39plan import program
-from j39plan.plan.files import refused_at
 from j39plan.plan.schema import Value, keys_of, schema
-from j39plan.plan.toml_places import Place, Places
+from j39plan.plan.tables import Tables
+from j39plan.plan.toml_places import Place, Places, table_of
 
 # A comment at the end of a line, behind what isn't in quotation marks.
 COMMENT = re.compile(r"""(?:[^"'#]|"(?:\\.|[^"\\])*"|'[^']*')*#[ \t]*(.*?)\s*$""")
 
 
 class Source:
-    """A plan's file: its name, and where its tables and keys stand."""
+    """A plan's text, where its tables and keys stand, and the name of its file."""
 
-    def __init__(self, name: str, text: str) -> None:
+    def __init__(self, text: str, name: str = "") -> None:
         self.name, self.text, self.places = name, text, Places(text)
         self._lines = text.split("\n")
         self._keys: dict[Place, list[str]] = {}
         for place in self.places.lines:
             if place and isinstance(place[-1], str):
                 self._keys.setdefault(place[:-1], []).append(place[-1])
-        self.top = Part(self, "", ())
+        self.labels = {
+            (place[:-2], label): place[:-1]
+            for place, label in reversed(self.places.texts.items())
+            if place[-1] == "label" and len(place) > 2
+        }
+
+    @cached_property
+    def top(self) -> Part:
+        """The table that stands before all others, with those in it."""
+        return Part(self, "", ())
+
+    @cached_property
+    def tables(self) -> Tables:
+        """The tables of a text that can be read as a plan."""
+        tables = [place for place in self.places.lines if not place or table_of(place) in schema()["definitions"]]
+        return Tables({" ".join(map(str, place)) or "top": Part(self, table_of(place), place) for place in tables})
+
+    @property
+    def version(self) -> int:
+        """The version of the format."""
+        return self.top.number("version")
+
+    @property
+    def kept(self) -> list[int]:
+        """The addresses that are kept free, in the order of the text, which `show` doesn't tell."""
+        return [address for address in self.top.values("keep_free") if isinstance(address, int)]
+
+    def line(self, place: Place) -> int:
+        """The line of a place."""
+        return self.places.line(place)
+
+    def labelled(self, array: Place, label: str) -> Place:
+        """The place of the array's first element of this label."""
+        return self.labels.get((array, label), array)
 
     def __getitem__(self, array: str) -> list[Part]:
         """The tables of an array of the top: `unit`, `group`, `flow` and others."""
@@ -101,6 +133,20 @@ class Part:
         value = self[key]
         return value if isinstance(value, int) else 0
 
+    def number_if_any(self, key: str) -> int | None:
+        """The integer of a key, None where it has none."""
+        value = self[key]
+        return value if isinstance(value, int) else None
+
+    def is_true(self, key: str) -> bool:
+        """Whether a key is true."""
+        return self[key] is True
+
+    def names(self) -> dict[int, str]:
+        """The names of raw numbers."""
+        values = self["values"]
+        return {int(raw): str(name) for raw, name in values.items()} if isinstance(values, dict) else {}
+
     def values(self, key: str) -> list[Value]:
         """The elements of a key, none where it has none."""
         value = self[key]
@@ -120,6 +166,12 @@ class Part:
         return f"{self.source.name}:{self.line(key)}"
 
 
+def source_in(name: str) -> Source:
+    """The text in a plan's file, which is no pipe."""
+    with open(name, encoding="utf-8", errors="replace") as file:
+        return Source(file.read())
+
+
 def spelled(value: Value) -> str:
     """A value as TOML spells it; one that isn't there in words."""
     if value is None:
@@ -131,34 +183,3 @@ def spelled(value: Value) -> str:
     if isinstance(value, list):
         return "[" + ", ".join(map(spelled, value)) + "]"
     return json.dumps(value)
-
-
-def text_of(name: str) -> str:
-    """The text of a plan's file, which may be a pipe. One that `check` can't read is refused, with the line where it is no plan."""
-    with program.copied(name) as copy:
-        status, answer = program.call(["check", "--", copy])
-        with open(copy, "rb") as file:
-            data = file.read()
-    text = data.decode(errors="replace")
-    if status in (0, 1):
-        return text
-    if status != program.UNREADABLE or not answer:
-        raise program.Refused(status, f"{name}: it can't be read as a plan")
-    raise program.Refused(status, refused_at(name, data, answer.strip()))
-
-
-def sources_of(names: Iterable[str]) -> list[Source]:
-    """The plans of several files; each that is none is said by its name."""
-    sources, worst = [], 0
-    for name in names:
-        try:
-            sources.append(Source(name, text_of(name)))
-        except program.Refused as refused:
-            program.say(refused)
-            worst = max(worst, refused.status)
-        except OSError as fault:
-            program.say(f"{name}: {fault.strerror}")
-            worst = max(worst, program.DEVICE)
-    if worst:
-        raise program.Refused(worst)
-    return sources

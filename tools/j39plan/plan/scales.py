@@ -6,7 +6,7 @@ from collections.abc import Hashable
 from fractions import Fraction
 from typing import NamedTuple
 
-from j39plan.log.readings import scale_of
+from j39plan.plan.measures import measure_of
 from j39plan.plan.parts import Part
 
 # The keys of a signal that its place and its scale are made of.
@@ -32,7 +32,7 @@ class Scale(NamedTuple):
 
 def scale(signal: Part) -> Scale:
     """The scale of a signal: that of `1/8 rpm` is that of `per = 8` in rpm."""
-    planned = scale_of(signal.text("unit"))
+    planned = measure_of(signal.text("unit"))
     per = signal.number("per") * planned.parts
     return Scale(Fraction(signal.number("step"), per), Fraction(signal.number("offset"), per), planned.unit)
 

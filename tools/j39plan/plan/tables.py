@@ -1,15 +1,16 @@
-"""The tables of a plan: units, groups with their signals, flows, needs and requests, as `show` answers them, with the defaults of what
-isn't said."""
+"""The tables of a plan: units, groups with their signals, flows, needs and requests, with the defaults of what isn't said, as `show` answers
+them, or as the text has them. Each knows its place in the text."""
 
 import re
-from collections.abc import Iterator
+from collections.abc import Iterator, Mapping
 from dataclasses import dataclass, field
 from fractions import Fraction
 from itertools import count, takewhile
+from typing import Protocol
 
 from j39plan import program
 from j39plan.j1939 import IDENTITY_DIGITS, NAME_FIELDS
-from j39plan.plan.toml_places import Places
+from j39plan.plan.toml_places import Place, place_of
 
 # A line of `show`: a table, a key of it, and the value, which may have spaces.
 LINE = re.compile(
@@ -29,6 +30,7 @@ class Unit:
     fields: dict[str, int]
     claims: bool = True
     queue: str = "priority"
+    place: Place = field(default=(), compare=False, repr=False)
 
     @property
     def name(self) -> str:
@@ -60,6 +62,7 @@ class Signal:
     spn: int | None = None
     values: dict[int, str] = field(default_factory=dict)
     optional: bool = False
+    place: Place = field(default=(), compare=False, repr=False)
 
     @property
     def shown(self) -> str:
@@ -94,6 +97,7 @@ class Text:
     label: str
     byte: int
     bytes: int | None
+    place: Place = field(default=(), compare=False, repr=False)
 
     def places(self, length: int) -> range:
         """Its bytes, counted from 1, in data of this length."""
@@ -109,11 +113,16 @@ class When:
     bits: int
     value: int
 
+    @property
+    def span(self) -> range:
+        """Its bits, counted from 0 in the group's data."""
+        start = 8 * (self.byte - 1) + self.bit - 1
+        return range(start, start + self.bits)
+
     def takes(self, data: bytes) -> bool:
         """Whether data has the bits, and they have the number."""
-        start = 8 * (self.byte - 1) + self.bit - 1
-        number = int.from_bytes(data, "little") >> start & (1 << self.bits) - 1
-        return start + self.bits <= 8 * len(data) and number == self.value
+        number = int.from_bytes(data, "little") >> self.span.start & (1 << self.bits) - 1
+        return self.span.stop <= 8 * len(data) and number == self.value
 
 
 @dataclass(frozen=True)
@@ -130,6 +139,7 @@ class Group:
     signals: list[Signal]
     texts: list[Text]
     when: When | None = None
+    place: Place = field(default=(), compare=False, repr=False)
 
     def takes(self, data: bytes) -> bool:
         """Whether data can be that of a message of it."""
@@ -167,6 +177,22 @@ class Flow:
     pause: int | None = None
     on_request: bool = False
     is_asked: bool = False
+    place: Place = field(default=(), compare=False, repr=False)
+
+    @property
+    def number(self) -> int:
+        """Its number in the plan, from 1."""
+        return int(self.place[-1])
+
+    @property
+    def what(self) -> str:
+        """What is sent, by whom and to whom."""
+        return f"{self.group} from {self.sender} to {self.to}"
+
+    @property
+    def is_unasked(self) -> bool:
+        """Whether it is sent only as an answer, and no request of the plan asks for it."""
+        return self.on_request and not self.is_asked
 
 
 @dataclass(frozen=True)
@@ -179,11 +205,12 @@ class Need:
     signal: str = ""
     sender: str = ""
     within: int | None = None
+    place: Place = field(default=(), compare=False, repr=False)
 
     def is_met_by(self, flow: Flow) -> bool:
         """Whether a flow brings the unit what it needs: one that only answers requests does where some request is for it."""
         is_from = flow.sender != self.unit and self.sender in ("", flow.sender)
-        return flow.group == self.group and is_from and flow.to in (self.unit, "all") and (flow.is_asked or not flow.on_request)
+        return flow.group == self.group and is_from and flow.to in (self.unit, "all") and not flow.is_unasked
 
     @property
     def what(self) -> str:
@@ -199,6 +226,7 @@ class Request:
     sender: str
     to: str
     period: int | None = None
+    place: Place = field(default=(), compare=False, repr=False)
 
     @property
     def what(self) -> str:
@@ -232,6 +260,25 @@ class Timing:
     broadcast_gap: int
     broadcast_gap_most: int
     errors: Errors | None = None
+
+
+class Keys(Protocol):
+    """The keys of a table, each with its default where it isn't said: a text is empty, and a number 0, where there is none."""
+
+    def text(self, key: str) -> str:
+        """The text of a key."""
+
+    def number(self, key: str) -> int:
+        """The number of a key."""
+
+    def number_if_any(self, key: str) -> int | None:
+        """The number of a key, None of one that isn't there."""
+
+    def is_true(self, key: str) -> bool:
+        """Whether a key is true."""
+
+    def names(self) -> dict[int, str]:
+        """The names of raw numbers."""
 
 
 class Shown(dict[str, list[str]]):
@@ -271,10 +318,10 @@ def shown_in(answer: str) -> dict[str, Shown]:
 
 
 class Tables:
-    """The tables of a plan, in the order of the file, made of what `show` answers."""
+    """The tables of a plan, in the order of the file, made of the keys of each table by its words, as `group 2 signal 1`."""
 
-    def __init__(self, answer: str) -> None:
-        self._shown = shown_in(answer)
+    def __init__(self, shown: Mapping[str, Keys]) -> None:
+        self._shown = shown
         self.strangers = self._shown["top"].number("strangers")
         self.units = [self._unit(name) for name in self._elements("unit")]
         self.groups = [self._group(name) for name in self._elements("group")]
@@ -284,9 +331,18 @@ class Tables:
         self.timing = self._timing() if "timing" in self._shown else None
 
     @classmethod
+    def shown(cls, answer: str) -> "Tables":
+        """The tables that `show` answers."""
+        return cls(shown_in(answer))
+
+    @classmethod
     def of(cls, plan: str) -> "Tables":
         """The tables of a plan's file."""
-        return cls(program.shown(plan))
+        return cls.shown(program.shown(plan))
+
+    def longest(self, label: str) -> int:
+        """How many bytes the longest messages of a group have."""
+        return next(group.most for group in self.groups if group.label == label)
 
     def _elements(self, array: str) -> Iterator[str]:
         """The tables of an array, each by its words."""
@@ -294,17 +350,19 @@ class Tables:
 
     def _unit(self, words: str) -> Unit:
         unit, name = self._shown[words], self._shown[f"{words} name"]
-        fields = {key: name.number(key) for key, _, _ in NAME_FIELDS if key != "arbitrary" and (key != "identity" or key in name)}
+        fields = {key: number for key, _, _ in NAME_FIELDS if key != "arbitrary" and (number := name.number_if_any(key)) is not None}
         fields["arbitrary"] = int(name.is_true("arbitrary"))
-        return Unit(unit.text("label"), unit.number("address"), unit.text("chooser"), unit.number("window"), fields, unit.is_true("claims"), unit.text("queue"))
+        return Unit(unit.text("label"), unit.number("address"), unit.text("chooser"), unit.number("window"), fields, unit.is_true("claims"),
+                    unit.text("queue"), place_of(words))
 
     def _group(self, words: str) -> Group:
         group = self._shown[words]
-        pgn, priority, length, most = (group.number(key) for key in ("pgn", "priority", "length", "most"))
+        pgn, priority, length = (group.number(key) for key in ("pgn", "priority", "length"))
         signals = [self._signal(other) for other in self._elements(f"{words} signal")]
         texts = [self._text(other) for other in self._elements(f"{words} text")]
         every, when = group.number_if_any("every"), self._when(f"{words} when")
-        return Group(group.text("label"), pgn, priority, length, group.is_true("private"), most, every, signals, texts, when)
+        most = group.number_if_any("most") or length
+        return Group(group.text("label"), pgn, priority, length, group.is_true("private"), most, every, signals, texts, when, place_of(words))
 
     def _when(self, words: str) -> When | None:
         when = self._shown.get(words)
@@ -315,11 +373,12 @@ class Tables:
         byte, bit, bits, step, per, offset = (signal.number(key) for key in ("byte", "bit", "bits", "step", "per", "offset"))
         label, kind, unit = (signal.text(key) for key in ("label", "kind", "unit"))
         repeated, optional = signal.is_true("repeated"), signal.is_true("optional")
-        return Signal(label, byte, bit, bits, kind, step, per, offset, unit, repeated, signal.number_if_any("spn"), signal.names(), optional)
+        return Signal(label, byte, bit, bits, kind, step, per, offset, unit, repeated, signal.number_if_any("spn"), signal.names(), optional,
+                      place_of(words))
 
     def _text(self, words: str) -> Text:
         text = self._shown[words]
-        return Text(text.text("label"), text.number("byte"), text.number_if_any("bytes"))
+        return Text(text.text("label"), text.number("byte"), text.number_if_any("bytes"), place_of(words))
 
     def _flow(self, words: str) -> Flow:
         flow = self._shown[words]
@@ -327,32 +386,19 @@ class Tables:
         period, jitter, pause = (flow.number_if_any(key) for key in ("period", "jitter", "pause"))
         is_asked = any(serves(group, sender, to, request) for request in self.requests)
         # Without a period there is none of which a message could be late.
-        return Flow(group, sender, to, period, jitter or 0, pause, flow.is_true("on_request"), is_asked)
+        return Flow(group, sender, to, period, jitter or 0, pause, flow.is_true("on_request"), is_asked, place_of(words))
 
     def _request(self, words: str) -> Request:
         request = self._shown[words]
-        return Request(request.text("group"), request.text("from"), request.text("to"), request.number_if_any("period"))
+        return Request(request.text("group"), request.text("from"), request.text("to"), request.number_if_any("period"), place_of(words))
 
     def _need(self, words: str) -> Need:
         need = self._shown[words]
         unit, group, signal, sender = (need.text(key) for key in ("unit", "group", "signal", "from"))
-        return Need(unit, group, signal, sender, need.number_if_any("within"))
+        return Need(unit, group, signal, sender, need.number_if_any("within"), place_of(words))
 
     def _timing(self) -> Timing:
         timing, errors = self._shown["timing"], self._shown.get("timing errors")
         damaged = Errors(errors.number("count"), errors.number("every")) if errors else None
         keys = ("bitrate", "unplanned", "unplanned_priority", "transport_priority", "broadcast_gap", "broadcast_gap_most")
         return Timing(**{key: timing.number(key) for key in keys}, errors=damaged)
-
-
-@dataclass(frozen=True)
-class Top:
-    """What `show` doesn't tell of a plan's file: the version of the format, and in which order addresses are kept free."""
-
-    version: int
-    kept: list[int]
-
-    @classmethod
-    def of(cls, places: Places) -> "Top":
-        """The top of a text by what stands in it."""
-        return cls(places.integer(("version",)), [places.integer(place) for place in places.elements(("keep_free",))])

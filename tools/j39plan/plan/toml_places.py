@@ -65,10 +65,15 @@ def fault_of(text: str) -> tuple[int, str] | None:
     return None
 
 
-def places_of(name: str) -> "Places":
-    """The places of the text in a file."""
-    with open(name, "rb") as file:
-        return Places(file.read().decode(errors="replace"))
+def place_of(words: str) -> Place:
+    """The place of a table by its words, as `group 2 signal 3`; of the top one by `top`."""
+    parts: list[str | int] = [int(word) if word.isdigit() else word for word in words.split()]
+    return () if words == "top" else tuple(parts)
+
+
+def table_of(place: Place) -> str:
+    """The name of the table at a place, empty of the top one."""
+    return next((part for part in reversed(place) if isinstance(part, str)), "")
 
 
 class Places:

@@ -5,7 +5,7 @@ from dataclasses import dataclass
 from typing import NamedTuple
 
 from j39plan.j1939 import (
-    ACKNOWLEDGEMENT, ADDRESS_CLAIMED, FRAME_BYTES, GLOBAL_ADDRESS, NAME_FIELDS, NULL_ADDRESS, OTHER_SERVICES, PROPRIETARY, REQUEST, SERVICES,
+    ACKNOWLEDGEMENT, ADDRESS_CLAIMED, FRAME_BYTES, NAME_FIELDS, NULL_ADDRESS, OTHER_SERVICES, PROPRIETARY, REQUEST, SERVICES, identifier_of,
 )
 from j39plan.log.checks.damage import Damage
 from j39plan.log.checks.deviations import Found
@@ -93,7 +93,7 @@ class Comparison:
             for begun in self._begun.values():
                 if address in (begun.pair[0][2], begun.pair[1][2]) and not begun.between:
                     begun.between = f"address {address} changed hands at line {line}"
-        self.unplanned.came(line, at, 6 << 26 | (ADDRESS_CLAIMED | GLOBAL_ADDRESS) << 8)
+        self.unplanned.came(line, at, identifier_of(6, ADDRESS_CLAIMED, 0))
         claims = "could not claim an address" if who.address is None else f"claims address {who.address}"
         unit = self.units.get(who.label or "")
         if unit is None:
@@ -144,7 +144,7 @@ class Comparison:
             self.found.tell("no-flow", f"{group} from {sender.label} to {to.shown}: no flow", first, began, unit=sender.label)
         if begun is None:
             priority = planned.priority if odd_priority is None else odd_priority
-            self.passes(line, at, priority << 26 | planned.pgn << 8, group if sender.label else "", sender)
+            self.passes(line, at, identifier_of(priority, planned.pgn, 0, 0), group if sender.label else "", sender)
 
     def answers(self, line: int, at: int | None, sender: Who, to: Who, pgn: int) -> None:
         """A message of a group begins, which may be asked for."""
@@ -297,7 +297,7 @@ class Comparison:
         else:
             self.others.asks(line, at, request)
         if request.request == 0 or self.requests[request.request - 1].period is None:
-            self.unplanned.came(line, at, 6 << 26 | (REQUEST | GLOBAL_ADDRESS) << 8)
+            self.unplanned.came(line, at, identifier_of(6, REQUEST, 0))
 
     def end(self, begun: Begun | None) -> None:
         """A message that comes to nothing, if there is one."""

@@ -13,7 +13,10 @@ from collections.abc import Iterator
 from enum import Enum
 from typing import BinaryIO, NamedTuple
 
-from j39plan.j1939 import ACKNOWLEDGEMENT, ADDRESS_CLAIMED, CONNECTION_MANAGEMENT, DATA_TRANSFER, GLOBAL_ADDRESS, NULL_ADDRESS, REQUEST
+from j39plan.j1939 import (
+    ACKNOWLEDGEMENT, ADDRESS_CLAIMED, CONNECTION_MANAGEMENT, DATA_TRANSFER, GLOBAL_ADDRESS, NULL_ADDRESS, REQUEST, destination_in, identifier_of,
+    pgn_in, source_in,
+)
 from j39plan.log.checks.meter import Meter
 from j39plan.log.reports import Report
 from j39plan.plan.tables import Group, Timing
@@ -43,7 +46,7 @@ WAY = 0xFFFF
 PASSED = 3
 
 # The identifier of a request for claims from nobody.
-NOBODY = 6 << 26 | REQUEST << 8 | GLOBAL_ADDRESS << 8 | NULL_ADDRESS
+NOBODY = identifier_of(6, REQUEST, NULL_ADDRESS)
 
 
 class Kind(Enum):
@@ -77,12 +80,6 @@ class Mark(NamedTuple):
     def is_announcement(self) -> bool:
         """Whether it announces a long message."""
         return self.kind is Kind.ANNOUNCEMENT
-
-
-def pgn_in(number: int) -> int:
-    """The PGN in the identifier of a frame."""
-    pgn = number >> 8 & 0x3FFFF
-    return pgn if pgn >> 8 & 255 >= 240 else pgn & 0x3FF00
 
 
 class Feed:
@@ -228,11 +225,11 @@ def mark_of(identifier: int, data: bytes) -> Mark | None:
     if data[0] not in (RTS, BAM):
         return Mark(Kind.CONTROL, identifier, announced, len(data), data=data)
     is_right = size in SIZES and data[3] == -(-size // CHUNK) and announced == pgn_in(announced << 8)
-    is_sound = is_right and (data[0] == BAM) == (identifier >> 8 & 255 == GLOBAL_ADDRESS)
+    is_sound = is_right and (data[0] == BAM) == (destination_in(identifier) == GLOBAL_ADDRESS)
     return Mark(Kind.ANNOUNCEMENT, identifier, announced, size, is_sound, data)
 
 
 def request(identifier: int, pgn: int) -> bytes:
     """A request of this PGN from where the frame of this identifier came from to where it went."""
-    to = identifier >> 8 & 255 if identifier >> 16 & 255 < 240 else GLOBAL_ADDRESS
-    return b"%08X#%b\n" % (6 << 26 | REQUEST << 8 | to << 8 | identifier & 255, pgn.to_bytes(3, "little").hex().encode())
+    asking = identifier_of(6, REQUEST, source_in(identifier), destination_in(identifier))
+    return b"%08X#%b\n" % (asking, pgn.to_bytes(3, "little").hex().encode())

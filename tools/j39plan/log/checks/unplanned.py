@@ -4,7 +4,7 @@ from collections import deque
 from typing import NamedTuple
 
 from j39plan import program
-from j39plan.j1939 import REQUEST
+from j39plan.j1939 import GLOBAL_ADDRESS, IDENTIFIERS, REQUEST, identifier_of
 from j39plan.log.checks.deviations import Found
 from j39plan.log.clock import MILLISECOND, milliseconds
 from j39plan.plan.answers import load_of
@@ -12,12 +12,8 @@ from j39plan.plan.tables import Tables
 
 MICROSECOND = 1000
 
-
-# Identifiers are below this.
-ANY = 1 << 29
-
 # The greatest identifier of a request.
-REQUESTS = 6 << 26 | REQUEST << 8 | 0xFFFF
+REQUESTS = identifier_of(6, REQUEST, GLOBAL_ADDRESS)
 
 
 class Bound(NamedTuple):
@@ -48,7 +44,7 @@ def bounds_of(plan: str, tables: Tables) -> Bounds:
     short = {delay.flow for delay in delays if delay.flow in within and delay.frames == 1}
     greatest = {number: greatest_identifier(tables, number) for number in range(1, len(tables.flows) + 1)}
     without_order = {unit.label for unit in tables.units if unit.queue == "any"}
-    flows = [Bound(number, within[number], ANY if tables.flows[number - 1].sender in without_order else greatest[number]) for number in sorted(short)]
+    flows = [Bound(number, within[number], IDENTIFIERS if tables.flows[number - 1].sender in without_order else greatest[number]) for number in sorted(short)]
     waits = {number: wait_of(number, within, short, greatest, tables.flows[number - 1].sender in without_order) for number in greatest}
     own = {number: wait - tables.flows[number - 1].jitter * MILLISECOND for number, wait in waits.items() if wait is not None}
     asking = {request.sender for request in tables.requests} - without_order
@@ -59,7 +55,7 @@ def bounds_of(plan: str, tables: Tables) -> Bounds:
 def greatest_identifier(tables: Tables, number: int) -> int:
     """The greatest identifier of a flow's frames."""
     group = next(group for group in tables.groups if group.label == tables.flows[number - 1].group)
-    return group.priority << 26 | group.pgn << 8 | (0xFF if group.pgn >> 8 & 255 >= 240 else 0xFFFF)
+    return identifier_of(group.priority, group.pgn, GLOBAL_ADDRESS)
 
 
 def wait_of(number: int, within: dict[int, int], short: set[int], greatest: dict[int, int], has_no_order: bool) -> int | None:

@@ -6,18 +6,16 @@ from collections.abc import Iterator
 from typing import NamedTuple
 
 from j39plan.j1939 import FRAME_BYTES, PACKET_BYTES, POOL
-from j39plan.plan.hints import needs, requests
-from j39plan.plan.schema import default_of
-from j39plan.plan.toml_places import Place, Places
+from j39plan.plan.hints import needs
+from j39plan.plan.parts import Source
+from j39plan.plan.tables import Flow, Unit
+from j39plan.plan.toml_places import Place
 
 # The line of a place, and a hint.
 Hint = tuple[int, str]
 
 # The priorities above that of control, which is 3 by default; that of information is 6 (SAE J1939-21).
 HIGH_PRIORITY = range(3)
-
-# How far apart packets to all are, in ms, where no key says it.
-GAP = default_of("timing", "broadcast_gap")
 
 # The ms of a second, and the most bits of a frame of eight bytes.
 SECOND, FRAME_BITS = 1000, 160
@@ -27,7 +25,7 @@ class Broadcast(NamedTuple):
     """A flow with long messages to all: its period in ms, the packets of its longest message, the time that these take in ms, and whether it
     has messages of one frame too."""
 
-    flow: Place
+    flow: Flow
     period: int
     packets: int
     takes: int
@@ -37,11 +35,9 @@ class Broadcast(NamedTuple):
 class Lint:
     """The hints at a plan's text."""
 
-    def __init__(self, places: Places) -> None:
-        self.places = places
-        self.units, self.groups = places.elements(("unit",)), places.elements(("group",))
-        self.flows, self.needs = places.elements(("flow",)), places.elements(("need",))
-        self.requests = places.elements(("request",))
+    def __init__(self, source: Source) -> None:
+        self.source, self.tables = source, source.tables
+        self.groups = {group.label: group for group in self.tables.groups}
 
     def hints(self) -> list[Hint]:
         """All hints, in the order of the file."""
@@ -49,97 +45,74 @@ class Lint:
                  self.unsendable, self.passed, self.single, self.unordered, self.untaken, self.met_twice, self.unasked)
         return sorted({hint for part in found for hint in part()})
 
-    def label(self, place: Place) -> str:
-        """The label of a table."""
-        return self.places.texts[place + ("label",)]
+    def at(self, place: Place, key: str, text: str) -> Hint:
+        """A hint at a key of a table."""
+        return self.source.line(place + (key,)), text
 
-    def at(self, place: Place, text: str) -> Hint:
-        """A hint at a place."""
-        return self.places.line(place), text
+    def of_flow(self, flow: Flow, key: str, text: str) -> Hint:
+        """A hint at a key of a flow."""
+        return self.at(flow.place, key, f"flow {flow.number}, {flow.what}: {text}")
 
-    def is_arbitrary(self, unit: Place) -> bool:
-        """Whether a unit may choose its address."""
-        return self.places.spelled.get(unit + ("name", "arbitrary")) == "true"
+    def of_unit(self, unit: Unit, key: str, text: str) -> Hint:
+        """A hint at a key of a unit."""
+        return self.at(unit.place, key, f"unit {unit.label}: {text}")
 
     def unsent(self) -> Iterator[Hint]:
         """Groups that no flow sends."""
-        sent = {self.places.texts[flow + ("group",)] for flow in self.flows}
-        for group in self.groups:
-            if self.label(group) not in sent:
-                yield self.at(group + ("label",), f"group {self.label(group)}: no flow sends it")
+        sent = {flow.group for flow in self.tables.flows}
+        for group in self.tables.groups:
+            if group.label not in sent:
+                yield self.at(group.place, "label", f"group {group.label}: no flow sends it")
 
     def idle(self) -> Iterator[Hint]:
         """Units that neither send a group, nor get one that goes to them, nor need or ask for one."""
-        busy = {self.places.texts[flow + (end,)] for flow in self.flows for end in ("from", "to")}
-        busy |= {self.places.texts[need + ("unit",)] for need in self.needs}
-        busy |= {self.places.texts[request + ("from",)] for request in self.requests}
-        for unit in self.units:
-            if self.label(unit) not in busy:
-                yield self.at(unit + ("label",), f"unit {self.label(unit)}: no flow is from it or to it alone")
+        busy = {end for flow in self.tables.flows for end in (flow.sender, flow.to)}
+        busy |= {need.unit for need in self.tables.needs} | {request.sender for request in self.tables.requests}
+        for unit in self.tables.units:
+            if unit.label not in busy:
+                yield self.of_unit(unit, "label", "no flow is from it or to it alone")
 
     def fixed_in_pool(self) -> Iterator[Hint]:
         """Units that may not choose, at an address among those that others choose, and that isn't kept free."""
-        kept = {self.places.integer(place) for place in self.places.elements(("keep_free",))}
-        for unit in self.units:
-            address = self.places.integer(unit + ("address",))
-            if address in POOL and address not in kept and not self.is_arbitrary(unit):
-                text = f"unit {self.label(unit)}: it may not choose, and its address {address} is one of 128..247, which others may choose"
-                yield self.at(unit + ("address",), text)
+        kept = self.source.kept
+        for unit in self.tables.units:
+            if unit.address in POOL and unit.address not in kept and not unit.may_choose:
+                yield self.of_unit(unit, "address", f"it may not choose, and its address {unit.address} is one of 128..247, which others may choose")
 
     def short(self) -> Iterator[Hint]:
         """Groups whose messages of one frame don't fill it."""
-        for group in self.groups:
-            length = self.places.integer(group + ("length",))
-            if length < FRAME_BYTES:
-                most = self.places.number(group + ("most",)) or length
-                what = f"{length} bytes; a group" if most == length else f"messages of {length} bytes and more; one"
-                yield self.at(group + ("length",), f"group {self.label(group)}: {what} of one frame has 8, unused ones filled with ones")
+        for group in self.tables.groups:
+            if group.length < FRAME_BYTES:
+                what = f"{group.length} bytes; a group" if group.most == group.length else f"messages of {group.length} bytes and more; one"
+                yield self.at(group.place, "length", f"group {group.label}: {what} of one frame has 8, unused ones filled with ones")
 
     def urgent(self) -> Iterator[Hint]:
         """Groups that go to all, and thus inform, at the priorities of control."""
-        to_all = {self.places.texts[flow + ("group",)] for flow in self.flows if self.places.texts[flow + ("to",)] == "all"}
-        for group in self.groups:
-            priority = self.places.integer(group + ("priority",))
-            if priority in HIGH_PRIORITY and self.label(group) in to_all:
-                text = f"group {self.label(group)}: priority {priority}, and it goes to all; groups that inform have 6 by default"
-                yield self.at(group + ("priority",), text)
+        to_all = {flow.group for flow in self.tables.flows if flow.to == "all"}
+        for group in self.tables.groups:
+            if group.priority in HIGH_PRIORITY and group.label in to_all:
+                text = f"group {group.label}: priority {group.priority}, and it goes to all; groups that inform have 6 by default"
+                yield self.at(group.place, "priority", text)
 
     def equal_identities(self) -> Iterator[Hint]:
         """Units of different makers with one identity number: it may have been copied."""
-        first: dict[int, list[Place]] = {}
-        for unit in self.units:
-            name = unit + ("name",)
-            if name + ("identity",) not in self.places.lines:
-                continue
-            others = first.setdefault(self.places.integer(name + ("identity",)), [])
-            other = next((other for other in others if self.maker(other) != self.maker(unit)), None)
+        first: dict[int, list[Unit]] = {}
+        for unit in (unit for unit in self.tables.units if "identity" in unit.fields):
+            others = first.setdefault(unit.fields["identity"], [])
+            other = next((other for other in others if other.fields["manufacturer"] != unit.fields["manufacturer"]), None)
             if other is not None:
-                text = f"unit {self.label(unit)}: the identity of {self.label(other)}, which has another maker, at line "
-                yield self.at(name + ("identity",), text + str(self.places.line(other + ("name", "identity"))))
+                text = f"the identity of {other.label}, which has another maker, at line {self.source.line((*other.place, 'name', 'identity'))}"
+                yield self.source.line((*unit.place, "name", "identity")), f"unit {unit.label}: {text}"
             others.append(unit)
-
-    def maker(self, unit: Place) -> int:
-        """The manufacturer code of a unit."""
-        place = unit + ("name", "manufacturer")
-        return self.places.integer(place) if place in self.places.spelled else 0
-
-    def named(self, flow: Place) -> str:
-        """A flow by its number, and by what is sent, by whom and to whom."""
-        group, sender, receiver = (self.places.texts[flow + (key,)] for key in ("group", "from", "to"))
-        return f"flow {flow[-1]}, {group} from {sender} to {receiver}"
 
     def broadcasts(self) -> list[Broadcast]:
         """The flows with long messages to all and a period, in a plan that says how fast its bus is."""
-        gap = self.places.number(("timing", "broadcast_gap")) or GAP
-        groups = {self.label(group): group for group in self.groups}
-        found = []
-        for flow in self.flows if ("timing",) in self.places.lines else ():
-            group, period = groups[self.places.texts[flow + ("group",)]], self.places.number(flow + ("period",))
-            length = self.places.integer(group + ("length",))
-            most = self.places.number(group + ("most",)) or length
-            if self.places.texts[flow + ("to",)] == "all" and most > FRAME_BYTES and period:
-                packets = -(-most // PACKET_BYTES)
-                found.append(Broadcast(flow, period, packets, packets * gap, length <= FRAME_BYTES))
+        found, timing = [], self.tables.timing
+        for flow in self.tables.flows if timing else ():
+            group = self.groups[flow.group]
+            if timing and flow.to == "all" and group.most > FRAME_BYTES and flow.period:
+                packets = -(-group.most // PACKET_BYTES)
+                found.append(Broadcast(flow, flow.period, packets, packets * timing.broadcast_gap, group.length <= FRAME_BYTES))
         return found
 
     def unsendable(self) -> Iterator[Hint]:
@@ -147,56 +120,51 @@ class Lint:
         for flow, period, packets, takes, _ in self.broadcasts():
             if takes > period:
                 text = f"{packets} packets {takes // packets} ms apart take {takes} ms, more than its period of {period} ms"
-                yield self.at(flow + ("period",), f"{self.named(flow)}: {text}")
+                yield self.of_flow(flow, "period", text)
 
     def passed(self) -> Iterator[Hint]:
         """Long messages to all for which there is time between two of them, and not for one that their unit sends first."""
         sent = self.broadcasts()
         for flow, period, _, takes, _ in sent:
-            unit = self.places.texts[flow + ("from",)]
-            others = [other for other in sent if other.flow != flow and self.places.texts[other.flow + ("from",)] == unit]
+            others = [other for other in sent if other.flow is not flow and other.flow.sender == flow.sender]
             longest = max(others, key=lambda other: other.takes, default=None)
             if longest is not None and takes <= period < takes + longest.takes:
-                first = self.places.texts[longest.flow + ("group",)]
-                text = f"it takes {takes} ms, and {first}, which {unit} may send first, {longest.takes} ms: more than its period of {period} ms"
-                yield self.at(flow + ("period",), f"{self.named(flow)}: {text}")
+                first = f"{longest.flow.group}, which {flow.sender} may send first, {longest.takes} ms"
+                yield self.of_flow(flow, "period", f"it takes {takes} ms, and {first}: more than its period of {period} ms")
 
     def single(self) -> Iterator[Hint]:
         """Flows to all with short and long messages, where those of one frame take more than half of the bus together."""
         asked = [(other.flow, -(-SECOND * FRAME_BITS // other.period)) for other in self.broadcasts() if other.has_short]
-        bitrate, together = self.places.number(("timing", "bitrate")) or 0, sum(bits for _, bits in asked)
+        bitrate, together = self.tables.timing.bitrate if self.tables.timing else 0, sum(bits for _, bits in asked)
         for flow, bits in asked if 2 * together > bitrate else ():
-            text = f"messages of one frame take {bits} bits a second, those of all such flows {together} of {bitrate}"
-            yield self.at(flow + ("period",), f"{self.named(flow)}: {text}")
+            yield self.of_flow(flow, "period", f"messages of one frame take {bits} bits a second, those of all such flows {together} of {bitrate}")
 
     def unordered(self) -> Iterator[Hint]:
         """Units whose controllers keep no order, and that send groups of two priorities: the urgent ones wait behind the others."""
-        priorities = {self.label(group): self.places.integer(group + ("priority",)) for group in self.groups}
-        for unit in self.units:
-            if self.places.texts.get(unit + ("queue",)) == "any":
-                groups = [self.places.texts[flow + ("group",)] for flow in self.flows if self.places.texts[flow + ("from",)] == self.label(unit)]
-                first, last = (find(groups, key=priorities.__getitem__, default="") for find in (min, max))
-                if first and priorities[first] < priorities[last]:
-                    text = f"{first} of priority {priorities[first]} may wait behind {last} of priority {priorities[last]}"
-                    yield self.at(unit + ("queue",), f"unit {self.label(unit)}: its controller keeps no order, so {text}")
+        for unit in self.tables.units:
+            if unit.queue == "any":
+                groups = [self.groups[flow.group] for flow in self.tables.flows if flow.sender == unit.label]
+                first, last = (find(groups, key=lambda group: group.priority) for find in (min, max)) if groups else (None, None)
+                if first and last and first.priority < last.priority:
+                    text = f"{first.label} of priority {first.priority} may wait behind {last.label} of priority {last.priority}"
+                    yield self.of_unit(unit, "queue", f"its controller keeps no order, so {text}")
 
     def untaken(self) -> Iterator[Hint]:
         """Flows to one unit that it doesn't need, in a plan with needs."""
-        for flow in self.flows if self.needs else ():
-            receiver = self.places.texts[flow + ("to",)]
-            if receiver != "all" and not any(needs.meets(self.places, flow, need) for need in self.needs):
-                yield self.at(flow + ("to",), f"{self.named(flow)}: no need of {receiver} takes it")
+        for flow in self.tables.flows if self.tables.needs else ():
+            if flow.to != "all" and not any(need.is_met_by(flow) for need in self.tables.needs):
+                yield self.of_flow(flow, "to", f"no need of {flow.to} takes it")
 
     def met_twice(self) -> Iterator[Hint]:
         """Needs that two senders meet."""
-        for need in self.needs:
-            senders = dict.fromkeys(self.places.texts[flow + ("from",)] for flow in self.flows if needs.meets(self.places, flow, need))
+        for need in self.tables.needs:
+            senders = dict.fromkeys(flow.sender for flow in self.tables.flows if need.is_met_by(flow))
             if len(senders) > 1:
                 text = f"{' and '.join(senders)} meet it; from says which one is meant"
-                yield self.at(need + ("group",), f"need {need[-1]}, {needs.named(self.places, need)}: {text}")
+                yield self.at(need.place, "group", f"need {need.place[-1]}, {needs.named(need)}: {text}")
 
     def unasked(self) -> Iterator[Hint]:
         """Flows that are sent only as answers, and that no request of the plan asks for: tools may ask too."""
-        for flow in self.flows:
-            if not requests.is_asked_for(self.places, flow):
-                yield self.at(flow + ("on_request",), f"{self.named(flow)}: it is sent only as an answer, and no request of the plan asks for it")
+        for flow in self.tables.flows:
+            if flow.is_unasked:
+                yield self.of_flow(flow, "on_request", "it is sent only as an answer, and no request of the plan asks for it")

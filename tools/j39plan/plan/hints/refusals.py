@@ -9,10 +9,11 @@ from math import lcm
 
 from j39plan.plan.hints.groups import of_identifier
 from j39plan.plan.hints.text_faults import Told, text_fault
-from j39plan.plan.places import Plan, table_of
-from j39plan.plan.schema import ABSENT, VERSIONS, most_of, since
+from j39plan.plan.hints.wanted import is_known, listed, rule_of, tables_with, wanted
+from j39plan.plan.parts import Source
+from j39plan.plan.schema import ABSENT, VERSIONS, most_of, schema, since
 from j39plan.plan.text import as_label
-from j39plan.plan.toml_places import Place
+from j39plan.plan.toml_places import Place, place_of, table_of
 
 # How TOML spells numbers with a point or a power of ten that aren't too long to be meant.
 DECIMAL = re.compile(r"[+-]?[0-9_]{1,20}(?:\.[0-9_]{1,20})?(?:[eE][+-]?[0-9]{1,2})?")
@@ -36,13 +37,6 @@ MEANT = {
 }
 
 
-def place_named(words: str) -> Place:
-    """The place that a refusal names, as `group 2 signal 3`."""
-    if words == "top":
-        return ()
-    return tuple(int(word) if word.isdigit() else word for word in words.split())
-
-
 def likely(word: str, words: Iterable[str]) -> str:
     """A hint at the word that may have been meant: one that is spelled alike, or that begins so."""
     others = {other.lower(): other for other in words}
@@ -52,7 +46,7 @@ def likely(word: str, words: Iterable[str]) -> str:
     return f"; did you mean {others[close[0]]}?" if close else ""
 
 
-def version_fault(plan: Plan) -> Told:
+def version_fault(plan: Source) -> Told:
     """Line and hint of a version that isn't there, or that is none."""
     wanted = f"integer {VERSIONS[0]}..{VERSIONS[-1]}"
     spelled = plan.places.spelled.get(("version",))
@@ -64,12 +58,12 @@ def since_when(first: int) -> str:
     return f"only from version = {first} on: write version = {VERSIONS[-1]}"
 
 
-def header_meant(plan: Plan, place: Place, key: str) -> str:
+def header_meant(plan: Source, place: Place, key: str) -> str:
     """A hint at the header of a table that stands at the top and belongs into another one."""
     if place or (key,) not in plan.places.lines or (key,) in plan.places.spelled:
         return ""
-    for table in plan.tables_with(key):
-        rule = plan.schema["definitions"][table]["properties"][key]
+    for table in tables_with(key):
+        rule = schema()["definitions"][table]["properties"][key]
         if rule.get("items", {}).get("$ref"):
             return f": write [[{table}.{key}]]"
         if "$ref" in rule and table != key:
@@ -77,42 +71,42 @@ def header_meant(plan: Plan, place: Place, key: str) -> str:
     return ""
 
 
-def key_meant(plan: Plan, place: Place, key: str) -> str:
+def key_meant(plan: Source, place: Place, key: str) -> str:
     """What may have been meant by a key that isn't listed."""
-    meant = MEANT.get(table_of(place) or "", {}).get(key.lower())
+    meant = MEANT.get(table_of(place), {}).get(key.lower())
     if meant:
         return f" isn't listed: {meant}"
-    if hint := header_meant(plan, place, key) or likely(key, plan.listed(place)):
+    if hint := header_meant(plan, place, key) or likely(key, listed(plan, place)):
         return hint
-    tables = plan.tables_with(key)
+    tables = tables_with(key)
     return f" belongs to {' or '.join(tables)}" if tables else " isn't listed"
 
 
-def unknown_key(plan: Plan, place: Place) -> Told:
+def unknown_key(plan: Source, place: Place) -> Told:
     """Line and hint of the table's first key that isn't listed."""
-    listed = list(plan.listed(place))
-    key = next((key for key in plan.places.keys(place) if key not in listed), None)
+    known = listed(plan, place)
+    key = next((key for key in plan.places.keys(place) if key not in known), None)
     return (plan.line(place), None) if key is None else unlisted_key(plan, place, key)
 
 
-def unlisted_key(plan: Plan, place: Place, key: str) -> Told:
+def unlisted_key(plan: Source, place: Place, key: str) -> Told:
     """Line and hint of a key that isn't listed, or not by the plan's version."""
-    if first := since().get((table_of(place), key)):
+    if first := since().get((table_of(place) or None, key)):
         if plan.places.number(("version",)) not in VERSIONS:
             return version_fault(plan)
         return plan.line(place + (key,)), f"key {key}: {since_when(first)}"
     return plan.line(place + (key,)), f"key {key}{key_meant(plan, place, key)}"
 
 
-def missing_key(plan: Plan, place: Place, key: str) -> Told:
+def missing_key(plan: Source, place: Place, key: str) -> Told:
     """Line and hint of a table that lacks a key."""
     why = f", which a {asking(plan, place)} needs" if key == "period" else ""
-    first = since().get((ABSENT, table_of(place), key))
+    first = since().get((ABSENT, table_of(place) or None, key))
     may_be_absent = f"; from version = {first} on it may be left away" if first else ""
-    return plan.line(place), f"key {key} isn't there{why}: {plan.wanted(place, key)}{may_be_absent}"
+    return plan.line(place), f"key {key} isn't there{why}: {wanted(plan, place, key)}{may_be_absent}"
 
 
-def kept_fault(plan: Plan, key: str) -> Place:
+def kept_fault(plan: Source, key: str) -> Place:
     """The place in an array of addresses of the first that is out of range or there twice, if one is."""
     seen = set()
     for place in plan.places.elements((key,)):
@@ -123,13 +117,13 @@ def kept_fault(plan: Plan, key: str) -> Place:
     return ()
 
 
-def number_at(plan: Plan, place: Place, default: int) -> Fraction | None:
+def number_at(plan: Source, place: Place, default: int) -> Fraction | None:
     """The number at a place, with a point or without one, or None."""
     spelled = plan.places.spelled.get(place, str(default))
     return Fraction(Decimal(spelled.replace("_", ""))) if DECIMAL.fullmatch(spelled) else None
 
 
-def whole_scale(plan: Plan, signal: Place) -> str:
+def whole_scale(plan: Source, signal: Place) -> str:
     """A hint at step and offset of a signal as whole numbers, the fraction of both being put into its divisor or its unit."""
     step, offset = number_at(plan, signal + ("step",), 1), number_at(plan, signal + ("offset",), 0)
     if step is None or offset is None:
@@ -139,13 +133,13 @@ def whole_scale(plan: Plan, signal: Place) -> str:
     if parts == 1:
         return f"; without a point: {', '.join(keys)}"
     per = number_at(plan, signal + ("per",), 1)
-    if plan.knows(("signal", "per")) and per is not None and per * parts <= most_of("signal", "per"):
+    if is_known(plan, ("signal", "per")) and per is not None and per * parts <= most_of("signal", "per"):
         return f"; the fraction goes into per: {', '.join(keys)}, per = {per * parts}"
     unit = f"1/{parts} {plan.places.texts.get(signal + ('unit',), '')}".strip()
     return f"; the fraction goes into the unit: {', '.join(keys)}, unit = \"{unit}\""
 
 
-def whole_divisor(plan: Plan, signal: Place) -> str:
+def whole_divisor(plan: Source, signal: Place) -> str:
     """A hint at a divisor with a fraction, which is taken for a factor, as whole numbers."""
     factor = number_at(plan, signal + ("per",), 1)
     if factor is None or factor <= 0:
@@ -153,7 +147,7 @@ def whole_divisor(plan: Plan, signal: Place) -> str:
     return f"; a factor of {plan.places.spelled[signal + ('per',)]} is step = {factor.numerator}, per = {factor.denominator}"
 
 
-def wrong_name(plan: Plan, values: Place) -> str:
+def wrong_name(plan: Source, values: Place) -> str:
     """A hint at the first name of a raw number that isn't a label."""
     for place, name in plan.places.texts.items():
         if place[:-1] == values and not re.fullmatch(r"[A-Za-z0-9_]{1,32}", name):
@@ -161,9 +155,9 @@ def wrong_name(plan: Plan, values: Place) -> str:
     return ""
 
 
-def value_hint(plan: Plan, place: Place, key: str, cause: str) -> str:
+def value_hint(plan: Source, place: Place, key: str, cause: str) -> str:
     """A hint at the value that may have been meant."""
-    words = [word for word in plan.rule(place, key).get("enum", []) if isinstance(word, str) and plan.knows(word)]
+    words = [word for word in rule_of(plan, place, key).get("enum", []) if isinstance(word, str) and is_known(plan, word)]
     if words:
         return likely(plan.places.texts.get(place + (key,), ""), words)
     if key == "values":
@@ -175,15 +169,15 @@ def value_hint(plan: Plan, place: Place, key: str, cause: str) -> str:
     return whole_divisor(plan, place) if key == "per" else whole_scale(plan, place)
 
 
-def value_fault(plan: Plan, place: Place, key: str, cause: str) -> Told:
+def value_fault(plan: Source, place: Place, key: str, cause: str) -> Told:
     """Line and hint of a key whose value is refused."""
     if cause == "TooMany":
-        rule = plan.listed(place)[key]
+        rule = listed(plan, place)[key]
         if "maxProperties" in rule:
             return plan.line(place + (key,)), f"key {key}: at most {rule['maxProperties']}"
         return plan.line(place + (key, rule["maxItems"] + 1)), f"key {key}: at most {rule['maxItems']}"
     if key == "keep_free":
-        return plan.line(place + (key,) + kept_fault(plan, key)), f"key {key}: {plan.wanted(place, key)}"
+        return plan.line(place + (key,) + kept_fault(plan, key)), f"key {key}: {wanted(plan, place, key)}"
     spelled = plan.places.spelled.get(place + (key,), "")
     shown = f"{key} = {spelled}" if 0 < len(spelled) < 50 and "\n" not in spelled else f"key {key}"
     if key == "repeated" and cause == "Range":
@@ -191,14 +185,14 @@ def value_fault(plan: Plan, place: Place, key: str, cause: str) -> Told:
     if key == "optional" and cause == "Range":
         return plan.line(place + (key,)), f"{shown}: the signal is repeated"
     word = plan.places.texts.get(place + (key,), "")
-    if key == "kind" and not plan.knows(word):
+    if key == "kind" and not is_known(plan, word):
         return plan.line(place + (key,)), f"{shown}: {since_when(since()[word])}"
     if key in SCALE and plan.places.texts.get(place + ("kind",)) == "dtc":
         return plan.line(place + (key,)), f"{shown}: a dtc has no {key}"
-    return plan.line(place + (key,)), f"{shown}: {plan.wanted(place, key)}{value_hint(plan, place, key, cause)}"
+    return plan.line(place + (key,)), f"{shown}: {wanted(plan, place, key)}{value_hint(plan, place, key, cause)}"
 
 
-def label_fault(plan: Plan, place: Place, key: str, cause: str) -> Told:
+def label_fault(plan: Source, place: Place, key: str, cause: str) -> Told:
     """Line and hint of a label that was used before, or that nothing has."""
     label = plan.places.texts.get(place + (key,), "")
     if cause == "Repeated":
@@ -220,16 +214,16 @@ def label_fault(plan: Plan, place: Place, key: str, cause: str) -> Told:
     return plan.line(place + (key,)), hint
 
 
-def asking(plan: Plan, flow: Place) -> str:
+def asking(plan: Source, flow: Place) -> str:
     """The key of a flow that asks for a period."""
     return "deadline" if "deadline" in plan.places.keys(flow) else "jitter"
 
 
-def refusal(plan: Plan, data: bytes, line: str) -> Told:
+def refusal(plan: Source, data: bytes, line: str) -> Told:
     """Line and hint of a refused file."""
     found = re.fullmatch(r"refused (\w+)(?: (.*?))?(?: key (\w+))?", line)
     assert found is not None
-    cause, place, key = found.group(1), place_named(found.group(2) or "top"), found.group(3)
+    cause, place, key = found.group(1), place_of(found.group(2) or "top"), found.group(3)
     if cause == "Text":
         return text_fault(plan.places, data)
     if cause == "UnknownKey":
