@@ -10,8 +10,8 @@ NAME_FIELDS = (
     ("system", 49, 7), ("system_instance", 56, 4), ("industry", 60, 3), ("arbitrary", 63, 1),
 )
 
-# How many hex digits of a NAME have bits of its identity number.
-IDENTITY_DIGITS = 6
+# The width of an identity number, at the low end of a NAME, and how many hex digits have bits of it. The rest of a NAME is the kind of the box.
+IDENTITY_BITS, IDENTITY_DIGITS = 21, 6
 
 # Addresses (J1939-81): that of a unit without one, that of all units, and those among which a unit may choose.
 NULL_ADDRESS, GLOBAL_ADDRESS = 254, 255
@@ -31,3 +31,13 @@ OTHER_SERVICES = frozenset((19712, 19968, 37632, 50944, 51200, 51456, 51712))
 
 # Proprietary groups: A, A2, and the two ranges of B.
 PROPRIETARY = frozenset((61184, 126720, *range(65280, 65536), *range(130816, 131072)))
+
+
+def identity_in(name: int) -> int:
+    """The identity number in a NAME."""
+    return name & (1 << IDENTITY_BITS) - 1
+
+
+def kind_of(name: int) -> int:
+    """The kind of a box: its NAME without the identity number."""
+    return name - identity_in(name)
