@@ -22,11 +22,11 @@ class Hands(Compared):
         self.assertEqual(self.compared(RIVALS % "VALVE", both)[0], "L:3: address 128 sends ET1, a planned group: no unit has it")
 
     def test_a_name_that_is_not_planned_takes_an_address(self):
-        for name in ("0000000000000000", "0300000000000000"):
+        for name, identity in (("0000000001000000", 0), ("0300000001000000", 3)):
             found = self.deviations(f"18EEFF00#{name}", "18FEEE00#7DFFFFFFFFFFFFFF")
             told = "".join(reversed(re.findall("..", name)))
             self.assertEqual(found[:4], [
-                f"L:1: NAME {told} (identity {int(told, 16)}, manufacturer 0, function 0) claims address 0: no unit has it",
+                f"L:1: NAME {told} (identity {identity}, manufacturer 0, function 0) claims address 0: no unit has it",
                 f"L:2: NAME {told} at address 0 sends ET1, a planned group: no unit has it  (2 times)",
                 f"L:4: TSC1 from DISPLAY to #{told}: no flow",
                 f"L:5: NAME {told} at address 0 sends VI, a planned group: no unit has it"])

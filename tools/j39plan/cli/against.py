@@ -22,6 +22,7 @@ from j39plan.log.checks.unplanned import bounds_of
 from j39plan.log.clock import SECOND, ends_of, nanoseconds
 from j39plan.log.files import Log, interface_option
 from j39plan.log.reports import Counts, follow, tables_of
+from j39plan.log.serial_numbers import by_kind
 from j39plan.plan.cut import bare
 from j39plan.plan.files import opened
 from j39plan.plan.tables import Tables
@@ -135,12 +136,12 @@ def summary_of(log: Log, meter: Meter, comparison: Comparison) -> dict[str, Any]
 def main(words: list[str] | None = None) -> int:
     """Writes the deviations; 0 where there is none, 1 where there is one."""
     given, counts = words_of(words), Counts()
-    with opened(given.plan) as plan, Log(given.logs, given.interface) as log:
-        tables, output, meter = tables_of(plan), Output(given, log), Meter() if given.json else None
+    with opened(given.plan) as plan, Log(given.logs, given.interface) as log, by_kind(plan, tables_of(plan), log.still, given.interface) as (known, tables, others):
+        output, meter = Output(given, log), Meter() if given.json else None
         found = Found(given.all, output.live if given.live else None)
-        settings = Settings(given.jitter, Rule(given.silence, events_of(given.events, tables), given.table))
-        feed, comparison = Feed(tables.groups, tables.timing, meter), Comparison(tables, bounds_of(plan, tables), settings, found)
-        with bare(plan, tables) as (shorter, parts):
+        settings = Settings(given.jitter, Rule(given.silence, events_of(given.events, tables), given.table), others)
+        feed, comparison = Feed(tables.groups, tables.timing, meter), Comparison(tables, bounds_of(known, tables), settings, found)
+        with bare(known, tables) as (shorter, parts):
             for report in follow(shorter, log, parts, counts, feed.pieces, given.live):
                 line, mark = feed.place(report)
                 comparison.report(line, report, mark)
