@@ -202,7 +202,7 @@ class Hands:
 
     def _begun(self, at: int | None, who: Who, before: Who | None, is_defence: bool) -> Contest | None:
         """The contest that a claim begins, with who holds the address, or is guessed there."""
-        if at is None or who.address not in POOL or self._contest(who.address, at):
+        if at is None or who.address is None or who.address not in POOL or self._contest(who.address, at):
             return None
         guessed = self._guessed(who.address)
         if before is not None:
