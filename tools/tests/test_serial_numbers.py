@@ -1,15 +1,16 @@
 """Logs of vehicles whose boxes have other serial numbers than the plan, or of which the plan has none: who is known, and what is told once."""
 
 import json
-import os
 import unittest
 
+from j39plan import program
+from j39plan.log.curves import Timeline
+from j39plan.log.reports import Claim, Who
 from j39plan.log.serial_numbers import names_in, renumbered
 from j39plan.plan.cut import without_numbers
 from j39plan.plan.tables import Tables
-from j39plan import program
 from tests.logs_against import Compared, run
-from tests.support import EXAMPLES, NEWER, InFolder, examples, text_of
+from tests.support import NEWER, InFolder, examples, text_of
 
 # Two units, of which the first one has a kind of its own by its maker, and the other one by the capability of an arbitrary address.
 PLAN = """version = %s
@@ -223,6 +224,18 @@ class ManyTools(InFolder):
         self.assertIn("ENGINE 1\n", run("fleet.py", plan, *logs)[1])
 
 
+class Timelines(InFolder):
+    def test_two_boxes_of_a_unit_hold_two_addresses(self):
+        """Another box takes none from the first one; one that moves leaves its address."""
+        with program.file_of(of_type("PUMP")) as plan:
+            timeline = Timeline(Tables.of(plan).units)
+        claims = [(1, 128, 5), (2, 129, 6), (3, 130, 5)]
+        for _ in timeline.passed(Claim(line, f"({line}.0)", Who("PUMP", None, address), number) for line, address, number in claims):
+            pass
+        self.assertEqual([(part.address, part.holder, part.start, part.end) for part in timeline.held() if part.is_claimed],
+                         [(128, "PUMP", 1.0, 3.0), (129, "PUMP", 2.0, 3.0), (130, "PUMP", 3.0, 3.0)])
+
+
 class Plans(unittest.TestCase):
     def test_a_text_without_numbers(self):
         """However a plan spells a NAME: the copy is the plan of the type, with the version that knows such units."""
@@ -238,7 +251,7 @@ class Plans(unittest.TestCase):
     def test_plans_without_numbers(self):
         """Each example, and one in the words of TOML 1.1, is a plan without the number of a unit too, and the same but for that."""
         count = 0
-        for text in [NEWER, *map(text_of, examples("plan.toml")), text_of(os.path.join(EXAMPLES, "two_units_one_address.toml"))]:
+        for text in [NEWER, *map(text_of, examples(".toml"))]:
             with program.file_of(text) as plan:
                 before = program.shown(plan)
             if "unit 1 name identity" not in before:
@@ -247,7 +260,7 @@ class Plans(unittest.TestCase):
             with program.file_of(without_numbers(text, [1])) as plan:
                 after = program.shown(plan)
             self.assertEqual(after.splitlines(), [line for line in before.splitlines() if not line.startswith("unit 1 name identity ")])
-        self.assertGreater(count, 3)
+        self.assertGreater(count, 20)
 
 
 class Logs(InFolder):

@@ -9,7 +9,7 @@ from collections.abc import Iterable, Iterator
 from typing import NamedTuple
 
 from j39plan import program
-from j39plan.j1939 import ADDRESS_CLAIMED, FRAME_BYTES, GLOBAL_ADDRESS, identity_in, kind_of, pgn_in
+from j39plan.j1939 import ADDRESS_CLAIMED, FRAME_BYTES, GLOBAL_ADDRESS, identity_in, kind_of, pgn_in, source_in
 from j39plan.log.checks.marks import FRAME
 from j39plan.log.files import LINE_MOST, interface_of
 from j39plan.plan.cut import of_any_number
@@ -41,7 +41,7 @@ def name_in(line: bytes) -> int | None:
     if frame is None:
         return None
     identifier, data = int(frame.group(1), 16), bytes.fromhex(frame.group(2).decode())
-    is_claim = pgn_in(identifier) == ADDRESS_CLAIMED and identifier & 255 != GLOBAL_ADDRESS and len(data) == FRAME_BYTES
+    is_claim = pgn_in(identifier) == ADDRESS_CLAIMED and source_in(identifier) != GLOBAL_ADDRESS and len(data) == FRAME_BYTES
     return int.from_bytes(data, "little") if is_claim else None
 
 

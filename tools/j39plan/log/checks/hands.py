@@ -202,10 +202,9 @@ class Hands:
 
     def _begun(self, at: int | None, who: Who, before: Who | None, is_defence: bool) -> Contest | None:
         """The contest that a claim begins, with who holds the address, or is guessed there."""
-        address = who.address
-        if at is None or address is None or address not in POOL or self._contest(address, at):
+        if at is None or who.address is None or who.address not in POOL or self._contest(who.address, at):
             return None
-        guessed = self._guessed(address)
+        guessed = self._guessed(who.address)
         if before is not None:
             defender, is_met = key_of(before), name_of(before) < name_of(who) or not is_defence
         elif guessed is not None:
