@@ -23,7 +23,7 @@ HANDS = 3
 # A unit by its label, anybody else by the NAME.
 Key = str
 
-# A box by `#` and its NAME; one of a unit of which no claim came by the label of the unit.
+# A box by its NAME; one of which no claim came by `?` and its unit.
 Box = str
 
 # The line at which somebody was heard, its time, and the address, None of who could claim none.
@@ -99,8 +99,8 @@ def name_of(who: Who) -> int:
 
 
 def box_of(who: Who) -> Box:
-    """The box of somebody that claimed."""
-    return f"#{who.name}"
+    """The box of somebody."""
+    return who.name or f"?{who.label or ''}"
 
 
 def times_of(tables: Tables) -> dict[Key, int]:
@@ -152,8 +152,8 @@ class Hands:
         key, box, address = key_of(who), box_of(who), who.address
         if at is not None:
             self._pass(at)
-        if key in self._heard:
-            self._heard.setdefault(box, self._heard.pop(key))
+        if (unclaimed := self._heard.pop(f"?{key}", None)) is not None:
+            self._heard.setdefault(box, unclaimed)
         before = self._holders.get(address) if address is not None else None
         is_defence = self._defends(who, at)
         contest = self._begun(at, who, before, is_defence)
@@ -189,7 +189,7 @@ class Hands:
 
     def _is_told(self, unit: Unit) -> bool:
         """Whether a claim came of a NAME of a unit."""
-        return unit.label in self._units_told if unit.identity is None else f"#{unit.number:016X}" in self._told
+        return unit.label in self._units_told if unit.identity is None else f"{unit.number:016X}" in self._told
 
     def _guessed(self, address: int) -> str | None:
         """The unit that is taken to be at an address that nobody claimed: of those that prefer it and of which no claim came the smallest NAME."""
@@ -323,8 +323,8 @@ class Hands:
         """Somebody sends something that is no claim."""
         holder = self._holders.get(who.address) if who.address is not None else None
         if not who.is_guess or holder is None:  # else only the contest tells who it is
-            box = box_of(holder) if holder and key_of(holder) == key_of(who) else box_of(who) if who.name else key_of(who)
-            self._is_heard(line, at, key_of(who), box, who.address)
+            key = key_of(who)
+            self._is_heard(line, at, key, box_of(holder if holder is not None and key_of(holder) == key else who), who.address)
         if self._fresh and at is not None:
             self._pass(at)
             self._is_early(line, at, who)
