@@ -86,7 +86,7 @@ class Hands(Compared):
 
         contest = ("9.0", VALVE_CLAIMS), ("9.1", ET1)
         self.assertIn("unit PUMP: neither claimed an address nor sent anything", found(*contest))
-        self.assertIn("PUMP sends before 250 ms have passed behind its claim of address 128", found(("9.5", PUMP_CLAIMS), ("9.6", ET1)))
+        self.assertIn("PUMP sends before 250 ms have passed after its claim of address 128", found(("9.5", PUMP_CLAIMS), ("9.6", ET1)))
 
     def test_a_frame_of_a_contest_accuses_nobody(self):
         """Who holds an address sends on until it has heard of the claim; once it is heard of elsewhere, the claimer is the one that sends."""
@@ -106,7 +106,7 @@ class Hands(Compared):
             name = self.write("drive.log", "".join(f"({time}) can0 {frame}\n" for time, frame in log))
             answer = run("against.py", self.write("plan.toml", RIVALS % "PUMP"), name)[1]
             return [line.replace(name, "L") for line in answer.splitlines() if "before 250" in line]
-        said = ["L:2: PUMP sends before 250 ms have passed behind its claim of address 128"]
+        said = ["L:2: PUMP sends before 250 ms have passed after its claim of address 128"]
         self.assertEqual(told(("5.0", PUMP_CLAIMS), ("5.249", ET1), ("5.2495", ET1)), said)
         self.assertEqual(told(("5.0", PUMP_CLAIMS), ("5.25", ET1)), [])
         self.assertEqual(told(("4.9", ET1), ("5.0", PUMP_CLAIMS), ("5.1", ET1)), [])

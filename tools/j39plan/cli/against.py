@@ -43,9 +43,9 @@ def words_of(words: list[str] | None) -> argparse.Namespace:
                         help="by how much messages may come nearer than their flow's period, beside the plan's jitter, and further apart than its pause: in "
                         "ms, as 2.5, or a share of these, as 10%% (0)")
     parser.add_argument("--silence", metavar="N", type=periods_of, default=SILENCE,
-                        help=f"after how many periods without a message a flow without a pause is silent; 0: such silences aren't told ({SILENCE})")
+                        help=f"after how many periods without a message a flow without a pause is silent; 0: such silences aren't reported ({SILENCE})")
     parser.add_argument("--events", metavar="FLOW", action="append", default=[],
-                        help="a group, or a flow by its number, that is sent when something happens: no silence of it is told; may be given several times")
+                        help="a group, or a flow by its number, that is sent when something happens: no silence of it is reported; may be given several times")
     parser.add_argument("--table", action="store_true", help="tables first: how often each flow was sent, and how far apart; when each unit was heard; "
                         "requests that the plan doesn't have")
     parser.add_argument("--all", action="store_true", help="all lines of each deviation below it")
@@ -113,7 +113,7 @@ def say_what_is_left(given: argparse.Namespace, distances: Distances) -> None:
         program.say("the log has no times by which the periods of flows could be compared")
     if given.jitter.spelled and distances.passed_over:
         flows = ", ".join(map(str, distances.passed_over))
-        program.say(f"--jitter {given.jitter.spelled} is no less than the period of flow {flows}: how near messages come isn't told there")
+        program.say(f"--jitter {given.jitter.spelled} is no less than the period of flow {flows}: how near messages come isn't reported there")
     if distances.explained:
         flows = ", ".join(map(str, sorted(distances.explained)))
         count = sum(distances.explained.values())

@@ -337,7 +337,7 @@ class Hands:
             return
         if key_of(claimed.who) == key_of(who):
             del self._fresh[claimed.who.address or 0]
-            text = f"{who.spelled} sends before 250 ms have passed behind its claim of address {who.address}"
+            text = f"{who.spelled} sends before 250 ms have passed after its claim of address {who.address}"
             self._found.tell("too-early", text, line, at, unit=who.label)
 
     def _pass(self, at: int) -> None:
