@@ -245,9 +245,9 @@ class Broken(Compared):
         told = OLD.replace("version = 3", "version = 4").replace("length = 8", "length = 8\nwhen = { byte = 1, bits = 8, value = 1 }", 1)
         self.assertEqual(self.breaks(("value = 1 ", "value = 1  "), old=told), [])
         self.assertEqual(self.breaks(("value = 1", "value = 2"), old=told), [
-            "all miss EEC1 of ENGINE: it is told by 8 bits from 1.1 on, which are 2, and not by 8 bits from 1.1 on, which are 1 (old.toml:47)"])
+            "all miss EEC1 of ENGINE: it is selected by 8 bits from 1.1 on, which are 2, and not by 8 bits from 1.1 on, which are 1 (old.toml:47)"])
         self.assertEqual(self.breaks(("byte = 1, bits", "byte = 2, bits"), old=told),
-                         ["all miss EEC1 of ENGINE: only messages are read that are told by 8 bits from 1.1 on, which are 1 (old.toml:18)"])
+                         ["all miss EEC1 of ENGINE: only messages are read that are selected by 8 bits from 1.1 on, which are 1 (old.toml:18)"])
 
     def test_flows(self):
         self.assertEqual(self.breaks(('to = "all"', 'to = "CLUSTER"')), ["BRAKES misses EEC1 of ENGINE: no flow sends it any more"])

@@ -138,7 +138,7 @@ class Against(Numbers):
     def test_who_is_too_early(self):
         """A box of a unit of any number waits like any other."""
         self.assertEqual(self.told(of_type("PUMP"), (1, pump(5)), (1.1, ET1_OF_PUMP)),
-                         ["L:2: PUMP sends before 250 ms have passed behind its claim of address 128"])
+                         ["L:2: PUMP sends before 250 ms have passed after its claim of address 128"])
 
 
 class Contests(Numbers):

@@ -138,7 +138,7 @@ class Layouts:
             yield old, new, "", "lost", f"it has {shown(now)}, and not {shown(before)}"
             return
         if old["when"] not in (None, new["when"]):
-            yield old, new, "", "lost", f"only messages are read that are told by {scales.shown_when(old)}"
+            yield old, new, "", "lost", f"only messages are read that are selected by {scales.shown_when(old)}"
         if not set(now) <= set(before):
             yield old, new, "", "lost", f"it has {shown(now)}, and only messages of {shown(before)} are read"
         for table, judge in (("signal", of_signal), ("text", of_text)):
@@ -234,7 +234,7 @@ class Breaks:
         heard = [other for other in groups.values() if other["pgn"] == group["pgn"] and not are_apart(group, other)]
         if not heard:
             if same is not None and same.label in groups and same["pgn"] == group["pgn"]:
-                why = f"it is told by {scales.shown_when(same)}, and not by {scales.shown_when(group)}"
+                why = f"it is selected by {scales.shown_when(same)}, and not by {scales.shown_when(group)}"
                 yield self._lost(flow, receiver, group, why, same.line("when"))
             elif same is not None and same.label in groups:
                 yield self._lost(flow, receiver, group, f"its number is {same['pgn']}, and not {group['pgn']}", same.line("pgn"))
