@@ -114,7 +114,9 @@ class Hints(InFolder):
         refused = {"cause": "Range", "place": "unit 1", "key": "address", "text": "refused Range unit 1 key address", "line": 4,
                    "hint": "address = 254: integer 0..253"}
         name = self.write("plan.toml", plan.replace("= 0", "= 254"))
-        self.assertEqual(json.loads(run("where.py", "--json", "--lint", name)[1]), {"plan": name, "status": 2, "refused": refused})
+        further = [{"line": 8, "hint": "address = 254: integer 0..253"}]
+        answer = json.loads(run("where.py", "--json", "--lint", name)[1])
+        self.assertEqual((answer.pop("further", further), answer), (further, {"plan": name, "status": 2, "refused": refused}))
         clean = example("first_plan.toml")
         ok = {"plan": clean, "status": 0, "findings": [], "counts": {"units": 2, "groups": 1, "flows": 1}}
         self.assertEqual(json.loads(run("where.py", "--json", clean)[1]), ok)

@@ -44,7 +44,8 @@ def command() -> list[str]:
 def answer_of(plan: str) -> tuple[int, bytes]:
     """The status and the standard output of the command on a plan."""
     try:
-        ended = subprocess.run([*command(), "--", plan], stdout=subprocess.PIPE, check=False)
+        # A plan may be named by a descriptor that the shell has opened, as /dev/fd/7.
+        ended = subprocess.run([*command(), "--", plan], stdout=subprocess.PIPE, check=False, close_fds=False)
     except OSError as fault:
         program.say(f"{command()[0]}: {fault.strerror}")
         return NO_COMMAND, b""
