@@ -6,6 +6,7 @@ pub mod Before
 pub mod BoundedFlows
 pub mod Broadcasting
 pub mod CompanyStreams
+pub mod DemandLaws
 pub mod Different
 pub mod EachFrames
 pub mod DamagedFirst
