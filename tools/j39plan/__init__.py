@@ -16,29 +16,21 @@ spell no frame, is a warning of the category `Notice`.
 
 from __future__ import annotations
 
-import contextlib
-import io
-import json
-import os
-import subprocess
+import importlib
 import sys
-import warnings
-from collections.abc import Iterable, Iterator, Mapping
-from decimal import Decimal
-from typing import IO, TYPE_CHECKING, Any, NamedTuple
+from typing import TYPE_CHECKING
 
-from j39plan._tools import (
-    answers, fleet_drives, log_clock, log_readings, log_reports, message_lines, plan_parts, plan_places, plan_tables, program, toml_places,
-)
-from j39plan._tools.answers import Age, Delay, Finding, Load, Stand
-from j39plan._tools.fleet_drives import Deviation, Drive
-from j39plan._tools.log_reports import Acknowledgement, Claim, Request, Who
-from j39plan._tools.plan_tables import Flow, Group, Need, Signal, Text, Unit
-from j39plan._tools.plan_tables import Request as Asking
-from j39plan._tools.program import Refused
+from j39plan.program import MISSING
+
+if sys.version_info < (3, 11):
+    print("the tools of j39plan need Python 3.11 or later", file=sys.stderr)
+    sys.exit(MISSING)
 
 if TYPE_CHECKING:
-    import pandas
+    from j39plan.api import (
+        Acknowledgement, Age, Asking, Claim, Delay, Deviation, Drive, Finding, Flow, Group, Load, Message, Need, Notice, Plan, Reading, Readings,
+        Refused, Request, Signal, Stand, Text, Unit, Who, deviations, drive, follow, frame, read_plan, signals,
+    )
 
 __all__ = [
     "Acknowledgement", "Age", "Asking", "Claim", "Delay", "Deviation", "Drive", "Finding", "Flow", "Group", "Load", "Message", "Need", "Notice",
@@ -46,262 +38,12 @@ __all__ = [
     "read_plan", "signals",
 ]
 
-# The columns of a data frame that have few different texts.
-WORDS = ("from", "to", "group", "signal", "state", "unit", "detail")
+if not TYPE_CHECKING:
+    def __getattr__(name: str) -> object:
+        """What the package hands out, loaded when it is asked for: no command needs it."""
+        if name not in __all__:
+            raise AttributeError(f"module {__name__!r} has no attribute {name!r}")
+        return getattr(importlib.import_module("j39plan.api"), name)
 
-
-class Notice(UserWarning):
-    """What a tool says on standard error of a log that it reads: lines that spell no frame, interfaces that weren't read, a clock that was set."""
-
-
-class Reading(NamedTuple):
-    """What a message has of a signal: the `state` (`value`, `absent`, `fault`, `text` ..); the `value` in the `unit` of measurement, exactly, None
-    where the state is another one; and what else is said, as the name of a value, the number of a fault, or a text."""
-
-    state: str
-    value: Decimal | None
-    unit: str
-    detail: str
-
-
-class Readings(Mapping[str, Reading]):
-    """The readings of a message by the labels of its signals and texts; of records with their numbers, as `SPN[2]`."""
-
-    def __init__(self, group: Group, lines: Iterable[str]) -> None:
-        self._units = {part.label: part.unit for part in group.signals}
-        self._said = {label: said for label, _, said in (line.strip().partition(" ") for line in lines)}
-
-    def __getitem__(self, label: str) -> Reading:
-        scale = log_readings.scale_of(self._units.get(label.partition("[")[0], ""))
-        state, value, unit, detail = log_readings.reading_of(self._said[label], scale)
-        return Reading(state, Decimal(value) if value else None, unit, detail)
-
-    def __iter__(self) -> Iterator[str]:
-        return iter(self._said)
-
-    def __len__(self) -> int:
-        return len(self._said)
-
-    def __repr__(self) -> str:
-        return repr(dict(self))
-
-
-class Message(NamedTuple):
-    """A message of a planned group: the line of its last frame and its time; from whom to whom; the number of its flow, 0 where it has
-    none; the priority, where it came in one frame and that isn't the group's; its bytes as hex digits; and the readings of its signals."""
-
-    line: int
-    time: str
-    group: str
-    sender: Who
-    to: Who
-    flow: int
-    priority: int | None
-    data: str
-    signals: Readings
-
-
-class Plan:
-    """A plan that the program can read, whatever `check` finds in it.
-
-    `name` is the name of its file, `text` what that holds, and `shown` what `show` answers of it. `version` is that of the format; `kept` are the
-    addresses that no unit may choose; `units`, `groups`, `flows` and `needs` stand in the order of the file, as `Unit`, `Group` (with its `signals`
-    and `texts`), `Flow` and `Need`, and `requests` as `Asking`; which flows meet a need says `need.is_met_by(flow)`. Of each the keys that aren't
-    said have their defaults. Bytes and bits count from 1, lengths are in bytes, widths in bits, periods in ms; the value of a signal's raw number,
-    in its `unit`, is `signal.value(raw)`, exactly, and `signal.values` has the names of raw numbers. `strangers` is how many further units may
-    come.
-    """
-
-    def __init__(self, name: str, text: str) -> None:
-        self.name, self.text = name, text
-        with _with_program(), program.file_of(text) as plan:
-            self.shown = program.shown(plan)
-        top, tables = plan_tables.Top.of(toml_places.Places(text)), plan_tables.Tables(self.shown)
-        self.version: int = top.version
-        self.kept: list[int] = top.kept
-        self.units: list[Unit] = tables.units
-        self.groups: list[Group] = tables.groups
-        self.flows: list[Flow] = tables.flows
-        self.needs: list[Need] = tables.needs
-        self.requests: list[Asking] = tables.requests
-        self.strangers: int = tables.strangers
-        self.tables = tables
-
-    def __repr__(self) -> str:
-        return f"<plan {self.name}: {len(self.units)} units {len(self.groups)} groups {len(self.flows)} flows>"
-
-    def findings(self) -> list[Finding]:
-        """What `check` finds: of each its `text`, as `F8 SignalOverlap ..`, the `line` of the file, a `hint`, and the `steps` of a run that shows
-        it. The list is empty where `check` says ok."""
-        return list(answers.findings(plan_places.Plan(self.text), self._answer("check")))
-
-    def stands(self) -> dict[str, Stand]:
-        """By the labels of units whether each `stays` at its `address` in every run. Empty where the addresses have findings."""
-        return answers.stands(self._answer("addresses"))
-
-    def load(self) -> Load | None:
-        """What `load` tells: the `delays` of flows and the `ages` of what is needed, in us, and of how many bits a second how many are `taken`,
-        None where the plan has findings before that. None of a plan that says nothing of its bus."""
-        return answers.load_of(self._answer("load"))
-
-    def decode(self, identifier: int, data: bytes | str) -> Message | None:
-        """The message that a frame with this identifier of 29 bits and these data is, bytes or hex digits, or None where no group of the plan fits:
-        `plan.decode(0x0CF00400, "FFFFFF0019FFFFFF").signals["SPN190"].value`. Who sent it is known by the plan alone. A message of more than 8
-        bytes has the identifier that a frame of its group would have. The program is started for each: for a log take `signals` or `frame`.
-
-        Raises `ValueError` where there is no such frame, and `Refused` as `follow` does."""
-        log = message_lines.log_of(identifier, bytes.fromhex(data) if isinstance(data, str) else bytes(data))
-        with program.file_of(log) as name:
-            return next((report for report in follow(self, name) if isinstance(report, Message)), None)
-
-    def _answer(self, command: str) -> str:
-        """What a command of the program writes of the plan."""
-        with _with_program(), program.file_of(self.text) as plan:
-            return program.call([command, "--", plan])[1]
-
-
-def read_plan(name: str | os.PathLike[str]) -> Plan:
-    """The plan of a file.
-
-    Raises `Refused`, whose text begins with file and line, where the file is no plan; `OSError` where it can't be opened.
-    """
-    name = os.fspath(name)
-    with _with_program():
-        return Plan(name, plan_parts.text_of(name))
-
-
-def follow(plan: Plan, log: str | os.PathLike[str]) -> Iterator[Message | Claim | Request | Acknowledgement]:
-    """The reports of a log of `candump -L`, one by one as `follow` writes them: messages of planned groups, claims, requests, and of a plan
-    with requests acknowledgements.
-
-    Of each the `line`, from 1, and the `time` as the log spells it, in brackets; who sent it (`sender`, `to`) or claimed (`who`). A
-    message has its `group`, the number of its `flow`, from 1 and 0 for none, its `data` as hex digits, and its `signals`, by their labels
-    the `Readings`.
-
-    Raises `Refused` where the plan has a group that can't be laid out, where the log has lines and no frame, and where the program fails in the
-    midst; `OSError` where the log can't be opened.
-    """
-    log, groups = os.fspath(log), {group.label: group for group in plan.groups}
-    with open(log, "rb"), _with_program(), program.file_of(plan.text) as copy:
-        words = [program.path(), "follow", "--", copy, log]
-        with subprocess.Popen(words, stdin=subprocess.DEVNULL, stdout=subprocess.PIPE, stderr=subprocess.PIPE) as process:
-            assert process.stdout is not None and process.stderr is not None
-            ended, counts = _Ended(), log_reports.Counts()
-            for report in log_reports.reports_of(ended.passed(io.TextIOWrapper(process.stdout, "ascii")), plan.tables, counts):
-                yield Message(*report[:-1], Readings(groups[report.group], report.signals)) if isinstance(report, log_reports.Message) else report
-            said = process.stderr.read().decode(errors="replace").strip()
-        if process.returncode:
-            raise Refused(process.returncode, ended.refusal or f"{log}: {said}")
-    if counts.frames == 0 and counts.bad:
-        raise Refused(program.UNREADABLE, f"{log} has no frame, and {counts.bad} lines that spell none: {log_reports.CONVERTER}")
-    _notice(counts.told())
-
-
-def signals(plan: Plan, log: str | os.PathLike[str], names: str | Iterable[str] = ()) -> Iterator[dict[str, Any]]:
-    """The signals of a log, a row each: all, or those of `names`: a group, a signal or `GROUP.SIGNAL`, or several. `frame` has them for pandas.
-
-    A row is an object that `j39plan-signals --json` writes: `time` (seconds, as a float), `line`, `from`, `to`, `group`, `signal`,
-    `state` (`value`, `absent`, `fault` ..), `value` (a number in the unit of measurement, where the state is `value`), `unit` and what else
-    that tool has. A key is left out where there is nothing to say. Raises as `follow` does, and `Refused` for a name that the plan
-    doesn't have.
-    """
-    with _table(plan, log, names, "--json") as rows:
-        yield from map(json.loads, rows)
-
-
-def frame(plan: Plan, log: str | os.PathLike[str], names: str | Iterable[str] = ()) -> pandas.DataFrame:
-    """The signals of a log as a table of pandas, whose index is the time, in UTC: the columns of `j39plan-signals --csv`, texts as categories,
-    addresses and lines as integers. It takes a tenth of the memory of `pandas.DataFrame(signals(..))`. Raises as `signals` does, and
-    `ImportError` where pandas is missing."""
-    import pandas
-
-    types = {word: "category" for word in ("time", *WORDS)} | {"source": "UInt8", "destination": "UInt8", "line": "int64", "value": "float64"}
-    with _table(plan, log, names, "--csv") as rows:
-        table = pandas.read_csv(rows, dtype=types, keep_default_na=False, na_values=[""])
-    for word in WORDS:
-        table[word] = table[word].cat.reorder_categories(sorted(table[word].cat.categories))
-    times = table.pop("time").cat
-    moments = [log_clock.nanoseconds(f"({time})") for time in times.categories]
-    table.index = pandas.DatetimeIndex(pandas.to_datetime(moments, unit="ns", utc=True).take(times.codes), name="time")
-    return table
-
-
-@contextlib.contextmanager
-def _table(plan: Plan, log: str | os.PathLike[str], names: str | Iterable[str], form: str) -> Iterator[IO[bytes]]:
-    """What `j39plan-signals` writes of a log in a form."""
-    log, chosen = os.fspath(log), [names] if isinstance(names, str) else list(names)
-    with open(log, "rb"), _with_program(), program.file_of(plan.text) as copy:
-        words = [sys.executable, fleet_drives.command("signals"), form, "--", copy, log, *chosen]
-        with subprocess.Popen(words, stdin=subprocess.DEVNULL, stdout=subprocess.PIPE, stderr=subprocess.PIPE) as process:
-            assert process.stdout is not None and process.stderr is not None
-            fault: Exception | None = None
-            try:
-                yield process.stdout
-            except ValueError as why:  # of a table that ended before its heads
-                fault = why
-            said = [line.partition(": ")[2] or line for line in process.stderr.read().decode(errors="replace").splitlines()]
-        if process.returncode:
-            raise Refused(process.returncode, said[-1] if said else f"{log}: j39plan-signals ended with {process.returncode}")
-    if fault:
-        raise fault
-    _notice(said, 5)
-
-
-def _notice(told: Iterable[str], level: int = 3) -> None:
-    """Warns of what tools say, at a place so many calls above."""
-    for text in told:
-        warnings.warn(text, Notice, stacklevel=level)
-
-
-def deviations(plan: Plan, log: str | os.PathLike[str], options: Iterable[str] = ()) -> list[Deviation]:
-    """Where a log isn't as the plan has it, as `j39plan-against --json` writes it: of each its `line`, None where it has none, its `text`, how many
-    `times` it was met, its `kind`, the number of its `flow`, its `unit`, the `time` of the line in seconds, and the `value` that was measured.
-    `options` are those of that tool, as `["--jitter", "2.5"]`. Raises as `follow` does."""
-    log = os.fspath(log)
-    with open(log, "rb"), _with_program(), program.file_of(plan.text) as copy:
-        found, said, _ = fleet_drives.compared(copy, log, list(options))
-    _notice(said)
-    return found
-
-
-def drive(plan: Plan, log: str | os.PathLike[str], options: Iterable[str] = ()) -> Drive:
-    """What `j39plan-fleet` takes of a log: a table with its deviations, counts, silences (in seconds), claims, and the least and greatest
-    values of its signals. It raises nothing: a log that can't be read says so by `failed`."""
-    return fleet_drives.drive_of(plan.text, plan.shown, os.fspath(log), os.path.abspath(log), list(options))
-
-
-class _Ended:
-    """The lines of `follow`, of which a refusal is kept and not passed on."""
-
-    def __init__(self) -> None:
-        self.refusal = ""
-
-    def passed(self, lines: Iterable[str]) -> Iterator[str]:
-        """The lines but a refusal."""
-        for line in lines:
-            if line.startswith("refused "):
-                self.refusal = line.strip()
-            else:
-                yield line
-
-
-def fleet_task(plan: str, shown: str, log: str, path: str, options: list[str]) -> Drive:
-    """What `j39plan-fleet` has a worker of a cluster do."""
-    return fleet_drives.drive_of(plan, shown, log, path, options)
-
-
-def fleet_version() -> str:
-    """The version of the program that this process finds, empty where there is none."""
-    try:
-        return program.call(["--version"])[1].strip()
-    except SystemExit:
-        return ""
-
-
-@contextlib.contextmanager
-def _with_program() -> Iterator[None]:
-    """Says by `Refused` that there is no program: the tools end there."""
-    try:
-        yield
-    except SystemExit as end:
-        raise Refused(int(end.code or 0), "j39plan isn't there, or can't be run: name it by the variable J39PLAN") from None
+    def __dir__() -> list[str]:
+        return sorted([*globals(), *__all__])

@@ -3,7 +3,7 @@
 import tomllib
 from typing import Any
 
-from modules import program
+from j39plan import program
 from tests.support import InFolder, run
 
 DBC = '''VERSION ""

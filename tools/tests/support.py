@@ -8,7 +8,7 @@ import sys
 import tempfile
 import unittest
 
-from modules import program
+from j39plan import program
 
 TOOLS = os.path.dirname(os.path.dirname(os.path.realpath(__file__)))
 TOP = os.path.dirname(TOOLS)

@@ -5,7 +5,7 @@ import re
 import unittest
 from collections import Counter
 
-from modules import program
+from j39plan import program
 from tests import support
 from tests.support import MARKED, NEWER, InFolder, example, text_of
 

@@ -6,8 +6,9 @@ import os
 import re
 import unittest
 
-from modules import answer_grammar, program
-from modules.answers import Age, Delay, load_of, stands
+from j39plan import program
+from j39plan.plan import answer_grammar
+from j39plan.plan.answers import Age, Delay, load_of, stands
 from tests.support import TOP, InFolder, example, run, text_of
 
 CASES = os.path.join(TOP, "crates", "examples_check", "data")

@@ -8,7 +8,7 @@ import sys
 import unittest
 import xml.etree.ElementTree as ElementTree
 
-from modules import program
+from j39plan import program
 from tests.support import TOOLS, TOP, InFolder, example, text_of
 
 CLEAN, FOUND = example("first_plan.toml"), example("findings/f10_flow_to_self.toml")
@@ -143,7 +143,7 @@ class CheckPlans(InFolder):
             self.assertEqual(self.status("-x.toml", check=check), (0, "-x.toml\nok 2 units 1 groups 1 flows\n"))
 
     def test_a_fault_of_a_tool_is_a_fault_of_the_job(self):
-        tool = self.write("tool.py", f"import sys; sys.path.insert(0, {TOOLS!r}); from modules import program; program.end(lambda: [][0])\n")
+        tool = self.write("tool.py", f"import sys; sys.path.insert(0, {TOOLS!r}); from j39plan import program; sys.exit(program.status_of(lambda: [][0]))\n")
         self.assertEqual(self.status(CLEAN, check=f"{sys.executable} {tool}")[0], 2)
 
 

@@ -3,7 +3,7 @@
 import random
 import unittest
 
-from modules.log_clock import DAY, SECOND, Clock
+from j39plan.log.clock import DAY, SECOND, Clock
 
 
 def spelled(rng, at):

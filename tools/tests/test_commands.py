@@ -3,7 +3,7 @@
 import re
 import unittest
 
-from modules import program
+from j39plan import program
 from tests.support import TOP, text_of
 
 

@@ -9,13 +9,14 @@ import tomllib
 import unittest
 from types import SimpleNamespace
 
-from modules import matrix_plan, program
-from modules.dbc_names import IDENTITY_ATTRIBUTE, NAME_ATTRIBUTES
-from modules.left_out import Notes
-from modules.matrix_file import import_canmatrix
-from modules.matrix_merge import Network
-from modules.matrix_signals import Signals as PlannedSignals
-from modules.plan_text import text_of
+from j39plan import program
+from j39plan.dbc import to_plan
+from j39plan.dbc.merge import Network
+from j39plan.dbc.names import IDENTITY_ATTRIBUTE, NAME_ATTRIBUTES
+from j39plan.dbc.reader import import_canmatrix
+from j39plan.dbc.signals import Signals as PlannedSignals
+from j39plan.left_out import Notes
+from j39plan.plan.text import text_of
 from tests.dbc_files import DBC, WithDbc, message
 from tests.support import InFolder, needs, run
 
@@ -508,7 +509,7 @@ class Periods(InFolder):
         with contextlib.redirect_stderr(said):
             network = Network(Notes())
             network.add(matrix)
-            plan = matrix_plan.Plan(network, network.notes, version=version)
+            plan = to_plan.Plan(network, network.notes, version=version)
             plan.add_units()
             plan.add_frames(network.sent)
         flows = [flow.finished() for flow in plan.flows.values()]
@@ -662,7 +663,7 @@ class Whole(WithDbc):
             with contextlib.redirect_stderr(io.StringIO()):
                 network = Network(Notes())
                 network.add(db)
-                plan = matrix_plan.Plan(network, network.notes, version=version)
+                plan = to_plan.Plan(network, network.notes, version=version)
                 plan.add_units()
                 plan.add_frames(network.sent)
             needed += len(plan.needs)

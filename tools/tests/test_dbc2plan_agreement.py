@@ -8,9 +8,9 @@ import random
 import tomllib
 import unittest
 
-import dbc2plan
-from modules.left_out import Notes
-from modules.plan_text import text_of
+from j39plan.cli import dbc2plan
+from j39plan.left_out import Notes
+from j39plan.plan.text import text_of
 from tests.dbc_files import WithDbc, message
 from tests.support import needs, run
 

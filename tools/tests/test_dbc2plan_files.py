@@ -10,11 +10,11 @@ import sys
 import tomllib
 import unittest
 
-import dbc2plan
-from modules import program
-from modules.left_out import LeftOut, Notes
-from modules.matrix_file import import_canmatrix
-from modules.plan_text import text_of
+from j39plan import program
+from j39plan.cli import dbc2plan
+from j39plan.dbc.reader import import_canmatrix
+from j39plan.left_out import LeftOut, Notes
+from j39plan.plan.text import text_of
 from tests.dbc_files import DBC, WithDbc, message
 from tests.support import TOOLS, needs, run
 

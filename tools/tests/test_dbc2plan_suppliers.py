@@ -7,7 +7,7 @@ import subprocess
 import sys
 import tomllib
 
-from modules import program
+from j39plan import program
 from tests.dbc_files import DBC, WithDbc, message
 from tests.support import TOOLS, example, needs, run, text_of
 

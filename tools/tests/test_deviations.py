@@ -9,9 +9,9 @@ import subprocess
 import sys
 import time
 
-from modules import program
-from modules.log_marks import Feed
-from modules.plan_tables import Tables
+from j39plan import program
+from j39plan.log.checks.marks import Feed
+from j39plan.plan.tables import Tables
 from tests.support import TOOLS, InFolder, run, without_times
 
 # Two units that may choose from 128 on, one that is fixed; HITCH sends each 5 s, EBC1 each 100 ms.

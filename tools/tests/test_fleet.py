@@ -12,7 +12,7 @@ import sys
 import time
 import unittest
 
-from modules import program
+from j39plan import program
 from tests.support import TOOLS, InFolder, example, run, text_of
 
 PLAN, LOG = example("two_units_one_address.toml"), example("two_units_one_address.drive.log")

@@ -12,8 +12,8 @@ import tempfile
 import time
 import unittest
 
-from modules import program
-from modules.log_reports import CONVERTER
+from j39plan import program
+from j39plan.log.reports import CONVERTER
 from tests.support import TOOLS, InFolder, example, run, text_of
 
 PLAN, LOG = example("tractor_and_implement.toml"), example("tractor_and_implement.start.log")

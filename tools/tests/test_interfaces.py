@@ -8,10 +8,10 @@ import subprocess
 import sys
 import unittest
 
-from modules.log_curves import Timeline, curves_of
-from modules.log_files import LINE_MOST, Log, interface_of
-from modules.log_readings import Choice, Wanted
-from modules.log_reports import Counts, follow, tables_of
+from j39plan.log.curves import Timeline, curves_of
+from j39plan.log.files import LINE_MOST, Log, interface_of
+from j39plan.log.readings import Choice, Wanted
+from j39plan.log.reports import Counts, follow, tables_of
 from tests.support import TOOLS, InFolder, example, run
 
 PLAN = example("tractor_and_implement.toml")

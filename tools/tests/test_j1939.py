@@ -3,7 +3,8 @@
 import os
 import re
 
-from modules import j1939, plan_format, program
+from j39plan import j1939, program
+from j39plan.plan import schema
 from tests.support import TOP, InFolder, text_of
 
 GROUP = '[[group]]\nlabel = "G{0}"\npgn = {0}\npriority = 6\nlength = 8\n'
@@ -37,7 +38,7 @@ class Numbers(InFolder):
         table = PAGE.partition("| Bits of the NAME |")[2].partition("\n\n")[0]
         rows = re.findall(r"\n\| `(\w+)` \|[^|]*\|[^|]*\| (\d+)(?:\.\.(\d+))? \|", table)
         self.assertEqual([(key, int(first), int(last or first) + 1 - int(first)) for key, first, last in rows], list(j1939.NAME_FIELDS))
-        rules = plan_format.schema()["definitions"]["name"]["properties"]
+        rules = schema.schema()["definitions"]["name"]["properties"]
         self.assertEqual([(key, rule["maximum"] + 1) for key, rule in rules.items() if key != "arbitrary"],
                          [(key, 1 << width) for key, _, width in j1939.NAME_FIELDS if key != "arbitrary"])
 

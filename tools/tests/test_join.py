@@ -4,7 +4,7 @@ import re
 import tomllib
 import unittest
 
-from modules import program
+from j39plan import program
 from tests.support import InFolder, example, needs, run, signal, text_of
 
 ENGINE = """# The engine maker's part.

@@ -9,7 +9,7 @@ import sys
 import time
 import unittest
 
-from modules import program
+from j39plan import program
 from tests.support import TOP, InFolder, example, needs, text_of
 
 PLAN = example("tractor_and_implement.toml")

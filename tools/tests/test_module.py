@@ -12,7 +12,7 @@ import warnings
 from decimal import Decimal
 
 import j39plan
-from modules import program
+from j39plan import program
 from tests.support import TOOLS, TOP, InFolder, example, run, text_of, without_times
 
 PLAN, LOG = example("tractor_and_implement.toml"), example("tractor_and_implement.start.log")
@@ -33,14 +33,26 @@ class Module(InFolder):
 
     def test_it_is_in_nobodys_way(self):
         """A program may have modules of the names that the tools and their modules have, before and behind it."""
-        for name in ("program", "log_reports", "signals", "modules"):
+        for name in ("program", "reports", "signals", "plan"):
             self.write(f"{name}.py", f"whose = 'mine, {name}'\n")
-        text = ("import program\nimport j39plan, log_reports, signals, sys, pickle\nfrom modules import whose\n"
-                "print(program.whose, log_reports.whose, signals.whose, whose, sep='; ')\n"
-                "print(sorted(name for name in sys.modules if name in ('where', 'plan_tables', 'log_readings', 'report')))\n"
+        text = ("import program\nimport j39plan, reports, signals, sys, pickle\nfrom plan import whose\n"
+                "print(program.whose, reports.whose, signals.whose, whose, sep='; ')\n"
+                "print(sorted(name for name in sys.modules if name in ('where', 'tables', 'readings', 'report')))\n"
                 f"plan = j39plan.read_plan({PLAN!r})\n"
                 "print(pickle.loads(pickle.dumps(plan.units)) == plan.units, pickle.loads(pickle.dumps(j39plan.Refused(2, 'x'))) is not None)\n")
-        self.assertEqual(self.script(text), "mine, program; mine, log_reports; mine, signals; mine, modules\n[]\nTrue True\n")
+        self.assertEqual(self.script(text), "mine, program; mine, reports; mine, signals; mine, plan\n[]\nTrue True\n")
+
+    def test_what_is_handed_out(self):
+        """All that the package lists is there, the same in both lists, and nothing else; importing it loads none of it."""
+        from j39plan import api
+        self.assertEqual(j39plan.__all__, api.__all__)
+        for name in j39plan.__all__:
+            self.assertIs(getattr(j39plan, name), getattr(api, name))
+            self.assertIn(name, dir(j39plan))
+        with self.assertRaises(AttributeError):
+            j39plan.contextlib
+        self.assertEqual(self.script("import j39plan, sys\nprint('j39plan.api' in sys.modules, j39plan.read_plan is sys.modules['j39plan.api'].read_plan)\n"),
+                         "False True\n")
 
     @unittest.skipUnless(importlib.util.find_spec("pandas"), "pandas isn't there: apt-get install python3-pandas")
     def test_the_lines_of_the_page(self):

@@ -8,13 +8,15 @@ import os
 import re
 import shutil
 import subprocess
+import sys
 import tarfile
 import tempfile
+import tomllib
 import unittest
 from concurrent.futures import ThreadPoolExecutor
 
-from modules import program
-from tests.support import TOOLS, TOP, InFolder, text_of
+from j39plan import program
+from tests.support import TOOLS, TOP, InFolder, run, text_of
 
 PACKAGE = os.path.join(TOOLS, "package")
 COMMANDS = ["show", "check", "addresses", "load", "run", "read", "follow", "frame", "help"]
@@ -109,7 +111,7 @@ class Built(InFolder):
         self.assertTrue(os.path.exists(f"{prefix}/share/j39plan/tools/plan.schema.json"))
 
     def test_the_python_module_is_found(self):
-        """Where its package puts it, and where the tarball has it; without the modules of the tools beside it."""
+        """Where its package puts it, and where the tarball has it; without the commands beside it."""
         root, tar = self.path("root"), self.path("tar")
         os.mkdir(tar)
         for package in self.packages:
@@ -173,6 +175,38 @@ class Built(InFolder):
                 self.assertEqual([line for line in said.splitlines() if line[:2] in ("E:", "W:")], missed)
 
 
+class Wheel(InFolder):
+    def test_it_names_each_command(self):
+        """That of the package, which a file of its name in tools/ runs; its version is that of the program."""
+        with open(os.path.join(TOOLS, "pyproject.toml"), "rb") as file:
+            project = tomllib.load(file)["project"]
+        self.assertEqual(project["scripts"], {f"j39plan-{tool}": f"j39plan.cli.{tool}:main" for tool in INSTALLED if tool != "check-plans"})
+        self.assertEqual(project["version"], lines_of(program.path(), "--version")[0].split()[1])
+        modules = glob.glob("[!_]*.py", root_dir=os.path.join(TOOLS, "j39plan", "cli"))
+        self.assertEqual(sorted(modules), sorted(glob.glob("*.py", root_dir=TOOLS)))
+        self.assertEqual(sorted(modules), sorted(f"{tool}.py" for tool in INSTALLED if tool != "check-plans"))
+
+    @unittest.skipUnless(all(map(importlib.util.find_spec, ("pip", "setuptools", "wheel"))), "pip, setuptools or wheel isn't there: apt-get install python3-pip")
+    def test_what_pip_installs_works(self):
+        """The commands and the module, from a copy of what the wheel is made of."""
+        os.mkdir(self.path("tools"))
+        shutil.copy(os.path.join(TOOLS, "pyproject.toml"), self.path("tools"))
+        shutil.copytree(os.path.join(TOOLS, "j39plan"), self.path("tools/j39plan"), ignore=shutil.ignore_patterns("__pycache__"))
+        words = ["pip", "install", "--quiet", "--no-index", "--no-deps", "--no-build-isolation", "--disable-pip-version-check", "--target"]
+        subprocess.run([sys.executable, "-m", *words, self.path("there"), self.path("tools")], check=True, capture_output=True)
+        there = {**os.environ, "J39PLAN": os.path.abspath(program.path()), "PYTHONPATH": self.path("there")}
+        plan, log = (os.path.join(TOP, "examples", f"two_units_one_address.{end}") for end in ("toml", "drive.log"))
+        for tool in (tool for tool in INSTALLED if tool != "check-plans"):
+            said = lines_of(self.path(f"there/bin/j39plan-{tool}"), "--version", env=there, cwd=self.folder)
+            self.assertEqual(said, [f"{tool} (j39plan) {lines_of(program.path(), '--version')[0].split()[1]}"])
+        for tool, words in (("fleet", (plan, log)), ("signals", (plan, log)), ("where", ("--lint", plan)), ("join", (plan, os.path.join(TOP, "examples/axle.toml")))):
+            shown = subprocess.run([self.path(f"there/bin/j39plan-{tool}"), *words], env=there, cwd=self.folder, capture_output=True, text=True, check=False)
+            self.assertEqual((shown.returncode, shown.stdout, shown.stderr), run(f"{tool}.py", *words))
+        script = f"import j39plan; plan = j39plan.read_plan({plan!r}); print(len(list(j39plan.signals(plan, {log!r}))), j39plan.__file__)"
+        count, where = lines_of(sys.executable, "-c", script, env=there, cwd=self.folder)[0].split()
+        self.assertTrue(int(count) > 0 and where.startswith(self.path("there")), where)
+
+
 class Pages(unittest.TestCase):
     @unittest.skipUnless(shutil.which("groff"), "groff isn't there: apt-get install groff")
     def test_man_pages_have_no_faults(self):
@@ -221,7 +255,7 @@ class Completions(InFolder):
     def test_bash(self):
         self.assertEqual(self.complete_bash("j39plan", ""), COMMANDS + ["--help", "--version"])
         self.assertEqual(self.complete_bash("j39plan", "r"), ["run", "read"])
-        self.assertEqual(self.complete_bash("j39plan", "check", "plan.s"), ["plan.schema.json"])
+        self.assertEqual(self.complete_bash("j39plan", "check", "plan.s", cwd=os.path.join(TOOLS, "j39plan")), ["plan.schema.json"])
         self.assertEqual(self.complete_bash("j39plan", "help", "f"), ["follow", "frame"])
 
     def test_bash_of_files(self):
@@ -261,7 +295,7 @@ class Completions(InFolder):
         script = f"source {PACKAGE}/completions/j39plan.fish; complete -C '{{}}'"
         offered = lines_of("fish", "--no-config", "-c", script.format("j39plan "), cwd=TOOLS)
         self.assertEqual(sorted(line.split("\t")[0] for line in offered), sorted(COMMANDS))
-        offered = lines_of("fish", "--no-config", "-c", script.format("j39plan check plan.s"), cwd=TOOLS)
+        offered = lines_of("fish", "--no-config", "-c", script.format("j39plan check plan.s"), cwd=os.path.join(TOOLS, "j39plan"))
         self.assertEqual([line.split("\t")[0] for line in offered], ["plan.schema.json"])
 
     @unittest.skipUnless(shutil.which("fish"), "fish isn't there: apt-get install fish")

@@ -11,8 +11,8 @@ import unittest
 from fractions import Fraction
 from math import gcd
 
-from modules import program
-from modules.matrix_file import import_canmatrix
+from j39plan import program
+from j39plan.dbc.reader import import_canmatrix
 from tests.support import MARKED, NEWER, TOOLS, TOP, InFolder, example, examples, needs, run, text_of
 
 KINDS = {

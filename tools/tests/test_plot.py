@@ -10,12 +10,12 @@ import sys
 import unittest
 import xml.etree.ElementTree as ElementTree
 
-from modules import program
-from modules.log_clock import ends_of
-from modules.log_curves import Held, Timeline, curves_of
-from modules.log_files import Log
-from modules.log_readings import Choice, Wanted
-from modules.log_reports import Counts, follow, tables_of
+from j39plan import program
+from j39plan.log.clock import ends_of
+from j39plan.log.curves import Held, Timeline, curves_of
+from j39plan.log.files import Log
+from j39plan.log.readings import Choice, Wanted
+from j39plan.log.reports import Counts, follow, tables_of
 from tests.support import TOOLS, InFolder, example, needs, run, signal
 
 PLAN = example("tractor_and_implement.toml")
@@ -197,7 +197,7 @@ class Drawn(WithLog):
 
     def test_lines_end_where_nothing_came(self):
         """For ten times the usual distance and a second: there no line is drawn, and one begins anew."""
-        from modules.log_chart import broken
+        from j39plan.log.chart import broken
 
         times = [0.0, 0.1, 0.2, 0.3, 1.3, 1.4, 2.5, 2.6]
         values = [1.0, 2.0, 3.0, 4.0, 5.0, 6.0, 7.0, 8.0]
@@ -209,7 +209,7 @@ class Drawn(WithLog):
         self.assertEqual(broken([0, 1, 2, 3], slow, values)[0], slow)
 
     def test_claims_narrower_than_a_column_are_one_box(self):
-        from modules.log_chart import merged
+        from j39plan.log.chart import merged
 
         fight = [Held(128, ("PUMP", "#0000000000000003")[number % 2], 5 + number / 100, 5 + (number + 1) / 100, True) for number in range(500)]
         held = [Held(128, "PUMP", 0.0, 5.0, True), *fight, Held(128, "PUMP", 10.0, 20.0, True), Held(129, "PUMP", 0.0, 0.01, True)]
@@ -224,7 +224,7 @@ class Drawn(WithLog):
 
     def test_units_have_one_colour(self):
         """In each signal and in their boxes, ten of them before lines are dashed."""
-        from modules.log_chart import Colours
+        from j39plan.log.chart import Colours
 
         colours = Colours()
         units = [f"U{number}" for number in range(25)]
@@ -266,7 +266,7 @@ class Drawn(WithLog):
 
     def test_who_is_not_sure_looks_otherwise(self):
         """The same colour, and another line with other points."""
-        from modules.log_chart import look_of
+        from j39plan.log.chart import look_of
 
         sure, guessed = look_of("ENGINE"), look_of("ENGINE?")
         self.assertTrue(all(sure.get(key) != guessed[key] for key in ("linewidth", "marker", "alpha")))
@@ -303,7 +303,7 @@ class Drawn(WithLog):
         self.assertFalse([text for text in texts if "e" in text and text[0] in "+1"])
 
     def test_many_points_keep_their_extremes(self):
-        from modules.log_chart import thinned
+        from j39plan.log.chart import thinned
 
         rng = random.Random(5)
         times = sorted(rng.uniform(0, 100) for _ in range(20000))

@@ -115,7 +115,7 @@ class Premises(InFolder):
 
     def load(self, plan):
         """What `load` says of a plan."""
-        from modules import program
+        from j39plan import program
 
         return program.call(["load", self.write("plan.toml", plan)])[1].splitlines()
 

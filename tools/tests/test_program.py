@@ -5,7 +5,7 @@ import subprocess
 import sys
 import unittest
 
-from modules import program
+from j39plan import program
 from tests.support import TOOLS, InFolder, example, run, text_of
 
 PLAN, LOG = example("tractor_and_implement.toml"), example("tractor_and_implement.start.log")
@@ -15,7 +15,7 @@ CALLS = [
 ]
 
 # A tool of one line, as the tools are called.
-TOOL = "import sys; sys.path.insert(0, {tools!r}); sys.argv[0] = 'tool.py'; from modules import program; program.end({main})"
+TOOL = "import sys; sys.path.insert(0, {tools!r}); sys.argv[0] = 'tool.py'; from j39plan import program; sys.exit(program.status_of({main}))"
 
 
 class End(InFolder):

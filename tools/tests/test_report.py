@@ -7,10 +7,11 @@ import subprocess
 import unittest
 from html.parser import HTMLParser
 
-from modules import answers, program
-from modules.answer_grammar import line_of
-from modules.answers import Age, Delay
-from modules.plan_tables import Tables
+from j39plan import program
+from j39plan.plan import answers
+from j39plan.plan.answer_grammar import line_of
+from j39plan.plan.answers import Age, Delay
+from j39plan.plan.tables import Tables
 from tests.support import MARKED, NEWER, TOP, InFolder, example, examples, run, signal, text_of
 
 PLAN, FAULTY = example("tractor_and_implement.toml"), example("findings/several.toml")

@@ -4,8 +4,8 @@ import os
 import re
 import unittest
 
-from modules.dbc_names import FAST_ATTRIBUTE, DELAY_ATTRIBUTE, IDENTITY_ATTRIBUTE, NAME_ATTRIBUTES, SEND_ATTRIBUTE
-from modules.matrix_file import import_canmatrix
+from j39plan.dbc.names import FAST_ATTRIBUTE, DELAY_ATTRIBUTE, IDENTITY_ATTRIBUTE, NAME_ATTRIBUTES, SEND_ATTRIBUTE
+from j39plan.dbc.reader import import_canmatrix
 from tests.support import InFolder, example, needs, run
 from tests.test_dbc2plan import CANMATRIX_J1939
 

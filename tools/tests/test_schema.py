@@ -7,10 +7,11 @@ import re
 import tomllib
 import unittest
 
-from modules import plan_format, program
+from j39plan import program
+from j39plan.plan import schema
 from tests.support import TOOLS, TOP, InFolder, examples, needs, shown_refusals, text_of
 
-SCHEMA = json.loads(text_of(os.path.join(TOOLS, "plan.schema.json")))
+SCHEMA = json.loads(text_of(os.path.join(TOOLS, "j39plan", "plan.schema.json")))
 
 # What the page's headings call the tables.
 TABLES = {"Top": None, "`[timing]`": "timing", "`timing.errors`": "errors", "`[[unit]]`": "unit", "`unit.name`": "name", "`[[group]]`": "group",
@@ -99,7 +100,7 @@ class Schema(InFolder):
         for _, _, kind, *_ in page_rows():
             if found := re.search(r"from version (\d) on also (.*)", kind):
                 shown.update((int(word) if word.isdigit() else word, int(found.group(1))) for word in re.findall(r"\w{3,}", found.group(2)))
-        self.assertEqual(shown, plan_format.since())
+        self.assertEqual(shown, schema.since())
 
     def test_it_wants_the_keys_without_a_default(self):
         for table, key, _, default, _ in page_rows():

@@ -10,12 +10,12 @@ import subprocess
 import sys
 import unittest
 
-from modules import program
-from modules.log_readings import Choice
-from modules.log_reports import tables_of
-from modules.plan_cut import cut
-from modules.plan_cut import shorter as shorter_of
-from modules.plan_tables import Tables
+from j39plan import program
+from j39plan.log.readings import Choice
+from j39plan.log.reports import tables_of
+from j39plan.plan.cut import cut
+from j39plan.plan.cut import shorter as shorter_of
+from j39plan.plan.tables import Tables
 from tests.support import MARKED, NEWER, TOOLS, InFolder, example, needs, run, signal, text_of
 from tests.test_report import large_plan
 

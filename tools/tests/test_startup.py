@@ -2,8 +2,8 @@
 
 import unittest
 
-import startup
-from modules import program
+from j39plan import program
+from j39plan.cli import startup
 from tests.support import MARKED, NEWER, InFolder, example, examples, run, text_of
 
 UNIT = '[[unit]]\nlabel = "U{0}"\naddress = 200\nchooser = "{1}"\nname = {{ identity = {0}, arbitrary = true }}\n'

@@ -7,10 +7,10 @@ from dataclasses import asdict
 from unittest import mock
 
 import j39plan
-from modules import program
-from modules.plan_format import keys_of
-from modules.plan_tables import Flow, Need, Request, Tables, Top
-from modules.toml_places import places_of
+from j39plan import program
+from j39plan.plan.schema import keys_of
+from j39plan.plan.tables import Flow, Need, Request, Tables, Top
+from j39plan.plan.toml_places import places_of
 from tests.support import InFolder, example, examples, needs, run, text_of
 
 PLAN, LOG = example("tractor_and_implement.toml"), example("tractor_and_implement.start.log")

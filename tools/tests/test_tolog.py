@@ -6,7 +6,7 @@ import subprocess
 import sys
 import unittest
 
-from modules import program
+from j39plan import program
 from tests.support import TOOLS, InFolder, example, needs, run, text_of
 
 LOG = example("truck.drive.log")

@@ -17,10 +17,8 @@ class Types(InFolder):
 
     def test_the_module_hands_out_its_types(self):
         """A program that uses it is told what is wrong in it, where the module lies as in a package."""
-        os.makedirs(self.path("python/j39plan"))
-        for name in ("__init__.py", "py.typed"):
-            shutil.copy(os.path.join(TOOLS, "j39plan", name), self.path("python/j39plan"))
-        os.symlink(os.path.join(TOOLS, "modules"), self.path("python/j39plan/_tools"))
+        os.makedirs(self.path("python"))
+        os.symlink(os.path.join(TOOLS, "j39plan"), self.path("python/j39plan"))
         user = self.write("user.py", "import j39plan\nplan = j39plan.read_plan('a.toml')\nfirst: str = plan.units[0].label\nsecond: int = plan.units[0].label\n"
                                      "for report in j39plan.follow(plan, 'a.log'):\n    third: str = report.line\n")
         words = ["mypy", "--strict", "--cache-dir", os.devnull, user]

@@ -14,8 +14,9 @@ import threading
 import time
 import unittest
 
-import report
-from modules import page_server, program
+from j39plan import program
+from j39plan.cli import report
+from j39plan.plan import page_server
 from tests.support import TOOLS, InFolder, example, run, text_of
 
 FIRST = text_of(example("first_plan.toml"))

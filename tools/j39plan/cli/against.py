@@ -1,0 +1,158 @@
+"""Says where a log isn't as a plan has it: senders, NAMEs and addresses, groups, flows and their times, needs and requests.
+
+The log is one of candump -L, or several of one drive. Who sent what, and which flow it was, is what `j39plan follow` reports. Each deviation
+is told once, at its first or its worst line, with how often it was met; services of the network, and proprietary groups that aren't planned,
+are none.
+"""
+
+import argparse
+import json
+import sys
+from collections.abc import Iterator
+from typing import Any
+
+from j39plan import program
+from j39plan.log.checks.comparison import Comparison, Settings
+from j39plan.log.checks.deviations import Deviation, Found, Place, lines_of, place_text, row_of, spelled_event
+from j39plan.log.checks.distances import SILENCE, Distances, Rule, Tolerance
+from j39plan.log.checks.marks import Feed
+from j39plan.log.checks.meter import Meter
+from j39plan.log.checks.unplanned import bounds_of
+from j39plan.log.clock import SECOND, ends_of, nanoseconds
+from j39plan.log.files import Log, interface_option
+from j39plan.log.reports import Counts, follow, tables_of
+from j39plan.plan.files import opened
+from j39plan.plan.tables import Tables
+
+
+def periods_of(text: str) -> int:
+    """How many periods."""
+    if not text.isdecimal():
+        raise argparse.ArgumentTypeError(f"{text} is no number of periods")
+    return int(text)
+
+
+def words_of(words: list[str] | None) -> argparse.Namespace:
+    """The words of the command line."""
+    parser = program.parser(__doc__)
+    parser.epilog = "example: %(prog)s --jitter 10%% plan.toml drive.log"
+    parser.add_argument("--jitter", metavar="TIME", type=Tolerance.of, default=Tolerance(0, 0, ""),
+                        help="by how much messages may come nearer than their flow's period, beside the plan's jitter, and further apart than its pause: in "
+                        "ms, as 2.5, or a share of these, as 10%% (0)")
+    parser.add_argument("--silence", metavar="N", type=periods_of, default=SILENCE,
+                        help=f"after how many periods without a message a flow without a pause is silent; 0: such silences aren't told ({SILENCE})")
+    parser.add_argument("--events", metavar="FLOW", action="append", default=[],
+                        help="a group, or a flow by its number, that is sent when something happens: no silence of it is told; may be given several times")
+    parser.add_argument("--table", action="store_true", help="a table of the flows first: how often each was sent, and how far apart")
+    parser.add_argument("--all", action="store_true", help="all lines of each deviation below it")
+    parser.add_argument("--live", action="store_true", help="each deviation as soon as it is met, with --all each time; at the end all of them")
+    parser.add_argument("--json", action="store_true", help="as JSON objects, each on a line; the last one is of the whole log")
+    interface_option(parser)
+    program.plan_word(parser)
+    parser.add_argument("logs", metavar="LOG", nargs="+", help="names of files as candump -L writes them, in the order of the drive")
+    return parser.parse_args(words)
+
+
+def events_of(names: list[str], tables: Tables) -> frozenset[int]:
+    """The numbers of the flows that are sent when something happens."""
+    found: set[int] = set()
+    for name in names:
+        numbers = {number for number, flow in enumerate(tables.flows, 1) if name in (str(number), flow.group)}
+        if not numbers:
+            raise program.Refused(program.UNREADABLE, f"no flow has the number or the group {name}")
+        found |= numbers
+    return frozenset(found)
+
+
+class Output:
+    """What is written: lines, or JSON objects."""
+
+    def __init__(self, given: argparse.Namespace, log: Log) -> None:
+        self._plan, self._log, self._is_json = given.plan, log, given.json
+
+    def live(self, found: Deviation, place: Place) -> None:
+        """Writes a deviation as it is met."""
+        if place.line is None:
+            return
+        if self._is_json:
+            one = Deviation(found.kind, found.text, found.flow, found.unit, place, found.detail)
+            row = {key: value for key, value in row_of(one, self._log.place).items() if key != "times"}
+            print(json.dumps(row, ensure_ascii=False), flush=True)
+        else:
+            print(f"{self._place(place)} {spelled_event(found, place)}", flush=True)
+
+    def whole(self, found: Found, summary: dict[str, Any]) -> int:
+        """Writes all of them; how many there are."""
+        all_found = list(found.all())
+        for one in all_found:
+            for line in self._lines(one):
+                print(line)
+        summary = {"deviations": len(all_found), **summary}
+        print(json.dumps(summary) if self._is_json else f"deviations {len(all_found)}")
+        return len(all_found)
+
+    def _lines(self, found: Deviation) -> Iterator[str]:
+        """The lines of a deviation."""
+        if self._is_json:
+            yield json.dumps(row_of(found, self._log.place), ensure_ascii=False)
+        else:
+            yield from lines_of(found, self._place)
+
+    def _place(self, place: Place) -> str:
+        """A place, as it stands before a text."""
+        return place_text(place, self._plan, self._log.place)
+
+
+def say_what_is_left(given: argparse.Namespace, distances: Distances) -> None:
+    """Says on standard error which times weren't looked at, and why."""
+    if distances.without_time:
+        program.say("the log has no times by which the periods of flows could be compared")
+    if given.jitter.spelled and distances.passed_over:
+        flows = ", ".join(map(str, distances.passed_over))
+        program.say(f"--jitter {given.jitter.spelled} is no less than the period of flow {flows}: how near messages come isn't told there")
+    if distances.explained:
+        flows = ", ".join(map(str, sorted(distances.explained)))
+        count = sum(distances.explained.values())
+        program.say(f"{count} distances are passed over, since a message may wait so long on the bus by 'load': of flow {flows}")
+
+
+def summary_of(log: Log, meter: Meter, distances: Distances) -> dict[str, Any]:
+    """What the whole log has, for JSON: when it begins and ends, in seconds, the bits of its frames, and how many distances were passed over."""
+    begin, end = ends_of(log)
+    meter.end()
+    first, last = (None if time is None else time / SECOND for time in (begin, end))
+    row = {"begin": first, "end": last, "mean": meter.mean(begin, end), "worst": meter.worst or None, "worst_second": meter.worst_second,
+           "explained": sum(distances.explained.values())}
+    return {key: value for key, value in row.items() if value is not None}
+
+
+@program.command
+def main(words: list[str] | None = None) -> int:
+    """Writes the deviations; 0 where there is none, 1 where there is one."""
+    given, counts = words_of(words), Counts()
+    with opened(given.plan) as plan, Log(given.logs, given.interface) as log:
+        tables, output, meter = tables_of(plan), Output(given, log), Meter() if given.json else None
+        found = Found(given.all, output.live if given.live else None)
+        settings = Settings(given.jitter, Rule(given.silence, events_of(given.events, tables), given.table))
+        feed, comparison = Feed(tables.groups, tables.timing, meter), Comparison(tables, bounds_of(plan, tables), settings, found)
+        for report in follow(plan, log, tables, counts, feed.pieces, given.live):
+            line, mark = feed.place(report)
+            comparison.report(line, report, mark)
+        summary = summary_of(log, meter, comparison.distances) if meter else {}
+    counts.elsewhere -= feed.unread
+    counts.frames -= feed.read
+    counts.bad -= comparison.damage.frames
+    counts.refuse_without_frames(log)
+    counts.refuse_a_guess(log)
+    counts.say(log)
+    comparison.clock.say(log)
+    say_what_is_left(given, comparison.distances)
+    if given.table and not given.json:
+        for row in comparison.distances.table():
+            print(row)
+    comparison.ends(nanoseconds(feed.last_time), counts.frames > 0)
+    return 1 if output.whole(found, summary) else 0
+
+
+if __name__ == "__main__":
+    sys.exit(main())

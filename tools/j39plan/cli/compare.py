@@ -1,0 +1,100 @@
+"""Compares two plans, as of two model years, by what they mean: what is otherwise, and what breaks where a unit keeps the old one.
+
+A receiver that keeps the old plan reads by it what the others send by the new one.
+"""
+
+import json
+import sys
+from collections.abc import Iterator
+
+from j39plan import program
+from j39plan.plan.breaks import Break, Breaks
+from j39plan.plan.differences import Answers, Change, Matched, changes_of
+from j39plan.plan.parts import Source, sources_of
+
+
+def answers_of(source: Source) -> Answers:
+    """What the program answers about a plan, from a file of its own: what a pipe gives comes only once."""
+    with program.file_of(source.text) as plan:
+        return Answers(source, plan)
+
+
+def change_line(change: Change, old: Source, new: Source) -> str:
+    """A change with the file and line where it stands, and where it was."""
+    what, key, before, now, old_line, new_line = change
+    place = f"{old.name}:{old_line}" if new_line is None and old_line else f"{new.name}:{new_line or 1}"
+    if key == "new":
+        return f"{place}: {what}: new"
+    if key == "gone":
+        return f"{place}: {what}: gone"
+    was = f" ({old.name}:{old_line})" if old_line and new_line else ""
+    if key == "label":
+        return f"{place}: {what}: it was called {before}{was}"
+    return f"{place}: {what}: {key} {now or 'none'}, it was {before or 'none'}{was}"
+
+
+def break_line(found: Break, old: Source, new: Source, others: int) -> str:
+    """What breaks, with the file and line."""
+    place = f"{new.name}:{found.new_line}" if found.new_line else f"{old.name}:{found.old_line}"
+    was = f" ({old.name}:{found.old_line})" if found.new_line else ""
+    everybody = len(found.receivers) > 1 and len(found.receivers) == others
+    who = "all" if everybody else ", ".join(found.receivers)
+    return f"{place}: breaks: {needed_words(found)}{broken_words(found, who)}: {found.why}{was}"
+
+
+def needed_words(found: Break) -> str:
+    """Which of several receivers need what breaks."""
+    if not found.needed_by or len(found.receivers) == 1:
+        return ""
+    return f"{', '.join(found.needed_by)} need{'' if len(found.needed_by) > 1 else 's'} it; "
+
+
+def broken_words(found: Break, who: str) -> str:
+    """Who gets what wrong."""
+    plural = len(found.receivers) > 1
+    what = (f"{found.group}.{found.signal}" if found.signal else found.group) + (f" of {found.sender}" if found.sender else "")
+    return {
+        "wrong": f"{who} read{'' if plural else 's'} {what} wrongly", "lost": f"{who} miss{'' if plural else 'es'} {what}",
+        "old": f"{who} need{'' if plural else 's'} {what} younger", "sender": f"{found.sender} isn't found by {who}",
+    }[found.kind]
+
+
+def lines_of(changes: list[Change], broken: list[Break], matched: Matched) -> Iterator[str]:
+    """The comparison as lines."""
+    old, new = matched.old, matched.new
+    for change in changes:
+        yield change_line(change, old, new)
+    for found in broken:
+        others = sum(before is not None and now is not None and before.label != found.sender for before, now in matched.units)
+        yield break_line(found, old, new, others)
+    yield f"changes {len(changes)} breaks {len(broken)}"
+
+
+@program.command
+def main(words: list[str] | None = None) -> int:
+    """Writes what is otherwise; 1 where something breaks."""
+    parser = program.parser(__doc__)
+    parser.epilog = "example: %(prog)s truck_2025.toml truck_2026.toml"
+    parser.add_argument("old", metavar="OLD", help="the name of a plan file")
+    parser.add_argument("new", metavar="NEW", help="the name of the plan file that takes its place")
+    parser.add_argument("--json", action="store_true", help="as a JSON object with the arrays changes and breaks")
+    given = parser.parse_args(words)
+    old, new = sources_of([given.old, given.new])
+    if old.text == new.text:
+        program.say(f"{new.name}: the same plan as {old.name}")
+    matched = Matched(old, new)
+    answers = answers_of(old), answers_of(new)
+    changes, broken = list(changes_of(matched, *answers)), Breaks(matched, *answers).found()
+    if given.json:
+        told = {"old": old.name, "new": new.name, "changes": [change._asdict() for change in changes],
+                "breaks": [found._asdict() for found in broken]}
+        json.dump(told, sys.stdout, indent=1)
+        print()
+    else:
+        for line in lines_of(changes, broken, matched):
+            print(line)
+    return 1 if broken else 0
+
+
+if __name__ == "__main__":
+    sys.exit(main())

@@ -1,0 +1,144 @@
+"""Compares many logs with a plan, at once: deviations, silences, loads, NAMEs, signals and trouble codes, in one table of the fleet.
+
+Each log is a task for a processor of this machine, or for a worker of a Dask cluster. A log that can't be read is named, and the others
+are done.
+"""
+
+import argparse
+import json
+import os
+import re
+import sys
+from collections.abc import Iterable, Iterator
+
+from j39plan import program
+from j39plan.fleet.drives import Drive, answered
+from j39plan.fleet.table import Fleet
+from j39plan.fleet.team import Task, team
+from j39plan.log.files import interface_option
+from j39plan.plan.files import opened
+from j39plan.plan.tables import Tables
+
+# How wide the bar of progress is.
+WIDTH = 40
+
+SCHEDULER = re.compile(r"(?:\w+://)?\S+:\d+")
+
+
+def processes_of(text: str) -> int:
+    """A number of processes."""
+    if not re.fullmatch(r"[1-9]\d{0,3}", text):
+        raise argparse.ArgumentTypeError(f"{text} is no number of processes")
+    return int(text)
+
+
+def scheduler_of(text: str) -> str:
+    """The address of a scheduler."""
+    if not SCHEDULER.fullmatch(text):
+        raise argparse.ArgumentTypeError(f"{text} is no address of a scheduler, as tcp://192.0.2.1:8786")
+    return text
+
+
+def different(names: list[str]) -> list[str]:
+    """The logs, each once; of the same twice it is said."""
+    found: dict[object, str] = {}
+    for name in names:
+        try:
+            known = os.stat(name)
+            key: object = (known.st_dev, known.st_ino)
+        except OSError:
+            key = os.path.abspath(name)
+        other = found.setdefault(key, name)
+        if other is not name:
+            program.say(f"{name}: the same log as {other}, so it is read once")
+    return list(found.values())
+
+
+def largest_first(logs: list[str]) -> list[str]:
+    """The logs by their sizes, so that none that takes long is begun when the others are done."""
+    return sorted(logs, key=lambda log: -os.path.getsize(log) if os.path.isfile(log) else 0)
+
+
+def progressing(drives: Iterable[Drive], count: int) -> Iterator[Drive]:
+    """The tables of logs as they come, with a bar of how many are there, on a terminal alone; a log that failed is named at once."""
+    is_shown = sys.stderr.isatty()
+    for number, drive in enumerate(drives, 1):
+        if is_shown:
+            print("\r\033[K", end="", file=sys.stderr)
+        if drive["failed"]:
+            program.say(f"{drive['log']}: {drive['failed']}")
+        if is_shown:
+            done = WIDTH * number // count
+            bar = f"[{'#' * done}{'-' * (WIDTH - done)}] {number}/{count} {drive['log']}"
+            print(bar[:os.get_terminal_size(sys.stderr.fileno()).columns - 1], end="", file=sys.stderr, flush=True)
+        yield drive
+    if is_shown:
+        print("\r\033[K", end="", file=sys.stderr, flush=True)
+
+
+def gathered(drives: Iterable[Drive], count: int) -> tuple[dict[str, Drive], bool]:
+    """The tables of logs by their names, and whether all are there: an interrupt keeps those that are done, if there is one."""
+    found: dict[str, Drive] = {}
+    try:
+        for drive in progressing(drives, count):
+            found[drive["log"]] = drive
+    except KeyboardInterrupt:
+        if not found:
+            raise
+        return found, False
+    return found, True
+
+
+def plan_of(name: str, options: list[str]) -> tuple[str, str]:
+    """The text of a plan by which `against` can read logs, with these options, and what `show` answers of it; of another one it says why."""
+    with opened(name) as plan:
+        shown = program.shown(plan)
+        status, answer, said = answered([*options, "--", plan, os.devnull])
+        if not answer:
+            raise program.Refused(status, said.strip().rpartition("\n")[2].partition(": ")[2])
+        with open(plan, "rb") as file:
+            return file.read().decode(errors="replace"), shown
+
+
+@program.command
+def main(words: list[str] | None = None) -> int:
+    """Writes the table; 0 where no log has a deviation, 1 where one has, and the status of a log that failed where one did."""
+    parser = program.parser(__doc__)
+    parser.epilog = "example: %(prog)s plan.toml drives/*.log"
+    program.plan_word(parser)
+    parser.add_argument("logs", metavar="LOG", nargs="+", help="the name of a file as candump -L writes it")
+    parser.add_argument("--jitter", metavar="TIME", help="by how much messages may come nearer than their flow's period, as of against")
+    parser.add_argument("--silence", metavar="N", help="after how many periods a flow is silent, as of against")
+    parser.add_argument("--events", metavar="FLOW", action="append", default=[], help="a flow that is sent when something happens, as of against")
+    interface_option(parser)
+    parser.add_argument("--json", action="store_true", help="as a JSON object with an array for each table")
+    who = parser.add_mutually_exclusive_group()
+    who.add_argument("--processes", metavar="N", type=processes_of, help="how many logs are read at once (as many as there are processors)")
+    who.add_argument("--scheduler", metavar="ADDRESS", type=scheduler_of, help="the scheduler of a Dask cluster, whose workers read the logs "
+                     "by the same names")
+    given = parser.parse_args(words)
+    options = [word for key in ("jitter", "silence", "interface") for value in [getattr(given, key)] if value is not None for word in (f"--{key}", value)]
+    options += [word for name in given.events for word in ("--events", name)]
+    plan, logs = plan_of(given.plan, options), different(given.logs)
+    tasks: list[Task] = [(*plan, log, os.path.abspath(log), options) for log in largest_first(logs)]
+    found, is_whole = gathered(team(given.processes, given.scheduler)(tasks), len(tasks))
+    put(Fleet(Tables(plan[1]), [found[log] for log in logs if log in found]), given.json)
+    if not is_whole:
+        program.say(f"interrupted: {len(found)} of {len(logs)} logs are done, and in the table")
+        sys.stdout.flush()
+        program.interrupted()
+    return max((drive["status"] for drive in found.values() if drive["failed"]), default=int(any(drive["deviations"] for drive in found.values())))
+
+
+def put(fleet: Fleet, is_json: bool) -> None:
+    """Writes the tables."""
+    if is_json:
+        json.dump(fleet.tables_of(), sys.stdout, indent=1)
+        print()
+        return
+    for line in fleet.lines():
+        print(line)
+
+
+if __name__ == "__main__":
+    sys.exit(main())

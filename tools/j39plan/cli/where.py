@@ -1,0 +1,104 @@
+"""Checks a plan with j39plan and says where in the file each answer belongs, as FILE:LINE: ANSWER  (hint)."""
+
+import argparse
+import json
+import sys
+from collections.abc import Callable, Iterable, Iterator
+
+from j39plan import program
+from j39plan.plan import code_quality
+from j39plan.plan.answer_objects import check_object
+from j39plan.plan.answer_places import Placed, placed
+from j39plan.plan.hints.lint import Lint
+from j39plan.plan.toml_places import places_of
+
+# How an answer with a place is written: of file, line, text and the lines that belong to it.
+Form = Callable[[str, int, str, list[str]], list[str]]
+
+
+def compiler_message(file: str, line: int, text: str, below: list[str]) -> list[str]:
+    """As a compiler says it, with the lines that belong to it below."""
+    return [f"{file}:{line}: {text}", *below]
+
+
+# The signs that an annotation of GitHub's CI doesn't take as they are, in names of files and in texts.
+NAME_SIGNS, TEXT_SIGNS = "%\r\n:,", "%\r\n"
+
+
+def escaped(text: str, chars: str) -> str:
+    """A text with these characters by their codes."""
+    return "".join(f"%{ord(char):02X}" if char in chars else char for char in text)
+
+
+def github_annotation(file: str, line: int, text: str, below: list[str]) -> list[str]:
+    """As an annotation of GitHub's CI, which holds the lines that belong to it."""
+    name, whole = escaped(file, NAME_SIGNS), escaped("\n".join([text, *below]), TEXT_SIGNS)
+    return [f"::error file={name},line={line}::{whole}"]
+
+
+def annotate(name: str, parts: Iterable[Placed], form: Form) -> Iterator[str]:
+    """The lines of an answer's parts, those that have a place in this form."""
+    for part in parts:
+        if part.line is None:
+            yield part.text
+            yield from part.below
+        else:
+            yield from form(name, part.line, part.text, part.below)
+
+
+def github_notice(file: str, line: int, text: str, _: list[str]) -> list[str]:
+    """As a notice of GitHub's CI, which is no error."""
+    return [f"::notice file={escaped(file, NAME_SIGNS)},line={line}::{escaped(text, TEXT_SIGNS)}"]
+
+
+def hints_of(plan: str) -> list[Placed]:
+    """The hints at a plan that can be read."""
+    return [Placed(line, f"hint {text}", "", []) for line, text in Lint(places_of(plan)).hints()]
+
+
+def lines_of(name: str, hints: list[Placed], parts: list[Placed], github: bool) -> list[str]:
+    """The lines that are written: the hints, then the answer."""
+    forms = (github_notice, github_annotation) if github else (compiler_message, compiler_message)
+    return [line for some, form in zip((hints, parts), forms) for line in annotate(name, some, form)]
+
+
+def words_of(words: list[str] | None) -> argparse.Namespace:
+    """The words of the command line."""
+    parser = program.parser(__doc__)
+    parser.epilog = "example: %(prog)s --lint plan.toml"
+    program.plan_word(parser)
+    forms = parser.add_mutually_exclusive_group()
+    forms.add_argument("--github", action="store_true", help="as annotations of GitHub's CI")
+    forms.add_argument("--json", action="store_true", help="as a JSON object: status, findings with their parts, lines, hints and steps")
+    parser.add_argument("--gitlab", metavar="FILE", help="write them into a file too, as a code quality report of GitLab's CI, in which "
+                        "those of other plans stay")
+    parser.add_argument("--lint", action="store_true", help="with hints that are no findings, as FILE:LINE: hint ANSWER, for example "
+                        "of a group that no flow sends; they don't change the status")
+    return parser.parse_args(words)
+
+
+@program.command
+def main(words: list[str] | None = None) -> int:
+    """Runs `j39plan check` and answers its exit status."""
+    given = words_of(words)
+    hints: list[Placed] = []
+    parts: list[Placed] = []
+    with program.copied(given.plan) as plan:
+        status, answer = program.call(["check", "--", plan])
+        if answer:
+            with open(plan, "rb") as file:
+                parts = list(placed(file.read(), answer))
+        if status in (0, 1) and given.lint:
+            hints = hints_of(plan)
+    if given.json:
+        print(json.dumps(check_object(given.plan, status, parts, hints if given.lint else None), indent=1))
+    else:
+        sys.stdout.write("".join(f"{line}\n" for line in lines_of(given.plan, hints, parts, given.github)))
+    if given.gitlab and status in (0, 1, 2):
+        issues = [(part.line, part.text, part.below) for part in (*hints, *parts) if part.line is not None]
+        code_quality.write(given.gitlab, given.plan, issues)
+    return status
+
+
+if __name__ == "__main__":
+    sys.exit(main())

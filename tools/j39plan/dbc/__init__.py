@@ -1,0 +1,1 @@
+"""DBC and other descriptions of networks, and plans that are made of them."""

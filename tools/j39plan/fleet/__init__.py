@@ -1,0 +1,1 @@
+"""Many logs against one plan."""

@@ -1,0 +1,258 @@
+"""What a log of a fleet has: where it isn't as the plan has it, how often each flow was sent and how long it was silent, who claimed which
+address, between which values each signal was, and which trouble codes came.
+
+A log is a task of its own, which a process of this machine does or a worker of another one; so what it answers is a table of plain
+values, and says also why a log could not be read.
+"""
+
+from __future__ import annotations
+
+import json
+import os
+import stat
+import subprocess
+import sys
+from collections.abc import Iterator
+from functools import lru_cache
+from typing import Any, NamedTuple, TypedDict
+
+from j39plan import program
+from j39plan.fleet.signals import Code, Signals, Spread
+from j39plan.log.clock import DAY, SECOND, nanoseconds
+from j39plan.log.files import OneInterface
+from j39plan.log.reports import Writer, as_it_comes, who_of
+from j39plan.plan.tables import Tables
+
+class Deviation(NamedTuple):
+    """What `against` tells: the line, None where it has none; the text; how often it was met; its kind; what is the same of it in all logs; the
+    number of its flow, and its unit, None where it is of none; what was measured, and the time of the line in seconds."""
+
+    line: int | None
+    text: str
+    times: int
+    kind: str = ""
+    what: str = ""
+    flow: int | None = None
+    unit: str | None = None
+    value: float | None = None
+    time: float | None = None
+
+
+class Silence(NamedTuple):
+    """The longest time in a log without a message of a flow, in seconds, and the line of the message at its end, None where the log ends."""
+
+    seconds: float
+    line: int | None
+
+
+class Claimed(NamedTuple):
+    """Who claimed addresses, in the order of the first ones, with None for none; and how often."""
+
+    addresses: list[int | None]
+    times: int
+
+
+class Drive(TypedDict):
+    """What a log has. `failed` says why it couldn't be read, `status` as the tool would end then; else both are empty. `whole` has its begin and
+    end in seconds, and the bits of a second on the bus, in the mean and at most. `others` are signals of those whom no flow has."""
+
+    log: str
+    status: int
+    failed: str
+    notes: list[str]
+    deviations: list[Deviation]
+    whole: dict[str, float]
+    counts: dict[str, int]
+    sent: dict[int, int]
+    silences: dict[int, Silence]
+    claims: dict[str, Claimed]
+    signals: dict[str, Spread]
+    others: dict[str, Spread]
+    codes: list[Code]
+
+
+def answered(words: list[str]) -> tuple[int, str, str]:
+    """Status, standard output and standard error of `against`."""
+    try:
+        with program.started("against", words) as process:
+            answer, said = process.communicate()
+    except OSError as fault:
+        raise program.Refused(program.MISSING, f"{sys.executable} can't be run: {fault.strerror}") from None
+    return process.returncode, answer.decode(errors="replace"), said.decode(errors="replace")
+
+
+def compared(plan: str, log: str, options: list[str]) -> tuple[list[Deviation], list[str], dict[str, float]]:
+    """The deviations that `against` writes, what it says beside them, and what it has of the whole log. It is a process of its own, so that tasks
+    may be threads of one."""
+    status, answer, said = answered(["--json", *options, "--", plan, log])
+    notes = [line.partition(": ")[2] for line in said.splitlines()]
+    if status not in (0, 1) or not answer:
+        raise program.Refused(status or program.FAULT, notes[-1] if notes else f"against ended with {status}")
+    if not answer.startswith("{"):
+        raise program.Refused(program.UNREADABLE, f"with {' '.join(options)} against writes no list of deviations")
+    *rows, whole = map(json.loads, answer.splitlines())
+    return [deviation_of(row) for row in rows if "times" in row], notes, whole
+
+
+def deviation_of(row: dict[str, Any]) -> Deviation:
+    """A deviation of `against`."""
+    return Deviation(row.get("line"), row["text"], row["times"], row["kind"], row["what"], row.get("flow"), row.get("unit"), row.get("value"), row.get("time"))
+
+
+class Silences:
+    """The longest silence of each flow, from the first message or claim of a log to the last."""
+
+    def __init__(self) -> None:
+        self._last: dict[int, int] = {}
+        self._longest: dict[int, tuple[int, int | None]] = {}
+        self._first: int | None = None
+        self._now = 0
+
+    def see(self, at: int) -> None:
+        """A time of the log. Where a clock was set, by a day or more, silences begin anew."""
+        if self._first is None:
+            self._first = at
+        elif not 0 <= at - self._now < DAY:
+            self._first = at
+            self._last = dict.fromkeys(self._last, at)
+        self._now = at
+
+    def sent(self, flow: int, line: int | None) -> None:
+        """A message of a flow at the time that was seen last, or the log's end."""
+        if self._first is not None:
+            silence = self._now - self._last.get(flow, self._first)
+            if silence > self._longest.get(flow, (-1, None))[0]:
+                self._longest[flow] = silence, line
+            self._last[flow] = self._now
+
+    def found(self, flows: int) -> dict[int, Silence]:
+        """The silences; of a flow that was never sent the whole log is one. In a log without times there are none."""
+        for flow in range(1, flows + 1):
+            self.sent(flow, None)
+        return {flow: Silence(longest / SECOND, line) for flow, (longest, line) in sorted(self._longest.items())}
+
+
+class Followed:
+    """What `follow` says of a log, taken together."""
+
+    def __init__(self, tables: Tables) -> None:
+        self._flows = len(tables.flows)
+        self._signals, self._silences = Signals(tables), Silences()
+        self._claims: dict[str, tuple[list[int | None], int]] = {}
+        self._group, self._sender, self._line = "", "", 0
+        self._at: int | None = None
+        self.counts: dict[str, int] = {}
+        self.sent: dict[int, int] = {}
+
+    def take(self, lines: Iterator[bytes]) -> None:
+        """Takes the lines of `follow`."""
+        for line in lines:
+            if line[:2] == b"  ":
+                self._signals.count(self._group, self._sender, line, self._line, self._at)
+            elif line[:1].isdigit():
+                self._report(line.decode().split())
+            else:
+                self._end(line.decode().split())
+
+    def _report(self, words: list[str]) -> None:
+        self._line = int(words[0])
+        at = self._at = nanoseconds(words[1])
+        if at is not None:
+            self._silences.see(at)
+        if words[2] == "group":
+            self._group, self._sender = words[3], who_of(words[5]).shown
+            self._signals.sent(words[8] == "flow")
+            if words[8] == "flow":
+                self._silences.sent(int(words[9]), self._line)
+        elif words[2] in ("claim", "cannot"):
+            name, _, address = words[3].partition("@")
+            addresses, times = self._claims.get(name, ([], 0))
+            held = int(address) if address else None
+            self._claims[name] = addresses + [held] * (held not in addresses), times + 1
+
+    def _end(self, words: list[str]) -> None:
+        if words[0] == "frames":
+            self.counts = {key: int(count) for key, count in zip(words[::2], words[1::2])}
+        elif words[0] == "flow":
+            self.sent[int(words[1])] = int(words[-1])
+
+    def put(self, drive: Drive) -> None:
+        """Puts what was found into a log's table."""
+        drive["counts"], drive["sent"] = self.counts, self.sent
+        drive["silences"] = self._silences.found(self._flows)
+        drive["claims"] = {name.removeprefix("#"): Claimed(*claimed) for name, claimed in self._claims.items()}
+        drive["signals"], drive["others"] = self._signals.found()
+        drive["codes"] = self._signals.codes()
+
+
+def interface_in(options: list[str]) -> str | None:
+    """The interface that the options of `against` name, None where they name none."""
+    return options[options.index("--interface") + 1] if "--interface" in options else None
+
+
+def started(plan: str, log: str, source: int) -> subprocess.Popen[bytes]:
+    """The program that follows a log."""
+    try:
+        return subprocess.Popen([program.path(), "follow", "--", plan, log], stdin=source, stdout=subprocess.PIPE, stderr=subprocess.PIPE)
+    except OSError as fault:
+        raise program.Refused(program.MISSING, f"j39plan can't be run: {program.path()}: {fault.strerror}") from None
+
+
+def followed(plan: str, log: str, tables: Tables, interface: str | None) -> Followed:
+    """What `follow` says of a log, or of an interface of it."""
+    found = Followed(tables)
+    with open(log, "rb") as file, started(plan, "/dev/stdin" if interface else log, subprocess.PIPE if interface else subprocess.DEVNULL) as process:
+        assert process.stdout is not None and process.stderr is not None
+        part = OneInterface(file, interface) if interface else None
+        writer = Writer(as_it_comes(part), process.stdin, False) if part and process.stdin else None
+        if writer:
+            writer.start()
+        found.take(iter(process.stdout))
+        said = process.stderr.read().decode(errors="replace").strip()
+        status = process.wait()
+        if writer:
+            writer.close()
+    if status != 0:
+        raise program.Refused(status if status > 0 else program.FAULT, said.removeprefix("j39plan: ") or f"j39plan ended with {status}")
+    found.counts["elsewhere"] += part.elsewhere if part else 0
+    if found.counts["frames"] == 0 and found.counts["bad"]:
+        raise program.Refused(program.UNREADABLE, "none of its lines spells a frame: is it a log of candump -L?")
+    if not found.counts["frames"] + found.counts.get("skipped", 0) + found.counts["elsewhere"]:
+        raise program.Refused(program.UNREADABLE, "it has no frame")
+    return found
+
+
+def empty(log: str) -> Drive:
+    """The table of a log of which nothing is known yet."""
+    return Drive(log=log, status=0, failed="", notes=[], deviations=[], whole={}, counts={}, sent={}, silences={}, claims={}, signals={},
+                 others={}, codes=[])
+
+
+@lru_cache(maxsize=1)
+def tables_of(shown: str) -> Tables:
+    """The tables of a plan by what `show` answers of it, which is the same for all logs of a fleet."""
+    return Tables(shown)
+
+
+def drive_of(plan: str, shown: str, log: str, path: str, options: list[str]) -> Drive:
+    """What a log has, by the text of a plan and what `show` answers of it; the log is called so, and lies there. Whatever goes wrong is said in
+    the table."""
+    drive = empty(log)
+    try:
+        if not stat.S_ISREG(os.stat(path).st_mode):
+            raise program.Refused(program.UNREADABLE, "it is no regular file")
+        with open(path, "rb"), program.file_of(plan) as copy:
+            found = followed(copy, path, tables_of(shown), interface_in(options))
+            found.put(drive)
+            drive["deviations"], drive["notes"], drive["whole"] = compared(copy, path, options)
+    except program.Refused as refused:
+        drive["status"], drive["failed"] = refused.status, str(refused) or f"ended with {refused.status}"
+    except OSError as fault:
+        drive["status"], drive["failed"] = program.DEVICE, fault.strerror or str(fault)
+    except MemoryError:
+        drive["status"], drive["failed"] = program.MEMORY, "out of memory"
+    except SystemExit:
+        drive["status"], drive["failed"] = program.MISSING, "j39plan isn't there"
+    except Exception as fault:  # a fault of the tool itself, which is to cost no other log
+        drive["status"], drive["failed"] = program.FAULT, f"{type(fault).__name__}: {fault}"
+    return drive

@@ -1,0 +1,107 @@
+"""The signals of a log: between which values each was, and which trouble codes came, by the lines that `follow` writes of them."""
+
+from __future__ import annotations
+
+import re
+from typing import NamedTuple
+
+from j39plan.log.clock import SECOND
+from j39plan.log.readings import reading_of, scale_of
+from j39plan.plan.tables import Tables
+
+# How many lines of signals are counted before they are looked at.
+COUNTED = 1 << 16
+
+# A trouble code as `follow` writes it, below its message.
+CODE = re.compile(rb"  \S+ dtc spn (\d+) fmi (\d+)")
+
+
+class Spread(NamedTuple):
+    """The least and the greatest value of a signal, with their lines, None where it has none; and how often it had each state."""
+
+    least: float | None
+    least_line: int | None
+    most: float | None
+    most_line: int | None
+    states: dict[str, int]
+
+
+class Code(NamedTuple):
+    """A trouble code: its SPN and FMI, the group and the unit (else the NAME or the address) that it is of, how often it came, and where and when
+    first and last, in seconds, None in a log without times."""
+
+    spn: int
+    fmi: int
+    group: str
+    unit: str
+    times: int
+    first: tuple[int, float | None]
+    last: tuple[int, float | None]
+
+
+class Signals:
+    """Between which values signals were, those of planned flows apart from all others, and trouble codes."""
+
+    def __init__(self, tables: Tables) -> None:
+        self._scales = {(group.label, signal.label): scale_of(signal.unit) for group in tables.groups for signal in group.signals}
+        self._counts: dict[tuple[bool, str, bytes], list[int]] = {}
+        self._found: dict[bool, dict[str, Spread]] = {True: {}, False: {}}
+        self._codes: dict[tuple[int, int, str, str], Code] = {}
+        self._is_planned = True
+
+    def sent(self, is_planned: bool) -> None:
+        """The lines that come are of a message of a flow, or of one of none."""
+        self._is_planned = is_planned
+
+    def count(self, group: str, sender: str, line: bytes, number: int, at: int | None) -> None:
+        """A line below that of a message."""
+        if b" dtc spn " in line:
+            self._code(group, sender, line, number, at)
+        known = self._counts.get((self._is_planned, group, line))
+        if known is not None:
+            known[0] += 1
+            return
+        if len(self._counts) >= COUNTED:
+            self._look()
+        self._counts[self._is_planned, group, line] = [1, number]
+
+    def _code(self, group: str, sender: str, line: bytes, number: int, at: int | None) -> None:
+        """A trouble code came."""
+        told = CODE.match(line)
+        if told is None:
+            return
+        key, place = (int(told.group(1)), int(told.group(2)), group, sender), (number, None if at is None else at / SECOND)
+        known = self._codes.get(key)
+        self._codes[key] = known._replace(times=known.times + 1, last=place) if known else Code(*key, 1, place, place)
+
+    def codes(self) -> list[Code]:
+        """The trouble codes, in the order in which they came first."""
+        return list(self._codes.values())
+
+    def found(self) -> tuple[dict[str, Spread], dict[str, Spread]]:
+        """What was counted, by group and signal: of messages of flows, and of others."""
+        self._look()
+        return self._found[True], self._found[False]
+
+    def _look(self) -> None:
+        """Takes what was counted apart."""
+        for (is_planned, group, line), (times, number) in self._counts.items():
+            label, _, said = line.decode().strip().partition(" ")
+            signal = label.partition("[")[0]  # of a record its place stands behind the label
+            scale = self._scales.get((group, signal))
+            if scale is not None:
+                reading = reading_of(said, scale)
+                self._see(self._found[is_planned], f"{group}.{signal}", reading.state, reading.value, times, number)
+        self._counts.clear()
+
+    @staticmethod
+    def _see(found: dict[str, Spread], name: str, state: str, value: str, times: int, line: int) -> None:
+        least, least_line, most, most_line, states = found.get(name, Spread(None, None, None, None, {}))
+        states[state] = states.get(state, 0) + times
+        if state == "value":
+            number = float(value)
+            if least is None or number < least:
+                least, least_line = number, line
+            if most is None or number > most:
+                most, most_line = number, line
+        found[name] = Spread(least, least_line, most, most_line, states)

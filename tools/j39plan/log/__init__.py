@@ -1,0 +1,1 @@
+"""Logs of buses, as the program follows them."""

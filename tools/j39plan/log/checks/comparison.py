@@ -1,0 +1,354 @@
+"""A log compared with a plan, report by report: senders, NAMEs and addresses, groups, lengths, priorities, flows, needs and requests."""
+
+from dataclasses import dataclass
+from typing import NamedTuple
+
+from j39plan.j1939 import ADDRESS_CLAIMED, FRAME_BYTES, GLOBAL_ADDRESS, NAME_FIELDS, NULL_ADDRESS, OTHER_SERVICES, PROPRIETARY, REQUEST, SERVICES
+from j39plan.log.checks.damage import Damage
+from j39plan.log.checks.deviations import Found
+from j39plan.log.checks.distances import Distances, Rule, Tolerance
+from j39plan.log.checks.hands import Hands
+from j39plan.log.checks.marks import Kind, Mark
+from j39plan.log.checks.requests import Asked
+from j39plan.log.checks.transfers import WHOLE, Cause, Pair, Route, Transfers, pair_of
+from j39plan.log.checks.unplanned import Bounds, Unplanned
+from j39plan.log.clock import MILLISECOND, SECOND, Clock
+from j39plan.log.reports import Acknowledgement, Claim, Message, Report, Request, Who
+from j39plan.plan.tables import Group, Tables
+
+# Groups that nobody plans.
+UNPLANNED = SERVICES | OTHER_SERVICES | PROPRIETARY
+
+# So many of the shortest period without any report, a second at least, are a silence of all.
+PERIODS = 5
+
+# Group, sender and destination.
+Way = tuple[str, str, str]
+
+
+class Settings(NamedTuple):
+    """What is asked of a comparison: the tolerance of times, and how flows are looked at."""
+
+    tolerance: Tolerance
+    rule: Rule
+
+
+@dataclass
+class Begun:
+    """An announced message: the line and the time of its announcement, what it is, its ends and its way, and what has come in between."""
+
+    line: int
+    at: int | None
+    text: str
+    pair: Pair
+    way: Way
+    unit: str | None
+    between: str = ""
+
+
+def lengths_of(group: Group) -> str:
+    """The lengths of a group's messages as a text."""
+    return str(group.length) if group.length == group.most else f"{group.length} to {group.most}"
+
+
+def fields_of(name: str) -> str:
+    """The fields of a NAME that tell what it is."""
+    number = int(name, 16)
+    return ", ".join(f"{key} {number >> first & (1 << width) - 1}" for key, first, width in NAME_FIELDS
+                     if key in ("manufacturer", "function", "identity"))
+
+
+class Comparison:
+    """What was met in a log that isn't as the plan has it."""
+
+    def __init__(self, tables: Tables, bounds: Bounds, settings: Settings, found: Found) -> None:
+        self.flows, self.needs, self.timing, self.requests = tables.flows, tables.needs, tables.timing, tables.requests
+        self.units = {unit.label: unit for unit in tables.units}
+        self.groups: dict[int, list[Group]] = {}
+        for group in tables.groups:
+            self.groups.setdefault(group.pgn, []).append(group)
+        self.planned = {group.label: group for group in tables.groups}
+        self.sent: dict[Way, int] = {(flow.group, flow.sender, flow.to): 0 for flow in tables.flows}
+        self.found, self.clock, self.hands = found, Clock(), Hands(tables, found)
+        self.distances = Distances(tables.flows, settings.tolerance, settings.rule, bounds.waits, self.hands.first, found)
+        self.asked, self.damage = Asked(tables, settings.tolerance, bounds.requests, found), Damage(tables.timing, found)
+        self.transfers, self.unplanned = Transfers(tables.timing, found), Unplanned(tables, bounds.flows, found)
+        self._begun: dict[Pair, Begun] = {}
+        self._strange: set[str] = set()  # who was told as nobody's
+        self._reported = 0  # the line of the last message that came without an announcement
+        self._at: int | None = None  # the time of the last report
+        periods = [flow.period for flow in tables.flows if flow.period and not flow.on_request]
+        self._gap = max(SECOND, PERIODS * min(periods, default=0) * MILLISECOND) if len(periods) > 1 else None
+
+    def claim(self, line: int, at: int | None, who: Who) -> None:
+        """A claim of an address, or that none was found."""
+        for address in self.hands.claim(line, at, who):
+            for begun in self._begun.values():
+                if address in (begun.pair[0][2], begun.pair[1][2]) and not begun.between:
+                    begun.between = f"address {address} changed hands at line {line}"
+        self.unplanned.came(line, at, 6 << 26 | (ADDRESS_CLAIMED | GLOBAL_ADDRESS) << 8)
+        claims = "could not claim an address" if who.address is None else f"claims address {who.address}"
+        unit = self.units.get(who.label or "")
+        if unit is None:
+            self.found.tell("stranger", f"NAME {who.name} ({fields_of(who.name or '0')}) {claims}: no unit has it", line, at)
+        elif who.address is None:
+            self.found.tell("address", f"{unit.label} {claims}", line, at, unit=unit.label)
+        elif who.address != unit.address and not unit.may_choose:
+            self.found.tell("address", f"{unit.label} {claims}, planned is {unit.address}", line, at, unit=unit.label)
+
+    def sender(self, line: int, at: int | None, sender: Who, group: str = "") -> None:
+        """Who sent something, as a message of a planned group."""
+        self.hands.sends(line, at, sender)
+        if sender.label is not None:
+            return
+        former, what = self.hands.former(at, sender), f"sends {group}, a planned group" if group else "sends"
+        if former is None:
+            spelled = sender.spelled
+            self._strange.add(spelled)
+            self.found.tell("stranger", f"{spelled} {what}: no unit has it", line, at)
+        else:
+            text = f"{former.spelled} claims address {former.address}, and its former address {sender.address} {what}: two boxes of one NAME?"
+            self.found.tell("two-boxes", text, line, at, unit=former.label)
+
+    def message(self, line: int, at: int | None, message: Message) -> None:
+        """A message of a planned group."""
+        group, sender, to = message.group, message.sender, message.to
+        begun = self._begun.pop(pair_of(sender, to), None) if len(message.data) > 2 * FRAME_BYTES else None
+        first, began = (begun.line, begun.at) if begun else (line, at)
+        if begun:
+            self.transfers.reported(line, at, begun.pair)
+        else:
+            self._reported = line
+            self.sender(line, at, sender, group)
+            self.asked.answers(line, at, sender, to, self.planned[group].pgn)
+        priority = self.planned[group].priority if message.priority is None else message.priority
+        if message.priority is not None:
+            text = f"{group} from {sender.shown} has priority {priority}, planned is {self.planned[group].priority}"
+            self.found.tell("priority", text, first, began, unit=sender.label)
+        if message.flow:
+            self.sends(message.flow, first, began)
+            return
+        if sender.label:
+            self.found.tell("no-flow", f"{group} from {sender.label} to {to.shown}: no flow", first, began, unit=sender.label)
+        if begun is None:
+            self.passes(line, at, priority << 26 | self.planned[group].pgn << 8, group if sender.label else "", sender)
+
+    def sends(self, number: int, line: int, at: int | None) -> None:
+        """A message of a flow has come, by where it began."""
+        flow = self.flows[number - 1]
+        self.sent[flow.group, flow.sender, flow.to] += 1
+        self.distances.sent(number, line, at)
+
+    def passes(self, line: int, at: int | None, identifier: int, what: str, sender: Who) -> None:
+        """A frame of no flow goes by. Where nobody has it by the plan, and it is told as that, it has no name here."""
+        if self.timing:
+            self.unplanned.came(line, at, identifier)
+            if what and identifier >> 26 < self.timing.unplanned_priority:
+                limit = f"by 'load' what no flow has is of {self.timing.unplanned_priority} or more"
+                self.found.tell("urgent", f"{what} from {sender.shown} has priority {identifier >> 26}: {limit}", line, at, unit=sender.label)
+
+    def group_of(self, mark: Mark, sender: Who, to: Who) -> Group | None:
+        """The group of a message: of those of its number one of its length, else the first; a private one only where a flow sends it
+        so."""
+        groups = [group for group in self.groups.get(mark.pgn, [])
+                  if not group.private or (group.label, sender.label, to.shown) in self.sent]
+        return next((group for group in groups if group.length <= mark.length <= group.most), groups[0] if groups else None)
+
+    def marked(self, line: int, at: int | None, request: Request, mark: Mark) -> None:
+        """A frame that isn't surely reported, or of a long message; the request says who sent it."""
+        sender, to = request.sender, request.to
+        if mark.kind is Kind.SHORT:
+            self.found.tell("short-identifier", "a frame with an 11-bit identifier, which may go before each planned one", line, at)
+            self.unplanned.came(line, at, mark.identifier)
+        elif mark.kind is Kind.ERROR:
+            self.damaged(line, at, mark)
+        elif mark.kind is Kind.OTHER:
+            self.passes(line, at, mark.identifier, f"PGN {mark.pgn}", sender)
+        elif mark.kind in (Kind.CONTROL, Kind.PACKET):
+            self.carried(line, at, request, mark)
+        elif mark.is_announcement:
+            self.announced(line, at, mark, sender, to)
+        elif line != self._reported:
+            self.single(line, at, request, mark)
+
+    def damaged(self, line: int, at: int | None, mark: Mark) -> None:
+        """An error frame. Where frames may be missing, distances begin anew, and requests of before are asked no more."""
+        if self.damage.came(line, at, mark) and at is not None:
+            self.anew(line, at)
+
+    def carried(self, line: int, at: int | None, request: Request, mark: Mark) -> None:
+        """A packet, or a frame that manages a connection. Who isn't planned is told once by these."""
+        sender, to = request.sender, request.to
+        if sender.label is None and sender.spelled not in self._strange:
+            self.sender(line, at, sender)
+        else:
+            self.hands.sends(line, at, sender)
+        is_planned = self.transfers.came(line, at, mark, sender, to)
+        if mark.kind is Kind.CONTROL and mark.data[0] == WHOLE:
+            self.acknowledged(pair_of(to, sender))
+        if not is_planned:
+            self.passes(line, at, mark.identifier, f"PGN {mark.pgn}", sender)
+
+    def acknowledged(self, pair: Pair) -> None:
+        """The receiver may have said that it has a message which isn't reported, as where a packet was asked for once more: it was carried whole."""
+        if pair in self._begun and self.transfers.is_acknowledged(pair):
+            begun = self._begun.pop(pair)
+            if number := self.flow_of(begun.way):
+                self.sends(number, begun.line, begun.at)
+            elif begun.unit:
+                self.found.tell("no-flow", f"{begun.text}: no flow", begun.line, begun.at, unit=begun.unit)
+
+    def flow_of(self, way: Way) -> int:
+        """The number of the first flow of a way, 0 where there is none."""
+        return next((number for number, flow in enumerate(self.flows, 1) if (flow.group, flow.sender, flow.to) == way), 0)
+
+    def single(self, line: int, at: int | None, request: Request, mark: Mark) -> None:
+        """A frame that may be none of a planned group."""
+        sender, to = request.sender, request.to
+        self.asks(line, at, request)
+        group = self.group_of(mark, sender, to)
+        self.passes(line, at, mark.identifier, f"PGN {mark.pgn}", sender)
+        if group is None:
+            self.nobody(line, at, mark, sender)
+        elif not group.length <= mark.length <= group.most or group.when is not None:
+            self.another_layout(line, at, group, mark, sender)
+            self.asked.answers(line, at, sender, to, mark.pgn)
+            way = group.label, sender.label or "", to.shown
+            if way in self.sent:
+                self.sent[way] += 1
+
+    def nobody(self, line: int, at: int | None, mark: Mark, sender: Who) -> None:
+        """A message of no group."""
+        if mark.pgn not in UNPLANNED:
+            self.found.tell("no-group", f"PGN {mark.pgn} from {sender.shown}: no group has it", line, at, unit=sender.label)
+
+    def another_layout(self, line: int, at: int | None, group: Group, mark: Mark, sender: Who) -> None:
+        """A frame of a number that has groups which are told by their data, or are as long: it is none of them."""
+        if group.length <= mark.length <= group.most:
+            text = f"PGN {mark.pgn} from {sender.shown}: its bits are those of no group's 'when'"
+            self.found.tell("layout", text, line, at, unit=sender.label)
+        else:
+            self.another_length(line, at, group, mark, sender)
+
+    def another_length(self, line: int, at: int | None, group: Group, mark: Mark, sender: Who) -> None:
+        """A message of a group that isn't as long as it may be."""
+        text = f"{group.label} from {sender.shown} has {mark.length} bytes, planned are {lengths_of(group)}"
+        self.found.tell("length", text, line, at, unit=sender.label)
+
+    def announced(self, line: int, at: int | None, mark: Mark, sender: Who, to: Who) -> None:
+        """A long message is announced."""
+        pair = pair_of(sender, to)
+        if mark.is_sound:
+            self.end(self._begun.pop(pair, None))
+        group = self.group_of(mark, sender, to)
+        way = (group.label if group else "", sender.label or "", to.shown)
+        is_planned = way in self.sent
+        self.sender(line, at, sender, group.label if group else "")
+        if mark.is_sound:
+            self.asked.answers(line, at, sender, to, mark.pgn)
+        route = Route(f"{group.label if group else f'PGN {mark.pgn}'} from {sender.shown} to {to.shown}", is_planned, sender.label, to.label)
+        if mark.is_sound:
+            self.transfers.announced(line, at, route, mark, sender, to)
+        if not is_planned:
+            self.passes(line, at, mark.identifier, f"PGN {mark.pgn}", sender)
+        if group is None:
+            self.nobody(line, at, mark, sender)
+        elif not group.length <= mark.length <= group.most:
+            self.another_length(line, at, group, mark, sender)
+        elif mark.is_sound:
+            self._begun[pair] = Begun(line, at, route.text, pair, way, sender.label)
+        else:
+            self.broken(Begun(line, at, route.text, pair, way, sender.label), Cause("its announcement breaks the rules"))
+
+    def asks(self, line: int, at: int | None, request: Request) -> None:
+        """Somebody sends what may be a request: of claims one may be from a unit without an address."""
+        if (request.sender.address, request.pgn) != (NULL_ADDRESS, ADDRESS_CLAIMED):
+            self.sender(line, at, request.sender)
+
+    def request(self, line: int, at: int | None, request: Request) -> None:
+        """A request."""
+        if request.pgn == ADDRESS_CLAIMED:
+            self.hands.asked(at)
+        self.asks(line, at, request)
+        self.asked.asks(line, at, request)
+        if request.request == 0 or self.requests[request.request - 1].period is None:
+            self.unplanned.came(line, at, 6 << 26 | (REQUEST | GLOBAL_ADDRESS) << 8)
+
+    def end(self, begun: Begun | None) -> None:
+        """A message that comes to nothing, if there is one."""
+        if begun is None:
+            return
+        if begun.between:
+            address, _, where = begun.between.partition(" at ")
+            text = f"{begun.text}: announced, and not put together, since {address}"
+            self.found.tell("not-whole", text, begun.line, begun.at, unit=begun.unit, detail=f" at {where}")
+        else:
+            self.broken(begun, self.transfers.cause(begun.pair))
+
+    def broken(self, begun: Begun, cause: Cause) -> None:
+        """A message that was announced and not carried whole."""
+        text = f"{begun.text}: announced, and not carried whole: {cause.text}"
+        self.found.tell("not-whole", text, begun.line, begun.at, cause.packet, unit=begun.unit)
+
+    def anew(self, line: int, at: int) -> None:
+        """What is measured begins here."""
+        self.distances.anew(line, at)
+        self.asked.anew()
+
+    def looks_at_time(self, line: int, at: int) -> None:
+        """Time goes by. Where the clock was set, nothing at all came, or the interface was off, what is measured begins anew."""
+        if self.clock.is_set or self.clock.is_back:
+            self.hands.anew()
+            self.anew(line, at)
+        elif self.damage.is_off:
+            self.damage.is_off = False
+            self.anew(line, at)
+        elif self._at is not None and self._gap is not None and at - self._at > self._gap and self.distances.alive(self._at) > 1:
+            text = "nothing at all came for {} ms before: the bus, the log or its clock stood still; distances begin anew"
+            self.found.tell("gap", text, line, at, at - self._at)
+            self.anew(line, at)
+        self._at = at
+        if self.transfers.waits:
+            self.transfers.goes_by(at)
+
+    def report(self, line: int, report: Report, mark: Mark | None) -> None:
+        """A report, of a frame of this line of the log or of its mark."""
+        at = self.clock.see(line, report.time)
+        if at is not None and (mark is None or mark.kind is not Kind.ERROR):
+            self.looks_at_time(line, at)
+        if isinstance(report, Message):
+            self.message(line, at, report)
+        elif isinstance(report, Claim):
+            self.claim(line, at, report.who)
+        elif isinstance(report, Acknowledgement):
+            self.asked.acknowledged(line, at, report)
+        elif mark:
+            self.marked(line, at, report, mark)
+        else:
+            self.request(line, at, report)
+
+    def ends(self, last: int | None, has_frames: bool) -> None:
+        """Tells what is known at the end, where the last time of the log is this one."""
+        for begun in self._begun.values():
+            self.end(begun)
+        self.hands.end(last)
+        self.distances.end(None if self.damage.is_off else last)
+        self.transfers.end(last)
+        self.unplanned.end()
+        self.damage.end()
+        self.asked.end(last)
+        for number, flow in enumerate(self.flows, 1):
+            if self.sent[flow.group, flow.sender, flow.to] == 0 and not flow.on_request:
+                self.found.tell("never-sent", f"{self.distances.name(number)}: never sent", None, flow=number, unit=flow.sender)
+        self.unmet()
+        for label in self.units:
+            if has_frames and label not in self.hands.seen:
+                self.found.tell("absent", f"unit {label}: neither claimed an address nor sent anything", None, unit=label)
+
+    def unmet(self) -> None:
+        """Tells the needs that nothing met in this log."""
+        for number, need in enumerate(self.needs, 1):
+            flows = [flow for flow in self.flows if need.is_met_by(flow)]
+            if not any(self.sent[flow.group, flow.sender, flow.to] for flow in flows):
+                why = "" if flows else ", and no flow of the plan does"
+                self.found.tell("unmet", f"need {number}, {need.what} by {need.unit}: nothing met it{why}", None, unit=need.unit)

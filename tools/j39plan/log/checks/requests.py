@@ -1,0 +1,117 @@
+"""What becomes of the requests of a plan in a log: which stay without an answer, which are refused, and which are answered late."""
+
+from __future__ import annotations
+
+from collections import deque
+from typing import NamedTuple
+
+from j39plan.log.checks.deviations import Found
+from j39plan.log.checks.distances import Tolerance
+from j39plan.log.clock import MILLISECOND, milliseconds
+from j39plan.log.reports import REFUSALS, Acknowledgement, Who
+from j39plan.log.reports import Request as Asking
+from j39plan.plan.tables import Tables
+
+# Within this time an answer is to begin, and so long who asks waits for one (SAE J1939-21: Tr, and T3 as T2).
+PROMPT, WAITED = 200 * MILLISECOND, 1250 * MILLISECOND
+
+# What is done by who answers with an acknowledgement that says no.
+DONE = {"refused": "is refused", "denied": "is denied access", "busy": "is told that it can't be answered now"}
+
+
+class Open(NamedTuple):
+    """A request that no answer came to yet: its line, and its time."""
+
+    line: int
+    at: int | None
+
+
+class Asked:
+    """The requests of a plan, by what a log has of them."""
+
+    def __init__(self, tables: Tables, tolerance: Tolerance, waits: dict[str, int], found: Found) -> None:
+        self._requests, self._found = tables.requests, found
+        self._tolerance, self._waits = tolerance, waits  # how long a request of a unit may wait on the bus, as far as that is known
+        self._numbers = {group.label: group.pgn for group in tables.groups}
+        self._open: list[deque[Open]] = [deque() for _ in self._requests]
+        self._last: list[int | None] = [None] * len(self._requests)
+
+    def anew(self) -> None:
+        """The clock was set: what is open counts no more."""
+        for waiting in self._open:
+            waiting.clear()
+        self._last = [None] * len(self._requests)
+
+    def asks(self, line: int, at: int | None, asking: Asking) -> None:
+        """A request, which may be one of the plan."""
+        if asking.request == 0:
+            return
+        number = asking.request - 1
+        self._pass(number, at)
+        self._open[number].append(Open(line, at))
+        period, last = self._requests[number].period, self._last[number]
+        self._last[number] = at
+        if period is not None and last is not None and at is not None:
+            distance = at - last
+            if 0 <= distance < period * MILLISECOND - self._tolerance.at(period) - self._waits.get(self._requests[number].sender, 0):
+                self._tell("asked-early", number, f"{{}} ms after the one before, its period is {period} ms", line, at, distance)
+
+    def answers(self, line: int, at: int | None, sender: Who, to: Who, pgn: int) -> None:
+        """A message of a group begins, which may answer requests for it."""
+        for number, request in enumerate(self._requests):
+            if self._open[number] and self._numbers[request.group] == pgn and self._is_answer(number, sender, to):
+                self._pass(number, at)
+                self._close(number, line, at)
+
+    def _is_answer(self, number: int, sender: Who, to: Who) -> bool:
+        """Whether a message from one to another answers a request, by who was asked and who asks."""
+        request = self._requests[number]
+        is_asked = sender.label == request.to or request.to == "all" and sender.label not in (None, request.sender)
+        return is_asked and (to.label == request.sender or to.shown == "all")
+
+    def _close(self, number: int, line: int, at: int | None) -> None:
+        """An answer comes to all that is open of a request: to the one that was asked last."""
+        waiting = self._open[number]
+        if waiting:
+            asked = waiting[-1].at
+            if asked is not None and at is not None and at - asked > PROMPT:
+                self._tell("late", number, f"answered {{}} ms after it, later than {milliseconds(PROMPT)} ms", line, at, at - asked)
+            waiting.clear()
+
+    def acknowledged(self, line: int, at: int | None, said: Acknowledgement) -> None:
+        """An acknowledgement, which may refuse requests."""
+        if said.word not in REFUSALS:
+            return
+        for number, request in enumerate(self._requests):
+            is_one = said.sender.label == request.to and (said.to.label == request.sender or said.to.shown == "all")
+            if is_one and self._numbers[request.group] == said.pgn:
+                self._pass(number, at)
+                self._tell("refused", number, DONE[said.word], line, at)
+                self._open[number].clear()
+
+    def _pass(self, number: int, at: int | None) -> None:
+        """Time goes by: what has no answer until now is told."""
+        waiting = self._open[number]
+        while at is not None and waiting:
+            asked = waiting[0].at
+            if asked is None or 0 <= at - asked <= WAITED:
+                return
+            self._unanswered(number, waiting.popleft())
+
+    def _unanswered(self, number: int, one: Open) -> None:
+        """A request stays without an answer."""
+        self._tell("unanswered", number, f"no answer within {milliseconds(WAITED)} ms", one.line, one.at)
+
+    def _tell(self, kind: str, number: int, text: str, line: int, at: int | None, value: int | None = None) -> None:
+        """A deviation of a request: of who asks too often, else of who is asked."""
+        request = self._requests[number]
+        unit = request.sender if kind == "asked-early" or request.to == "all" else request.to
+        self._found.tell(kind, f"request {number + 1}, {request.what}: {text}", line, at, value, unit=unit)
+
+    def end(self, last: int | None) -> None:
+        """Tells what has no answer, where the last time of the log is this one. Of a log without times each request is to have one."""
+        for number, waiting in enumerate(self._open):
+            self._pass(number, last)
+            for one in waiting:
+                if one.at is None:
+                    self._unanswered(number, one)

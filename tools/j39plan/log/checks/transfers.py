@@ -1,0 +1,199 @@
+"""How long messages are carried on a real bus: what comes of each, and by the times and the priority that `load` takes (SAE J1939-21)."""
+
+from dataclasses import dataclass
+from typing import NamedTuple
+
+from j39plan.log.checks.deviations import Found
+from j39plan.log.checks.marks import ABORT, Kind, Mark
+from j39plan.log.clock import MILLISECOND
+from j39plan.log.reports import Who
+from j39plan.plan.tables import Timing
+
+# The first bytes of a clear to send and of an acknowledgement of the whole.
+CLEAR, WHOLE = 17, 19
+
+# So long an answer may take (Tr), and so long who sends waits for one (T3).
+ANSWER, WAITED = 200 * MILLISECOND, 1250 * MILLISECOND
+
+# Why a transfer is given up, by the byte of an Abort.
+REASONS = {1: "too many sessions", 2: "no resources", 3: "timeout", 4: "packets while it sends none", 5: "too many repetitions",
+           6: "an unexpected packet", 7: "a wrong sequence number", 8: "a sequence number twice", 9: "too long"}
+
+# Who sends and who gets a long message, without whether that is sure.
+Pair = tuple[tuple[str | None, str | None, int | None], tuple[str | None, str | None, int | None]]
+
+
+class Route(NamedTuple):
+    """A long message: what it is, from whom to whom, whether the plan has it so, and the units at its ends."""
+
+    text: str
+    is_planned: bool
+    sender: str | None = None
+    to: str | None = None
+
+
+@dataclass
+class Transfer:
+    """A long message under way: its group and the number of its packets, which ones came, whether it was cleared to send; when its last frame
+    came, and whose answer is waited for since then, if one is."""
+
+    route: Route
+    pgn: int
+    count: int
+    at: int | None
+    is_broadcast: bool
+    waits_for: str = ""
+    came: int = 0
+    is_cleared: bool = False
+    is_acknowledged: bool = False
+
+    @property
+    def missing(self) -> int | None:
+        """The first packet that didn't come."""
+        return next((number for number in range(1, self.count + 1) if not self.came >> number & 1), None)
+
+
+class Cause(NamedTuple):
+    """Why a message wasn't carried whole, and the packet that is missing."""
+
+    text: str
+    packet: int | None = None
+
+
+def pair_of(sender: Who, to: Who) -> Pair:
+    """Two ends of a message."""
+    return sender[:3], to[:3]
+
+
+class Transfers:
+    """The long messages of a log. Their times and priorities are looked at only where the plan has `timing`."""
+
+    def __init__(self, timing: Timing | None, found: Found) -> None:
+        self._timing, self._found = timing, found
+        self._open: dict[Pair, Transfer] = {}
+        self._given_up: set[Pair] = set()
+        self.waits: dict[Pair, tuple[int, int | None]] = {}  # what came whole, by the line and time of its last packet, and isn't acknowledged yet
+
+    def announced(self, line: int, at: int | None, route: Route, mark: Mark, sender: Who, to: Who) -> None:
+        """A long message is announced by the rules."""
+        is_broadcast, pair = to.address is None, pair_of(sender, to)
+        self._is_unanswered(pair)
+        self._given_up.discard(pair)
+        self._open[pair] = Transfer(route, mark.pgn, mark.data[3], at, is_broadcast, "" if is_broadcast else "answer")
+        self._look_at_priority(line, at, route, mark)
+
+    def came(self, line: int, at: int | None, mark: Mark, sender: Who, to: Who) -> bool:
+        """A packet, or a frame that manages a connection; whether the plan has the message."""
+        there, back = self._open.get(pair_of(sender, to)), self._open.get(pair_of(to, sender))
+        if mark.kind is Kind.PACKET:
+            transfer = there
+            if there:
+                self._packet(line, at, there, mark)
+        elif mark.data[0] == ABORT:
+            self._abort(line, at, mark, sender, to)
+            transfer = there or back
+        else:
+            transfer = back
+            if back:
+                self._answer(line, at, back, mark, pair_of(to, sender))
+        if transfer is None:
+            return False
+        self._look_at_priority(line, at, transfer.route, mark)
+        return transfer.route.is_planned
+
+    def reported(self, line: int, at: int | None, pair: Pair) -> None:
+        """All packets of a message came, so that it is to be acknowledged where it goes to one unit."""
+        transfer = self._open.get(pair)
+        if transfer and not transfer.is_broadcast and transfer.route.is_planned:
+            self.waits[pair] = line, at
+
+    def is_acknowledged(self, pair: Pair) -> bool:
+        """Whether the receiver has said that it has the message."""
+        return pair in self._open and self._open[pair].is_acknowledged
+
+    def cause(self, pair: Pair) -> Cause:
+        """Why a message that was announced wasn't carried whole."""
+        transfer = self._open.get(pair)
+        if pair in self._given_up or transfer is None:
+            return Cause("it was given up")
+        if not transfer.is_broadcast and not transfer.is_cleared:
+            return Cause("no clear to send")
+        if transfer.missing is None:
+            return Cause("its packets came out of order")
+        return Cause(f"packet {{}} of {transfer.count} didn't come", transfer.missing)
+
+    def goes_by(self, at: int) -> None:
+        """Time goes by: what isn't acknowledged until now isn't any more."""
+        for pair, (_, since) in list(self.waits.items()):
+            if since is not None and not 0 <= at - since <= WAITED:
+                self._is_unanswered(pair)
+
+    def _is_unanswered(self, pair: Pair) -> None:
+        """Tells that a message isn't acknowledged, if it was to be."""
+        waiting, transfer = self.waits.pop(pair, None), self._open.get(pair)
+        if waiting and transfer:
+            self._found.tell("not-acknowledged", f"{transfer.route.text}: carried whole, and not acknowledged", *waiting, unit=transfer.route.to)
+
+    def _packet(self, line: int, at: int | None, transfer: Transfer, mark: Mark) -> None:
+        """A packet of a message."""
+        before, transfer.at = transfer.at, at
+        transfer.came |= 1 << (mark.data[0] if mark.data else 0)
+        if self._timing is None or at is None or before is None or at < before:
+            return
+        if not transfer.is_broadcast:
+            if transfer.waits_for == "packet":
+                self._late(line, at, at - before, transfer, transfer.route.sender)
+            transfer.waits_for = "answer"
+        elif at - before < self._timing.broadcast_gap * MILLISECOND:
+            self._pace("packets-near", line, at, at - before, transfer, f"at least {self._timing.broadcast_gap}")
+        elif at - before > self._timing.broadcast_gap_most * MILLISECOND:
+            self._pace("packets-far", line, at, at - before, transfer, f"at most {self._timing.broadcast_gap_most}")
+
+    def _pace(self, kind: str, line: int, at: int, distance: int, transfer: Transfer, limit: str) -> None:
+        """Packets to all come nearer than they may, or further apart."""
+        text = f"{transfer.route.text}: frames {{}} ms apart, {limit} ms are between two"
+        self._found.tell(kind, text, line, at, distance, unit=transfer.route.sender)
+
+    def _answer(self, line: int, at: int | None, transfer: Transfer, mark: Mark, pair: Pair) -> None:
+        """The receiver answers."""
+        before, is_waited_for = transfer.at, transfer.waits_for == "answer"
+        if mark.data[0] not in (CLEAR, WHOLE):
+            return
+        transfer.at, transfer.waits_for = at, "packet" if mark.data[0] == CLEAR and mark.data[1] else ""
+        if mark.data[0] == WHOLE and mark.pgn == transfer.pgn:
+            transfer.is_acknowledged = True
+            self.waits.pop(pair, None)
+        elif mark.data[1]:
+            transfer.is_cleared = True
+            transfer.came &= ~((1 << mark.data[1]) - 1 << mark.data[2])  # what is asked for again hasn't come
+        if self._timing and is_waited_for and at is not None and before is not None:
+            self._late(line, at, at - before, transfer, transfer.route.to)
+
+    def _late(self, line: int, at: int, duration: int, transfer: Transfer, unit: str | None) -> None:
+        """An answer that was waited for so long, by whom it is."""
+        if duration > ANSWER:
+            self._found.tell("late-answer", f"{transfer.route.text}: an answer after {{}} ms, by the standard within 200", line, at, duration, unit=unit)
+
+    def _abort(self, line: int, at: int | None, mark: Mark, sender: Who, to: Who) -> None:
+        """An Abort: of a message that goes either way between the two."""
+        for pair in (pair_of(sender, to), pair_of(to, sender)):
+            transfer = self._open.pop(pair, None)
+            self.waits.pop(pair, None)
+            if transfer:
+                self._given_up.add(pair)
+                reason = REASONS.get(mark.data[1], "of its own")
+                text = f"{transfer.route.text}: given up by {sender.shown}, reason {mark.data[1]} ({reason})"
+                self._found.tell("given-up", text, line, at, unit=sender.label)
+                return
+
+    def _look_at_priority(self, line: int, at: int | None, route: Route, mark: Mark) -> None:
+        """The priority of a transport frame of a planned message."""
+        if self._timing and route.is_planned and mark.priority < self._timing.transport_priority:
+            behind = f"priority {mark.priority}, by 'load' {self._timing.transport_priority}"
+            self._found.tell("transport-priority", f"{route.text}: frames of the transport protocol have {behind}", line, at, unit=route.sender)
+
+    def end(self, last: int | None) -> None:
+        """Tells what isn't acknowledged until the log's last time; in a log without times until its end."""
+        for pair, (_, since) in list(self.waits.items()):
+            if since is None or last is None or last - since > WAITED:
+                self._is_unanswered(pair)

@@ -1,0 +1,120 @@
+"""What goes before planned frames without being planned: how urgent it is, and how much of it comes in the time that a frame may wait."""
+
+from collections import deque
+from typing import NamedTuple
+
+from j39plan import program
+from j39plan.j1939 import REQUEST
+from j39plan.log.checks.deviations import Found
+from j39plan.log.clock import MILLISECOND, milliseconds
+from j39plan.plan.answers import load_of
+from j39plan.plan.tables import Tables
+
+MICROSECOND = 1000
+
+
+# Identifiers are below this.
+ANY = 1 << 29
+
+# The greatest identifier of a request.
+REQUESTS = 6 << 26 | REQUEST << 8 | 0xFFFF
+
+
+class Bound(NamedTuple):
+    """A flow by its number, within which time in nanoseconds its frames are on the bus by `load`, and below which identifier unplanned frames may
+    go before them: those of a unit whose controller keeps no order may wait for any frame."""
+
+    number: int
+    within: int
+    identifier: int
+
+
+class Bounds(NamedTuple):
+    """The bounds of the flows whose messages have one, and how long a message of each flow, and a request of each unit that asks, may wait on the
+    bus once it is queued, as far as `load` tells it."""
+
+    flows: list[Bound]
+    waits: dict[int, int]
+    requests: dict[str, int]
+
+
+def bounds_of(plan: str, tables: Tables) -> Bounds:
+    """What `load` has of the flows."""
+    if tables.timing is None:
+        return Bounds([], {}, {})
+    load = load_of(program.call(["load", "--", plan])[1])
+    delays = load.delays if load else []
+    within = {delay.flow: delay.within * MICROSECOND for delay in delays if delay.within is not None}
+    short = {delay.flow for delay in delays if delay.flow in within and delay.frames == 1}
+    greatest = {number: greatest_identifier(tables, number) for number in range(1, len(tables.flows) + 1)}
+    without_order = {unit.label for unit in tables.units if unit.queue == "any"}
+    flows = [Bound(number, within[number], ANY if tables.flows[number - 1].sender in without_order else greatest[number]) for number in sorted(short)]
+    waits = {number: wait_of(number, within, short, greatest, tables.flows[number - 1].sender in without_order) for number in greatest}
+    own = {number: wait - tables.flows[number - 1].jitter * MILLISECOND for number, wait in waits.items() if wait is not None}
+    asking = {request.sender for request in tables.requests} - without_order
+    wait = least_behind(REQUESTS, {number: within[number] for number in short}, greatest)
+    return Bounds(flows, own, {} if wait is None else dict.fromkeys(asking, wait))
+
+
+def greatest_identifier(tables: Tables, number: int) -> int:
+    """The greatest identifier of a flow's frames."""
+    group = next(group for group in tables.groups if group.label == tables.flows[number - 1].group)
+    return group.priority << 26 | group.pgn << 8 | (0xFF if group.pgn >> 8 & 255 >= 240 else 0xFFFF)
+
+
+def wait_of(number: int, within: dict[int, int], short: set[int], greatest: dict[int, int], has_no_order: bool) -> int | None:
+    """How long the first frame of a message waits at most. That of a group of several lengths may be a single one, which goes before the frames
+    of each flow with a greater identifier, and so waits no longer than any of these; else the whole message's time is one."""
+    if number in short:
+        return within[number]
+    behind = least_behind(greatest[number], {other: within[other] for other in short}, greatest)
+    return within.get(number) if behind is None or has_no_order else behind
+
+
+def least_behind(identifier: int, within: dict[int, int], greatest: dict[int, int]) -> int | None:
+    """The least bound of those flows of which a frame with this identifier goes before each one."""
+    return min((bound for number, bound in within.items() if greatest[number] > identifier), default=None)
+
+
+class Unplanned:
+    """Frames that no flow has, by their times and identifiers."""
+
+    def __init__(self, tables: Tables, bounds: list[Bound], found: Found) -> None:
+        self._flows, self._timing, self._bounds, self._found = tables.flows, tables.timing, bounds, found
+        self._longest = max((bound.within for bound in bounds), default=0)
+        self._came: deque[tuple[int, int]] = deque()
+        self._most: dict[int, tuple[int, int, int]] = {}  # of each flow the most that came within its bound, the line and the time
+
+    def came(self, line: int, at: int | None, identifier: int) -> None:
+        """A frame that isn't planned."""
+        if at is None or self._timing is None or not self._bounds:
+            return
+        came = self._came
+        if came and came[-1][0] > at:
+            came.clear()
+        came.append((at, identifier))
+        while at - came[0][0] > self._longest:
+            came.popleft()
+        if len(came) > self._timing.unplanned:
+            self._count(line, at)
+
+    def _count(self, line: int, at: int) -> None:
+        """How many came within each flow's bound."""
+        assert self._timing is not None
+        for number, within, greatest in self._bounds:
+            most = self._most.get(number, (self._timing.unplanned, 0, 0))[0]
+            if len(self._came) > most:
+                count = sum(at - time <= within and identifier < greatest for time, identifier in self._came)
+                if count > most:
+                    self._most[number] = count, line, at
+
+    def end(self) -> None:
+        """Tells of the flow that most may go before."""
+        if not self._most or self._timing is None:
+            return
+        number, (count, line, at) = max(self._most.items(), key=lambda told: (told[1][0], -told[0]))
+        flow, within = self._flows[number - 1], next(bound.within for bound in self._bounds if bound.number == number)
+        which = f"flow {number}, {flow.group} from {flow.sender} to {flow.to}"
+        others = f"; and more than that before {len(self._most) - 1} other flows" if len(self._most) > 1 else ""
+        text = f"{{}} frames that no flow has came within {milliseconds(within)} ms, in which they may all go before {which}"
+        self._found.tell("unplanned", f"{text}: `unplanned` is {self._timing.unplanned}", line, at, count, flow=number, unit=flow.sender, detail=others)

@@ -1,0 +1,166 @@
+"""What a signal says in a message: its state, value, unit of measurement."""
+
+import difflib
+import os
+import re
+from collections.abc import Callable, Iterable
+from decimal import Context, Decimal
+from typing import Generic, NamedTuple, TypeVar
+
+from j39plan import program
+from j39plan.plan.tables import Tables
+
+# A unit of measurement that has the fraction of a value, as `1/8 rpm`.
+PARTS = re.compile(r"1/([1-9]\d{0,11})(?: (.*))?")
+
+EXACT = Context(prec=80)
+
+# How many readings are kept of all scales.
+KEPT = 1 << 16
+
+# Group and signal.
+Column = tuple[str, str]
+
+
+class Reading(NamedTuple):
+    """The word of `follow` for the state; a value as a decimal number and its unit; and what else is said, as of a fault its number, of a
+    value its name, and of a text what it is, without its quotation marks."""
+
+    state: str
+    value: str
+    unit: str
+    detail: str
+
+
+# What is made of a reading; and of the readings of a message, each behind the label of its signal.
+Made = TypeVar("Made")
+Told = list[tuple[str, Made]]
+
+
+class Scale(NamedTuple):
+    """The unit of measurement as the plan has it, what a value is divided by to be in the one that is shown, and that one."""
+
+    planned: str
+    parts: int
+    unit: str
+
+
+def is_decimal(parts: int) -> bool:
+    """Whether what is divided by this has decimals that come to an end."""
+    return 10 ** 40 % parts == 0
+
+
+def scale_of(unit: str) -> Scale:
+    """The scale of a planned unit: `1/8 rpm` is divided by 8, and is rpm."""
+    found = PARTS.fullmatch(unit)
+    if found is None or not is_decimal(int(found.group(1))):
+        return Scale(unit, 1, unit)
+    return Scale(unit, int(found.group(1)), found.group(2) or "")
+
+
+def divided(spelled: str, parts: int) -> str:
+    """A decimal number divided, exactly."""
+    return spelled if parts == 1 else f"{EXACT.divide(Decimal(spelled), Decimal(parts)):f}"
+
+
+def reading_of(said: str, scale: Scale) -> Reading:
+    """The reading that `follow` tells of a signal."""
+    state, _, behind = said.partition(" ")
+    if state == "text":
+        return Reading(state, "", "", behind[1:-1])
+    if state != "value":
+        return Reading(state, "", "", behind)
+    number, _, behind = behind.partition(" ")
+    return Reading(state, divided(number, scale.parts), scale.unit, behind.removeprefix(scale.planned).strip().removeprefix("= "))
+
+
+def names_of(tables: Tables) -> set[str]:
+    """The names by which groups, signals and texts are chosen."""
+    known = {group.label for group in tables.groups}
+    for group in tables.groups:
+        for label in (*(signal.label for signal in group.signals), *(text.label for text in group.texts)):
+            known.update((label, f"{group.label}.{label}"))
+    return known
+
+
+def parted(tables: Tables, names: Iterable[str], log: str) -> tuple[list[str], list[str]]:
+    """The names of groups and signals among some, and those of logs: the first one, and files of no such name."""
+    known = names_of(tables)
+    chosen: list[str] = []
+    logs = [log]
+    for name in names:
+        (logs if name not in known and os.path.exists(name) else chosen).append(name)
+    return chosen, logs
+
+
+class Choice:
+    """The signals and texts that are wanted, each by its group and label, with the unit that is shown; where no name is given all, or nothing."""
+
+    def __init__(self, tables: Tables, names: Iterable[str], nothing: bool = False) -> None:
+        self.scales: dict[Column, Scale] = {}
+        for group in tables.groups:
+            self.scales.update(((group.label, signal.label), scale_of(signal.unit)) for signal in group.signals)
+            self.scales.update(((group.label, text.label), scale_of("")) for text in group.texts)
+        self.texts = {(group.label, text.label) for group in tables.groups for text in group.texts}
+        self.named = {(group.label, signal.label) for group in tables.groups for signal in group.signals if signal.values}
+        wanted = set(names)
+        self.columns = {
+            column: scale.unit for column, scale in self.scales.items()
+            if not wanted and not nothing or wanted.intersection((*column, ".".join(column)))
+        }
+        known = names_of(tables)
+        for name in sorted(wanted - known):
+            close = difflib.get_close_matches(name, known, 1, 0.7)
+            hint = f"; did you mean {close[0]}?" if close else ""
+            raise program.Refused(program.UNREADABLE, f"no group, signal or log is called {name}{hint}")
+
+
+class Readings(dict[str, Made]):
+    """What is made of what lines of `follow` say behind the label of a signal of this scale, with the line feed. So much is kept, since signals
+    repeat themselves."""
+
+    def __init__(self, scale: Scale, make: Callable[[Reading], Made], most: int) -> None:
+        super().__init__()
+        self._scale, self._make, self._most = scale, make, most
+
+    def __missing__(self, said: str) -> Made:
+        if len(self) >= self._most:
+            self.clear()
+        made = self[said] = self._make(reading_of(said[:-1], self._scale))
+        return made
+
+
+class Known(dict[str, Readings[Made] | None]):
+    """Of a group the readings of each label that `follow` writes, None where they aren't wanted."""
+
+    def __init__(self, group: str, choice: Choice, readings: dict[Scale, Readings[Made]]) -> None:
+        super().__init__()
+        self._group, self._choice, self._readings = group, choice, readings
+
+    def __missing__(self, label: str) -> Readings[Made] | None:
+        column = self._group, label.partition("[")[0]  # of a record its place stands behind the label
+        self[label] = told = self._readings[self._choice.scales[column]] if column in self._choice.columns else None
+        return told
+
+
+class Wanted(Generic[Made]):
+    """What is made of the readings that are wanted."""
+
+    def __init__(self, choice: Choice, make: Callable[[Reading], Made]) -> None:
+        scales = {choice.scales[column] for column in choice.columns}
+        readings = {scale: Readings(scale, make, KEPT // len(scales)) for scale in scales}
+        self._known = {group: Known(group, choice, readings) for group, _ in choice.columns}
+
+    def of(self, group: str, lines: Iterable[str]) -> Told[Made]:
+        """What is made of the lines below that of a message of a group, `  LABEL SAID`, each behind the label; nothing of those that aren't
+        wanted."""
+        told: Told[Made] = []
+        known = self._known.get(group)
+        if known is None:
+            return told
+        for line in lines:
+            _, _, label, said = line.split(" ", 3)
+            readings = known[label]
+            if readings is not None:
+                told.append((label, readings[said]))
+        return told

@@ -1,0 +1,91 @@
+"""What the program answers of a plan, as tables: findings, who stays at which address, and what the flows ask of the bus."""
+
+from collections.abc import Iterator
+from typing import NamedTuple
+
+from j39plan.plan.answer_grammar import Line, line_of, lines_of
+from j39plan.plan.answer_places import finding, parted
+from j39plan.plan.places import Plan
+
+
+class Finding(NamedTuple):
+    """What `check` found, the line of the file where it belongs, a hint, and the steps of a run that shows it."""
+
+    text: str
+    line: int
+    hint: str
+    steps: list[str]
+
+
+class Stand(NamedTuple):
+    """Whether a unit holds its planned address in every run, and that address."""
+
+    stays: bool
+    address: int
+
+
+class Delay(NamedTuple):
+    """A flow by its number, and by `load` the time within which its frames are on the bus, None where that isn't shown; the time that they
+    have, None of a long message without a deadline of its own; and how many frames a message takes, 0 of a flow without a period. A long
+    message to all is whole within that time. Times are in us."""
+
+    flow: int
+    within: int | None
+    limit: int | None
+    frames: int
+
+
+class Age(NamedTuple):
+    """A need by its number, and by `load` how old what it asks for is at most, None where it isn't shown to be as young as it has to be, and
+    how old it may be. Times are in us."""
+
+    need: int
+    age: int | None
+    limit: int
+
+
+class Load(NamedTuple):
+    """The delays of the flows, of how many bits a second how many are taken, None where the plan has findings before that, and the ages of
+    what is needed."""
+
+    delays: list[Delay]
+    taken: tuple[int, int] | None
+    ages: list[Age] = []
+
+
+def findings(plan: Plan, answer: str) -> Iterator[Finding]:
+    """The findings of `check`, each with its line, a hint, and the steps of a run that shows it."""
+    for line, *below in parted(answer):
+        if line_of(line).kind == "finding":
+            at, hint = finding(plan, line)
+            yield Finding(line, at, hint or "", [line_of(step).word("step") for step in below])
+
+
+def stands(answer: str) -> dict[str, Stand]:
+    """Where units stand by `addresses`; of a plan whose addresses have findings that isn't known."""
+    units = (line for line in lines_of(answer) if line.kind == "unit")
+    return {line.word("unit"): Stand(line.word("stays") == "stays", line.number("address")) for line in units}
+
+
+def delay_of(line: Line) -> Delay:
+    """What `load` tells of a flow."""
+    frames = 0 if line.said == "no period" else line.number_if_any("frames") or 1
+    return Delay(line.number("flow"), line.number_if_any("within"), line.number_if_any("limit"), frames)
+
+
+def age_of(line: Line) -> Age:
+    """What `load` tells of a need."""
+    return Age(line.number("need"), line.number_if_any("age"), line.number("limit"))
+
+
+def load_of(answer: str) -> Load | None:
+    """What `load` tells of a plan; None of one that says nothing of the bus."""
+    lines = lines_of(answer)
+    if lines and lines[-1].word("cause") == "NoTiming":
+        return None
+    taken = [(line.number("load"), line.number("bitrate")) for line in lines if line.kind == "load"]
+    if not taken:
+        return Load([], None)
+    delays = [delay_of(line) for line in lines if line.kind == "flow"]
+    ages = [age_of(line) for line in lines if line.kind == "need"]
+    return Load(delays, taken[0], ages)

@@ -1,0 +1,1 @@
+"""Hints at what is wrong in a plan, or may be."""

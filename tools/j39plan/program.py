@@ -1,0 +1,245 @@
+"""The program j39plan, as the tools call it, and how a tool ends."""
+
+import argparse
+import contextlib
+import functools
+import io
+import os
+import shutil
+import signal
+import subprocess
+import sys
+import tempfile
+import traceback
+from collections.abc import Callable, Iterable, Iterator, Sequence
+from typing import NoReturn
+
+from j39plan.left_out import Notes
+
+# Exit statuses (docs/TOOLS.md has all of them); those below 5 are the program's own.
+UNREADABLE, MEMORY, DEVICE, TOO_LONG, MISSING, FAULT = 2, 3, 4, 5, 69, 70
+
+# The most bytes that the program takes as a plan or a schedule.
+INPUT_MOST = 16_777_216
+
+# The folder of this package.
+PACKAGE = os.path.dirname(os.path.realpath(__file__))
+
+BUILT = os.path.join(PACKAGE, "..", "..", "crates", "j39plan", "out", "j39plan")
+
+
+class Refused(Exception):
+    """A tool can't do what it was asked: the exit status, and why, where that isn't said yet."""
+
+    def __init__(self, status: int, why: str = "") -> None:
+        super().__init__(why)
+        self.status = status
+
+
+def path() -> str:
+    """The program: the one that J39PLAN names, else the one that this repository has built, else the one on the PATH."""
+    named = os.environ.get("J39PLAN")
+    if named:
+        return named
+    found = BUILT if os.path.exists(BUILT) else shutil.which("j39plan")
+    if found is None:
+        print("j39plan isn't there: build it by ./j39plan, put it on the PATH, or name it by J39PLAN", file=sys.stderr)
+        sys.exit(MISSING)
+    return found
+
+
+def call(words: Sequence[str]) -> tuple[int, str]:
+    """What the program answers: its exit status and standard output. Its standard error goes where ours does."""
+    name = path()
+    try:
+        ended = subprocess.run([name, *words], stdin=subprocess.DEVNULL, stdout=subprocess.PIPE, check=False)
+    except OSError as fault:
+        print(f"j39plan can't be run: {name}: {fault.strerror}", file=sys.stderr)
+        sys.exit(MISSING)
+    return ended.returncode, ended.stdout.decode()
+
+
+def checked(plan: str) -> str:
+    """What `check` answers of a plan's file, whatever it finds; one that can't be read is refused by it."""
+    status, answer = call(["check", "--", plan])
+    if status not in (0, 1):
+        raise Refused(status, answer.strip())
+    return answer
+
+
+def shown(plan: str) -> str:
+    """What `show` answers of a plan's file; one that can't be read is refused by it."""
+    status, answer = call(["show", "--", plan])
+    if status != 0:
+        raise Refused(status, answer.strip())
+    return answer
+
+
+def run(plan: str, steps: Iterable[str]) -> list[str]:
+    """The lines that the program answers to a schedule of these steps, which the bus of a plan doesn't refuse."""
+    with tempfile.NamedTemporaryFile("w", suffix=".schedule") as schedule:
+        schedule.writelines(f"{step}\n" for step in steps)
+        schedule.flush()
+        status, answer = call(["run", "--", plan, schedule.name])
+    lines = answer.splitlines()
+    if status != 0:
+        refusal = next((line for line in lines if line.startswith("refused ")), "")
+        raise Refused(FAULT if refusal.startswith("refused line ") else status, refusal)
+    return lines
+
+
+def labels_of(plan: str) -> list[str]:
+    """The labels of a plan's units, in the order of the file."""
+    return [line.split()[1] for line in run(plan, []) if line.startswith("unit ")]
+
+
+@contextlib.contextmanager
+def copied(name: str) -> Iterator[str]:
+    """The name of a copy of a file: what a pipe or a device gives comes only once, and a tool hands its plan to the program several
+    times. Of a file that is too long a byte more is copied than the program takes."""
+    with open(name, "rb") as file, tempfile.NamedTemporaryFile() as copy:
+        copy.write(file.read(INPUT_MOST + 1))
+        copy.flush()
+        yield copy.name
+
+
+@contextlib.contextmanager
+def file_of(text: str) -> Iterator[str]:
+    """The name of a file that has this text as long as it is needed."""
+    with tempfile.NamedTemporaryFile(suffix=".toml") as file:
+        file.write(text.encode())
+        file.flush()
+        yield file.name
+
+
+class Version(argparse.Action):
+    """Prints the tool's name, and the version of the program and thus of all this."""
+
+    def __call__(self, words: argparse.ArgumentParser, given: argparse.Namespace, value: object, option: str | None = None) -> None:
+        status, answer = call(["--version"])
+        if status != 0:
+            raise Refused(status)
+        print(f"{tool()} ({answer.split()[0]}) {answer.split()[1]}")
+        words.exit()
+
+
+def parser(description: str, own_version: bool = False) -> argparse.ArgumentParser:
+    """The words of a tool's command line, its help and its version among them, unless the tool has a `--version` of its own."""
+    words = argparse.ArgumentParser(description=" ".join(description.split("\n\n", maxsplit=1)[0].split()))
+    if own_version:
+        return words
+    words.add_argument("--version", action=Version, nargs=0, help="print the version and exit")
+    return words
+
+
+def plan_word(words: argparse.ArgumentParser) -> None:
+    """The word of a plan, of a tool that takes one."""
+    words.add_argument("plan", metavar="PLAN", help="the name of a plan file")
+
+
+def same(text: str) -> tuple[str, str]:
+    """Another name of a unit, and what it is called, by `NAME=OTHER`."""
+    name, _, other = text.partition("=")
+    if not name or not other or name == other:
+        raise argparse.ArgumentTypeError("two names of one unit, as ENGINE=EMS")
+    return other, name
+
+
+def note_options(words: argparse.ArgumentParser) -> None:
+    """The options on notes of a tool that makes them."""
+    words.add_argument("--notes", metavar="FILE", help="write the notes into a file too, as JSON objects, each on a line")
+    words.add_argument("--fail-on-notes", action="store_true", help="exit status 1 where there is a note; what is written stays")
+
+
+def put(text: str) -> None:
+    """Puts a file on standard output, as UTF-8 whatever the terminal has."""
+    if isinstance(sys.stdout, io.TextIOWrapper):
+        sys.stdout.reconfigure(encoding="utf-8")
+    sys.stdout.write(text)
+
+
+def noted(given: argparse.Namespace, notes: Notes) -> int:
+    """Writes the notes where that is wanted, and answers the exit status."""
+    if given.notes:
+        notes.write(given.notes)
+    return 1 if given.fail_on_notes and notes.count else 0
+
+
+def tool() -> str:
+    """The name of the tool, however it is installed."""
+    return os.path.splitext(os.path.basename(os.path.realpath(sys.argv[0])))[0].removeprefix("j39plan-")
+
+
+def say(why: object) -> None:
+    """Says on standard error why the tool ends."""
+    try:
+        print(f"{tool()}: {why}", file=sys.stderr)
+    except OSError:
+        pass
+
+
+def device_fault(fault: OSError) -> int:
+    """Says what could not be read or written, but for a pipe that was closed; what is left to be written is dropped."""
+    if not isinstance(fault, BrokenPipeError):
+        say(f"{fault.filename}: {fault.strerror}" if fault.filename else fault.strerror or fault)
+    nowhere = os.open(os.devnull, os.O_WRONLY)
+    os.dup2(nowhere, sys.stdout.fileno())
+    if isinstance(fault, BrokenPipeError):
+        os.dup2(nowhere, sys.stderr.fileno())
+    return DEVICE
+
+
+def interrupted() -> NoReturn:
+    """Ends by the signal of an interrupt, so that a shell knows of it."""
+    signal.signal(signal.SIGINT, signal.SIG_DFL)
+    os.kill(os.getpid(), signal.SIGINT)
+    sys.exit(128 + signal.SIGINT)
+
+
+def written(main: Callable[[], int]) -> int:
+    """Runs a tool, and writes out what it has put."""
+    try:
+        return main()
+    finally:
+        sys.stdout.flush()
+
+
+def status_of(main: Callable[[], int]) -> int:
+    """Runs a tool and answers its exit status."""
+    if sys.stdout is None:
+        say("standard output is closed")
+        return DEVICE
+    # Names of files may have any bytes and texts any characters, whatever the terminal has.
+    if isinstance(sys.stdout, io.TextIOWrapper):
+        sys.stdout.reconfigure(errors="backslashreplace")
+    try:
+        return written(main)
+    except Refused as refused:
+        if str(refused):
+            say(refused)
+        return refused.status
+    except KeyboardInterrupt:
+        interrupted()
+    except MemoryError:
+        say("out of memory")
+        return MEMORY
+    except OSError as fault:
+        return device_fault(fault)
+    except Exception:  # a fault of the tool itself, which is to be none of the plan
+        traceback.print_exc()
+        return FAULT
+
+
+def command(main: Callable[[list[str] | None], int]) -> Callable[..., int]:
+    """A tool that answers its exit status however it ends. Its words are those of the command line, if none are given."""
+    @functools.wraps(main)
+    def run(words: list[str] | None = None) -> int:
+        return status_of(lambda: main(words))
+    return run
+
+
+def started(tool: str, words: Sequence[str]) -> subprocess.Popen[bytes]:
+    """Another tool of this package, run with these words in a process of its own, whose output is read by pipes."""
+    path = os.pathsep.join(filter(None, (os.path.dirname(PACKAGE), os.environ.get("PYTHONPATH"))))
+    return subprocess.Popen([sys.executable, "-P", "-m", f"j39plan.cli.{tool}", *words], stdin=subprocess.DEVNULL, stdout=subprocess.PIPE,
+                            stderr=subprocess.PIPE, env={**os.environ, "PYTHONPATH": path})
