@@ -10,7 +10,7 @@ use Rattle.j39_load.proofs.demands.add_demands.Goals as goal
 
 pub loop-unit-init : goal.loop-unit-init
 loop-unit-init c = record {
-  demands = sym (append-nil (map as_demand c.args.demands.old.items));
+  demands = sym (append-nil (map as_demand c.args.demands.now.items));
   sound = c.requires.demands;
 }
 
@@ -18,7 +18,7 @@ pub loop-unit-preserved : goal.loop-unit-preserved
 loop-unit-preserved c =
     let k = c.loop-unit.unit in
     let old = c.loop-unit.invariant in
-    let before = map as_demand c.args.demands.old.items in
+    let before = map as_demand c.args.demands.now.items in
     let by = λ u. demand_by c.args.announcements (wants_of c.args.all.now u) in
     record {
       demands = ap (map as_demand) c.in_ok-push.ensures.items
