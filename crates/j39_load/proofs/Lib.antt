@@ -9,6 +9,7 @@ pub mod CompanyStreams
 pub mod DemandLaws
 pub mod Different
 pub mod EachFrames
+pub mod FoundWaits
 pub mod KeepingApart
 pub mod KeepingErrors
 pub mod KeepingPlan

@@ -1,4 +1,4 @@
-use Rattle.std.proofs.Common.{◌≡◌, ◌++◌, ◌∷◌, [], List, map, append_assoc, sym, ap, ◌∙◌, arith}
+use Rattle.std.proofs.Common.{ℕ, ◌++◌, ◌∷◌, [], List, map, append_assoc, sym, ap, ◌∙◌, arith}
 use Rattle.std.proofs.lemmas.List.{append-nil}
 use Rattle.std.proofs.lemmas.List.Elements.{All-append, All-cons}
 use Rattle.std.proofs.lemmas.List.FromFn.{map-range_with_len_more}
@@ -19,7 +19,7 @@ loop-unit-preserved c =
     let k = c.loop-unit.unit in
     let old = c.loop-unit.invariant in
     let before = map as_demand c.args.demands.now.items in
-    let by = λ u. demand_by c.args.announcements (wants_of c.args.all.now u) in
+    let by = λ (u : ℕ). demand_by c.args.announcements (wants_of c.args.all.now u) in
     record {
       demands = ap (map as_demand) c.in_ok-push.ensures.items
           ∙ map_one_more as_demand c.loop-unit.demands.items c.in_ok-demand.demand
