@@ -5,9 +5,9 @@ any_order.py [PLANS [SEED [ANSWERS]]]
 Each of so many plans (300) has some units whose controllers keep no order, and most have twins: flows of one unit whose groups are told by
 their data alone, of which any may go first. It is played on a bus of its own, by none of the program's
 definitions: arbitration bit for bit comes down to the smallest identifier, and such a unit offers what came first, what came last, what is
-least urgent, or any frame. Four plans of ten have multi-packet broadcasts, seldom wanted and with gaps of 10 ms: each unit has one under way as
-the others come, and one of each flow waits. What is queued keeps the premises of the times (docs/TIMING.md), mostly all at once. ANSWERS is a file with what
-`load` writes of each plan behind a line `== NAME`; else ./j39plan is asked. The status is 1 where a frame is later than told.
+least urgent, or any frame. Four plans of ten have multi-packet broadcasts, seldom wanted and with gaps of 10 ms: each unit has one under way
+as the others come, and one of each flow waits. What is queued keeps the premises of the times (docs/TIMING.md), mostly all at once. ANSWERS is
+a file with what `load` writes of each plan behind a line `== NAME`; else ./j39plan is asked. The status is 1 where a frame is later than told.
 """
 from __future__ import annotations
 
@@ -61,8 +61,8 @@ class Frame(NamedTuple):
 
 
 class Sender:
-    """What a unit broadcasts: a message at a time, its frames a gap apart, each behind the end of the one before. As the run begins its longest
-    message is under way, and of each flow one that is wanted waits; another one that is wanted meanwhile isn't sent."""
+    """What a unit broadcasts: a message at a time, its frames a gap apart, by a timer or each behind the end of the one before. As the run begins
+    its longest message is under way, and of each flow one that is wanted waits; another one that is wanted meanwhile isn't sent."""
 
     def __init__(self, net: Network, unit: int, start: int, chance: random.Random) -> None:
         self.unit, self.address, self.chance = unit, net.addresses[unit], chance
@@ -70,7 +70,8 @@ class Sender:
         self.moments = {flow: start - chance.choice([0, 0, 1, chance.randrange(flow.period * BITS_PER_MS)]) for flow in flows}
         self.waiting: set[Flow] = set()
         self.left = max((flow.packets() for flow in flows), default=0) * chance.choice([0, 1, 1])
-        self.ready, self.queued = start + chance.choice([0, 1, chance.randrange(GAP)]), 0
+        self.ready, self.queued = start + chance.choice([0, 0, 1, chance.randrange(GAP)]), 0
+        self.by_timer = chance.random() < 0.6
 
     def time(self) -> int:
         """From when on its next frame is queued."""
@@ -88,7 +89,7 @@ class Sender:
             flow = self.chance.choice(sorted(self.waiting))
             self.waiting.remove(flow)
             self.left = flow.packets()
-        self.ready = 10 * LONG_SPAN
+        self.ready = 10 * LONG_SPAN if not self.by_timer else self.queued + (GAP if self.left else 0)
         return Frame(self.queued, 0, LONGEST, identifier(7, pgn, 255, self.address), self.unit, None)
 
     def want(self, time: int) -> None:
@@ -100,7 +101,8 @@ class Sender:
 
     def sent(self, end: int) -> None:
         """Its frame has been sent."""
-        self.ready = max(end, self.queued + GAP) if self.left else end
+        if not self.by_timer:
+            self.ready = max(end, self.queued + GAP) if self.left else end
         self.want(end)
 
 

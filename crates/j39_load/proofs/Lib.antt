@@ -10,6 +10,7 @@ pub mod DemandLaws
 pub mod Different
 pub mod EachFrames
 pub mod DamagedFirst
+pub mod FoundWaits
 pub mod KeepingApart
 pub mod KeepingErrors
 pub mod KeepingPlan

@@ -8,11 +8,12 @@ use Rattle.std.proofs.lemmas.List.{take_all}
 use Rattle.std.proofs.lemmas.List.Sums.{sum_by-append, sum_by-cons}
 use Rattle.std.specs.Int.{div_ceil}
 use Rattle.j39_timing.specs.FrameStreams.{Origins}
+use Rattle.j39_timing.specs.Messages.{IsOf}
 use Rattle.j39_timing.specs.Sums.{total}
 use Rattle.j39_timing.specs.TimedFrames.{Schedule}
 use Rattle.j39_timing.specs.Traffic.{moments_in}
 use Rattle.j39_timing.specs.Waits.{Demand, frames_of_want, frames_wanted}
-use Rattle.j39_timing.specs.WantedMessages.{AreAnnouncements, AreFramesOfMessages, AreWantedInTurn, HasLongest, HavePeriods, IsFrameOf, Messages, nothing, want_at, want_for}
+use Rattle.j39_timing.specs.WantedMessages.{AreAnnouncements, AreFramesOfMessages, AreWantedInTurn, HasLongest, HavePeriods, UnitMessages, nothing, want_at, want_for}
 use Rattle.j39_timing.specs.declared.wants.Want.{Want}
 use Rattle.j39_timing.proofs.StreamSums.{at_most_one, inside, inside_from, windows_sum}
 use Rattle.j39_timing.proofs.Sums.{total-le, total-none, total-two}
@@ -130,13 +131,13 @@ by_elements g xs (suc k) le =
 
 -- ---- messages
 
-module _ (s : Schedule) (planned : ℕ → Bool) (of : Origins) (j : ℕ) (demand : Demand) (messages : Messages) (periods : HavePeriods demand)
+module _ (s : Schedule) (planned : ℕ → Bool) (of : Origins) (j : ℕ) (demand : Demand) (messages : UnitMessages) (periods : HavePeriods demand)
     (wanted : AreWantedInTurn demand messages) (frames : AreFramesOfMessages s planned of j demand messages) (t span : ℕ) where
   -- a frame of the stream whose moment lies in the time
   abbrev counts : ℕ → Bool
   counts p = planned p && (eqb (of.source p) j && (leb t (of.since p) && ltb (of.since p) (t + span)))
 
-  counts_parts : (p : ℕ) → p < s.count → counts p ≡ true → IsFrameOf s planned of j p × (t ≤ of.since p) × (of.since p < t + span)
+  counts_parts : (p : ℕ) → p < s.count → counts p ≡ true → IsOf s planned of j p × (t ≤ of.since p) × (of.since p < t + span)
   counts_parts p in_p is =
       let one = and_parts (planned p) (eqb (of.source p) j && (leb t (of.since p) && ltb (of.since p) (t + span))) is in
       let two = and_parts (eqb (of.source p) j) (leb t (of.since p) && ltb (of.since p) (t + span)) one.1 in
@@ -162,7 +163,7 @@ module _ (s : Schedule) (planned : ℕ → Bool) (of : Origins) (j : ℕ) (deman
       (frames.places p (counts_parts p in_p two.0).0))
 
   -- a message of which some count has such a frame
-  one_of : (m : ℕ) → 0 < of_message m → (p : ℕ) × IsFrameOf s planned of j p × (t ≤ of.since p) × (of.since p < t + span) × (messages.message p ≡ m)
+  one_of : (m : ℕ) → 0 < of_message m → (p : ℕ) × IsOf s planned of j p × (t ≤ of.since p) × (of.since p < t + span) × (messages.message p ≡ m)
   one_of m some =
       let (p, in_p, is) = found s.count (λ p. counts p && eqb (messages.message p) m) (λ p. 1) some in
       let two = and_parts (counts p) (eqb (messages.message p) m) is in

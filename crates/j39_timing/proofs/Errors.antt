@@ -1,6 +1,6 @@
 -- A bus with damaged frames is one of a legal schedule, in which damaged attempts and error frames go before all others.
-use Rattle.std.proofs.Common.{◌≡◌, ℕ, ◌+◌, ◌-◌, ◌<◌, ◌≤◌, ◌⊎◌, ◌∙◌, true, refl, sym, ap, subst, arith, inl, inr}
-use Rattle.std.proofs.lemmas.Bool.{cases_lt, le-ltb, lt-ltb}
+use Rattle.std.proofs.Common.{◌≡◌, ℕ, suc, ◌+◌, ◌-◌, ◌<◌, ◌≤◌, ◌⊎◌, ◌||◌, ◌∙◌, true, eqb, refl, sym, ap, subst, arith, inl, inr}
+use Rattle.std.proofs.lemmas.Bool.{cases_lt, le-ltb, lt-ltb, ne_eqb}
 use Rattle.j39_timing.specs.TimedFrames.{Schedule, IsLegal, IsOnBusAt, Waits}
 use Rattle.j39_timing.specs.AnyOrder.{Controllers, IsLegalInAnyOrder, IsFromOrdered, MayBeOffered}
 use Rattle.j39_timing.specs.Errors.{Damaged, IsBusWithErrors, IsDamagedAt, IsLegalInAnyOrderWithErrors, IsLegalWithErrors, damage_ordered, with_errors}

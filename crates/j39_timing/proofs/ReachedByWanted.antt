@@ -5,7 +5,7 @@ use Rattle.j39_timing.specs.Sums.{total}
 use Rattle.j39_timing.specs.TimedFrames.{Schedule}
 use Rattle.j39_timing.specs.Traffic.{moments_in}
 use Rattle.j39_timing.specs.Waits.{Demand, frames_wanted}
-use Rattle.j39_timing.specs.WantedMessages.{AreFramesOfMessages, AreWantedInTurn, HasLongest, HavePeriods, Messages}
+use Rattle.j39_timing.specs.WantedMessages.{AreFramesOfMessages, AreWantedInTurn, HasLongest, HavePeriods, UnitMessages}
 
 -- the packets come each ten bits, from bit 72 on
 abbrev six : Schedule
@@ -25,7 +25,7 @@ announced_at zero = 0
 announced_at (suc zero) = 82
 announced_at (suc (suc m)) = 102 + 51 * m
 
-abbrev three : Messages
+abbrev three : UnitMessages
 three = record {
   count = 3;
   flow = λ m. 0;
@@ -91,7 +91,7 @@ reached : moments_in six all_planned as_queued 0 72 51 ≡ frames_wanted 51 of_t
 unfolding total
 reached = refl
 
-pub reached_by_wanted : (s : Schedule) × (planned : ℕ → Bool) × (of : Origins) × (demand : Demand) × (messages : Messages) × HavePeriods demand
+pub reached_by_wanted : (s : Schedule) × (planned : ℕ → Bool) × (of : Origins) × (demand : Demand) × (messages : UnitMessages) × HavePeriods demand
     × AreWantedInTurn demand messages × AreFramesOfMessages s planned of 0 demand messages × HasLongest demand
     × (moments_in s planned of 0 72 51 ≡ frames_wanted 51 demand)
 reached_by_wanted = (six, all_planned, as_queued, of_two, three, periods, wanted_in_turn, of_messages, longest, reached)

@@ -1,5 +1,5 @@
 -- A bus on which frames are damaged: an error frame follows at once, and the frame takes part again (ISO 11898-1).
-use Rattle.std.specs.Prelude.{◌≡◌, ℕ, ◌+◌, ◌-◌, ◌<◌, ◌≤◌, ◌⊎◌, cond, nat_lt}
+use Rattle.std.specs.Prelude.{◌≡◌, ℕ, suc, ◌+◌, ◌-◌, ◌<◌, ◌≤◌, ◌⊎◌, ◌||◌, cond, nat_eq, nat_lt}
 use Rattle.j39_timing.specs.FrameBits.{error_frame}
 use Rattle.j39_timing.specs.AnyOrder.{Controllers, MayBeOffered}
 use Rattle.j39_timing.specs.TimedFrames.{Schedule, IsOnBusAt, Waits}

@@ -1,4 +1,4 @@
-use Rattle.std.proofs.Common.{◌≡◌, ◌++◌, ◌∷◌, [], List, map, append_assoc, sym, ap, ◌∙◌, arith}
+use Rattle.std.proofs.Common.{ℕ, ◌++◌, ◌∷◌, [], List, map, append_assoc, sym, ap, ◌∙◌, arith}
 use Rattle.std.proofs.lemmas.List.{append-nil}
 use Rattle.std.proofs.lemmas.List.Elements.{All-append, All-cons}
 use Rattle.std.proofs.lemmas.List.FromFn.{map-range_with_len_more}
@@ -10,7 +10,7 @@ use Rattle.j39_load.proofs.demands.add_demands.Goals as goal
 
 pub loop-unit-init : goal.loop-unit-init
 loop-unit-init c = record {
-  demands = sym (append-nil (map as_demand c.args.demands.old.items));
+  demands = sym (append-nil (map as_demand c.args.demands.now.items));
   sound = c.requires.demands;
 }
 
@@ -18,8 +18,8 @@ pub loop-unit-preserved : goal.loop-unit-preserved
 loop-unit-preserved c =
     let k = c.loop-unit.unit in
     let old = c.loop-unit.invariant in
-    let before = map as_demand c.args.demands.old.items in
-    let by = λ u. demand_by c.args.announcements (wants_of c.args.all.now u) in
+    let before = map as_demand c.args.demands.now.items in
+    let by = λ (u : ℕ). demand_by c.args.announcements (wants_of c.args.all.now u) in
     record {
       demands = ap (map as_demand) c.in_ok-push.ensures.items
           ∙ map_one_more as_demand c.loop-unit.demands.items c.in_ok-demand.demand
