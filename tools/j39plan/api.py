@@ -163,8 +163,8 @@ def follow(plan: Plan, log: str | os.PathLike[str]) -> Iterator[Message | Claim 
     """The reports of a log of `candump -L`, one by one as `follow` writes them: messages of planned groups, claims, requests, and of a plan
     with requests acknowledgements.
 
-    Of each the `line`, from 1, and the `time` as the log spells it, in brackets; who sent it (`sender`, `to`) or claimed (`who`). A
-    message has its `group`, the number of its `flow`, from 1 and 0 for none, its `data` as hex digits, and its `signals`, by their labels
+    Of each the `line`, from 1, and the `time` as the log spells it, in brackets; who sent it (`sender`, `to`) or claimed (`who`, and of a unit of any
+    serial number the `identity` of its box). A message has its `group`, the number of its `flow`, from 1 and 0 for none, its `data` as hex digits, and its `signals`, by their labels
     the `Readings`.
 
     Raises `Refused` where the plan has a group that can't be laid out, where the log has lines and no frame, and where the program fails in the

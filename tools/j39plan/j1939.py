@@ -12,8 +12,8 @@ NAME_FIELDS = (
     ("system", 49, 7), ("system_instance", 56, 4), ("industry", 60, 3), ("arbitrary", 63, 1),
 )
 
-# How many hex digits of a NAME have bits of its identity number.
-IDENTITY_DIGITS = 6
+# The width of an identity number, at the low end of a NAME, and how many hex digits have bits of it. The rest of a NAME is the kind of the box.
+IDENTITY_BITS, IDENTITY_DIGITS = 21, 6
 
 # Addresses (J1939-81): that of a unit without one, that of all units, and those among which a unit may choose.
 NULL_ADDRESS, GLOBAL_ADDRESS = 254, 255
@@ -67,3 +67,13 @@ def source_in(identifier: int) -> int:
 def destination_in(identifier: int) -> int:
     """The address in an identifier to which the frame goes, that of all where it names none."""
     return GLOBAL_ADDRESS if is_pdu2(identifier >> 8) else identifier >> 8 & 0xFF
+
+
+def identity_in(name: int) -> int:
+    """The identity number in a NAME."""
+    return name & (1 << IDENTITY_BITS) - 1
+
+
+def kind_of(name: int) -> int:
+    """The kind of a box: its NAME without the identity number."""
+    return name - identity_in(name)

@@ -67,8 +67,8 @@ class Against(Compared):
         self.assertEqual(self.deviations("18FEF105#FFFFFFFFFFFFFFFF", "18FEF105#00FFFFFFFFFFFFFF"), found)
 
     def test_an_unknown_name(self):
-        self.assertEqual(self.deviations("18EEFF05#0300000000000000"),
-                         ["L:1: NAME 0000000000000003 (identity 3, manufacturer 0, function 0) claims address 5: no unit has it"])
+        self.assertEqual(self.deviations("18EEFF05#0300000001000000"),
+                         ["L:1: NAME 0000000100000003 (identity 3, manufacturer 0, function 0) claims address 5: no unit has it"])
 
     def test_the_log_of_a_run(self):
         """A unit is switched off and one of a larger NAME takes its address: the frames of the run say who holds it then."""
@@ -119,7 +119,7 @@ class Against(Compared):
         """DISPLAY loses 128 to a NAME that isn't planned, in the middle of its message."""
         frames = [frame.replace("FF00#", "FF80#") for frame in VI]
         self.assertEqual(self.deviations(*frames), ["L:1: VI from DISPLAY to all: no flow"])
-        found = self.deviations(*frames[:2], "18EEFF80#0000000000000000", *frames[2:])
+        found = self.deviations(*frames[:2], "18EEFF80#0000000001000000", *frames[2:])
         self.assertEqual(found[0], "L:1: VI from DISPLAY to all: announced, and not put together, since address 128 changed hands at line 3")
         self.assertNotIn("no flow", "".join(found))
 

@@ -128,7 +128,7 @@ class Units(WithDbc):
         plan, said = self.plan(data="BU_: ENGINE RETARDER TOOL\n" + message(FROM_0, "EEC1", "ENGINE") + message(FROM_15, "EEC1_B", "RETARDER") + (
             'BA_DEF_ BU_ "NmStationAddress" INT 0 254;\n') + numbers)
         self.assertEqual([unit["name"] for unit in plan["unit"]], [{"identity": 5}, {"identity": 6}, {"function": 129}])
-        kept = "nothing but its identity number {} tells it from {}: it is kept, and the plan fits one vehicle"
+        kept = "only its identity number {} distinguishes it from {}: it is kept, and the plan fits one vehicle"
         self.assertEqual([line for line in said if "number" in line.lower()], [
             f"unit ENGINE: {kept.format(5, 'RETARDER')}", f"unit RETARDER: {kept.format(6, 'ENGINE')}",
             "unit TOOL, NmJ1939IdentityNumber: 7 is left away: each box has a number of its own"])
@@ -204,7 +204,7 @@ class Groups(WithDbc):
             data = NODES + message(FROM_0, "EEC1", "ENGINE", text) + message(FROM_15, "EEC1_B", "RETARDER", length=2)
             plan, said = self.plan(data=data + told.format(FROM_0 | 1 << 31, "T"))
             self.assertEqual(len(plan["group"][0].get("text", [])), is_kept)
-            self.assertEqual("signal T of EEC1: it is text that begins behind the 2 bytes of the shortest message" in said, not is_kept)
+            self.assertEqual("signal T of EEC1: it is text that begins after the 2 bytes of the shortest message" in said, not is_kept)
 
     def test_no_destination_from_the_null_address(self):
         """Identifiers that stand for a group alone have the source 254, and at the destination's place what means nothing."""

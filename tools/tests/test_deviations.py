@@ -104,7 +104,7 @@ class Units(Deviations):
         """SPRAYER claims 141 since HITCH defends 128, or moves while it sends: for 250 ms from then on it is to send nothing."""
         asks, moves = "18EAFF8D#ECFE00", SPRAYER.replace("EEFF8C", "EEFF8D")
         lost = [(1, HITCH), (9.8, HSTAT), (9.9, SPRAYER_AT_128), (9.905, HITCH)]
-        early = "SPRAYER sends before 250 ms have passed behind its claim of address 141"
+        early = "SPRAYER sends before 250 ms have passed after its claim of address 141"
         self.assertEqual(self.told(*lost, (9.91, moves), (10.159, asks)), [f"L:6: {early}"])
         self.assertEqual(self.told(*lost, (9.91, moves), (10.16, asks)), [])
         self.assertEqual(self.told((1, SPRAYER), (9.8, asks.replace("8D#", "8C#")), (9.9, moves), (10.1, asks)), [f"L:4: {early}"])

@@ -98,7 +98,9 @@ class Table(Fleets):
         self.assertEqual((status, said), (1, ""))
         parts = answer.split("\n\n")
         self.assertEqual([part.splitlines()[0].split()[0] for part in parts],
-                         ["log", "deviation", "flow", "unit", "NAME", "signal", "logs"])
+                         ["log", "deviation", "flow", "unit", "NAME", "log", "signal", "logs"])
+        self.assertEqual([row.split() for row in parts[5].splitlines()], [
+            ["log", "identity", "numbers"], ["early.log", "LEFT", "2,", "RIGHT", "3"], ["late.log", "LEFT", "2,", "RIGHT", "3"]])
         self.assertEqual([row.split() for row in parts[0].splitlines()], [
             ["log", "begin", "duration", "mean", "load", "worst", "second", "frames", "bad", "elsewhere", "deviations"],
             ["early.log", "10.000", "0.6", "s", "-", "1120", "bit/s", "7", "0", "1", "0"],

@@ -22,11 +22,11 @@ class Hands(Compared):
         self.assertEqual(self.compared(RIVALS % "VALVE", both)[0], "L:3: address 128 sends ET1, a planned group: no unit has it")
 
     def test_a_name_that_is_not_planned_takes_an_address(self):
-        for name in ("0000000000000000", "0300000000000000"):
+        for name, identity in (("0000000001000000", 0), ("0300000001000000", 3)):
             found = self.deviations(f"18EEFF00#{name}", "18FEEE00#7DFFFFFFFFFFFFFF")
             told = "".join(reversed(re.findall("..", name)))
             self.assertEqual(found[:4], [
-                f"L:1: NAME {told} (identity {int(told, 16)}, manufacturer 0, function 0) claims address 0: no unit has it",
+                f"L:1: NAME {told} (identity {identity}, manufacturer 0, function 0) claims address 0: no unit has it",
                 f"L:2: NAME {told} at address 0 sends ET1, a planned group: no unit has it  (2 times)",
                 f"L:4: TSC1 from DISPLAY to #{told}: no flow",
                 f"L:5: NAME {told} at address 0 sends VI, a planned group: no unit has it"])
@@ -86,7 +86,7 @@ class Hands(Compared):
 
         contest = ("9.0", VALVE_CLAIMS), ("9.1", ET1)
         self.assertIn("unit PUMP: neither claimed an address nor sent anything", found(*contest))
-        self.assertIn("PUMP sends before 250 ms have passed behind its claim of address 128", found(("9.5", PUMP_CLAIMS), ("9.6", ET1)))
+        self.assertIn("PUMP sends before 250 ms have passed after its claim of address 128", found(("9.5", PUMP_CLAIMS), ("9.6", ET1)))
 
     def test_a_frame_of_a_contest_accuses_nobody(self):
         """Who holds an address sends on until it has heard of the claim; once it is heard of elsewhere, the claimer is the one that sends."""
@@ -106,7 +106,7 @@ class Hands(Compared):
             name = self.write("drive.log", "".join(f"({time}) can0 {frame}\n" for time, frame in log))
             answer = run("against.py", self.write("plan.toml", RIVALS % "PUMP"), name)[1]
             return [line.replace(name, "L") for line in answer.splitlines() if "before 250" in line]
-        said = ["L:2: PUMP sends before 250 ms have passed behind its claim of address 128"]
+        said = ["L:2: PUMP sends before 250 ms have passed after its claim of address 128"]
         self.assertEqual(told(("5.0", PUMP_CLAIMS), ("5.249", ET1), ("5.2495", ET1)), said)
         self.assertEqual(told(("5.0", PUMP_CLAIMS), ("5.25", ET1)), [])
         self.assertEqual(told(("4.9", ET1), ("5.0", PUMP_CLAIMS), ("5.1", ET1)), [])

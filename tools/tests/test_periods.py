@@ -84,7 +84,7 @@ class Periods(Compared):
             self.assertEqual([re.search(r"\((\d) times\)", line) and line[-8:] for line in told] or [0],
                              {0: [0], 1: [None], 3: ["3 times)"]}[found], words)
         name, plan = self.path("drive.log"), self.timed(10)
-        said = "is no less than the period of flow 1, 3: how near messages come isn't told there\n"
+        said = "is no less than the period of flow 1, 3: how near messages come isn't reported there\n"
         self.assertEqual(run("against.py", "--jitter", "60", plan, name)[2], f"against: --jitter 60 ms {said}")
         self.assertEqual(run("against.py", "--jitter", "100%", plan, name)[2], f"against: --jitter 100% {said}")
         self.assertEqual(run("against.py", "--jitter", "9.9", plan, name)[2], "")

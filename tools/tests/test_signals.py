@@ -113,14 +113,14 @@ class Signals(InFolder):
         """A unit that moved is called by its label, with `?` where only the plan tells who it is; who isn't planned by the NAME, and by the
         address where nothing is known."""
         log = self.write("a.log", "18EFFF80#01FFFF\n18EEFF81#0200000000000080\n18EFFF80#01FFFF\n18EF0081#01FFFF\n18EFFF25#01FFFF\n"
-                                  "18EEFF25#0300000000000000\n18EF2581#01FFFF\n")
+                                  "18EEFF25#0300000001000000\n18EF2581#01FFFF\n")
         plan = self.write("plan.toml", UNITS + ONE)
         self.assertEqual([tuple(row[key] for key in ("line", "from", "source", "to", "destination")) for row in self.rows(plan, log)], [
             ("1", "PUMP?", "128", "all", "255"), ("3", "128", "128", "all", "255"), ("4", "PUMP", "129", "ENGINE?", "0"),
-            ("5", "37", "37", "all", "255"), ("7", "PUMP", "129", "#0000000000000003", "37")])
+            ("5", "37", "37", "all", "255"), ("7", "PUMP", "129", "#0000000100000003", "37")])
         objects = [json.loads(line) for line in run("signals.py", "--json", plan, log)[1].splitlines()]
         self.assertEqual([(told["from"], told["source"], told["to"], told["destination"]) for told in objects[2::2]],
-                         [("PUMP", 129, "ENGINE?", 0), ("PUMP", 129, "#0000000000000003", 37)])
+                         [("PUMP", 129, "ENGINE?", 0), ("PUMP", 129, "#0000000100000003", 37)])
 
     def test_private_groups_are_told_by_their_flows(self):
         """As `follow` has it: where a unit sends one by a flow."""
@@ -232,7 +232,7 @@ class Signals(InFolder):
         for groups in (LONG + OTHER + ONE, ONE + LONG + LONG.replace('"LONG"', '"AGAIN"') + OTHER):
             plan = self.write("plan.toml", UNITS + groups + '[[flow]]\ngroup = "ONE"\nfrom = "PUMP"\nto = "all"\n')
             lines = random_log(rng, 150)
-            for claim in ("18EEFF80#0200000000000080", "18EEFF25#0900000000000000", "18EEFF81#0200000000000080"):
+            for claim in ("18EEFF80#0200000000000080", "18EEFF25#0900000001000000", "18EEFF81#0200000000000080"):
                 lines.insert(rng.randrange(len(lines)), f"(1.5) can0 {claim}")
             log = self.write("a.log", "\n".join(lines) + "\n")
             head, *whole = run("signals.py", plan, log)[1].splitlines()

@@ -97,7 +97,7 @@ class SerialNumbers(InFolder):
         """Both, or one of them, without a number: only the serial numbers of their boxes tell them apart."""
         for names in (("manufacturer = 1", "manufacturer = 1"), ("manufacturer = 1", "identity = 7, manufacturer = 1")):
             self.assertEqual(self.told(*names), [
-                "9: F1 SameName A B  (nothing but serial numbers tells A at line 5 from B: give them different function_instance or ecu; or both "
+                "9: F1 SameName A B  (only serial numbers distinguish A at line 5 from B: give them different function_instance or ecu; or both "
                 "their numbers: then the plan fits one vehicle)", "findings 1"])
         self.assertEqual(self.told("identity = 7", "identity = 7"), ["9: F1 SameName A B  (key name: the same as of A at line 5)", "findings 1"])
         for names in (("identity = 7", "identity = 8"), ("function = 1", "function = 2"), ("", "identity = 7, ecu = 1")):
@@ -293,7 +293,7 @@ class Where(InFolder):
             'version = 3\n[[group]]\nlabel = "G"\npgn = 65262\npriority = 6\nlength = 8\n'
             '[[group.signal]]\nlabel = "S"\nbyte = 1\nbits = 8\nkind = "raw"\n[[group.text]]\nlabel = "T"\nbyte = 2\nbytes = 9\n'
         )
-        found = "14: F15 TextOutside G T 10  (key byte: the text ends behind the group's longest messages, or begins behind what follows its shortest)"
+        found = "14: F15 TextOutside G T 10  (key byte: the text ends after the group's longest messages, or begins after what follows its shortest)"
         self.assertEqual(self.answer(plan), (1, [found, "findings 1"]))
         for label, line in (("S", 8), ("T", 13)):
             repeated = f"17: refused Repeated group 1 text 2 key label  (key label: {label} is at line {line} too)"
@@ -492,7 +492,7 @@ class Where(InFolder):
              "key pgn: the same as of G at line 4, and when names other bits"),
             ("when = { byte = 1, bit = 1, bits = 4, value = 1 }", "F5 SamePgn G H 65268", 10,
              "key pgn: the same as of G at line 4, and when has the same value"),
-            ("when = { byte = 2, bits = 4, value = 2 }", "F24 WhenOutside H 12", 13, "key when: its bits end behind the group's length"),
+            ("when = { byte = 2, bits = 4, value = 2 }", "F24 WhenOutside H 12", 13, "key when: its bits end after the group's length"),
             ("when = { byte = 1, bits = 4, value = 16 }", "refused Range group 2 when key value", 13,
              "value = 16: integer 0..4294967295, which the bits hold"),
             ("when = { byte = 1, value = 1 }", "refused Missing group 2 when key bits", 13, "key bits isn't there: integer 1..32"),
@@ -508,8 +508,8 @@ class Where(InFolder):
             'version = 4\n[[group]]\nlabel = "G"\npgn = 65226\npriority = 6\nlength = 8\nmost = 12\nevery = 4\n'
             '[[group.signal]]\nlabel = "S"\nbyte = 13\nbits = 8\nkind = "raw"\noptional = true\n'
         )
-        behind = ("11: F7 SignalOutside G S 104  (key byte: the signal ends behind the group's length, or, where it is optional, "
-                  "behind its longest messages)")
+        behind = ("11: F7 SignalOutside G S 104  (key byte: the signal ends after the group's length, or, where it is optional, "
+                  "after its longest messages)")
         self.assertEqual(self.answer(plan), (1, [behind, "findings 1"]))
         self.assertEqual(self.answer(plan.replace("byte = 13", "byte = 12")), (0, ["ok 0 units 1 groups 0 flows"]))
         both = "14: refused Range group 1 signal 1 key optional  (optional = true: the signal is repeated)"

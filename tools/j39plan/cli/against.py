@@ -22,6 +22,7 @@ from j39plan.log.checks.unplanned import bounds_of
 from j39plan.log.clock import SECOND, ends_of, nanoseconds
 from j39plan.log.files import Log, interface_option
 from j39plan.log.reports import Counts, follow, tables_of
+from j39plan.log.serial_numbers import by_kind
 from j39plan.plan.cut import bare
 from j39plan.plan.files import opened
 from j39plan.plan.tables import Tables
@@ -42,9 +43,9 @@ def words_of(words: list[str] | None) -> argparse.Namespace:
                         help="by how much messages may come nearer than their flow's period, beside the plan's jitter, and further apart than its pause: in "
                         "ms, as 2.5, or a share of these, as 10%% (0)")
     parser.add_argument("--silence", metavar="N", type=periods_of, default=SILENCE,
-                        help=f"after how many periods without a message a flow without a pause is silent; 0: such silences aren't told ({SILENCE})")
+                        help=f"after how many periods without a message a flow without a pause is silent; 0: such silences aren't reported ({SILENCE})")
     parser.add_argument("--events", metavar="FLOW", action="append", default=[],
-                        help="a group, or a flow by its number, that is sent when something happens: no silence of it is told; may be given several times")
+                        help="a group, or a flow by its number, that is sent when something happens: no silence of it is reported; may be given several times")
     parser.add_argument("--table", action="store_true", help="tables first: how often each flow was sent, and how far apart; when each unit was heard; "
                         "requests that the plan doesn't have")
     parser.add_argument("--all", action="store_true", help="all lines of each deviation below it")
@@ -112,7 +113,7 @@ def say_what_is_left(given: argparse.Namespace, distances: Distances) -> None:
         program.say("the log has no times by which the periods of flows could be compared")
     if given.jitter.spelled and distances.passed_over:
         flows = ", ".join(map(str, distances.passed_over))
-        program.say(f"--jitter {given.jitter.spelled} is no less than the period of flow {flows}: how near messages come isn't told there")
+        program.say(f"--jitter {given.jitter.spelled} is no less than the period of flow {flows}: how near messages come isn't reported there")
     if distances.explained:
         flows = ", ".join(map(str, sorted(distances.explained)))
         count = sum(distances.explained.values())
@@ -135,12 +136,12 @@ def summary_of(log: Log, meter: Meter, comparison: Comparison) -> dict[str, Any]
 def main(words: list[str] | None = None) -> int:
     """Writes the deviations; 0 where there is none, 1 where there is one."""
     given, counts = words_of(words), Counts()
-    with opened(given.plan) as plan, Log(given.logs, given.interface) as log:
-        tables, output, meter = tables_of(plan), Output(given, log), Meter() if given.json else None
+    with opened(given.plan) as plan, Log(given.logs, given.interface) as log, by_kind(plan, tables_of(plan), log.still, given.interface) as (known, tables, others):
+        output, meter = Output(given, log), Meter() if given.json else None
         found = Found(given.all, output.live if given.live else None)
-        settings = Settings(given.jitter, Rule(given.silence, events_of(given.events, tables), given.table))
-        feed, comparison = Feed(tables.groups, tables.timing, meter), Comparison(tables, bounds_of(plan, tables), settings, found)
-        with bare(plan, tables) as (shorter, parts):
+        settings = Settings(given.jitter, Rule(given.silence, events_of(given.events, tables), given.table), others)
+        feed, comparison = Feed(tables.groups, tables.timing, meter), Comparison(tables, bounds_of(known, tables), settings, found)
+        with bare(known, tables) as (shorter, parts):
             for report in follow(shorter, log, parts, counts, feed.pieces, given.live):
                 line, mark = feed.place(report)
                 comparison.report(line, report, mark)

@@ -17,6 +17,7 @@ from j39plan.log.curves import Curve, Timeline, curves_of
 from j39plan.log.files import Log, drive_words, interface_option
 from j39plan.log.readings import Choice, Column, Wanted, parted
 from j39plan.log.reports import Counts, follow, tables_of
+from j39plan.log.serial_numbers import by_kind, say_numbers
 from j39plan.plan.cut import cut
 from j39plan.plan.files import opened
 from j39plan.plan.measures import measure_of
@@ -120,9 +121,11 @@ def main(words: list[str] | None = None) -> int:
             raise program.Refused(program.UNREADABLE, f"{len(choice.columns)} signals are chosen, and {MOST} can be drawn")
         if not choice.columns and not given.addresses:
             raise program.Refused(program.UNREADABLE, "nothing to draw")
-        with Log(logs, given.interface) as log, cut(plan, tables, choice) as shorter:
+        with Log(logs, given.interface) as log, by_kind(plan, tables, log.still, given.interface) as (known, other, numbers), \
+                cut(known, other, choice) as shorter:
             curves, timeline = drawn(log, *shorter, choice)
             first, last = ends_of(log)
+    say_numbers(numbers)
     from j39plan.log import chart
 
     columns, title = in_order(choice.columns, names), ", ".join(map(os.path.basename, logs))

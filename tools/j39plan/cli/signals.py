@@ -20,6 +20,7 @@ from j39plan.log.clock import Clock
 from j39plan.log.files import Log, drive_words, interface_option
 from j39plan.log.readings import Choice, Column, Made, Reading, Told, Wanted, parted
 from j39plan.log.reports import FROM, GROUP, LINE, TIME, TO, Counts, Said, Who, said_of, tables_of, who_of
+from j39plan.log.serial_numbers import by_kind, say_numbers
 from j39plan.plan.cut import cut
 from j39plan.plan.files import opened
 
@@ -248,10 +249,12 @@ def main(words: list[str] | None = None) -> int:
         tables = tables_of(plan)
         names, logs = parted(tables, given.names, given.log)
         choice = Choice(tables, names)
-        with Log(logs, given.interface) as log, cut(plan, tables, choice) as (shorter, parts):
+        with Log(logs, given.interface) as log, by_kind(plan, tables, log.still, given.interface) as (known, other, numbers), \
+                cut(known, other, choice) as (shorter, parts):
             form: Form[Any] = given.form(log, choice)
             said = with_frames(said_of(shorter, log, parts, counts), log, counts)
             put_all(form.head(), lines_of(said, Wanted(choice, form.made), form, clock), log.is_live)
+    say_numbers(numbers)
     counts.say(log)
     clock.say(log)
     return 0

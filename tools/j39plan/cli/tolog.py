@@ -74,7 +74,7 @@ def messages_of(name: str) -> Iterator["Message"]:
     except (GeneratorExit, KeyboardInterrupt, BrokenPipeError):
         raise
     except Exception as fault:  # whatever a reader makes of bytes that aren't of its format
-        raise program.Refused(program.UNREADABLE, f"{name}: can't be read behind {count} frames: {why(name, fault)}") from None
+        raise program.Refused(program.UNREADABLE, f"{name}: can't be read after {count} frames: {why(name, fault)}") from None
     finally:
         reader.stop()
 

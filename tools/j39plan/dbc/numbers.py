@@ -32,7 +32,7 @@ def numbers_of(boxes: list[Box], keeps: bool, version: int, notes: Notes) -> dic
         alike = [other for other in boxes if other.name == box.name and None not in (other.number, box.number) and other.number != box.number]
         if alike:
             kept[box.unit] = given[box.unit]
-            told = f"nothing but its identity number {box.number} tells it from {alike[0].unit}: it is kept, and the plan fits one vehicle"
+            told = f"only its identity number {box.number} distinguishes it from {alike[0].unit}: it is kept, and the plan fits one vehicle"
             notes.say(f"unit {box.unit}", told)
         elif box.number:
             notes.say(f"unit {box.unit}, {IDENTITY_ATTRIBUTE[0]}", f"{box.number} is left away: each box has a number of its own")

@@ -451,7 +451,7 @@ class Signals:
         if byte + count - 1 > self.length_of(frame):
             self.check_place(signal, frame, 8 * byte - 8)
         if byte > self.lengths[0] + 1 and len(self.lengths) > 1:
-            raise LeftOut(f"it is text that begins behind the {self.lengths[0]} bytes of the shortest message")
+            raise LeftOut(f"it is text that begins after the {self.lengths[0]} bytes of the shortest message")
         told = signal.attributes.get(BYTES_ATTRIBUTE)
         count = int(told) if told is not None and str(told).isdecimal() and int(told) <= BYTES else count
         return Table("group.text", {"label": self.label(signal, frame), "byte": byte, **({"bytes": count} if count else {})})

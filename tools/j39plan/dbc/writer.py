@@ -124,7 +124,7 @@ class Writer:
         if requests := self.tables.requests:
             self.notes.say("request", f"a DBC has no requests: {len(requests)} of them are left out")
         if self.tables.strangers:
-            self.notes.say("strangers", "a DBC tells of no units that stand in no plan")
+            self.notes.say("strangers", "a DBC has no unplanned units")
 
     def unit_attributes(self) -> Iterator[str]:
         """Addresses and NAMEs of the units; what a DBC can't say of them is noted."""

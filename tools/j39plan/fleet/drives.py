@@ -20,7 +20,8 @@ from j39plan import program
 from j39plan.fleet.signals import Code, Signals, Spread
 from j39plan.log.clock import DAY, SECOND, nanoseconds
 from j39plan.log.files import PACKED, OneInterface
-from j39plan.log.reports import Writer, as_it_comes, who_of
+from j39plan.log.reports import Writer, as_it_comes, identity_of, who_of
+from j39plan.log.serial_numbers import by_kind
 from j39plan.plan.tables import Tables
 
 class Deviation(NamedTuple):
@@ -46,10 +47,11 @@ class Silence(NamedTuple):
 
 
 class Claimed(NamedTuple):
-    """Who claimed addresses, in the order of the first ones, with None for none; and how often."""
+    """Who claimed addresses, in the order of the first ones, with None for none; how often; and of a unit the serial numbers of its boxes."""
 
     addresses: list[int | None]
     times: int
+    numbers: list[int] = []
 
 
 class Drive(TypedDict):
@@ -138,7 +140,8 @@ class Followed:
     def __init__(self, tables: Tables) -> None:
         self._flows = len(tables.flows)
         self._signals, self._silences = Signals(tables), Silences()
-        self._claims: dict[str, tuple[list[int | None], int]] = {}
+        self._numbers = {unit.label: unit.identity for unit in tables.units}
+        self._claims: dict[str, Claimed] = {}
         self._group, self._sender, self._line = "", "", 0
         self._at: int | None = None
         self.counts: dict[str, int] = {}
@@ -165,10 +168,15 @@ class Followed:
             if words[8] == "flow":
                 self._silences.sent(int(words[9]), self._line)
         elif words[2] in ("claim", "cannot"):
-            name, _, address = words[3].partition("@")
-            addresses, times = self._claims.get(name, ([], 0))
-            held = int(address) if address else None
-            self._claims[name] = addresses + [held] * (held not in addresses), times + 1
+            self._claim(words)
+
+    def _claim(self, words: list[str]) -> None:
+        name, _, address = words[3].partition("@")
+        addresses, times, numbers = self._claims.get(name, Claimed([], 0))
+        held, identity = int(address) if address else None, identity_of(words)
+        number = self._numbers.get(name) if identity is None else identity
+        more = [] if number is None or number in numbers else [number]
+        self._claims[name] = Claimed(addresses + [held] * (held not in addresses), times + 1, numbers + more)
 
     def _end(self, words: list[str]) -> None:
         if words[0] == "frames":
@@ -180,7 +188,7 @@ class Followed:
         """Puts what was found into a log's table."""
         drive["counts"], drive["sent"] = self.counts, self.sent
         drive["silences"] = self._silences.found(self._flows)
-        drive["claims"] = {name.removeprefix("#"): Claimed(*claimed) for name, claimed in self._claims.items()}
+        drive["claims"] = {name.removeprefix("#"): claimed for name, claimed in self._claims.items()}
         drive["signals"], drive["others"] = self._signals.found()
         drive["codes"] = self._signals.codes()
 
@@ -239,13 +247,12 @@ def tables_of(shown: str) -> Tables:
 def drive_of(plan: str, shown: str, log: str, path: str, options: list[str]) -> Drive:
     """What a log has, by the text of a plan and what `show` answers of it; the log is called so, and lies there. Whatever goes wrong is said in
     the table."""
-    drive = empty(log)
+    drive, interface = empty(log), interface_in(options)
     try:
         if not stat.S_ISREG(os.stat(path).st_mode):
             raise program.Refused(program.UNREADABLE, "it is no regular file")
-        with open(path, "rb"), program.file_of(plan) as copy:
-            found = followed(copy, path, tables_of(shown), interface_in(options))
-            found.put(drive)
+        with open(path, "rb"), program.file_of(plan) as copy, by_kind(copy, tables_of(shown), [path], interface) as (known, tables, _):
+            followed(known, path, tables, interface).put(drive)
             drive["deviations"], drive["notes"], drive["whole"] = compared(copy, path, options)
     except program.Refused as refused:
         drive["status"], drive["failed"] = refused.status, str(refused) or f"ended with {refused.status}"

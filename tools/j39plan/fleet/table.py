@@ -4,14 +4,14 @@ from __future__ import annotations
 
 import datetime
 from collections.abc import Iterable, Iterator
-from dataclasses import dataclass
+from dataclasses import dataclass, replace
 from typing import Any
 
 from j39plan.fleet.drives import Deviation, Drive
 from j39plan.fleet.signals import Code, Spread
 from j39plan.fleet.vehicles import vehicles_of
 from j39plan.log.checks.deviations import KINDS, is_duration
-from j39plan.plan.tables import Flow, Tables
+from j39plan.plan.tables import Flow, Tables, Unit
 from j39plan.text_tables import aligned
 
 # How many deviations and NAMEs the text has at most; JSON has all.
@@ -77,11 +77,17 @@ class Fleet:
         return sorted(found.values(), key=lambda kind: (-len(kind.times), -kind.total))
 
     def logs(self) -> Iterator[dict[str, Any]]:
-        """A row a log: when it begins and ends, in seconds, what was on the bus, and the number of its vehicle."""
+        """A row a log: when it begins and ends, in seconds, what was on the bus, the number of its vehicle, and by units the serial numbers of the
+        boxes that claimed."""
         for drive in self.drives:
             whole = {key: drive["whole"].get(key) for key in ("begin", "end", "mean", "worst", "worst_second")}
             yield {"log": drive["log"], "vehicle": self.vehicles[drive["log"]], **whole, **drive["counts"], "deviations": len(drive["deviations"]),
-                   "notes": drive["notes"]}
+                   "identities": self._numbers(drive), "notes": drive["notes"]}
+
+    def _numbers(self, drive: Drive) -> dict[str, list[int]]:
+        """By units, in the order of the plan, the serial numbers of the boxes that claimed in a log."""
+        claims = drive["claims"]
+        return {unit.label: claims[unit.label].numbers for unit in self.tables.units if unit.label in claims}
 
     def deviations(self) -> Iterator[dict[str, Any]]:
         """A row a deviation and log."""
@@ -128,16 +134,20 @@ class Fleet:
                 yield {"unit": label, "deviations": len(kinds), "logs": len({log for kind in kinds for log in kind.times})}
 
     def names(self) -> Iterator[dict[str, Any]]:
-        """A row a NAME that claimed an address, or couldn't: the unit, None of one that isn't planned; its addresses; in how many logs."""
-        planned = {unit.label: unit.name for unit in self.tables.units}
+        """A row a unit of which a NAME claimed an address, or couldn't, and a NAME that isn't planned, of unit None: its addresses, the serial numbers of
+        its boxes, and in how many logs. The NAME of a unit is the one of its boxes where they have one number."""
+        planned = {unit.label: unit for unit in self.tables.units}
         found: dict[str, dict[str, Any]] = {}
         for drive in self.drives:
-            for who, (addresses, times) in drive["claims"].items():
-                row = found.setdefault(who, {"name": planned.get(who, who), "unit": who if who in planned else None, "addresses": [],
+            for who, (addresses, times, numbers) in drive["claims"].items():
+                row = found.setdefault(who, {"name": who, "unit": who if who in planned else None, "identities": [], "addresses": [],
                                              "logs": 0, "claims": 0, "first": drive["log"]})
                 row["addresses"] += [address for address in addresses if address not in row["addresses"]]
+                row["identities"] += [number for number in numbers if number not in row["identities"]]
                 row["logs"] += 1
                 row["claims"] += times
+        for label in planned.keys() & found.keys():
+            found[label]["name"] = name_of(planned[label], found[label]["identities"])
         order = {label: at for at, label in enumerate(planned)}
         yield from sorted(found.values(), key=lambda row: (order.get(row["unit"], len(order)), row["name"]))
 
@@ -191,6 +201,8 @@ class Fleet:
         yield from aligned(("NAME", "unit", "addresses", "logs", "claims", "first"), (
             (row["name"], row["unit"] or "not planned", addresses_of(row["addresses"]), row["logs"], row["claims"], row["first"])
             for row in self.names()), SHOWN)
+        yield from aligned(("log", "identity numbers"), (
+            (row["log"], numbers_text(row["identities"])) for row in self.logs() if row["identities"]))
         yield from aligned(("signal", "least", "at", "most", "at", "states"), (
             (row["signal"] if row["planned"] else f"{row['signal']} of others", *extreme_of(row, "least"), *extreme_of(row, "most"),
              ", ".join(f"{state} {times}" for state, times in row["states"].items())) for row in self.signals()))
@@ -272,6 +284,17 @@ def extreme_of(row: dict[str, Any], key: str) -> tuple[str, str]:
     if row[key] is None:
         return "-", "-"
     return f"{row[key]:.12g}", f"{row[f'{key}_log']}:{row[f'{key}_line']}"
+
+
+def name_of(unit: Unit, numbers: list[int]) -> str:
+    """The NAME of a unit's box as 16 hex digits, with `.` for those in which the serial number is, where it has several."""
+    fields = {key: field for key, field in unit.fields.items() if key != "identity"}
+    return replace(unit, fields={**fields, "identity": numbers[0]} if len(numbers) == 1 else fields).name
+
+
+def numbers_text(numbers: dict[str, list[int]]) -> str:
+    """The serial numbers of boxes, by units, as a text."""
+    return ", ".join(f"{label} {' and '.join(map(str, those))}" for label, those in numbers.items())
 
 
 def addresses_of(addresses: Iterable[int | None]) -> str:

@@ -3,18 +3,16 @@
 from __future__ import annotations
 
 from j39plan.fleet.drives import Drive
+from j39plan.j1939 import kind_of
 from j39plan.plan.tables import Tables
-
-# The width of an identity number, at the low end of a NAME: the rest is the kind of the box.
-IDENTITY = 21
 
 
 def boxes_of(drive: Drive, tables: Tables) -> set[int]:
     """The NAMEs that claimed addresses in a log, of those of the kinds that the plan has."""
-    names = {unit.label: int(unit.name, 16) for unit in tables.units}
-    kinds = {name >> IDENTITY for name in names.values()}
-    claimed = {names[who] if who in names else int(who, 16) for who in drive["claims"]}
-    return {name for name in claimed if name >> IDENTITY in kinds}
+    kinds = {unit.label: unit.kind for unit in tables.units}
+    planned = {kinds[who] | number for who, claimed in drive["claims"].items() if who in kinds for number in claimed.numbers}
+    others = {int(who, 16) for who in drive["claims"] if who not in kinds}
+    return planned | {name for name in others if kind_of(name) in kinds.values()}
 
 
 def vehicles_of(drives: list[Drive], tables: Tables) -> dict[str, int]:

@@ -12,6 +12,10 @@ from j39plan.log.reports import Claim, Message, Report, Who
 from j39plan.plan.tables import Unit
 
 
+# Who holds an address, and the serial number of the box where its unit is of any.
+Box = tuple[str, int | None]
+
+
 @dataclass
 class Curve:
     """A signal as one sender sent it, with `?` where that isn't sure: its values over time, not a number where it has none, and the times of
@@ -83,13 +87,13 @@ class Timeline:
     def __init__(self, units: Iterable[Unit]) -> None:
         self._planned: dict[int, list[str]] = {}
         self._preferred: dict[str, int] = {}  # of the units of which no claim came
-        for unit in sorted(units, key=lambda unit: unit.name):
+        for unit in sorted(units, key=lambda unit: unit.number):
             self._planned.setdefault(unit.address, []).append(unit.label)
             self._preferred[unit.label] = unit.address
         self._seen = Span()
         self.clock = Clock()
-        self._at: dict[str, int] = {}  # where each holder is that claimed an address
-        self._open: dict[int, tuple[str, float, bool]] = {}
+        self._at: dict[Box, int] = {}  # where each is that claimed an address
+        self._open: dict[int, tuple[Box, float, bool]] = {}
         self._held: list[Held] = []
         for address in self._planned:
             self._leave(address, -math.inf)
@@ -99,7 +103,7 @@ class Timeline:
         for report in reports:
             self.clock.see(report.line, report.time)
             if isinstance(report, Claim):
-                self._claim(report.who, self.clock.seconds(report.line))
+                self._claim(report.who, report.identity, self.clock.seconds(report.line))
             if isinstance(report, (Message, Claim)):
                 self._seen.see(self.clock.seconds(report.line))
             yield report
@@ -122,28 +126,28 @@ class Timeline:
         parts = (part._replace(start=max(part.start, first)) for part in self._held if part.end > first or part.is_claimed)
         return sorted(parts, key=lambda part: (part.address, part.start))
 
-    def _claim(self, who: Who, time: float) -> None:
-        """Hears a claim, or that there was no address to claim."""
-        holder = who.shown
-        was_planned, was_at = self._preferred.pop(holder, None), self._at.get(holder)
-        if was_at is not None and was_at == who.address and self._open[was_at][0] == holder:
+    def _claim(self, who: Who, identity: int | None, time: float) -> None:
+        """Hears a claim of a box, or that there was no address for it to claim."""
+        box, planned = (who.shown, identity), (who.shown, None)
+        was_planned, was_at = self._preferred.pop(who.shown, None), self._at.pop(box, None)
+        if was_at is not None and was_at == who.address and self._open[was_at][0] == box:
+            self._at[box] = was_at
             return
-        self._at.pop(holder, None)
         for left in (was_planned, was_at):
-            if left is not None and left != who.address and self._open.get(left, ("",))[0] == holder:
+            if left is not None and left != who.address and self._open.get(left, (None,))[0] in (box, planned):
                 self._leave(left, time)
         if who.address is not None:
             self._close(who.address, time)
-            self._open[who.address], self._at[holder] = (holder, time, True), who.address
+            self._open[who.address], self._at[box] = (box, time, True), who.address
 
     def _leave(self, address: int, time: float) -> None:
         """Nobody that claimed it is at an address any more: the next unit that is planned there may be."""
         self._close(address, time)
         label = next((label for label in self._planned.get(address, ()) if label in self._preferred), None)
         if label:
-            self._open[address] = label, time, False
+            self._open[address] = (label, None), time, False
 
     def _close(self, address: int, time: float) -> None:
         if address in self._open:
-            holder, start, is_claimed = self._open.pop(address)
+            (holder, _), start, is_claimed = self._open.pop(address)
             self._held.append(Held(address, holder, start, time, is_claimed))

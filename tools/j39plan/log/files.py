@@ -66,6 +66,11 @@ class Log(io.RawIOBase):
             file.close()
         super().close()
 
+    @property
+    def still(self) -> list[str]:
+        """The names of its files, where all are there already and may be read more than once; else none."""
+        return [] if self.is_live else self.names
+
     def readable(self) -> bool:
         """It is there to be read."""
         return True

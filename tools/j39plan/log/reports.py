@@ -56,11 +56,12 @@ class Message(NamedTuple):
 
 
 class Claim(NamedTuple):
-    """A claim of an address, or, with the address None, that none could be claimed."""
+    """A claim of an address, or, with the address None, that none could be claimed; of a unit of any serial number with that of its box."""
 
     line: int
     time: str
     who: Who
+    identity: int | None = None
 
 
 class Request(NamedTuple):
@@ -184,6 +185,11 @@ def message_of(words: list[str], signals: list[str]) -> Message:
     return Message(int(words[LINE]), words[TIME], words[GROUP], sender, to, flow, priority, words[-1], signals)
 
 
+def identity_of(words: list[str]) -> int | None:
+    """The serial number of the box in the words of a claim `N TIME claim WHO identity I`, None where there is none."""
+    return int(words[5]) if words[4:5] == ["identity"] else None
+
+
 def report_of(words: list[str], signals: list[str]) -> Report:
     """The report of what `follow` says."""
     if words[KIND] == "group":
@@ -193,7 +199,7 @@ def report_of(words: list[str], signals: list[str]) -> Report:
         return Request(int(words[LINE]), words[TIME], int(words[3]), who_of(words[FROM]), who_of(words[TO]), number)
     if words[KIND] in ACKNOWLEDGEMENTS:
         return Acknowledgement(int(words[LINE]), words[TIME], words[KIND], int(words[3]), who_of(words[FROM]), who_of(words[TO]))
-    return Claim(int(words[LINE]), words[TIME], who_of(words[3]))
+    return Claim(int(words[LINE]), words[TIME], who_of(words[3]), identity_of(words))
 
 
 def said_in(lines: Iterator[str], tables: Tables, counts: Counts) -> Iterator[Said]:

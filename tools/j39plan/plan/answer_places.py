@@ -28,11 +28,11 @@ FLOW_KEYS = {
 
 # The key to look at of each finding that names one unit, group, signal or text, and what is to be known of it.
 KEYS = {
-    "F7": ("signal", "byte", "the signal ends behind the group's length, or, where it is optional, behind its longest messages"),
+    "F7": ("signal", "byte", "the signal ends after the group's length, or, where it is optional, after its longest messages"),
     "F12": ("unit", "address", "kept free: a unit with arbitrary = true may not hold it"),
     "F13": ("group", "private", "no flow sends this group"),
-    "F15": ("text", "byte", "the text ends behind the group's longest messages, or begins behind what follows its shortest"),
-    "F24": ("group", "when", "its bits end behind the group's length"),
+    "F15": ("text", "byte", "the text ends after the group's longest messages, or begins after what follows its shortest"),
+    "F24": ("group", "when", "its bits end after the group's length"),
     "F27": ("unit", "address", "one of 128..247, which others may choose: a unit that never claims it can't defend it"),
 }
 
@@ -99,7 +99,7 @@ def of_two(plan: Source, line: Line) -> Told:
     first, second = (plan.labelled((kind,), line.word(part)) for part in (kind, "other"))
     at, there = plan.line(second + (key,)), f"{line.word(kind)} at line {plan.line(first + (key,))}"
     if line.word("finding") == "F1" and any((*place, "name", "identity") not in plan.places.lines for place in (first, second)):
-        return at, f"nothing but serial numbers tells {there} from {line.word('other')}: {ALIKE}"
+        return at, f"only serial numbers distinguish {there} from {line.word('other')}: {ALIKE}"
     told = told_apart(plan, first, second) if kind == "group" else ""
     return at, f"key {key}: the same as of {there}{told}"
 

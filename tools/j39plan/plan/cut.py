@@ -1,15 +1,16 @@
-"""A plan cut to what is asked of a log: `follow` then puts together and writes that alone."""
+"""A plan cut to what is asked of a log: `follow` then puts together and writes that alone; and one without the numbers of some units."""
 
 import contextlib
 import os
 import re
 import tempfile
-from collections.abc import Callable, Iterator
+from collections.abc import Callable, Iterable, Iterator
 
 from j39plan import program
 from j39plan.log.readings import Choice
 from j39plan.plan.tables import Group, Tables
-from j39plan.plan.toml_places import Places
+from j39plan.plan.schema import VERSIONS
+from j39plan.plan.toml_places import BLANK, Place, Places
 
 # A header with its keys, as far as they are bare ones.
 HEADER = re.compile(r"\[\[?[ \t]*([A-Za-z0-9_-]+)[ \t]*(?:\.[ \t]*([A-Za-z0-9_-]+)[ \t]*)?(?:\.[^\]\n]*)?\]")
@@ -119,3 +120,30 @@ def cut(plan: str, tables: Tables, choice: Choice) -> contextlib.AbstractContext
 def bare(plan: str, tables: Tables) -> contextlib.AbstractContextManager[tuple[str, Tables]]:
     """The same of a plan without its signals, texts and needs: by it `follow` tells the same of who sends which group, flow and request."""
     return _cut(plan, tables, lambda text: without(text, has_no_signal))
+
+
+def without_numbers(text: str, units: Iterable[int]) -> str | None:
+    """The text of a plan of the last version, in which these units, counted from 1, are of any serial number. None where it isn't known how."""
+    places = Places(text)
+    names: list[Place] = [("unit", unit, "name") for unit in units]
+    if any(place not in places.pairs for place in [("version",), *(name + ("identity",) for name in names)]):
+        return None
+    parts = [(*places.pairs[("version",)][:2], f"version = {VERSIONS[-1]}"), *(_number_in(places, text, name) for name in names)]
+    for begin, end, new in sorted(parts, reverse=True):
+        text = text[:begin] + new + text[end:]
+    return text
+
+
+def _number_in(places: Places, text: str, name: Place) -> tuple[int, int, str]:
+    """Where the identity number of a NAME begins and ends, and what may stand there instead: nothing, or another field, where it is the only one."""
+    begin, end, table = places.pairs[name + ("identity",)]
+    if places.keys(name) == ["identity"]:
+        return begin, end, ".".join(map(str, (*name[len(table):], "manufacturer = 0")))
+    blank = BLANK.match(text, end)
+    behind = blank.end() if blank else end
+    return begin, behind + 1 if text.startswith(",", behind) else end, ""
+
+
+def of_any_number(plan: str, tables: Tables, units: Iterable[int]) -> contextlib.AbstractContextManager[tuple[str, Tables]]:
+    """The name of a plan in which these units are of any serial number, and its tables; the plan itself where it can't be had."""
+    return _cut(plan, tables, lambda text: without_numbers(text, units))

@@ -196,7 +196,7 @@ def group_part(number: int, group: Group, sent_by: list[str]) -> str:
     bytes_ = f"{group.length}" if group.length == group.most else f"{group.length} to {group.most}"
     records = f", records {group.every} bytes apart" if group.every else ""
     when = group.when
-    told = f", told by {when.bits} bits from {when.byte}.{when.bit} on, which are {when.value}" if when else ""
+    told = f", selected by {when.bits} bits from {when.byte}.{when.bit} on, which are {when.value}" if when else ""
     facts = f"PGN {group.pgn} (<code>{group.pgn:04X}</code>){own}, priority {group.priority}, bytes: {bytes_}{records}{told}, sent by {who}."
     bits = [f"bit {bit}" for bit in range(8, 0, -1)]
     parts = [f'<h3 id="group-{number}">{label}</h3>', f"<p>{facts}</p>",

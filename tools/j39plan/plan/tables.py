@@ -9,7 +9,7 @@ from itertools import count, takewhile
 from typing import Protocol
 
 from j39plan import program
-from j39plan.j1939 import IDENTITY_DIGITS, NAME_FIELDS
+from j39plan.j1939 import IDENTITY_DIGITS, NAME_FIELDS, kind_of
 from j39plan.plan.toml_places import Place, place_of
 
 # A line of `show`: a table, a key of it, and the value, which may have spaces.
@@ -35,8 +35,23 @@ class Unit:
     @property
     def name(self) -> str:
         """Its NAME as 16 hex digits, with `.` for those in which the serial number is, where it has any."""
-        digits = f"{sum(number << first for key, first, _ in NAME_FIELDS if (number := self.fields.get(key, 0))):016X}"
-        return digits if "identity" in self.fields else digits[:-IDENTITY_DIGITS] + "." * IDENTITY_DIGITS
+        digits = f"{self.number:016X}"
+        return digits if self.identity is not None else digits[:-IDENTITY_DIGITS] + "." * IDENTITY_DIGITS
+
+    @property
+    def number(self) -> int:
+        """Its NAME as a number, in which an identity number that it doesn't have is 0."""
+        return sum(self.fields.get(key, 0) << first for key, first, _ in NAME_FIELDS)
+
+    @property
+    def identity(self) -> int | None:
+        """Its identity number, None where it is of any serial number."""
+        return self.fields.get("identity")
+
+    @property
+    def kind(self) -> int:
+        """Its NAME without the identity number."""
+        return kind_of(self.number)
 
     @property
     def may_choose(self) -> bool:

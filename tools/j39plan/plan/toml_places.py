@@ -79,7 +79,8 @@ def table_of(place: Place) -> str:
 class Places:
     """The line of each table and key of a TOML text, and the texts and other values as they are spelled.
 
-    `statements` is where its headers and top pairs begin, `newer` where there is what TOML 1.0 doesn't have."""
+    `statements` is where its headers and top pairs begin, `newer` where there is what TOML 1.0 doesn't have. `pairs` has of each key with a value
+    where it begins, where the value ends, and the place of the table in which it stands, to which dotted keys are added."""
 
     def __init__(self, text: str) -> None:
         self.lines: dict[Place, int] = {(): 1}
@@ -87,6 +88,7 @@ class Places:
         self.spelled: dict[Place, str] = {}
         self.statements: list[int] = []
         self.newer: list[int] = []
+        self.pairs: dict[Place, tuple[int, int, Place]] = {}
         self._text = text
         self._at = len(MARK) if text.startswith(MARK) else 0
         self._feeds = [found.start() for found in re.finditer("\n", text)]
@@ -220,6 +222,7 @@ class Places:
             return
         self._skip()
         self._value(place)
+        self.pairs[place] = start, start + len(self._text[start:self._at].rstrip()), table
 
     def _value(self, place: Place) -> None:
         start = self._at

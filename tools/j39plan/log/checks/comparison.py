@@ -12,12 +12,14 @@ from j39plan.log.checks.deviations import Found
 from j39plan.log.checks.distances import Distances, Rule, Tolerance
 from j39plan.log.checks.hands import Hands
 from j39plan.log.checks.marks import Kind, Mark
+from j39plan.log.checks.numbers import Numbers
 from j39plan.log.checks.other_requests import OtherRequests
 from j39plan.log.checks.requests import Asked
 from j39plan.log.checks.transfers import WHOLE, Cause, Pair, Route, Transfers, pair_of
 from j39plan.log.checks.unplanned import Bounds, Unplanned
 from j39plan.log.clock import MILLISECOND, SECOND, Clock
 from j39plan.log.reports import Acknowledgement, Claim, Message, Report, Request, Who
+from j39plan.log.serial_numbers import Renumbered
 from j39plan.plan.tables import Group, Tables
 
 # Groups that nobody plans.
@@ -31,10 +33,11 @@ Way = tuple[str, str, str]
 
 
 class Settings(NamedTuple):
-    """What is asked of a comparison: the tolerance of times, and how flows are looked at."""
+    """What is asked of a comparison: the tolerance of times, how flows are looked at, and which units have other serial numbers than the plan's."""
 
     tolerance: Tolerance
     rule: Rule
+    others: list[Renumbered] = []
 
 
 @dataclass
@@ -75,6 +78,7 @@ class Comparison:
         self._ways: list[Way] = [(flow.group, flow.sender, flow.to) for flow in tables.flows]
         self.sent = dict.fromkeys(self._ways, 0)
         self.found, self.clock, self.hands = found, Clock(), Hands(tables, found)
+        self.numbers = Numbers(settings.others, found)
         self.distances = Distances(tables.flows, settings.tolerance, settings.rule, bounds.waits, self.hands.first, found)
         self.asked, self.damage = Asked(tables, settings.tolerance, bounds.requests, found), Damage(tables.timing, found)
         self.transfers, self.unplanned = Transfers(tables.timing, found), Unplanned(tables, bounds.flows, found)
@@ -87,9 +91,11 @@ class Comparison:
         periods = [flow.period for flow in tables.flows if flow.period and not flow.on_request]
         self._gap = max(SECOND, PERIODS * min(periods) * MILLISECOND) if len(periods) > 1 else math.inf
 
-    def claim(self, line: int, at: int | None, who: Who) -> None:
-        """A claim of an address, or that none was found."""
-        for address in self.hands.claim(line, at, who):
+    def claim(self, line: int, at: int | None, who: Who, identity: int | None) -> None:
+        """A claim of an address, or that none was found, by a box of this serial number where its unit is of any."""
+        if who.label and identity is not None:
+            self.numbers.claim(line, at, who.label, identity)
+        for address in self.hands.claim(line, at, who, identity):
             for begun in self._begun.values():
                 if address in (begun.pair[0][2], begun.pair[1][2]) and not begun.between:
                     begun.between = f"address {address} changed hands at line {line}"
@@ -345,7 +351,7 @@ class Comparison:
         if isinstance(report, Message):
             self.message(line, at, report)
         elif isinstance(report, Claim):
-            self.claim(line, at, report.who)
+            self.claim(line, at, report.who, report.identity)
         elif isinstance(report, Acknowledgement):
             self.asked.acknowledged(line, at, report)
         elif mark:

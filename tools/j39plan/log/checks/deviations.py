@@ -20,17 +20,18 @@ class Measure(NamedTuple):
     is_worse: Callable[[float, float], bool]
 
 
+FIRST = Measure(str, lambda number, known: False)
 SHORTEST, LONGEST = Measure(milliseconds, operator.lt), Measure(milliseconds, operator.gt)
 LEAST, MOST = Measure(str, operator.lt), Measure(str, operator.gt)
 
 # The kinds of deviations (docs/TOOLS.md says what each is), and what is measured of them; times are in nanoseconds.
 KINDS: dict[str, Measure | None] = {
-    "stranger": None, "absent": None, "address": None, "displaced": None, "restart": None, "two-boxes": None, "not-defended": None, "too-early": None,
-    "hands": MOST, "no-group": None, "layout": None, "length": None, "priority": None, "no-flow": None, "not-whole": LEAST, "given-up": None,
-    "not-acknowledged": None, "near": SHORTEST, "silent": LONGEST, "stopped": LONGEST, "never-sent": None, "unmet": None, "unanswered": None,
-    "refused": None, "late": LONGEST, "asked-early": SHORTEST, "gap": LONGEST, "bus-off": None, "error-passive": None, "lost-frames": None,
-    "restarted": None, "urgent": None, "short-identifier": None, "unplanned": MOST, "transport-priority": None, "packets-near": SHORTEST,
-    "packets-far": LONGEST, "late-answer": LONGEST, "damaged": MOST, "overload": None,
+    "stranger": None, "absent": None, "identity": FIRST, "exchanged": None, "address": None, "displaced": None, "restart": None, "two-boxes": None,
+    "not-defended": None, "too-early": None, "hands": MOST, "no-group": None, "layout": None, "length": None, "priority": None, "no-flow": None,
+    "not-whole": LEAST, "given-up": None, "not-acknowledged": None, "near": SHORTEST, "silent": LONGEST, "stopped": LONGEST, "never-sent": None,
+    "unmet": None, "unanswered": None, "refused": None, "late": LONGEST, "asked-early": SHORTEST, "gap": LONGEST, "bus-off": None,
+    "error-passive": None, "lost-frames": None, "restarted": None, "urgent": None, "short-identifier": None, "unplanned": MOST,
+    "transport-priority": None, "packets-near": SHORTEST, "packets-far": LONGEST, "late-answer": LONGEST, "damaged": MOST, "overload": None,
 }
 
 
@@ -88,22 +89,23 @@ class Found:
         self._met: dict[str, Deviation] = {}
 
     def tell(self, kind: str, text: str, line: int | None, at: int | None = None, value: int | None = None, *, flow: int | None = None,
-             unit: str | None = None, detail: str = "") -> None:
-        """A deviation is met, or is met again. Its text is what it is of; the detail is of its place alone."""
+             unit: str | None = None, detail: str = "", before: Place | None = None) -> None:
+        """A deviation is met, or is met again. Its text is what it is of; the detail is of its place alone. One that is of two places is told with
+        the one before."""
         known = self._met.get(text)
         if known is not None and value is None and self._is_plain and known.place.line is not None and line is not None and line >= known.place.line:
             known.times += 1  # the shortest way, since most come so
             return
         place = Place(line, at, value)
         if known is None:
-            known = self._met[text] = Deviation(kind, text, flow, unit, place, detail)
+            known = self._met[text] = Deviation(kind, text, flow, unit, place, detail, places=[before] if before else [])
             is_heard = True
         else:
             known.times += 1
             is_heard = self._keeps_all
             if self._is_worse(known, place):
                 known.place, known.detail = place, detail
-        if self._keeps_all:
+        if self._keeps_all or before:
             known.places.append(place)
         if is_heard and self._hear:
             self._hear(known, place)

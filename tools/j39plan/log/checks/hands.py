@@ -1,12 +1,12 @@
-"""Who holds which address by the claims of a log, and how units keep the rules of claims (SAE J1939-81)."""
+"""Which box holds which address by the claims of a log, and how boxes keep the rules of claims (SAE J1939-81)."""
 
 from typing import NamedTuple
 
-from j39plan.j1939 import POOL
+from j39plan.j1939 import POOL, identity_in
 from j39plan.log.checks.deviations import Found
 from j39plan.log.clock import MILLISECOND, SECOND, milliseconds
 from j39plan.log.reports import Who
-from j39plan.plan.tables import Tables
+from j39plan.plan.tables import Tables, Unit
 
 # So long who claims one of the addresses that may be chosen waits before it sends, and so long its claim may be contested.
 CONTEST = 250 * MILLISECOND
@@ -22,6 +22,9 @@ HANDS = 3
 
 # A unit by its label, anybody else by the NAME.
 Key = str
+
+# A box by its NAME; one of which no claim came by `?` and its unit.
+Box = str
 
 # The line at which somebody was heard, its time, and the address, None of who could claim none.
 Heard = tuple[int, int | None, int | None]
@@ -39,11 +42,12 @@ class Claimed(NamedTuple):
 
 
 class Taken(NamedTuple):
-    """An address that somebody who isn't planned took from a unit: where, and whether the unit was on then."""
+    """An address that somebody who isn't planned took from a unit: where, from which one, and whether that was on then."""
 
     line: int
     at: int | None
     who: Who
+    label: str
     was_on: bool
 
 
@@ -52,6 +56,13 @@ class Left(NamedTuple):
 
     who: Who
     at: int | None
+
+
+class Contest(NamedTuple):
+    """A contest at an address (docs/LOGS.md): whose the NAME is that was there before, and when it began."""
+
+    defender: Key
+    at: int
 
 
 class Changes(NamedTuple):
@@ -74,6 +85,24 @@ def named(who: Who) -> str:
     return who.label or f"NAME {who.name}"
 
 
+def both_named(one: Who, other: Who) -> tuple[str, str]:
+    """Two boxes in words: those of one unit with their serial numbers."""
+    if one.label is None or one.label != other.label:
+        return named(one), named(other)
+    first, second = (f"{who.label} with identity {identity_in(name_of(who))}" for who in (one, other))
+    return first, second
+
+
+def name_of(who: Who) -> int:
+    """The NAME of somebody that claimed, as a number."""
+    return int(who.name or "0", 16)
+
+
+def box_of(who: Who) -> Box:
+    """The box of somebody."""
+    return who.name or f"?{who.label or ''}"
+
+
 def times_of(tables: Tables) -> dict[Key, int]:
     """Of each unit that sends at a period the time within which one that is on was heard."""
     found: dict[Key, int] = {}
@@ -84,21 +113,24 @@ def times_of(tables: Tables) -> dict[Key, int]:
 
 
 class Hands:
-    """Who holds which address, each by who claimed it last, as far as claims tell it."""
+    """Which box holds which address, each by who claimed it last, as far as claims tell it. A box is known by its NAME, and from where it sends."""
 
     def __init__(self, tables: Tables, found: Found) -> None:
-        self._names = {unit.label: unit.name for unit in tables.units}
+        self._units = {unit.label: unit for unit in sorted(tables.units, key=lambda unit: unit.number)}
         self._times, self._found = times_of(tables), found
         self._holders: dict[int, Who] = {}
-        self._at: dict[Key, int] = {}
+        self._at: dict[Box, int] = {}
         self.first: dict[Key, int] = {}  # when each was heard first
         self.last: dict[Key, Heard] = {}
+        self._heard: dict[Box, Heard] = {}
         self._since = 0  # the line at which the clock was set last
-        self._claimed: dict[Key, int] = {}  # when each claimed an address last
+        self._claimed: dict[Box, int] = {}  # when each claimed an address last
+        self._told: dict[Box, int | None] = {}  # what each claimed last, None of one that could claim none
+        self._units_told: set[Key] = set()  # the same of whom any claim came
         self._fresh: dict[int, Claimed] = {}  # claims of which it isn't known yet what comes of them
-        self._lost: dict[int, tuple[Key, int]] = {}  # of each address who held it before the last change, and when that was
+        self._contests: dict[int, Contest] = {}
         self._left: dict[int, Left] = {}
-        self._taken: dict[Key, Taken] = {}
+        self._taken: dict[Box, Taken] = {}
         self._changes: dict[int, Changes] = {}
         self._asked: int | None = None
 
@@ -110,120 +142,173 @@ class Hands:
         """The clock was set: times before count no more."""
         self._asked, self._since = None, line
         self._claimed.clear()
-        self._lost.clear()
+        self._contests.clear()
         self._fresh.clear()
 
-    def claim(self, line: int, at: int | None, who: Who) -> tuple[int, ...]:
-        """A claim, or that there was no address to claim: the addresses that somebody else holds now."""
-        key, address = key_of(who), who.address
+    def claim(self, line: int, at: int | None, who: Who, identity: int | None = None) -> tuple[int, ...]:
+        """A claim, or that there was no address to claim, by a box of this serial number where its unit is of any: the addresses that another
+        box holds now."""
+        who = self._with_name(who, identity)
+        key, box, address = key_of(who), box_of(who), who.address
         if at is not None:
             self._pass(at)
+        if (unclaimed := self._heard.pop(f"?{key}", None)) is not None:
+            self._heard.setdefault(box, unclaimed)
         before = self._holders.get(address) if address is not None else None
-        changed = self._leaves(key, at, who)
-        self._settles(key)
-        if address is not None and before is not None and key_of(before) == key:
+        is_defence = self._defends(who, at)
+        contest = self._begun(at, who, before, is_defence)
+        self._contests = {other: running for other, running in self._contests.items() if running.defender != key}
+        if address is not None and contest:
+            self._contests[address] = contest
+        changed = self._leaves(box, at, who)
+        self._settles(box)
+        if address is not None and before is not None and box_of(before) == box:
             self._claims_again(line, at, who)
         elif address is not None:
-            changed.append(address)
-            self._takes(line, at, who, before)
-        self._is_displaced(key, who)
-        self.last[key] = line, at, address
+            if before is not None or self._guessed(address) != who.label:
+                changed.append(address)
+            self._takes(line, at, who, before, is_defence)
+        self._is_displaced(box, who)
+        self._is_heard(line, at, key, box, address)
+        self._told[box] = address
+        self._units_told.add(key)
         if at is not None:
-            self.first.setdefault(key, at)
-            self._claimed[key] = at
+            self._claimed[box] = at
         return tuple(changed)
 
-    def _leaves(self, key: Key, at: int | None, who: Who) -> list[int]:
+    def _with_name(self, who: Who, identity: int | None) -> Who:
+        """Somebody that claims, with the NAME of its box."""
+        unit = self._units.get(who.label or "")
+        return who if unit is None else who._replace(name=f"{unit.number | (identity or 0):016X}")
+
+    def _is_heard(self, line: int, at: int | None, key: Key, box: Box, address: int | None) -> None:
+        """Somebody is heard, at an address, None of one that could claim none."""
+        self.last[key] = self._heard[box] = line, at, address
+        if at is not None:
+            self.first.setdefault(key, at)
+
+    def _is_told(self, unit: Unit) -> bool:
+        """Whether a claim came of a NAME of a unit."""
+        return unit.label in self._units_told if unit.identity is None else f"{unit.number:016X}" in self._told
+
+    def _guessed(self, address: int) -> str | None:
+        """The unit that is taken to be at an address that nobody claimed: of those that prefer it and of which no claim came the smallest NAME."""
+        return next((label for label, unit in self._units.items() if unit.address == address and not self._is_told(unit)), None)
+
+    def _contest(self, address: int, at: int | None) -> Contest | None:
+        """The contest that runs at an address."""
+        contest = self._contests.get(address)
+        return contest if contest and at is not None and 0 <= at - contest.at < CONTEST else None
+
+    def _begun(self, at: int | None, who: Who, before: Who | None, is_defence: bool) -> Contest | None:
+        """The contest that a claim begins, with who holds the address, or is guessed there."""
+        if at is None or who.address is None or who.address not in POOL or self._contest(who.address, at):
+            return None
+        guessed = self._guessed(who.address)
+        if before is not None:
+            defender, is_met = key_of(before), name_of(before) < name_of(who) or not is_defence
+        elif guessed is not None:
+            defender, is_met = guessed, self._units[guessed].number < name_of(who)
+        else:
+            return None
+        return Contest(defender, at) if is_met and defender != key_of(who) else None
+
+    def _leaves(self, box: Box, at: int | None, who: Who) -> list[int]:
         """The address that a claim of another one leaves."""
-        left = self._at.get(key)
+        left = self._at.get(box)
         if left is None or left == who.address:
             return []
-        del self._at[key], self._holders[left]
+        del self._at[box], self._holders[left]
         self._left[left] = Left(who, at)
         return [left]
 
-    def _settles(self, key: Key) -> None:
+    def _settles(self, box: Box) -> None:
         """Somebody is heard of: of claims of its address, it has defended this, or moved."""
         for address, claimed in list(self._fresh.items()):
-            if claimed.before and key_of(claimed.before) == key:
+            if claimed.before and box_of(claimed.before) == box:
                 del self._fresh[address]
-                if not claimed.is_contest and address != self._at.get(key):
+                if not claimed.is_contest and address != self._at.get(box):
                     self._fresh[address] = claimed._replace(before=None)
 
-    def _takes(self, line: int, at: int | None, who: Who, before: Who | None) -> None:
+    def _takes(self, line: int, at: int | None, who: Who, before: Who | None, is_defence: bool) -> None:
         """Somebody claims an address that it doesn't hold."""
-        key, address = key_of(who), who.address
+        box, address = box_of(who), who.address
         assert address is not None
-        is_defence = self._defends(key, address, at)
         self._left.pop(address, None)
         self._fresh.pop(address, None)
         if before is not None:
-            self._at.pop(key_of(before), None)
+            self._at.pop(box_of(before), None)
             self._change(line, at, before, who)
-            if at is not None:
-                self._lost[address] = key_of(before), at
             if before.label and not who.label:
-                self._taken[before.label] = Taken(line, at, who, self.is_on(before.label, at))
-        if address in POOL and self._is_new(key, address, at) and not is_defence:
+                self._taken[box_of(before)] = Taken(line, at, who, before.label, self._is_box_on(before, at))
+        if address in POOL and self._is_new(box, address, at) and not is_defence:
             self._fresh[address] = Claimed(line, at, who, before, self._is_contested(at, before, who))
-        self._holders[address], self._at[key] = who, address
+        self._holders[address], self._at[box] = who, address
 
     def _claims_again(self, line: int, at: int | None, who: Who) -> None:
         """Somebody claims the address that it holds: as an answer, or since it has restarted. Where there are no times that isn't known."""
-        last = self._claimed.get(key_of(who))
+        last = self._claimed.get(box_of(who))
         if at is None or self._was_asked(at) or last is not None and 0 <= at - last < CONTEST:
             return
         text = f"{named(who)} claims address {who.address}, which it holds, and nobody asked: has it restarted?"
         self._found.tell("restart", text, line, at, unit=who.label)
 
-    def _is_displaced(self, key: Key, who: Who) -> None:
+    def _is_displaced(self, box: Box, who: Who) -> None:
         """A unit claims something: where somebody who isn't planned took its address, this one instead, or the same again."""
-        taken = self._taken.pop(key, None)
+        taken = self._taken.pop(box, None)
         if taken and who.address != taken.who.address:
             then = "could not claim another" if who.address is None else f"claims address {who.address} instead"
-            self._tell_taken(key, taken, then)
+            self._tell_taken(taken, then)
 
-    def _tell_taken(self, key: Key, taken: Taken, then: str) -> None:
-        text = f"{named(taken.who)} takes address {taken.who.address} from {key}, which {then}"
-        self._found.tell("displaced", text, taken.line, taken.at, unit=key)
+    def _tell_taken(self, taken: Taken, then: str) -> None:
+        text = f"{named(taken.who)} takes address {taken.who.address} from {taken.label}, which {then}"
+        self._found.tell("displaced", text, taken.line, taken.at, unit=taken.label)
 
     def _was_asked(self, at: int) -> bool:
         """Whether claims were asked for, so that one tells nothing."""
         return self._asked is not None and at - self._asked <= ANSWER
 
-    def _defends(self, key: Key, address: int, at: int | None) -> bool:
-        """Whether a claim is of one that held the address until another one claimed it just now."""
-        lost = self._lost.get(address)
-        return lost is not None and at is not None and lost[0] == key and 0 <= at - lost[1] < CONTEST
+    def _defends(self, who: Who, at: int | None) -> bool:
+        """Whether a claim is of one that claimed this address last, or whose unit had it as a contest began that runs there."""
+        if who.address is None:
+            return False
+        contest = self._contest(who.address, at)
+        return self._told.get(box_of(who)) == who.address or contest is not None and contest.defender == key_of(who)
 
-    def _is_new(self, key: Key, address: int, at: int | None) -> bool:
+    def _is_new(self, box: Box, address: int, at: int | None) -> bool:
         """Whether a claim is none that was asked for, nor of one that sends from this address already."""
-        heard = self._heard(key) if key in self.last and self.last[key][2] == address else None
+        known = self._heard.get(box)
+        heard = self._time_of(known) if known and known[2] == address else None
         return at is not None and not self._was_asked(at) and not (heard is not None and 0 <= at - heard < HEARD)
 
-    def _heard(self, key: Key) -> int | None:
+    def _time_of(self, heard: Heard | None) -> int | None:
         """When somebody was heard last, by the clock as it is set now."""
-        line, at, _ = self.last.get(key, (0, None, None))
+        line, at, _ = heard or (0, None, None)
         return at if line >= self._since else None
 
     def is_on(self, key: Key, at: int | None) -> bool:
         """Whether somebody was heard so lately that it is on."""
-        heard = self._heard(key)
+        return self._is_lately(self.last.get(key), key, at)
+
+    def _is_box_on(self, who: Who, at: int | None) -> bool:
+        """The same of a box that claimed."""
+        return self._is_lately(self._heard.get(box_of(who)), key_of(who), at)
+
+    def _is_lately(self, known: Heard | None, key: Key, at: int | None) -> bool:
+        """Whether that was within a second, or two of the shortest periods of a unit."""
+        heard = self._time_of(known)
         return at is not None and heard is not None and 0 <= at - heard < self._times.get(key, HEARD)
 
     def _is_contested(self, at: int | None, before: Who | None, who: Who) -> bool:
         """Whether who held an address is on and has the smaller NAME, so that it has to defend it."""
-        if before is None:
-            return False
-        smaller, larger = (self._names.get(some.label or "", some.name or "") for some in (before, who))
-        return smaller < larger and self.is_on(key_of(before), at)
+        return before is not None and name_of(before) < name_of(who) and self._is_box_on(before, at)
 
     def _change(self, line: int, at: int | None, before: Who, who: Who) -> None:
         """An address changes hands."""
         assert who.address is not None
         known = self._changes.get(who.address)
         if known is None:
-            self._changes[who.address] = Changes(line, f"{named(before)} to {named(who)}", 1, None, at)
+            self._changes[who.address] = Changes(line, " to ".join(both_named(before, who)), 1, None, at)
             return
         distance = None if at is None or known.at is None else at - known.at
         nearest = known.nearest if distance is None or known.nearest is not None and known.nearest < distance else distance
@@ -236,21 +321,23 @@ class Hands:
 
     def sends(self, line: int, at: int | None, who: Who) -> None:
         """Somebody sends something that is no claim."""
-        if not who.is_guess or who.address not in self._holders:  # else only the contest tells who it is
+        holder = self._holders.get(who.address) if who.address is not None else None
+        if not who.is_guess or holder is None:  # else only the contest tells who it is
             key = key_of(who)
-            self.last[key] = line, at, who.address
-            if key not in self.first and at is not None:
-                self.first[key] = at
+            self._is_heard(line, at, key, box_of(holder if holder is not None and key_of(holder) == key else who), who.address)
         if self._fresh and at is not None:
             self._pass(at)
             self._is_early(line, at, who)
 
     def _is_early(self, line: int, at: int, who: Who) -> None:
-        """Whether somebody sends who should wait. Where another one held the address, it may be that one's frame, which was queued before the claim."""
+        """Whether somebody sends who should wait. Where another one held the address, it may be that one's frame, which was queued before the claim;
+        a frame of a contest may be anybody's."""
         claimed = self._fresh.get(who.address) if who.address is not None else None
-        if claimed and not claimed.is_contest and not claimed.before and key_of(claimed.who) == key_of(who):
+        if not claimed or claimed.is_contest or claimed.before or self._contest(claimed.who.address or 0, at):
+            return
+        if key_of(claimed.who) == key_of(who):
             del self._fresh[claimed.who.address or 0]
-            text = f"{who.spelled} sends before 250 ms have passed behind its claim of address {who.address}"
+            text = f"{who.spelled} sends before 250 ms have passed after its claim of address {who.address}"
             self._found.tell("too-early", text, line, at, unit=who.label)
 
     def _pass(self, at: int) -> None:
@@ -259,16 +346,17 @@ class Hands:
             if claimed.at is not None and not 0 <= at - claimed.at < CONTEST:
                 del self._fresh[address]
                 if claimed.is_contest and claimed.before and at >= claimed.at:
-                    text = f"{named(claimed.who)} claims address {address}, and {named(claimed.before)} doesn't defend it, whose NAME is smaller"
+                    larger, smaller = both_named(claimed.who, claimed.before)
+                    text = f"{larger} claims address {address}, and {smaller} doesn't defend it, whose NAME is smaller"
                     self._found.tell("not-defended", text, claimed.line, claimed.at, unit=claimed.before.label)
 
     def end(self, last: int | None) -> None:
         """Tells what is known at the end, where the last time of the log is this one."""
         if last is not None:
             self._pass(last)
-        for key, taken in self._taken.items():
+        for taken in self._taken.values():
             if taken.was_on:
-                self._tell_taken(key, taken, "claims no other")
+                self._tell_taken(taken, "claims no other")
         for address, known in self._changes.items():
             if known.times >= HANDS:
                 near = "" if known.nearest is None else f", the nearest {milliseconds(max(known.nearest, 0))} ms apart"
