@@ -137,8 +137,8 @@ class Asked(InFolder):
         return [line.split()[0] for line in lines]
 
     def test_tools(self):
-        """`signals` asks of the plan that is cut, too."""
-        for count, *words in ((1, "report.py", PLAN), (1, "against.py", PLAN, LOG), (2, "signals.py", PLAN, LOG, "SPN190")):
+        """`against` and `signals` ask of the plan that is cut, too."""
+        for count, *words in ((1, "report.py", PLAN), (2, "against.py", PLAN, LOG), (2, "signals.py", PLAN, LOG, "SPN190")):
             self.assertIn(run(*words)[0], (0, 1), words)
             self.assertEqual(len(self.asked()), count, words)
 
