@@ -22,7 +22,7 @@ def times_of(rng):
 
 
 class Clocks(unittest.TestCase):
-    def test_what_surely_goes_on_need_not_be_seen(self):
+    def test_what_surely_goes_on_need_not_be_seen(self) -> None:
         rng, passed, told = random.Random(5), 0, 0
         for _ in range(60):
             all_seen, some_seen = Clock(), Clock()
@@ -37,7 +37,7 @@ class Clocks(unittest.TestCase):
         self.assertGreater(passed, 3000)
         self.assertGreater(told, 1000)
 
-    def test_times_that_do_not_surely_go_on(self):
+    def test_times_that_do_not_surely_go_on(self) -> None:
         clock = Clock()
         for time, goes_on in (("(1700000000.000001)", False), ("(1700000000.000001)", True), ("(1700009999.999999)", True), ("(1700010000.000000)", False),
                               ("(1700010000.000000)", True), ("(1700010000.00000)", False), ("(1700010000.000000)", False), ("(1700005000.000000)", False),

@@ -91,16 +91,16 @@ class Deviations(InFolder):
 
 
 class Units(Deviations):
-    def test_a_unit_that_defends_its_address(self):
+    def test_a_unit_that_defends_its_address(self) -> None:
         """A larger NAME claims 128, HITCH claims it again and sends at once, though it was heard last 5 s ago: it did nothing wrong."""
         begin = [(1, HITCH), (5, HSTAT), (9.9, SPRAYER_AT_128)]
         self.assertEqual(self.told(*begin, (9.905, HITCH), (10, HSTAT)), [])
 
-    def test_a_slow_unit_that_does_not_defend_its_address(self):
+    def test_a_slow_unit_that_does_not_defend_its_address(self) -> None:
         begin = [(1, HITCH), (5, HSTAT), (9.9, SPRAYER_AT_128), (10.2, HITCH.replace("EEFF80", "EEFF81"))]
         self.assertEqual(self.told(*begin), ["L:3: SPRAYER claims address 128, and HITCH doesn't defend it, whose NAME is smaller"])
 
-    def test_a_unit_that_moves_waits_again(self):
+    def test_a_unit_that_moves_waits_again(self) -> None:
         """SPRAYER claims 141 since HITCH defends 128, or moves while it sends: for 250 ms from then on it is to send nothing."""
         asks, moves = "18EAFF8D#ECFE00", SPRAYER.replace("EEFF8C", "EEFF8D")
         lost = [(1, HITCH), (9.8, HSTAT), (9.9, SPRAYER_AT_128), (9.905, HITCH)]
@@ -109,14 +109,14 @@ class Units(Deviations):
         self.assertEqual(self.told(*lost, (9.91, moves), (10.16, asks)), [])
         self.assertEqual(self.told((1, SPRAYER), (9.8, asks.replace("8D#", "8C#")), (9.9, moves), (10.1, asks)), [f"L:4: {early}"])
 
-    def test_a_restart(self):
+    def test_a_restart(self) -> None:
         """A claim of an address that its unit holds, more than 1,250 ms after a request; a repeated one 100 ms later is of the same start."""
         text = "HITCH claims address 128, which it holds, and nobody asked: has it restarted?"
         self.assertEqual(self.told((1, HITCH), (5, HITCH), (5.1, HITCH), (9, HITCH)), [f"L:2: {text}  (2 times)"])
         self.assertEqual(self.told((1, HITCH), (4, "18EAFFFE#00EE00"), (5.25, HITCH)), [])
         self.assertEqual(self.told((1, HITCH), (4, "18EAFFFE#00EE00"), (5.251, HITCH)), [f"L:3: {text}"])
 
-    def test_a_name_that_displaces_a_unit(self):
+    def test_a_name_that_displaces_a_unit(self) -> None:
         """HITCH moves, can't, or does nothing though it is on; where it defends the address it isn't displaced."""
         begin = [(1, HITCH), (5, HSTAT), (6, FOREIGN_AT_128)]
         text = "L:3: NAME 8000000000000001 takes address 128 from HITCH, which "
@@ -125,13 +125,13 @@ class Units(Deviations):
             self.assertIn(text + then, self.told(*begin, *log))
         self.assertNotIn("takes address", "".join(self.told(*begin, (6.1, HITCH))))
 
-    def test_a_flow_that_begins_late(self):
+    def test_a_flow_that_begins_late(self) -> None:
         """BRAKES claims at 1 s, and sends EBC1 each 100 ms from 3 s on: 2 s; what comes within a second of the claim isn't late."""
         late = "flow 2, EBC1 from BRAKES to all: not sent for 2000 ms before, its period is 100 ms"
         self.assertEqual(self.told((1, BRAKES), *brakes(3, 4), words=()), [f"L:2: {late}"])
         self.assertEqual(self.told((1, BRAKES), *brakes(2, 4), words=()), [])
 
-    def test_two_boxes_of_one_name(self):
+    def test_two_boxes_of_one_name(self) -> None:
         """BRAKES claims 12 while a box goes on at 11; what was under way when it moved is no second box."""
         moved = BRAKES.replace("EEFF0B", "EEFF0C")
         text = "BRAKES claims address 12, and its former address 11 sends EBC1, a planned group: two boxes of one NAME?"
@@ -142,7 +142,7 @@ class Units(Deviations):
 
 
 class Buses(Deviations):
-    def test_nothing_at_all(self):
+    def test_nothing_at_all(self) -> None:
         """Where two flows were alive and nothing came for more than a second, the bus, the log or its clock stood still, and no unit. The shortest
         period is 100 ms."""
         plan = PLAN.replace("period = 5000", "period = 200")
@@ -150,13 +150,13 @@ class Buses(Deviations):
         text = "nothing at all came for {} ms before: the bus, the log or its clock stood still; distances begin anew"
         self.assertEqual(self.told(*log, plan=plan, words=()), [f"L:32: {text.format(60100)}"])
 
-    def test_steps_back_of_the_clock(self):
+    def test_steps_back_of_the_clock(self) -> None:
         """Distances begin anew where time goes back by more than a millisecond."""
         log = lines_of(*brakes(1, 3)) + lines_of(*brakes(2.41, 4))
         self.assertEqual(self.told(log), [])
         self.assertEqual(self.said, f"against: {self.path('drive.log')}:21: time goes back by 490 ms\n")
 
-    def test_error_frames_of_the_interface(self):
+    def test_error_frames_of_the_interface(self) -> None:
         """In plans without timing too; what follows is no unit's silence, until the log's end neither."""
         frames = {"20000040#0000000000000000": "the interface of the log is bus-off: it hears nothing until it is restarted",
                   "20000004#0001000000000000": "the interface lost frames, since nobody took them: the log lacks these",
@@ -171,12 +171,12 @@ class Buses(Deviations):
         self.assertEqual(self.told(*brakes(1, 2), (1.95, "20000004#0004000000000000"), words=()), [])
         self.assertEqual(self.said, "")
 
-    def test_a_stranger_of_a_planned_group_is_told_once(self):
+    def test_a_stranger_of_a_planned_group_is_told_once(self) -> None:
         """By its address, and not by the priority that the group has."""
         plan = PLAN.replace("version = 4", "version = 4\ntiming = { bitrate = 250000, unplanned = 9 }").replace("priority = 6", "priority = 3")
         self.assertEqual(self.told((1, "0CF0014D#FFFFFFFFFFFFFFFF"), plan=plan), ["L:1: address 77 sends EBC1, a planned group: no unit has it"])
 
-    def test_unplanned_frames_before_those_of_a_unit_that_keeps_no_order(self):
+    def test_unplanned_frames_before_those_of_a_unit_that_keeps_no_order(self) -> None:
         """Any identifier counts there: four frames that go behind EBC1 within its bound of BRAKES, which sends any first."""
         plan = PLAN.replace("version = 4", "version = 4\ntiming = { bitrate = 250000, unplanned = 1 }").split("[[group]]\nlabel = \"VI\"")[0]
         plan += PLAN[PLAN.index('[[flow]]'):].split('[[flow]]\ngroup = "VI"')[0]
@@ -185,7 +185,7 @@ class Buses(Deviations):
         found = self.told((1, EBC1), *strange, plan=plan.replace('address = 11\n', 'address = 11\nqueue = "any"\n'))
         self.assertTrue(any(line.startswith("L:5: 4 frames that no flow has came within ") for line in found), found)
 
-    def test_requests_that_wait_on_the_bus(self):
+    def test_requests_that_wait_on_the_bus(self) -> None:
         """A request may wait no longer than EBC1, which it goes before: one that comes less than a frame nearer than its period accuses nobody."""
         plan = PLAN.split('[[group]]\nlabel = "VI"')[0] + PLAN[PLAN.index("[[flow]]"):].split('[[flow]]\ngroup = "VI"')[0]
         plan += '[[request]]\nfrom = "SPRAYER"\nto = "BRAKES"\ngroup = "EBC1"\nperiod = 5000\n'
@@ -196,7 +196,7 @@ class Buses(Deviations):
             said = [f"L:3: request 1, EBC1 from SPRAYER to BRAKES: 4{value} ms after the one before, its period is 5000 ms" for value in told]
             self.assertEqual([line for line in found if "request" in line], said)
 
-    def test_the_interface_that_is_read(self):
+    def test_the_interface_that_is_read(self) -> None:
         """A log that begins with one frame of another bus is refused, and the one that has nearly all is named."""
         log = "(1.0) can1 18F0010B#00\n" + lines_of(*brakes(1, 11)) * 2
         self.assertEqual(self.told(log), [])
@@ -211,7 +211,7 @@ class Transfers(Deviations):
         log = [(1, HITCH), (1, BRAKES), *[(2 + number / 100, frame) for number, frame in enumerate(frames)], (last, BRAKES.replace("0B#", "0B#"))]
         return [line for line in self.told(*log, (last, "18EAFFFE#00EE00")) if " VI " in line]
 
-    def test_by_their_cause(self):
+    def test_by_their_cause(self) -> None:
         text = "L:3: VI from BRAKES to HITCH: announced, and not carried whole: "
         self.assertEqual(self.whole(RTS, CLEAR, *PACKETS, WHOLE), [])
         self.assertEqual(self.whole(RTS), [text + "no clear to send"])
@@ -221,13 +221,13 @@ class Transfers(Deviations):
         given_up = self.whole(RTS, "1CEC0B80#FF03FFFFFFECFE00")
         self.assertEqual(given_up, [text + "it was given up", "L:4: VI from BRAKES to HITCH: given up by HITCH, reason 3 (timeout)"])
 
-    def test_a_packet_that_was_asked_for_again_alone(self):
+    def test_a_packet_that_was_asked_for_again_alone(self) -> None:
         """The receiver has the message, as it says: it is whole, and counts as sent."""
         again = "1CEC0B80#110102FFFFECFE00"
         self.assertEqual(self.whole(RTS, CLEAR, PACKETS[0], PACKETS[2], again, PACKETS[1], WHOLE), [])
         self.assertNotIn("flow 3, VI from BRAKES to HITCH: never sent", run("against.py", self.path("plan.toml"), self.path("drive.log"))[1])
 
-    def test_what_is_not_acknowledged(self):
+    def test_what_is_not_acknowledged(self) -> None:
         """1,250 ms after its last packet, or before the next announcement; at the log's end sooner than that it isn't known."""
         text = "L:7: VI from BRAKES to HITCH: carried whole, and not acknowledged"
         self.assertEqual(self.whole(RTS, CLEAR, *PACKETS, last=3.3), [text])
@@ -242,7 +242,7 @@ class Marks(Deviations):
         log = io.BytesIO("".join(f"(1.0) {frame}\n" for frame in frames).encode())
         return [number for number, mark in enumerate(b"".join(Feed(tables.groups, tables.timing).pieces(log)).split(b"\n")[1::2], 1) if mark]
 
-    def test_packets(self):
+    def test_packets(self) -> None:
         """Those of a planned group all; of another one each fourth, but where the plan has timing. Another interface has messages of its own."""
         planned, another = "can0 1CECFF0B#20110003FFECFE00", "can0 1CECFF0B#20270006FFEBFE00"
         packets = [f"can0 1CEBFF0B#0{number}AAAAAAAAAAAAAA" for number in range(1, 7)]
@@ -255,13 +255,13 @@ class Marks(Deviations):
 
 
 class Forms(Deviations):
-    def setUp(self):
+    def setUp(self) -> None:
         super().setUp()
         times = (1.0, 1.1, 1.15, 1.25, 1.34)
         self.log = self.write("a.log", lines_of(*[(at, EBC1) for at in times]))
         self.plan = self.write("plan.toml", PLAN)
 
-    def test_times_and_all_lines(self):
+    def test_times_and_all_lines(self) -> None:
         """The worst of two that came too near, 50 ms and 90 ms after the one before."""
         near = "flow 2, EBC1 from BRAKES to all: 50 ms after the one before, its period is 100 ms  (2 times)"
         lines = run("against.py", self.plan, self.log)[1].splitlines()
@@ -269,7 +269,7 @@ class Forms(Deviations):
         lines = run("against.py", "--all", self.plan, self.log)[1].splitlines()
         self.assertEqual(lines[:3], [f"{self.log}:3: (1.150000) {near}", f"  {self.log}:3: (1.150000) 50 ms", f"  {self.log}:5: (1.340000) 90 ms"])
 
-    def test_json(self):
+    def test_json(self) -> None:
         """An object a line: kind, flow, unit, place, what was measured in ms; what is the same in all logs; last the whole log."""
         *rows, whole = map(json.loads, run("against.py", "--json", "--all", self.plan, self.log)[1].splitlines())
         self.assertEqual(rows[0], {
@@ -281,7 +281,7 @@ class Forms(Deviations):
         self.assertEqual((whole.pop("requests"), len(whole.pop("units"))), ([], 3))
         self.assertEqual(whole, {"deviations": len(rows), "begin": 1.0, "end": 1.34, "worst": 800, "worst_second": 1, "explained": 0})
 
-    def test_live(self):
+    def test_live(self) -> None:
         """Each deviation as soon as its line is there, and at the end all of them."""
         words = [sys.executable, os.path.join(TOOLS, "against.py"), "--live", self.plan, "/dev/stdin"]
         with subprocess.Popen(words, stdin=subprocess.PIPE, stdout=subprocess.PIPE, text=True, env={**os.environ, "J39PLAN": os.path.abspath(program.path())},
@@ -296,7 +296,7 @@ class Forms(Deviations):
             self.assertEqual(process.stdout.readline(), f"/dev/stdin:3: (1.150000) {near}  (2 times)\n")
             process.stdout.read()
 
-    def test_live_as_json(self):
+    def test_live_as_json(self) -> None:
         """An object as a deviation is met, without how often; with --all each time, with what was measured there. Then what --json has."""
         text = "flow 2, EBC1 from BRAKES to all: {} ms after the one before, its period is 100 ms"
         first = {"kind": "near", "flow": 2, "unit": "BRAKES", "log": self.log, "line": 3, "time": 1.15, "value": 50, "text": text.format(50), "what": text.format("..")}
@@ -307,7 +307,7 @@ class Forms(Deviations):
             self.assertEqual(rows, met + whole)
             self.assertEqual(whole[0]["times"], 2)
 
-    def test_events(self):
+    def test_events(self) -> None:
         """A flow that is sent when something happens isn't silent; its group or its number names it."""
         log = self.write("b.log", lines_of(*brakes(1, 2), (5, EBC1)))
         for words, count in (((), 1), (("--events", "EBC1"), 0), (("--events", "2"), 0), (("--events", "1"), 1)):
@@ -317,7 +317,7 @@ class Forms(Deviations):
 
 
 class Interrupted(Deviations):
-    def test_a_fleet_keeps_what_is_done(self):
+    def test_a_fleet_keeps_what_is_done(self) -> None:
         """One log is done, the other waits: an interrupt puts the table of the first, and says so."""
         done, slow = self.write("done.log", lines_of(*brakes(1, 3))), self.write("slow.log", lines_of(*brakes(1, 4)))
         script = self.write("slow", f'#!/bin/sh\ncase "$*" in follow*slow.log) sleep 60 ;; esac\nexec {os.path.abspath(program.path())} "$@"\n')

@@ -62,7 +62,7 @@ class Shown(InFolder):
         )
         return ended.stdout.replace(self.folder + "/", "/tmp/")
 
-    def test_commands_write_what_is_shown(self):
+    def test_commands_write_what_is_shown(self) -> None:
         least = {"README.md": 7, "docs/PROMISES.md": 3, "docs/PLAN.md": 3, "docs/TIMING.md": 8, "docs/SIMULATOR.md": 11, "docs/LOGS.md": 9,
                  "docs/TOOLS.md": 11}
         for name in PAGES:
@@ -74,20 +74,20 @@ class Shown(InFolder):
                         self.skipTest(missing(command))
                     self.assertEqual(self.output(command), shown + "\n")
 
-    def test_plans_are_answered_as_shown(self):
+    def test_plans_are_answered_as_shown(self) -> None:
         pages = page("docs/PLAN.md") + page("docs/TIMING.md")
         shown = re.findall(r"```toml\n([^`]*)```\n(?:(?!```).)*```text\n([^`]*)```", pages, re.DOTALL)
         self.assertGreaterEqual(len(shown), 14)
         for plan, answer in shown:
             self.assertEqual(program.call(["check", self.write("plan.toml", plan)])[1], answer, plan)
 
-    def test_examples_are_answered_as_shown(self):
+    def test_examples_are_answered_as_shown(self) -> None:
         shown = re.findall(r"`examples/(findings/\w+\.toml)`[^\n]*:\n\n```text\n(.*?)```", page("docs/FINDINGS.md"), re.DOTALL)
         self.assertGreaterEqual(len(shown), 11)
         for plan, answer in shown:
             self.assertEqual(program.call(["check", example(plan)])[1], answer, plan)
 
-    def test_files_are_as_shown(self):
+    def test_files_are_as_shown(self) -> None:
         for name, least in (("README.md", 1), ("docs/SIMULATOR.md", 4)):
             shown = re.findall(FILE, page(name))
             self.assertGreaterEqual(len(shown), least)
@@ -97,19 +97,19 @@ class Shown(InFolder):
 
 
 class Form(unittest.TestCase):
-    def test_the_readme_ends_where_a_newcomer_has_an_answer(self):
+    def test_the_readme_ends_where_a_newcomer_has_an_answer(self) -> None:
         text = page("README.md")
         self.assertLessEqual(len(text.split()), 2500)
         self.assertEqual([sentence for sentence in sentences(text) if len(sentence.split()) > 40], [])
 
-    def test_the_readme_leads_on_by_the_words_of_the_field(self):
+    def test_the_readme_leads_on_by_the_words_of_the_field(self) -> None:
         """What a newcomer searches for stands in the README, which leads to the page that has the answer."""
         text = page("README.md")
         for word in ("PGN", "NAME", "DBC", "candump", "multiplexed", "Intel", "FIFO", "response time", "bus load", "single-address",
                      "arbitrary-address capable", "deadlines", "licence", "ISOBUS"):
             self.assertRegex(text, rf"\b{re.escape(word)}", word)
 
-    def test_the_changelog_is_for_users(self):
+    def test_the_changelog_is_for_users(self) -> None:
         """In the form of Keep a Changelog: versions, below them kinds of changes, and items; at most 60 lines."""
         lines = page("CHANGELOG.md").splitlines()
         self.assertLessEqual(len(lines), 60)
@@ -118,37 +118,37 @@ class Form(unittest.TestCase):
         versions = [line for line in lines if line.startswith("## ")]
         self.assertEqual([line for line in versions if not re.fullmatch(r"## \d+\.\d+\.\d+ - (\d{4}-\d\d-\d\d|Unreleased)", line)], [])
 
-    def test_sentences_are_told_apart(self):
+    def test_sentences_are_told_apart(self) -> None:
         text = "# One\n\nTwo [a b](c d) `e f`. (Three\nfour.) Five\n- six\n- seven. Eight\n\n    code. Here\n\n| nine. | ten |\n"
         shown = ["# One", "Two [a b] CODE.", "(Three four.)", "Five", "- six", "- seven.", "Eight", "nine.", "ten"]
         self.assertEqual(list(sentences(text)), shown)
 
-    def test_prose_is_within_120_columns(self):
+    def test_prose_is_within_120_columns(self) -> None:
         """But for tables, pictures and code."""
         for name in PAGES:
             lines = [line for line in without_code(page(name)).splitlines() if not line.startswith(("|", "![", "#"))]
             self.assertTrue(lines)
             self.assertEqual([line for line in lines if len(line) > 120], [], name)
 
-    def test_cells_of_tables_are_short(self):
+    def test_cells_of_tables_are_short(self) -> None:
         """A cell of a table has at most 50 words: what needs more is prose, whose sentences are counted too."""
         for name in PAGES:
             with self.subTest(name):
                 self.assertEqual([cell for cell in cells(page(name)) if len(cell.split()) > 50], [])
 
-    def test_decisions_are_short(self):
+    def test_decisions_are_short(self) -> None:
         """Each is an item of at most 60 words: what was chosen, in place of what, and why."""
         items = [" ".join(it.split()) for it in re.split(r"\n(?=- |\n)", page("docs/DECISIONS.md")) if it.startswith("- ")]
         self.assertGreaterEqual(len(items), 120)
         self.assertEqual([item for item in items if len(item.split()) > 61], [])
 
-    def test_what_was_tried_and_left_has_a_line_each(self):
+    def test_what_was_tried_and_left_has_a_line_each(self) -> None:
         section = page("docs/DECISIONS.md").split("## Tried and left\n")[1].split("\n## ")[0].strip()
         self.assertEqual([line for line in section.splitlines() if not re.match(r"- `j39_\w+`: .*\.$", line)], [])
 
 
 class Names(InFolder):
-    def test_links_lead_somewhere(self):
+    def test_links_lead_somewhere(self) -> None:
         for name in PAGES:
             for link in re.findall(r"\]\((?!https:)([^)\s]+)\)", page(name)):
                 file, _, heading = link.partition("#")
@@ -157,7 +157,7 @@ class Names(InFolder):
                 if heading:
                     self.assertIn(heading, anchors(page(target)), f"{name}: {link}")
 
-    def test_what_is_called_proved_is_there(self):
+    def test_what_is_called_proved_is_there(self) -> None:
         """A row of docs/PROOFS.md: names, at most 40 words with clauses in brackets, and the files that have the names' contracts."""
         sections = proved_sections()
         self.assertGreaterEqual(len(sections), 10)
@@ -175,7 +175,7 @@ class Names(InFolder):
                     for clause in re.findall(r"\w+", name):
                         self.assertIn(clause, promised, heading)
 
-    def test_each_law_is_called_proved(self):
+    def test_each_law_is_called_proved(self) -> None:
         """The section of a library in docs/PROOFS.md names each law that it hands out: a public function with an empty body."""
         sections = proved_sections()
         named = {(crate, name) for crates, body in sections for crate in crates for name in re.findall(r"`(\w+)`", body)}
@@ -183,7 +183,7 @@ class Names(InFolder):
         self.assertGreaterEqual(len(laws), 30)
         self.assertEqual(sorted(laws - named), [])
 
-    def test_each_module_of_definitions_has_its_place(self):
+    def test_each_module_of_definitions_has_its_place(self) -> None:
         """The table of rules in docs/ARCHITECTURE.md has each module of specs/, and no other; specs/inside/ are for proofs."""
         table = page("docs/ARCHITECTURE.md").split("## Where each rule lives")[1]
         rows = re.findall(r"\n\| [^|]* \| `(j39_\w+)` \| ([^|]*) \|", table)
@@ -193,13 +193,13 @@ class Names(InFolder):
         there = {(crate, module) for crate, module in there if module not in ("Lib", "inside")}
         self.assertEqual(sorted(there ^ shown), [])
 
-    def test_a_name_of_definitions_has_one_home(self):
+    def test_a_name_of_definitions_has_one_home(self) -> None:
         """No two modules of specs/, specs/inside/ included, have a definition of one name: whoever looks for a rule by its name finds it."""
         homes = homes_of_definitions(TOP)
         self.assertGreaterEqual(len(homes), 1200)
         self.assertEqual({name: files for name, files in sorted(homes.items()) if len(files) > 1}, {})
 
-    def test_a_module_of_definitions_has_one_home(self):
+    def test_a_module_of_definitions_has_one_home(self) -> None:
         """No two crates have a module of specs/, specs/inside/ included, of one name."""
         homes = {}
         for file in glob.glob("crates/*/specs/**/*.antt", root_dir=TOP, recursive=True):
@@ -208,7 +208,7 @@ class Names(InFolder):
         shared = {name: sorted(files) for name, files in homes.items() if len(files) > 1}
         self.assertEqual({name: files for name, files in shared.items() if name not in ("Lib.antt", "inside.antt")}, {})
 
-    def test_each_form_of_a_definition_is_seen(self):
+    def test_each_form_of_a_definition_is_seen(self) -> None:
         for crate, module, text in (
             ("lower", "One", "abbrev pub shared : ℕ\nshared = 1\n\nunfoldable pub own : ℕ\nown = shared\n"),
             ("lower", "inside/Two", "module _ {X : Type 0} where\n  abbrev pub shared : X → X\n  shared x = x\n"),
@@ -224,14 +224,14 @@ class Names(InFolder):
             "local": ["Five.antt"], "Hidden": ["Five.antt"],
         })
 
-    def test_each_module_of_the_tools_is_named(self):
+    def test_each_module_of_the_tools_is_named(self) -> None:
         """The table of docs/ARCHITECTURE.md has each module of tools/j39plan/ once, and no other."""
         section = page("docs/ARCHITECTURE.md").split("## The tools\n")[1].split("\n## ")[0]
         named = [folder + name for folder, cell in re.findall(r"\n\| (?:`(\w[\w/]*/)`: )?(`.*?) \|", section) for name in re.findall(r"`(\w+)`", cell)]
         modules = glob.glob("**/[!_]*.py", root_dir=os.path.join(TOP, "tools", "j39plan"), recursive=True)
         self.assertEqual(sorted(named), sorted(name[:-3] for name in modules))
 
-    def test_files_to_change_are_there(self):
+    def test_files_to_change_are_there(self) -> None:
         """The lists of docs/ARCHITECTURE.md on what is added where name files and folders that are there."""
         names = re.findall(r"`([\w.-]+(?:/[\w.-]*)*)`", page("docs/ARCHITECTURE.md").split("## To add a step")[1])
         files = [name for name in names if "/" in name]
@@ -239,7 +239,7 @@ class Names(InFolder):
         for name in files:
             self.assertTrue(any(os.path.exists(os.path.join(TOP, below, name)) for below in ("crates", "")), name)
 
-    def test_files_to_change_are_all_that_have_a_case(self):
+    def test_files_to_change_are_all_that_have_a_case(self) -> None:
         """The lists of docs/ARCHITECTURE.md on what is added name each source that has a case of the step or finding that they show."""
         text = page("docs/ARCHITECTURE.md")
         for heading, word in (("To add a step", "Down"), ("To add a finding", "KeptAddress")):
@@ -252,7 +252,7 @@ class Names(InFolder):
             self.assertGreaterEqual(len(having), 10)
             self.assertEqual(sorted(name for name in having if not name.startswith(named)), [], heading)
 
-    def test_files_in_backticks_are_there(self):
+    def test_files_in_backticks_are_there(self) -> None:
         """Each name of a file that a page has in backticks is a file or a folder of the repository, but for those of the reader."""
         known = {name for folder, folders, files in os.walk(TOP) if not folder.startswith(os.path.join(TOP, ".git"))
                  for name in (os.path.relpath(os.path.join(folder, it), TOP) for it in (*folders, *files))}
@@ -262,13 +262,13 @@ class Names(InFolder):
             with self.subTest(name):
                 self.assertEqual(sorted(it for it in shown - OTHERS if it not in ends), [])
 
-    def test_each_example_is_named(self):
+    def test_each_example_is_named(self) -> None:
         """The table of docs/EXAMPLES.md has each plan of examples/, and no other."""
         named = re.findall(r"^\| `(\w+\.toml)` \|", page("docs/EXAMPLES.md"), re.MULTILINE)
         plans = glob.glob("*.toml", root_dir=os.path.join(TOP, "examples"))
         self.assertEqual(sorted(named), sorted(plans))
 
-    def test_numbers_of_services_have_one_home(self):
+    def test_numbers_of_services_have_one_home(self) -> None:
         """The number of a group by which the network runs stands in j39_id alone, once as code and once as a definition."""
         homes = ["crates/j39_id/specs/Services.antt", "crates/j39_id/src/services.rt"]
         numbers = re.findall(r"= (\d{2})(\d{3})\n", text_of(os.path.join(TOP, homes[0])))

@@ -75,7 +75,7 @@ class Kept(InFolder):
                 with self.subTest(os.path.basename(name)):
                     yield from self.pairs(name)
 
-    def test_messages_and_signals(self):
+    def test_messages_and_signals(self) -> None:
         messages, signals, tables, numbers = 0, 0, 0, 0
         for one, two, parts in self.all_pairs():
             self.assertEqual((two.name, two.size, two.transmitters), (one.name, one.size, one.transmitters))
@@ -97,7 +97,7 @@ class Kept(InFolder):
                 signals, tables, numbers = signals + 1, tables + bool(first.values), numbers + ("SPN" in first.attributes)
         self.assertTrue(messages >= 200 and signals >= 1500 and tables >= 9 and numbers >= 1500, (messages, signals, tables, numbers))
 
-    def test_receivers_senders_and_times(self):
+    def test_receivers_senders_and_times(self) -> None:
         """Of the files that have nodes."""
         receivers, times = 0, 0
         for name in FILES[:-1]:
@@ -114,7 +114,7 @@ class Kept(InFolder):
                 times += bool(one.cycle_time)
         self.assertTrue(receivers >= 40 and times >= 20, (receivers, times))
 
-    def test_nodes_and_the_bus(self):
+    def test_nodes_and_the_bus(self) -> None:
         nodes = 0
         for name in FILES[:-1]:
             there, back, *_ = self.there_and_back(name)
@@ -130,7 +130,7 @@ class Kept(InFolder):
         self.assertGreaterEqual(nodes, 20)
 
     @unittest.skipUnless(os.path.exists(CANMATRIX_J1939), "canmatrix's j1939.dbc isn't there")
-    def test_what_is_left_out_is_said(self):
+    def test_what_is_left_out_is_said(self) -> None:
         """Of j1939.dbc, which has more groups than a plan: a message that doesn't come back was said, and so was a signal."""
         there, back, signals, groups = self.there_and_back(CANMATRIX_J1939)
         here = {frame.name: {signal.name for signal in frame.signals} for frame in back.frames}
