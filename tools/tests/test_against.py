@@ -4,6 +4,7 @@ import random
 import re
 import unittest
 from collections import Counter
+from collections.abc import Sequence
 
 from j39plan import program
 from tests.logs_against import CLAIMS, FLOWS, PLAN, RIVALS, VI, Compared, run
@@ -15,7 +16,7 @@ GROUP = 'version = 1\n[[group]]\nlabel = "VI"\npgn = 65260\npriority = 6\nlength
 LENGTHS = (9, 14, 17)
 
 
-def random_packet(chance):
+def random_packet(chance: random.Random) -> str:
     """A frame of the transport protocol between the addresses 1 and 2, or to all: data mostly, also what breaks the rules."""
     source, destination = chance.choice([("01", "02"), ("02", "01"), ("01", "FF"), ("02", "FF")])
     if chance.random() < 0.7:
@@ -27,10 +28,13 @@ def random_packet(chance):
     return f"1CEC{destination}{source}#{control}{length:02X}00{packets:02X}FF{group}"
 
 
-def acknowledged(lines, reports, length):
+def acknowledged(lines: Sequence[str], reports: str, length: int) -> Counter[tuple[str, str]]:
     """How many messages of VI of this length the receiver says it has, though `follow` reports them not: by the lines of a log of random packets."""
     reported = {int(line) for line in re.findall(r"^(\d+) - group VI ", reports, re.MULTILINE)}
-    transfers, begun, early, found = {}, set(), set(), Counter()
+    transfers: dict[tuple[str, str], bytes] = {}
+    begun: set[tuple[str, str]] = set()
+    early: set[tuple[str, str]] = set()
+    found: Counter[tuple[str, str]] = Counter()
     for number, line in enumerate(lines, 1):
         if len(line) != 25:  # it was cut
             continue
@@ -43,7 +47,8 @@ def acknowledged(lines, reports, length):
                 begun.add((source, to))
         elif line[2:4] == "EC" and data[0] == 255:
             pair = next((pair for pair in ((source, to), (to, source)) if pair in transfers), None)
-            transfers.pop(pair, None)
+            if pair:
+                del transfers[pair]
         elif line[2:4] == "EC" and data[0] == 19 and (to, source) in begun and transfers.get((to, source)) == data[5:]:
             begun.discard((to, source))
             found[to, source] += 1
@@ -135,7 +140,7 @@ class Against(Compared):
             whole = Counter((source, "all" if to == "all" else to[-1]) for source, to in reports)
             begun = Counter((source, "all" if to == "FF" else to[1]) for to, source in announced)
             found = run("against.py", plan, log)[1]
-            told = Counter()
+            told: Counter[tuple[str, str]] = Counter()
             for source, to, times in re.findall(r": VI from (\d) to (\S+): announced, and not carried whole: [^(\n]*(?:  \((\d+) times\))?\n", found):
                 told[source, to] += int(times or 1)
             again = acknowledged(text_of(log).splitlines(), program.call(["follow", plan, log])[1], length)

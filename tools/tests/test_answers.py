@@ -5,11 +5,12 @@ import json
 import os
 import re
 import unittest
+from typing import Any
 
 from j39plan import program
 from j39plan.plan import answer_grammar
 from j39plan.plan.answers import Age, Delay, load_of, stands
-from tests.support import TOP, InFolder, example, run, text_of
+from tests.support import InFolder, TOP, example, run, text_of, there
 
 CASES = os.path.join(TOP, "crates", "examples_check", "data")
 
@@ -83,7 +84,7 @@ class Grammar(unittest.TestCase):
 
 
 class Objects(InFolder):
-    def answer(self, command, plan, status):
+    def answer(self, command: str, plan: str, status: int) -> Any:
         """What the tool writes of a plan, but for its name and its status."""
         ended, answer, said = run("answer.py", command, plan)
         found = json.loads(answer)
@@ -121,11 +122,11 @@ class Objects(InFolder):
         """The same as tuples, for the tools and the module."""
         text = "".join(f"{line}\n" for line, kind, _ in SAID if kind in ("flow", "need", "load"))
         load = load_of(text)
-        self.assertEqual(load.taken, (640, 250000))
-        self.assertEqual(load.delays, [Delay(1, 640, 10000, 1), Delay(2, None, 10000, 1), Delay(3, None, None, 4), Delay(4, 605760, None, 4),
+        self.assertEqual(there(load).taken, (640, 250000))
+        self.assertEqual(there(load).delays, [Delay(1, 640, 10000, 1), Delay(2, None, 10000, 1), Delay(3, None, None, 4), Delay(4, 605760, None, 4),
                                        Delay(5, 605760, 606000, 4), Delay(6, None, 605000, 4)])
-        self.assertEqual(load.ages, [Age(1, 20640, 21000), Age(2, None, 20000)])
-        self.assertEqual((load_of("refused plan NoTiming\n"), load_of("F16 NoPeriod 1\nfindings 1\n").taken), (None, None))
+        self.assertEqual(there(load).ages, [Age(1, 20640, 21000), Age(2, None, 20000)])
+        self.assertEqual((load_of("refused plan NoTiming\n"), there(load_of("F16 NoPeriod 1\nfindings 1\n")).taken), (None, None))
         self.assertEqual(stands("unit A stays 3\nunit B may move from 128\nstay 1 of 2\n"), {"A": (True, 3), "B": (False, 128)})
         self.assertEqual(stands(program.call(["addresses", example("findings/f02_same_fixed_address.toml")])[1]), {})
 

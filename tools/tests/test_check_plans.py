@@ -15,7 +15,7 @@ CLEAN, FOUND = example("first_plan.toml"), example("findings/f10_flow_to_self.to
 
 
 class CheckPlans(InFolder):
-    def status(self, *plans, check=""):
+    def status(self, *plans: str, check: str = "") -> tuple[int, str]:
         """The exit status over these plans, and what is written."""
         environment = {**os.environ, "J39PLAN": os.path.abspath(program.path()), "CHECK": check}
         ended = subprocess.run(
@@ -27,8 +27,8 @@ class CheckPlans(InFolder):
     def test_the_worst_counts(self) -> None:
         refused, missing = self.write("plan.toml", "version = 5\n"), self.path("none.toml")
         for plans, status in [
-            ([], 2), ([CLEAN, CLEAN], 0), ([FOUND], 1), ([refused], 1), ([missing], 2),
-            ([FOUND, CLEAN], 1), ([missing, FOUND], 2), ([CLEAN, refused, missing], 2),
+            ((), 2), ((CLEAN, CLEAN), 0), ((FOUND,), 1), ((refused,), 1), ((missing,), 2),
+            ((FOUND, CLEAN), 1), ((missing, FOUND), 2), ((CLEAN, refused, missing), 2),
         ]:
             self.assertEqual(self.status(*plans)[0], status, plans)
 
@@ -39,7 +39,7 @@ class CheckPlans(InFolder):
         for word in ("--help", "-h"):
             self.assertEqual(self.status(word), (0, f"{usage}\nexample: check-plans plans/*.toml\n"))
 
-    def said(self, *plans):
+    def said(self, *plans: str) -> tuple[int, str]:
         """The exit status over these plans, and what is said on standard error."""
         ended = subprocess.run([os.path.join(TOOLS, "check-plans"), *plans], cwd=self.folder, capture_output=True, text=True, check=False,
                                env={**os.environ, "J39PLAN": os.path.abspath(program.path()), "CHECK": ""})

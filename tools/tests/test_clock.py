@@ -2,17 +2,18 @@
 
 import random
 import unittest
+from collections.abc import Iterator
 
 from j39plan.log.clock import DAY, SECOND, Clock
 
 
-def spelled(rng, at):
+def spelled(rng: random.Random, at: int) -> str:
     """A time as a log may spell it: mostly in microseconds."""
     seconds, rest = divmod(at, SECOND)
     return rng.choice([f"({seconds}.{rest // 1000:06})"] * 8 + [f"({seconds}.{rest:09})", f"({seconds}.{rest // 10**8})", f"({seconds})", "-", "(x.123456)"])
 
 
-def times_of(rng):
+def times_of(rng: random.Random) -> Iterator[str]:
     """Times that go on, stand still, come out of order, and of a clock that is set."""
     at = rng.choice((0, 9_999 * SECOND, 1_700_009_998 * SECOND))
     for _ in range(300):

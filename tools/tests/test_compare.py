@@ -4,7 +4,7 @@ import json
 import re
 import unittest
 
-from tests.support import InFolder, example, run, signal, text_of
+from tests.support import InFolder, example, run, signal, text_of, there
 
 OLD = """version = 3
 
@@ -65,14 +65,14 @@ to = "ENGINE"
 
 
 class Compared(InFolder):
-    def compare(self, old, new, *words):
+    def compare(self, old: str, new: str, *words: str) -> tuple[int, list[str]]:
         """Compares two plans; status and lines, without the folder."""
         names = self.write("old.toml", old), self.write("new.toml", new)
         status, answer, said = run("compare.py", *words, *names)
         self.assertEqual(said.replace(self.folder + "/", ""), "compare: new.toml: the same plan as old.toml\n" if old == new else "")
         return status, answer.replace(self.folder + "/", "").splitlines()
 
-    def changed(self, *edits, old=OLD):
+    def changed(self, *edits: tuple[str, str], old: str = OLD) -> list[str]:
         """What is said of the plan in which each of these texts is another one."""
         new = old
         for before, now in edits:
@@ -84,7 +84,7 @@ class Compared(InFolder):
         self.assertEqual((last, status), (f"changes {len(found) - len(broken)} breaks {len(broken)}", 1 if broken else 0))
         return found
 
-    def breaks(self, *edits, old=OLD):
+    def breaks(self, *edits: tuple[str, str], old: str = OLD) -> list[str]:
         """What breaks, without the places."""
         return [line.partition(": breaks: ")[2] for line in self.changed(*edits, old=old) if ": breaks: " in line]
 
@@ -213,7 +213,7 @@ class Broken(Compared):
         self.assertEqual(self.breaks(('kind = "measured"\nper = 8\n', 'kind = "raw"\nstep = 3\noffset = -7\nper = 10\n')), [
             "all read EEC1.SPN190 of ENGINE wrongly: its kind is raw, and not measured; its value is 3/10 * raw - 7/10 rpm, and not "
             "1/8 * raw rpm (old.toml:24)"])
-        gone = re.search(r'\[\[group.signal\]\]\nlabel = "SPN513"\n(?:.+\n)*', OLD).group()
+        gone = there(re.search(r'\[\[group.signal\]\]\nlabel = "SPN513"\n(?:.+\n)*', OLD)).group()
         self.assertEqual(self.breaks((gone, "")),
                          ["all miss EEC1.SPN513 of ENGINE: it isn't sent any more, and reads as absent (old.toml:32)"])
         self.assertEqual(self.breaks((gone, signal("MODE", 3, 4, "raw"))),
@@ -263,13 +263,13 @@ class Broken(Compared):
         self.assertEqual(self.breaks(("identity = 1,", "identity = 5,")), [])
         self.assertEqual(self.breaks(("manufacturer = 310", "manufacturer = 311")),
                          ["ENGINE isn't found by all: its NAME has another manufacturer (old.toml:6)"])
-        gone = re.search(r'\[\[unit\]\]\nlabel = "BRAKES"\n(?:.+\n)*', OLD).group()
-        flow = re.search(r'\[\[flow\]\]\ngroup = "TSC1"\n(?:.+\n)*', OLD).group()
+        gone = there(re.search(r'\[\[unit\]\]\nlabel = "BRAKES"\n(?:.+\n)*', OLD)).group()
+        flow = there(re.search(r'\[\[flow\]\]\ngroup = "TSC1"\n(?:.+\n)*', OLD)).group()
         self.assertEqual(self.breaks((gone, ""), (flow, "")), ["ENGINE misses TSC1 of BRAKES: BRAKES is gone"])
 
     def test_texts_and_records(self) -> None:
         old = text_of(example("identification.toml"))
-        text = re.search(r'\[\[group.text\]\]\nlabel = "SPN234".*\nbyte = 2\n', old).group()
+        text = there(re.search(r'\[\[group.text\]\]\nlabel = "SPN234".*\nbyte = 2\n', old)).group()
         self.assertEqual(self.breaks((text, ""), old=old), [
             f"{receiver} misses SOFT.SPN234 of {sender}: it isn't sent any more (old.toml:41)"
             for receiver, sender in (("BRAKES", "ENGINE"), ("ENGINE", "BRAKES"))])

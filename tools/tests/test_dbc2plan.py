@@ -7,7 +7,9 @@ import random
 import resource
 import tomllib
 import unittest
+from collections.abc import Sequence
 from types import SimpleNamespace
+from typing import Any
 
 from j39plan import program
 from j39plan.dbc import to_plan
@@ -40,13 +42,13 @@ UNITS = ["", "rpm", "°C", "µm³", "日", "k" * 33, "\"\\", "km/h\n", "%"]
 ATTRIBUTES = [*NAME_ATTRIBUTES.values(), IDENTITY_ATTRIBUTE, ("NmStationAddress", 253), ("NmJ1939AAC", 1)]
 
 
-def processor_seconds():
+def processor_seconds() -> float:
     """How long programs that were called have run on a processor."""
     used = resource.getrusage(resource.RUSAGE_CHILDREN)
     return used.ru_utime + used.ru_stime
 
 
-def random_ecu(canmatrix, chance, number):
+def random_ecu(canmatrix: Any, chance: random.Random, number: int) -> Any:
     """A node with some of the usual attributes, within their ranges and without."""
     ecu = canmatrix.Ecu(chance.choice(NAMES) + str(number))
     for attribute, most in ATTRIBUTES:
@@ -55,7 +57,7 @@ def random_ecu(canmatrix, chance, number):
     return ecu
 
 
-def random_signal(canmatrix, chance, nodes):
+def random_signal(canmatrix: Any, chance: random.Random, nodes: list[str]) -> Any:
     """A signal that often can't be carried over."""
     return canmatrix.Signal(
         chance.choice(NAMES), start_bit=chance.randrange(70), size=chance.choice([1, 2, 3, 8, 12, 16, 24, 32, 33, 64]),
@@ -67,7 +69,7 @@ def random_signal(canmatrix, chance, nodes):
     )
 
 
-def random_frame(canmatrix, chance, nodes, number):
+def random_frame(canmatrix: Any, chance: random.Random, nodes: list[str], number: int) -> Any:
     """A frame that often can't be carried over."""
     known = [0x0CF00400, 0x18FEEE00, 0x0C000003, 0x18EF0000, 0x18FF1000, 0x18EEFF00, 0x1BFEEE00]
     ident = chance.choice([*known, chance.randrange(2**29)])
@@ -84,8 +86,8 @@ def random_frame(canmatrix, chance, nodes, number):
 class Units(WithDbc):
     def test_units(self) -> None:
         plan, said = self.plan()
-        units = [{"label": "ENGINE", "address": 0, "name": {"manufacturer": 310}},
-                 {"label": "RETARDER", "address": 15, "name": {"function": 10, "industry": 1, "arbitrary": True}}]
+        units: list[dict[str, Any]] = [{"label": "ENGINE", "address": 0, "name": {"manufacturer": 310}},
+                                       {"label": "RETARDER", "address": 15, "name": {"function": 10, "industry": 1, "arbitrary": True}}]
         self.assertEqual(plan["unit"], units)
         for unit, number in (("ENGINE", 4711), ("RETARDER", 4712)):
             self.assertIn(f"unit {unit}, NmJ1939IdentityNumber: {number} is left away: each box has a number of its own", said)
@@ -300,7 +302,7 @@ DEEP = 'PAGE m3M : 8|8@1+ (1,0) [0|0] "" RETARDER', 'DEEP m4 : 16|8@1+ (1,0) [0|
 
 @needs("canmatrix", "python3-canmatrix")
 class Multiplexed(WithDbc):
-    def groups(self, *signals, identifier=FROM_0, name="EEC1", more="", words=()):
+    def groups(self, *signals: str, identifier: int = FROM_0, name: str = "EEC1", more: str = "", words: Sequence[str] = ()) -> tuple[Any, list[str]]:
         """What the groups are called, the value by which each is told, and its signals; and what is said of groups and signals."""
         plan, said = self.plan(*words, data=NODES + message(identifier, name, "ENGINE", *signals) + more)
         shown = [(group["label"], group.get("when", {}).get("value"), [signal["label"] for signal in group.get("signal", [])])
@@ -519,7 +521,7 @@ class Signals(WithDbc):
 class Periods(InFolder):
     """Cycle times of frames as canmatrix hands them out, as periods of flows."""
 
-    def plan(self, *frames, version=3):
+    def plan(self, *frames: Any, version: int = 3) -> tuple[list[Any], list[str], list[str]]:
         """The flows with their periods, the remarks of the flows and what is said, of frames of one PGN from one node."""
         ecu = SimpleNamespace(name="A", attributes={"NmStationAddress": "5", "NmJ1939IdentityNumber": "7"}, comment=None)
         ecu.attribute = lambda name, _: ecu.attributes.get(name)
@@ -534,7 +536,7 @@ class Periods(InFolder):
         flows = [flow.finished() for flow in plan.flows.values()]
         return [flow.keys.get("period") for flow in flows], [told for flow in flows for told in flow.remarks], said.getvalue().splitlines()
 
-    def frame(self, cycle_time, *signals):
+    def frame(self, cycle_time: int, *signals: Any) -> SimpleNamespace:
         """A frame of this cycle time, 0 for none, and of signals with theirs."""
         ident = SimpleNamespace(extended=True, pgn=61444, j1939_priority=3, j1939_pdu_format=2, j1939_ps=4, j1939_source=5)
         parts = [field(f"S{number}", 8 * number, 8, False) for number in range(len(signals))]
@@ -564,7 +566,7 @@ class Periods(InFolder):
         self.assertEqual(self.plan((20,), version=2), ([None], ["20 ms"], []))
 
 
-def field(name, start, size, is_text=True):
+def field(name: str, start: int, size: int, is_text: bool = True) -> SimpleNamespace:
     """A signal as canmatrix hands it out: text of a SYM file, which a DBC file can't say, or a number."""
     return SimpleNamespace(
         name=name, size=size, is_ascii=is_text, is_signed=False, is_float=False, is_little_endian=True, factor=1, offset=0, unit="",
@@ -573,7 +575,7 @@ def field(name, start, size, is_text=True):
 
 
 class Texts(InFolder):
-    def tables(self, frame, version):
+    def tables(self, frame: Any, version: int) -> list[Any]:
         """The tables of a frame's signals."""
         signals = PlannedSignals(range(frame.size, frame.size + 1), Notes(), False, version)
         signals.take(frame, frame.name)
@@ -743,7 +745,7 @@ class FromOthers(InFolder):
                 "SPN695": (0, 1, 1, 2), "SPN897": (0, 1, 5, 2), "SPN518": (0, 4, 1, 8),
             }, ending)
 
-    def places(self, plan):
+    def places(self, plan: str) -> dict[str, tuple[int, int, int, int]]:
         """Where the signals of a plan lie: PGN, byte, bit and width."""
         return {
             signal["label"]: (group["pgn"], signal["byte"], signal.get("bit", 1), signal["bits"])

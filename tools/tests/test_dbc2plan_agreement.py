@@ -7,6 +7,7 @@ import json
 import random
 import tomllib
 import unittest
+from typing import Any
 
 from j39plan.cli import dbc2plan
 from j39plan.left_out import Notes
@@ -39,7 +40,7 @@ def at(node: str, address: int) -> str:
 
 @needs("canmatrix", "python3-canmatrix")
 class Agreement(WithDbc):
-    def of(self, *data: str, words: tuple[str, ...] = ()) -> tuple[dict, list[str]]:
+    def of(self, *data: str, words: tuple[str, ...] = ()) -> tuple[dict[str, Any], list[str]]:
         """The plan of files `a.dbc`, `b.dbc` and so on, and what is said without their folder."""
         names = [self.write(f"{chr(97 + place)}.dbc", text) for place, text in enumerate(data)]
         status, plan, said = run("dbc2plan.py", *words, *names)
@@ -179,7 +180,7 @@ PLANTED = {
 
 @needs("canmatrix", "python3-canmatrix")
 class Orders(WithDbc):
-    def made_of(self, files: dict[str, str]) -> tuple[dict, list[dict]]:
+    def made_of(self, files: dict[str, str]) -> tuple[dict[str, Any], list[dict[str, Any]]]:
         """The plan of these files, and the notes."""
         names = [self.write(f"{name}.dbc", text) for name, text in files.items()]
         notes = Notes()
@@ -198,7 +199,7 @@ class Orders(WithDbc):
         return found
 
     @staticmethod
-    def tables(plan: dict) -> set[str]:
+    def tables(plan: dict[str, Any]) -> set[str]:
         """The tables of a plan, in no order."""
         groups = [{**group, "signal": sorted(group.get("signal", []), key=json.dumps)} for group in plan["group"]]
         return {json.dumps(table, sort_keys=True) for table in itertools.chain(plan["unit"], groups, plan["flow"], plan["need"])}

@@ -6,6 +6,8 @@ import random
 import subprocess
 import sys
 import tomllib
+from collections.abc import Sequence
+from typing import Any
 
 from j39plan import program
 from tests.dbc_files import DBC, WithDbc, message
@@ -21,14 +23,14 @@ TIMES = "".join(f'BA_DEF_ BO_ "{name}" INT 0 65535;\n' for name in ("GenMsgCycle
 
 
 class WithFiles(WithDbc):
-    def joined(self, *files, words=()):
+    def joined(self, *files: str, words: Sequence[str] = ()) -> tuple[dict[str, Any], set[tuple[str, str, str]], list[str]]:
         """The plan of several files, which `check` can read, its flows by group, sender and receiver, and what is said."""
         status, text, said = run("dbc2plan.py", *files, *words)
         self.assertEqual(status, 0, said)
         plan = tomllib.loads(self.checked(text))
         return plan, {(flow["group"], flow["from"], flow["to"]) for flow in plan.get("flow", [])}, said.splitlines()
 
-    def signals_of(self, plan, label):
+    def signals_of(self, plan: dict[str, Any], label: str) -> list[str]:
         """The labels of a group's signals."""
         return [signal["label"] for group in plan["group"] if group["label"] == label for signal in group["signal"]]
 

@@ -8,11 +8,12 @@ import signal
 import subprocess
 import sys
 import time
+from collections.abc import Sequence
 
 from j39plan import program
 from j39plan.log.checks.marks import Feed
 from j39plan.plan.tables import Tables
-from tests.support import TOOLS, InFolder, run, without_times
+from tests.support import TOOLS, InFolder, run, there, without_times
 
 # Two units that may choose from 128 on, one that is fixed; HITCH sends each 5 s, EBC1 each 100 ms.
 PLAN = """version = 4
@@ -72,20 +73,24 @@ PACKETS = [f"1CEB800B#0{number}AAAAAAAAAAAAAA" for number in (1, 2, 3)]
 PATIENCE = 120
 
 
-def lines_of(*log):
+def lines_of(*log: tuple[float, str]) -> str:
     """A log of times and frames."""
     return "".join(f"({at:.6f}) can0 {frame}\n" for at, frame in sorted(log, key=lambda line: line[0]))
 
 
-def brakes(begin, end):
+def brakes(begin: float, end: float) -> list[tuple[float, str]]:
     """EBC1 each 100 ms."""
     return [(begin + number / 10, EBC1) for number in range(round((end - begin) * 10))]
 
 
 class Deviations(InFolder):
-    def told(self, *log, plan=PLAN, words=("--silence", "0")):
-        """The deviations of a log, but for what was never sent and who isn't there."""
-        name = self.write("drive.log", log[0] if log and isinstance(log[0], str) else lines_of(*log))
+    def told(self, *log: tuple[float, str], plan: str = PLAN, words: Sequence[str] = ("--silence", "0")) -> list[str]:
+        """The deviations of a log of these times and frames, but for what was never sent and who isn't there."""
+        return self.told_of(lines_of(*log), plan, words)
+
+    def told_of(self, log: str, plan: str = PLAN, words: Sequence[str] = ("--silence", "0")) -> list[str]:
+        """The same of a log as it stands."""
+        name = self.write("drive.log", log)
         _, answer, self.said = run("against.py", *words, self.write("plan.toml", plan), name)
         return [line.replace(name, "L") for line in without_times(answer).splitlines()[:-1] if line.startswith((name, "  "))]
 
@@ -153,7 +158,7 @@ class Buses(Deviations):
     def test_steps_back_of_the_clock(self) -> None:
         """Distances begin anew where time goes back by more than a millisecond."""
         log = lines_of(*brakes(1, 3)) + lines_of(*brakes(2.41, 4))
-        self.assertEqual(self.told(log), [])
+        self.assertEqual(self.told_of(log), [])
         self.assertEqual(self.said, f"against: {self.path('drive.log')}:21: time goes back by 490 ms\n")
 
     def test_error_frames_of_the_interface(self) -> None:
@@ -191,7 +196,7 @@ class Buses(Deviations):
         plan += '[[request]]\nfrom = "SPRAYER"\nto = "BRAKES"\ngroup = "EBC1"\nperiod = 5000\n'
         timing = plan.replace("version = 4", "version = 4\ntiming = { bitrate = 250000, unplanned = 0 }")
         asks = "18EA0B8C#01F000"
-        for text, second, told in ((timing, 5.9998, []), (timing, 5.99, ["990"]), (plan, 5.9998, ["999.8"])):
+        for text, second, told in ((timing, 5.9998, ()), (timing, 5.99, ("990",)), (plan, 5.9998, ("999.8",))):
             found = self.told((1, asks), (1.001, EBC1), (second, asks), (second + 0.001, EBC1), plan=text)
             said = [f"L:3: request 1, EBC1 from SPRAYER to BRAKES: 4{value} ms after the one before, its period is 5000 ms" for value in told]
             self.assertEqual([line for line in found if "request" in line], said)
@@ -199,14 +204,14 @@ class Buses(Deviations):
     def test_the_interface_that_is_read(self) -> None:
         """A log that begins with one frame of another bus is refused, and the one that has nearly all is named."""
         log = "(1.0) can1 18F0010B#00\n" + lines_of(*brakes(1, 11)) * 2
-        self.assertEqual(self.told(log), [])
+        self.assertEqual(self.told_of(log), [])
         self.assertEqual(self.said, f"against: {self.path('drive.log')} begins with can1, which has 1 of its 201 lines: choose one, as --interface can0\n")
-        self.told("(1.0) can1 18F0010B#00\n" + lines_of(*brakes(1, 6)))
+        self.told_of("(1.0) can1 18F0010B#00\n" + lines_of(*brakes(1, 6)))
         self.assertEqual(self.said, "against: can1 is read, the first of the log; 50 lines of can0 are passed over: --interface can0\n")
 
 
 class Transfers(Deviations):
-    def whole(self, *frames, last=9.0):
+    def whole(self, *frames: str, last: float = 9.0) -> list[str]:
         """What is told of long messages, of frames from 2 s on, each 10 ms after the one before."""
         log = [(1, HITCH), (1, BRAKES), *[(2 + number / 100, frame) for number, frame in enumerate(frames)], (last, BRAKES.replace("0B#", "0B#"))]
         return [line for line in self.told(*log, (last, "18EAFFFE#00EE00")) if " VI " in line]
@@ -236,7 +241,7 @@ class Transfers(Deviations):
 
 
 class Marks(Deviations):
-    def marked(self, *frames, plan=PLAN):
+    def marked(self, *frames: str, plan: str = PLAN) -> list[int]:
         """The numbers of the lines of a log that have a mark."""
         tables = Tables.of(self.write("plan.toml", plan))
         log = io.BytesIO("".join(f"(1.0) {frame}\n" for frame in frames).encode())
@@ -288,20 +293,20 @@ class Forms(Deviations):
                               bufsize=1) as process:
             with open(self.log, encoding="ascii") as log:
                 lines = log.readlines()
-            process.stdin.writelines(lines[:4])  # the next line tells that the third one is whole
+            there(process.stdin).writelines(lines[:4])  # the next line tells that the third one is whole
             near = "flow 2, EBC1 from BRAKES to all: 50 ms after the one before, its period is 100 ms"
-            self.assertEqual(process.stdout.readline(), f"/dev/stdin:3: (1.150000) {near}\n")
-            process.stdin.write(lines[4])
-            process.stdin.close()
-            self.assertEqual(process.stdout.readline(), f"/dev/stdin:3: (1.150000) {near}  (2 times)\n")
-            process.stdout.read()
+            self.assertEqual(there(process.stdout).readline(), f"/dev/stdin:3: (1.150000) {near}\n")
+            there(process.stdin).write(lines[4])
+            there(process.stdin).close()
+            self.assertEqual(there(process.stdout).readline(), f"/dev/stdin:3: (1.150000) {near}  (2 times)\n")
+            there(process.stdout).read()
 
     def test_live_as_json(self) -> None:
         """An object as a deviation is met, without how often; with --all each time, with what was measured there. Then what --json has."""
         text = "flow 2, EBC1 from BRAKES to all: {} ms after the one before, its period is 100 ms"
         first = {"kind": "near", "flow": 2, "unit": "BRAKES", "log": self.log, "line": 3, "time": 1.15, "value": 50, "text": text.format(50), "what": text.format("..")}
         again = {**first, "line": 5, "time": 1.34, "value": 90, "text": text.format(90)}
-        for words, met in (([], [first]), (["--all"], [first, again])):
+        for words, met in (((), [first]), (("--all",), [first, again])):
             rows = [json.loads(line) for line in run("against.py", "--live", "--json", *words, self.plan, self.log)[1].splitlines()]
             whole = [json.loads(line) for line in run("against.py", "--json", *words, self.plan, self.log)[1].splitlines()]
             self.assertEqual(rows, met + whole)

@@ -12,6 +12,8 @@ import subprocess
 import sys
 import time
 import unittest
+from collections.abc import Iterator
+from typing import Any
 
 from j39plan import program
 from tests.support import TOOLS, InFolder, example, run, text_of
@@ -68,18 +70,18 @@ class Fleets(InFolder):
         self.early = self.write("early.log", text_of(LOG))
         self.late = self.write("late.log", text_of(LOG).replace("(10.5", "(17.5") + FOREIGN)
 
-    def fleet(self, *words, plan=PLAN, environment=None):
+    def fleet(self, *words: Any, plan: str = PLAN, environment: dict[str, str] | None = None) -> tuple[int, str, str]:
         """Status, answer and what is said, without the folder."""
         ended = subprocess.run([sys.executable, os.path.join(TOOLS, "fleet.py"), *words[:-1], plan, *words[-1]], capture_output=True, text=True,
                                check=False, timeout=PATIENCE * 3, env={**os.environ, "J39PLAN": os.path.abspath(program.path()), **(environment or {})})
-        return ended.returncode, *(text.replace(self.folder + "/", "") for text in (ended.stdout, ended.stderr))
+        return ended.returncode, ended.stdout.replace(self.folder + "/", ""), ended.stderr.replace(self.folder + "/", "")
 
-    def tables(self, *words, **more):
+    def tables(self, *words: Any, **more: Any) -> tuple[int, Any, str]:
         """The status, the tables by their names, and what is said."""
         status, answer, said = self.fleet("--json", *words, **more)
         return status, json.loads(answer), said
 
-    def deadly(self, log=""):
+    def deadly(self, log: str = "") -> str:
         """A program that ends, when it follows a log, who called it: of a log with this name always, else the first time alone."""
         once = "" if log else f"mkdir {self.path('ended')} 2> /dev/null && "
         script = self.write("deadly", f"""#!/bin/sh
@@ -214,7 +216,7 @@ class Tasks(Fleets):
         logs = [self.write(f"{number}.log", text_of(LOG) * (1 + number % 3) + FOREIGN) for number in range(7)]
         first = self.fleet("--processes", "1", logs)
         self.assertEqual(first[0], 1)
-        for words in (["--processes", "3"], []):
+        for words in (("--processes", "3"), ()):
             self.assertEqual(self.fleet(*words, logs), first)
 
     def test_a_log_that_fails_is_named(self) -> None:
@@ -295,7 +297,7 @@ class Tasks(Fleets):
         self.assertEqual(self.processes(started.pid), [])
 
     @staticmethod
-    def processes(session):
+    def processes(session: int) -> list[str]:
         """The processes of a session that aren't ended."""
         found = subprocess.run(["ps", "-o", "pid=,stat=", "-s", str(session)], capture_output=True, text=True, check=False).stdout
         return [line for line in found.splitlines() if " Z" not in line]
@@ -304,7 +306,7 @@ class Tasks(Fleets):
 @unittest.skipUnless(importlib.util.find_spec("distributed"), "distributed isn't there: apt-get install python3-distributed")
 class OnACluster(Fleets):
     @contextlib.contextmanager
-    def cluster(self, workers=2, **environment):
+    def cluster(self, workers: int = 2, **environment: str) -> Iterator[str]:
         """A scheduler and workers on the loopback; its address."""
         for name in ("package/j39plan", "scheduler.json"):
             with contextlib.suppress(FileNotFoundError):
@@ -312,9 +314,9 @@ class OnACluster(Fleets):
         os.makedirs(self.path("package"), exist_ok=True)
         os.symlink(os.path.join(TOOLS, "j39plan"), self.path("package/j39plan"))
         there = {**os.environ, "J39PLAN": os.path.abspath(program.path()), "PYTHONPATH": self.path("package"), **environment}
-        started = []
+        started: list[subprocess.Popen[bytes]] = []
 
-        def start(name, *words) -> None:
+        def start(name: str, *words: str) -> None:
             with open(self.path(f"{len(started)}.said"), "wb") as said:
                 started.append(subprocess.Popen([sys.executable, "-m", f"distributed.cli.{name}", *words], cwd=self.folder, env=there,
                                                 stdin=subprocess.DEVNULL, stdout=said, stderr=said))

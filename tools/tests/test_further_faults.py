@@ -51,7 +51,7 @@ FIRST = "4: refused Range unit 1 key address  (address = 300: integer 0..253)"
 class FurtherFaults(InFolder):
     """By the schema, which the library checks."""
 
-    def answer(self, text, *words):
+    def answer(self, text: str, *words: str) -> list[str]:
         """The lines of where.py without the file's name."""
         plan = self.write("plan.toml", text)
         status, answer, said = run("where.py", *words, plan)
@@ -124,7 +124,8 @@ class WithoutTheLibrary(InFolder):
     @unittest.mock.patch.dict("sys.modules", {"jsonschema": None})
     def test_it_is_not_there(self) -> None:
         from j39plan.cli import where
-        name, written = self.write("plan.toml", PLAN), []
+        name = self.write("plan.toml", PLAN)
+        written: list[str] = []
         with unittest.mock.patch("sys.stdout.write", written.append):
             self.assertEqual(where.main([name]), 2)
         self.assertEqual("".join(written), f"{name}:{FIRST}\n")

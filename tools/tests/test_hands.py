@@ -64,7 +64,7 @@ class Hands(Compared):
 
     def test_an_address_that_is_not_defended(self) -> None:
         """Of a unit that is on and has the smaller NAME; within 250 ms it claims again, or moves."""
-        def told(*log):
+        def told(*log: tuple[str, str]) -> list[str]:
             name = self.write("drive.log", "".join(f"({time}) can0 {frame}\n" for time, frame in log))
             answer = run("against.py", self.write("plan.toml", RIVALS % "PUMP"), name)[1]
             return [line.replace(name, "L") for line in answer.splitlines() if "defend" in line]
@@ -80,7 +80,7 @@ class Hands(Compared):
         """What comes after a claim of an address is told as of the smaller NAME, which need not be on: nothing was heard of it yet."""
         plan = self.write("plan.toml", RIVALS % "PUMP")
 
-        def found(*lines):
+        def found(*lines: tuple[str, str]) -> str:
             log = self.write("drive.log", "".join(f"({time}) can0 {frame}\n" for time, frame in lines))
             return run("against.py", plan, log)[1]
 
@@ -92,7 +92,7 @@ class Hands(Compared):
         """Who holds an address sends on until it has heard of the claim; once it is heard of elsewhere, the claimer is the one that sends."""
         plan = self.write("plan.toml", RIVALS % "PUMP")
 
-        def early(*lines):
+        def early(*lines: tuple[str, str]) -> list[str]:
             log = self.write("drive.log", "".join(f"({time}) can0 {frame}\n" for time, frame in lines))
             return [line for line in run("against.py", plan, log)[1].splitlines() if "before 250" in line]
 
@@ -102,7 +102,7 @@ class Hands(Compared):
 
     def test_who_sends_too_soon_behind_a_claim(self) -> None:
         """A claim of one of the addresses that may be chosen may be contested for 250 ms, unless the unit holds it already."""
-        def told(*log):
+        def told(*log: tuple[str, str]) -> list[str]:
             name = self.write("drive.log", "".join(f"({time}) can0 {frame}\n" for time, frame in log))
             answer = run("against.py", self.write("plan.toml", RIVALS % "PUMP"), name)[1]
             return [line.replace(name, "L") for line in answer.splitlines() if "before 250" in line]

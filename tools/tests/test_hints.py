@@ -10,7 +10,7 @@ UNIT = '[[unit]]\nlabel = "{}"\naddress = {}\nname = {{ identity = {} }}\n'
 
 
 class Hints(InFolder):
-    def answer(self, text):
+    def answer(self, text: str) -> tuple[int, list[str]]:
         """What `where` answers of a plan, without the file's name."""
         name = self.write("plan.toml", text)
         status, answer, _ = run("where.py", name)
@@ -115,8 +115,8 @@ class Hints(InFolder):
                    "hint": "address = 254: integer 0..253"}
         name = self.write("plan.toml", plan.replace("= 0", "= 254"))
         further = [{"line": 8, "hint": "address = 254: integer 0..253"}]
-        answer = json.loads(run("where.py", "--json", "--lint", name)[1])
-        self.assertEqual((answer.pop("further", further), answer), (further, {"plan": name, "status": 2, "refused": refused}))
+        told = json.loads(run("where.py", "--json", "--lint", name)[1])
+        self.assertEqual((told.pop("further", further), told), (further, {"plan": name, "status": 2, "refused": refused}))
         clean = example("first_plan.toml")
         ok = {"plan": clean, "status": 0, "findings": [], "counts": {"units": 2, "groups": 1, "flows": 1}}
         self.assertEqual(json.loads(run("where.py", "--json", clean)[1]), ok)

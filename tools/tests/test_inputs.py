@@ -11,6 +11,7 @@ import sys
 import tempfile
 import time
 import unittest
+from typing import Any
 
 from j39plan import program
 from j39plan.log.reports import CONVERTER
@@ -33,20 +34,20 @@ OTHER_NAME = re.compile(r"/dev/(?:stdin|fd/\d+)|\b(?:fifo|link)\b|(?<=>Plan )(?:
 RANDOM = random.Random(33).randbytes(20000)
 
 
-def tool(name):
+def tool(name: str) -> str:
     """A tool as a shell calls it."""
     return f"{sys.executable} {os.path.join(TOOLS, name)}"
 
 
 class NoRegularFiles(InFolder):
-    def answer(self, command):
+    def answer(self, command: str) -> tuple[int, str]:
         """The status of a shell's command in a folder of its own, and its standard output."""
         with tempfile.TemporaryDirectory() as folder:
             ended = subprocess.run(["bash", "-c", command], cwd=folder, capture_output=True, text=True, check=False, timeout=60,
                                    env={**os.environ, "J39PLAN": os.path.abspath(program.path())})
         return ended.returncode, ended.stdout
 
-    def is_judged_alike(self, before, file, behind="") -> None:
+    def is_judged_alike(self, before: str, file: str, behind: str = "") -> None:
         """A file is judged alike however it is given."""
         status, answer = self.answer(f"{before} {file} {behind}")
         answer = answer.replace(file, "F").replace(f">Plan {os.path.basename(file)}<", ">Plan F<")
@@ -112,7 +113,7 @@ class OtherFiles(InFolder):
             placed = run("where.py", name)[1]
             for words in (["startup.py", name], ["report.py", name], ["against.py", name, LOG], ["signals.py", name, LOG]):
                 self.assertEqual(run(*words), (2, "", f"{words[0][:-3]}: {placed}"))
-            for form in ([], ["--github"]):
+            for form in ((), ("--github",)):
                 status, answer, said = run("where.py", *form, name)
                 self.assertEqual((status, said), (2, ""), name)
                 self.assertIn(refused, answer.splitlines()[0])
@@ -171,23 +172,23 @@ class OtherFiles(InFolder):
             with open(os.path.join(os.fsencode(self.folder), name), "w", encoding="utf-8") as file:
                 file.write(text)
             for words in (["where.py"], ["where.py", "--github"], ["startup.py"]):
-                status, answer, said = run(*words, os.path.join(os.fsencode(self.folder), name))
+                status, answer, said = run(*words, os.path.join(self.folder, os.fsdecode(name)))
                 self.assertEqual(status, 0, said)
             self.assertEqual(program.call(["run", PLAN, self.write("start.schedule", answer)])[0], 0)
 
 
-def lines_without_frames(log):
+def lines_without_frames(log: str) -> str | None:
     """How many lines of a log spell no frame, where it has such and none with one; else None."""
     *_, frames, _, skipped, _, bad, _, _ = program.call(["follow", PLAN, log])[1].split()
     return bad if (frames, skipped) == ("0", "0") and bad != "0" else None
 
 
-def unnamed(said):
+def unnamed(said: str) -> str:
     """What a tool says, without the names of interfaces, which random bytes may be."""
     return re.sub(r"(?m)^(\w+: ).* is read, the first of the log; (\d+) lines of .* are passed over.*$", r"\1the first interface is read; \2 lines of others are passed over", said)
 
 
-def passed_over(tool, log):
+def passed_over(tool: str, log: str) -> str:
     """What a tool says of the lines of a log that `follow` counts as bad or elsewhere, and of one without a frame."""
     *_, frames, _, _, _, bad, _, elsewhere = program.call(["follow", PLAN, log])[1].split()
     texts = [f"{log} has no frame"] * (frames == "0")
@@ -228,7 +229,7 @@ class Interrupted(InFolder):
         ended, answer, _ = self.ended(["against.py", PLAN, "fifo"], interrupts=3, lines=text_of(LOG), handler=signal.SIG_IGN)
         self.assertEqual((ended, answer.replace("fifo", LOG)), run("against.py", PLAN, LOG)[:2])
 
-    def ended(self, words, interrupts, lines=None, handler=signal.SIG_DFL):
+    def ended(self, words: list[str], interrupts: int, lines: Any = None, handler: Any = signal.SIG_DFL) -> tuple[int, str, str]:
         """How a tool ends that reads a FIFO, into which these lines are written, and that is interrupted then: its status, standard output and
         standard error. The FIFO stays open until the tool has ended, or where it passes over interrupts until these were sent."""
         started = subprocess.Popen(

@@ -12,7 +12,7 @@ from j39plan.log.curves import Timeline, curves_of
 from j39plan.log.files import LINE_MOST, Log, interface_of
 from j39plan.log.readings import Choice, Wanted
 from j39plan.log.reports import Counts, follow, tables_of
-from tests.support import TOOLS, InFolder, example, run
+from tests.support import TOOLS, InFolder, example, run, there
 
 PLAN = example("tractor_and_implement.toml")
 
@@ -47,10 +47,10 @@ class OneOfSeveral(InFolder):
         """The same, each line as it comes."""
         words = [sys.executable, os.path.join(TOOLS, "signals.py"), "--interface", "can1", PLAN, "/dev/stdin", "SPN110"]
         with subprocess.Popen(words, stdin=subprocess.PIPE, stdout=subprocess.PIPE, text=True, bufsize=1) as process:
-            process.stdin.write("".join(f"{line}\n" for line in LINES[:5]))
-            self.assertEqual([process.stdout.readline().split(",")[:2] for _ in range(2)], [["time", "line"], ["1.4", "5"]])
-            process.stdin.write(f"{LINES[5]}\n")
-            self.assertEqual(process.stdout.readline().split(",")[:2], ["1.5", "6"])
+            there(process.stdin).write("".join(f"{line}\n" for line in LINES[:5]))
+            self.assertEqual([there(process.stdout).readline().split(",")[:2] for _ in range(2)], [["time", "line"], ["1.4", "5"]])
+            there(process.stdin).write(f"{LINES[5]}\n")
+            self.assertEqual(there(process.stdout).readline().split(",")[:2], ["1.5", "6"])
 
     def test_against(self) -> None:
         found = run("against.py", "--interface", "can1", PLAN, self.log)
@@ -81,7 +81,7 @@ class OneOfSeveral(InFolder):
         self.assertEqual([(row["log"], row["line"]) for row in self.rows(long, self.log)], [
             (long, "7"), (long, "8"), (self.log, "5"), (self.log, "6")])
 
-    def rows(self, log, *others):
+    def rows(self, log: str, *others: str) -> list[dict[str, str]]:
         """The rows of a temperature."""
         return list(csv.DictReader(io.StringIO(run("signals.py", "--interface", "can1", PLAN, log, *others, "SPN110")[1])))
 

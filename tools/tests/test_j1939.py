@@ -2,17 +2,19 @@
 
 import os
 import re
+from collections.abc import Collection
+from typing import Any
 
 from j39plan import j1939, program
 from j39plan.plan import schema
-from tests.support import TOP, InFolder, text_of
+from tests.support import InFolder, TOP, text_of, there
 
 GROUP = '[[group]]\nlabel = "G{0}"\npgn = {0}\npriority = 6\nlength = 8\n'
 PAGE, FINDINGS = (text_of(os.path.join(TOP, "docs", name)) for name in ("PLAN.md", "FINDINGS.md"))
 
 
 class Numbers(InFolder):
-    def bad(self, numbers):
+    def bad(self, numbers: Collection[int]) -> Any:
         """Those of these groups' numbers that `check` finds as F4, and no other finding."""
         found = set()
         for start in range(0, len(numbers), 256):
@@ -30,7 +32,7 @@ class Numbers(InFolder):
     def test_other_services_are_taken(self) -> None:
         """They are those that the page names behind the table of F4."""
         self.assertEqual(self.bad(j1939.OTHER_SERVICES), set())
-        named = re.search(r"Only these are found\. Other groups .*?\n\n", FINDINGS, re.DOTALL).group()
+        named = there(re.search(r"Only these are found\. Other groups .*?\n\n", FINDINGS, re.DOTALL)).group()
         self.assertEqual(sorted(map(int, re.findall(r"\b\d{5}\b", named))), sorted(j1939.OTHER_SERVICES))
 
     def test_the_fields_of_a_name_are_those_of_the_page_and_of_the_schema(self) -> None:

@@ -3,6 +3,8 @@
 import re
 import tomllib
 import unittest
+from collections.abc import Sequence
+from typing import Any
 
 from j39plan import program
 from tests.support import InFolder, example, needs, run, signal, text_of
@@ -112,29 +114,29 @@ period = 10
 """
 
 
-def group(label, pgn, more="", private=True):
+def group(label: str, pgn: int, more: str = "", private: bool = True) -> str:
     """The table of a group of eight bytes."""
     return f'[[group]]\nlabel = "{label}"\npgn = {pgn}\npriority = 6\nlength = 8\nprivate = {str(private).lower()}\n{more}'
 
 
-def unit(label, address, identity, more=""):
+def unit(label: str, address: int, identity: int, more: str = "") -> str:
     """The table of a unit."""
     return f'[[unit]]\nlabel = "{label}"\naddress = {address}\nname = {{ identity = {identity}{more} }}\n'
 
 
-def flow(name, sender, to="all", more=""):
+def flow(name: str, sender: str, to: str = "all", more: str = "") -> str:
     """The table of a flow."""
     return f'[[flow]]\ngroup = "{name}"\nfrom = "{sender}"\nto = "{to}"\n{more}'
 
 
 class Joined(InFolder):
-    def join(self, *plans, words=()):
+    def join(self, *plans: str, words: Sequence[str] = ()) -> tuple[int, str, list[str]]:
         """Joins plans, each a file of its own; status, plan, and the lines that are said, without the folder."""
         names = [self.write(f"{letter}.toml", plan) for letter, plan in zip("abcd", plans)]
         status, text, said = run("join.py", *words, *names)
         return status, text.replace(self.folder + "/", ""), said.replace(self.folder + "/", "").splitlines()
 
-    def joined(self, *plans, notes=0):
+    def joined(self, *plans: str, notes: int = 0) -> dict[str, Any]:
         """The plan that is joined of plans that don't contradict one another."""
         status, text, said = self.join(*plans)
         self.assertEqual(status, 0, said)
@@ -142,7 +144,7 @@ class Joined(InFolder):
         self.assertIn(program.call(["check", self.write("joined.toml", text)])[0], (0, 1), text)
         return tomllib.loads(text)
 
-    def contradicted(self, *plans):
+    def contradicted(self, *plans: str) -> tuple[list[str], str]:
         """What is said of plans that contradict one another: nothing is written, but by --first."""
         status, text, said = self.join(*plans)
         self.assertEqual((status, text), (1, ""), said)

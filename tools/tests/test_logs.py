@@ -10,7 +10,7 @@ import time
 import unittest
 
 from j39plan import program
-from tests.support import TOP, InFolder, example, needs, text_of
+from tests.support import InFolder, TOP, example, needs, text_of, there
 
 PLAN = example("tractor_and_implement.toml")
 LOG = example("tractor_and_implement.start.log")
@@ -25,25 +25,25 @@ PROSE = " ".join(PAGE.split())
 
 
 class ShownLines(InFolder):
-    def shown(self, line) -> None:
+    def shown(self, line: str) -> None:
         """Runs a line that the guide shows."""
         self.assertIn(line, PAGE.replace("\\|", "|"))
         self.shell(line)
 
-    def shell(self, line) -> None:
+    def shell(self, line: str) -> None:
         """Runs a line in the folder."""
         path = os.pathsep.join([os.path.dirname(sys.executable), os.environ["PATH"]])
         subprocess.run(["sh", "-c", line], cwd=self.folder, check=True, capture_output=True, env={**os.environ, "PATH": path})
 
 
 class Logs(ShownLines):
-    def read(self, name):
+    def read(self, name: str) -> tuple[list[str], str]:
         """What `read` says of a log, its counts apart."""
         status, answer = program.call(["read", PLAN, name])
         self.assertEqual(status, 0)
         return answer.splitlines()[:-1], answer.splitlines()[-1]
 
-    def reports(self):
+    def reports(self) -> tuple[list[str], str]:
         """What `read` says of the log itself."""
         return self.read(self.write("plain.log", "".join(f"{line}\n" for line in LINES)))
 
@@ -71,7 +71,7 @@ class Logs(ShownLines):
     @needs("can", "python3-can")
     def test_asc_blf_and_trc_by_python_can(self) -> None:
         import can
-        convert, mend = re.search(r"`(python3 -m can\.logconvert [^`]*)`, then `([^`]*)`", PAGE).groups()
+        convert, mend = there(re.search(r"`(python3 -m can\.logconvert [^`]*)`, then `([^`]*)`", PAGE)).groups()
         messages = list(can.LogReader(self.write("plain.log", "".join(f"{line}\n" for line in LINES))))
         for ending in ("asc", "blf", "trc"):
             with can.Logger(self.path(f"drive.{ending}")) as logger:
@@ -88,7 +88,7 @@ class NotShown(InFolder):
     GROUP = 'version = 1\n[[group]]\nlabel = "G"\npgn = {}\npriority = 6\nlength = {}\n'
     SIGNAL = '[[group.signal]]\nlabel = "S"\nbyte = 1\nbits = 8\nkind = "raw"\n'
 
-    def read(self, plan, *frames):
+    def read(self, plan: str, *frames: str) -> str:
         """What `read` says of a log of these frames."""
         log = self.write("drive.log", "".join(f"{frame}\n" for frame in frames))
         return program.call(["read", self.write("plan.toml", plan), log])[1]
@@ -125,11 +125,11 @@ class Shown(ShownLines):
             self.write(f"logs/{drive}.log", text_of(LOG))
         self.answer = program.call(["read", PLAN, LOG])[1]
 
-    def stand_in(self, name, script) -> None:
+    def stand_in(self, name: str, script: str) -> None:
         """A program of the folder, to be found before others."""
         os.chmod(self.write(name, f"#!/bin/sh\n{script}\n"), 0o755)
 
-    def answers(self, line, ending) -> None:
+    def answers(self, line: str, ending: str) -> None:
         """Runs a line that reads all logs, each into a file of its own."""
         self.shown(line)
         for drive in ("first", "second"):

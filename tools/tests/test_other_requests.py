@@ -1,6 +1,8 @@
 """What `against` has of a log as a whole: when each unit was heard, and requests that the plan doesn't have."""
 
 import json
+from collections.abc import Sequence
+from typing import Any
 
 from tests import support
 from tests.support import InFolder
@@ -43,12 +45,12 @@ OTHER_LONG = ["1CECFF00#20110003FFEBFE00", *(f"1CEBFF00#0{number}AAAAAAAAAAAAAA"
 CAB_SENDS = "18FEEE21#7DFFFFFFFFFFFFFF"
 
 
-def asks(source, to, pgn):
+def asks(source: int, to: int, pgn: int) -> str:
     """A request."""
     return f"18EA{to:02X}{source:02X}#{pgn.to_bytes(3, 'little').hex().upper()}"
 
 
-def says(control, source, to, pgn, at=0xFF):
+def says(control: int, source: int, to: int, pgn: int, at: int = 0xFF) -> str:
     """An acknowledgement, in which the address that it is for stands."""
     return f"18E8{at:02X}{source:02X}#{control:02X}FFFFFF{to:02X}{pgn.to_bytes(3, 'little').hex().upper()}"
 
@@ -56,21 +58,21 @@ def says(control, source, to, pgn, at=0xFF):
 class OtherRequests(InFolder):
     """A log of a plan in which no request stands."""
 
-    def answer(self, frames, *words, plan=PLAN):
+    def answer(self, frames: Sequence[tuple[float, str]], *words: str, plan: str = PLAN) -> str:
         """Standard output of a log of frames, each with its time."""
         log = self.write("drive.log", "".join(f"({time:.6f}) can0 {frame}\n" for time, frame in frames))
         _, answer, said = support.run("against.py", *words, self.write("plan.toml", plan), log)
         self.assertEqual(said, "")
         return answer.replace(log, "L")
 
-    def requests(self, frames, plan=PLAN):
+    def requests(self, frames: Sequence[tuple[float, str]], plan: str = PLAN) -> tuple[list[tuple[Any, ...]], list[tuple[Any, ...]]]:
         """The rows of requests, and the deviations of their kinds."""
         *rows, whole = map(json.loads, self.answer(frames, "--json", plan=plan).splitlines())
         keys = ("from", "to", "asked", "answered", "refused", "unanswered", "line")
-        told = [(row["kind"], row["unit"], row["line"], row["text"]) for row in rows if "request for" in row["text"]]
+        told: list[tuple[Any, ...]] = [(row["kind"], row["unit"], row["line"], row["text"]) for row in rows if "request for" in row["text"]]
         return [(row.get("group", row["pgn"]), *(row[key] for key in keys)) for row in whole["requests"]], told
 
-    def begun(self, *more):
+    def begun(self, *more: tuple[float, str]) -> list[tuple[float, str]]:
         """The claims, a second in which all are heard, and more at so many seconds after it."""
         heard = [(1.0, ET1), (1.001, CAB_SENDS)]
         return [*((0.001 * number, claim) for number, claim in enumerate(CLAIMS)), *heard, *((1.1 + time, frame) for time, frame in more)]

@@ -14,9 +14,10 @@ import tempfile
 import tomllib
 import unittest
 from concurrent.futures import ThreadPoolExecutor
+from typing import Any
 
 from j39plan import program
-from tests.support import TOOLS, TOP, InFolder, run, text_of
+from tests.support import TOOLS, TOP, InFolder, run, text_of, there
 
 PACKAGE = os.path.join(TOOLS, "package")
 COMMANDS = ["show", "check", "addresses", "load", "run", "read", "follow", "frame", "help"]
@@ -28,12 +29,13 @@ PAGE = text_of(os.path.join(TOP, "docs", "TOOLS.md"))
 MAINTAINER = "A & B / C <maintainer@lists.test.org>"
 
 
-def lines_of(*words, **more):
+def lines_of(*words: str, **more: Any) -> list[str]:
     """What a command writes, line by line."""
-    return subprocess.run(words, check=True, capture_output=True, text=True, **more).stdout.splitlines()
+    written: str = subprocess.run(words, check=True, capture_output=True, text=True, **more).stdout
+    return written.splitlines()
 
 
-def built(folder, umask=0o022):
+def built(folder: str, umask: int = 0o022) -> list[str]:
     """Builds the packages into a folder, and answers their names."""
     before = os.umask(umask)
     try:
@@ -45,18 +47,21 @@ def built(folder, umask=0o022):
 
 
 class Built(InFolder):
+    dist: str
+    packages: list[str]
+
     @classmethod
     def setUpClass(cls) -> None:
         cls.dist = cls.enterClassContext(tempfile.TemporaryDirectory())
         cls.packages = built(cls.dist)
 
-    def package(self, ending):
+    def package(self, ending: str) -> str:
         """The package of this ending."""
         return next(name for name in self.packages if name.endswith(ending))
 
     def test_two_builds_give_the_same_bytes(self) -> None:
         first, second = self.packages, built(self.path("two"), umask=0o077)
-        self.assertEqual(list(map(os.path.basename, first)), list(map(os.path.basename, second)))
+        self.assertEqual([os.path.basename(name) for name in first], [os.path.basename(name) for name in second])
         for one, two in zip(first, second):
             with open(one, "rb") as left, open(two, "rb") as right:
                 self.assertEqual(left.read(), right.read(), one)
@@ -75,7 +80,7 @@ class Built(InFolder):
                 prefix = root
             self.works(prefix)
 
-    def works(self, prefix) -> None:
+    def works(self, prefix: str) -> None:
         """Checks, finds and starts an example with what stands below a prefix."""
         environment = {"PATH": f"{prefix}/bin:/usr/bin:/bin"}
         examples = f"{prefix}/share/doc/j39plan/examples"
@@ -126,7 +131,7 @@ class Built(InFolder):
                 self.assertEqual(lines_of("python3", "-c", script, env={"PATH": f"{prefix}/bin:/usr/bin:/bin", "PYTHONPATH": folder}, cwd=self.folder),
                                  ["(32160, 250000) False"], folder)
 
-    def does_the_jobs_of_the_page(self, environment) -> None:
+    def does_the_jobs_of_the_page(self, environment: dict[str, str]) -> None:
         """What docs/TOOLS.md has jobs of CI do, on a plan that has to be mended."""
         os.makedirs(self.path("plans"), exist_ok=True)
         plan = self.write("plans/first.toml", "version = 5\n")
@@ -164,7 +169,7 @@ class Built(InFolder):
     def test_the_program_has_no_symbols(self) -> None:
         with tarfile.open(self.package(".tar.gz")) as files:
             member = next(name for name in files.getnames() if name.endswith("/bin/j39plan"))
-            self.assertNotIn(b".symtab", files.extractfile(member).read())
+            self.assertNotIn(b".symtab", there(files.extractfile(member)).read())
 
     @unittest.skipUnless(shutil.which("lintian"), "lintian isn't there: apt-get install lintian")
     def test_lintian_misses_the_licence_alone(self) -> None:
@@ -199,9 +204,9 @@ class Wheel(InFolder):
         for tool in INSTALLED:
             said = lines_of(self.path(f"there/bin/j39plan-{tool}"), "--version", env=there, cwd=self.folder)
             self.assertEqual(said, [f"{tool} (j39plan) {lines_of(program.path(), '--version')[0].split()[1]}"])
-        for tool, words in (("fleet", (plan, log)), ("signals", (plan, log)), ("where", ("--lint", plan)), ("join", (plan, os.path.join(TOP, "examples/axle.toml")))):
-            shown = subprocess.run([self.path(f"there/bin/j39plan-{tool}"), *words], env=there, cwd=self.folder, capture_output=True, text=True, check=False)
-            self.assertEqual((shown.returncode, shown.stdout, shown.stderr), run(f"{tool}.py", *words))
+        for tool, first, second in (("fleet", plan, log), ("signals", plan, log), ("where", "--lint", plan), ("join", plan, os.path.join(TOP, "examples/axle.toml"))):
+            shown = subprocess.run([self.path(f"there/bin/j39plan-{tool}"), first, second], env=there, cwd=self.folder, capture_output=True, text=True, check=False)
+            self.assertEqual((shown.returncode, shown.stdout, shown.stderr), run(f"{tool}.py", first, second))
         script = f"import j39plan; plan = j39plan.read_plan({plan!r}); print(len(list(j39plan.signals(plan, {log!r}))), j39plan.__file__)"
         count, where = lines_of(sys.executable, "-c", script, env=there, cwd=self.folder)[0].split()
         self.assertTrue(int(count) > 0 and where.startswith(self.path("there")), where)
@@ -237,7 +242,7 @@ class Pages(unittest.TestCase):
             self.assertRegex(shown, rf"\nexample: {re.escape(name)} ", tool)
             example = page[page.index(".SH EXAMPLE"):].splitlines()[1]
             self.assertEqual(example.removeprefix(".B ").removeprefix("j39plan-"),
-                             re.search(r"\nexample: (.*)", shown).group(1).replace(name, tool), tool)
+                             there(re.search(r"\nexample: (.*)", shown)).group(1).replace(name, tool), tool)
             self.assertIn(".SH ENVIRONMENT", page, tool)
 
 
@@ -246,7 +251,7 @@ class Completions(InFolder):
         shown = [line.split()[0] for line in lines_of(program.path(), "--help") if re.match(r"  [a-z]+  ", line)]
         self.assertEqual(sorted(shown), sorted(COMMANDS))
 
-    def complete_bash(self, *words, cwd=TOOLS):
+    def complete_bash(self, *words: str, cwd: str = TOOLS) -> list[str]:
         """What bash offers behind these words."""
         script = (f'source {PACKAGE}/completions/j39plan.bash; COMP_WORDS=("$@"); COMP_CWORD=$(($# - 1)); '
                   '$(complete -p "$1" | grep -o "_j39plan[a-z_]*"); ')
@@ -324,7 +329,7 @@ class Completions(InFolder):
             shown = set(re.findall(r"--[a-z][a-z-]*", "\n".join(lines_of(self.path(f"j39plan-{tool}"), "--help"))))
             self.assertEqual(set(re.findall(r"^\s*(--[a-z][a-z-]*) +-- ", text, re.MULTILINE)), shown, tool)
 
-    def complete_zsh(self, typed):
+    def complete_zsh(self, typed: str) -> str:
         """What zsh offers behind what was typed: only on a terminal, so it has one here."""
         script = (
             "zmodload zsh/zpty; zpty shell zsh -f -i; "
@@ -334,7 +339,7 @@ class Completions(InFolder):
         )
         return "\n".join(lines_of("zsh", "-f", "-c", script, env={**self.environment(), "TERM": "dumb"}))
 
-    def environment(self):
+    def environment(self) -> dict[str, str]:
         """An environment in which the tools are commands."""
         for tool in INSTALLED:
             with contextlib.suppress(FileExistsError):

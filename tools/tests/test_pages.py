@@ -8,6 +8,8 @@ import re
 import shutil
 import subprocess
 import unittest
+from collections.abc import Iterator
+from typing import Any
 
 from j39plan import program
 from tests.support import TOP, InFolder, example, text_of
@@ -28,18 +30,18 @@ OTHERS = {"gate/times.md", ".taplo.toml", ".vscode/tasks.json", "drive.log", "j1
 DEFINITION = re.compile(r"^(?: *(?:abbrev|unfoldable)(?: pub)?| *pub (?:record|data)|record|data) ([^\s({:]+)", re.MULTILINE)
 
 
-def page(name):
+def page(name: str) -> str:
     """A page's text."""
     return text_of(os.path.join(TOP, name))
 
 
-def blocks(text):
+def blocks(text: str) -> Iterator[tuple[Any, Any]]:
     """The indented blocks of a page, each with the block behind it."""
     found = [block.replace("\n    ", "\n")[4:] for block in re.findall(r"(?<=\n\n)    .*(?:\n    .*)*", text)]
     return zip(found, found[1:] + [""])
 
 
-def missing(command):
+def missing(command: str) -> str | None:
     """What a command needs that isn't there."""
     if re.search("vehicle|dbc2plan", command) and importlib.util.find_spec("canmatrix") is None:
         return "canmatrix isn't there: apt-get install python3-canmatrix"
@@ -49,7 +51,7 @@ def missing(command):
 
 
 class Shown(InFolder):
-    def output(self, command):
+    def output(self, command: str) -> str:
         """What a command writes, with the built program in the launcher's place and a folder of its own for /tmp."""
         name = os.path.realpath(program.path())
         environment = {**os.environ, "J39PLAN": name}
@@ -201,7 +203,7 @@ class Names(InFolder):
 
     def test_a_module_of_definitions_has_one_home(self) -> None:
         """No two crates have a module of specs/, specs/inside/ included, of one name."""
-        homes = {}
+        homes: dict[str, list[str]] = {}
         for file in glob.glob("crates/*/specs/**/*.antt", root_dir=TOP, recursive=True):
             homes.setdefault(os.path.basename(file), []).append(file)
         self.assertGreaterEqual(len(homes), 150)
@@ -284,22 +286,22 @@ class Names(InFolder):
             self.assertEqual(sorted(name for name in files if number.search(files[name])), homes, high + low)
 
 
-def homes_of_definitions(top):
+def homes_of_definitions(top: str) -> dict[str, list[str]]:
     """The files of specs/ that define each name."""
-    homes = {}
+    homes: dict[str, list[str]] = {}
     for file in sorted(glob.glob("crates/*/specs/**/*.antt", root_dir=top, recursive=True)):
         for name in dict.fromkeys(re.findall(DEFINITION, text_of(os.path.join(top, file)))):
             homes.setdefault(name, []).append(file)
     return homes
 
 
-def proved_sections():
+def proved_sections() -> list[tuple[list[str], str]]:
     """The sections of docs/PROOFS.md on what is proved, each as its crates and its text."""
     sections = re.findall(r"\n## ((?:`j39_\w+`(?:, )?)+):.*?\n(.*?)(?=\n## )", page("docs/PROOFS.md"), re.DOTALL)
     return [(re.findall(r"j39_\w+", heading), body) for heading, body in sections]
 
 
-def promises(source):
+def promises(source: str) -> set[str]:
     """What clauses of a source promise: the names of its clauses, and the facts of the records of commands that it cites."""
     commands = text_of(os.path.join(TOP, "crates", "j39_stream", "specs", "CommandEnds.antt"))
     records = re.findall(r"\npub record (\w+) (.*?)(?=\n\n|$)", commands, re.DOTALL)
@@ -307,23 +309,23 @@ def promises(source):
     return set(re.findall(r"ensures (\w+)\b", source)).union(*facts)
 
 
-def rows_of(section):
+def rows_of(section: str) -> list[tuple[str, str, str]]:
     """The rows of a section's table: the calls, what is proved of them, and links to the files of their contracts."""
     return re.findall(r"\n\| (`[^|]*) \| (.*) \| (\[[^|]*) \|", section)
 
 
-def public(source):
+def public(source: str) -> str:
     """A source, in which a trait's functions are as public as it is."""
     return re.sub(r"\n    fn ", "\n    pub fn ", source)
 
 
-def source_of(crate):
+def source_of(crate: str) -> str:
     """The sources of a crate."""
     names = glob.glob(os.path.join(TOP, "crates", crate, "src", "**", "*.rt"), recursive=True)
     return "\n".join(public(text_of(name)) for name in names if "tests" not in name)
 
 
-def laws_of(crate):
+def laws_of(crate: str) -> list[str]:
     """The laws among what a crate's lib.rt hands out of its own functions."""
     lib = os.path.join(TOP, "crates", crate, "src", "lib.rt")
     handed_out = " ".join(re.findall(r"pub use [^;]+;", text_of(lib))) if os.path.exists(lib) else ""
@@ -331,28 +333,28 @@ def laws_of(crate):
     return [name for name in empty if re.search(rf"\b{name}\b", handed_out)]
 
 
-def without_code(text):
+def without_code(text: str) -> str:
     """A page without its blocks of code and its pictures."""
     return re.sub(r"```.*?```|^    .*?$|^!\[.*?$", "", text, flags=re.DOTALL | re.MULTILINE)
 
 
-def cells_of(block):
+def cells_of(block: str) -> list[str]:
     """The cells of a table."""
     return [cell for row in block.splitlines() for cell in re.split(r"(?<!\\)\|", row) if cell.strip(" -")]
 
 
-def words_of(part):
+def words_of(part: str) -> str:
     """The words of a part of a page: code is one word, and a link its text."""
     return " ".join(re.sub(r"`[^`]*`", "CODE", re.sub(r"\]\([^)]*\)", "]", part)).split())
 
 
-def cells(text):
+def cells(text: str) -> list[str]:
     """The cells of all tables of a page, by their words."""
     blocks = re.split(r"\n\s*\n", without_code(text))
     return [words_of(cell) for block in blocks if block.startswith("|") for cell in cells_of(block)]
 
 
-def sentences(text):
+def sentences(text: str) -> Iterator[str]:
     """The sentences of a page, each cell of a table, each heading and each item for itself; code is one word, and a link its text."""
     for block in re.split(r"\n\s*\n", without_code(text)):
         parts = cells_of(block) if block.startswith("|") else re.split(r"\n(?=\s*(?:-|\d+\.) )", block)
@@ -361,7 +363,7 @@ def sentences(text):
             yield from filter(None, re.split(r"(?:(?<=[.!?])|(?<=[.!?]\))) (?=[(A-Z*\[])", words))
 
 
-def anchors(text):
+def anchors(text: str) -> set[str]:
     """The anchors of a page's headings, as GitHub makes them."""
     headings = re.findall(r"^#+ (.*)$", re.sub(r"```.*?```", "", text, flags=re.DOTALL), re.MULTILINE)
     return {re.sub(r"[^\w\- ]", "", heading.lower()).replace(" ", "-") for heading in headings}

@@ -1,12 +1,13 @@
 """A log against a plan: how far apart messages come."""
 
 import re
+from collections.abc import Sequence
 
 from tests.logs_against import FLOWS, PLAN, VI, Compared, run
 
 
 class Periods(Compared):
-    def periods(self, log, *words, period=10):
+    def periods(self, log: Sequence[tuple[str, str]], *words: str, period: int = 10) -> list[str]:
         """What is told of ET1 and VI, which both have a period."""
         plan = PLAN.replace("version = 1", "version = 3").replace('from = "ENGINE"\n', f'from = "ENGINE"\nperiod = {period}\n')
         name = self.write("drive.log", "".join(f"({time}) can0 {frame}\n" for time, frame in log))
@@ -14,12 +15,12 @@ class Periods(Compared):
         self.assertEqual((status, said), (int(not answer.startswith("deviations 0")), ""))
         return [line.replace(name, "L") for line in answer.splitlines() if " the one before" in line]
 
-    def timed(self, period):
+    def timed(self, period: int) -> str:
         """A plan of ET1 and VI with a period."""
         plan = PLAN.replace("version = 1", "version = 3").replace('from = "ENGINE"\n', f'from = "ENGINE"\nperiod = {period}\n')
         return self.write("plan.toml", plan)
 
-    def told(self, log, what, *words, period=10):
+    def told(self, log: Sequence[tuple[str, str]], what: str, *words: str, period: int = 10) -> list[str]:
         """The deviations of a log that say this."""
         name = self.write("drive.log", "".join(f"({time}) can0 {frame}\n" for time, frame in log))
         answer = run("against.py", *words, self.timed(period), name)[1]
@@ -79,7 +80,7 @@ class Periods(Compared):
     def test_tolerances(self) -> None:
         """In percent of each period, or in ms; of which flows nothing is left is said."""
         log = [(f"{time:.4f}", FLOWS[0]) for time in (1, 1.0095, 1.019, 1.0279)]
-        for words, found in ((["--jitter", "5%"], 1), (["--jitter", "11%"], 0), (["--jitter", "0.5"], 1), (["--jitter", "0.5ms"], 1), ([], 3)):
+        for words, found in ((("--jitter", "5%"), 1), (("--jitter", "11%"), 0), (("--jitter", "0.5"), 1), (("--jitter", "0.5ms"), 1), ((), 3)):
             told = self.told(log, "the one before", *words)
             self.assertEqual([re.search(r"\((\d) times\)", line) and line[-8:] for line in told] or [0],
                              {0: [0], 1: [None], 3: ["3 times)"]}[found], words)

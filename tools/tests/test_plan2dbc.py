@@ -8,12 +8,14 @@ import subprocess
 import sys
 import tomllib
 import unittest
+from collections.abc import Sequence
 from fractions import Fraction
 from math import gcd
+from typing import Any
 
 from j39plan import program
 from j39plan.dbc.reader import import_canmatrix
-from tests.support import MARKED, NEWER, TOOLS, TOP, InFolder, example, examples, needs, run, text_of
+from tests.support import InFolder, MARKED, NEWER, TOOLS, TOP, example, examples, needs, run, text_of, there
 
 KINDS = {
     "measured": (8, 16, 32), "discrete": (2,), "raw": (1, 2, 3, 8, 16, 31, 32), "states": (2, 3, 8), "signed": (2, 8, 13, 32),
@@ -23,14 +25,14 @@ LABELS = ["A", "1", "7UP", "BO_", "Vector__XXX", "FILTER", "X" * 32, "motor", "M
 UNITS = ["", "rpm", "1/8 rpm", "%", "degC", "km/h"]
 
 
-def scale(signal):
+def scale(signal: dict[str, Any]) -> tuple[Any, ...]:
     """Step, offset and divisor of a signal in the smallest numbers, and its unit of measurement, without a fraction of it."""
     parts, _, unit = signal.get("unit", "").rpartition(" ") if signal.get("unit", "").startswith("1/") else ("", "", signal.get("unit", ""))
     numbers = signal.get("step", 1), signal.get("offset", 0), signal.get("per", 1) * int(parts.removeprefix("1/") or 1)
     return *(number // gcd(*numbers) for number in numbers), unit
 
 
-def said(plan):
+def said(plan: dict[str, Any]) -> tuple[Any, ...]:
     """What of a plan a DBC can say."""
     addresses = {unit["label"]: unit["address"] for unit in plan.get("unit", [])}
     units = {unit["label"]: (unit["address"], {key: part for key, part in unit["name"].items() if part})
@@ -43,16 +45,17 @@ def said(plan):
         for group in plan.get("group", [])
     }
     to_all = {label for label, group in groups.items() if group[0] >> 8 & 0xFF >= 240}
-    flows = {}
+    flows: dict[tuple[str, str, str], int | None] = {}
     for flow in plan.get("flow", []):
         way = flow["group"], flow["from"], "all" if flow["group"] in to_all else flow["to"]
         flows[way] = min(filter(None, (flows.get(way), flow.get("period"))), default=None)
     return units, groups, flows, sorted(addresses)
 
 
-def random_signals(chance, length):
+def random_signals(chance: random.Random, length: int) -> list[dict[str, Any]]:
     """Signals after one another in a group."""
-    signals, at = [], 0
+    signals: list[dict[str, Any]] = []
+    at = 0
     while True:
         kind = chance.choice(list(KINDS))
         bits, at = chance.choice(KINDS[kind]), at + chance.choice([0, 0, 1, 5])
@@ -60,22 +63,23 @@ def random_signals(chance, length):
         if at + bits > 8 * length or len(signals) == 20:
             return signals
         signals.append({"label": (LABELS + [f"S{len(signals)}"] * 20)[len(signals)], "byte": at // 8 + 1, "bit": at % 8 + 1, "bits": bits,
-                        "kind": kind, **({} if kind == "dtc" else random_scale(chance))})
+                        "kind": kind})
+        signals[-1].update({} if kind == "dtc" else random_scale(chance))
         at += bits
 
 
-def random_scale(chance):
+def random_scale(chance: random.Random) -> dict[str, int | str]:
     """What the values of a signal mean."""
     return {"step": chance.choice([1, 1, 3, 25, 1000000]), "per": chance.choice([1, 8, 10, 1000, 2**23, 5**10]),
             "offset": chance.choice([0, -40, 7, -10**12, 10**12]), "unit": chance.choice(UNITS)}
 
 
-def random_period(chance):
+def random_period(chance: random.Random) -> dict[str, int]:
     """How far apart messages of a flow are, if that is said."""
     return chance.choice([{}, {"period": chance.choice([1, 20, 65535])}])
 
 
-def written(header, keys):
+def written(header: str, keys: dict[str, Any]) -> str:
     """A table of a plan."""
     lines = [f"[[{header}]]"]
     for key, part in keys.items():
@@ -83,7 +87,7 @@ def written(header, keys):
     return "\n".join(lines) + "\n"
 
 
-def random_plan(chance):
+def random_plan(chance: random.Random) -> str:
     """The text of a random plan without findings that a DBC could not say."""
     text, labels = "version = 3\n", chance.sample(LABELS, chance.randrange(1, 6))
     for number, label in enumerate(labels):
@@ -103,13 +107,13 @@ def random_plan(chance):
 
 
 class WithPlans(InFolder):
-    def made(self, plan):
+    def made(self, plan: str) -> tuple[str, str]:
         """The DBC of a plan's file, under its name, and what is said of it."""
         status, dbc, told = run("plan2dbc.py", plan)
         self.assertEqual(status, 0, told)
         return self.write("file.dbc", dbc), told
 
-    def back(self, plan):
+    def back(self, plan: str) -> dict[str, Any]:
         """The plan that comes of a plan's DBC, whose units have the numbers that the plan has."""
         status, text, told = run("dbc2plan.py", "--identity", self.made(plan)[0])
         self.assertEqual(status, 0, told)
@@ -172,7 +176,7 @@ group = "{0}"
 
 @needs("canmatrix", "python3-canmatrix")
 class Multiplexed(WithPlans):
-    def dbc(self, text, *labels):
+    def dbc(self, text: str, *labels: str) -> tuple[str, str, bool]:
         """The DBC of a plan with these labels of its two groups, what is said of it, and whether the plan comes back."""
         plan = self.write("plan.toml", text.format(*labels))
         name, told = self.made(plan)
@@ -312,10 +316,10 @@ class Wireshark(InFolder):
         """What docs/TOOLS.md has for Wireshark shows the raw numbers of a log's signals."""
         plan, lines = example("tractor_and_implement.toml"), text_of(example("tractor_and_implement.start.log")).splitlines(keepends=True)
         log = self.write("drive.log", "".join(lines[:-1]))  # the last one is bad
-        block = re.search(r"```sh\n(tools/plan2dbc\.py .*?)```", text_of(os.path.join(TOP, "docs", "TOOLS.md")), re.DOTALL).group(1)
-        for shown, there in (("tools/", TOOLS + "/"), (" plan.toml", f" {plan}"), (" drive.log", f" {log}"), ("python3 -m", f"{sys.executable} -m")):
+        block = there(re.search(r"```sh\n(tools/plan2dbc\.py .*?)```", text_of(os.path.join(TOP, "docs", "TOOLS.md")), re.DOTALL)).group(1)
+        for shown, meant in (("tools/", TOOLS + "/"), (" plan.toml", f" {plan}"), (" drive.log", f" {log}"), ("python3 -m", f"{sys.executable} -m")):
             self.assertIn(shown, block)
-            block = block.replace(shown, there)
+            block = block.replace(shown, meant)
         environment = {**os.environ, "J39PLAN": program.path(), "HOME": self.folder}
         ended = subprocess.run(["sh", "-e", "-c", block], cwd=self.folder, env=environment, capture_output=True, text=True, check=True)
         numbers = re.findall(r"^    (SPN\d+): (\d+)$", ended.stdout, re.MULTILINE)
@@ -377,7 +381,7 @@ to = "all"
 period = 10
 """
 
-    def received(self, asked, beside=""):
+    def received(self, asked: Sequence[str], beside: str = "") -> tuple[dict[tuple[str, str], Any], list[str]]:
         """Who receives each signal in each message of the plan's DBC, and what is said."""
         plan = self.PLAN % beside + "".join(f"[[need]]\n{need}\n" for need in asked)
         dbc, told = self.made(self.write("plan.toml", plan))
@@ -393,7 +397,7 @@ period = 10
         """Of each message that meets the need, by a need of one signal of that one; of a group that nobody sends too."""
         nobody = "Vector__XXX"
         for asked, wanted in (
-            ([], [nobody] * 5),
+            ((), [nobody] * 5),
             (['unit = "DASH"\ngroup = "EEC1"'], ["DASH", "DASH", "DASH", "DASH", nobody]),
             (['unit = "BOX"\ngroup = "EEC1"', 'unit = "DASH"\ngroup = "EEC1"'], ["BOX,DASH", "BOX,DASH", "DASH", "DASH", nobody]),
             (['unit = "DASH"\ngroup = "EEC1"\nsignal = "SPN190"\nfrom = "BOX"'], [nobody, nobody, nobody, "DASH", nobody]),

@@ -9,6 +9,7 @@ import subprocess
 import sys
 import unittest
 import xml.etree.ElementTree as ElementTree
+from typing import Any
 
 from j39plan import program
 from j39plan.log.clock import ends_of
@@ -36,7 +37,7 @@ class WithLog(InFolder):
 
 
 class Told(WithLog):
-    def told(self, log, *names):
+    def told(self, log: str, *names: str) -> tuple[dict[Any, Any], Any]:
         """The curves of a log, and who held which address."""
         tables = tables_of(PLAN)
         timeline = Timeline(tables.units)
@@ -110,13 +111,13 @@ class Told(WithLog):
 
 @needs("matplotlib", "python3-matplotlib")
 class Drawn(WithLog):
-    def drawn(self, name, *words, log=None, plan=PLAN):
+    def drawn(self, name: str, *words: str, log: str | None = None, plan: str = PLAN) -> bytes:
         """The bytes of a picture."""
         self.assertEqual(run("plot.py", plan, log or self.log, *words, "-o", self.path(name)), (0, "", ""))
         with open(self.path(name), "rb") as file:
             return file.read()
 
-    def texts(self, picture):
+    def texts(self, picture: bytes) -> list[str]:
         """The texts in an SVG file, in order."""
         return ["".join(part.itertext()) for part in ElementTree.fromstring(picture).iter("{http://www.w3.org/2000/svg}text")]
 

@@ -1,6 +1,8 @@
 """What the bounds of `load` rest on, as far as a log can refute it."""
 
 import unittest
+from collections.abc import Sequence
+from typing import Any
 
 from tests import support
 from tests.support import InFolder
@@ -45,7 +47,7 @@ period = 5000
 
 
 
-def timed(keys):
+def timed(keys: str) -> str:
     """The plan with further keys of its timing, which version 4 has."""
     return PLAN.replace("unplanned = 1", f"unplanned = 1, {keys}").replace("version = 3", "version = 4")
 
@@ -57,21 +59,21 @@ RTS, CLEAR, PACKETS, WHOLE = "1CECF900#10110003FFECFE00", "1CEC00F9#110301FFFFEC
 
 
 
-def run(*words, **more):
+def run(*words: str, **more: Any) -> tuple[int, str, str]:
     """Runs a tool, as support has it; the times beside lines are left out."""
     status, answer, said = support.run(*words, **more)
     return status, support.without_times(answer), said
 
 
 class Premises(InFolder):
-    def told(self, *log, plan=PLAN):
+    def told(self, *log: tuple[str, str], plan: str = PLAN) -> list[str]:
         """What is told of a log but of flows and units that aren't there."""
         name = self.write("drive.log", "".join(f"({time}) can0 {frame}\n" for time, frame in log))
         _, answer, said = run("against.py", "--silence", "0", self.write("plan.toml", plan), name)
         self.assertEqual([line for line in said.splitlines() if "distances are passed over" not in line], [])
         return [line.replace(name, "L") for line in answer.splitlines()[:-1] if line.startswith(name)]
 
-    def broadcast(self, *times, frames=None):
+    def broadcast(self, *times: str, frames: Sequence[str] | None = None) -> list[tuple[str, str]]:
         """A broadcast by the times of its frames."""
         return list(zip(times, frames or BAM))
 
@@ -113,7 +115,7 @@ class Premises(InFolder):
         self.assertNotIn(said, "".join(self.told(("1.0", before), (f"{1 + span + 0.000001:.6f}", before), ("9.0", ET1))))
         self.assertNotIn("frames that no flow has", "".join(self.told(("1.0", STRANGE), ("1.0001", STRANGE), ("9.0", ET1))))
 
-    def load(self, plan):
+    def load(self, plan: str) -> list[str]:
         """What `load` says of a plan."""
         from j39plan import program
 
@@ -204,7 +206,7 @@ class Premises(InFolder):
         times = [3.0, 3.1, 3.2, 3.201, 3.202, 3.3]
         frames = [RTS, CLEAR, *PACKETS, WHOLE]
         said = "VI from ENGINE to TOOL: an answer after {} ms, by the standard within 200"
-        self.assertEqual(self.told(*zip(times, frames)), [])
+        self.assertEqual(self.told(*zip(map(str, times), frames)), [])
         for at, line in ((1, 2), (2, 3), (5, 6)):
             late = [time + (0.3 if number >= at else 0) for number, time in enumerate(times)]
             duration = 1000 * (late[at] - late[at - 1])

@@ -4,6 +4,7 @@ import os
 import subprocess
 import sys
 import unittest
+from typing import Any
 
 from j39plan import program
 from tests.support import TOOLS, InFolder, example, run, text_of
@@ -19,13 +20,13 @@ TOOL = "import sys; sys.path.insert(0, {tools!r}); sys.argv[0] = 'tool.py'; from
 
 
 class End(InFolder):
-    def ended(self, words, **more):
+    def ended(self, words: list[str], **more: Any) -> tuple[int, str]:
         """A tool's exit status and standard error, its standard output being given."""
         ended = subprocess.run([sys.executable, *words], stderr=subprocess.PIPE, text=True, check=False,
                                env={**os.environ, "J39PLAN": program.path()}, **more)
         return ended.returncode, ended.stderr
 
-    def main(self, main):
+    def main(self, main: str) -> tuple[int, str]:
         """How a tool ends of which this is the main function."""
         return self.ended(["-c", TOOL.format(tools=TOOLS, main=main)], stdout=subprocess.PIPE)
 
@@ -80,7 +81,7 @@ class End(InFolder):
     def test_what_the_program_says_is_passed_on(self) -> None:
         missing, refused = self.path("none.toml"), self.write("plan.toml", "version = 5\n")
         f01 = example("findings/f01_same_name.toml")
-        for tool, more in (("where.py", []), ("startup.py", []), ("against.py", [LOG])):
+        for tool, more in (("where.py", ()), ("startup.py", ()), ("against.py", (LOG,))):
             said = f"{tool[:-3]}: {missing}: No such file or directory\n"
             self.assertEqual(run(tool, missing, *more), (4, "", said), tool)
             self.assertEqual(run(tool, refused, *more)[0], 2, tool)

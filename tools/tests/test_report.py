@@ -12,7 +12,7 @@ from j39plan.plan import answers
 from j39plan.plan.answer_grammar import line_of
 from j39plan.plan.answers import Age, Delay
 from j39plan.plan.tables import Tables
-from tests.support import MARKED, NEWER, TOP, InFolder, example, examples, run, signal, text_of
+from tests.support import InFolder, MARKED, NEWER, TOP, example, examples, run, signal, text_of, there
 
 PLAN, FAULTY = example("tractor_and_implement.toml"), example("findings/several.toml")
 CHECKS = os.path.join(TOP, "crates", "examples_check", "data", "checks")
@@ -52,19 +52,24 @@ frame.addEventListener("load", () => {
 class Page(HTMLParser):
     """A page as it is read: its elements close in order, and what they have is kept."""
 
-    def __init__(self, text) -> None:
+    def __init__(self, text: str) -> None:
         super().__init__()
-        self.open, self.tags, self.ids, self.links, self.faults = [], [], [], [], []
+        self.open: list[str] = []
+        self.tags: list[str] = []
+        self.ids: list[str] = []
+        self.links: list[str] = []
+        self.faults: list[str] = []
         self.captions = self.tables = 0
-        self.rows, self.cell = [], None
+        self.rows: list[list[str]] = []
+        self.cell: str | None = None
         self.feed(text)
         self.close()
 
-    def handle_starttag(self, tag, attrs) -> None:
+    def handle_starttag(self, tag: str, attrs: list[tuple[str, str | None]]) -> None:
         words = dict(attrs)
         self.tags.append(tag)
-        self.ids += [words["id"]] if "id" in words else []
-        self.links += [words["href"]] if "href" in words else []
+        self.ids += [there(words["id"])] if "id" in words else []
+        self.links += [there(words["href"])] if "href" in words else []
         self.faults += [f"{tag} has {word}" for word in words if word.startswith("on") or word in ("src", "style")]
         if tag == "table":
             self.tables += 1
@@ -80,16 +85,16 @@ class Page(HTMLParser):
         if tag not in VOID:
             self.open.append(tag)
 
-    def handle_endtag(self, tag) -> None:
+    def handle_endtag(self, tag: str) -> None:
         if not self.open or self.open.pop() != tag:
             self.faults.append(f"{tag} closes nothing")
 
-    def handle_data(self, data) -> None:
+    def handle_data(self, data: str) -> None:
         if self.rows and any(tag in self.open for tag in ("th", "td")):
             self.rows[-1][-1] += data
 
 
-def large_plan(units=128, groups=256):
+def large_plan(units: int = 128, groups: int = 256) -> str:
     """A plan of the greatest size, without a finding."""
     lines = ["version = 3"]
     for number in range(units):
@@ -104,7 +109,7 @@ def large_plan(units=128, groups=256):
 
 
 class Report(InFolder):
-    def page(self, plan):
+    def page(self, plan: str) -> Page:
         """The page of a plan file, which is sound."""
         status, text, said = run("report.py", plan)
         self.assertEqual((status, said), (0, ""), plan)
@@ -152,7 +157,7 @@ class Report(InFolder):
 
     def test_findings_have_their_lines(self) -> None:
         _, answer, _ = run("where.py", FAULTY)
-        told = [re.match(r"(.*:\d+): (.*?)(?:  \((.*)\))?$", line).groups() for line in answer.splitlines() if ": F" in line]
+        told = [there(re.match(r"(.*:\d+): (.*?)(?:  \((.*)\))?$", line)).groups() for line in answer.splitlines() if ": F" in line]
         shown = [row[1:4] for row in self.page(FAULTY).rows if row[0].isdigit() and len(row) == 5]
         self.assertEqual(shown, [list(row) for row in told])
 
@@ -364,7 +369,7 @@ length = 20
 
 @unittest.skipUnless(shutil.which("chromium"), "chromium isn't there: apt-get install chromium")
 class Browser(InFolder):
-    def shown(self, page, *words):
+    def shown(self, page: str, *words: str) -> tuple[list[str], str]:
         """What a browser says of a page: the lines of its console, and what it was asked to write."""
         command = ["chromium", "--headless", "--no-sandbox", "--disable-gpu", "--disable-dev-shm-usage", "--enable-logging=stderr",
                    f"--user-data-dir={self.path('user')}", *words, f"file://{page}"]
@@ -391,7 +396,7 @@ class Browser(InFolder):
         frame = self.write("frame.html", FRAME)
         console, document = self.shown(frame, "--allow-file-access-from-files", "--dump-dom", "--virtual-time-budget=5000")
         self.assertEqual(console, [])
-        widths = [int(width) for width in re.search(r"<title>(.*)</title>", document).group(1).split()]
+        widths = [int(width) for width in there(re.search(r"<title>(.*)</title>", document)).group(1).split()]
         self.assertLessEqual(widths[0], 400)
         self.assertLessEqual(max(widths[1:]) - min(widths[1:]), 2)
         self.assertEqual(len(widths), 9)

@@ -6,6 +6,8 @@ import os
 import re
 import tomllib
 import unittest
+from collections.abc import Iterator
+from typing import Any
 
 from j39plan import program
 from j39plan.plan import schema
@@ -58,12 +60,12 @@ to = "all"
 """
 
 
-def rules(table):
+def rules(table: str | None) -> Any:
     """A table's schema."""
     return SCHEMA if table is None else SCHEMA["definitions"][table]
 
 
-def page_rows():
+def page_rows() -> Iterator[tuple[Any, ...]]:
     """The rows of the tables of keys in docs/PLAN.md: table, key, type and range, default, the first version where it isn't 1, meaning."""
     page = text_of(os.path.join(TOP, "docs", "PLAN.md"))
     page = page[page.index("\n## Tables and keys"):page.index("\n## Byte order: bytes and bits")]
@@ -76,7 +78,7 @@ def page_rows():
 
 class Schema(InFolder):
     def test_it_has_the_keys_of_the_page(self) -> None:
-        shown = {}
+        shown: dict[str, Any] = {}
         for table, key, *_ in page_rows():
             shown.setdefault(table, []).append(key)
         self.assertEqual(shown, {table: list(rules(table)["properties"]) for table in TABLES.values()})
@@ -96,7 +98,7 @@ class Schema(InFolder):
 
     def test_it_has_the_versions_of_the_page(self) -> None:
         """Of keys by the column Since, of kinds and bitrates by the words before them, of keys that may be absent by those on what they mean."""
-        shown = {(table, key): int(first) for table, key, _, _, first, _ in page_rows() if first}
+        shown: dict[Any, int] = {(table, key): int(first) for table, key, _, _, first, _ in page_rows() if first}
         for table, key, kind, *_, meaning in page_rows():
             if found := re.search(r"up to version (\d) it has to be there", meaning):
                 shown[schema.ABSENT, table, key] = int(found.group(1)) + 1
@@ -117,7 +119,7 @@ class Schema(InFolder):
 
 @needs("jsonschema", "python3-jsonschema")
 class Validated(InFolder):
-    def faults(self, text):
+    def faults(self, text: str) -> list[Any]:
         """What the schema finds wrong with a plan."""
         import jsonschema
         return list(jsonschema.Draft7Validator(SCHEMA).iter_errors(tomllib.loads(text)))
@@ -218,7 +220,7 @@ class Validated(InFolder):
                 self.assertEqual(self.faults(text) == [], status != 2, (table, key, value))
 
 
-def changed(plan, table, key, value):
+def changed(plan: dict[str, Any], table: Any, key: str, value: object) -> dict[str, Any]:
     """The plan with another value of a key in its first such table."""
     plan = json.loads(json.dumps(plan))
     group, unit = plan["group"][0], plan["unit"][0]
@@ -228,7 +230,7 @@ def changed(plan, table, key, value):
     return plan
 
 
-def spelled(plan):
+def spelled(plan: dict[str, Any]) -> str:
     """The plan as TOML."""
     lines = ["version = 4", f"timing = {inline(plan['timing'])}"]
     for kind in ("unit", "group", "flow", "need", "request"):
@@ -237,7 +239,7 @@ def spelled(plan):
     return "\n".join(lines) + "\n"
 
 
-def inline(value):
+def inline(value: object) -> str:
     """A value as TOML spells it in a line."""
     if isinstance(value, dict):
         return "{ " + ", ".join(f"{key} = {inline(part)}" for key, part in value.items()) + " }"

@@ -10,7 +10,7 @@ from j39plan.log.serial_numbers import names_in, renumbered
 from j39plan.plan.cut import without_numbers
 from j39plan.plan.tables import Tables
 from tests.logs_against import Compared, run
-from tests.support import NEWER, InFolder, examples, text_of
+from tests.support import NEWER, InFolder, examples, text_of, there
 
 # Two units, of which the first one has a kind of its own by its maker, and the other one by the capability of an arbitrary address.
 PLAN = """version = %s
@@ -40,27 +40,27 @@ to = "all"
 ET1, ET1_OF_PUMP, CLAIMS_ASKED = "18FEEE00#7DFFFFFFFFFFFFFF", "18FEEE80#7DFFFFFFFFFFFFFF", "18EAFFFE#00EE00"
 
 
-def numbered(sender="ENGINE", version=1):
+def numbered(sender: str = "ENGINE", version: int = 1) -> str:
     """The plan of one vehicle."""
     return PLAN % (version, "identity = 1001, ", "identity = 2, ", sender)
 
 
-def of_type(sender="ENGINE"):
+def of_type(sender: str = "ENGINE") -> str:
     """The plan of its type."""
     return PLAN % (4, "", "", sender)
 
 
-def engine(identity, address=0):
+def engine(identity: int, address: int = 0) -> str:
     """A claim of an engine's box."""
     return claim(identity | 7 << 21, address)
 
 
-def pump(identity, address=128):
+def pump(identity: int, address: int = 128) -> str:
     """A claim of a pump's box."""
     return claim(identity | 1 << 63, address)
 
 
-def claim(name, address):
+def claim(name: int, address: int) -> str:
     """A claim by a NAME."""
     return f"18EEFF{address:02X}#{name.to_bytes(8, 'little').hex().upper()}"
 
@@ -68,7 +68,7 @@ def claim(name, address):
 class Numbers(Compared):
     """Logs of frames each at its time."""
 
-    def told(self, plan, *lines):
+    def told(self, plan: str, *lines: tuple[float, str]) -> list[str]:
         """The deviations of a log from a plan, without who wasn't there."""
         log = self.write("drive.log", "".join(f"({time}) can0 {frame}\n" for time, frame in lines))
         answer = run("against.py", "--silence", "0", self.write("plan.toml", plan), log)[1]
@@ -111,7 +111,7 @@ class Against(Numbers):
 
     def test_a_second_box_of_a_unit(self) -> None:
         """Once, with both lines."""
-        for plan, other in ((of_type(), []), (numbered(), ["L:1: ENGINE has identity 6001, planned is 1001"])):
+        for plan, other in ((of_type(), ()), (numbered(), ("L:1: ENGINE has identity 6001, planned is 1001",))):
             found = self.told(plan, (1, engine(6001)), (2, ET1), (5, engine(6002)), (5.5, ET1), (6, engine(6001)), (7, engine(6002)))
             self.assertEqual(found, [*other, "L:3: ENGINE has identity 6001 and 6002: a box was exchanged, or there are two", "  L:1:", "  L:3:",
                                      "L:3: address 0 changed hands 3 times, first from ENGINE with identity 6001 to ENGINE with identity 6002, "
@@ -168,7 +168,7 @@ from = "RIGHT"
 to = "all"
 """
 
-    def early(self, *lines, right=129):
+    def early(self, *lines: tuple[float, str], right: int = 129) -> list[str]:
         """Who is told to send too early."""
         return [line for line in self.told(self.PLAN % right, *lines) if "before 250" in line]
 
@@ -257,7 +257,7 @@ class Plans(unittest.TestCase):
             if "unit 1 name identity" not in before:
                 continue
             count += 1
-            with program.file_of(without_numbers(text, [1])) as plan:
+            with program.file_of(there(without_numbers(text, [1]))) as plan:
                 after = program.shown(plan)
             self.assertEqual(after.splitlines(), [line for line in before.splitlines() if not line.startswith("unit 1 name identity ")])
         self.assertGreater(count, 20)

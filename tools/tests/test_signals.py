@@ -16,7 +16,7 @@ from j39plan.log.reports import tables_of
 from j39plan.plan.cut import cut
 from j39plan.plan.cut import shorter as shorter_of
 from j39plan.plan.tables import Tables
-from tests.support import MARKED, NEWER, TOOLS, InFolder, example, needs, run, signal, text_of
+from tests.support import InFolder, MARKED, NEWER, TOOLS, example, needs, run, signal, text_of, there
 from tests.test_report import large_plan
 
 PLAN, LOG = example("tractor_and_implement.toml"), example("tractor_and_implement.start.log")
@@ -33,7 +33,7 @@ name = { identity = 2, arbitrary = true }
 """
 
 
-def group(label, pgn, length, *signals):
+def group(label: str, pgn: int, length: int, *signals: str) -> str:
     """The tables of a group."""
     return f'[[group]]\nlabel = "{label}"\npgn = {pgn}\npriority = 6\nlength = {length}\n' + "".join(signals)
 
@@ -46,7 +46,7 @@ KINDS = UNITS + group(
 )
 
 
-def random_log(rng, length=70):
+def random_log(rng: random.Random, length: int = 70) -> list[str]:
     """A log in which messages of one frame and of several, to all and to one, go on beside one another, break off and are taken back."""
     addresses = (0, 128, 37)
     lines = []
@@ -70,13 +70,13 @@ def random_log(rng, length=70):
 
 
 class Signals(InFolder):
-    def rows(self, plan, log, *words):
+    def rows(self, plan: str, log: str, *words: str) -> list[dict[str, str]]:
         """The rows of a log, as dictionaries."""
         status, answer, said = run("signals.py", plan, log, *words)
         self.assertEqual((status, said), (0, ""))
         return list(csv.DictReader(io.StringIO(answer)))
 
-    def read(self, plan, log):
+    def read(self, plan: str, log: str) -> list[tuple[str, str]]:
         """What `read` reports: each message by its group and its signals."""
         return re.findall(r"^group (\w+) from \d+ .*\n((?:  .*\n)*)", program.call(["read", plan, log])[1], re.MULTILINE)
 
@@ -209,7 +209,7 @@ class Signals(InFolder):
     def test_the_lines_of_the_page_on_pandas(self) -> None:
         """What docs/TOOLS.md shows runs on the table that it names, and has the columns that it asks for."""
         page = text_of(os.path.join(os.path.dirname(TOOLS), "docs", "TOOLS.md"))
-        lines = re.search(r"```python\n(import pandas\n.*?)```", page, re.DOTALL).group(1)
+        lines = there(re.search(r"```python\n(import pandas\n.*?)```", page, re.DOTALL)).group(1)
         self.write("drive.csv", run("signals.py", "--wide", PLAN, LOG)[1])
         ended = subprocess.run([sys.executable, "-c", lines + "print(len(speed), speed.iloc[0], len(joined))"], cwd=self.folder, capture_output=True,
                                text=True, check=False)
@@ -315,13 +315,13 @@ class Signals(InFolder):
     def test_what_comes_from_a_pipe_is_told_at_once(self) -> None:
         with subprocess.Popen([sys.executable, os.path.join(TOOLS, "signals.py"), PLAN, "/dev/stdin", "SPN110"], stdin=subprocess.PIPE,
                               stdout=subprocess.PIPE, text=True, env={**os.environ, "J39PLAN": program.path()}) as tool:
-            tool.stdout.readline()
+            there(tool.stdout).readline()
             for value in ("7D", "7E"):
-                tool.stdin.write(f"(1.0) can0 18FEEE00#{value}FFFFFFFFFFFFFF\n")
-                tool.stdin.flush()
-                self.assertEqual(tool.stdout.readline().split(",")[9], str(int(value, 16) - 40))
-            tool.stdin.close()
-            self.assertEqual(tool.stdout.read(), "")
+                there(tool.stdin).write(f"(1.0) can0 18FEEE00#{value}FFFFFFFFFFFFFF\n")
+                there(tool.stdin).flush()
+                self.assertEqual(there(tool.stdout).readline().split(",")[9], str(int(value, 16) - 40))
+            there(tool.stdin).close()
+            self.assertEqual(there(tool.stdout).read(), "")
 
 
 if __name__ == "__main__":

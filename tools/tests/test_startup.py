@@ -10,7 +10,7 @@ UNIT = '[[unit]]\nlabel = "U{0}"\naddress = 200\nchooser = "{1}"\nname = {{ iden
 
 
 class Startup(InFolder):
-    def ends(self, plan, *first):
+    def ends(self, plan: str, *first: str) -> tuple[list[str], list[str]]:
         """The schedule that is written for a plan, and the last lines of its run."""
         status, schedule, said = run("startup.py", plan, *first)
         self.assertEqual(status, 0, said)
@@ -132,9 +132,9 @@ class Startup(InFolder):
 
     def test_why_there_is_none(self) -> None:
         for plan, first, status, said in [
-            (example("findings/f01_same_name.toml"), [], 1, "refused plan SameName BOOM_LEFT BOOM_RIGHT"),
-            (self.write("plan.toml", "version = 5\n"), [], 2, f"{self.path('plan.toml')}:1: refused Range top key version  (version = 5: integer 1..4)"),
-            (example("first_plan.toml"), ["MOTOR"], 2, "no unit is called MOTOR"),
+            (example("findings/f01_same_name.toml"), (), 1, "refused plan SameName BOOM_LEFT BOOM_RIGHT"),
+            (self.write("plan.toml", "version = 5\n"), (), 2, f"{self.path('plan.toml')}:1: refused Range top key version  (version = 5: integer 1..4)"),
+            (example("first_plan.toml"), ("MOTOR",), 2, "no unit is called MOTOR"),
         ]:
             self.assertEqual(run("startup.py", plan, *first), (status, "", f"startup: {said}\n"))
 

@@ -11,7 +11,7 @@ from j39plan import program
 from j39plan.plan.schema import keys_of
 from j39plan.plan.parts import source_in
 from j39plan.plan.tables import Flow, Need, Request, Tables
-from tests.support import NEWER, InFolder, example, examples, needs, run, text_of
+from tests.support import InFolder, NEWER, example, examples, needs, run, text_of, there
 
 PLAN, LOG = example("tractor_and_implement.toml"), example("tractor_and_implement.start.log")
 
@@ -75,7 +75,7 @@ class OfShow(InFolder):
             self.assertTrue(told)
             self.assertEqual({key: asdict(made)[key] for key in told}, told, table)
         self.assertEqual(unit.fields, {key: default or 0 for key, default in keys_of("name").items()} | {"identity": 1})
-        self.assertEqual((group.most, group.every, group.signals[0].spn, group.signals[0].values, tables.timing.errors), (8, None, None, {}, None))
+        self.assertEqual((group.most, group.every, group.signals[0].spn, group.signals[0].values, there(tables.timing).errors), (8, None, None, {}, None))
 
     def test_labels_of_any_kind(self) -> None:
         tables = Tables.of(self.write("plan.toml", NAMED))
@@ -100,8 +100,11 @@ class OfShow(InFolder):
             for part in ("units", "groups", "flows", "needs", "requests", "strangers", "timing"):
                 self.assertEqual(getattr(shown, part), getattr(source.tables, part), f"{name}: {part}")
             for tables in (shown, source.tables):
-                for table in (*tables.units, *tables.groups, *(signal for group in tables.groups for signal in group.signals)):
-                    self.assertEqual(source.places.texts[table.place + ("label",)], table.label, name)
+                signals = [signal for group in tables.groups for signal in group.signals]
+                labels = [(unit.place, unit.label) for unit in tables.units] + [(group.place, group.label) for group in tables.groups]
+                labels += [(signal.place, signal.label) for signal in signals]
+                for place, label in labels:
+                    self.assertEqual(source.places.texts[place + ("label",)], label, name)
 
     def test_what_it_does_not_tell(self) -> None:
         """Of which version a file is, and in which order it has the addresses that are kept free."""
@@ -129,7 +132,7 @@ class Asked(InFolder):
         counting.start()
         self.addCleanup(counting.stop)
 
-    def asked(self):
+    def asked(self) -> list[str]:
         """Who has asked of which plan, and nobody twice of one."""
         lines = text_of(self.path("asked")).splitlines()
         os.remove(self.path("asked"))
@@ -138,7 +141,8 @@ class Asked(InFolder):
 
     def test_tools(self) -> None:
         """`against` and `signals` ask of the plan that is cut, too."""
-        for count, *words in ((1, "report.py", PLAN), (2, "against.py", PLAN, LOG), (2, "signals.py", PLAN, LOG, "SPN190")):
+        calls = ((1, ["report.py", PLAN]), (2, ["against.py", PLAN, LOG]), (2, ["signals.py", PLAN, LOG, "SPN190"]))
+        for count, words in calls:
             self.assertIn(run(*words)[0], (0, 1), words)
             self.assertEqual(len(self.asked()), count, words)
 

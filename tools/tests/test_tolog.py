@@ -5,6 +5,8 @@ import os
 import subprocess
 import sys
 import unittest
+from collections.abc import Sequence
+from typing import Any
 
 from j39plan import program
 from tests.support import TOOLS, InFolder, example, needs, run, text_of
@@ -20,7 +22,7 @@ NO_CHANNELS = "tolog: drive.csv has no channels, as each CSV of python-can: all 
 
 @needs("can", "python3-can")
 class Converted(InFolder):
-    def recorded(self, name, messages):
+    def recorded(self, name: str, messages: Sequence[Any]) -> str:
         """A file that python-can writes."""
         import can
 
@@ -29,7 +31,7 @@ class Converted(InFolder):
                 logger(message)
         return self.path(name)
 
-    def messages(self, **more):
+    def messages(self, **more: Any) -> list[Any]:
         """The messages of the log."""
         import can
 

@@ -13,11 +13,13 @@ import tempfile
 import threading
 import time
 import unittest
+from collections.abc import Callable, Iterator
+from typing import Any
 
 from j39plan import program
 from j39plan.cli import report
 from j39plan.plan import page_server
-from tests.support import TOOLS, InFolder, example, run, text_of
+from tests.support import TOOLS, InFolder, example, run, text_of, there
 
 FIRST = text_of(example("first_plan.toml"))
 
@@ -27,21 +29,21 @@ PATIENCE = 120
 
 class Watched(InFolder):
     @contextlib.contextmanager
-    def watching(self, plan, *words):
+    def watching(self, plan: str, *words: str) -> Iterator[tuple[str, int]]:
         """Watches a plan; the host and the port where its page is."""
         started = subprocess.Popen([sys.executable, os.path.join(TOOLS, "report.py"), "--watch", *words, plan], text=True,
                                    stdout=subprocess.PIPE, stderr=subprocess.PIPE, env={**os.environ, "J39PLAN": os.path.abspath(program.path())})
         try:
-            url = started.stdout.readline()
+            url = there(started.stdout).readline()
             found = re.fullmatch(r"http://(\[.*\]|[^:]*):(\d+)/\n", url)
-            self.assertIsNotNone(found, url or started.stderr.read())
+            assert found, url or there(started.stderr).read()
             yield found.group(1).strip("[]"), int(found.group(2))
         finally:
             started.kill()
             started.communicate()
 
     @staticmethod
-    def ask(host, port, path="/", method="GET", **headers):
+    def ask(host: str, port: int, path: str = "/", method: str = "GET", **headers: str) -> tuple[int, Any, str]:
         """Status, headers and text of an answer."""
         connection = http.client.HTTPConnection(host, port, timeout=PATIENCE)
         connection.request(method, path, headers=headers)
@@ -50,7 +52,7 @@ class Watched(InFolder):
         connection.close()
         return answer.status, answer.headers, text
 
-    def page_with(self, text, host, port):
+    def page_with(self, text: str, host: str, port: int) -> str:
         """The page, as soon as it has a text."""
         end = time.monotonic() + PATIENCE
         while time.monotonic() < end:
@@ -226,7 +228,7 @@ class InChromium(Watched):
                 browser.wait()
                 server.shutdown()
 
-    def wait_until(self, is_so) -> None:
+    def wait_until(self, is_so: Callable[[], object]) -> None:
         """Waits until something is so."""
         end = time.monotonic() + PATIENCE
         while not is_so():

@@ -12,7 +12,7 @@ from j39plan import program
 from j39plan.cli import where
 from j39plan.plan import answer_places
 from j39plan.plan.parts import Source
-from tests.support import MARKED, NEWER, TOOLS, TOP, InFolder, example, examples, run, shown_refusals, text_of
+from tests.support import InFolder, MARKED, NEWER, TOOLS, TOP, example, examples, run, shown_refusals, text_of, there
 
 CASES = os.path.join(TOP, "crates", "examples_check", "data")
 
@@ -86,7 +86,7 @@ HINTS = [
 
 
 class SerialNumbers(InFolder):
-    def told(self, *names, version=4):
+    def told(self, *names: str, version: int = 4) -> list[str]:
         """What `where` says of two units of these NAMEs."""
         text = f"version = {version}\n" + "".join(f'[[unit]]\nlabel = "{label}"\naddress = {at}\nname = {{ {name} }}\n'
                                                   for label, at, name in zip("AB", (0, 3), names))
@@ -110,7 +110,7 @@ class SerialNumbers(InFolder):
 
 
 class Lint(InFolder):
-    def lines(self, text, *words):
+    def lines(self, text: str, *words: str) -> tuple[int, list[str]]:
         """What `where --lint` answers of a plan, without the file's name, and its status."""
         name = self.write("plan.toml", text)
         status, answer, said = run("where.py", "--lint", *words, name)
@@ -220,13 +220,13 @@ class Lint(InFolder):
         self.assertGreater(hints, 3)
 
 
-def first_of(answer):
+def first_of(answer: str) -> list[str]:
     """The lines of an answer without further faults of a plan that is refused."""
     return [line for line in answer.splitlines() if not re.search(r"\d: also ", line)]
 
 
 class Where(InFolder):
-    def answer(self, text, *words):
+    def answer(self, text: str, *words: str) -> tuple[int, list[str]]:
         """What `where` answers of a plan, without the file's name."""
         name = self.write("plan.toml", text)
         status, answer, _ = run("where.py", *words, name)
@@ -429,7 +429,7 @@ class Where(InFolder):
         late = "G from A to all: key deadline: its long messages aren't shown to be whole within it"
         for most, at, hint in (("", lines + 5, "G from A to all: key period: within the deadline, or"), ("most = 9\n", lines + 7, late)):
             line, told = answer_places.finding(Source(plan + most + flow), "F18 LateFlow 1")
-            self.assertEqual((line, told[:len(hint)]), (at, hint))
+            self.assertEqual((line, there(told)[:len(hint)]), (at, hint))
 
     def test_names_in_needs(self) -> None:
         """Which there are, and from which version on needs and what comes with them are known."""
@@ -540,7 +540,7 @@ class Where(InFolder):
             self.assertIsNotNone(found, answer)
             key = re.search(r" key (\w+)$", refused)
             if key and not refused.startswith(("refused Missing", "refused TooMany")):
-                self.assertRegex(lines[int(found.group(1)) - 1], rf"\b{key.group(1)}\b", answer)
+                self.assertRegex(lines[int(there(found).group(1)) - 1], rf"\b{key.group(1)}\b", answer)
 
     def test_a_key_that_was_meant(self) -> None:
         plan = 'version = 1\n[[unit]]\nlabel = "A"\nadress = 1\nname = { identity = 1 }\n'
@@ -756,13 +756,13 @@ class Where(InFolder):
 
     def test_the_pattern_for_editors(self) -> None:
         """What docs/TOOLS.md gives VS Code finds file, line and text of each answer with a place, and no other."""
-        task = json.loads(re.search(r"```json\n(.*?)```", text_of(os.path.join(TOP, "docs", "TOOLS.md")), re.DOTALL).group(1))
+        task = json.loads(there(re.search(r"```json\n(.*?)```", text_of(os.path.join(TOP, "docs", "TOOLS.md")), re.DOTALL)).group(1))
         pattern = task["tasks"][0]["problemMatcher"]["pattern"]["regexp"]
         plan = example("findings/several.toml")
         *findings, count = run("where.py", plan)[1].splitlines()
         self.assertIsNone(re.match(pattern, count))
         for line in findings:
-            self.assertEqual(re.match(pattern, line).group(1), plan)
+            self.assertEqual(there(re.match(pattern, line)).group(1), plan)
 
     def test_a_missing_file(self) -> None:
         status, answer, said = run("where.py", self.path("none.toml"))
