@@ -65,7 +65,7 @@ wants-small span xs small all few =
     sum_by-le (frames_of_want span) (2 ^ 43) xs (λ k d inside. want-small span _ small (all k d inside)) in
     omega (arith, most, few)
 
-want-mono : (a b : ℕ) (x : Want) → a ≤ b → IsWant x → frames_of_want a x ≤ frames_of_want b x
+pub want-mono : (a b : ℕ) (x : Want) → a ≤ b → IsWant x → frames_of_want a x ≤ frames_of_want b x
 want-mono a b x le ok =
     let more : div_ceil (a + x.late) x.period ≤ div_ceil (b + x.late) x.period = ceil-mono (a + x.late) (b + x.late) x.period ok.0 (omega arith) in
     mul-le-mul_left x.frames (omega (arith, more))

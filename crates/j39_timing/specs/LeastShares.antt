@@ -1,33 +1,25 @@
--- What streams queue at least in a longer wait: some by their parts of the bus, the others what they queue in a shorter one.
-use Rattle.std.specs.Prelude.{ℕ, ◌*◌, ◌/◌, ◌^◌, ◌<◌, ◌≤◌, nat_le, min, if◌then◌else◌, Bool, List, sum_by, Option, Some, None}
-use Rattle.j39_timing.specs.Waits.{Demand, demand_of, lesser_share, need}
+-- What is queued at least in each time from one on: so many bits, and beside these a part of the time.
+use Rattle.std.specs.Prelude.{ℕ, ◌+◌, ◌*◌, ◌/◌, ◌^◌, ◌<◌, ◌≤◌, List}
+use Rattle.j39_timing.specs.Waits.{Demand, need}
+use Rattle.j39_timing.specs.declared.lines.Line.{Line}
+use Rattle.j39_timing.specs.declared.lines.Stretch.{Stretch}
 use Rattle.j39_timing.specs.declared.stream.Stream.{Stream}
-use Rattle.j39_timing.specs.declared.wants.Want.{Want}
 
 -- the stream's part of the bus, of 2 ^ 32
 abbrev pub part_of : Stream → ℕ
 part_of stream = stream.frames * stream.bits * 2 ^ 32 / stream.period
 
--- the part that a flow wants, where frames have so many bits
-abbrev pub part_wanted : ℕ → Want → ℕ
-part_wanted bits want = want.frames * bits * 2 ^ 32 / want.period
+-- 2 ^ 32 times the bits that a line has in a time
+abbrev pub line_at : ℕ → Line → ℕ
+line_at x line = 2 ^ 32 * line.known + line.part * x
 
--- the lesser part, where this is wanted of the stream
-abbrev pub lesser_part : Stream → Option Demand → ℕ
-lesser_part stream None = part_of stream
-lesser_part stream (Some demand) = min (part_of stream) (sum_by (part_wanted stream.bits) demand.wants)
+-- in each time from one on no fewer bits are queued than a line has
+abbrev pub IsBelow : Line → ℕ → (ℕ → ℕ) → Type 0
+IsBelow line span bits = (x : ℕ) → span ≤ x → line_at x line ≤ 2 ^ 32 * bits x
 
--- its messages come at least as often as each so many bits
-abbrev pub is_dense : ℕ → Stream → Bool
-is_dense step stream = nat_le stream.period step
-
--- the part of the bus of a stream that is dense
-abbrev pub dense_part : List Demand → ℕ → Stream → ℕ
-dense_part demands step stream = if is_dense step stream then lesser_part stream (demand_of demands stream) else 0
-
--- what one that isn't queues in so many bits
-abbrev pub sparse_share : List Demand → ℕ → ℕ → Stream → ℕ
-sparse_share demands step span stream = if is_dense step stream then 0 else lesser_share demands span stream
+-- the same up to where it ends
+abbrev pub IsBelowUntil : Stretch → ℕ → (ℕ → ℕ) → Type 0
+IsBelowUntil stretch span bits = (x : ℕ) → span ≤ x → x ≤ stretch.until → line_at x stretch.line ≤ 2 ^ 32 * bits x
 
 -- from a wait on, up to another one, none has room
 abbrev pub HaveNoRoomFrom : List Demand → ℕ → List Stream → ℕ → ℕ → Type 0

@@ -5,6 +5,7 @@
 
 mod frame_length;
 mod laws;
+mod lines;
 mod stream;
 mod waiting;
 mod wants;

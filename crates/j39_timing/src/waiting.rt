@@ -1,8 +1,9 @@
 //! The least wait of a frame.
 ghost use Rattle.std.specs.Prelude.{◌≡◌, ℕ, ◌+◌, ◌*◌, ◌<◌, ◌≤◌, ◌^◌, length, map, All, sum_by, IfSome, None};
-ghost use Rattle.j39_timing.specs.LeastShares.{HaveNoRoomFrom, dense_part, is_dense, lesser_part, part_of, sparse_share};
+ghost use Rattle.j39_timing.specs.LeastShares.{HaveNoRoomFrom};
 ghost use Rattle.j39_timing.specs.Waits.{IsStream, IsWanted, as_demand, demand_of, frames_wanted, lesser_share, share, need, HaveNoRoom};
 
+use crate::lines::stretch_of_all;
 use crate::stream::Stream;
 use crate::wants::Wanted;
 
@@ -27,7 +28,7 @@ fn wanted_bits(wanted: &Wanted, stream: Stream, span: u32) -> u64
 }
 
 /// The bits that a stream can queue in `span` bits.
-fn lesser_share(all: &[Wanted], stream: Stream, span: u32) -> u64
+pub(crate) fn lesser_share(all: &[Wanted], stream: Stream, span: u32) -> u64
     requires positive { IsStream stream }
     requires sound { All IsWanted all.now }
     ensures { result ≡ lesser_share (map as_demand all.now) span stream }
@@ -57,97 +58,7 @@ fn demand(all: &[Wanted], streams: &[Stream], span: u32) -> u64
     sum
 }
 
-// The stream's part of the bus, of 2 ^ 32.
-fn part_of(stream: Stream) -> u64
-    requires positive { IsStream stream }
-    ensures part { result ≡ part_of stream }
-    ensures small { result ≤ 2 ^ 50 }
-{
-    let bits = u64::from(stream.frames) * u64::from(stream.bits);
-    bits * 4_294_967_296 / u64::from(stream.period)
-}
-
-// The lesser of this and of what is wanted of it.
-fn lesser_part(all: &[Wanted], stream: Stream) -> u64
-    requires positive { IsStream stream }
-    requires sound { All IsWanted all.now }
-    ensures part { result ≡ lesser_part stream (demand_of (map as_demand all.now) stream) }
-    ensures small { result ≤ 2 ^ 50 }
-{
-    let part = part_of(stream);
-    let Some(place) = stream.wanted else {
-        return part;
-    };
-    match all.get(place) {
-        Some(wanted) => wanted.part(stream.bits).min(part),
-        None => part,
-    }
-}
-
-// Its messages come at least as often as each so many bits.
-fn is_dense(stream: Stream, step: u64) -> bool
-    ensures { result ≡ is_dense step stream }
-{
-    u64::from(stream.period) <= step
-}
-
-// The part of the bus of a stream that is dense.
-fn dense_part(all: &[Wanted], stream: Stream, step: u64) -> u64
-    requires positive { IsStream stream }
-    requires sound { All IsWanted all.now }
-    ensures { result ≡ dense_part (map as_demand all.now) step stream }
-{
-    if is_dense(stream, step) {
-        lesser_part(all, stream)
-    } else {
-        0
-    }
-}
-
-// What one that isn't can queue in `span` bits.
-fn sparse_share(all: &[Wanted], stream: Stream, step: u64, span: u32) -> u64
-    requires positive { IsStream stream }
-    requires sound { All IsWanted all.now }
-    ensures { result ≡ sparse_share (map as_demand all.now) step span stream }
-{
-    if is_dense(stream, step) {
-        0
-    } else {
-        lesser_share(all, stream, span)
-    }
-}
-
-// The parts of the bus of the streams that are dense.
-fn dense_parts(all: &[Wanted], streams: &[Stream], step: u64) -> u64
-    requires positive { All IsStream streams.now }
-    requires few { length streams.now ≤ 2048 }
-    requires sound { All IsWanted all.now }
-    ensures { result ≡ sum_by (dense_part (map as_demand all.now) step) streams.now }
-{
-    let mut sum: u64 = 0;
-    for stream in streams {
-        sum += dense_part(all, *stream, step);
-    }
-    sum
-}
-
-// What the others can queue in `span` bits.
-fn sparse_shares(all: &[Wanted], streams: &[Stream], step: u64, span: u32) -> u64
-    requires positive { All IsStream streams.now }
-    requires few { length streams.now ≤ 2048 }
-    requires sound { All IsWanted all.now }
-    ensures sum { result ≡ sum_by (sparse_share (map as_demand all.now) step span) streams.now }
-    ensures small { result ≤ 2 ^ 63 }
-{
-    let mut sum: u64 = 0;
-    for stream in streams {
-        sum += sparse_share(all, *stream, step, span);
-    }
-    sum
-}
-
-// From a wait on no shorter one has room than the one from which the loads allow it: streams that are dense take their parts of the bus at
-// least, and the others queue no less than in this wait.
+// From a wait on no shorter one has room than the one from which the loads allow it.
 fn first_allowed(all: &[Wanted], blocking: u32, streams: &[Stream], wait: u32, step: u64) -> u128
     requires positive { All IsStream streams.now }
     requires few { length streams.now ≤ 2048 }
@@ -155,13 +66,15 @@ fn first_allowed(all: &[Wanted], blocking: u32, streams: &[Stream], wait: u32, s
     requires within { wait < 2 ^ 31 }
     ensures { HaveNoRoomFrom (map as_demand all.now) blocking streams.now wait result }
 {
-    let parts = dense_parts(all, streams, step);
+    let stretch = stretch_of_all(all, streams, step, wait + 1);
+    let parts = stretch.line.part;
     if parts >= 4_294_967_296 {
-        return u128::MAX;
+        return stretch.until;
     }
-    let known = u64::from(blocking) + sparse_shares(all, streams, step, wait + 1);
+    let known = u64::from(blocking) + stretch.line.known;
     let bits = u128::from(known) * 4_294_967_296 + u128::from(parts);
     bits.div_ceil(u128::from(4_294_967_296 - parts))
+        .min(stretch.until)
 }
 
 /// The length of the busy window of a frame up to its start: the least wait, of at most `most` bits, that has room for `blocking` bits
@@ -183,7 +96,7 @@ pub fn least_wait(wanted: &[Wanted], blocking: u32, streams: &[Stream], most: u3
         if needed <= u64::from(wait) {
             return Some(wait);
         }
-        // the loads count for streams that come in eight times what this wait lacks: others would count for less than they queue
+        // parts of the bus count for streams that come in eight times what this wait lacks: of others they are less than is queued
         let step = (needed - u64::from(wait)).saturating_mul(8);
         let allowed = first_allowed(wanted, blocking, streams, wait, step);
         let next = u128::from(needed).max(allowed);

@@ -1,7 +1,9 @@
 //! What is wanted of a unit that sends one long message at a time.
-ghost use Rattle.std.specs.Prelude.{◌≡◌, ◌+◌, ◌<◌, ◌≤◌, ◌^◌, All, length, sum_by};
-ghost use Rattle.j39_timing.specs.LeastShares.{part_wanted};
+ghost use Rattle.std.specs.Prelude.{◌≡◌, ◌+◌, ◌*◌, ◌<◌, ◌≤◌, ◌^◌, All, length, sum_by};
+ghost use Rattle.j39_timing.specs.LeastShares.{IsBelow};
 ghost use Rattle.j39_timing.specs.Waits.{IsWant, IsWanted, as_demand, frames_of_want, frames_wanted};
+
+use crate::lines::Line;
 
 /// Messages of at most `frames` frames that are wanted again and again. The moments of two are at least `period` bits apart, which isn't 0,
 /// and each is wanted at most `late` bits after its moment.
@@ -32,15 +34,26 @@ fn frames_of_want(want: Want, span: u64) -> u64
     u64::from(want.frames) * messages
 }
 
-// The part of the bus that it wants, of 2 ^ 32, where frames have so many bits.
-fn part_wanted(want: Want, bits: u16) -> u64
+// The bits that it asks for at least in each time from `span` bits on: a message, and its part of the bus where one is wanted in each
+// `step` bits; else what it asks for in `span` bits.
+fn want_line(want: Want, bits: u16, step: u64, span: u64) -> Line
     requires want { IsWant want }
     requires bits { bits ≤ 2 ^ 8 }
-    ensures part { result ≡ part_wanted bits want }
-    ensures small { result ≤ 2 ^ 48 }
+    requires span { span < 2 ^ 33 }
+    ensures below { IsBelow result span (λ x. frames_of_want x want * bits) }
+    ensures small { (result.known ≤ 2 ^ 51) × (result.part ≤ 2 ^ 48) }
 {
-    let bits = u64::from(want.frames) * u64::from(bits);
-    bits * 4_294_967_296 / u64::from(want.period)
+    if u64::from(want.period) > step {
+        return Line {
+            known: frames_of_want(want, span) * u64::from(bits),
+            part: 0,
+        };
+    }
+    let message = u64::from(want.frames) * u64::from(bits);
+    Line {
+        known: message,
+        part: message * 4_294_967_296 / u64::from(want.period),
+    }
 }
 
 // The frames that all of them can ask for in `span` bits.
@@ -58,18 +71,24 @@ fn frames_of_wants(wants: &[Want], span: u64) -> u64
     frames
 }
 
-// The parts of the bus that all of them want.
-fn parts_of_wants(wants: &[Want], bits: u16) -> u64
+// The bits that all of them ask for at least in each time from `span` bits on.
+fn line_of_wants(wants: &[Want], bits: u16, step: u64, span: u64) -> Line
     requires sound { All IsWant wants.now }
     requires few { length wants.now ≤ 2048 }
     requires bits { bits ≤ 2 ^ 8 }
-    ensures parts { result ≡ sum_by (part_wanted bits) wants.now }
+    requires span { span < 2 ^ 33 }
+    ensures below { IsBelow result span (λ x. sum_by (frames_of_want x) wants.now * bits) }
+    ensures small { (result.known ≤ 2 ^ 62) × (result.part ≤ 2 ^ 59) }
 {
-    let mut parts: u64 = 0;
+    let mut line = Line { known: 0, part: 0 };
     for want in wants {
-        parts += part_wanted(*want, bits);
+        let next = want_line(*want, bits, step, span);
+        line = Line {
+            known: line.known + next.known,
+            part: line.part + next.part,
+        };
     }
-    parts
+    line
 }
 
 impl Wanted {
@@ -83,12 +102,18 @@ impl Wanted {
         frames_of_wants(self.wants.as_slice(), span) + u64::from(self.under_way)
     }
 
-    // The part of the bus that is wanted, of 2 ^ 32, where frames have so many bits.
-    pub(crate) fn part(&self, bits: u16) -> u64
+    // The bits that are wanted at least in each time from `span` bits on.
+    pub(crate) fn line(&self, bits: u16, step: u64, span: u64) -> Line
         requires sound { IsWanted self.now }
         requires bits { bits ≤ 2 ^ 8 }
-        ensures part { result ≡ sum_by (part_wanted bits) (as_demand self.now).wants }
+        requires span { span < 2 ^ 33 }
+        ensures below { IsBelow result span (λ x. frames_wanted x (as_demand self.now) * bits) }
+        ensures small { (result.known ≤ 2 ^ 63) × (result.part ≤ 2 ^ 59) }
     {
-        parts_of_wants(self.wants.as_slice(), bits)
+        let line = line_of_wants(self.wants.as_slice(), bits, step, span);
+        Line {
+            known: line.known + u64::from(self.under_way) * u64::from(bits),
+            part: line.part,
+        }
     }
 }
