@@ -73,8 +73,8 @@ fn first_allowed(all: &[Wanted], blocking: u32, streams: &[Stream], wait: u32, s
     }
     let known = u64::from(blocking) + stretch.line.known;
     let bits = u128::from(known) * 4_294_967_296 + u128::from(parts);
-    bits.div_ceil(u128::from(4_294_967_296 - parts))
-        .min(stretch.until)
+    let allowed = bits.div_ceil(u128::from(4_294_967_296 - parts));
+    allowed.min(stretch.until)
 }
 
 /// The length of the busy window of a frame up to its start: the least wait, of at most `most` bits, that has room for `blocking` bits

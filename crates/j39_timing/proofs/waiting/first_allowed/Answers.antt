@@ -16,6 +16,6 @@ returns c =
     let bits_are : bits ≡ (c.args.blocking + c.stretch_of_all-stretch.result.line.known) * 2 ^ 32 + parts =
     omega (arith, c.from.ensures, c.from-2.ensures, c.from-3.ensures) in
     let first : c.min.result ≡ min (div_ceil bits (2 ^ 32 - parts)) c.stretch_of_all-stretch.result.until =
-    c.min.ensures ∙ ap (λ (n : ℕ). min n c.stretch_of_all-stretch.result.until) (c.div_ceil.ensures ∙ ap (λ (n : ℕ). div_ceil bits n) c.from-4.ensures) in
+    c.min.ensures ∙ ap (λ (n : ℕ). min n c.stretch_of_all-stretch.result.until) (c.div_ceil-allowed.ensures ∙ ap (λ (n : ℕ). div_ceil bits n) c.from-4.ensures) in
     rw first (allowed (map as_demand c.args.all.now) c.args.blocking c.args.wait c.args.streams.now c.stretch_of_all-stretch.result c.stretch_of_all-stretch.ensures.below
     bits (omega (arith, c.if-parts-ge4294967296.false)) bits_are)
