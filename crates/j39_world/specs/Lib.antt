@@ -5,6 +5,7 @@ pub mod Transfers
 pub mod World
 pub mod SentTransfers
 pub mod ClaimSteps
+pub mod SwitchingOff
 pub mod TransferSteps
 pub mod Resting
 pub mod Run
