@@ -6,7 +6,7 @@ pub mod Pairs
 pub mod Lowering
 pub mod Accounted
 pub mod AccountedSteps
-pub mod SentSettled
+pub mod SoundRuns
 pub mod Ending
 pub mod Flights
 pub mod Coming
