@@ -7,6 +7,8 @@ pub mod Lowering
 pub mod Accounted
 pub mod AccountedSteps
 pub mod SoundRuns
+pub mod OfFlows
+pub mod LiveEnds
 pub mod Ending
 pub mod Flights
 pub mod Coming

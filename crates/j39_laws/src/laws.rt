@@ -30,7 +30,9 @@ pub use staying::{
     units_stay_in_each_vehicle, who_stays,
 };
 pub use strangers::{strangers_can_come, strangers_keep_addresses, who_stays_with_strangers};
-pub use transfers::{every_transfer_ends, sent_frames_are_sound, steps_lead_somewhere};
+pub use transfers::{
+    ends_are_undisturbed, every_transfer_ends, sent_frames_are_sound, steps_lead_somewhere,
+};
 
 /// In every world of every run of a plan without findings, with all lawful choices, addresses are sound: each unit that is on holds
 /// one, a fixed unit its own, and where no claim is undelivered they are pairwise different.

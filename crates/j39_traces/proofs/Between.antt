@@ -31,7 +31,7 @@ use Rattle.j39_world.specs.declared.step_error.StepError.{StepError}
 use Rattle.j39_world.specs.declared.wired.Wired.{Wired}
 use Rattle.j39_world.specs.declared.wired.Wired.TheVariants as wired
 use Rattle.j39_world.specs.ClaimSteps.{GivenFrom, answer_items, asking_items, first_items}
-use Rattle.j39_world.specs.Flows.{dest_of, flows_of, is_short, window_at, windows_of}
+use Rattle.j39_world.specs.Flows.{FlowGoes, dest_of, flows_of, is_short, window_at, windows_of}
 use Rattle.j39_world.specs.Opening.{AreNamesDistinct}
 use Rattle.j39_world.specs.PlannedUnits.{unit_at, units_of}
 use Rattle.j39_world.specs.Run.{StepsTo, begin_refusal, begin_refusals, send_refusal, send_refusals, count_of, refusal}
@@ -48,7 +48,7 @@ use Rattle.j39_laws.proofs.Runs.Elements.{all_map}
 use Rattle.j39_laws.proofs.Runs.Units.{in_units}
 use Rattle.j39_laws.proofs.Addresses.CleanUnits.{names_in_range}
 use Rattle.j39_follow.specs.Holders.{HoldsByFrames}
-use Rattle.j39_traces.specs.Between.{GoesToHolder, IsKnownAt, FlowGoes, IsOfStep, IsSentBehind, IsSentBy, IsTransport, MessagesGoBetweenHolders, SendsTo, tells_of_addresses}
+use Rattle.j39_traces.specs.Between.{GoesToHolder, IsKnownAt, IsOfStep, IsSentBehind, IsSentBy, IsTransport, MessagesGoBetweenHolders, SendsTo, tells_of_addresses}
 use Rattle.j39_traces.specs.Telling.{HaveOwnNumbers}
 use Rattle.j39_traces.proofs.Ends.{HasEnds, IsForHolding, IsHolding, all_ends, begun_ends, sent_ends, ends_of}
 use Rattle.j39_traces.proofs.Identifiers.{IsOther, carries_none, sent_as}

@@ -19,7 +19,7 @@ use Rattle.j39_world.specs.declared.step_error.StepError.{StepError}
 use Rattle.j39_world.specs.declared.wired.Wired.{Wired}
 use Rattle.j39_world.specs.declared.wired.Wired.TheVariants as wired
 use Rattle.j39_world.specs.ClaimSteps.{GivenFrom}
-use Rattle.j39_world.specs.Flows.{dest_of, flows_of, windows_of}
+use Rattle.j39_world.specs.Flows.{FlowGoes, dest_of, flows_of, windows_of}
 use Rattle.j39_world.specs.PlannedUnits.{unit_at, units_of}
 use Rattle.j39_world.specs.Run.{StepsTo, at_ends, begin_refusal, begin_refusals, send_refusal, send_refusals, count_of, has_address, is_on, refusal}
 use Rattle.j39_world.specs.SoundPlan.{Always, IsSending}
@@ -30,7 +30,7 @@ use Rattle.j39_laws.proofs.Runs.Always.{IsPreserved, always}
 use Rattle.j39_laws.proofs.Runs.Changed.{changed_each}
 use Rattle.j39_laws.proofs.Transfers.AccountedSteps.{IsOfClaims, claims_refused}
 use Rattle.j39_laws.proofs.Transfers.Named.{IsKeptNamed, all_named, keeps_named}
-use Rattle.j39_traces.specs.Between.{EndsKeepAddresses, FlowGoes}
+use Rattle.j39_traces.specs.Between.{EndsKeepAddresses}
 
 -- the unit is on and holds an address
 abbrev pub IsHolding : Stations → ℕ → Type 0
