@@ -2,6 +2,7 @@ pub mod Acting
 pub mod BeginRefused
 pub mod SendRefused
 pub mod ChangedSessions
+pub mod LeftOut
 pub mod Delivered
 pub mod Heard
 pub mod Lost

@@ -31,7 +31,7 @@ use Rattle.j39_world.specs.declared.step_error.StepError.{StepError}
 use Rattle.j39_world.specs.declared.wired.Wired.{Wired}
 use Rattle.j39_world.specs.declared.wired.Wired.TheVariants as wired
 use Rattle.j39_world.specs.ClaimSteps.{GivenFrom, answer_items, asking_items, first_items}
-use Rattle.j39_world.specs.Flows.{dest_of, flows_of, is_short, window_at, windows_of}
+use Rattle.j39_world.specs.Flows.{FlowGoes, dest_of, flows_of, is_short, window_at, windows_of}
 use Rattle.j39_world.specs.Opening.{AreNamesDistinct}
 use Rattle.j39_world.specs.PlannedUnits.{unit_at, units_of}
 use Rattle.j39_world.specs.Run.{StepsTo, begin_refusal, begin_refusals, send_refusal, send_refusals, count_of, refusal}
@@ -48,7 +48,7 @@ use Rattle.j39_laws.proofs.Runs.Elements.{all_map}
 use Rattle.j39_laws.proofs.Runs.Units.{in_units}
 use Rattle.j39_laws.proofs.Addresses.CleanUnits.{names_in_range}
 use Rattle.j39_follow.specs.Holders.{HoldsByFrames}
-use Rattle.j39_traces.specs.Between.{GoesToHolder, IsKnownAt, FlowGoes, IsOfStep, IsSentBehind, IsSentBy, IsTransport, MessagesGoBetweenHolders, SendsTo, tells_of_addresses}
+use Rattle.j39_traces.specs.Between.{GoesToHolder, IsKnownAt, IsOfStep, IsSentBehind, IsSentBy, IsTransport, MessagesGoBetweenHolders, SendsTo, tells_of_addresses}
 use Rattle.j39_traces.specs.Telling.{HaveOwnNumbers}
 use Rattle.j39_traces.proofs.Ends.{HasEnds, IsForHolding, IsHolding, all_ends, begun_ends, sent_ends, ends_of}
 use Rattle.j39_traces.proofs.Identifiers.{IsOther, carries_none, sent_as}
@@ -282,7 +282,7 @@ module _ (plan : Plan) (distinct : AreNamesDistinct (units_of plan)) (own : Have
       ] in
       absurd (true≢false (sym (tells v unit (now v).address source (answer_items says) range after log f sent (ap (λ (x : World). x.frames) e)) ∙ other))
 
-  begin : (k : ℕ) (bytes : List ℕ) (o : Option Flow) → slice_get (flows_of plan) k ≡ o → begin_refusal (count_of plan) w o bytes ≡ None
+  begin : (k : ℕ) (bytes : List ℕ) (o : Option Flow) → slice_get (flows_of plan) k ≡ o → begin_refusal plan.live (count_of plan) w o bytes ≡ None
       → (after : World) → BeginsAt (count_of plan) w k o bytes after → (log : List Frame) (f : Frame) → IsSentBehind w after log f
       → (flow : Flow) × (o ≡ Some flow) × IsFirst flow (pgn_of f.ident) × IsKnownAt plan w (log ++ f ∷ []) flow.sender f.ident.sa
       × GoesToHolder plan w (log ++ f ∷ []) flow.to f.ident
@@ -291,7 +291,7 @@ module _ (plan : Plan) (distinct : AreNamesDistinct (units_of plan)) (own : Have
       let d : ℕ = destination_of w.stations flow.to in
       let s : ℕ = address_of w.stations flow.sender in
       let other = flow_other plan own k flow is in
-      let (sendable, (on, (heard, rest))) = none_hold (begin_refusals (count_of plan) w (Some flow) bytes) allowed in
+      let (sendable, (on, (heard, rest))) = none_hold (begin_refusals plan.live (count_of plan) w (Some flow) bytes) allowed in
       let order = ends.kept.kept.transfers.order in
       let hold = begun_ends plan w flow bytes allowed in
       let of : IsMessageFrame (IsFirst flow) d s (first_frame w.stations flow bytes) =
@@ -302,7 +302,7 @@ module _ (plan : Plan) (distinct : AreNamesDistinct (units_of plan)) (own : Have
       (flow, refl, goes.0, goes.1, goes.2)
 
   -- a frame is sent alone
-  send : (k : ℕ) (bytes : List ℕ) (o : Option Flow) → slice_get (flows_of plan) k ≡ o → send_refusal (count_of plan) w o bytes ≡ None
+  send : (k : ℕ) (bytes : List ℕ) (o : Option Flow) → slice_get (flows_of plan) k ≡ o → send_refusal plan.live (count_of plan) w o bytes ≡ None
       → (after : World) → SendsAt (count_of plan) w k o bytes after → (log : List Frame) (f : Frame) → IsSentBehind w after log f
       → (flow : Flow) × (o ≡ Some flow) × (pgn_of f.ident ≡ flow.pgn) × IsKnownAt plan w (log ++ f ∷ []) flow.sender f.ident.sa
       × GoesToHolder plan w (log ++ f ∷ []) flow.to f.ident
@@ -311,7 +311,7 @@ module _ (plan : Plan) (distinct : AreNamesDistinct (units_of plan)) (own : Have
       let d : ℕ = destination_of w.stations flow.to in
       let s : ℕ = address_of w.stations flow.sender in
       let other = flow_other plan own k flow is in
-      let (sendable, (on, (heard, rest))) = none_hold (send_refusals (count_of plan) w (Some flow) bytes) allowed in
+      let (sendable, (on, (heard, rest))) = none_hold (send_refusals plan.live (count_of plan) w (Some flow) bytes) allowed in
       let order = ends.kept.kept.transfers.order in
       let hold = sent_ends plan w flow bytes allowed in
       let IsGroup : ℕ → Type 0 = λ pgn. pgn ≡ flow.pgn in

@@ -19,7 +19,7 @@ use Rattle.j39_world.specs.declared.step_error.StepError.{StepError}
 use Rattle.j39_world.specs.declared.wired.Wired.{Wired}
 use Rattle.j39_world.specs.declared.wired.Wired.TheVariants as wired
 use Rattle.j39_world.specs.ClaimSteps.{GivenFrom}
-use Rattle.j39_world.specs.Flows.{dest_of, flows_of, windows_of}
+use Rattle.j39_world.specs.Flows.{FlowGoes, dest_of, flows_of, windows_of}
 use Rattle.j39_world.specs.PlannedUnits.{unit_at, units_of}
 use Rattle.j39_world.specs.Run.{StepsTo, at_ends, begin_refusal, begin_refusals, send_refusal, send_refusals, count_of, has_address, is_on, refusal}
 use Rattle.j39_world.specs.SoundPlan.{Always, IsSending}
@@ -30,7 +30,7 @@ use Rattle.j39_laws.proofs.Runs.Always.{IsPreserved, always}
 use Rattle.j39_laws.proofs.Runs.Changed.{changed_each}
 use Rattle.j39_laws.proofs.Transfers.AccountedSteps.{IsOfClaims, claims_refused}
 use Rattle.j39_laws.proofs.Transfers.Named.{IsKeptNamed, all_named, keeps_named}
-use Rattle.j39_traces.specs.Between.{EndsKeepAddresses, FlowGoes}
+use Rattle.j39_traces.specs.Between.{EndsKeepAddresses}
 
 -- the unit is on and holds an address
 abbrev pub IsHolding : Stations → ℕ → Type 0
@@ -68,17 +68,17 @@ begin_ends stations u (One v) on has =
     (holding stations u both_on.0 both_has.0, holding stations v both_on.1 both_has.1)
 
 -- a Begin that isn't refused
-pub begun_ends : (plan : Plan) (w : World) (flow : Flow) (bytes : List ℕ) → begin_refusal (count_of plan) w (Some flow) bytes ≡ None
+pub begun_ends : (plan : Plan) (w : World) (flow : Flow) (bytes : List ℕ) → begin_refusal plan.live (count_of plan) w (Some flow) bytes ≡ None
     → IsHolding w.stations flow.sender × IsForHolding w.stations flow.to
 begun_ends plan w flow bytes allowed =
-    let (sendable, (on, (told, (addressed, (free, rest))))) = none_hold (begin_refusals (count_of plan) w (Some flow) bytes) allowed in
+    let (sendable, (on, (told, (addressed, (free, rest))))) = none_hold (begin_refusals plan.live (count_of plan) w (Some flow) bytes) allowed in
     begin_ends w.stations flow.sender flow.to (not-false _ on) (not-false _ addressed)
 
 -- a Send that isn't
-pub sent_ends : (plan : Plan) (w : World) (flow : Flow) (bytes : List ℕ) → send_refusal (count_of plan) w (Some flow) bytes ≡ None
+pub sent_ends : (plan : Plan) (w : World) (flow : Flow) (bytes : List ℕ) → send_refusal plan.live (count_of plan) w (Some flow) bytes ≡ None
     → IsHolding w.stations flow.sender × IsForHolding w.stations flow.to
 sent_ends plan w flow bytes allowed =
-    let (sendable, (on, (told, (addressed, (free, rest))))) = none_hold (send_refusals (count_of plan) w (Some flow) bytes) allowed in
+    let (sendable, (on, (told, (addressed, (free, rest))))) = none_hold (send_refusals plan.live (count_of plan) w (Some flow) bytes) allowed in
     begin_ends w.stations flow.sender flow.to (not-false _ on) (not-false _ addressed)
 
 -- ---- each step
@@ -110,7 +110,7 @@ module _ (plan : Plan) (w : World) (inv : HasEnds plan w) where
   gives u v allowed (item ∷ rest) new (says, s, answers, e) =
       subst EndsAfter (sym e) (claims_keep (Give u v) tt allowed (changed w.stations v s))
 
-  begins_at : (f : ℕ) (o : Option Flow) (bytes : List ℕ) → slice_get (flows_of plan) f ≡ o → begin_refusal (count_of plan) w o bytes ≡ None
+  begins_at : (f : ℕ) (o : Option Flow) (bytes : List ℕ) → slice_get (flows_of plan) f ≡ o → begin_refusal plan.live (count_of plan) w o bytes ≡ None
       → (new : World) → BeginsAt (count_of plan) w f o bytes new → EndsAfter new
   begins_at f None bytes is allowed new never = absurd never
   begins_at f (Some flow) bytes is allowed new e =

@@ -23,7 +23,7 @@ use Rattle.j39_world.specs.SoundPlan.{Always}
 use Rattle.j39_world.specs.TransferSteps.{BeginsAt, SendsAt, LostFrom, TakenFrom}
 use Rattle.j39_world.specs.World.{World, all_off}
 use Rattle.j39_laws.proofs.Runs.Always.{IsPreserved, always}
-use Rattle.j39_traces.specs.Between.{AreJoined, ComesTo, EachGoesBetweenUnits, GoesToHolder, FlowGoes, IsOfStep, IsSentBehind, IsSentBy, StandsBehind}
+use Rattle.j39_traces.specs.Between.{AreJoined, ComesTo, EachGoesBetweenUnits, GoesToHolder, IsOfStep, IsSentBehind, IsSentBy, StandsBehind}
 use Rattle.j39_traces.specs.Telling.{HaveOwnNumbers}
 use Rattle.j39_traces.proofs.Between.{step_goes}
 use Rattle.j39_traces.proofs.Ends.{HasEnds, all_ends, ends_keep}

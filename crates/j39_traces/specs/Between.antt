@@ -13,7 +13,7 @@ use Rattle.j39_findings.specs.declared.steps.Step.{Step}
 use Rattle.j39_findings.specs.declared.steps.Step.TheVariants.{Begin, Send, Emit, Take, LateSender, LateReceiver}
 use Rattle.j39_id.specs.FrameMeaning.{carries_name, requests_group}
 use Rattle.j39_world.specs.declared.flow.Flow.{Flow}
-use Rattle.j39_world.specs.Flows.{flows_of}
+use Rattle.j39_world.specs.Flows.{FlowGoes, flows_of}
 use Rattle.j39_world.specs.PlannedUnits.{unit_at, units_of}
 use Rattle.j39_world.specs.Run.{Follows}
 use Rattle.j39_world.specs.Sent.{Sent, sent_of}
@@ -26,10 +26,6 @@ use Rattle.j39_follow.specs.declared.who.Who.TheVariants.{Holder}
 use Rattle.j39_traces.specs.Telling.{IsLogOf}
 
 -- ---- who sends, and for whom
-
--- the flow at this place of the plan goes from the unit to these
-abbrev pub FlowGoes : Plan → ℕ → ℕ → To → Type 0
-FlowGoes plan f u to = (flow : Flow) × (slice_get (flows_of plan) f ≡ Some flow) × (flow.sender ≡ u) × (flow.to ≡ to)
 
 -- the unit is between the beginning of a message and its rest, and the message is of a flow from it to these
 abbrev pub SendsTo : Plan → World → ℕ → To → Type 0

@@ -5,11 +5,13 @@ pub mod Transfers
 pub mod World
 pub mod SentTransfers
 pub mod ClaimSteps
+pub mod SwitchingOff
 pub mod TransferSteps
 pub mod Resting
 pub mod Run
 pub mod Sound
 pub mod Staying
+pub mod LiveEnds
 pub mod Strangers
 pub mod Settling
 pub mod Leading

@@ -219,6 +219,7 @@ module _ (plan : Plan) (names : AreNamesDistinct (units_of plan)) where
   joined k few all = record {
     keep_free = kept;
     strangers = 0;
+    live = plan.live;
     timing = None;
     units = record plan.units {
       items = plan.units.items ++ all.strangers;

@@ -1,9 +1,9 @@
 -- In every world of every run each RTS and each Abort that is undelivered names the group of a message that is still sent to one unit,
 -- between the two, and so does each receiver that is open for such a message.
-use Rattle.std.proofs.Common.{◌≡◌, ℕ, ◌⊎◌, inl, inr, true, false, not, ◌&&◌, eqb, List, [], ◌∷◌, ◌++◌, length, refl, sym, ap, ◌∙◌, subst, Option, Some, None}
+use Rattle.std.proofs.Common.{◌≡◌, ◌≢◌, ℕ, ◌⊎◌, inl, inr, true, false, not, ◌&&◌, eqb, List, [], ◌∷◌, ◌++◌, length, refl, sym, ap, ◌∙◌, subst, Option, Some, None}
 use Rattle.std.specs.Prelude.{map, nat_lt, slice_get}
 use Rattle.std.specs.List.{AllByRecursion}
-use Rattle.std.proofs.lemmas.Bool.{and_parts, cases_eq, cond_both, eq-eqb, eqb-true, not-false, true≢false}
+use Rattle.std.proofs.lemmas.Bool.{and_parts, cases_eq, cond_both, eqb-false, eqb-true, not-false, or_parts, true≢false}
 use Rattle.j39_tp.specs.Receiver as receiver
 use Rattle.j39_tp.specs.Receiver.{is_open_at}
 use Rattle.j39_tp.specs.Sender as sender
@@ -12,7 +12,7 @@ use Rattle.j39_tp.specs.declared.packet.Packet.TheVariants.{Rts, Cts, EndAck, Ba
 use Rattle.j39_tp.specs.declared.receiving.manner.Manner.TheVariants.{Answering}
 use Rattle.j39_tp.specs.declared.receiving.progress.Progress.{Progress}
 use Rattle.j39_tp.specs.declared.receiving.progress.Progress.TheVariants.{Closed, Open, Complete}
-use Rattle.j39_tp.specs.declared.sending.outcome.Outcome.TheVariants.{Sent}
+use Rattle.j39_tp.specs.declared.sending.outcome.Outcome.TheVariants.{GaveUp, Sent}
 use Rattle.j39_tp.specs.declared.sending.reaction.Reaction.{Reaction}
 use Rattle.j39_tp.specs.declared.sending.stage.Stage.{Stage}
 use Rattle.j39_tp.specs.declared.sending.stage.Stage.TheVariants.{Sending, Waiting, Resting}
@@ -35,6 +35,7 @@ use Rattle.j39_world.specs.SoundPlan.{Always}
 use Rattle.j39_world.specs.Transfers.{Outgoing, Reported, Sessions, Wire, is_among, added, closed_if_complete}
 use Rattle.j39_world.specs.TransferSteps.{targets_of, begun_stage, outgoing, first_item, BeginsAt, SendsAt, sent_to_receivers, session_after, reaction_of}
 use Rattle.j39_world.specs.TransferSteps.{receiver_replies, sender_replies, hearing, packet_taken, TakenFrom, LostFrom, packets_in, receiver_timed_out, rested}
+use Rattle.j39_world.specs.SwitchingOff.{is_either, session_without, sessions_without}
 use Rattle.j39_world.specs.World.{World, all_off, changed, changed_pair}
 use Rattle.j39_laws.proofs.Reports.Orderly.{IsPlanned, PlannedAt}
 use Rattle.j39_laws.proofs.Reports.SenderSteps.{no_session, begin_keeps}
@@ -43,6 +44,7 @@ use Rattle.j39_laws.proofs.Runs.Always.{IsPreserved, always}
 use Rattle.j39_laws.proofs.Runs.Changed.{changed_here, changed_elsewhere, changed_each, pair_each}
 use Rattle.j39_laws.proofs.Runs.Conditions.{none_refuses}
 use Rattle.j39_laws.proofs.Runs.Elements.{all-append, all_map, all_weaker}
+use Rattle.j39_laws.proofs.Runs.SwitchedOff.{lists_left, sessions_each, stage_left, targets_same}
 use Rattle.j39_laws.proofs.Transfers.Accounted.{SendsTo}
 use Rattle.j39_laws.proofs.Transfers.AccountedSteps.{IsKept, keeps, all_kept, over_with}
 use Rattle.j39_laws.proofs.Transfers.Naming.{IsOpenFor, AnswersAt, hears_answers, late_answers, IsRtsOf, hears_open, late_open, closed_open}
@@ -192,11 +194,40 @@ open_at Closed pgn is = absurd is
 open_at (Complete done) pgn is = absurd is
 
 -- a message to one is sent to it
-to_sends : (plan : Plan) (u : ℕ) (o : Option Outgoing) → PlannedAt plan u o → (t pgn : ℕ) → IsTo o t pgn → SendsTo o t
-to_sends plan u None planned t pgn is = absurd is
-to_sends plan u (Some s) planned t pgn is =
-    let alone : s.targets ≡ t ∷ [] = planned.one t is.0 in
-    subst (λ (targets : List ℕ). is_among targets t ≡ true) (sym alone) (let e : eqb t t ≡ true = eq-eqb t t refl in rw e refl)
+to_sends : (o : Option Outgoing) (t pgn : ℕ) → IsTo o t pgn → SendsTo o t
+to_sends None t pgn is = absurd is
+to_sends (Some s) t pgn is = is.2
+
+-- ---- u is switched off
+
+to_left : (u : ℕ) (sessions : Sessions) (x y pgn : ℕ) → x ≢ u → y ≢ u → IsTo (sessions x) y pgn → IsTo (sessions_without u sessions x) y pgn
+to_left u sessions x y pgn other_x other_y is =
+    subst (λ (o : Option Outgoing). IsTo o y pgn) (sym (changed_elsewhere (λ z. session_without u (sessions z)) u None x other_x)) (of (sessions x) is)
+  where
+    of : (o : Option Outgoing) → IsTo o y pgn → IsTo (session_without u o) y pgn
+    of None to = to
+    of (Some s) to = (to.0, to.1, targets_same u s.targets y other_y ∙ to.2)
+
+named_left : (u : ℕ) (sessions : Sessions) (s t : ℕ) → s ≢ u → t ≢ u → (item : Wired) → IsNamed sessions s t item
+    → IsNamed (sessions_without u sessions) s t item
+named_left u sessions s t other_s other_t (wired.Short bytes) is = tt
+named_left u sessions s t other_s other_t (wired.Packet (Rts size limit pgn)) is = to_left u sessions s t pgn other_s other_t is
+named_left u sessions s t other_s other_t (wired.Packet (Cts count start pgn)) is = tt
+named_left u sessions s t other_s other_t (wired.Packet (EndAck size pgn)) is = tt
+named_left u sessions s t other_s other_t (wired.Packet (Bam size pgn)) is = tt
+named_left u sessions s t other_s other_t (wired.Packet (Abort reason pgn)) is = elim is [
+  | inl here ↦ inl (to_left u sessions s t pgn other_s other_t here)
+  | inr there ↦ inr (to_left u sessions t s pgn other_t other_s there)
+]
+named_left u sessions s t other_s other_t (wired.Packet (Dt number seven)) is = tt
+named_left u sessions s t other_s other_t (wired.Alone f bytes) is = tt
+
+waits_left : (u : ℕ) (o : Option Outgoing) → WaitsForOne o → WaitsForOne (session_without u o)
+waits_left u None was = tt
+waits_left u (Some s) was = λ waits. elim (stage_left u s.to s.stage) [
+  | inl same ↦ was (sym same ∙ waits)
+  | inr gave_up ↦ absurd (let e : Resting GaveUp ≡ Waiting = sym gave_up ∙ waits in cc e)
+]
 
 -- ---- each step
 
@@ -255,11 +286,11 @@ module _ (plan : Plan) (w : World) (kept : IsKept plan w) (old : AllNamed w) whe
       sends_named u s (sender.after_timeout s.stage) p is
       (λ t among. says_late plan u s (planned_at u s is) t among (subst WaitsForOne is (old.waits u)) p late) (late_waits s.to s.stage)
 
-  pub begin_named : (f : ℕ) (o : Option Flow) (bytes : List ℕ) → begin_refusal (count_of plan) w o bytes ≡ None → (new : World)
+  pub begin_named : (f : ℕ) (o : Option Flow) (bytes : List ℕ) → begin_refusal plan.live (count_of plan) w o bytes ≡ None → (new : World)
       → BeginsAt (count_of plan) w f o bytes new → AllNamed new
   begin_named f None bytes allowed new never = absurd never
   begin_named f (Some flow) bytes allowed new e =
-      let (sendable, (on, (told, (addressed, (free, rest))))) = none_hold (begin_refusals (count_of plan) w (Some flow) bytes) allowed in
+      let (sendable, (on, (told, (addressed, (free, rest))))) = none_hold (begin_refusals plan.live (count_of plan) w (Some flow) bytes) allowed in
       let o : Outgoing = outgoing (count_of plan) w.stations f flow bytes in
       let idle : w.sessions flow.sender ≡ None = no_session (w.sessions flow.sender) free in
       let keep : KeepsTo (w.sessions flow.sender) (Some o) = λ t pgn to. absurd (subst (λ (x : Option Outgoing). IsTo x t pgn) idle to) in
@@ -354,7 +385,7 @@ module _ (plan : Plan) (w : World) (kept : IsKept plan w) (old : AllNamed w) whe
   rest_named : (u : ℕ) → can_rest (count_of plan) w u ≡ true → AllNamed (rested w u)
   rest_named u can =
       let over = over_with plan w kept.transfers kept.accounted u can in
-      let sends : (t pgn : ℕ) → IsTo (w.sessions u) t pgn → SendsTo (w.sessions u) t = to_sends plan u (w.sessions u) (kept.transfers.order.planned u) in
+      let sends : (t pgn : ℕ) → IsTo (w.sessions u) t pgn → SendsTo (w.sessions u) t = to_sends (w.sessions u) in
       record {
         wire = λ s t. rested_items w.sessions u s t (w.wire s t) (old.wire s t)
             (λ same pgn to. subst (λ k. AllByRecursion (λ item. not (is_of_sender item) ≡ true) (w.wire k t)) (sym same) (over t (sends t pgn to)).0)
@@ -383,7 +414,16 @@ module _ (plan : Plan) (w : World) (kept : IsKept plan w) (old : AllNamed w) whe
 
   named_keeps : (step : Step) → refusal plan w step ≡ None → (new : World) → StepsTo plan w step new → AllNamed new
   named_keeps (Up u) allowed new e = subst AllNamed (sym e) (record { wire = dropped u; receivers = old.receivers; waits = old.waits })
-  named_keeps (Down u) allowed new e = subst AllNamed (sym e) (record { wire = dropped u; receivers = old.receivers; waits = old.waits })
+  named_keeps (Down u) allowed new e = subst AllNamed (sym e) (record {
+    wire = lists_left u (IsNamed (sessions_without u w.sessions)) w.wire
+        (λ s t other_s other_t. all_weaker (IsNamed w.sessions s t) (IsNamed (sessions_without u w.sessions) s t)
+        (named_left u w.sessions s t other_s other_t) (w.wire s t) (old.wire s t));
+    receivers = λ t s pgn. cond_both (is_either u t s) Closed (w.receivers t s)
+        (λ (x : Progress). IsOpenFor x pgn → IsTo (sessions_without u w.sessions s) t pgn) (λ _ never. absurd never)
+        (λ none opened. let parts = or_parts (eqb t u) (eqb s u) none in
+        to_left u w.sessions s t pgn (eqb-false s u parts.1) (eqb-false t u parts.0) (old.receivers t s pgn opened));
+    waits = sessions_each u (λ _ x. WaitsForOne x) w.sessions tt (λ x _. waits_left u (w.sessions x) (old.waits x));
+  })
   named_keeps (Give u v) allowed new leads = give_named u v (w.claims u v) new leads
   named_keeps (Ask u) allowed new e = subst AllNamed (sym e) (record { wire = old.wire; receivers = old.receivers; waits = old.waits })
   named_keeps (Begin f bytes) allowed new leads = begin_named f (slice_get (flows_of plan) f) bytes.items allowed new leads

@@ -35,7 +35,6 @@ use Rattle.j39_world.specs.TransferSteps.{first_item, session_after, reaction_of
 use Rattle.j39_laws.proofs.Runs.ReceiverRows.{hears_by}
 use Rattle.j39_laws.proofs.Reports.Hearings.{directed_to}
 use Rattle.j39_laws.proofs.Reports.Orderly.{IsPlanned, PlannedAt}
-use Rattle.j39_laws.proofs.Reports.SenderSteps.{among_one}
 
 -- ---- a receiver
 
@@ -131,10 +130,10 @@ closed_open (Complete done) pgn never = absurd never
 
 -- ---- a sender
 
--- it sends a message to t alone of this group
+-- it sends a message to t alone of this group, and t is on still
 abbrev pub IsTo : Option Outgoing → ℕ → ℕ → Type 0
 IsTo None t pgn = ⊥
-IsTo (Some s) t pgn = (s.to ≡ tos.One t) × (s.pgn ≡ pgn)
+IsTo (Some s) t pgn = (s.to ≡ tos.One t) × (s.pgn ≡ pgn) × (is_among s.targets t ≡ true)
 
 -- it sends t an item: an RTS and an Abort name the group of a message to t alone
 abbrev pub SaysTo : Option Outgoing → ℕ → Wired → Type 0
@@ -153,9 +152,7 @@ module _ (plan : Plan) (u : ℕ) (s : Outgoing) (planned : IsPlanned plan u s.to
   -- where it sends to one, that is t
   to_it : (x : ℕ) → s.to ≡ tos.One x → IsTo (Some s) t s.pgn
   to_it x one =
-      let alone : s.targets ≡ x ∷ [] = planned.one x one in
-      let same : t ≡ x = among_one x t (subst (λ (targets : List ℕ). is_among targets t ≡ true) alone among) in
-      (one ∙ ap tos.One (sym same), refl)
+      let same : t ≡ x = planned.one x t one among in (one ∙ ap tos.One (sym same), refl, among)
 
   pub says_first : (flow : Flow) (bytes : List ℕ) → s.to ≡ flow.to → s.pgn ≡ flow.pgn → SaysTo (Some s) t (first_item flow bytes)
   says_first flow bytes to_is pgn_is =
@@ -164,7 +161,7 @@ module _ (plan : Plan) (u : ℕ) (s : Outgoing) (planned : IsPlanned plan u s.to
     where
       announced : (to : To) → s.to ≡ to → SaysTo (Some s) t (wired.Packet (sender.announcement (dest_of to) flow.pgn (length bytes)))
       announced tos.All is = tt
-      announced (tos.One x) is = let here = to_it x is in (here.0, pgn_is)
+      announced (tos.One x) is = let here = to_it x is in (here.0, pgn_is, among)
 
   pub says_data : (p : Packet) → sender.data_next s.bytes s.stage ≡ Some p → SaysTo (Some s) t (wired.Packet p)
   says_data p next = at_stage s.stage next
