@@ -17,6 +17,7 @@ pub mod Running
 pub mod Settled
 pub mod Standing
 pub mod Steady
+pub mod SwitchedOff
 pub mod SwitchedOn
 pub mod WellFormed
 pub mod Worlds

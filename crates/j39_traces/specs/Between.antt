@@ -18,7 +18,7 @@ use Rattle.j39_world.specs.PlannedUnits.{unit_at, units_of}
 use Rattle.j39_world.specs.Run.{Follows}
 use Rattle.j39_world.specs.Sent.{Sent, sent_of}
 use Rattle.j39_world.specs.SoundPlan.{IsSending}
-use Rattle.j39_world.specs.Transfers.{Outgoing}
+use Rattle.j39_world.specs.Transfers.{Outgoing, is_among}
 use Rattle.j39_world.specs.World.{World}
 use Rattle.j39_follow.specs.FollowReports.{is_to_all}
 use Rattle.j39_follow.specs.Who.{IsWho}
@@ -69,12 +69,13 @@ abbrev pub HasAddress : World → ℕ → Type 0
 HasAddress w u = ((w.stations u).on ≡ true) × ((a : ℕ) × ((w.stations u).address ≡ Some a))
 
 pub record EndsKeepAddresses (plan : Plan) (w : World) : Type 0 where
-  -- who sends a message is on and holds an address, and so is the unit that it is for, where it is for one; it is of a flow between them
+  -- who sends a message is on and holds an address, and so is the unit that it is for, where it is for one, of a live plan while this one hasn't
+  -- gone off since; it is of a flow between them
   pub sender : (u : ℕ) (s : Outgoing) → w.sessions u ≡ Some s → HasAddress w u
-  pub receiver : (u v : ℕ) (s : Outgoing) → w.sessions u ≡ Some s → s.to ≡ One v → HasAddress w v
+  pub receiver : (u v : ℕ) (s : Outgoing) → w.sessions u ≡ Some s → s.to ≡ One v → (plan.live ≡ true → is_among s.targets v ≡ true) → HasAddress w v
   pub flow : (u : ℕ) (s : Outgoing) → w.sessions u ≡ Some s → FlowGoes plan s.flow u s.to
-  -- while a message is sent, whoever sends it, no step changes the address of any unit, nor what else it is
-  pub still : IsSending w → (step : Step) (after : World) → Follows plan w step after → after.stations ≡ w.stations
+  -- of a plan that isn't live, while a message is sent, whoever sends it, no step changes the address of any unit, nor what else it is
+  pub still : plan.live ≡ false → IsSending w → (step : Step) (after : World) → Follows plan w step after → after.stations ≡ w.stations
 
 -- ---- their addresses
 

@@ -123,7 +123,7 @@ added_elsewhere wire s targets item x y other =
 
 -- ---- a sender that rests hears nothing
 
-resting_hears : (dest : Dest) (own size : ℕ) (outcome : Outcome) (p : Packet) → (sender.stage_hears dest own size (Resting outcome) p).0 ≡ Resting outcome
+pub resting_hears : (dest : Dest) (own size : ℕ) (outcome : Outcome) (p : Packet) → (sender.stage_hears dest own size (Resting outcome) p).0 ≡ Resting outcome
 resting_hears dests.All own size outcome p = refl
 resting_hears dests.One own size outcome (Cts count first pgn) = cond_both (eqb pgn own) _ _ (λ (x : Stage × Reaction). x.0 ≡ Resting outcome) (λ _. refl) (λ _. refl)
 resting_hears dests.One own size outcome (EndAck received pgn) =

@@ -1,5 +1,5 @@
 -- Which group an RTS or an Abort names: that of a message to one unit, of its sender or of a receiver that is open for it.
-use Rattle.std.proofs.Common.{◌≡◌, ℕ, ◌⊎◌, inl, inr, ◌&&◌, true, eqb, List, [], ◌∷◌, length, refl, sym, ap, ◌∙◌, subst, Option, Some, None}
+use Rattle.std.proofs.Common.{◌≡◌, ℕ, ◌⊎◌, inl, inr, ◌&&◌, true, false, eqb, List, [], ◌∷◌, length, refl, sym, ap, ◌∙◌, subst, Option, Some, None}
 use Rattle.std.specs.Prelude.{map, nat_lt}
 use Rattle.std.specs.List.{AllByRecursion}
 use Rattle.std.proofs.lemmas.Bool.{cond_both}
@@ -147,6 +147,11 @@ SaysTo o t _ = Unit {0}
 abbrev pub WaitsForOne : Option Outgoing → Type 0
 WaitsForOne None = Unit {0}
 WaitsForOne (Some s) = s.stage ≡ Waiting → (x : ℕ) × (s.to ≡ tos.One x)
+
+-- a message to one unit that goes to it no more has ended
+abbrev pub HasEndedWithout : Option Outgoing → Type 0
+HasEndedWithout None = Unit {0}
+HasEndedWithout (Some s) = (x : ℕ) → s.to ≡ tos.One x → is_among s.targets x ≡ false → (outcome : Outcome) × (s.stage ≡ Resting outcome)
 
 module _ (plan : Plan) (u : ℕ) (s : Outgoing) (planned : IsPlanned plan u s.to s.targets) (t : ℕ) (among : is_among s.targets t ≡ true) where
   -- where it sends to one, that is t
