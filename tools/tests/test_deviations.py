@@ -3,6 +3,7 @@
 import contextlib
 import io
 import json
+import math
 import os
 import signal
 import subprocess
@@ -11,7 +12,7 @@ import time
 from collections.abc import Sequence
 
 from j39plan import program
-from j39plan.log.checks.marks import Feed
+from j39plan.log.checks.feed import Feed
 from j39plan.plan.tables import Tables
 from tests.support import TOOLS, InFolder, run, there, without_times
 
@@ -240,23 +241,21 @@ class Transfers(Deviations):
         self.assertEqual(self.whole(RTS, CLEAR, *PACKETS, RTS, CLEAR, *PACKETS, WHOLE, last=2.5), [text])
 
 
-class Marks(Deviations):
-    def marked(self, *frames: str, plan: str = PLAN) -> list[int]:
-        """The numbers of the lines of a log that have a mark."""
-        tables = Tables.of(self.write("plan.toml", plan))
-        log = io.BytesIO("".join(f"(1.0) {frame}\n" for frame in frames).encode())
-        return [number for number, mark in enumerate(b"".join(Feed(tables.groups, tables.timing).pieces(log)).split(b"\n")[1::2], 1) if mark]
+class LinesBeside(Deviations):
+    def noted(self, *frames: str, plan: str = PLAN) -> tuple[list[int], list[int]]:
+        """The numbers of the lines of a log of which `follow` says nothing, and of those of which it doesn't say all."""
+        feed = Feed(Tables.of(self.write("plan.toml", plan)).timing)
+        list(feed.pieces(io.BytesIO("".join(f"(1.0) {frame}\n" for frame in frames).encode())))
+        return [noted.line for noted in feed.unheard(math.inf)], [line for line in range(1, len(frames) + 1) if feed.beside(line)]
 
-    def test_packets(self) -> None:
-        """Those of a planned group all; of another one each fourth, but where the plan has timing. Another interface has messages of its own."""
-        planned, another = "can0 1CECFF0B#20110003FFECFE00", "can0 1CECFF0B#20270006FFEBFE00"
-        packets = [f"can0 1CEBFF0B#0{number}AAAAAAAAAAAAAA" for number in range(1, 7)]
-        self.assertEqual(self.marked(planned, *packets[:3]), [1, 2, 3, 4])
-        self.assertEqual(self.marked(another, *packets), [1, 5])
-        self.assertEqual(self.marked(another, *packets, planned, *packets[:3]), [1, 5, 8, 9, 10, 11])
-        self.assertEqual(self.marked(planned, another.replace("can0", "can1"), *packets[:3]), [1, 2, 3, 4, 5])
-        timing = PLAN.replace("version = 4", "version = 4\ntiming = { bitrate = 250000, unplanned = 9 }")
-        self.assertEqual(self.marked(another, *packets, plan=timing), [1, 2, 3, 4, 5, 6, 7])
+    def test_which_are_noted(self) -> None:
+        """Error frames of the interface that is read, and acknowledgements; where the plan has timing also 11-bit frames, and claims and requests
+        that are more urgent than unplanned frames may be."""
+        frames = ("can0 20000004#0001000000000000", "can0 18FEF100#00", "can1 20000004#0001000000000000", "can0 123#00", "can0 0CEAFF0B#00EE00",
+                  "can0 18EAFF0B#00EE00", "can0 18E8FF00#00FFFFFF0BECFE00 R")
+        self.assertEqual(self.noted(*frames), ([1], [7]))
+        timing = PLAN.replace("version = 4", "version = 4\ntiming = { bitrate = 250000, unplanned = 9, unplanned_priority = 6 }")
+        self.assertEqual(self.noted(*frames, plan=timing), ([1, 4], [5, 7]))
 
 
 class Forms(Deviations):
