@@ -2,10 +2,10 @@ use Rattle.std.proofs.Common.{◌≡◌, true, false, length, refl, sym, ◌∙�
 use Rattle.std.proofs.lemmas.Bool.{true≢false}
 use Rattle.std.proofs.lemmas.Option.{slice_get_read}
 use Rattle.std.specs.List.{slice_get}
-use Rattle.j39_load.specs.Standing.{is_mover_by}
-use Rattle.j39_load.proofs.WhoStays.{least_skips, least_takes}
-use Rattle.j39_load.proofs.standing.mover_of.Goals.{then-is_mover, else-is_mover}
-use Rattle.j39_load.proofs.standing.mover_of.Goals as goal
+use Rattle.j39_findings.specs.Standing.{is_mover_by}
+use Rattle.j39_findings.proofs.WhoStays.{least_skips, least_takes}
+use Rattle.j39_findings.proofs.standing.mover_of.Goals.{then-is_mover, else-is_mover}
+use Rattle.j39_findings.proofs.standing.mover_of.Goals as goal
 
 pub loop-unit-preserved : goal.loop-unit-preserved
 loop-unit-preserved c =

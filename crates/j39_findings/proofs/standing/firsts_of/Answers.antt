@@ -2,9 +2,9 @@ use Rattle.std.proofs.Common.{◌≡◌, ◌<◌, arith, length, get_or, refl, a
 use Rattle.std.proofs.lemmas.List.{get_or_default}
 use Rattle.std.proofs.lemmas.Option.{slice_get_read}
 use Rattle.std.specs.List.{slice_get}
-use Rattle.j39_load.specs.Standing.{smaller}
-use Rattle.j39_load.proofs.WhoStays.{entered, none_entered}
-use Rattle.j39_load.proofs.standing.firsts_of.Goals as goal
+use Rattle.j39_findings.specs.Standing.{smaller}
+use Rattle.j39_findings.proofs.WhoStays.{entered, none_entered}
+use Rattle.j39_findings.proofs.standing.firsts_of.Goals as goal
 
 pub loop-unit-init : goal.loop-unit-init
 loop-unit-init c = none_entered c.args.units.now

@@ -1,9 +1,9 @@
-//! Which units of a plan hold their planned addresses, whatever the others do.
+//! Which units of a plan hold their planned addresses, whatever the others do, and which are alone there.
 ghost use Rattle.std.specs.Prelude.{◌≡◌, length, IsTrue};
-ghost use Rattle.j39_load.specs.Loads.{may_move};
-ghost use Rattle.j39_load.specs.Standing.{AreFirsts, TellsWhoStays, IsMover, is_first_by, is_least, is_mover_by, is_settled, smaller, stays_by, stays_of};
+ghost use Rattle.j39_findings.specs.Standing.{AreFirsts, AreTold, AreTwoThere, TellsWhoIsAlone, TellsWhoStays, IsMover, alone_of, is_alone_by, is_first_by, is_least, is_mover_by, is_settled, smaller, stays_by, stays_of};
 
-use j39_findings::{Plan, UnitPlan};
+use crate::plan::{Plan, UnitPlan};
+use j39_claim::AddressSet;
 use j39_id::Name;
 use j39_id::addresses::is_in_pool;
 
@@ -45,6 +45,20 @@ fn firsts_of(units: &[UnitPlan]) -> Firsts
     firsts
 }
 
+// At which addresses more than one unit is planned.
+fn shared_addresses(units: &[UnitPlan]) -> [bool; 256]
+    ensures { AreTold (AreTwoThere units.now (length units.now)) result }
+{
+    let mut planned = [false; 256];
+    let mut shared = [false; 256];
+    for unit in units {
+        let place = usize::from(unit.address.number());
+        shared[place] = shared[place] || planned[place];
+        planned[place] = true;
+    }
+    shared
+}
+
 // It may choose, and isn't the first at its planned address.
 fn is_mover(firsts: &Firsts, unit: &UnitPlan) -> bool
     ensures { result ≡ is_mover_by firsts.now unit.now }
@@ -72,6 +86,21 @@ fn stays_among(firsts: &Firsts, mover: Option<Name>, unit: &UnitPlan) -> bool
     is_first(firsts, unit) && (!is_in_pool(unit.address.number()) || is_least(mover, unit.name))
 }
 
+// It is the only one that is planned at its address, and none moves there: strangers don't know what is kept free.
+fn is_alone_among(
+    shared: &[bool; 256],
+    mover: Option<Name>,
+    strangers: bool,
+    kept: &AddressSet,
+    unit: &UnitPlan,
+) -> bool
+    ensures { result ≡ is_alone_by shared.now mover strangers kept.now unit.now }
+{
+    !shared[usize::from(unit.address.number())]
+        && (!is_in_pool(unit.address.number())
+            || !strangers && (kept.has(unit.address) || mover.is_none()))
+}
+
 // Where strangers come a unit that may choose may have to move for one.
 fn is_settled(strangers: bool, unit: &UnitPlan) -> bool
     ensures { result ≡ is_settled strangers unit.now }
@@ -79,11 +108,13 @@ fn is_settled(strangers: bool, unit: &UnitPlan) -> bool
     !strangers || !unit.name.is_arbitrary()
 }
 
-/// What tells which units of a plan stay.
+/// What tells which units of a plan stay, and which are alone at their addresses.
 #[derive(Drop)]
 pub struct Standing {
     /// The smallest NAME that is planned at each address.
     pub firsts: [Option<Name>; 256],
+    /// Whether more than one unit is planned at each address.
+    pub shared: [bool; 256],
     /// The smallest NAME of those that may have to move.
     pub mover: Option<Name>,
     /// Whether units that stand in no plan may come.
@@ -92,12 +123,14 @@ pub struct Standing {
 
 impl Standing {
     pub fn new(plan: &Plan) -> Self
-        ensures { TellsWhoStays plan.now (stays_of result) }
+        ensures stays { TellsWhoStays plan.now (stays_of result) }
+        ensures alone { TellsWhoIsAlone plan.now (alone_of result plan.now.keep_free) }
     {
         let firsts = firsts_of(plan.units.as_slice());
         let mover = mover_of(plan.units.as_slice(), &firsts);
         Standing {
             firsts,
+            shared: shared_addresses(plan.units.as_slice()),
             mover,
             strangers: plan.strangers > 0,
         }
@@ -109,10 +142,10 @@ impl Standing {
         stays_among(&self.firsts, self.mover, unit) && is_settled(self.strangers, unit)
     }
 
-    /// Whether the unit may come to hold another address than its planned one.
-    pub(crate) fn may_move(&self, unit: &UnitPlan) -> bool
-        ensures { result ≡ may_move (stays_of self.now) unit.now }
+    /// Whether no other unit ever holds the unit's planned address, where these are kept free.
+    pub fn is_alone(&self, kept: &AddressSet, unit: &UnitPlan) -> bool
+        ensures { result ≡ alone_of self.now kept.now unit.now }
     {
-        unit.name.is_arbitrary() && !self.stays(unit)
+        is_alone_among(&self.shared, self.mover, self.strangers, kept, unit)
     }
 }

@@ -12,9 +12,9 @@ use Rattle.j39_id.specs.Name.{is_arbitrary}
 use Rattle.j39_claim.specs.ClaimRule.{PlannedUnit}
 use Rattle.j39_findings.specs.declared.plan.Plan.{Plan}
 use Rattle.j39_findings.specs.declared.plan.unit_plan.UnitPlan.{UnitPlan}
-use Rattle.j39_world.specs.PlannedUnits.{planned_unit, units_of, unit_at}
-use Rattle.j39_world.specs.Staying.{EachSmaller, IsFirstThere, IsOutsidePool, Stays}
-use Rattle.j39_load.specs.Standing.{AreFirsts, TellsWhoStays, IsLeastName, IsMover, is_first_by, is_least, is_mover_by, is_settled, smaller, stays_by}
+use Rattle.j39_findings.specs.PlannedUnits.{planned_unit, units_of, unit_at}
+use Rattle.j39_findings.specs.Staying.{EachSmaller, IsFirstThere, IsOutsidePool, Stays}
+use Rattle.j39_findings.specs.Standing.{AreFirsts, TellsWhoStays, IsLeastName, IsMover, is_first_by, is_least, is_mover_by, is_settled, smaller, stays_by}
 
 module _ (units : List UnitPlan) (count : ℕ) (Among : UnitPlan → Type 0) (least : Option ℕ) (old : IsLeastName units count Among least)
     (unit : UnitPlan) (at : slice_get units count ≡ Some unit) where
@@ -112,7 +112,7 @@ least-false : (least : Option ℕ) (name : ℕ) → is_least least name ≡ fals
 least-false None name is = absurd (true≢false is)
 least-false (Some m) name is = (m, refl, leb-false name m is)
 
-told_by : (b : Bool) (P Q : Type 0) → (b ≡ true → P) → (b ≡ false → Q) → MatchBool b P Q
+pub told_by : (b : Bool) (P Q : Type 0) → (b ≡ true → P) → (b ≡ false → Q) → MatchBool b P Q
 told_by true P Q is isnt = is refl
 told_by false P Q is isnt = isnt refl
 
@@ -132,7 +132,7 @@ placed kept [] i inside = absurd (omega arith)
 placed kept (p ∷ ps) zero inside = (p, refl, refl)
 placed kept (p ∷ ps) (suc i) inside = placed kept ps i (omega arith)
 
-planned_at : (kept : FinSet nat_cmp) (ps : List UnitPlan) (u : ℕ) (unit : UnitPlan) → slice_get ps u ≡ Some unit
+pub planned_at : (kept : FinSet nat_cmp) (ps : List UnitPlan) (u : ℕ) (unit : UnitPlan) → slice_get ps u ≡ Some unit
     → (u < length (map (planned_unit kept) ps)) × (unit_at (map (planned_unit kept) ps) u ≡ planned_unit kept unit)
 planned_at kept ps u unit at =
     let inside : u < length (map (planned_unit kept) ps) = let below = slice_get_within ps u unit at in omega (arith, below, length-map ps (planned_unit kept)) in
@@ -148,7 +148,7 @@ module _ (plan : Plan) (firsts : List (Option ℕ)) (mover : Option ℕ) (are_fi
       → IsLeastName plan.units.items (length plan.units.items) (λ x. x.address ≡ unit.address) (get_or firsts unit.address None)
   by_address unit = are_firsts.each unit.address (omega (arith, unit.address_range))
 
-  first_told : (u : ℕ) (unit : UnitPlan) → IsAt u unit → is_first_by firsts unit ≡ true → IsFirstThere (units_of plan) u
+  pub first_told : (u : ℕ) (unit : UnitPlan) → IsAt u unit → is_first_by firsts unit ≡ true → IsFirstThere (units_of plan) u
   first_told u unit at is v in_v smaller same =
       let (_, is_u) = planned_at plan.keep_free plan.units.items u unit at in
       let (p, at_v, is_v) = placed plan.keep_free plan.units.items v in_v in
@@ -159,7 +159,7 @@ module _ (plan : Plan) (firsts : List (Option ℕ)) (mover : Option ℕ) (are_fi
       let name_v = ap (λ (c : PlannedUnit). c.name) is_v in
       omega (arith, at_most, below, smaller, name_u, name_v)
 
-  not_first_told : (u : ℕ) (unit : UnitPlan) → IsAt u unit → is_first_by firsts unit ≡ false → ¬ IsFirstThere (units_of plan) u
+  pub not_first_told : (u : ℕ) (unit : UnitPlan) → IsAt u unit → is_first_by firsts unit ≡ false → ¬ IsFirstThere (units_of plan) u
   not_first_told u unit at isnt first =
       let (_, is_u) = planned_at plan.keep_free plan.units.items u unit at in
       let (n, least, below) = least-false (get_or firsts unit.address None) unit.name isnt in

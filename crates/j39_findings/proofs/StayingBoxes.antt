@@ -16,9 +16,9 @@ use Rattle.j39_findings.specs.VehiclePlans.{IsBoxOf, IsVehicleOf}
 use Rattle.j39_findings.specs.declared.plan.Plan.{Plan}
 use Rattle.j39_findings.specs.declared.plan.unit_plan.UnitPlan.{UnitPlan}
 use Rattle.j39_findings.proofs.Boxes.{AreOrderedAlike}
-use Rattle.j39_findings.proofs.Vehicles.{AreBoth, both_at, box_chooses, ordered}
-use Rattle.j39_world.specs.PlannedUnits.{planned_unit, units_of, unit_at}
-use Rattle.j39_world.specs.Staying.{EachOther, EachSmaller, IsAloneThere, IsFirstThere, IsOutsidePool, StayAlike, Stays, StaysBeside}
+use Rattle.j39_findings.proofs.VehicleUnits.{AreBoth, both_at, box_chooses, ordered}
+use Rattle.j39_findings.specs.PlannedUnits.{planned_unit, units_of, unit_at}
+use Rattle.j39_findings.specs.Staying.{EachOther, EachSmaller, IsAloneThere, IsFirstThere, IsOutsidePool, StayAlike, Stays, StaysBeside}
 
 -- ---- two lists of units whose places, choices and order of NAMEs are alike
 
@@ -208,6 +208,13 @@ module _ (plan vehicle : Plan) (is : IsVehicleOf plan vehicle) (apart : AreToldA
     choices = λ u. sym (same_choices u);
     order = in_order bs us (λ w none. ap (λ (p : PlannedUnit). p.name) none.planned) refl (λ u v differ one other. sym (same_orders u v differ one other));
   }
+
+  -- an address is outside the pool in both
+  pub outside_alike : (u : ℕ) → IsOutsidePool us u → IsOutsidePool bs u
+  outside_alike = outside_over us bs to_vehicle
+
+  pub outside_back : (u : ℕ) → IsOutsidePool bs u → IsOutsidePool us u
+  outside_back = outside_over bs us to_plan
 
   pub stay_alike : StayAlike plan.keep_free plan.strangers us bs
   stay_alike = record {
