@@ -110,21 +110,25 @@ module _ (plan vehicle : Plan) (is : IsVehicleOf plan vehicle) (apart : AreToldA
       Decides-both _ _ (IsContested vehicle flow) (IsContested plan flow) in_vehicle in_plan
       (contested_over vehicle plan to_vehicle live_there live flow) (contested_over plan vehicle to_plan live live_there flow)
 
-  contested_found : contested_findings plan.live vehicle.keep_free vehicle.strangers boxes plan.flows.items
+  contested_found : contested_findings vehicle.live vehicle.keep_free vehicle.strangers boxes vehicle.flows.items
       ≡ contested_findings plan.live plan.keep_free plan.strangers units plan.flows.items
   unfolding contested_findings
-  contested_found = go plan.live refl where
-    go : (b : Bool) → plan.live ≡ b
-        → contested_findings b vehicle.keep_free vehicle.strangers boxes plan.flows.items
-        ≡ contested_findings b plan.keep_free plan.strangers units plan.flows.items
-    go true live = each_same (is_contested (is_alone plan.keep_free plan.strangers units) units)
-        (is_contested (is_alone vehicle.keep_free vehicle.strangers boxes) boxes) (ends_alike live) FlowContested 0 plan.flows.items
-    go false none = refl
+  contested_found =
+      ap (λ b. contested_findings b vehicle.keep_free vehicle.strangers boxes vehicle.flows.items) is.live
+      ∙ ap (contested_findings plan.live vehicle.keep_free vehicle.strangers boxes) is.flows ∙ go plan.live refl
+    where
+      go : (b : Bool) → plan.live ≡ b
+          → contested_findings b vehicle.keep_free vehicle.strangers boxes plan.flows.items
+          ≡ contested_findings b plan.keep_free plan.strangers units plan.flows.items
+      go true live = each_same (is_contested (is_alone plan.keep_free plan.strangers units) units)
+          (is_contested (is_alone vehicle.keep_free vehicle.strangers boxes) boxes) (ends_alike live) FlowContested 0 plan.flows.items
+      go false none = refl
 
   pub same_found : found vehicle ≡ found plan
   unfolding found
   same_found =
       rw (
+        contested_found,
         is.keep_free,
         is.strangers,
         is.groups,
@@ -134,8 +138,6 @@ module _ (plan vehicle : Plan) (is : IsVehicleOf plan vehicle) (apart : AreToldA
         units_found plan.keep_free plan.strangers,
         kept_found plan.keep_free,
         silent_found plan.keep_free plan.strangers,
-        is.live,
-        rw (is.keep_free, is.strangers) at contested_found,
       ) refl
 
   -- ---- runs of conflicts
