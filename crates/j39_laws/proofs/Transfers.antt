@@ -6,7 +6,9 @@ pub mod Pairs
 pub mod Lowering
 pub mod Accounted
 pub mod AccountedSteps
-pub mod SentSettled
+pub mod SoundRuns
+pub mod OfFlows
+pub mod LiveEnds
 pub mod Ending
 pub mod Flights
 pub mod Coming

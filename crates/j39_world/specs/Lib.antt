@@ -11,6 +11,7 @@ pub mod Resting
 pub mod Run
 pub mod Sound
 pub mod Staying
+pub mod LiveEnds
 pub mod Strangers
 pub mod Settling
 pub mod Leading

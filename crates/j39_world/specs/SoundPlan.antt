@@ -2,7 +2,7 @@
 -- differ stay, what units have noted of one another is right where no claim is undelivered, what it keeps free stays free, its claims die
 -- down, and its messages come to their end; one of which nothing is lost arrives; some flow of it answers each request, and some flow brings
 -- each unit what it needs; and a message of such a flow of which nothing is lost reads there as it was written.
-use Rattle.std.specs.Prelude.{◌≡◌, ℕ, ◌<◌, false, List, length, Some}
+use Rattle.std.specs.Prelude.{◌≡◌, ℕ, ◌<◌, ◌⊎◌, false, List, length, Some}
 use Rattle.j39_findings.specs.Needs.{AreNeedsMet}
 use Rattle.j39_findings.specs.PlannedRequests.{AreAnsweredWell, AreRequestsServed}
 use Rattle.j39_findings.specs.SoundSignals.{SoundSignals}
@@ -19,7 +19,7 @@ use Rattle.j39_world.specs.Ending.{TransfersEnd}
 use Rattle.j39_world.specs.Arriving.{ArrivesUnanswered, ArrivesAnswered}
 use Rattle.j39_world.specs.Needed.{NeededValuesArrive}
 use Rattle.j39_world.specs.SentArriving.{SentFramesArrive, SentValuesArrive}
-use Rattle.j39_world.specs.Sound.{AreAddressesSound, AreAddressesDifferent, AreNotesRight, AreKeptFree, IsQuiet, AreReportsSound, AreSentFramesSound, IsAcknowledgedReported}
+use Rattle.j39_world.specs.Sound.{AreAddressesSound, AreAddressesDifferent, AreAllDelivered, AreNotesRight, AreKeptFree, DoesOneLie, IsQuiet, AreReportsSound, AreSentFramesSound, IsAcknowledgedReported}
 use Rattle.j39_world.specs.Staying.{ArePlannedApart, HoldsAlone, HoldsPlanned, IsAloneThere}
 use Rattle.j39_world.specs.Strangers.{HasStrangers}
 
@@ -38,9 +38,9 @@ IsSending w = (u : ℕ) × (o : Outgoing) × (w.sessions u ≡ Some o)
 pub record IsSound (plan : Plan) : Type 0 where
   -- each unit that is on holds an address, a fixed one its planned address; two hold one only while one is still to hear the other's claim
   pub addresses : Always plan (AreAddressesSound plan)
-  -- where no claim is undelivered, and while any message is sent, no two units hold one address
+  -- where no claim is undelivered no two units hold one address; nor, of a plan that isn't live, while any message is sent
   pub quiet : Always plan (λ w. IsQuiet w.claims → AreAddressesDifferent w)
-  pub sending : Always plan (λ w. IsSending w → AreAddressesDifferent w)
+  pub sending : plan.live ≡ false → Always plan (λ w. IsSending w → AreAddressesDifferent w)
   -- where no two units are planned with one address, each that is on holds its planned address
   pub planned : ArePlannedApart (units_of plan) → Always plan (λ w. (u : ℕ) → HoldsPlanned (units_of plan) w u)
   -- a unit that is alone at its planned address holds it while it is on, and no other one that is on does
@@ -60,8 +60,10 @@ pub record IsSound (plan : Plan) : Type 0 where
   pub signals : SoundSignals plan
   -- what a unit reports of another was begun by that one, in this order, and nothing twice
   pub reports : Always plan AreReportsSound
-  -- what it reports of frames that were sent alone was sent by that one, in this order, and nothing twice, and no address moves meanwhile
+  -- what it reports of frames that were sent alone was sent by that one, in this order, and nothing twice
   pub sent_frames : Always plan AreSentFramesSound
+  -- of a plan that isn't live no address moves while any message is sent, or while a frame is undelivered that was sent alone
+  pub delivered : plan.live ≡ false → Always plan (λ w. IsSending w ⊎ DoesOneLie w → AreAllDelivered w.claims)
   -- where a sender rests acknowledged, its receiver has reported the message
   pub acknowledged : Always plan IsAcknowledgedReported
   -- whoever goes on with messages comes to an end, where no unit is between its Begin and its Rest

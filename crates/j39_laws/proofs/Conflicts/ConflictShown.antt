@@ -25,7 +25,7 @@ use Rattle.j39_world.specs.declared.wired.Wired.{Wired}
 use Rattle.j39_world.specs.PlannedUnits.{planned_unit, units_of, unit_at}
 use Rattle.j39_world.specs.ClaimSteps.{GivenFrom, switched_on, heard_and_answered, told_to_others, without_lists_to, answer_items, first_items}
 use Rattle.j39_world.specs.Conflict.{IsLeftWithoutAddress, LeavesWithoutAddress}
-use Rattle.j39_world.specs.Run.{count_of, is_on, is_none_sending, is_nothing_undelivered, is_no_transfer_open, refusal, Run, RunsThrough}
+use Rattle.j39_world.specs.Run.{count_of, is_a_transfer_open, is_on, is_none_sending, is_nothing_undelivered, is_no_transfer_open, refusal, Run, RunsThrough}
 use Rattle.j39_world.specs.World.{World, Stations, Undelivered, all_off, changed, changed_pair, is_other_on}
 use Rattle.j39_laws.proofs.Certified.{quiet_where_empty}
 use Rattle.j39_laws.proofs.Settling.SettlingRuns.{reacted}
@@ -133,7 +133,7 @@ module _ (plan : Plan) (l s : ℕ) (unit_l : is_unit plan l ≡ true) (unit_s : 
   nothing false xs is = is
 
   up_l : refusal plan all_off (Up l) ≡ None
-  up_l = not_refused plan all_off (Up l) (not_from_true _ unit_l, (refl, (not_from_true _ (none_open (count_of plan) all_off (λ u. refl) (λ u v. refl)), tt)))
+  up_l = not_refused plan all_off (Up l) (not_from_true _ unit_l, (refl, (and_right (not plan.live) (is_a_transfer_open (count_of plan) all_off) (not_from_true _ (none_open (count_of plan) all_off (λ u. refl) (λ u v. refl))), tt)))
 
   one_on : IsOneOn (switched_on (units_of plan) all_off l)
   one_on =
@@ -150,7 +150,13 @@ module _ (plan : Plan) (l s : ℕ) (unit_l : is_unit plan l ≡ true) (unit_s : 
       }
 
   up_s : (w : World) → IsOneOn w → refusal plan w (Up s) ≡ None
-  up_s w is = not_refused plan w (Up s) (not_from_true _ unit_s, (is.off s (λ e. apart (sym e)), (not_from_true _ (none_open (count_of plan) w is.silent is.untaken), tt)))
+  up_s w is = not_refused plan w (Up s) (
+    not_from_true _ unit_s,
+    (
+      is.off s (λ e. apart (sym e)),
+      (and_right (not plan.live) (is_a_transfer_open (count_of plan) w) (not_from_true _ (none_open (count_of plan) w is.silent is.untaken)), tt),
+    ),
+  )
 
   still_one : (w : World) → IsOneOn w → (switched_on (units_of plan) w s).stations l ≡ started loser
   still_one w is = changed_elsewhere w.stations s (started winner) l apart ∙ is.one
