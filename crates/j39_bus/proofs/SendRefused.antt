@@ -1,5 +1,5 @@
 -- Why a frame is not sent alone.
-use Rattle.std.proofs.Common.{◌≡◌, ℕ, zero, suc, ◌<◌, ◌≤◌, nat_le, List, [], ◌∷◌, length, get_or, sym, ap, ◌∙◌, subst, arith, Option, Some, None}
+use Rattle.std.proofs.Common.{◌≡◌, ℕ, zero, suc, ◌<◌, ◌≤◌, Bool, nat_le, List, [], ◌∷◌, length, get_or, sym, ap, ◌∙◌, subst, arith, Option, Some, None}
 use Rattle.std.proofs.lemmas.Bool.{and_parts, leb-true, not-false}
 use Rattle.std.specs.List.{slice_get}
 use Rattle.j39_bus.specs.declared.network.Network.{Network}

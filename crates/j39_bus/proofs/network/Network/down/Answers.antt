@@ -50,15 +50,14 @@ returns-clause-steps c = record {
   of_plan = λ plan of h held.
       let net = c.args.self.now in
       let u = c.args.unit in
-      let inside : u < length net.claimers.items = c.requires.allowed.finds in
-      (
+      let inside : u < length net.claimers.items = c.requires.allowed.finds in (
         h,
         switched_off_world net.claimers.items u inside c.index_mut.result.now c.stop.new.self c.index_mut.ensures.value c.stop.ensures
-        (world_in h net) (pair_in net.claims.lists) (pair_in c.clear_to.new.self.lists) (map sent_of net.frames.items) c.clear_to.ensures.lists
-        _ c.switch_off.ensures.sessions
-        _ (lists_gone u (pair_in net.wire.lists) (pair_in c.clear_to-2.new.self.lists) (pair_in c.clear_from.new.self.lists)
-        c.clear_to-2.ensures.lists c.clear_from.ensures.lists)
-        _ (receivers_gone u net.receivers c.switch_off-2.new.self c.switch_off-2.ensures.after),
+            (world_in h net) (pair_in net.claims.lists) (pair_in c.clear_to.new.self.lists) (map sent_of net.frames.items) c.clear_to.ensures.lists
+            _ c.switch_off.ensures.sessions
+            _ (lists_gone u (pair_in net.wire.lists) (pair_in c.clear_to-2.new.self.lists) (pair_in c.clear_from.new.self.lists)
+            c.clear_to-2.ensures.lists c.clear_from.ensures.lists)
+            _ (receivers_gone u net.receivers c.switch_off-2.new.self c.switch_off-2.ensures.after),
         held_gone u net.receivers c.switch_off-2.new.self c.switch_off-2.ensures.after h.taken held,
       );
 }
