@@ -15,6 +15,7 @@ pub mod Coming
 pub mod ComingTaken
 pub mod Arriving
 pub mod Naming
+pub mod EndedWithout
 pub mod Named
 pub mod Beside
 pub mod Between

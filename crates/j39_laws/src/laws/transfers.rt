@@ -24,17 +24,18 @@ pub fn every_transfer_ends()
 {}
 
 /// In every world of every run of every plan, with all lawful choices and whatever is lost, what a unit reported of frames that another
-/// sent alone is a subsequence of what that one sent so for it, by its flow and its bytes (`sound`). Of a plan that isn't live, while one of
-/// them is undelivered no claim and no request is (`delivered`).
+/// sent alone is a subsequence of what that one sent so for it, by its flow and its bytes (`sound`). Of a plan that isn't live, while one
+/// of them is undelivered no claim and no request is (`delivered`).
 pub fn sent_frames_are_sound()
     ensures sound { (plan : Plans) (steps : List Steps) (w : World) → Run plan all_off steps w → AreSentFramesSound w }
     ensures delivered { (plan : Plans) (steps : List Steps) (w : World) → plan.live ≡ false → Run plan all_off steps w
         → DoesOneLie w → AreAllDelivered w.claims }
 {}
 
-/// In every world of every run of a live plan without findings, with all lawful choices: who sends a message is on and holds its planned address, no other unit that is on holds it and none claims it, and so
-/// is the unit that the message is for, where it is for one that is on still. Each unit that a message goes to still is on, and so is each of
-/// two between whom something lies on the wire. Of a frame that was sent alone and lies there the same is said as of a message.
+/// In every world of every run of a live plan without findings, with all lawful choices: who sends a message is on and holds its planned
+/// address, no other unit that is on holds it and none claims it, and so is the unit that the message is for, where it is for one that is
+/// on still. Each unit that a message goes to still is on, and so is each of two between whom something lies on the wire. Of a frame that
+/// was sent alone and lies there the same is said as of a message.
 pub fn ends_are_undisturbed()
     ensures { (plan : Plans) (steps : List Steps) (w : World) → Clean plan → plan.live ≡ true → Run plan all_off steps w
         → AreEndsUndisturbed plan w }
