@@ -19,6 +19,7 @@ mod lengths;
 mod needs;
 mod staying;
 mod strangers;
+mod switching_off;
 mod transfers;
 
 pub use arrivals::{answered_messages_arrive, sent_frames_arrive, unanswered_messages_arrive};
@@ -30,6 +31,7 @@ pub use staying::{
     units_stay_in_each_vehicle, who_stays,
 };
 pub use strangers::{strangers_can_come, strangers_keep_addresses, who_stays_with_strangers};
+pub use switching_off::units_only_stop_between_messages;
 pub use transfers::{
     ends_are_undisturbed, every_transfer_ends, sent_frames_are_sound, steps_lead_somewhere,
 };
