@@ -1,5 +1,5 @@
 -- What the laws say together of one plan.
-use Rattle.std.proofs.Common.{◌≡◌, ℕ, ◌<◌, false, List, [], length, arith, subst, inl, inr}
+use Rattle.std.proofs.Common.{◌≡◌, ℕ, ◌<◌, false, true, List, [], length, arith, subst, inl, inr}
 use Rattle.std.specs.List.{Contains}
 use Rattle.j39_claim.specs.declared.item.Say.TheVariants.{Claim, Cannot}
 use Rattle.j39_claim.specs.declared.item.Item.{Item}
@@ -16,6 +16,7 @@ use Rattle.j39_world.specs.PlannedUnits.{unit_at, units_of}
 use Rattle.j39_world.specs.Opening.{AreNamesDistinct}
 use Rattle.j39_world.specs.Settling.{Settles}
 use Rattle.j39_world.specs.Ending.{TransfersEnd}
+use Rattle.j39_world.specs.LiveEnds.{AreEndsUndisturbed}
 use Rattle.j39_world.specs.Arriving.{ArrivesUnanswered, ArrivesAnswered}
 use Rattle.j39_world.specs.Needed.{Delivered, ReportsNeeded, LastWrite, ReadsAsWritten, bytes_of}
 use Rattle.j39_world.specs.SentArriving.{HasArrivedAlone, NeededAlone, SentFramesArrive}
@@ -53,6 +54,7 @@ pub sound_by_laws : (plan : Plan) → Clean plan
     → ((p : Plan) (steps : List Step) (w : World) → Run p all_off steps w → AreSentFramesSound w)
     → ((p : Plan) (steps : List Step) (w : World) → p.live ≡ false → Run p all_off steps w → DoesOneLie w → AreAllDelivered w.claims)
     → ((p : Plan) (steps : List Step) (w : World) → Run p all_off steps w → IsAcknowledgedReported w)
+    → ((p : Plan) (steps : List Step) (w : World) → Clean p → p.live ≡ true → Run p all_off steps w → AreEndsUndisturbed p w)
     → ((p : Plan) (steps : List Step) (w : World) → Run p all_off steps w → TransfersEnd p w)
     → ((p : Plan) (steps : List Step) (w : World) → Run p all_off steps w → ArrivesUnanswered p w)
     → ((p : Plan) (steps : List Step) (w : World) → Run p all_off steps w → ArrivesAnswered p w)
@@ -69,7 +71,7 @@ pub sound_by_laws : (plan : Plan) → Clean plan
     → (n : NeededAlone p w) (x : LastWrite n.message) → ReadsAsWritten n.message x x.write.place)
     → IsSound plan
 sound_by_laws plan clean addresses different planned alone silent strangers strangers_quiet notes kept settles signals reports delivered sent_frames beside
-    acknowledged ends arrives arrives_answered sent_arrive served answered needs needed read needed_sent read_sent = record {
+    acknowledged undisturbed ends arrives arrives_answered sent_arrive served answered needs needed read needed_sent read_sent = record {
       addresses = λ steps w run. addresses plan steps w clean run;
       quiet = λ steps w run. different plan steps w clean run;
       sending = λ quiet steps w run sends. different plan steps w clean run (quiet_where_empty w.claims (delivered plan steps w quiet run sends));
@@ -89,6 +91,7 @@ sound_by_laws plan clean addresses different planned alone silent strangers stra
         | inr lies ↦ beside plan steps w quiet run lies
       ];
       acknowledged = λ steps w run. acknowledged plan steps w run;
+      undisturbed = λ live steps w run. undisturbed plan steps w clean live run;
       ends = λ steps w run. ends plan steps w run;
       arrives = λ steps w run. arrives plan steps w run;
       arrives_answered = λ steps w run. arrives_answered plan steps w run;

@@ -30,7 +30,10 @@ pub use staying::{
     smaller_names_are_undisturbed, units_hold_planned_or_pool_addresses,
     units_stay_in_each_vehicle, who_stays,
 };
-pub use strangers::{strangers_can_come, strangers_keep_addresses, who_stays_with_strangers};
+pub use strangers::{
+    strangers_can_come, strangers_disturb_no_message, strangers_keep_addresses,
+    who_stays_with_strangers,
+};
 pub use switching_off::units_only_stop_between_messages;
 pub use transfers::{
     ends_are_undisturbed, every_transfer_ends, sent_frames_are_sound, steps_lead_somewhere,

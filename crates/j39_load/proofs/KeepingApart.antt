@@ -30,7 +30,7 @@ use Rattle.j39_load.specs.KeptTogether.{CanBeKeptTogether}
 use Rattle.j39_load.specs.Loads.{bits_per_ms, is_any}
 use Rattle.j39_load.specs.Ranks.{AreHeldApart}
 use Rattle.j39_load.proofs.DamagedFirst as damaged_first
-use Rattle.j39_load.proofs.WhoStays.{placed}
+use Rattle.j39_findings.proofs.WhoStays.{placed}
 use Rattle.j39_timing.proofs.Rounds.{rounds_legal}
 use Rattle.j39_timing.proofs.Sums.{total-none}
 use Rattle.j39_timing.specs.AnyOrder.{Controllers}

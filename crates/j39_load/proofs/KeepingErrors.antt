@@ -22,7 +22,7 @@ use Rattle.j39_load.specs.KeepsErrors.{KeepsErrors, origins_with, planned_with}
 use Rattle.j39_load.specs.KeepsPlan.{Held, IsFrameOf, KeepsToPlan, FrameFlows, goes_to, origins_of}
 use Rattle.j39_load.specs.Loads.{bits_of_ms, load_of_flow}
 use Rattle.j39_load.specs.PlannedFrames.{AreFramesOfPlan, no_frames, planned_at}
-use Rattle.j39_load.specs.Standing.{TellsWhoStays}
+use Rattle.j39_findings.specs.Standing.{TellsWhoStays}
 use Rattle.j39_load.specs.Twins.{is_same}
 use Rattle.j39_load.proofs.Attempts.{a_window_apart}
 use Rattle.j39_load.proofs.KeepingPlan.{behind_bits, between, frame_at_most, here, keeps_stream, of_streams, one, own, own_identifier, read, traffic}

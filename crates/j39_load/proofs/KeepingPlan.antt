@@ -31,7 +31,7 @@ use Rattle.j39_load.specs.KeepsPlan.{Held, IsFrameOf, KeepsToPlan, KeepsQueues, 
 use Rattle.j39_load.specs.Loads.{any_unit, bits_per_ms, destination_at, flow_load, group_ident, is_always_short, is_any, load_of_flow, loads_of, single_frames}
 use Rattle.j39_load.specs.PlannedFrames.{AreFramesInAnyOrder, AreFramesOfPlan, KeepToCompany, company_of, no_frames, planned_at, traffic_of}
 use Rattle.j39_load.specs.Ranks.{AreUnitsPlanned, IsShortFlow}
-use Rattle.j39_load.specs.Standing.{TellsWhoStays}
+use Rattle.j39_findings.specs.Standing.{TellsWhoStays}
 use Rattle.j39_load.specs.Twins.{are_twins, is_same}
 use Rattle.j39_load.proofs.Different.{different, senders}
 use Rattle.j39_load.proofs.Ranks.{lie_between}

@@ -26,6 +26,5 @@ pub mod TurnTimes
 pub mod ValuesInTime
 pub mod Vehicles
 pub mod WantedMemory
-pub mod WhoStays
 pub mod WholeMessages
 pub mod WithoutFlows

@@ -16,7 +16,6 @@ pub mod Ranks
 pub mod ReadInTime
 pub mod RequestLoads
 pub mod SoundLoads
-pub mod Standing
 pub mod ToldBytes
 pub mod Twins
 pub mod ValuesInTime

@@ -26,7 +26,7 @@ ghost use Rattle.j39_load.specs.PlannedFrames.{AreAllOrdered, AreDeadlinesKept, 
 ghost use Rattle.j39_load.specs.Ranks.{AreHeldApart, AreHeldByPlan, AreTwinFlows, AreUnitsPlanned, IsAskedBetween, IsShortFlow, LieBetween, RequestLiesBetween};
 ghost use Rattle.j39_load.specs.ReadInTime.{AreNeedsRead, AreWritten};
 ghost use Rattle.j39_load.specs.RequestLoads.{request_ident};
-ghost use Rattle.j39_load.specs.Standing.{TellsWhoStays};
+ghost use Rattle.j39_findings.specs.Standing.{TellsWhoStays};
 ghost use Rattle.j39_load.specs.ToldBytes.{IsToldOf, LeaveSelector};
 ghost use Rattle.j39_load.specs.ValuesInTime.{AreValuesInTime};
 ghost use Rattle.j39_load.specs.VehicleLoads.{AreLoadsAlike};

@@ -6,7 +6,7 @@ ghost use Rattle.j39_load.specs.AnyQueues.{IsOffer};
 ghost use Rattle.j39_load.specs.Asked.{all_frames, announcements_of_unit, asked_by, asked_of, frames_of_flow, frames_of_request, packets_of_unit, singles_of_flow, total_load};
 ghost use Rattle.j39_load.specs.Delays.{HasDelay, TellDelays};
 ghost use Rattle.j39_load.specs.SoundLoads.{AreSoundIfAny, IsSoundIfAsked, IsSoundIfKnown, IsSoundIfSent};
-ghost use Rattle.j39_load.specs.Standing.{TellsWhoStays, stays_of};
+ghost use Rattle.j39_findings.specs.Standing.{TellsWhoStays, stays_of};
 ghost use Rattle.j39_load.specs.inside.FramesBy.{frames_by, broadcasts_by_unit};
 ghost use Rattle.j39_load.specs.inside.Offers.{AreFitOffers, offer_of};
 ghost use Rattle.j39_load.specs.inside.TurnTimes.{AreShortTimes, TellTurnTimes};
@@ -26,9 +26,8 @@ use crate::network::Network;
 use crate::offers::{Offers, offers_of};
 use crate::request_load::RequestLoad;
 use crate::requests::request_loads_of;
-use crate::standing::Standing;
 use crate::unit_load::UnitLoad;
-use j39_findings::{Plan, Timing};
+use j39_findings::{Plan, Standing, Timing};
 use std::alloc::{AllocError, Global};
 
 // The frames that are a flow's own.

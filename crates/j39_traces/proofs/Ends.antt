@@ -1,6 +1,6 @@
 -- Who sends a message is on and holds an address of which no claim is undelivered to it, and so does the unit that it is for alone, until the
 -- sender rests; in a plan that isn't live, and in one without findings whose flows have ends that are alone.
-use Rattle.std.proofs.Common.{◌≡◌, ℕ, Bool, true, false, not, ◌&&◌, arith, inl, inr, refl, sym, ap, ◌∙◌, subst, List, [], ◌∷◌, Option, Some, None}
+use Rattle.std.proofs.Common.{◌≡◌, ℕ, true, false, not, ◌&&◌, arith, inl, inr, refl, sym, ap, ◌∙◌, subst, List, [], ◌∷◌, Option, Some, None}
 use Rattle.std.specs.Bool.{MatchBool}
 use Rattle.std.specs.Option.{is_some}
 use Rattle.std.specs.Prelude.{slice_get}
@@ -37,6 +37,7 @@ use Rattle.j39_world.specs.World.{Stations, World, changed, all_off}
 use Rattle.j39_laws.proofs.Reports.Orderly.{DeliveredBefore, delivered_at}
 use Rattle.j39_laws.proofs.Runs.Always.{always_with}
 use Rattle.j39_laws.proofs.Runs.SwitchedOff.{sessions_each}
+use Rattle.j39_laws.proofs.Addresses.CleanEnds.{clean_ends_alone}
 use Rattle.j39_laws.proofs.Transfers.LiveEnds.{ends_undisturbed, undisturbed_on}
 use Rattle.j39_laws.proofs.Transfers.OfFlows.{IsOfFlow, all_of_flows}
 use Rattle.j39_laws.proofs.Runs.Changed.{changed_each}
@@ -238,8 +239,8 @@ module _ (plan : Plan) (clean : Clean plan) (alone : AreEndsAlone plan) (steps :
 
 pub all_ends : (plan : Plan) → KeepsEnds plan → Always plan (HasEnds plan)
 all_ends plan (inl quiet) steps w run = quiet_ends plan quiet steps w run
-all_ends plan (inr (clean, alone)) steps w run = elim (cases_Bool plan.live) [
-  | inl live ↦ alone_ends plan clean alone steps w run live
+all_ends plan (inr clean) steps w run = elim (cases_Bool plan.live) [
+  | inl live ↦ alone_ends plan clean (clean_ends_alone plan clean live) steps w run live
   | inr quiet ↦ quiet_ends plan quiet steps w run
 ]
 

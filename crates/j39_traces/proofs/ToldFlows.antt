@@ -31,7 +31,6 @@ use Rattle.j39_signal.specs.Selectors.{is_selected}
 use Rattle.j39_world.specs.Flows.{flows_of, has_length, is_short}
 use Rattle.j39_world.specs.Opening.{AreNamesDistinct}
 use Rattle.j39_world.specs.PlannedUnits.{planned_unit, unit_at, units_of}
-use Rattle.j39_world.specs.LiveEnds.{KeepsEnds}
 use Rattle.j39_world.specs.Run.{StepsTo, refusal}
 use Rattle.j39_world.specs.SoundPlan.{Always}
 use Rattle.j39_world.specs.World.{World}
@@ -409,8 +408,8 @@ module _ (plan : Plan) (clean : Clean plan) (distinct : AreNamesDistinct (units_
         | None ↦ λ allowed leads. step_told step allowed after leads log f front group flow text
       ] refl follows
 
-pub told_as_begun : (plan : Plan) → Clean plan → KeepsEnds plan → EachClaims plan → Always plan (AreToldAsBegun plan)
-told_as_begun plan clean keeps claims steps w run =
+pub told_as_begun : (plan : Plan) → Clean plan → EachClaims plan → Always plan (AreToldAsBegun plan)
+told_as_begun plan clean claims steps w run =
     let distinct = (clean_units plan clean).names in
     let own = own_numbers plan clean in
-    are_told plan clean distinct own claims w (all_told plan distinct own steps w run) (all_ends plan keeps steps w run)
+    are_told plan clean distinct own claims w (all_told plan distinct own steps w run) (all_ends plan (inr clean) steps w run)

@@ -33,7 +33,7 @@ pub fn quiet_frames_tell_holders()
         → Run plan all_off steps w → (u : ℕ) → IsAloneThere plan.keep_free (units_of plan) u → IsTold plan w u }
 {}
 
-/// In every world of every run of a plan that isn't live, or that has no findings and whose flows have ends that are alone: while a unit is
+/// In every world of every run of a plan that isn't live, or that has no findings: while a unit is
 /// between the beginning of a message and its rest, it is on and holds an address, and so is the one unit that the message is for, if it is
 /// for one, of a live plan while that one hasn't gone off since; a flow goes from the one to the other; and, of a plan that isn't live, no
 /// unit's address changes.
@@ -52,11 +52,10 @@ pub fn messages_go_between_holders()
         → Run plan all_off steps w → EachGoesBetweenUnits plan w }
 {}
 
-/// In every world of every run of a plan without findings whose units all claim, and whose flows have ends that are alone if it is live, with
-/// all lawful choices: where `follow` reports a frame that
+/// In every world of every run of a plan without findings whose units all claim, with all lawful choices: where `follow` reports a frame that
 /// a step sends as a group's message in one frame, by the log of all frames up to it, this step began or sent it, byte for byte, by the flow
 /// that it is told with, or by one of the same unit and group that looks like it in one frame.
 pub fn single_frames_are_told_as_begun()
-    ensures { (plan : Plans) (steps : List Steps) (w : World) → Clean plan → KeepsEnds plan → EachClaims plan
-        → Run plan all_off steps w → AreToldAsBegun plan w }
+    ensures { (plan : Plans) (steps : List Steps) (w : World) → Clean plan → EachClaims plan → Run plan all_off steps w
+        → AreToldAsBegun plan w }
 {}

@@ -216,6 +216,7 @@ const VALUES_OF_A_PLAN: Row = Row {
     plan: TEMPERATURE,
     input: "",
     text: "top strangers 0
+top live false
 group 1 label ET1
 group 1 pgn 65262
 group 1 priority 6

@@ -42,6 +42,6 @@ pub record AreEndsUndisturbed (plan : Plan) (w : World) : Type 0 where
   pub sent_to : (u v f : ℕ) (bytes : List ℕ) (flow : Flow) (x : ℕ) → Contains (w.wire u v) (Alone f bytes) → slice_get (flows_of plan) f ≡ Some flow
       → flow.to ≡ One x → (x ≡ v) × IsUndisturbed plan w v
 
--- messages of the plan go on between units that hold their addresses: it isn't live, or it has no findings and each end is alone
+-- messages of the plan go on between units that hold their addresses: it isn't live, or it has no findings, so that each end is alone
 abbrev pub KeepsEnds : Plan → Type 0
-KeepsEnds plan = (plan.live ≡ false) ⊎ (Clean plan × AreEndsAlone plan)
+KeepsEnds plan = (plan.live ≡ false) ⊎ Clean plan

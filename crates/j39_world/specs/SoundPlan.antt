@@ -1,8 +1,8 @@
 -- What a plan without findings has: its addresses, its signals and its reports are sound, addresses also with strangers, planned ones that
 -- differ stay, what units have noted of one another is right where no claim is undelivered, what it keeps free stays free, its claims die
--- down, and its messages come to their end; one of which nothing is lost arrives; some flow of it answers each request, and some flow brings
+-- down, its messages come to their end, and on a live bus nobody disturbs their ends; one of which nothing is lost arrives; some flow of it answers each request, and some flow brings
 -- each unit what it needs; and a message of such a flow of which nothing is lost reads there as it was written.
-use Rattle.std.specs.Prelude.{◌≡◌, ℕ, ◌<◌, ◌⊎◌, false, List, length, Some}
+use Rattle.std.specs.Prelude.{◌≡◌, ℕ, ◌<◌, ◌⊎◌, false, true, List, length, Some}
 use Rattle.j39_findings.specs.Needs.{AreNeedsMet}
 use Rattle.j39_findings.specs.PlannedRequests.{AreAnsweredWell, AreRequestsServed}
 use Rattle.j39_findings.specs.SoundSignals.{SoundSignals}
@@ -16,6 +16,7 @@ use Rattle.j39_world.specs.Run.{Run}
 use Rattle.j39_world.specs.PlannedUnits.{unit_at, units_of}
 use Rattle.j39_world.specs.Settling.{Settles}
 use Rattle.j39_world.specs.Ending.{TransfersEnd}
+use Rattle.j39_world.specs.LiveEnds.{AreEndsUndisturbed}
 use Rattle.j39_world.specs.Arriving.{ArrivesUnanswered, ArrivesAnswered}
 use Rattle.j39_world.specs.Needed.{NeededValuesArrive}
 use Rattle.j39_world.specs.SentArriving.{SentFramesArrive, SentValuesArrive}
@@ -66,6 +67,8 @@ pub record IsSound (plan : Plan) : Type 0 where
   pub delivered : plan.live ≡ false → Always plan (λ w. IsSending w ⊎ DoesOneLie w → AreAllDelivered w.claims)
   -- where a sender rests acknowledged, its receiver has reported the message
   pub acknowledged : Always plan IsAcknowledgedReported
+  -- of a live plan nobody disturbs the ends of messages: they hold their planned addresses, and nobody else does
+  pub undisturbed : plan.live ≡ true → Always plan (AreEndsUndisturbed plan)
   -- whoever goes on with messages comes to an end, where no unit is between its Begin and its Rest
   pub ends : Always plan (TransfersEnd plan)
   -- a message to all or of one frame of which nothing is lost is reported once by each receiver

@@ -57,6 +57,13 @@ placed kept [] i inside = absurd (omega arith)
 placed kept (p ∷ ps) zero inside = (p, refl, refl)
 placed kept (p ∷ ps) (suc i) inside = placed kept ps i (omega arith)
 
+-- and a unit of a list stands at its place
+pub stands : (kept : FinSet nat_cmp) (ps : List UnitPlan) (i : ℕ) (p : UnitPlan) → slice_get ps i ≡ Some p
+    → (i < length ps) × (unit_at (map (planned_unit kept) ps) i ≡ planned_unit kept p)
+stands kept [] i p is = absurd (cc)
+stands kept (q ∷ ps) zero p is = let same : q ≡ p = cc in (omega arith, ap (planned_unit kept) same)
+stands kept (q ∷ ps) (suc i) p is = let rest = stands kept ps i p is in (omega (arith, rest.0), rest.1)
+
 pub count : (kept : FinSet nat_cmp) (ps : List UnitPlan) → count_by needs_pool (map (planned_unit kept) ps) ≡ count_by (needs_pool_address kept) ps
 count kept [] = refl
 count kept (p ∷ ps) =

@@ -1,6 +1,6 @@
 -- In every world of every run of a clean plan each end of a flow that is alone at its planned address is undisturbed while it is on, and so
 -- are those between which messages go where each end is alone.
-use Rattle.std.proofs.Common.{◌≡◌, ◌≢◌, ℕ, ◌<◌, arith, Bool, true, false, List, [], ◌∷◌, length, refl, sym, ap, ◌∙◌, subst, inl, inr, Some}
+use Rattle.std.proofs.Common.{◌≡◌, ◌≢◌, ℕ, arith, true, List, [], ◌∷◌, refl, sym, ap, ◌∙◌, subst, inl, inr, Some}
 use Rattle.std.proofs.lemmas.Bool.{and_parts, cases_Bool, cases_eq}
 use Rattle.std.proofs.lemmas.List.Elements.{All-contains, All-from_recursion}
 use Rattle.std.proofs.lemmas.Option.{same_Some}
@@ -19,7 +19,6 @@ use Rattle.j39_world.specs.Flows.{FlowGoes, flows_of}
 use Rattle.j39_world.specs.LiveEnds.{AreEndsAlone, AreEndsUndisturbed, IsUndisturbed}
 use Rattle.j39_world.specs.PlannedUnits.{unit_at, units_of}
 use Rattle.j39_world.specs.Run.{Run, both}
-use Rattle.j39_world.specs.SoundPlan.{Always}
 use Rattle.j39_world.specs.Staying.{IsAloneThere}
 use Rattle.j39_world.specs.Transfers.{Outgoing, is_among}
 use Rattle.j39_world.specs.World.{World, all_off}
@@ -30,7 +29,7 @@ use Rattle.j39_laws.proofs.Runs.Conditions.{is_unit}
 use Rattle.j39_laws.proofs.Runs.Units.{in_units}
 use Rattle.j39_laws.proofs.Transfers.Accounted.{AreEndsOn, IsAccounted, IsSettledFor}
 use Rattle.j39_laws.proofs.Transfers.AccountedSteps.{IsKept, all_kept, lies_on}
-use Rattle.j39_laws.proofs.Transfers.OfFlows.{AreOfFlows, IsOfFlow, IsSentBy, all_of_flows}
+use Rattle.j39_laws.proofs.Transfers.OfFlows.{IsOfFlow, IsSentBy, all_of_flows}
 
 none_in : (x : Item) → Contains [] x → ⊥
 none_in x (k, inside, is) = absurd (omega (arith, inside))

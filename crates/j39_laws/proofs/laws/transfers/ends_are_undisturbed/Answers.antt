@@ -1,5 +1,6 @@
+use Rattle.j39_laws.proofs.Addresses.CleanEnds.{clean_ends_alone}
 use Rattle.j39_laws.proofs.Transfers.LiveEnds.{ends_undisturbed}
 use Rattle.j39_laws.proofs.laws.transfers.ends_are_undisturbed.Goals as goal
 
 pub returns : goal.returns
-returns c = λ plan steps w clean ends run. ends_undisturbed plan clean steps w run ends
+returns c = λ plan steps w clean live run. ends_undisturbed plan clean steps w run (clean_ends_alone plan clean live)
