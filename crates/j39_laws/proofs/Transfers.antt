@@ -7,6 +7,7 @@ pub mod Lowering
 pub mod Accounted
 pub mod AccountedSteps
 pub mod SoundRuns
+pub mod OnlyStopped
 pub mod OfFlows
 pub mod LiveEnds
 pub mod Ending

@@ -82,7 +82,7 @@ acked_left u t (Some s) reports acked = λ stage. elim (stage_left u s.to s.stag
 
 module _ (plan : Plan) (w : World) (inv : TransferInvariant plan w) where
   -- where a plan that isn't live refuses no step for what is open
-  none_open : (not plan.live && is_a_transfer_open (count_of plan) w) ≡ false → plan.live ≡ false → (u : ℕ) → w.sessions u ≡ None
+  pub none_open : (not plan.live && is_a_transfer_open (count_of plan) w) ≡ false → plan.live ≡ false → (u : ℕ) → w.sessions u ≡ None
   none_open idle quiet =
       let closed : is_no_transfer_open (count_of plan) w ≡ true = not-false _ (unless_live plan.live (is_a_transfer_open (count_of plan) w) quiet idle) in
       none_sends plan w.stations w.claims w.sessions inv.order
