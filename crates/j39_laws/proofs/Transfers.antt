@@ -9,6 +9,7 @@ pub mod AccountedSteps
 pub mod SoundRuns
 pub mod OnlyStopped
 pub mod OfFlows
+pub mod StillOn
 pub mod LiveEnds
 pub mod Ending
 pub mod Flights
