@@ -98,7 +98,7 @@ class Plan:
     and `texts`), `Flow` and `Need`, and `requests` as `Asking`; which flows meet a need says `need.is_met_by(flow)`. Of each the keys that aren't
     said have their defaults. Bytes and bits count from 1, lengths are in bytes, widths in bits, periods in ms; the value of a signal's raw number,
     in its `unit`, is `signal.value(raw)`, exactly, and `signal.values` has the names of raw numbers. `strangers` is how many further units may
-    come.
+    come, and `live` whether messages begin while units claim, and units go off in the midst of one.
     """
 
     def __init__(self, name: str, text: str) -> None:
@@ -114,6 +114,7 @@ class Plan:
         self.needs: list[Need] = tables.needs
         self.requests: list[Asking] = tables.requests
         self.strangers: int = tables.strangers
+        self.live: bool = tables.live
         self.tables = tables
 
     def __repr__(self) -> str:

@@ -201,12 +201,12 @@ module _ (plan vehicle : Plan) (is : IsVehicleOf plan vehicle) where
     pub findings_text_same : (findings : List Finding) (others : List LoadFinding) → findings_text vehicle findings others ≡ findings_text plan findings others
     unfolding findings_text
     findings_text_same findings others =
-        rw (finding_lines_same 1 16 findings, finding_lines_same 19 20 findings, finding_lines_same 21 28 findings) refl
+        rw (finding_lines_same 1 16 findings, finding_lines_same 19 20 findings, finding_lines_same 21 29 findings) refl
 
     pub untold_text_same : (findings : List Finding) (others : List LoadFinding) → untold_text vehicle findings others ≡ untold_text plan findings others
     unfolding untold_text untold_lines
     untold_text_same findings others =
-        rw (finding_lines_same 1 16 findings, finding_lines_same 19 20 findings, finding_lines_same 21 28 findings) refl
+        rw (finding_lines_same 1 16 findings, finding_lines_same 19 20 findings, finding_lines_same 21 29 findings) refl
 
   pub ok_line_same : ok_line vehicle ≡ ok_line plan
   unfolding ok_line

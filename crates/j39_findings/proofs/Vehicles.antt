@@ -1,14 +1,11 @@
 -- In the plan of each vehicle the same is found as in the plan, where no two units may be one.
-use Rattle.std.proofs.Common.{◌≡◌, ◌≢◌, ℕ, zero, suc, ◌+◌, ◌<◌, List, [], ◌∷◌, ◌++◌, Bool, true, false, not, ◌&&◌, nat_lt, Option, Some, None, cond, drop, Contains, if◌then◌else◌}
+use Rattle.std.proofs.Common.{◌≡◌, ◌≢◌, ℕ, List, [], ◌∷◌, Bool, true, false, nat_lt, Option, Some, None, Contains, if◌then◌else◌}
 use Rattle.std.proofs.Common.{refl, sym, ◌∙◌, ap, subst, inl, inr, arith}
 use Rattle.std.specs.FinSet.{FinSet}
-use Rattle.std.specs.List.{AllZip, count_by, slice_get}
+use Rattle.std.specs.List.{slice_get}
 use Rattle.std.specs.Ordering.{nat_cmp}
-use Rattle.std.proofs.lemmas.Bool.{cases_Bool, false≢true}
+use Rattle.std.proofs.lemmas.Bool.{cases_Bool}
 use Rattle.std.proofs.lemmas.Bool.Decides.{Decides-ltb}
-use Rattle.std.proofs.lemmas.Option.{none-some, same_Some}
-use Rattle.std.proofs.lemmas.List.Sums.{sum_by-cons}
-use Rattle.j39_id.specs.Name.{is_arbitrary}
 use Rattle.j39_findings.specs.declared.plan.Plan.{Plan}
 use Rattle.j39_findings.specs.declared.plan.flow_plan.FlowPlan.{FlowPlan}
 use Rattle.j39_findings.specs.declared.plan.unit_plan.UnitPlan.{UnitPlan}
@@ -18,16 +15,16 @@ use Rattle.j39_findings.specs.declared.checking.finding.Finding.TheVariants.{Too
 use Rattle.j39_findings.specs.declared.checking.finding.Finding.TheVariants.{SignalOutside, SignalOverlap, FlowToOne, FlowToSelf, FlowRepeated, PrivateUnsent, RecordOverlap, TextOutside, NeedUnmet}
 use Rattle.j39_findings.specs.declared.checking.finding.Finding.TheVariants.{RequestUnanswered, RequestUnheard, AnswerAstray, WhenOutside, RequestRepeated}
 use Rattle.j39_findings.specs.declared.steps.Step.{Step}
-use Rattle.j39_findings.specs.ListPlaces.{found_if, in_each, each, pairs, PairAt}
-use Rattle.j39_findings.specs.Kinds.{MayBeOne, MayBeOneAt, AreToldApart, may_be_one}
+use Rattle.j39_findings.specs.ListPlaces.{pairs, PairAt}
+use Rattle.j39_findings.specs.Kinds.{MayBeOne, AreToldApart, may_be_one}
 use Rattle.j39_findings.specs.Findings.{Clean, IsAlone, IsContested}
 use Rattle.j39_findings.specs.PlannedUnits.{units_of}
 use Rattle.j39_findings.specs.Staying.{IsAloneThere}
-use Rattle.j39_findings.specs.Found.{have_same_fixed_address, needs_pool_address, needed_addresses, unit_findings, kept_findings, prefers_kept}
+use Rattle.j39_findings.specs.Found.{have_same_fixed_address, needs_pool_address, unit_findings, kept_findings, prefers_kept}
 use Rattle.j39_findings.specs.Found.{have_silent_address, is_silent_in_pool, silent_findings, contested_findings, is_alone, is_contested, found}
 use Rattle.j39_findings.specs.ConflictRuns.{are_in_conflict, steps_between, run_of_units, run_of_places, conflict_run}
 use Rattle.j39_findings.specs.VehiclePlans.{IsBoxOf, IsVehicleOf, AreFoundAlike}
-use Rattle.j39_findings.proofs.Boxes.{AreOrderedAlike, apart_at, same_choice, same_order}
+use Rattle.j39_findings.proofs.Boxes.{apart_at}
 use Rattle.j39_findings.proofs.Deciding.{Decides-may_be_one}
 use Rattle.j39_findings.proofs.FoundLaws.{clean_from_none, none_from_clean}
 use Rattle.j39_findings.proofs.Members.{of_pairs}

@@ -1,8 +1,8 @@
 -- Which units are alone at their addresses: it is told by the arrays of a search as by the test on the list of units.
-use Rattle.std.proofs.Common.{◌≡◌, ◌≢◌, ◌⊎◌, ℕ, zero, suc, [], ◌∷◌, ◌+◌, ◌<◌, arith, Bool, true, false, not, cond, ◌&&◌, ◌||◌, ◌==◌, nat_lt, map, List, length, get_or, set, replicate, refl, sym, ap, ◌∙◌, subst, inl, inr, Option, Some, None, is_none, is_some, if◌then◌else◌, Decides}
+use Rattle.std.proofs.Common.{◌≡◌, ◌≢◌, ◌⊎◌, ℕ, zero, suc, [], ◌∷◌, ◌+◌, ◌<◌, arith, Bool, true, false, not, cond, ◌&&◌, ◌||◌, ◌==◌, nat_lt, List, length, get_or, set, replicate, refl, sym, ap, ◌∙◌, subst, inl, inr, Option, Some, None, is_none, is_some, if◌then◌else◌, Decides}
 use Rattle.std.proofs.lemmas.Bool.{cases_Bool, cases_eq, cases_lt, true≢false, false≢true, and_from, not-true}
 use Rattle.std.proofs.lemmas.Bool.Decides.{Decides-eqb, Decides-and, Decides-like, Decides-ltb, Decides-or}
-use Rattle.std.proofs.lemmas.List.{get_or-replicate, get_or-set_same, get_or-set_other, length-map, length-replicate, length-set}
+use Rattle.std.proofs.lemmas.List.{get_or-replicate, get_or-set_same, get_or-set_other, length-replicate, length-set}
 use Rattle.std.proofs.lemmas.List.Sums.{sum_by-cons}
 use Rattle.std.proofs.lemmas.Option.{none-some, same_Some, slice_get_within}
 use Rattle.std.specs.Bool.{MatchBool}
@@ -22,8 +22,8 @@ use Rattle.j39_findings.specs.Findings.{IsAlone, IsContested}
 use Rattle.j39_findings.specs.declared.checking.finding.Finding.TheVariants.{FlowContested}
 use Rattle.j39_findings.specs.Found.{contested_findings, has_to_move, is_alone, is_contested, is_end_contested, is_receiver_contested, is_shared}
 use Rattle.j39_findings.specs.ListPlaces.{each, SomeMeets}
-use Rattle.j39_findings.specs.PlannedUnits.{planned_unit, units_of, unit_at}
-use Rattle.j39_findings.specs.Staying.{EachOther, IsFirstThere, IsOutsidePool, Stays}
+use Rattle.j39_findings.specs.PlannedUnits.{units_of, unit_at}
+use Rattle.j39_findings.specs.Staying.{EachOther, IsFirstThere, Stays}
 use Rattle.j39_findings.specs.Standing.{AreFirsts, AreTold, AreTwoThere, IsMover, IsPlannedThere, TellsWhoIsAlone, is_alone_by, is_first_by, is_mover_by}
 use Rattle.j39_findings.proofs.Deciding.{some_decides}
 use Rattle.j39_findings.proofs.PlaceLemmas.{each_same}

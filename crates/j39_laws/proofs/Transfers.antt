@@ -9,6 +9,7 @@ pub mod AccountedSteps
 pub mod SoundRuns
 pub mod OnlyStopped
 pub mod OfFlows
+pub mod StillOn
 pub mod LiveEnds
 pub mod Ending
 pub mod Flights
@@ -16,6 +17,7 @@ pub mod Coming
 pub mod ComingTaken
 pub mod Arriving
 pub mod Naming
+pub mod EndedWithout
 pub mod Named
 pub mod Beside
 pub mod Between

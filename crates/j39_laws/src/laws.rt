@@ -11,7 +11,8 @@ ghost use Rattle.j39_world.specs.Conflict.{LeavesWithoutAddress};
 ghost use Rattle.j39_world.specs.Opening.{AreNamesDistinct};
 ghost use Rattle.j39_world.specs.Run.{Run, RunsThrough};
 ghost use Rattle.j39_world.specs.Settling.{Settles};
-ghost use Rattle.j39_world.specs.Sound.{AreAddressesSound, AreAddressesDifferent, AreKeptFree, AreNotesRight, IsQuiet, AreAllDelivered, AreReportsSound, IsAcknowledgedReported};
+ghost use Rattle.j39_world.specs.Sound.{AreAddressesSound, AreAddressesDifferent, AreAllDelivered, AreKeptFree, AreNotesRight};
+ghost use Rattle.j39_world.specs.Sound.{AreReportsSound, IsAcknowledgedReported, IsQuiet};
 ghost use Rattle.j39_world.specs.SoundPlan.{IsSending};
 
 mod arrivals;

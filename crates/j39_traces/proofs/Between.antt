@@ -392,12 +392,14 @@ module _ (plan : Plan) (distinct : AreNamesDistinct (units_of plan)) (own : Have
       let (flow, is, number, source, goes) = send k bytes.items (slice_get (flows_of plan) k) refl allowed after leads log f sent in
       (flow.sender, flow.to, (flow, is, refl, refl), (flow, is, number), source, goes)
   step_goes (Emit u) allowed after (s, p, session, next, e) = λ log f sent other.
-      let goes = goes_on u s p session (λ outcome rests. cc (subst (λ (st : Stage). sender.data_next s.bytes st ≡ Some p) rests next)) after (ap (λ (x : World). x.frames) e) log f sent in
+      let goes = goes_on u s p session (λ outcome rests. cc (subst (λ (st : Stage). sender.data_next s.bytes st ≡ Some p) rests next))
+      after (ap (λ (x : World). x.frames) e) log f sent in
       (u, s.to, (refl, of_session u s session), goes.0, goes.1, goes.2)
   step_goes (Take u v) allowed after leads = take u v (w.wire u v) refl after leads
   step_goes (Lose u v) allowed after leads = lose u v (w.wire u v) after leads
   step_goes (LateSender u) allowed after (s, p, session, packet, e) = λ log f sent other.
-      let goes = goes_on u s p session (λ outcome rests. cc (subst (λ (st : Stage). sender.timeout_packet s.pgn st ≡ Some p) rests packet)) after (ap (λ (x : World). x.frames) e) log f sent in
+      let goes = goes_on u s p session (λ outcome rests. cc (subst (λ (st : Stage). sender.timeout_packet s.pgn st ≡ Some p) rests packet))
+      after (ap (λ (x : World). x.frames) e) log f sent in
       (u, s.to, (refl, of_session u s session), goes.0, goes.1, goes.2)
   step_goes (LateReceiver u v) allowed after e = late_receiver u v after e
   step_goes (Rest u) allowed after e = same_frames (Rest u) after (ap (λ (x : World). x.frames) e)

@@ -132,7 +132,13 @@ module _ (plan : Plan) (l s : ℕ) (unit_l : is_unit plan l ≡ true) (unit_s : 
   nothing false xs is = is
 
   up_l : refusal plan all_off (Up l) ≡ None
-  up_l = not_refused plan all_off (Up l) (not_from_true _ unit_l, (refl, (and_right (not plan.live) (is_a_transfer_open (count_of plan) all_off) (not_from_true _ (none_open (count_of plan) all_off (λ u. refl) (λ u v. refl))), tt)))
+  up_l = not_refused plan all_off (Up l) (
+    not_from_true _ unit_l,
+    (
+      refl,
+      (and_right (not plan.live) (is_a_transfer_open (count_of plan) all_off) (not_from_true _ (none_open (count_of plan) all_off (λ u. refl) (λ u v. refl))), tt),
+    ),
+  )
 
   one_on : IsOneOn (switched_on (units_of plan) all_off l)
   one_on =

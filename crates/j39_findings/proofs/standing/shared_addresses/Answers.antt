@@ -1,5 +1,4 @@
-use Rattle.std.proofs.Common.{◌≡◌, ◌<◌, arith, length, get_or, Bool, true, false, ◌||◌, refl, sym, ap, ◌∙◌, subst, Some}
-use Rattle.std.proofs.lemmas.List.{get_or_default}
+use Rattle.std.proofs.Common.{◌≡◌, length, get_or, false, ◌||◌, refl, sym, ap, ◌∙◌, Some}
 use Rattle.std.proofs.lemmas.Option.{slice_get_read}
 use Rattle.std.specs.List.{slice_get}
 use Rattle.j39_findings.proofs.WhoIsAlone.{none_shared, none_taken, shared_by_one_more, taken}
