@@ -160,7 +160,9 @@ def read_plan(name: str | os.PathLike[str]) -> Plan:
         return Plan(name, text_of(name))
 
 
-def follow(plan: Plan, log: str | os.PathLike[str], *, all_frames: bool = False) -> Generator[Message | Claim | Request | Acknowledgement | Frame, None, None]:
+def follow(
+    plan: Plan, log: str | os.PathLike[str], *, all_frames: bool = False,
+) -> Generator[Message | Claim | Request | Acknowledgement | Frame, None, None]:
     """The reports of a log of `candump -L`, one by one as `follow` writes them: messages of planned groups, claims, requests, and of a plan
     with requests acknowledgements; where all frames are asked for, a `Frame` also of each other one, with its `pgn`, `priority` and `data`.
 
