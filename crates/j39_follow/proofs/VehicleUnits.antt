@@ -4,7 +4,7 @@ use Rattle.std.proofs.Common.{inr, refl, sym, ap, subst, ◌∙◌, arith, eqb-t
 use Rattle.std.specs.List.{slice_get, position}
 use Rattle.std.specs.Option.{option_eq, option_or}
 use Rattle.std.proofs.Math.Pow.{shr_mono}
-use Rattle.std.proofs.lemmas.Bool.{cases_Bool, cases_lt, false≢true, ne_eqb, eqb-false}
+use Rattle.std.proofs.lemmas.Bool.{cases_Bool, cases_eq, cases_lt, false≢true, ne_eqb, eqb-false}
 use Rattle.std.proofs.lemmas.Bool.Decides.{Decides-ltb}
 use Rattle.std.proofs.lemmas.List.Quantifiers.{position-Some}
 use Rattle.std.proofs.lemmas.Option.{none-some, same_Some, slice_get-get_or}
@@ -12,6 +12,7 @@ use Rattle.j39_findings.specs.Kinds.{AreToldApart, MayHaveName, kind_of_name}
 use Rattle.j39_findings.specs.VehiclePlans.{IsBoxOf, IsVehicleOf}
 use Rattle.j39_findings.specs.declared.plan.Plan.{Plan}
 use Rattle.j39_findings.specs.declared.plan.unit_plan.UnitPlan.{UnitPlan}
+use Rattle.j39_findings.proofs.Boxes.{apart_at}
 use Rattle.j39_findings.proofs.Vehicles.{AreBoth, both_at, boxes_apart, ordered, unit_of as unit_there}
 use Rattle.j39_follow.specs.VehicleLogs.{IsOfVehicle}
 use Rattle.j39_follow.specs.Who.{is_name_of, numbered_unit, unit_of_kind, unit_of_name}
@@ -181,6 +182,26 @@ module _ (plan vehicle : Plan) (is : IsVehicleOf plan vehicle) (apart : AreToldA
       let same : found.0 ≡ b = same_Some _ _ (sym found.1 ∙ at.second) in
       let may : MayHaveName b name = subst (λ (unit : UnitPlan). MayHaveName unit name) same found.2 in
       elim may.1 [ inl own ↦ own | inr any ↦ absurd (false≢true (sym (box_at u a b at).number ∙ any)) ]
+
+  -- the unit of a NAME in a vehicle's plan is that of the NAME in the plan
+  pub unit_kept : (name u : ℕ) → unit_of_name vehicle name ≡ Some u → unit_of_name plan name ≡ Some u
+  unit_kept name u e =
+      let found = unit_may_have vehicle name u e in
+      let there = box_back u found.0 found.1 in
+      unit_has u there.0 found.0 there.1 name (box_name u there.0 found.0 there.1 name e)
+
+  -- the NAME of a box is one of the vehicle
+  pub of_box : (v : ℕ) (b : UnitPlan) → slice_get vehicle.units.items v ≡ Some b → Given b.name
+  of_box v b at u unit box first second any kinds =
+      let there = box_back v b at in
+      elim (cases_eq u v) [
+        | inl same ↦
+            let one : box ≡ b = same_Some _ _ (sym second ∙ ap (slice_get vehicle.units.items) same ∙ at) in
+            ap (λ (x : UnitPlan). x.name) one
+        | inr differ ↦
+            absurd (apart_at plan apart u v unit there.0 first there.1.first differ
+            (kinds ∙ sym (box_at v there.0 b there.1).name.0, inr (inl any)))
+      ]
 
   one_unit : (name : ℕ) → Given name → unit_of_name plan name ≡ unit_of_name vehicle name
   one_unit name given = go (unit_of_name plan name) (unit_of_name vehicle name) refl refl where
