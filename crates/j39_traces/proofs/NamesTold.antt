@@ -5,7 +5,6 @@ use Rattle.std.specs.Bool.{MatchBool}
 use Rattle.std.specs.List.{AllByRecursion, slice_get}
 use Rattle.std.specs.Option.{is_some}
 use Rattle.std.proofs.lemmas.Bool.{cases_eq, cond_both, not-false}
-use Rattle.std.proofs.lemmas.List.{append-nil}
 use Rattle.j39_id.specs.Ident.{identifier_of}
 use Rattle.j39_id.specs.declared.frame.Frame.{Frame}
 use Rattle.j39_claim.specs.ClaimRule.{ClaimState, claim_of, said_by, started}
@@ -44,7 +43,7 @@ use Rattle.j39_follow.specs.Holders.{TellsOf}
 use Rattle.j39_traces.specs.Telling.{HaveOwnNumbers}
 use Rattle.j39_traces.proofs.Identifiers.{IsOther, carries_none}
 use Rattle.j39_traces.proofs.Logs.{IsItemInRange, keeps, tells_nothing}
-use Rattle.j39_traces.proofs.Standing.{HoldsAddress, preferred_below, said_held, source_below, turned_any}
+use Rattle.j39_traces.proofs.Standing.{preferred_below, said_held, source_below, turned_any}
 use Rattle.j39_traces.proofs.Telling.{AreTold, all_told, asking_below, first_below, flow_other, packet_group, told_keep}
 
 -- a unit of the plan has this NAME

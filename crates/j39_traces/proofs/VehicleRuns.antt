@@ -1,5 +1,5 @@
 -- What the log of a run of a vehicle tells by its own plan it tells by the plan of its type.
-use Rattle.std.proofs.Common.{◌≡◌, ◌≢◌, ℕ, zero, suc, ◌<◌, true, false, List, [], ◌∷◌, ◌++◌, length, map, Option, Some, None, inl, inr}
+use Rattle.std.proofs.Common.{◌≡◌, ℕ, zero, suc, true, false, List, [], ◌∷◌, ◌++◌, map, inl, inr}
 use Rattle.std.proofs.Common.{refl, sym, ap, subst, ◌∙◌, arith, append_assoc}
 use Rattle.std.specs.FinSet.{FinSet}
 use Rattle.std.specs.List.{All, AllByRecursion, AllZip, slice_get}
@@ -10,7 +10,6 @@ use Rattle.j39_id.specs.Pgn.{is_pgn}
 use Rattle.j39_id.specs.Services.{is_service}
 use Rattle.j39_id.specs.declared.frame.Frame.{Frame}
 use Rattle.j39_id.specs.declared.ident.Ident.{Ident}
-use Rattle.j39_findings.specs.Findings.{Clean}
 use Rattle.j39_findings.specs.Kinds.{AreToldApart, kind_of_name}
 use Rattle.j39_findings.specs.VehiclePlans.{IsBoxOf, IsVehicleOf}
 use Rattle.j39_findings.specs.declared.plan.Plan.{Plan}
@@ -21,7 +20,7 @@ use Rattle.j39_findings.specs.declared.plan.to.To.TheVariants.{All as ToAll, One
 use Rattle.j39_findings.specs.declared.plan.unit_plan.UnitPlan.{UnitPlan}
 use Rattle.j39_findings.specs.declared.steps.Step.{Step}
 use Rattle.j39_findings.specs.declared.steps.Step.TheVariants.{Up, Down, Give, Ask, Begin, Send, Emit, Take, Lose, LateSender, LateReceiver, Rest}
-use Rattle.j39_findings.proofs.Vehicles.{boxes_apart, clean_vehicle}
+use Rattle.j39_findings.proofs.Vehicles.{boxes_apart}
 use Rattle.j39_laws.proofs.Addresses.CleanUnits.{placed}
 use Rattle.j39_laws.proofs.Runs.Units.{in_units}
 use Rattle.j39_world.specs.declared.flow.Flow.{Flow}
@@ -31,14 +30,14 @@ use Rattle.j39_world.specs.PlannedUnits.{planned_unit, unit_at, units_of}
 use Rattle.j39_world.specs.Run.{Follows}
 use Rattle.j39_world.specs.Sent.{Sent, sent_of}
 use Rattle.j39_world.specs.World.{World}
-use Rattle.j39_follow.specs.Contests.{Timed, frames_of}
-use Rattle.j39_follow.specs.Holders.{TellsOf}
+use Rattle.j39_follow.specs.Contests.{frames_of}
 use Rattle.j39_follow.specs.VehicleLogs.{IsOfVehicle, TellOfVehicle}
 use Rattle.j39_follow.proofs.VehicleParties.{TellAll}
 use Rattle.j39_follow.proofs.VehicleReports.{same_report}
 use Rattle.j39_follow.proofs.VehicleUnits.{of_box, tell_alike, unit_kept}
-use Rattle.j39_traces.specs.Between.{AreJoined, ComesTo, EachGoesBetweenUnits, FlowGoes, GoesToHolder, HasNumberOf, IsBetweenUnits, IsKnownAt, IsOfFlow, IsOfStep, IsSentBehind, IsSentBy, MessagesGoBetweenHolders, SendsTo, StandsBehind}
-use Rattle.j39_traces.specs.Telling.{HaveOwnNumbers, IsLogOf}
+use Rattle.j39_traces.specs.Between.{AreJoined, ComesTo, EachGoesBetweenUnits, FlowGoes, GoesToHolder, HasNumberOf, IsBetweenUnits, IsKnownAt, IsOfFlow}
+use Rattle.j39_traces.specs.Between.{IsOfStep, IsSentBy, MessagesGoBetweenHolders, SendsTo, StandsBehind}
+use Rattle.j39_traces.specs.Telling.{HaveOwnNumbers}
 use Rattle.j39_traces.specs.ToldFlows.{AreToldAsBegun, EachClaims, LooksLike, untimed}
 use Rattle.j39_traces.specs.VehicleRuns.{AreVehiclesToldAsBegun, FramesTellOfVehicle, VehicleMessagesGoBetweenHolders}
 use Rattle.j39_traces.proofs.NamesTold.{AreNamed, IsUnitName, TellsUnit}
