@@ -1,6 +1,6 @@
 -- By two plans that tell alike of the NAMEs of a log its lines lead to the same, and the same is written at them, but for the serial numbers of
 -- boxes.
-use Rattle.std.proofs.Common.{◌≡◌, ℕ, suc, List, [], ◌∷◌, ◌++◌, length, Option, Some, None, inl, inr}
+use Rattle.std.proofs.Common.{◌≡◌, Bool, ℕ, suc, List, [], ◌∷◌, ◌++◌, length, Option, Some, None, inl, inr}
 use Rattle.std.proofs.Common.{refl, sym, ap, subst, ◌∙◌, append_assoc}
 use Rattle.std.specs.List.{All}
 use Rattle.std.proofs.lemmas.List.{append-nil, map-append}
@@ -21,7 +21,7 @@ use Rattle.j39_follow.specs.Holders.{TellsOf}
 use Rattle.j39_follow.specs.VehicleLogs.{IsButForNumber, NumberedLine, notice_alone, with_numbers, without_numbers}
 use Rattle.j39_follow.specs.declared.message.Sort.{Sort}
 use Rattle.j39_follow.proofs.VehicleParties.{TellAll, same_hands, tell_front}
-use Rattle.j39_follow.proofs.VehicleReports.{notice_alike, same_events, same_group_of, same_report}
+use Rattle.j39_follow.proofs.VehicleReports.{bare_alike, notice_alike, same_events, same_group_of, same_report}
 use Rattle.j39_follow.proofs.VehicleUnits.{TellAlike, flip}
 
 -- ---- what a pair heard
@@ -110,12 +110,12 @@ pub record Remembers (G : ℕ → Type 0) (past : FollowedPast) : Type 0 where
   pub frames : frames_of past.timed ≡ frames_seen past.seen
   pub tells : TellAll G (frames_seen past.seen)
 
-module _ (G : ℕ → Type 0) (p q : Plan) (same : TellAlike G p q) (silent : (name : ℕ) → identity_text q name ≡ []) where
+module _ (G : ℕ → Type 0) (p q : Plan) (same : TellAlike G p q) (silent : (name : ℕ) → identity_text q name ≡ []) (all_frames : Bool) where
   frame_alike : (past : FollowedPast) (time : List ℕ) (named : Option (List ℕ)) (f : Frame) (next : FollowedPast) (text : List ℕ)
-      → Remembers G past → Remembers G next → FollowsFrame p past time named f next text
-      → SameStep p q text (FollowsFrame q past time named f next)
+      → Remembers G past → Remembers G next → FollowsFrame p all_frames past time named f next text
+      → SameStep p q text (FollowsFrame q all_frames past time named f next)
   frame_alike past time named f next text before behind a = record {
-    row = record { notice = a.notice; alone = alone; rest = a.report ++ a.carried };
+    row = record { notice = a.notice; alone = alone; rest = a.report ++ (a.bare ++ a.carried) };
     text_is = a.text_is;
     leads = record {
       packet = a.packet;
@@ -124,10 +124,12 @@ module _ (G : ℕ → Type 0) (p q : Plan) (same : TellAlike G p q) (silent : (n
       events = a.events;
       notice = alone;
       report = a.report;
+      bare = a.bare;
       carried = a.carried;
       heard_as = followed_as G p q same log all f a.packet a.heard_as;
       notice_is = notice_alike G p q same log all silent f tells front a.notice a.notice_is;
       report_is = same_report G p q same log all front (in_frame f) a.sort a.report a.report_is;
+      bare_is = bare_alike G p q same log all all_frames front f a.notice a.report a.bare a.notice_is a.bare_is;
       carried_is = packet_report G p q same log all past.seen before.tells front f a.packet a.sorts a.carried a.carried_is;
       events_are = same_events G p q same log all f (a.sort ∷ a.sorts) a.events a.events_are;
       text_is = refl;
@@ -181,39 +183,39 @@ passed_grown BadIdent past = record { more = []; seen = sym (append-nil past.see
 passed_grown TooLong past = record { more = []; seen = sym (append-nil past.seen); timed = sym (append-nil (frames_of past.timed)) }
 passed_grown BadData past = record { more = []; seen = sym (append-nil past.seen); timed = sym (append-nil (frames_of past.timed)) }
 
-part_grown : (p : Plan) (past : FollowedPast) (line part : List ℕ) (named : Option (List ℕ)) (next : FollowedPast) (text : List ℕ)
-    → FollowsPart p past line part named next text → Grown past next
-part_grown p past line part named next text (inl a) = record {
+part_grown : (p : Plan) (all_frames : Bool) (past : FollowedPast) (line part : List ℕ) (named : Option (List ℕ)) (next : FollowedPast) (text : List ℕ)
+    → FollowsPart p all_frames past line part named next text → Grown past next
+part_grown p all_frames past line part named next text (inl a) = record {
   more = record { frame = a.0; packet = a.4.packet } ∷ [];
   seen = ap (λ (r : FollowedPast). r.seen) a.4.next_is;
   timed = ap (λ (r : FollowedPast). frames_of r.timed) a.4.next_is ∙ map-append (λ (t : Timed). t.frame) past.timed _;
 }
-part_grown p past line part named next text (inr fault) =
+part_grown p all_frames past line part named next text (inr fault) =
     subst (λ (r : FollowedPast). Grown past r) (sym fault.2) (passed_grown fault.0 past)
 
-line_grown : (p : Plan) (past : FollowedPast) (line : Line) (next : FollowedPast) (text : List ℕ) → FollowsLine p past line next text
+line_grown : (p : Plan) (all_frames : Bool) (past : FollowedPast) (line : Line) (next : FollowedPast) (text : List ℕ) → FollowsLine p all_frames past line next text
     → Grown past next
-line_grown p past (Short line) next text follows = elim follows.4 [
+line_grown p all_frames past (Short line) next text follows = elim follows.4 [
   | inl away ↦ record {
     more = [];
     seen = ap (λ (r : FollowedPast). r.seen) away.1 ∙ sym (append-nil past.seen);
     timed = ap (λ (r : FollowedPast). frames_of r.timed) away.1 ∙ sym (append-nil (frames_of past.timed));
   }
   | inr here ↦
-      let grown = part_grown p (one_line_more past) line follows.0 follows.1 next text here.1 in
+      let grown = part_grown p all_frames (one_line_more past) line follows.0 follows.1 next text here.1 in
       record { more = grown.more; seen = grown.seen; timed = grown.timed }
 ]
-line_grown p past Long next text follows = record {
+line_grown p all_frames past Long next text follows = record {
   more = [];
   seen = ap (λ (r : FollowedPast). r.seen) follows.0 ∙ sym (append-nil past.seen);
   timed = ap (λ (r : FollowedPast). frames_of r.timed) follows.0 ∙ sym (append-nil (frames_of past.timed));
 }
 
-lines_grown : (p : Plan) (past : FollowedPast) (all : List Line) (end : FollowedPast) (text : List ℕ) → FollowsLines p past all end text
+lines_grown : (p : Plan) (all_frames : Bool) (past : FollowedPast) (all : List Line) (end : FollowedPast) (text : List ℕ) → FollowsLines p all_frames past all end text
     → Grown past end
-lines_grown p past [] end text follows = subst (λ (r : FollowedPast). Grown past r) (sym follows.0) (kept past)
-lines_grown p past (line ∷ all) end text follows =
-    joined past follows.0 end (line_grown p past line follows.0 follows.1 follows.3) (lines_grown p follows.0 all end follows.2 follows.4)
+lines_grown p all_frames past [] end text follows = subst (λ (r : FollowedPast). Grown past r) (sym follows.0) (kept past)
+lines_grown p all_frames past (line ∷ all) end text follows =
+    joined past follows.0 end (line_grown p all_frames past line follows.0 follows.1 follows.3) (lines_grown p all_frames follows.0 all end follows.2 follows.4)
 
 remembered : (G : ℕ → Type 0) (past end : FollowedPast) → Grown past end → frames_of past.timed ≡ frames_seen past.seen
     → TellAll G (frames_seen end.seen) → Remembers G past
@@ -228,12 +230,12 @@ frames_grown past next grown frames =
 
 -- ---- a line
 
-module _ (G : ℕ → Type 0) (p q : Plan) (same : TellAlike G p q) (silent : (name : ℕ) → identity_text q name ≡ []) where
+module _ (G : ℕ → Type 0) (p q : Plan) (same : TellAlike G p q) (silent : (name : ℕ) → identity_text q name ≡ []) (all_frames : Bool) where
   part_alike : (past : FollowedPast) (line part : List ℕ) (named : Option (List ℕ)) (next : FollowedPast) (text : List ℕ)
-      → Remembers G past → Remembers G next → FollowsPart p past line part named next text
-      → SameStep p q text (FollowsPart q past line part named next)
+      → Remembers G past → Remembers G next → FollowsPart p all_frames past line part named next text
+      → SameStep p q text (FollowsPart q all_frames past line part named next)
   part_alike past line part named next text before behind (inl a) =
-      let step = frame_alike G p q same silent past a.1 named a.0 next text before behind a.4 in
+      let step = frame_alike G p q same silent all_frames past a.1 named a.0 next text before behind a.4 in
       record {
         row = step.row;
         text_is = step.text_is;
@@ -248,7 +250,7 @@ module _ (G : ℕ → Type 0) (p q : Plan) (same : TellAlike G p q) (silent : (n
   }
 
   line_alike : (past : FollowedPast) (line : Line) (next : FollowedPast) (text : List ℕ) → Remembers G past → Remembers G next
-      → FollowsLine p past line next text → SameStep p q text (FollowsLine q past line next)
+      → FollowsLine p all_frames past line next text → SameStep p q text (FollowsLine q all_frames past line next)
   line_alike past (Short line) next text before behind follows = elim follows.4 [
     | inl away ↦ record {
       row = blank;
@@ -274,32 +276,32 @@ module _ (G : ℕ → Type 0) (p q : Plan) (same : TellAlike G p q) (silent : (n
   }
 
 -- all lines, one after another
-pub record SameLines (p q : Plan) (past : FollowedPast) (all : List Line) (end : FollowedPast) (text : List ℕ) : Type 0 where
+pub record SameLines (p q : Plan) (all_frames : Bool) (past : FollowedPast) (all : List Line) (end : FollowedPast) (text : List ℕ) : Type 0 where
   pub rows : List NumberedLine
   pub text_is : text ≡ with_numbers rows
-  pub leads : FollowsLines q past all end (without_numbers rows)
+  pub leads : FollowsLines q all_frames past all end (without_numbers rows)
   pub each : length rows ≡ length all
   pub but_for_numbers : All (IsButForNumber p) rows
 
-pub lines_alike : (G : ℕ → Type 0) (p q : Plan) → TellAlike G p q → ((name : ℕ) → identity_text q name ≡ []) → (all : List Line)
+pub lines_alike : (G : ℕ → Type 0) (p q : Plan) → TellAlike G p q → ((name : ℕ) → identity_text q name ≡ []) → (all_frames : Bool) (all : List Line)
     (past : FollowedPast) (end : FollowedPast) (text : List ℕ) → frames_of past.timed ≡ frames_seen past.seen → TellAll G (frames_seen end.seen)
-    → FollowsLines p past all end text → SameLines p q past all end text
+    → FollowsLines p all_frames past all end text → SameLines p q all_frames past all end text
 unfolding with_numbers without_numbers
-lines_alike G p q same silent [] past end text frames tells follows = record {
+lines_alike G p q same silent all_frames [] past end text frames tells follows = record {
   rows = [];
   text_is = follows.1;
   leads = (follows.0, refl);
   each = refl;
   but_for_numbers = All-nil (IsButForNumber p);
 }
-lines_alike G p q same silent (line ∷ all) past end text frames tells follows =
-    let first = line_grown p past line follows.0 follows.1 follows.3 in
-    let rest = lines_grown p follows.0 all end follows.2 follows.4 in
+lines_alike G p q same silent all_frames (line ∷ all) past end text frames tells follows =
+    let first = line_grown p all_frames past line follows.0 follows.1 follows.3 in
+    let rest = lines_grown p all_frames follows.0 all end follows.2 follows.4 in
     let known = frames_grown past follows.0 first frames in
     let before = remembered G past end (joined past follows.0 end first rest) frames tells in
     let behind = remembered G follows.0 end rest known tells in
-    let step = line_alike G p q same silent past line follows.0 follows.1 before behind follows.3 in
-    let further = lines_alike G p q same silent all follows.0 end follows.2 known tells follows.4 in
+    let step = line_alike G p q same silent all_frames past line follows.0 follows.1 before behind follows.3 in
+    let further = lines_alike G p q same silent all_frames all follows.0 end follows.2 known tells follows.4 in
     record {
       rows = step.row ∷ further.rows;
       text_is =

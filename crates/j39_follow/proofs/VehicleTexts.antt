@@ -68,15 +68,15 @@ module _ (plan vehicle : Plan) (is : IsVehicleOf plan vehicle) (apart : AreToldA
   alike : TellAlike Given plan vehicle
   alike = tell_alike plan vehicle is apart
 
-  followed : (log numbered alone : List ℕ) (outcome : Verdict) → IsLogOfVehicle plan vehicle log → All IsSendable plan.groups.items
-      → IsFollowedLog plan log numbered → IsFollowText vehicle log alone outcome
+  followed : (all_frames : Bool) (log numbered alone : List ℕ) (outcome : Verdict) → IsLogOfVehicle plan vehicle all_frames log → All IsSendable plan.groups.items
+      → IsFollowedLog plan all_frames log numbered → IsFollowText vehicle all_frames log alone outcome
       → (Done ≡ outcome) × DifferInNumbers plan log numbered alone
-  followed log numbered alone outcome given sendable a other =
+  followed all_frames log numbered alone outcome given sendable a other =
       let tells : TellAll Given (frames_seen a.past.seen) = given numbered a in
-      let all = lines_alike Given plan vehicle alike (no_identity plan vehicle is apart) (lines log) nothing_followed a.past a.reports refl tells a.read in
+      let all = lines_alike Given plan vehicle alike (no_identity plan vehicle is apart) all_frames (lines log) nothing_followed a.past a.reports refl tells a.read in
       let units = same_unit_lines Given plan vehicle alike (frames_seen a.past.seen) tells 0 plan.units.items vehicle.units.items a.units
       (λ k. ap (slice_get plan.units.items) (omega arith)) (λ k. ap (slice_get vehicle.units.items) (omega arith)) a.units_are in
-      let built : IsFollowedLog vehicle log (without_numbers all.rows ++ behind_reports vehicle a.past a.units) = record {
+      let built : IsFollowedLog vehicle all_frames log (without_numbers all.rows ++ behind_reports vehicle a.past a.units) = record {
         past = a.past;
         reports = without_numbers all.rows;
         units = a.units;
@@ -84,7 +84,7 @@ module _ (plan vehicle : Plan) (is : IsVehicleOf plan vehicle) (apart : AreToldA
         units_are = units;
         text_is = refl;
       } in
-      let one = one_text vehicle log (without_numbers all.rows ++ behind_reports vehicle a.past a.units) alone Done outcome
+      let one = one_text vehicle all_frames log (without_numbers all.rows ++ behind_reports vehicle a.past a.units) alone Done outcome
       (subst (λ (gs : List GroupPlan). All IsSendable gs) (sym is.groups) sendable, built) other in (
         one.1,
         record {
@@ -98,11 +98,11 @@ module _ (plan vehicle : Plan) (is : IsVehicleOf plan vehicle) (apart : AreToldA
         },
       )
 
-  refused : (log numbered alone : List ℕ) (outcome : Verdict) → IsFollowText plan log numbered Refused → IsFollowText vehicle log alone outcome
+  refused : (all_frames : Bool) (log numbered alone : List ℕ) (outcome : Verdict) → IsFollowText plan all_frames log numbered Refused → IsFollowText vehicle all_frames log alone outcome
       → (Refused ≡ outcome) × DifferInNumbers plan log numbered alone
   unfolding with_numbers without_numbers lines
-  refused log numbered alone outcome a other =
-      let one = one_text vehicle log (refused_plan_line vehicle a.0) alone Refused outcome
+  refused all_frames log numbered alone outcome a other =
+      let one = one_text vehicle all_frames log (refused_plan_line vehicle a.0) alone Refused outcome
       (a.0, subst (λ (gs : List GroupPlan). IsFirstRefused gs a.0) (sym is.groups) a.1, refl, a.3) other in (
         one.1,
         record {
@@ -116,9 +116,9 @@ module _ (plan vehicle : Plan) (is : IsVehicleOf plan vehicle) (apart : AreToldA
       )
 
 pub types_tell_vehicles : TypesTellVehicles
-types_tell_vehicles plan vehicle log numbered alone Done outcome is apart given one other =
-    followed plan vehicle is apart log numbered alone outcome given one.0 one.1 other
-types_tell_vehicles plan vehicle log numbered alone Refused outcome is apart given one other =
-    refused plan vehicle is apart log numbered alone outcome one other
-types_tell_vehicles plan vehicle log numbered alone Findings outcome is apart given one other = absurd one
-types_tell_vehicles plan vehicle log numbered alone Unreadable outcome is apart given one other = absurd one
+types_tell_vehicles plan vehicle all_frames log numbered alone Done outcome is apart given one other =
+    followed plan vehicle is apart all_frames log numbered alone outcome given one.0 one.1 other
+types_tell_vehicles plan vehicle all_frames log numbered alone Refused outcome is apart given one other =
+    refused plan vehicle is apart all_frames log numbered alone outcome one other
+types_tell_vehicles plan vehicle all_frames log numbered alone Findings outcome is apart given one other = absurd one
+types_tell_vehicles plan vehicle all_frames log numbered alone Unreadable outcome is apart given one other = absurd one

@@ -1,5 +1,5 @@
 -- What `follow` tells of the log of one vehicle by the plan of its type, in which units may be of any serial number.
-use Rattle.std.specs.Prelude.{◌≡◌, ◌⊎◌, ℕ, true, if◌then◌else◌, List, [], ◌∷◌, ◌++◌, codes, length, Option, Some}
+use Rattle.std.specs.Prelude.{◌≡◌, ◌⊎◌, ℕ, Bool, true, if◌then◌else◌, List, [], ◌∷◌, ◌++◌, codes, length, Option, Some}
 use Rattle.std.specs.List.{All, slice_get}
 use Rattle.j39_id.specs.FrameMeaning.{cannot_claim, claims_address, name_in}
 use Rattle.j39_id.specs.Lines.{lines}
@@ -30,9 +30,9 @@ TellOfVehicle plan vehicle frames =
     → IsOfVehicle plan vehicle name
 
 -- by this plan the log is followed, and its frames tell of no other box of a unit than the vehicle's
-abbrev pub IsLogOfVehicle : Plan → Plan → List ℕ → Type 0
-IsLogOfVehicle plan vehicle log =
-    (text : List ℕ) (followed : IsFollowedLog plan log text) → TellOfVehicle plan vehicle (frames_seen followed.past.seen)
+abbrev pub IsLogOfVehicle : Plan → Plan → Bool → List ℕ → Type 0
+IsLogOfVehicle plan vehicle all_frames log =
+    (text : List ℕ) (followed : IsFollowedLog plan all_frames log text) → TellOfVehicle plan vehicle (frames_seen followed.past.seen)
 
 -- ---- lines without serial numbers
 
@@ -90,6 +90,7 @@ pub record DifferInNumbers (plan : Plan) (log numbered alone : List ℕ) : Type 
 -- of a plan in which no two units may be one, the plan of a vehicle, and a log of this vehicle: `follow` by the plan writes what it writes by
 -- the vehicle's plan, and the serial numbers of boxes
 abbrev pub TypesTellVehicles : Type 0
-TypesTellVehicles = (plan vehicle : Plan) (log numbered alone : List ℕ) (verdict outcome : Verdict) → IsVehicleOf plan vehicle
-    → AreToldApart plan → IsLogOfVehicle plan vehicle log → IsFollowText plan log numbered verdict → IsFollowText vehicle log alone outcome
+TypesTellVehicles = (plan vehicle : Plan) (all_frames : Bool) (log numbered alone : List ℕ) (verdict outcome : Verdict) → IsVehicleOf plan vehicle
+    → AreToldApart plan → IsLogOfVehicle plan vehicle all_frames log → IsFollowText plan all_frames log numbered verdict
+    → IsFollowText vehicle all_frames log alone outcome
     → (verdict ≡ outcome) × DifferInNumbers plan log numbered alone

@@ -467,7 +467,7 @@ frames 4 skipped 0 bad 0 elsewhere 0
 };
 
 const FOLLOWED_FRAMES: Row = Row {
-    name: "a log with frames of no planned group, followed",
+    name: "a log with unplanned frames, followed",
     command: Command::FollowAll,
     plan: ASKED,
     input: "(1) can0 18EEFF80#0100000000000080

@@ -29,6 +29,9 @@ UNPLANNED = SERVICES | OTHER_SERVICES | PROPRIETARY
 # The greatest number of a group of J1939: an identifier with the extended data page has a greater one.
 LAST_GROUP = (1 << 17) - 1
 
+# What a request for claims asks for.
+CLAIMS = ADDRESS_CLAIMED.to_bytes(3, "little")
+
 # So many of the shortest period without any report, a second at least, are a silence of all.
 PERIODS = 5
 
@@ -194,7 +197,7 @@ class Comparison:
 
     def frame(self, line: int, at: int | None, frame: Frame) -> None:
         """A frame of no planned group."""
-        if frame.pgn > LAST_GROUP:
+        if frame.pgn > LAST_GROUP or frame.pgn == ADDRESS_CLAIMED:
             self.passes(line, at, frame.identifier, f"PGN {frame.pgn}", frame.sender)
         elif frame.pgn not in (CONNECTION_MANAGEMENT, DATA_TRANSFER):
             self.single(line, at, frame)
@@ -235,9 +238,9 @@ class Comparison:
         return next((number for number, flow in enumerate(self.flows, 1) if (flow.group, flow.sender, flow.to) == way), 0)
 
     def single(self, line: int, at: int | None, frame: Frame) -> None:
-        """A frame that is none of a planned group, and carries no part of a long message. A request may be from a unit without an address."""
+        """A frame that is none of a planned group, and carries no part of a long message. A unit without an address may ask for claims."""
         sender, to = frame.sender, frame.to
-        if (sender.address, frame.pgn) != (NULL_ADDRESS, REQUEST):
+        if (sender.address, frame.pgn, frame.data[:3]) != (NULL_ADDRESS, REQUEST, CLAIMS):
             self.sender(line, at, sender)
         group = self.group_of(frame.pgn, len(frame.data), sender, to)
         self.passes(line, at, frame.identifier, f"PGN {frame.pgn}", sender)
