@@ -13,7 +13,7 @@ use Rattle.j39_findings.specs.declared.plan.flow_plan.FlowPlan.{FlowPlan}
 use Rattle.j39_findings.specs.declared.plan.need_plan.NeedPlan.{NeedPlan}
 use Rattle.j39_findings.specs.declared.plan.request_plan.RequestPlan.{RequestPlan}
 use Rattle.j39_findings.specs.declared.plan.unit_plan.UnitPlan.{UnitPlan}
-use Rattle.j39_findings.proofs.Vehicles.{unit_of as unit_there}
+use Rattle.j39_findings.proofs.VehicleUnits.{unit_of as unit_there}
 use Rattle.j39_log.specs.ReadText.{refused_plan_line}
 use Rattle.j39_stream.specs.declared.verdict.Verdict.{Verdict}
 use Rattle.j39_stream.specs.declared.verdict.Verdict.TheVariants.{Done, Findings, Refused, Unreadable}

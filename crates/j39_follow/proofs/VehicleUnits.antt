@@ -13,7 +13,7 @@ use Rattle.j39_findings.specs.VehiclePlans.{IsBoxOf, IsVehicleOf}
 use Rattle.j39_findings.specs.declared.plan.Plan.{Plan}
 use Rattle.j39_findings.specs.declared.plan.unit_plan.UnitPlan.{UnitPlan}
 use Rattle.j39_findings.proofs.Boxes.{apart_at}
-use Rattle.j39_findings.proofs.Vehicles.{AreBoth, both_at, boxes_apart, ordered, unit_of as unit_there}
+use Rattle.j39_findings.proofs.VehicleUnits.{AreBoth, both_at, boxes_apart, ordered, unit_of as unit_there}
 use Rattle.j39_follow.specs.VehicleLogs.{IsOfVehicle}
 use Rattle.j39_follow.specs.Who.{is_name_of, numbered_unit, unit_of_kind, unit_of_name}
 use Rattle.j39_follow.proofs.UnitNames.{names_are_of_their_units}
