@@ -35,8 +35,8 @@ pub fn groups_are_told_alike()
     ensures { GroupsAreToldAlike }
 {}
 
-/// Where no two units of a plan may be one, `follow` by this plan writes of the log of a vehicle what it writes by the plan of this
-/// vehicle, with the serial numbers of boxes behind their claims and Cannots.
+/// Where no two units of a plan may be one, `follow` by this plan writes of the log of a vehicle what it writes by the
+/// plan of this vehicle, with the serial numbers of boxes behind their claims and Cannots.
 pub fn types_tell_vehicles()
     ensures { TypesTellVehicles }
 {}

@@ -63,9 +63,10 @@ pub fn single_frames_are_told_as_begun()
         → AreToldAsBegun plan w }
 {}
 
-/// In every world of every run of a vehicle, with all lawful choices, where no two units of the plan of its type may be one: the log of its frames
-/// tells of no other box of a unit than the vehicle's. What is said above of its messages by its own plan, in which each unit has the serial
-/// number of its box, is so by the plan of its type, by which the log is followed.
+/// In every world of every run of a vehicle, with all lawful choices, where no two units of the plan of its type may be
+/// one: the log of its frames tells of no other box of a unit than the vehicle's. What is said above of its messages by
+/// its own plan, in which each unit has the serial number of its box, is so by the plan of its type, by which the log
+/// is followed.
 pub fn types_tell_runs_of_vehicles()
     ensures names { (plan vehicle : Plans) (steps : List Steps) (w : World) → IsVehicleOf plan vehicle → AreToldApart plan → HaveOwnNumbers plan
         → Run vehicle all_off steps w → FramesTellOfVehicle plan vehicle w }
