@@ -62,16 +62,22 @@ class Frame(NamedTuple):
 
 class Sender:
     """What a unit broadcasts: a message at a time, its frames a gap apart, by a timer or each behind the end of the one before. As the run begins
-    its longest message is under way, and of each flow one that is wanted waits; another one that is wanted meanwhile isn't sent."""
+    its longest message may be under way, and of each flow one that is wanted may wait; another one that is wanted meanwhile isn't sent. At its
+    worst both are so, and the next message of each flow is wanted as soon as the one that waits has begun."""
 
-    def __init__(self, net: Network, unit: int, start: int, chance: random.Random) -> None:
+    def __init__(self, net: Network, unit: int, start: int, at_worst: bool, chance: random.Random) -> None:
         self.unit, self.address, self.chance = unit, net.addresses[unit], chance
         flows = [flow for flow in net.flows if flow.is_broadcast() and flow.sender == unit]
-        self.moments = {flow: start - chance.choice([0, 0, 1, chance.randrange(flow.period * BITS_PER_MS)]) for flow in flows}
+        self.left, all_packets = max(flow.packets() for flow in flows), sum(flow.packets() for flow in flows)
+        begun = {flow: start + (self.left + all_packets - flow.packets()) * GAP for flow in flows}
+        self.moments = {flow: begun[flow] + 1 - flow.period * BITS_PER_MS for flow in flows}
         self.waiting: set[Flow] = set()
-        self.left = max((flow.packets() for flow in flows), default=0) * chance.choice([0, 1, 1])
-        self.ready, self.queued = start + chance.choice([0, 0, 1, chance.randrange(GAP)]), 0
-        self.by_timer = chance.random() < 0.6
+        self.ready, self.queued, self.by_timer = start, 0, True
+        if not at_worst:
+            self.moments = {flow: start - chance.choice([0, 0, 1, chance.randrange(flow.period * BITS_PER_MS)]) for flow in flows}
+            self.left *= chance.choice([0, 1, 1])
+            self.ready += chance.choice([0, 0, 1, chance.randrange(GAP)])
+            self.by_timer = chance.random() < 0.6
 
     def time(self) -> int:
         """From when on its next frame is queued."""
@@ -212,7 +218,8 @@ def ends(frames: list[Frame], net: Network, start: int, chance: random.Random) -
     by_order = {"first": lambda some: min(some, key=lambda frame: frame.queued), "last": lambda some: max(some, key=lambda frame: frame.queued),
                 "least urgent": lambda some: max(some, key=lambda frame: frame.identifier), "any": chance.choice}
     waiting: dict[int, list[Frame]] = {}
-    senders = [Sender(net, unit, start, chance) for unit in {flow.sender for flow in net.flows if flow.is_broadcast()}]
+    at_worst = chance.random() < 0.3
+    senders = [Sender(net, unit, start, at_worst, chance) for unit in {flow.sender for flow in net.flows if flow.is_broadcast()}]
     sending: dict[int, tuple[Sender, Frame]] = {}
     time = place = 0
     while waiting or place < len(frames):

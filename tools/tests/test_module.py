@@ -144,6 +144,15 @@ class Logs(InFolder):
         self.assertEqual(next(some).line, 1)
         some.close()
 
+    def test_all_frames(self) -> None:
+        plan, log = j39plan.read_plan(example("service_requests.toml")), example("service_requests.start.log")
+        frames = [report for report in j39plan.follow(plan, log, all_frames=True) if isinstance(report, j39plan.Frame)]
+        self.assertEqual([(frame.line, frame.pgn, frame.sender.label, frame.to.label) for frame in frames[:2]],
+                         [(6, 60416, "ENGINE", "TOOL"), (7, 60416, "TOOL", "ENGINE")])
+        self.assertEqual((frames[0].identifier, frames[0].data.hex()), (0x1CECF900, "101200030aecfe00"))
+        self.assertEqual([frame.line for frame in frames], [6, 7, 8, 9, 10, 11])
+        self.assertFalse(any(isinstance(report, j39plan.Frame) for report in j39plan.follow(plan, log)))
+
     def test_deviations_are_those_of_the_tool(self) -> None:
         *lines, _ = without_times(run("against.py", PLAN, LOG)[1]).splitlines()
         found = j39plan.deviations(self.plan, LOG)

@@ -20,7 +20,8 @@ use Rattle.j39_world.specs.LiveEnds.{AreEndsUndisturbed}
 use Rattle.j39_world.specs.Arriving.{ArrivesUnanswered, ArrivesAnswered}
 use Rattle.j39_world.specs.Needed.{Delivered, ReportsNeeded, LastWrite, ReadsAsWritten, bytes_of}
 use Rattle.j39_world.specs.SentArriving.{HasArrivedAlone, NeededAlone, SentFramesArrive}
-use Rattle.j39_world.specs.Sound.{AreAddressesSound, AreAddressesDifferent, AreNotesRight, AreKeptFree, DoesOneLie, IsQuiet, AreAllDelivered, AreReportsSound, AreSentFramesSound, IsAcknowledgedReported}
+use Rattle.j39_world.specs.Sound.{AreAddressesSound, AreAddressesDifferent, AreAllDelivered, AreNotesRight, AreKeptFree, DoesOneLie, IsQuiet}
+use Rattle.j39_world.specs.Sound.{AreReportsSound, AreSentFramesSound, IsAcknowledgedReported}
 use Rattle.j39_world.specs.SoundPlan.{AlwaysBeside, IsSending, IsSound}
 use Rattle.j39_world.specs.Staying.{ArePlannedApart, HoldsAlone, HoldsPlanned, IsAloneThere}
 use Rattle.j39_laws.proofs.Addresses.CleanUnits.{clean_units}

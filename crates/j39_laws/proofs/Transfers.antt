@@ -7,7 +7,9 @@ pub mod Lowering
 pub mod Accounted
 pub mod AccountedSteps
 pub mod SoundRuns
+pub mod OnlyStopped
 pub mod OfFlows
+pub mod StillOn
 pub mod LiveEnds
 pub mod Ending
 pub mod Flights
@@ -15,6 +17,7 @@ pub mod Coming
 pub mod ComingTaken
 pub mod Arriving
 pub mod Naming
+pub mod EndedWithout
 pub mod Named
 pub mod Beside
 pub mod Between

@@ -11,7 +11,8 @@ ghost use Rattle.j39_world.specs.Conflict.{LeavesWithoutAddress};
 ghost use Rattle.j39_world.specs.Opening.{AreNamesDistinct};
 ghost use Rattle.j39_world.specs.Run.{Run, RunsThrough};
 ghost use Rattle.j39_world.specs.Settling.{Settles};
-ghost use Rattle.j39_world.specs.Sound.{AreAddressesSound, AreAddressesDifferent, AreKeptFree, AreNotesRight, IsQuiet, AreAllDelivered, AreReportsSound, IsAcknowledgedReported};
+ghost use Rattle.j39_world.specs.Sound.{AreAddressesSound, AreAddressesDifferent, AreAllDelivered, AreKeptFree, AreNotesRight};
+ghost use Rattle.j39_world.specs.Sound.{AreReportsSound, IsAcknowledgedReported, IsQuiet};
 ghost use Rattle.j39_world.specs.SoundPlan.{IsSending};
 
 mod arrivals;
@@ -19,6 +20,7 @@ mod lengths;
 mod needs;
 mod staying;
 mod strangers;
+mod switching_off;
 mod transfers;
 
 pub use arrivals::{answered_messages_arrive, sent_frames_arrive, unanswered_messages_arrive};
@@ -33,6 +35,7 @@ pub use strangers::{
     strangers_can_come, strangers_disturb_no_message, strangers_keep_addresses,
     who_stays_with_strangers,
 };
+pub use switching_off::units_only_stop_between_messages;
 pub use transfers::{
     ends_are_undisturbed, every_transfer_ends, sent_frames_are_sound, steps_lead_somewhere,
 };

@@ -13,6 +13,7 @@ pub use laws::{
     reports_are_sound, runs_through_are_runs, sent_frames_are_sound, sent_frames_arrive,
     silent_units_are_undisturbed, smaller_names_are_undisturbed, steps_lead_somewhere,
     strangers_can_come, strangers_disturb_no_message, strangers_keep_addresses,
-    unanswered_messages_arrive, units_hold_planned_or_pool_addresses, units_stay_in_each_vehicle,
-    who_stays, who_stays_with_strangers,
+    unanswered_messages_arrive, units_hold_planned_or_pool_addresses,
+    units_only_stop_between_messages, units_stay_in_each_vehicle, who_stays,
+    who_stays_with_strangers,
 };

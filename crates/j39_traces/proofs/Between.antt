@@ -1,10 +1,10 @@
 -- Each frame that a step sends of a message goes from the holder of its source to the holder of its destination.
-use Rattle.std.proofs.Common.{◌≡◌, ◌≢◌, ◌⊎◌, ℕ, zero, suc, ◌+◌, ◌<◌, ◌==◌, true, false, List, [], ◌∷◌, ◌++◌, length, map, Option, Some, None}
+use Rattle.std.proofs.Common.{◌≡◌, ◌⊎◌, ℕ, ◌<◌, ◌==◌, true, false, List, [], ◌∷◌, ◌++◌, length, map, Option, Some, None}
 use Rattle.std.proofs.Common.{inl, inr, refl, sym, ap, subst, ◌∙◌, arith, append_assoc}
 use Rattle.std.specs.Bool.{MatchBool}
-use Rattle.std.specs.List.{AllByRecursion, Contains, slice_get}
+use Rattle.std.specs.List.{AllByRecursion, slice_get}
 use Rattle.std.specs.Option.{is_some}
-use Rattle.std.proofs.lemmas.Bool.{cases_Bool, cond_both, eq-eqb, ltb-true, ne_eqb, not-false, or_left, or_right, true≢false}
+use Rattle.std.proofs.lemmas.Bool.{cases_Bool, cond_both, eq-eqb, not-false, or_left, or_right, true≢false}
 use Rattle.std.proofs.lemmas.List.{append-nil, append_cancel_left}
 use Rattle.j39_id.specs.Addresses.{global_address}
 use Rattle.j39_id.specs.Ident.{identifier_of, pgn_of}
@@ -18,7 +18,6 @@ use Rattle.j39_tp.specs.declared.receiving.manner.Manner.TheVariants.{Answering}
 use Rattle.j39_claim.specs.declared.item.Item.{Item}
 use Rattle.j39_claim.specs.declared.item.Item.TheVariants.{Told}
 use Rattle.j39_claim.specs.declared.item.Say.{Say}
-use Rattle.j39_claim.specs.declared.item.Say.TheVariants.{Claim}
 use Rattle.j39_claim.specs.ClaimRule.{ClaimState, claim_of, said_by, started}
 use Rattle.j39_findings.specs.declared.plan.Plan.{Plan}
 use Rattle.j39_findings.specs.declared.plan.to.To.{To}
@@ -393,12 +392,14 @@ module _ (plan : Plan) (distinct : AreNamesDistinct (units_of plan)) (own : Have
       let (flow, is, number, source, goes) = send k bytes.items (slice_get (flows_of plan) k) refl allowed after leads log f sent in
       (flow.sender, flow.to, (flow, is, refl, refl), (flow, is, number), source, goes)
   step_goes (Emit u) allowed after (s, p, session, next, e) = λ log f sent other.
-      let goes = goes_on u s p session (λ outcome rests. cc (subst (λ (st : Stage). sender.data_next s.bytes st ≡ Some p) rests next)) after (ap (λ (x : World). x.frames) e) log f sent in
+      let goes = goes_on u s p session (λ outcome rests. cc (subst (λ (st : Stage). sender.data_next s.bytes st ≡ Some p) rests next))
+      after (ap (λ (x : World). x.frames) e) log f sent in
       (u, s.to, (refl, of_session u s session), goes.0, goes.1, goes.2)
   step_goes (Take u v) allowed after leads = take u v (w.wire u v) refl after leads
   step_goes (Lose u v) allowed after leads = lose u v (w.wire u v) after leads
   step_goes (LateSender u) allowed after (s, p, session, packet, e) = λ log f sent other.
-      let goes = goes_on u s p session (λ outcome rests. cc (subst (λ (st : Stage). sender.timeout_packet s.pgn st ≡ Some p) rests packet)) after (ap (λ (x : World). x.frames) e) log f sent in
+      let goes = goes_on u s p session (λ outcome rests. cc (subst (λ (st : Stage). sender.timeout_packet s.pgn st ≡ Some p) rests packet))
+      after (ap (λ (x : World). x.frames) e) log f sent in
       (u, s.to, (refl, of_session u s session), goes.0, goes.1, goes.2)
   step_goes (LateReceiver u v) allowed after e = late_receiver u v after e
   step_goes (Rest u) allowed after e = same_frames (Rest u) after (ap (λ (x : World). x.frames) e)

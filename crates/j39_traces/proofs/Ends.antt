@@ -1,10 +1,10 @@
 -- Who sends a message is on and holds an address of which no claim is undelivered to it, and so does the unit that it is for alone, until the
 -- sender rests; in a plan that isn't live, and in one without findings whose flows have ends that are alone.
-use Rattle.std.proofs.Common.{◌≡◌, ℕ, Bool, true, false, not, ◌&&◌, arith, inl, inr, refl, sym, ap, ◌∙◌, subst, List, [], ◌∷◌, Option, Some, None}
+use Rattle.std.proofs.Common.{◌≡◌, ◌≢◌, ℕ, true, false, not, ◌&&◌, arith, inl, inr, refl, sym, ap, ◌∙◌, subst, List, [], ◌∷◌, Option, Some, None}
 use Rattle.std.specs.Bool.{MatchBool}
 use Rattle.std.specs.Option.{is_some}
 use Rattle.std.specs.Prelude.{slice_get}
-use Rattle.std.proofs.lemmas.Bool.{and_parts, cases_Bool, not-false}
+use Rattle.std.proofs.lemmas.Bool.{and_parts, cases_Bool, not-false, true≢false}
 use Rattle.std.proofs.lemmas.Option.{same_Some}
 use Rattle.std.specs.List.{Contains}
 use Rattle.j39_tp.specs.Sender as sender
@@ -27,8 +27,9 @@ use Rattle.j39_world.specs.declared.wired.Wired.TheVariants as wired
 use Rattle.j39_world.specs.ClaimSteps.{GivenFrom}
 use Rattle.j39_world.specs.Flows.{FlowGoes, dest_of, flows_of, windows_of}
 use Rattle.j39_world.specs.PlannedUnits.{unit_at, units_of}
-use Rattle.j39_world.specs.Run.{StepsTo, at_ends, begin_refusal, begin_refusals, send_refusal, send_refusals, count_of, has_address, is_nothing_undelivered, is_on, refusal, Run}
+use Rattle.j39_world.specs.Run.{Follows, StepsTo, at_ends, begin_refusal, begin_refusals, send_refusal, send_refusals, count_of, has_address, is_nothing_undelivered, is_on, refusal, Run}
 use Rattle.j39_world.specs.LiveEnds.{AreEndsAlone, IsUndisturbed, KeepsEnds}
+use Rattle.j39_world.specs.Staying.{IsAloneThere}
 use Rattle.j39_world.specs.SwitchingOff.{session_without}
 use Rattle.j39_world.specs.SoundPlan.{Always, IsSending}
 use Rattle.j39_world.specs.Transfers.{Outgoing, is_among}
@@ -38,12 +39,12 @@ use Rattle.j39_laws.proofs.Reports.Orderly.{DeliveredBefore, delivered_at}
 use Rattle.j39_laws.proofs.Runs.Always.{always_with}
 use Rattle.j39_laws.proofs.Runs.SwitchedOff.{sessions_each}
 use Rattle.j39_laws.proofs.Addresses.CleanEnds.{clean_ends_alone}
-use Rattle.j39_laws.proofs.Transfers.LiveEnds.{ends_undisturbed, undisturbed_on}
+use Rattle.j39_laws.proofs.Transfers.LiveEnds.{ends_undisturbed, stays_undisturbed, undisturbed_on}
 use Rattle.j39_laws.proofs.Transfers.OfFlows.{IsOfFlow, all_of_flows}
 use Rattle.j39_laws.proofs.Runs.Changed.{changed_each}
 use Rattle.j39_laws.proofs.Transfers.AccountedSteps.{IsOfClaims, claims_refused}
 use Rattle.j39_laws.proofs.Transfers.Named.{IsKeptNamed, all_named}
-use Rattle.j39_traces.specs.Between.{EndsKeepAddresses}
+use Rattle.j39_traces.specs.Between.{EndsKeepAddresses, IsAnEnd}
 
 -- the unit is on and holds an address
 abbrev pub IsHolding : Stations → ℕ → Type 0
@@ -235,6 +236,23 @@ module _ (plan : Plan) (clean : Clean plan) (alone : AreEndsAlone plan) (steps :
         can_send = λ f flow planned on addressed told. ends_on f flow planned flow.to refl on;
       }
 
+  -- an end is alone, so that it stays what it is
+  alone_end : (u : ℕ) → IsAnEnd w u → IsAloneThere plan.keep_free (units_of plan) u × ((w.stations u).on ≡ true)
+  alone_end u (inl (s, is)) =
+      let (flow, planned, by, to) = subst (IsOfFlow plan u) is ((all_of_flows plan steps w run).sessions u) in
+      (subst (IsAloneThere plan.keep_free (units_of plan)) by (alone s.flow flow planned).0, ((ends_undisturbed plan clean steps w run alone).sender u s is).on)
+  alone_end u (inr (x, s, is, one, among)) =
+      let (flow, planned, by, to) = subst (IsOfFlow plan x) is ((all_of_flows plan steps w run).sessions x) in
+      ((alone s.flow flow planned).1 u (to ∙ one), ((ends_undisturbed plan clean steps w run alone).receiver x u s is one among).on)
+
+  end_stays : (u : ℕ) → IsAnEnd w u → (step : Step) (after : World) → step ≢ Down u → Follows plan w step after
+      → ((after.stations u).on ≡ true) × ((after.stations u).address ≡ (w.stations u).address)
+  end_stays u is step after other follows =
+      let (there, on) = alone_end u is in
+      let now = undisturbed_on plan clean steps w run u there on in
+      let then = stays_undisturbed plan clean steps w run u there on step after other follows in
+      (then.on, then.held ∙ sym now.held)
+
 -- ---- in each world
 
 pub all_ends : (plan : Plan) → KeepsEnds plan → Always plan (HasEnds plan)
@@ -294,8 +312,10 @@ module _ (plan : Plan) (w : World) (inv : HasEnds plan w) where
   same_stations quiet sends (LateReceiver u v) allowed after e = ap (λ (x : World). x.stations) e
   same_stations quiet sends (Rest u) allowed after e = ap (λ (x : World). x.stations) e
 
-  keep_addresses : EndsKeepAddresses plan w
-  keep_addresses = record {
+  keep_addresses : (plan.live ≡ true → (u : ℕ) → IsAnEnd w u → (step : Step) (after : World) → step ≢ Down u → Follows plan w step after
+      → ((after.stations u).on ≡ true) × ((after.stations u).address ≡ (w.stations u).address)) → EndsKeepAddresses plan w
+  keep_addresses stays = record {
+    stays = stays;
     sender = λ u s is. (inv.sender u s is).holding;
     receiver = λ u v s is one among. (inv.receiver u v s is one among).holding;
     flow = inv.flow;
@@ -309,4 +329,9 @@ module _ (plan : Plan) (w : World) (inv : HasEnds plan w) where
   }
 
 pub ends_keep_addresses : (plan : Plan) → KeepsEnds plan → Always plan (EndsKeepAddresses plan)
-ends_keep_addresses plan keeps steps w run = keep_addresses plan w (all_ends plan keeps steps w run)
+ends_keep_addresses plan keeps steps w run = keep_addresses plan w (all_ends plan keeps steps w run) (λ live. of_live live keeps)
+  where
+    of_live : plan.live ≡ true → KeepsEnds plan → (u : ℕ) → IsAnEnd w u → (step : Step) (after : World) → step ≢ Down u → Follows plan w step after
+        → ((after.stations u).on ≡ true) × ((after.stations u).address ≡ (w.stations u).address)
+    of_live live (inl quiet) = absurd (true≢false (sym live ∙ quiet))
+    of_live live (inr clean) = end_stays plan clean (clean_ends_alone plan clean live) steps w run

@@ -1,5 +1,5 @@
 -- Between whom the frames of messages go (SAE J1939-21, transport protocol functions), as a log of a world's frames is followed.
-use Rattle.std.specs.Prelude.{◌≡◌, ◌⊎◌, ℕ, true, false, ◌||◌, Bool, List, [], ◌∷◌, ◌++◌, map, Some}
+use Rattle.std.specs.Prelude.{◌≡◌, ◌≢◌, ◌⊎◌, ℕ, true, false, ◌||◌, Bool, List, [], ◌∷◌, ◌++◌, map, Some}
 use Rattle.std.specs.List.{slice_get}
 use Rattle.j39_id.specs.Ident.{pgn_of}
 use Rattle.j39_id.specs.Pgn.{is_pdu2}
@@ -10,7 +10,7 @@ use Rattle.j39_findings.specs.declared.plan.Plan.{Plan}
 use Rattle.j39_findings.specs.declared.plan.to.To.{To}
 use Rattle.j39_findings.specs.declared.plan.to.To.TheVariants.{All, One}
 use Rattle.j39_findings.specs.declared.steps.Step.{Step}
-use Rattle.j39_findings.specs.declared.steps.Step.TheVariants.{Begin, Send, Emit, Take, LateSender, LateReceiver}
+use Rattle.j39_findings.specs.declared.steps.Step.TheVariants.{Begin, Down, Send, Emit, Take, LateSender, LateReceiver}
 use Rattle.j39_id.specs.FrameMeaning.{carries_name, requests_group}
 use Rattle.j39_world.specs.declared.flow.Flow.{Flow}
 use Rattle.j39_world.specs.Flows.{FlowGoes, flows_of}
@@ -68,6 +68,12 @@ IsOfStep plan _ i = IsTransport (pgn_of i)
 abbrev pub HasAddress : World → ℕ → Type 0
 HasAddress w u = ((w.stations u).on ≡ true) × ((a : ℕ) × ((w.stations u).address ≡ Some a))
 
+-- the unit sends a message, or one is for it alone and it hasn't gone off since
+abbrev pub IsAnEnd : World → ℕ → Type 0
+IsAnEnd w u =
+    ((s : Outgoing) × (w.sessions u ≡ Some s))
+    ⊎ ((x : ℕ) × (s : Outgoing) × (w.sessions x ≡ Some s) × (s.to ≡ One u) × (is_among s.targets u ≡ true))
+
 pub record EndsKeepAddresses (plan : Plan) (w : World) : Type 0 where
   -- who sends a message is on and holds an address, and so is the unit that it is for, where it is for one, of a live plan while this one hasn't
   -- gone off since; it is of a flow between them
@@ -76,6 +82,9 @@ pub record EndsKeepAddresses (plan : Plan) (w : World) : Type 0 where
   pub flow : (u : ℕ) (s : Outgoing) → w.sessions u ≡ Some s → FlowGoes plan s.flow u s.to
   -- of a plan that isn't live, while a message is sent, whoever sends it, no step changes the address of any unit, nor what else it is
   pub still : plan.live ≡ false → IsSending w → (step : Step) (after : World) → Follows plan w step after → after.stations ≡ w.stations
+  -- of a live one no step but its own Down switches an end off or changes its address
+  pub stays : plan.live ≡ true → (u : ℕ) → IsAnEnd w u → (step : Step) (after : World) → step ≢ Down u → Follows plan w step after
+      → ((after.stations u).on ≡ true) × ((after.stations u).address ≡ (w.stations u).address)
 
 -- ---- their addresses
 

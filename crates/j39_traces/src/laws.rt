@@ -44,10 +44,10 @@ pub fn ends_keep_addresses()
     ensures { (plan : Plans) (steps : List Steps) (w : World) → KeepsEnds plan → Run plan all_off steps w → EndsKeepAddresses plan w }
 {}
 
-/// In every world of every run of such a plan whose NAMEs differ and that plans none of the network's own groups, each frame that a step sends, unless it tells of addresses, comes from the address of the
-/// unit that sends it, and goes to all, or to the address of the unit that it is for: these are the ends of the message that it is of. By
-/// the frames up to it the two units hold these addresses. So in the log of a run units of the plan stand behind both addresses of each
-/// such frame.
+/// In every world of every run of such a plan whose NAMEs differ and that plans none of the network's own groups, each frame that a step
+/// sends, unless it tells of addresses, comes from the address of the unit that sends it, and goes to all, or to the address of the unit
+/// that it is for: these are the ends of the message that it is of. By the frames up to it the two units hold these addresses. So in the
+/// log of a run units of the plan stand behind both addresses of each such frame.
 pub fn messages_go_between_holders()
     ensures sent { (plan : Plans) (steps : List Steps) (w : World) → KeepsEnds plan → AreNamesDistinct (units_of plan) → HaveOwnNumbers plan
         → Run plan all_off steps w → MessagesGoBetweenHolders plan w }
@@ -55,9 +55,9 @@ pub fn messages_go_between_holders()
         → Run plan all_off steps w → EachGoesBetweenUnits plan w }
 {}
 
-/// In every world of every run of a plan without findings whose units all claim, with all lawful choices: where `follow` reports a frame that
-/// a step sends as a group's message in one frame, by the log of all frames up to it, this step began or sent it, byte for byte, by the flow
-/// that it is told with, or by one of the same unit and group that looks like it in one frame.
+/// In every world of every run of a plan without findings whose units all claim, with all lawful choices: where `follow` reports a frame
+/// that a step sends as a group's message in one frame, by the log of all frames up to it, this step began or sent it, byte for byte, by
+/// the flow that it is told with, or by one of the same unit and group that looks like it in one frame.
 pub fn single_frames_are_told_as_begun()
     ensures { (plan : Plans) (steps : List Steps) (w : World) → Clean plan → EachClaims plan → Run plan all_off steps w
         → AreToldAsBegun plan w }

@@ -1,8 +1,8 @@
 //! The words of the command line, read.
 ghost use Rattle.std.specs.Prelude.{◌≡◌, ◌≢◌, Err, None, true, false, [], IfOk, Some, codes, map, string_bytes};
-ghost use Rattle.clap.specs.Words.{Text, first_of, found_of, kind_of, rows_of, subcommand_of, subcommand_rows_of};
+ghost use Rattle.clap.specs.Words.{first_of, found_of, kind_of, one_of, rows_of, subcommand_of, subcommand_rows_of};
 ghost use Rattle.j39_words.specs.Commands.{commands};
-ghost use Rattle.j39_words.specs.Orders.{IsOrdered, AreRefused, AsksHelp, IsHelp, Orders, OrdersNothing, HasFlag, asks_for_text};
+ghost use Rattle.j39_words.specs.Orders.{IsOrdered, AreRefused, AsksHelp, IsHelp, Orders, OrdersNothing, asks_for_text};
 ghost use Rattle.j39_words.specs.declared.orders.WordsFault.TheVariants.{Bad, Memory};
 ghost use Rattle.clap.specs.declared.error.kind.ErrorKind.TheVariants.{OutOfMemory};
 
@@ -25,7 +25,9 @@ fn value(alloc: Global, values: &ArgMatches, name: &str) -> Result<String, Words
 
 // Whether a flag of a command is given.
 fn is_given(values: &ArgMatches, flag: &str) -> bool
-    ensures { (name : Text) → HasFlag (Some (name, rows_of (found_of values.now))) name flag.now result }
+    ensures given { one_of flag.now (rows_of (found_of values.now)) ≡ Some (codes "true") → result ≡ true }
+    ensures not_given { one_of flag.now (rows_of (found_of values.now)) ≡ Some (codes "false") → result ≡ false }
+    ensures unsaid { one_of flag.now (rows_of (found_of values.now)) ≡ None → result ≡ false }
 {
     values.get_flag(flag)
 }

@@ -1,7 +1,8 @@
 -- What a plan without findings has: its addresses, its signals and its reports are sound, addresses also with strangers, planned ones that
 -- differ stay, what units have noted of one another is right where no claim is undelivered, what it keeps free stays free, its claims die
--- down, its messages come to their end, and on a live bus nobody disturbs their ends; one of which nothing is lost arrives; some flow of it answers each request, and some flow brings
--- each unit what it needs; and a message of such a flow of which nothing is lost reads there as it was written.
+-- down, its messages come to their end, and on a live bus nobody disturbs their ends; one of which nothing is lost arrives; some flow of
+-- it answers each request, and some flow brings each unit what it needs; and a message of such a flow of which nothing is lost reads there
+-- as it was written.
 use Rattle.std.specs.Prelude.{◌≡◌, ℕ, ◌<◌, ◌⊎◌, false, true, List, length, Some}
 use Rattle.j39_findings.specs.Needs.{AreNeedsMet}
 use Rattle.j39_findings.specs.PlannedRequests.{AreAnsweredWell, AreRequestsServed}
@@ -20,7 +21,8 @@ use Rattle.j39_world.specs.LiveEnds.{AreEndsUndisturbed}
 use Rattle.j39_world.specs.Arriving.{ArrivesUnanswered, ArrivesAnswered}
 use Rattle.j39_world.specs.Needed.{NeededValuesArrive}
 use Rattle.j39_world.specs.SentArriving.{SentFramesArrive, SentValuesArrive}
-use Rattle.j39_world.specs.Sound.{AreAddressesSound, AreAddressesDifferent, AreAllDelivered, AreNotesRight, AreKeptFree, DoesOneLie, IsQuiet, AreReportsSound, AreSentFramesSound, IsAcknowledgedReported}
+use Rattle.j39_world.specs.Sound.{AreAddressesSound, AreAddressesDifferent, AreAllDelivered, AreNotesRight, AreKeptFree, DoesOneLie, IsQuiet}
+use Rattle.j39_world.specs.Sound.{AreReportsSound, AreSentFramesSound, IsAcknowledgedReported}
 use Rattle.j39_world.specs.Staying.{ArePlannedApart, HoldsAlone, HoldsPlanned, IsAloneThere}
 use Rattle.j39_world.specs.Strangers.{HasStrangers}
 

@@ -57,3 +57,12 @@ switched_off w u =
       wire = without_lists_of u w.wire;
       receivers = without_receivers_of u w.receivers;
     }
+
+-- u only stops: what was undelivered to it is gone
+abbrev pub stopped : World → ℕ → World
+stopped w u =
+    record w {
+      stations = changed w.stations u off;
+      claims = without_lists_to u w.claims;
+      wire = without_lists_to u w.wire;
+    }

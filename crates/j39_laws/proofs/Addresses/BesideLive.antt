@@ -1,5 +1,5 @@
 -- Units that come beside a live plan without findings, and that disturb no end of a flow: with them it is without findings too.
-use Rattle.std.proofs.Common.{◌≡◌, ◌≢◌, ◌⊎◌, ℕ, zero, suc, ◌+◌, ◌<◌, ◌≤◌, arith, Bool, true, false, List, [], ◌∷◌, ◌++◌, length, map, All, get_or, refl, sym, ap, ◌∙◌, subst, inl, inr, Some}
+use Rattle.std.proofs.Common.{◌≡◌, ◌≢◌, ◌⊎◌, ℕ, zero, suc, ◌+◌, ◌<◌, ◌≤◌, arith, List, [], ◌∷◌, ◌++◌, length, All, refl, sym, ap, ◌∙◌, subst, inl, inr, Some}
 use Rattle.std.proofs.lemmas.Bool.{cases_lt, true≢false}
 use Rattle.std.proofs.lemmas.List.{length-append, length-map}
 use Rattle.std.proofs.lemmas.Option.{get_or_from_slice_get, slice_get_within}
@@ -14,10 +14,9 @@ use Rattle.j39_findings.proofs.CleanLaws.{parts_of}
 use Rattle.j39_findings.proofs.Deciding.{Decides-needs_pool_address, meeting_pass}
 use Rattle.j39_findings.specs.Findings.{AreNeeded, AreOneFlow, AskTheSame, CannotGoToOne, Clean, EndsOutside, GoesToItsSender, GoesUnanswered, GoesUnheard, HasBadPgn}
 use Rattle.j39_findings.specs.Findings.{HasRecordsOver, HaveSamePgn, HaveSameFixedAddress, HaveSilentAddress, IsAlone, IsAnsweredAstray, IsContested, IsOutside}
-use Rattle.j39_findings.specs.Findings.{IsPrivateUnsent, IsSelectorInside, IsSilentInPool, IsUnmet, PrefersKept, Holds}
+use Rattle.j39_findings.specs.Findings.{IsPrivateUnsent, IsSelectorInside, IsSilentInPool, IsUnmet, PrefersKept}
 use Rattle.j39_findings.specs.Found.{needs_pool_address}
 use Rattle.j39_findings.specs.ListPlaces.{PairAt, ValueAt}
-use Rattle.j39_findings.specs.declared.checking.finding.Finding.{Finding}
 use Rattle.j39_findings.specs.declared.checking.finding.Finding.TheVariants as found
 use Rattle.j39_findings.specs.declared.plan.Plan.{Plan}
 use Rattle.j39_findings.specs.declared.plan.flow_plan.FlowPlan.{FlowPlan}
@@ -28,7 +27,7 @@ use Rattle.j39_findings.specs.declared.plan.to.To.TheVariants.{One}
 use Rattle.j39_findings.specs.declared.plan.unit_plan.UnitPlan.{UnitPlan}
 use Rattle.j39_signal.specs.Places.{SharesBit, WidthFits}
 use Rattle.j39_world.specs.PlannedUnits.{planned_unit, units_of, unit_at}
-use Rattle.j39_world.specs.Staying.{IsAloneThere, IsOutsidePool}
+use Rattle.j39_world.specs.Staying.{IsOutsidePool}
 use Rattle.j39_world.specs.Strangers.{ComeBesideLive, ComesClaiming, ComesSilent}
 use Rattle.j39_laws.proofs.Addresses.CleanUnits.{stands}
 use Rattle.j39_laws.proofs.Addresses.Strangers.{room_for_few, same_at}

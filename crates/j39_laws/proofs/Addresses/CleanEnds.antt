@@ -1,5 +1,5 @@
 -- Of a live plan without findings each end of each flow is alone at its planned address.
-use Rattle.std.proofs.Common.{◌≡◌, ℕ, ◌<◌, true, length, All, get_or, refl, sym, ap, ◌∙◌, subst, option_map, Option, Some, None}
+use Rattle.std.proofs.Common.{◌≡◌, ℕ, true, All, refl, sym, ap, ◌∙◌, subst, option_map, Option, Some, None}
 use Rattle.std.proofs.lemmas.Option.{get_or_from_slice_get, slice_get-map, slice_get_within}
 use Rattle.std.specs.List.{slice_get}
 use Rattle.j39_findings.specs.Findings.{Clean, IsAlone}
@@ -7,7 +7,7 @@ use Rattle.j39_findings.proofs.CleanLaws.{parts_of}
 use Rattle.j39_findings.specs.declared.plan.Plan.{Plan}
 use Rattle.j39_findings.specs.declared.plan.flow_plan.FlowPlan.{FlowPlan}
 use Rattle.j39_findings.specs.declared.plan.to.To.TheVariants.{One}
-use Rattle.j39_world.specs.Flows.{flow_of, flows_of}
+use Rattle.j39_world.specs.Flows.{flow_of}
 use Rattle.j39_world.specs.LiveEnds.{AreEndsAlone}
 use Rattle.j39_world.specs.PlannedUnits.{units_of}
 use Rattle.j39_world.specs.Staying.{IsAloneThere}

@@ -1,6 +1,6 @@
 -- The steps that show a conflict leave the unit with the larger NAME without an address.
 use Rattle.std.proofs.Common.{◌≡◌, ◌≢◌, ℕ, zero, suc, ◌+◌, ◌<◌, Bool, true, false, cond, not, ◌&&◌, ◌==◌, eqb, ltb, inl, inr, List, [], ◌∷◌, ◌++◌, length}
-use Rattle.std.proofs.Common.{map, refl, sym, ap, ◌∙◌, subst, arith, Option, Some, None}
+use Rattle.std.proofs.Common.{refl, sym, ap, ◌∙◌, subst, arith, Option, Some, None}
 use Rattle.std.proofs.lemmas.Bool.{MatchBool-at_true, cases_eq, and_from, and_left, and_right, cond_both, cond-true, cond-false, eq-eqb, ne_eqb}
 use Rattle.std.proofs.lemmas.Bool.{lt-ltb, not_from_true, true≢false}
 use Rattle.std.specs.List.{list_all, range_with_len, slice_get}
@@ -132,7 +132,13 @@ module _ (plan : Plan) (l s : ℕ) (unit_l : is_unit plan l ≡ true) (unit_s : 
   nothing false xs is = is
 
   up_l : refusal plan all_off (Up l) ≡ None
-  up_l = not_refused plan all_off (Up l) (not_from_true _ unit_l, (refl, (and_right (not plan.live) (is_a_transfer_open (count_of plan) all_off) (not_from_true _ (none_open (count_of plan) all_off (λ u. refl) (λ u v. refl))), tt)))
+  up_l = not_refused plan all_off (Up l) (
+    not_from_true _ unit_l,
+    (
+      refl,
+      (and_right (not plan.live) (is_a_transfer_open (count_of plan) all_off) (not_from_true _ (none_open (count_of plan) all_off (λ u. refl) (λ u v. refl))), tt),
+    ),
+  )
 
   one_on : IsOneOn (switched_on (units_of plan) all_off l)
   one_on =

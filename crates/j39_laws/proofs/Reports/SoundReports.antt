@@ -1,6 +1,6 @@
 -- The steps of units that claim addresses keep what holds of messages in every world: reports are sound, and acknowledged messages were
 -- reported.
-use Rattle.std.proofs.Common.{Some, ◌≡◌, ◌≢◌, ◌⊎◌, inl, inr, ℕ, Bool, true, false, cond, not, ◌&&◌, eqb, ltb, List, [], ◌∷◌, length, refl, sym, ap, ◌∙◌, subst, Option, None}
+use Rattle.std.proofs.Common.{Some, ◌≡◌, ◌≢◌, ◌⊎◌, inl, inr, ℕ, true, false, cond, not, ◌&&◌, ltb, List, [], ◌∷◌, length, refl, sym, ap, ◌∙◌, subst, Option, None}
 use Rattle.std.proofs.lemmas.Bool.{and_parts, not-false, true≢false}
 use Rattle.std.specs.Option.{is_some}
 use Rattle.std.specs.Prelude.{slice_get}
@@ -19,7 +19,7 @@ use Rattle.j39_world.specs.SoundPlan.{IsSending}
 use Rattle.j39_tp.specs.declared.receiving.progress.Progress.TheVariants.{Closed}
 use Rattle.j39_tp.specs.declared.sending.outcome.Outcome.TheVariants.{Acked, GaveUp}
 use Rattle.j39_tp.specs.declared.sending.stage.Stage.TheVariants.{Resting}
-use Rattle.j39_world.specs.Transfers.{Outgoing, Begun, is_among}
+use Rattle.j39_world.specs.Transfers.{Outgoing, Begun}
 use Rattle.j39_world.specs.declared.wired.Wired.{Wired}
 use Rattle.j39_world.specs.World.{World, Stations, Undelivered, all_off, changed, changed_pair}
 use Rattle.j39_laws.proofs.Reports.Exchanges.{Pair, pair_of, Message, message_for, message_to, Exchange}
@@ -28,7 +28,7 @@ use Rattle.j39_laws.proofs.Reports.Orderly.{DeliveredBefore, IsOrderly, PlannedA
 use Rattle.j39_laws.proofs.Reports.ReceiverSteps.{lose_keeps, late_receiver_keeps, take_keeps}
 use Rattle.j39_laws.proofs.Reports.Reporting.{AckedAt}
 use Rattle.j39_laws.proofs.Reports.SenderSteps.{begin_keeps, send_keeps, emit_keeps, late_sender_keeps, rest_keeps}
-use Rattle.j39_laws.proofs.Reports.TransferInvariant.{AreExchanges, TransferInvariant}
+use Rattle.j39_laws.proofs.Reports.TransferInvariant.{TransferInvariant}
 use Rattle.j39_laws.proofs.Runs.Changed.{changed_elsewhere, changed_here}
 use Rattle.j39_laws.proofs.Runs.SwitchedOff.{either_cases, nothing_dropped, sessions_each, stage_left, targets_less, targets_none, targets_same, unless_live}
 use Rattle.j39_laws.proofs.Runs.Conditions.{is_unit, none_refuses, units_known}
@@ -82,7 +82,7 @@ acked_left u t (Some s) reports acked = λ stage. elim (stage_left u s.to s.stag
 
 module _ (plan : Plan) (w : World) (inv : TransferInvariant plan w) where
   -- where a plan that isn't live refuses no step for what is open
-  none_open : (not plan.live && is_a_transfer_open (count_of plan) w) ≡ false → plan.live ≡ false → (u : ℕ) → w.sessions u ≡ None
+  pub none_open : (not plan.live && is_a_transfer_open (count_of plan) w) ≡ false → plan.live ≡ false → (u : ℕ) → w.sessions u ≡ None
   none_open idle quiet =
       let closed : is_no_transfer_open (count_of plan) w ≡ true = not-false _ (unless_live plan.live (is_a_transfer_open (count_of plan) w) quiet idle) in
       none_sends plan w.stations w.claims w.sessions inv.order

@@ -33,7 +33,7 @@ always plan Holds at_first keeps steps w run = holds_behind plan Holds keeps ste
 -- ---- what is known in each world of a run
 
 -- a run, and a step behind it
-one_more : (plan : Plan) (w mid new : World) (steps : List Step) (step : Step) → Run plan w steps mid → Follows plan mid step new
+pub one_more : (plan : Plan) (w mid new : World) (steps : List Step) (step : Step) → Run plan w steps mid → Follows plan mid step new
     → Run plan w (steps ++ step ∷ []) new
 one_more plan w mid new [] step same follows = (new, subst (λ (x : World). Follows plan x step new) same follows, refl)
 one_more plan w mid new (first ∷ steps) step (next, leads, more) follows = (next, leads, one_more plan next mid new steps step more follows)

@@ -1,5 +1,5 @@
 -- What is left of messages where a unit is switched off.
-use Rattle.std.proofs.Common.{◌≡◌, ◌≢◌, ℕ, ◌⊎◌, inl, inr, Bool, true, false, cond, not, ◌&&◌, ◌||◌, eqb, List, [], ◌∷◌, refl, sym, ap, ◌∙◌, subst, Option, Some, None}
+use Rattle.std.proofs.Common.{◌≡◌, ◌≢◌, ℕ, ◌⊎◌, inl, inr, Bool, true, false, not, ◌&&◌, ◌||◌, eqb, List, [], ◌∷◌, refl, sym, ap, ◌∙◌, subst, Option, None}
 use Rattle.std.proofs.lemmas.Bool.{cases_Bool, cases_eq, cond_both, eq-eqb, eqb-false, eqb-true, ne_eqb, or_from, or_left, or_parts, or_right, true≢false}
 use Rattle.std.specs.List.{AllByRecursion, filter}
 use Rattle.j39_tp.specs.Sender.{ended}
@@ -12,7 +12,7 @@ use Rattle.j39_findings.specs.declared.plan.to.To.TheVariants as tos
 use Rattle.j39_world.specs.ClaimSteps.{without_lists_to}
 use Rattle.j39_world.specs.SwitchingOff.{is_either, sessions_without, session_without, stage_without, without_lists_of}
 use Rattle.j39_world.specs.Transfers.{Outgoing, Sessions, is_among}
-use Rattle.j39_laws.proofs.Runs.Changed.{changed_each, changed_elsewhere, changed_here}
+use Rattle.j39_laws.proofs.Runs.Changed.{changed_elsewhere, changed_here}
 
 -- ---- a unit to which nothing lies is switched on
 

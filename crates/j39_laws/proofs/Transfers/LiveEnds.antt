@@ -1,6 +1,6 @@
 -- In every world of every run of a clean plan each end of a flow that is alone at its planned address is undisturbed while it is on, and so
 -- are those between which messages go where each end is alone.
-use Rattle.std.proofs.Common.{◌≡◌, ◌≢◌, ℕ, ◌<◌, arith, Bool, true, false, List, [], ◌∷◌, length, refl, sym, ap, ◌∙◌, subst, inl, inr, Some}
+use Rattle.std.proofs.Common.{◌≡◌, ◌≢◌, ℕ, arith, true, List, [], ◌∷◌, ◌++◌, refl, sym, ap, ◌∙◌, subst, inl, inr, Some}
 use Rattle.std.proofs.lemmas.Bool.{and_parts, cases_Bool, cases_eq}
 use Rattle.std.proofs.lemmas.List.Elements.{All-contains, All-from_recursion}
 use Rattle.std.proofs.lemmas.Option.{same_Some}
@@ -12,25 +12,27 @@ use Rattle.j39_findings.specs.Findings.{Clean}
 use Rattle.j39_findings.specs.declared.plan.Plan.{Plan}
 use Rattle.j39_findings.specs.declared.plan.to.To.TheVariants.{One}
 use Rattle.j39_findings.specs.declared.steps.Step.{Step}
+use Rattle.j39_findings.specs.declared.steps.Step.TheVariants.{Down}
 use Rattle.j39_world.specs.declared.flow.Flow.{Flow}
 use Rattle.j39_world.specs.declared.wired.Wired.{Wired}
 use Rattle.j39_world.specs.declared.wired.Wired.TheVariants.{Alone}
 use Rattle.j39_world.specs.Flows.{FlowGoes, flows_of}
 use Rattle.j39_world.specs.LiveEnds.{AreEndsAlone, AreEndsUndisturbed, IsUndisturbed}
 use Rattle.j39_world.specs.PlannedUnits.{unit_at, units_of}
-use Rattle.j39_world.specs.Run.{Run, both}
-use Rattle.j39_world.specs.SoundPlan.{Always}
+use Rattle.j39_world.specs.Run.{Follows, Run, both}
 use Rattle.j39_world.specs.Staying.{IsAloneThere}
 use Rattle.j39_world.specs.Transfers.{Outgoing, is_among}
 use Rattle.j39_world.specs.World.{World, all_off}
 use Rattle.j39_laws.proofs.Addresses.Alone.{undisturbed, unclaimed}
 use Rattle.j39_laws.proofs.Addresses.CleanUnits.{clean_units}
 use Rattle.j39_laws.proofs.Addresses.SoundAddresses.{invariant}
+use Rattle.j39_laws.proofs.Runs.Always.{one_more}
 use Rattle.j39_laws.proofs.Runs.Conditions.{is_unit}
 use Rattle.j39_laws.proofs.Runs.Units.{in_units}
 use Rattle.j39_laws.proofs.Transfers.Accounted.{AreEndsOn, IsAccounted, IsSettledFor}
 use Rattle.j39_laws.proofs.Transfers.AccountedSteps.{IsKept, all_kept, lies_on}
-use Rattle.j39_laws.proofs.Transfers.OfFlows.{AreOfFlows, IsOfFlow, IsSentBy, all_of_flows}
+use Rattle.j39_laws.proofs.Transfers.StillOn.{on_after}
+use Rattle.j39_laws.proofs.Transfers.OfFlows.{IsOfFlow, IsSentBy, all_of_flows}
 
 none_in : (x : Item) → Contains [] x → ⊥
 none_in x (k, inside, is) = absurd (omega (arith, inside))
@@ -115,3 +117,11 @@ module _ (plan : Plan) (clean : Clean plan) (steps : List Step) (w : World) (run
       sent = λ u v f bytes lies. sent_at u v f bytes lies;
       sent_to = λ u v f bytes flow x lies planned one. sent_to_at u v f bytes lies flow x planned one;
     }
+
+-- a unit that is alone at its planned address is undisturbed after each step but its own Down
+pub stays_undisturbed : (plan : Plan) → Clean plan → (steps : List Step) (w : World) → Run plan all_off steps w → (u : ℕ)
+    → IsAloneThere plan.keep_free (units_of plan) u → (w.stations u).on ≡ true → (step : Step) (after : World) → step ≢ Down u → Follows plan w step after
+    → IsUndisturbed plan after u
+stays_undisturbed plan clean steps w run u alone on step after other follows =
+    undisturbed_on plan clean (steps ++ step ∷ []) after (one_more plan all_off w after steps step run follows) u alone
+    (on_after plan w u on step after other follows)

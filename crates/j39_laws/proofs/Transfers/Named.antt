@@ -3,7 +3,7 @@
 use Rattle.std.proofs.Common.{◌≡◌, ◌≢◌, ℕ, ◌⊎◌, inl, inr, true, false, not, ◌&&◌, eqb, List, [], ◌∷◌, ◌++◌, length, refl, sym, ap, ◌∙◌, subst, Option, Some, None}
 use Rattle.std.specs.Prelude.{map, nat_lt, slice_get}
 use Rattle.std.specs.List.{AllByRecursion}
-use Rattle.std.proofs.lemmas.Bool.{and_parts, cases_eq, cond_both, eq-eqb, eqb-false, eqb-true, not-false, or_left, or_parts, true≢false}
+use Rattle.std.proofs.lemmas.Bool.{and_parts, cases_eq, cond_both, eqb-false, eqb-true, not-false, or_parts, true≢false}
 use Rattle.j39_tp.specs.Receiver as receiver
 use Rattle.j39_tp.specs.Receiver.{is_open_at}
 use Rattle.j39_tp.specs.Sender as sender
@@ -36,8 +36,8 @@ use Rattle.j39_world.specs.SoundPlan.{Always}
 use Rattle.j39_world.specs.Transfers.{Outgoing, Reported, Sessions, Wire, is_among, added, closed_if_complete}
 use Rattle.j39_world.specs.TransferSteps.{targets_of, begun_stage, outgoing, first_item, BeginsAt, SendsAt, sent_to_receivers, session_after, reaction_of}
 use Rattle.j39_world.specs.TransferSteps.{receiver_replies, sender_replies, hearing, packet_taken, TakenFrom, LostFrom, packets_in, receiver_timed_out, rested}
-use Rattle.j39_world.specs.SwitchingOff.{is_either, session_without, sessions_without, stage_without}
-use Rattle.j39_world.specs.World.{World, Stations, all_off, changed, changed_pair}
+use Rattle.j39_world.specs.SwitchingOff.{is_either, session_without, sessions_without}
+use Rattle.j39_world.specs.World.{World, all_off, changed, changed_pair}
 use Rattle.j39_laws.proofs.Reports.Orderly.{IsPlanned, PlannedAt}
 use Rattle.j39_laws.proofs.Reports.SenderSteps.{no_session, begin_keeps}
 use Rattle.j39_laws.proofs.Reports.TransferInvariant.{TransferInvariant}
@@ -45,9 +45,9 @@ use Rattle.j39_laws.proofs.Runs.Always.{IsPreserved, always}
 use Rattle.j39_laws.proofs.Runs.Changed.{changed_here, changed_elsewhere, changed_each, pair_each}
 use Rattle.j39_laws.proofs.Runs.Conditions.{none_refuses}
 use Rattle.j39_laws.proofs.Runs.Elements.{all-append, all_map, all_weaker}
-use Rattle.j39_laws.proofs.Runs.SwitchedOff.{ended_stays, lists_left, sessions_each, stage_left, targets_same}
+use Rattle.j39_laws.proofs.Runs.SwitchedOff.{lists_left, sessions_each, stage_left, targets_same}
 use Rattle.j39_laws.proofs.Transfers.Accounted.{SendsTo}
-use Rattle.j39_laws.proofs.Transfers.Coming.{resting_hears}
+use Rattle.j39_laws.proofs.Transfers.EndedWithout.{begun_ended, ended_left, going_ended, heard_ended}
 use Rattle.j39_laws.proofs.Transfers.AccountedSteps.{IsKept, keeps, all_kept, over_with}
 use Rattle.j39_laws.proofs.Transfers.Naming.{IsOpenFor, AnswersAt, hears_answers, late_answers, IsRtsOf, hears_open, late_open, closed_open}
 use Rattle.j39_laws.proofs.Transfers.Naming.{HasEndedWithout, IsTo, SaysTo, WaitsForOne, says_first, says_data, says_late, says_replies, KeepsTo, after_to}
@@ -153,30 +153,6 @@ heard_waits (Some s) u p was =
     of tos.All here = here
     of (tos.One x) here = λ _. (x, refl)
 
--- ---- who has ended
-
-among_one_here : (x : ℕ) → is_among (x ∷ []) x ≡ false → ⊥
-among_one_here x none = (let e : eqb x x ≡ true = eq-eqb x x refl in true≢false (sym (or_left (eqb x x) false e) ∙ none))
-
-begun_ended : (count f : ℕ) (stations : Stations) (flow : Flow) (bytes : List ℕ) → HasEndedWithout (Some (outgoing count stations f flow bytes))
-begun_ended count f stations flow bytes x to none = absurd (among_one_here x
-    (sym (ap (λ (t : To). is_among (targets_of count stations flow.sender t) x) to) ∙ none))
-
--- one that goes on hasn't
-going_ended : (s : Outgoing) (stage : Stage) → HasEndedWithout (Some s) → ((outcome : Outcome) → s.stage ≡ Resting outcome → ⊥)
-    → HasEndedWithout (Some (record s { stage = stage }))
-going_ended s stage was goes x to none = let rests = was x to none in absurd (goes rests.0 rests.1)
-
-heard_ended : (o : Option Outgoing) (u : ℕ) (p : Packet) → HasEndedWithout o → HasEndedWithout (session_after o u p)
-heard_ended None u p was = tt
-heard_ended (Some s) u p was = λ x to none.
-    let (outcome, rests) = was x to none in (
-      outcome,
-      cond_both (is_among s.targets u) _ _ (λ (z : Stage × Reaction). z.0 ≡ Resting outcome)
-          (λ _. subst (λ (st : Stage). (sender.stage_hears (dest_of s.to) s.pgn (length s.bytes) st p).0 ≡ Resting outcome) (sym rests)
-          (resting_hears (dest_of s.to) s.pgn (length s.bytes) outcome p)) (λ _. rests),
-    )
-
 -- ---- the sender rests
 
 module _ (sessions : Sessions) (u : ℕ) where
@@ -248,23 +224,6 @@ named_left u sessions s t other_s other_t (wired.Packet (Abort reason pgn)) is =
 ]
 named_left u sessions s t other_s other_t (wired.Packet (Dt number seven)) is = tt
 named_left u sessions s t other_s other_t (wired.Alone f bytes) is = tt
-
-ended_left : (u : ℕ) (o : Option Outgoing) → HasEndedWithout o → HasEndedWithout (session_without u o)
-ended_left u None was = tt
-ended_left u (Some s) was = λ x to none. elim (cases_eq x u) [
-  | inl same ↦ subst (λ (t : To). (outcome : Outcome) × (stage_without u t s.stage ≡ Resting outcome)) (sym (to ∙ ap tos.One same)) (gone s.stage)
-  | inr other ↦
-      let (outcome, rests) = was x to (sym (targets_same u s.targets x other) ∙ none) in
-      (outcome, ap (stage_without u s.to) rests ∙ ended_stays u s.to outcome)
-]
-  where
-    gone : (stage : Stage) → (outcome : Outcome) × (stage_without u (tos.One u) stage ≡ Resting outcome)
-    gone stage = (let e : eqb u u ≡ true = eq-eqb u u refl in rw e (given_up stage))
-      where
-        given_up : (st : Stage) → (outcome : Outcome) × ((sender.ended GaveUp st).0 ≡ Resting outcome)
-        given_up (Sending next last) = (GaveUp, refl)
-        given_up Waiting = (GaveUp, refl)
-        given_up (Resting was_so) = (was_so, refl)
 
 waits_left : (u : ℕ) (o : Option Outgoing) → WaitsForOne o → WaitsForOne (session_without u o)
 waits_left u None was = tt

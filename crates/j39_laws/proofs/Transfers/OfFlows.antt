@@ -1,6 +1,6 @@
 -- In every world of every run each message is of a flow that goes from its sender to whom it is for, and so is each frame that lies and was
 -- sent alone.
-use Rattle.std.proofs.Common.{◌≡◌, ℕ, true, ◌&&◌, eqb, List, [], ◌∷◌, ◌++◌, length, refl, sym, ap, ◌∙◌, subst, Option, Some, None}
+use Rattle.std.proofs.Common.{◌≡◌, ℕ, true, ◌&&◌, eqb, List, [], ◌∷◌, ◌++◌, length, refl, sym, ◌∙◌, subst, Option, Some, None}
 use Rattle.std.specs.Prelude.{map, slice_get}
 use Rattle.std.specs.List.{AllByRecursion}
 use Rattle.std.proofs.lemmas.Bool.{and_parts, cond_both, eqb-true}
@@ -25,7 +25,7 @@ use Rattle.j39_world.specs.SwitchingOff.{session_without}
 use Rattle.j39_world.specs.Transfers.{Outgoing, Wire, is_among, added}
 use Rattle.j39_world.specs.TransferSteps.{targets_of, outgoing, first_item, BeginsAt, SendsAt, session_after, reaction_of, receiver_replies, sender_replies}
 use Rattle.j39_world.specs.TransferSteps.{hearing, TakenFrom, LostFrom, packets_in}
-use Rattle.j39_world.specs.World.{World, Stations, changed, changed_pair}
+use Rattle.j39_world.specs.World.{World, Stations, changed_pair}
 use Rattle.j39_laws.proofs.Reports.SenderSteps.{among_one}
 use Rattle.j39_laws.proofs.Runs.Always.{IsPreserved, always}
 use Rattle.j39_laws.proofs.Runs.Changed.{changed_each, pair_each}
