@@ -1,6 +1,6 @@
 -- By two plans that tell alike of the NAMEs of a log its lines lead to the same, and the same is written at them, but for the serial numbers of
 -- boxes.
-use Rattle.std.proofs.Common.{◌≡◌, ℕ, ◌==◌, ◌&&◌, Bool, if◌then◌else◌, suc, List, [], ◌∷◌, ◌++◌, length, Option, Some, None, inl, inr}
+use Rattle.std.proofs.Common.{◌≡◌, Bool, ℕ, suc, List, [], ◌∷◌, ◌++◌, length, Option, Some, None, inl, inr}
 use Rattle.std.proofs.Common.{refl, sym, ap, subst, ◌∙◌, append_assoc}
 use Rattle.std.specs.List.{All}
 use Rattle.std.proofs.lemmas.List.{append-nil, map-append}
@@ -21,7 +21,7 @@ use Rattle.j39_follow.specs.Holders.{TellsOf}
 use Rattle.j39_follow.specs.VehicleLogs.{IsButForNumber, NumberedLine, notice_alone, with_numbers, without_numbers}
 use Rattle.j39_follow.specs.declared.message.Sort.{Sort}
 use Rattle.j39_follow.proofs.VehicleParties.{TellAll, same_hands, tell_front}
-use Rattle.j39_follow.proofs.VehicleReports.{as_blank, notice_alike, same_events, same_group_of, same_report, same_way}
+use Rattle.j39_follow.proofs.VehicleReports.{bare_alike, notice_alike, same_events, same_group_of, same_report}
 use Rattle.j39_follow.proofs.VehicleUnits.{TellAlike, flip}
 
 -- ---- what a pair heard
@@ -110,7 +110,7 @@ pub record Remembers (G : ℕ → Type 0) (past : FollowedPast) : Type 0 where
   pub frames : frames_of past.timed ≡ frames_seen past.seen
   pub tells : TellAll G (frames_seen past.seen)
 
-module _ (G : ℕ → Type 0) (p q : Plan) (all_frames : Bool) (same : TellAlike G p q) (silent : (name : ℕ) → identity_text q name ≡ []) where
+module _ (G : ℕ → Type 0) (p q : Plan) (same : TellAlike G p q) (silent : (name : ℕ) → identity_text q name ≡ []) (all_frames : Bool) where
   frame_alike : (past : FollowedPast) (time : List ℕ) (named : Option (List ℕ)) (f : Frame) (next : FollowedPast) (text : List ℕ)
       → Remembers G past → Remembers G next → FollowsFrame p all_frames past time named f next text
       → SameStep p q text (FollowsFrame q all_frames past time named f next)
@@ -129,7 +129,7 @@ module _ (G : ℕ → Type 0) (p q : Plan) (all_frames : Bool) (same : TellAlike
       heard_as = followed_as G p q same log all f a.packet a.heard_as;
       notice_is = notice_alike G p q same log all silent f tells front a.notice a.notice_is;
       report_is = same_report G p q same log all front (in_frame f) a.sort a.report a.report_is;
-      bare_is = (a.bare_is.0, same_way G p q same log all f.ident a.bare_is.0 a.bare_is.1, a.bare_is.2 ∙ line_of_its_own);
+      bare_is = bare_alike G p q same log all all_frames front f a.notice a.report a.bare a.notice_is a.bare_is;
       carried_is = packet_report G p q same log all past.seen before.tells front f a.packet a.sorts a.carried a.carried_is;
       events_are = same_events G p q same log all f (a.sort ∷ a.sorts) a.events a.events_are;
       text_is = refl;
@@ -237,12 +237,12 @@ frames_grown past next grown frames =
 
 -- ---- a line
 
-module _ (G : ℕ → Type 0) (p q : Plan) (all_frames : Bool) (same : TellAlike G p q) (silent : (name : ℕ) → identity_text q name ≡ []) where
+module _ (G : ℕ → Type 0) (p q : Plan) (same : TellAlike G p q) (silent : (name : ℕ) → identity_text q name ≡ []) (all_frames : Bool) where
   part_alike : (past : FollowedPast) (line part : List ℕ) (named : Option (List ℕ)) (next : FollowedPast) (text : List ℕ)
       → Remembers G past → Remembers G next → FollowsPart p all_frames past line part named next text
       → SameStep p q text (FollowsPart q all_frames past line part named next)
   part_alike past line part named next text before behind (inl a) =
-      let step = frame_alike G p q all_frames same silent past a.1 named a.0 next text before behind a.4 in
+      let step = frame_alike G p q same silent all_frames past a.1 named a.0 next text before behind a.4 in
       record {
         row = step.row;
         text_is = step.text_is;
@@ -290,25 +290,25 @@ pub record SameLines (p q : Plan) (all_frames : Bool) (past : FollowedPast) (all
   pub each : length rows ≡ length all
   pub but_for_numbers : All (IsButForNumber p) rows
 
-pub lines_alike : (G : ℕ → Type 0) (p q : Plan) (all_frames : Bool) → TellAlike G p q → ((name : ℕ) → identity_text q name ≡ []) → (all : List Line)
+pub lines_alike : (G : ℕ → Type 0) (p q : Plan) → TellAlike G p q → ((name : ℕ) → identity_text q name ≡ []) → (all_frames : Bool) (all : List Line)
     (past : FollowedPast) (end : FollowedPast) (text : List ℕ) → frames_of past.timed ≡ frames_seen past.seen → TellAll G (frames_seen end.seen)
     → FollowsLines p all_frames past all end text → SameLines p q all_frames past all end text
 unfolding with_numbers without_numbers
-lines_alike G p q all_frames same silent [] past end text frames tells follows = record {
+lines_alike G p q same silent all_frames [] past end text frames tells follows = record {
   rows = [];
   text_is = follows.1;
   leads = (follows.0, refl);
   each = refl;
   but_for_numbers = All-nil (IsButForNumber p);
 }
-lines_alike G p q all_frames same silent (line ∷ all) past end text frames tells follows =
+lines_alike G p q same silent all_frames (line ∷ all) past end text frames tells follows =
     let first = line_grown p all_frames past line follows.0 follows.1 follows.3 in
     let rest = lines_grown p all_frames follows.0 all end follows.2 follows.4 in
     let known = frames_grown past follows.0 first frames in
     let before = remembered G past end (joined past follows.0 end first rest) frames tells in
     let behind = remembered G follows.0 end rest known tells in
-    let step = line_alike G p q all_frames same silent past line follows.0 follows.1 before behind follows.3 in
-    let further = lines_alike G p q all_frames same silent all follows.0 end follows.2 known tells follows.4 in
+    let step = line_alike G p q same silent all_frames past line follows.0 follows.1 before behind follows.3 in
+    let further = lines_alike G p q same silent all_frames all follows.0 end follows.2 known tells follows.4 in
     record {
       rows = step.row ∷ further.rows;
       text_is =

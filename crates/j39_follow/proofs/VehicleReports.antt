@@ -2,10 +2,11 @@
 -- the serial numbers of boxes.
 use Rattle.std.proofs.Common.{◌≡◌, ℕ, ◌==◌, ◌&&◌, ◌||◌, nat_lt, Bool, true, false, if◌then◌else◌, List, [], ◌∷◌, ◌++◌, length, map, option_map, codes, Option}
 use Rattle.std.proofs.Common.{Some, None, inl, inr}
-use Rattle.std.proofs.Common.{refl, sym, ap, subst, ◌∙◌, slice_index_or}
+use Rattle.std.proofs.Common.{refl, sym, ap, subst, arith, ◌∙◌, slice_index_or}
 use Rattle.std.specs.List.{position, slice_get}
 use Rattle.std.specs.Option.{option_map_or, option_or, option_to_list}
-use Rattle.std.proofs.Math.Dec.{eqb-suc-zero}
+use Rattle.std.proofs.lemmas.Bool.{ne_eqb}
+use Rattle.std.proofs.lemmas.List.{length-append}
 use Rattle.std.proofs.lemmas.Option.{none-some}
 use Rattle.j39_id.specs.Addresses.{global_address}
 use Rattle.j39_id.specs.FrameMeaning.{cannot_claim, claims_address, name_in, requested_group, requests_group}
@@ -21,8 +22,8 @@ use Rattle.j39_text.specs.Labels.{unit_label}
 use Rattle.j39_text.specs.Texts.{field}
 use Rattle.j39_follow.specs.Contests.{IsTaken, Timed, frames_of}
 use Rattle.j39_follow.specs.Fits.{IsSentGroup, MayBeGroup, fits, fits_all, fitting_flow, is_unit}
-use Rattle.j39_follow.specs.FollowReports.{AreTold, IsAnswerWay, IsAsked, IsGroupOfMessage, IsGrouped, IsMessageReport, IsNotice, IsSendingOf, IsWay, Message}
-use Rattle.j39_follow.specs.FollowReports.{answer_aim, answer_line, answer_way_text, asked_line, cannot_line, cannot_text, claim_line, claim_text}
+use Rattle.j39_follow.specs.FollowReports.{AreTold, IsAnswerWay, IsAsked, IsBareText, IsGroupOfMessage, IsGrouped, IsMessageReport, IsNotice, IsSendingOf, IsWay, Message}
+use Rattle.j39_follow.specs.FollowReports.{answer_aim, frame_line, answer_line, answer_way_text, asked_line, cannot_line, cannot_text, claim_line, claim_text}
 use Rattle.j39_follow.specs.FollowReports.{identity_text, in_frame, is_to_all, message_line, named_text, notice_events, notice_text, refusal_events, reply_of}
 use Rattle.j39_follow.specs.Holders.{TellsOf}
 use Rattle.j39_follow.specs.LoggedRequests.{acknowledged_group, acknowledges, asked_request, asker_address, counted_number, is_acknowledgement, is_aimed_so}
@@ -53,6 +54,34 @@ map_same f g same (x ∷ xs) = ap (λ (y : _). y ∷ map f xs) (same x) ∙ ap (
 abbrev asks : Plan → Frame → List ℕ → List ℕ → Option ℕ → List ℕ → List ℕ
 asks plan f front way asked back =
     if requests_group f then asked_line front f way asked else if acknowledges plan f then answer_line front f back else []
+
+-- what is written of a claim or a Cannot isn't empty
+some_text : (front : List ℕ) (x : ℕ) (rest report : List ℕ) → (length ((front ++ x ∷ rest) ++ report) == 0) ≡ false
+some_text front x rest report = ne_eqb (length ((front ++ x ∷ rest) ++ report)) 0 (λ e.
+    let one = length-append (front ++ x ∷ rest) report in
+    let two = length-append front (x ∷ rest) in
+    absurd (omega (arith, e, one, two)))
+
+choose_alike : {A B : Type 0} (read : A → B) (b : Bool) (x y v w : A) → (b ≡ true → read x ≡ read v) → (b ≡ false → read y ≡ read w)
+    → read (if b then x else y) ≡ read (if b then v else w)
+choose_alike read true x y v w one other = one refl
+choose_alike read false x y v w one other = other refl
+
+-- without its serial number no notice is empty that isn't empty with it
+same_emptiness : (p : Plan) (front : List ℕ) (f : Frame) (way : List ℕ) (asked : Option ℕ) (back report : List ℕ)
+    → (length (notice_alone p front f way asked back ++ report) == 0) ≡ (length (notice_text p front f way asked back ++ report) == 0)
+unfolding claim_text claim_alone cannot_text cannot_alone
+same_emptiness p front f way asked back report =
+    choose_alike empty (claims_address f) _ _ _ _
+    (λ claims. some_text front _ _ report ∙ sym (some_text front _ _ report))
+    (λ no. choose_alike empty (cannot_claim f) _ _ _ _
+    (λ cannot. some_text front _ _ report ∙ sym (some_text front _ _ report))
+    (λ neither.
+    ap (λ (b : Bool). empty (if b then claim_line p front f else if cannot_claim f then cannot_line p front f else asks p f front way asked back)) no
+    ∙ ap (λ (b : Bool). empty (if b then cannot_line p front f else asks p f front way asked back)) neither))
+  where
+    empty : List ℕ → Bool
+    empty t = length (t ++ report) == 0
 
 module _ (G : ℕ → Type 0) (p q : Plan) (same : TellAlike G p q) where
   -- ---- labels
@@ -256,6 +285,15 @@ module _ (G : ℕ → Type 0) (p q : Plan) (same : TellAlike G p q) (log : List 
 
   pub same_events : (f : Frame) (sorts : List Sort) (events : List Event) → AreTold p log f sorts events → AreTold q log f sorts events
   same_events = same_told
+
+  -- the line of a frame of which nothing else is written
+  pub bare_alike : (all_frames : Bool) (front : List ℕ) (f : Frame) (notice report bare : List ℕ) (n : IsNotice p log front f notice)
+      → IsBareText p all_frames log front f (notice ++ report) bare
+      → IsBareText q all_frames log front f (notice_alone p front f n.way n.asked n.back ++ report) bare
+  bare_alike all_frames front f notice report bare n b =
+      let none : (length (notice ++ report) == 0) ≡ (length (notice_alone p front f n.way n.asked n.back ++ report) == 0) =
+      ap (λ (t : List ℕ). length (t ++ report) == 0) n.text_is ∙ sym (same_emptiness p front f n.way n.asked n.back report) in
+      (b.0, same_way f.ident b.0 b.1, b.2 ∙ ap (λ (t : Bool). if all_frames && t then frame_line front b.0 f else []) none)
 
   -- ---- what is told first
 

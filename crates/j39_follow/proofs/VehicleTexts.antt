@@ -68,12 +68,12 @@ module _ (plan vehicle : Plan) (is : IsVehicleOf plan vehicle) (apart : AreToldA
   alike : TellAlike Given plan vehicle
   alike = tell_alike plan vehicle is apart
 
-  followed : (all_frames : Bool) (log numbered alone : List ℕ) (outcome : Verdict) → IsLogOfVehicle plan vehicle log → All IsSendable plan.groups.items
+  followed : (all_frames : Bool) (log numbered alone : List ℕ) (outcome : Verdict) → IsLogOfVehicle plan vehicle all_frames log → All IsSendable plan.groups.items
       → IsFollowedLog plan all_frames log numbered → IsFollowText vehicle all_frames log alone outcome
       → (Done ≡ outcome) × DifferInNumbers plan log numbered alone
   followed all_frames log numbered alone outcome given sendable a other =
-      let tells : TellAll Given (frames_seen a.past.seen) = given all_frames numbered a in
-      let all = lines_alike Given plan vehicle all_frames alike (no_identity plan vehicle is apart) (lines log) nothing_followed a.past a.reports refl tells a.read in
+      let tells : TellAll Given (frames_seen a.past.seen) = given numbered a in
+      let all = lines_alike Given plan vehicle alike (no_identity plan vehicle is apart) all_frames (lines log) nothing_followed a.past a.reports refl tells a.read in
       let units = same_unit_lines Given plan vehicle alike (frames_seen a.past.seen) tells 0 plan.units.items vehicle.units.items a.units
       (λ k. ap (slice_get plan.units.items) (omega arith)) (λ k. ap (slice_get vehicle.units.items) (omega arith)) a.units_are in
       let built : IsFollowedLog vehicle all_frames log (without_numbers all.rows ++ behind_reports vehicle a.past a.units) = record {

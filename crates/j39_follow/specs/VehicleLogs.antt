@@ -30,10 +30,9 @@ TellOfVehicle plan vehicle frames =
     → IsOfVehicle plan vehicle name
 
 -- by this plan the log is followed, and its frames tell of no other box of a unit than the vehicle's
-abbrev pub IsLogOfVehicle : Plan → Plan → List ℕ → Type 0
-IsLogOfVehicle plan vehicle log =
-    (all_frames : Bool) (text : List ℕ) (followed : IsFollowedLog plan all_frames log text)
-    → TellOfVehicle plan vehicle (frames_seen followed.past.seen)
+abbrev pub IsLogOfVehicle : Plan → Plan → Bool → List ℕ → Type 0
+IsLogOfVehicle plan vehicle all_frames log =
+    (text : List ℕ) (followed : IsFollowedLog plan all_frames log text) → TellOfVehicle plan vehicle (frames_seen followed.past.seen)
 
 -- ---- lines without serial numbers
 
@@ -92,5 +91,6 @@ pub record DifferInNumbers (plan : Plan) (log numbered alone : List ℕ) : Type 
 -- the vehicle's plan, and the serial numbers of boxes, whichever frames are told
 abbrev pub TypesTellVehicles : Type 0
 TypesTellVehicles = (plan vehicle : Plan) (all_frames : Bool) (log numbered alone : List ℕ) (verdict outcome : Verdict) → IsVehicleOf plan vehicle
-    → AreToldApart plan → IsLogOfVehicle plan vehicle log → IsFollowText plan all_frames log numbered verdict
-    → IsFollowText vehicle all_frames log alone outcome → (verdict ≡ outcome) × DifferInNumbers plan log numbered alone
+    → AreToldApart plan → IsLogOfVehicle plan vehicle all_frames log → IsFollowText plan all_frames log numbered verdict
+    → IsFollowText vehicle all_frames log alone outcome
+    → (verdict ≡ outcome) × DifferInNumbers plan log numbered alone

@@ -21,10 +21,12 @@ use Rattle.j39_findings.specs.declared.plan.unit_plan.UnitPlan.{UnitPlan}
 use Rattle.j39_findings.specs.declared.steps.Step.{Step}
 use Rattle.j39_findings.specs.declared.steps.Step.TheVariants.{Up, Down, Give, Ask, Begin, Send, Emit, Take, Lose, LateSender, LateReceiver, Rest}
 use Rattle.j39_findings.proofs.VehicleUnits.{boxes_apart}
+use Rattle.j39_findings.proofs.Vehicles.{clean_vehicle}
 use Rattle.j39_laws.proofs.Addresses.CleanUnits.{placed}
 use Rattle.j39_laws.proofs.Runs.Units.{in_units}
 use Rattle.j39_world.specs.declared.flow.Flow.{Flow}
-use Rattle.j39_world.specs.Flows.{flow_of, flows_of}
+use Rattle.j39_world.specs.Flows.{FlowGoes, flow_of, flows_of}
+use Rattle.j39_world.specs.LiveEnds.{KeepsEnds}
 use Rattle.j39_world.specs.Opening.{AreNamesDistinct}
 use Rattle.j39_world.specs.PlannedUnits.{planned_unit, unit_at, units_of}
 use Rattle.j39_world.specs.Run.{Follows}
@@ -35,7 +37,7 @@ use Rattle.j39_follow.specs.VehicleLogs.{IsOfVehicle, TellOfVehicle}
 use Rattle.j39_follow.proofs.VehicleParties.{TellAll}
 use Rattle.j39_follow.proofs.VehicleReports.{same_report}
 use Rattle.j39_follow.proofs.VehicleUnits.{of_box, tell_alike, unit_kept}
-use Rattle.j39_traces.specs.Between.{AreJoined, ComesTo, EachGoesBetweenUnits, FlowGoes, GoesToHolder, HasNumberOf, IsBetweenUnits, IsKnownAt, IsOfFlow}
+use Rattle.j39_traces.specs.Between.{AreJoined, ComesTo, EachGoesBetweenUnits, GoesToHolder, HasNumberOf, IsBetweenUnits, IsKnownAt, IsOfFlow}
 use Rattle.j39_traces.specs.Between.{IsOfStep, IsSentBy, MessagesGoBetweenHolders, SendsTo, StandsBehind}
 use Rattle.j39_traces.specs.Telling.{HaveOwnNumbers}
 use Rattle.j39_traces.specs.ToldFlows.{AreToldAsBegun, EachClaims, LooksLike, untimed}
@@ -63,6 +65,10 @@ claims_at kept other [] (b ∷ boxes) all u = absurd all
 claims_at kept other (a ∷ units) [] all u = absurd all
 claims_at kept other (a ∷ units) (b ∷ boxes) all zero = all.0.claims
 claims_at kept other (a ∷ units) (b ∷ boxes) all (suc u) = claims_at kept other units boxes all.1 u
+
+pub boxes_keep_ends : (plan vehicle : Plan) → IsVehicleOf plan vehicle → KeepsEnds plan → KeepsEnds vehicle
+boxes_keep_ends plan vehicle is (inl settled) = inl (is.live ∙ settled)
+boxes_keep_ends plan vehicle is (inr clean) = inr (clean_vehicle plan vehicle is clean)
 
 module _ (plan vehicle : Plan) (is : IsVehicleOf plan vehicle) (apart : AreToldApart plan) where
   -- ---- the vehicle's plan

@@ -70,10 +70,10 @@ pub fn single_frames_are_told_as_begun()
 pub fn types_tell_runs_of_vehicles()
     ensures names { (plan vehicle : Plans) (steps : List Steps) (w : World) → IsVehicleOf plan vehicle → AreToldApart plan → HaveOwnNumbers plan
         → Run vehicle all_off steps w → FramesTellOfVehicle plan vehicle w }
-    ensures sent { (plan vehicle : Plans) (steps : List Steps) (w : World) → IsVehicleOf plan vehicle → AreToldApart plan → HaveOwnNumbers plan
-        → Run vehicle all_off steps w → VehicleMessagesGoBetweenHolders plan vehicle w }
-    ensures logged { (plan vehicle : Plans) (steps : List Steps) (w : World) → IsVehicleOf plan vehicle → AreToldApart plan → HaveOwnNumbers plan
-        → Run vehicle all_off steps w → EachGoesBetweenUnits plan w }
+    ensures sent { (plan vehicle : Plans) (steps : List Steps) (w : World) → IsVehicleOf plan vehicle → AreToldApart plan → KeepsEnds plan
+        → HaveOwnNumbers plan → Run vehicle all_off steps w → VehicleMessagesGoBetweenHolders plan vehicle w }
+    ensures logged { (plan vehicle : Plans) (steps : List Steps) (w : World) → IsVehicleOf plan vehicle → AreToldApart plan → KeepsEnds plan
+        → HaveOwnNumbers plan → Run vehicle all_off steps w → EachGoesBetweenUnits plan w }
     ensures begun { (plan vehicle : Plans) (steps : List Steps) (w : World) → IsVehicleOf plan vehicle → Clean plan → EachClaims plan
         → Run vehicle all_off steps w → AreVehiclesToldAsBegun plan vehicle w }
 {}
