@@ -13,7 +13,7 @@ use Rattle.j39_findings.specs.declared.plan.Plan.{Plan}
 use Rattle.j39_log.specs.LogPairs.{Seen}
 use Rattle.j39_tp.specs.declared.packet.Packet.{Packet}
 use Rattle.j39_follow.specs.Contests.{Timed, frames_of}
-use Rattle.j39_follow.specs.FollowReports.{bare_text, frame_line, identity_text, in_frame, stamp}
+use Rattle.j39_follow.specs.FollowReports.{identity_text, in_frame, stamp}
 use Rattle.j39_follow.specs.FollowText.{FollowedPast, FollowsFrame, FollowsLine, FollowsLines, FollowsPart, HeardSince, IsCarriedReport, IsFollowedAs}
 use Rattle.j39_follow.specs.FollowText.{IsPacketReport, OneChangesHands}
 use Rattle.j39_follow.specs.FollowText.{frames_seen, line_passed_over, lines_with, one_line_more}
@@ -154,13 +154,6 @@ module _ (G : ℕ → Type 0) (p q : Plan) (same : TellAlike G p q) (silent : (n
 
     alone : List ℕ
     alone = notice_alone p front f a.notice_is.way a.notice_is.asked a.notice_is.back
-
-    line_of_its_own : bare_text all_frames (a.notice ++ a.report) (frame_line front a.bare_is.0 f)
-        ≡ bare_text all_frames (alone ++ a.report) (frame_line front a.bare_is.0 f)
-    line_of_its_own =
-        ap (λ (t : List ℕ). bare_text all_frames (t ++ a.report) (frame_line front a.bare_is.0 f)) a.notice_is.text_is
-        ∙ ap (λ (b : Bool). if all_frames && b then frame_line front a.bare_is.0 f else [])
-        (as_blank p front f a.notice_is.way a.notice_is.asked a.notice_is.back a.report)
 
 -- ---- how the past grows
 

@@ -180,7 +180,7 @@ module _ (G : ℕ → Type 0) (p q : Plan) (same : TellAlike G p q) (log : List 
   taken : (address : ℕ) (w : Who) → IsTaken p log address w → IsTaken q log address w
   taken = same_taken G p q same log all
 
-  pub same_way : (i : Ident) (text : List ℕ) → IsWay p log i text → IsWay q log i text
+  same_way : (i : Ident) (text : List ℕ) → IsWay p log i text → IsWay q log i text
   same_way i text w = record {
     sender = w.sender;
     receiver = w.receiver;
@@ -336,41 +336,3 @@ module _ (G : ℕ → Type 0) (p q : Plan) (same : TellAlike G p q) (log : List 
       asked_is = same_asked f n.asked n.asked_is;
       text_is = sym (notice_same front n.way n.asked n.back);
     }
-
--- ---- whether a frame has a line of its own
-
--- whether nothing is written
-abbrev is_blank : List ℕ → List ℕ → Bool
-is_blank report text = length (text ++ report) == 0
-
-blank_same : (report : List ℕ) (b : Bool) (x y v w : List ℕ) → is_blank report x ≡ is_blank report v
-    → (b ≡ false → is_blank report y ≡ is_blank report w) → is_blank report (if b then x else y) ≡ is_blank report (if b then v else w)
-blank_same report true x y v w one other = one
-blank_same report false x y v w one other = other refl
-
--- a line is something
-word_filled : (front : List ℕ) (c : ℕ) (back report : List ℕ) → is_blank report (front ++ c ∷ back) ≡ false
-word_filled [] c back report = eqb-suc-zero (length (back ++ report))
-word_filled (x ∷ front) c back report = eqb-suc-zero (length ((front ++ c ∷ back) ++ report))
-
-claim_filled : (p : Plan) (front report : List ℕ) (name address : ℕ)
-    → is_blank report (claim_text p front name address) ≡ is_blank report (claim_alone p front name address)
-unfolding claim_text claim_alone
-claim_filled p front report name address = word_filled front _ _ report ∙ sym (word_filled front _ _ report)
-
-cannot_filled : (p : Plan) (front report : List ℕ) (name : ℕ)
-    → is_blank report (cannot_text p front name) ≡ is_blank report (cannot_alone p front name)
-unfolding cannot_text cannot_alone
-cannot_filled p front report name = word_filled front _ _ report ∙ sym (word_filled front _ _ report)
-
--- so without serial numbers nothing is written at a frame exactly where nothing is with them
-pub as_blank : (p : Plan) (front : List ℕ) (f : Frame) (way : List ℕ) (asked : Option ℕ) (back report : List ℕ)
-    → (length (notice_text p front f way asked back ++ report) == 0) ≡ (length (notice_alone p front f way asked back ++ report) == 0)
-as_blank p front f way asked back report =
-    blank_same report (claims_address f) _ _ _ _ (claim_filled p front report (name_in f) f.ident.sa)
-    (λ no. blank_same report (cannot_claim f) _ _ _ _ (cannot_filled p front report (name_in f))
-    (λ neither. sym (
-    ap (λ (b : Bool). is_blank report
-    (if b then claim_line p front f else if cannot_claim f then cannot_line p front f else asks p f front way asked back)) no
-    ∙ ap (λ (b : Bool). is_blank report (if b then cannot_line p front f else asks p f front way asked back)) neither
-    )))

@@ -88,7 +88,7 @@ pub record DifferInNumbers (plan : Plan) (log numbered alone : List ℕ) : Type 
 -- ---- a law
 
 -- of a plan in which no two units may be one, the plan of a vehicle, and a log of this vehicle: `follow` by the plan writes what it writes by
--- the vehicle's plan, and the serial numbers of boxes, whichever frames are told
+-- the vehicle's plan, and the serial numbers of boxes
 abbrev pub TypesTellVehicles : Type 0
 TypesTellVehicles = (plan vehicle : Plan) (all_frames : Bool) (log numbered alone : List ℕ) (verdict outcome : Verdict) → IsVehicleOf plan vehicle
     → AreToldApart plan → IsLogOfVehicle plan vehicle all_frames log → IsFollowText plan all_frames log numbered verdict
