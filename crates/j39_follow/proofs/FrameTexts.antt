@@ -61,16 +61,16 @@ as_long old new written n m is now before =
 
 -- so a frame has a line of its own
 pub has_line : (all_frames : Bool) (old new written line : List ℕ) (n m : ℕ) → new ≡ old ++ written → n ≡ length new → m ≡ length old
-    → all_frames ≡ true → (n == m) ≡ true → line ≡ bare_text all_frames written line
+    → all_frames ≡ true → n ≡ m → line ≡ bare_text all_frames written line
 has_line all_frames old new written line n m is now before asked same =
-    let empty = sym (as_long old new written n m is now before) ∙ same in
+    let empty = sym (as_long old new written n m is now before) ∙ eq-eqb n m same in
     sym (ap (λ (b : Bool). if b && length written == 0 then line else []) asked ∙ ap (λ (b : Bool). if b then line else []) empty)
 
 -- or none, since there is another one
 pub has_another : (all_frames : Bool) (old new written line : List ℕ) (n m : ℕ) → new ≡ old ++ written → n ≡ length new → m ≡ length old
-    → all_frames ≡ true → (n == m) ≡ false → [] ≡ bare_text all_frames written line
+    → all_frames ≡ true → (n ≡ m → ⊥) → [] ≡ bare_text all_frames written line
 has_another all_frames old new written line n m is now before asked other =
-    let full = sym (as_long old new written n m is now before) ∙ other in
+    let full = sym (as_long old new written n m is now before) ∙ ne_eqb n m other in
     sym (ap (λ (b : Bool). if b && length written == 0 then line else []) asked ∙ ap (λ (b : Bool). if b then line else []) full)
 
 -- or none, since none is asked for

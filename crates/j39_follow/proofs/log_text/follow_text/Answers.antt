@@ -18,7 +18,7 @@ returns-in-Ok g c =
     (λ log text verdict is. rw is.1 (
       c.in-Ok.ensures.readable,
       subst (λ (p : Plan). IsFollowedLog p c.args.all_frames log text) c.in-Ok.ensures.plan
-          (subst (λ (b : Bool). IsFollowedLog c.in-Ok.groups.now b log text) c.new-reading.ensures.told is.0),
+          (subst (λ (b : Bool). IsFollowedLog c.in-Ok.groups b log text) c.new-reading.ensures.told is.0),
     ))
     c.read_lines.ensures.answers
 

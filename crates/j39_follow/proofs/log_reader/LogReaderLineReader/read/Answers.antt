@@ -1,6 +1,7 @@
-use Rattle.std.proofs.Common.{◌+◌, ◌^◌, ◌++◌, arith, IfOk, Result, Ok, Err}
+use Rattle.std.proofs.Common.{◌+◌, ◌^◌, ◌++◌, arith, Bool, IfOk, Result, Ok, Err, subst}
 use Rattle.std.proofs.lemmas.Result.{IfOk-weaker}
 use Rattle.j39_id.specs.Lines.{tells}
+use Rattle.j39_follow.specs.FollowText.{IsFollowedLog}
 use Rattle.j39_follow.proofs.LinesRead.{read_next, so_far}
 use Rattle.j39_follow.proofs.Recalls.{within_more}
 use Rattle.j39_follow.proofs.log_reader.LogReaderLineReader.read.Goals as goal
@@ -24,3 +25,9 @@ pub returns-clause-count : goal.returns-clause-count
 returns-clause-count c =
     IfOk-weaker c.read_cut.result _ _
     (λ _ count. λ most more within less. within_more c.read_cut.new.self (most + 1) more (omega (arith, less)) (count most within)) c.read_cut.ensures.count
+
+pub returns-clause-texts : goal.returns-clause-texts
+returns-clause-texts c =
+    IfOk-weaker c.read_cut.result _ _
+    (λ _ same. λ input text verdict is. (subst (λ (b : Bool). IsFollowedLog c.args.self.now.groups.now b input text) same is.0, is.1))
+    c.read_cut.ensures.told
