@@ -172,6 +172,11 @@ class Agreement(Joined):
         plans = ["version = 4\nstrangers = 2\n", "version = 3\nkeep_free = [240]\n", "version = 4\nstrangers = 3\n", "version = 4\n"]
         self.assertEqual(self.joined(*plans), {"version": 4, "keep_free": [240], "strangers": 3})
 
+    def test_it_is_live_where_any_is(self):
+        for plans, live in ((("version = 4\n", "version = 4\nlive = true\n"), True), (("version = 4\nlive = true\n", "version = 4\nlive = false\n"), True),
+                            (("version = 4\nlive = true\n", "version = 3\n"), True), (("version = 4\n", "version = 4\nlive = false\n"), False)):
+            self.assertEqual(self.joined(*plans).get("live", False), live, plans)
+
     def test_it_says_where_each_part_is_from(self):
         """Above each table, with the comments of the files; and by notes what is called otherwise. (The one flow without a period is F16,
         since one of the plans says how fast the bus is.)"""

@@ -140,6 +140,13 @@ class Report(InFolder):
         self.assertIn("may choose their addresses: up to 2.", run("report.py", plan)[1])
         self.assertNotIn("stand in no plan", run("report.py", example("address_contest.toml"))[1])
 
+    def test_live_buses(self):
+        """Of a live plan this stands below the units."""
+        text = text_of(example("service_requests.toml"))
+        said = "messages begin while units claim, and units go off in the midst of one"
+        self.assertIn(said, run("report.py", self.write("plan.toml", text.replace("version = 4\n", "version = 4\nlive = true\n")))[1])
+        self.assertNotIn(said, run("report.py", self.write("plan.toml", text))[1])
+
     def test_names_are_those_that_are_claimed(self):
         for plan in (PLAN, example("service_addresses.toml"), example("three_at_one_address.toml")):
             labels = program.labels_of(plan)

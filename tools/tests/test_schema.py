@@ -171,6 +171,14 @@ class Validated(InFolder):
             status, _ = program.call(["check", self.write("plan.toml", head + "\n")])
             self.assertEqual(self.faults(head) == [], status != 2, head)
 
+    def test_it_agrees_with_the_program_on_live_buses(self):
+        for head in (
+            "version = 1\nlive = true", "version = 2\nlive = false", "version = 3\nlive = false", "version = 4\nlive = false", "version = 4\nlive = true",
+            "version = 4\nlive = 1", 'version = 4\nlive = "true"',
+        ):
+            status, _ = program.call(["check", self.write("plan.toml", head + "\n")])
+            self.assertEqual(self.faults(head) == [], status != 2, head)
+
     def test_it_agrees_with_the_program_on_what_each_version_knows_of_a_signal(self):
         for version in (1, 2, 3, 4):
             for kind in ("measured", "discrete", "raw", "states", "signed", "dtc", "text"):

@@ -97,7 +97,7 @@ class OfShow(InFolder):
         """What `show` answers is what the text has with the defaults of the schema, and each table is found at its place."""
         for name in (*examples(".toml"), self.write("least.toml", LEAST), self.write("named.toml", NAMED), self.write("newer.toml", NEWER)):
             shown, source = Tables.of(name), source_in(name)
-            for part in ("units", "groups", "flows", "needs", "requests", "strangers", "timing"):
+            for part in ("units", "groups", "flows", "needs", "requests", "strangers", "live", "timing"):
                 self.assertEqual(getattr(shown, part), getattr(source.tables, part), f"{name}: {part}")
             for tables in (shown, source.tables):
                 for table in (*tables.units, *tables.groups, *(signal for group in tables.groups for signal in group.signals)):

@@ -83,6 +83,8 @@ HINTS = [
     "32: hint group SHORT: 7 bytes; a group of one frame has 8, unused ones filled with ones",
     "34: hint group UNSENT: no flow sends it",
 ]
+# That a plan of version 4 could be live.
+MAY_BE_LIVE = "1: hint live = true adds no finding: then what check promises holds while units claim, and go off in mid-message"
 
 
 class SerialNumbers(InFolder):
@@ -119,7 +121,7 @@ class Lint(InFolder):
 
     def test_units_without_numbers_are_not_compared_by_them(self):
         status, lines = self.lines(re.sub(r"version = \d", "version = 4", LINTED, count=1).replace("identity = 7, ", ""))
-        self.assertEqual((status, lines), (0, [*(hint for hint in HINTS if "identity" not in hint), "ok 4 units 4 groups 3 flows"]))
+        self.assertEqual((status, lines), (0, [MAY_BE_LIVE, *(hint for hint in HINTS if "identity" not in hint), "ok 4 units 4 groups 3 flows"]))
 
     def test_each_hint(self):
         self.assertEqual(self.lines(LINTED), (0, [*HINTS, "ok 4 units 4 groups 3 flows"]))
@@ -130,8 +132,28 @@ class Lint(InFolder):
         request = '[[request]]\ngroup = "UNSENT"\nfrom = "IDLE"\nto = "A"\n'
         plan = LINTED.replace("version = 2", "version = 4") + flow
         hint = f"{plan.count(chr(10))}: hint flow 4, UNSENT from A to all: it is sent only as an answer, and no request of the plan asks for it"
-        self.assertEqual(self.lines(plan)[1], [*HINTS[:5], hint, "ok 4 units 4 groups 4 flows"])
-        self.assertEqual(self.lines(plan + request)[1], [HINTS[0], *HINTS[2:5], "ok 4 units 4 groups 4 flows"])
+        self.assertEqual(self.lines(plan)[1], [MAY_BE_LIVE, *HINTS[:5], hint, "ok 4 units 4 groups 4 flows"])
+        self.assertEqual(self.lines(plan + request)[1], [MAY_BE_LIVE, HINTS[0], *HINTS[2:5], "ok 4 units 4 groups 4 flows"])
+
+    def test_a_plan_that_may_be_live(self):
+        """One of version 4 whose flows go between units that are alone; not one that is live, nor where F28 would be, nor without flows."""
+        plan = LINTED.replace("version = 2", "version = 4")
+        self.assertEqual(self.lines(plan)[1][0], MAY_BE_LIVE)
+        beside = plan.replace("address = 202", "address = 0")
+        for other in (LINTED, plan.replace("version = 4", "version = 4\nlive = true"), beside, plan.partition("[[flow]]")[0]):
+            self.assertNotIn("hint live", "".join(self.lines(other)[1]))
+
+    def test_frames_of_units_that_claim_on_a_live_bus(self):
+        """Where unplanned is less than the units that claim, strangers and a request."""
+        plan = 'version = 4\nlive = true\ntiming = {{ bitrate = 250000, unplanned = {} }}\n' + UNIT.format("A", 0, 1) + UNIT.format("B", 1, 2)
+        said = "3: hint unplanned = 2: on a live bus units claim at any time: 3 frames, of 2 units and a request for claims"
+        self.assertIn(said, self.lines(plan.format(2))[1])
+        silent = plan + "claims = false\n"
+        for text, told in ((plan.format(3), False), (silent.format(2), False), (silent.format(1), True), (plan.format(2).replace("live = true\n", ""), False)):
+            self.assertEqual("hint unplanned" in "".join(self.lines(text)[1]), told, text)
+        with_strangers = plan.format(7).replace("live = true", "live = true\nstrangers = 5")
+        said = "4: hint unplanned = 7: on a live bus units claim at any time: 8 frames, of 2 units, 5 strangers and a request for claims"
+        self.assertIn(said, self.lines(with_strangers)[1])
 
     def test_hints_at_queues(self):
         """A unit whose controller keeps no order, and that sends groups of two priorities; of one priority there is no hint."""
@@ -639,6 +661,32 @@ class Where(InFolder):
         self.assertEqual(self.answer("version = 4\nstrangers = 121\n"), (2, [f"2: refused Range top key strangers  {hint}"]))
         hint = "(key strangers: only from version = 4 on: write version = 4)"
         self.assertEqual(self.answer("version = 3\nstrangers = 1\n"), (2, [f"2: refused UnknownKey top  {hint}"]))
+
+    def test_live_buses(self):
+        self.assertEqual(self.answer("version = 4\nlive = 1\n"), (2, ["2: refused WrongType top key live  (live = 1: true or false)"]))
+        hint = "(key live: only from version = 4 on: write version = 4)"
+        self.assertEqual(self.answer("version = 3\nlive = true\n"), (2, [f"2: refused UnknownKey top  {hint}"]))
+
+    def test_ends_that_are_not_alone(self):
+        """The end that isn't alone, that of the sender first, and why: the unit that is planned there, the one that may move there, strangers."""
+        unit = '[[unit]]\nlabel = "{}"\naddress = {}\nname = {{ identity = {}, arbitrary = {} }}\n'
+        flow = '[[group]]\nlabel = "TSC1"\npgn = 0\npriority = 3\nlength = 8\n[[flow]]\ngroup = "TSC1"\nfrom = "{}"\nto = "{}"\n'
+        plan = "version = 4\nlive = true\n" + unit.format("X", 128, 1, "true") + unit.format("Y", 128, 2, "true") + unit.format("F", 140, 3, "false")
+        there, outside = "is planned there too: give one of them another address", "give it an address outside 128..247"
+        for ends, key, line, said in (
+            (("X", "all"), "from", 22, f"X isn't alone at 128: Y {there}"), (("X", "Y"), "from", 22, f"X isn't alone at 128: Y {there}"),
+            (("F", "all"), "from", 22, f"F isn't alone at 140: Y may move there: {outside}, or keep this one free"),
+            (("F", "Y"), "from", 22, f"F isn't alone at 140: Y may move there: {outside}, or keep this one free"),
+        ):
+            answer = self.answer(plan + flow.format(*ends))[1]
+            self.assertEqual(answer[0], f"{line - 1}: F28 FlowContested 1  (TSC1 from {ends[0]} to {ends[1]}: key {key}: {said})")
+        kept = plan.replace("live = true\n", "live = true\nkeep_free = [140]\n")
+        self.assertEqual(self.answer(kept + flow.format("F", "all"))[0], 0)
+        answer = self.answer(kept + flow.format("F", "X"))[1]
+        self.assertEqual(answer[0], f"23: F28 FlowContested 1  (TSC1 from F to X: key to: X isn't alone at 128: Y {there})")
+        strangers = kept.replace("live = true\n", "live = true\nstrangers = 1\n")
+        answer = self.answer(strangers + flow.format("F", "all"))[1]
+        self.assertEqual(answer[0], f"23: F28 FlowContested 1  (TSC1 from F to all: key from: F isn't alone at 140: strangers may come there: {outside})")
 
     def test_what_only_version_3_knows_of_a_signal(self):
         signal = ('[[group]]\nlabel = "G"\npgn = 65262\npriority = 6\nlength = 8\n'
