@@ -107,11 +107,11 @@ def words_of(kit: str, kept: str) -> list[str]:
 def proved(top: str, words: list[str], names: tuple[str, ...]) -> dict[str, bool]:
     """Checks these functions and laws, and returns of each whether it is proved."""
     only = [word for name in names for word in ("--only", name)]
-    said = subprocess.run([*words, *only], cwd=top, stdin=subprocess.DEVNULL, capture_output=True, text=True, check=False).stdout
-    told = dict(re.findall(rf"^fn {CRATE}::(\S+): (proved|not proved|no proof|could not tell)", said, re.MULTILINE))
+    ended = subprocess.run([*words, *only], cwd=top, stdin=subprocess.DEVNULL, stdout=subprocess.PIPE, stderr=subprocess.STDOUT, text=True, check=False)
+    told = dict(re.findall(rf"^fn {CRATE}::(\S+): (proved|not proved|no proof|could not tell)", ended.stdout, re.MULTILINE))
     missing = [name for name in names if told.get(name) not in ("proved", "not proved", "no proof")]
     if missing:
-        sys.exit(f"pairs: nothing was said of {', '.join(missing)}:\n{said[-2000:]}")
+        sys.exit(f"pairs: nothing was said of {', '.join(missing)}:\n{ended.stdout[-2000:]}")
     return {name: told[name] == "proved" for name in names}
 
 
