@@ -8,7 +8,7 @@ use Rattle.std.proofs.lemmas.Grind.{div_ceil_times}
 use Rattle.std.proofs.lemmas.Option.{slice_get-map}
 use Rattle.std.proofs.lemmas.List.Sums.{sum_by_more}
 use Rattle.std.proofs.Math.Nat.{div-mul-le_self, div-le_self, lt-mul-div-succ, mul-le-mul_left}
-use Rattle.j39_timing.specs.LeastShares.{HaveNoRoomFrom, IsBelow, IsBelowUntil, line_at, part_of}
+use Rattle.j39_timing.specs.LeastShares.{HaveNoRoomFrom, IsLineBelow, IsStretchBelow, line_at, part_of}
 use Rattle.j39_timing.specs.Waits.{Demand, HaveNoRoom, IsStream, IsWant, as_demand, demand_of, frames_of_want, frames_wanted, lesser, lesser_share, need, share}
 use Rattle.j39_timing.specs.declared.lines.Line.{Line}
 use Rattle.j39_timing.specs.declared.lines.Stretch.{Stretch}
@@ -91,7 +91,7 @@ module _ (paced asked k : ℕ) (less : asked < paced) where
       omega (arith, reached, most, all)
 
 module _ (stream : Stream) (demand : Demand) (asked : Line) (span : ℕ) (ok : IsStream stream)
-    (below : IsBelow asked (span + stream.late) (λ n. frames_wanted n demand * stream.bits)) where
+    (below : IsLineBelow asked (span + stream.late) (λ n. frames_wanted n demand * stream.bits)) where
   -- what is below both is below the lesser
   below-both : (x low : ℕ) → span ≤ x → low ≤ part_of stream * x → low ≤ line_at x asked → low ≤ 2 ^ 32 * lesser x stream (Some demand)
   below-both x low from first second =
@@ -126,8 +126,8 @@ module _ (stream : Stream) (demand : Demand) (asked : Line) (span : ℕ) (ok : I
 
 -- ---- all that want, and all streams: one more
 pub one-more-want : (a b : Line) (span bits : ℕ) (xs : List Want) (i : ℕ) (d : Want) → i < length xs
-    → IsBelow a span (λ x. sum_by (frames_of_want x) (take i xs) * bits) → IsBelow b span (λ x. frames_of_want x (get_or xs i d) * bits)
-    → IsBelow (record { known = a.known + b.known; part = a.part + b.part }) span (λ x. sum_by (frames_of_want x) (take (i + 1) xs) * bits)
+    → IsLineBelow a span (λ x. sum_by (frames_of_want x) (take i xs) * bits) → IsLineBelow b span (λ x. frames_of_want x (get_or xs i d) * bits)
+    → IsLineBelow (record { known = a.known + b.known; part = a.part + b.part }) span (λ x. sum_by (frames_of_want x) (take (i + 1) xs) * bits)
 one-more-want a b span bits xs i d inside first second x from =
     rw (sum_by_more (frames_of_want x) xs i d inside)
     (let one = first x from in
@@ -138,8 +138,8 @@ one-more-want a b span bits xs i d inside first second x from =
     omega (arith, one, other, left, right))
 
 pub one-more-stream : (demands : List Demand) (a b : Stretch) (span : ℕ) (xs : List Stream) (i : ℕ) (d : Stream) → i < length xs
-    → IsBelowUntil a span (λ x. sum_by (lesser_share demands x) (take i xs)) → IsBelowUntil b span (λ x. lesser_share demands x (get_or xs i d))
-    → IsBelowUntil (record { line = record { known = a.line.known + b.line.known; part = a.line.part + b.line.part }; until = min b.until a.until }) span
+    → IsStretchBelow a span (λ x. sum_by (lesser_share demands x) (take i xs)) → IsStretchBelow b span (λ x. lesser_share demands x (get_or xs i d))
+    → IsStretchBelow (record { line = record { known = a.line.known + b.line.known; part = a.line.part + b.line.part }; until = min b.until a.until }) span
     (λ x. sum_by (lesser_share demands x) (take (i + 1) xs))
 one-more-stream demands a b span xs i d inside first second x from within =
     rw (sum_by_more (lesser_share demands x) xs i d inside)
@@ -149,7 +149,7 @@ one-more-stream demands a b span xs i d inside first second x from within =
     omega (arith, one, other, left))
 
 module _ (demands : List Demand) (blocking w : ℕ) (xs : List Stream) (stretch : Stretch)
-    (below : IsBelowUntil stretch (w + 1) (λ x. sum_by (lesser_share demands x) xs)) where
+    (below : IsStretchBelow stretch (w + 1) (λ x. sum_by (lesser_share demands x) xs)) where
   -- the parts take all of the bus
   pub never : 2 ^ 32 ≤ stretch.line.part → HaveNoRoomFrom demands blocking xs w stretch.until
   never full v from before =

@@ -14,12 +14,12 @@ abbrev pub line_at : ℕ → Line → ℕ
 line_at x line = 2 ^ 32 * line.known + line.part * x
 
 -- in each time from one on no fewer bits are queued than a line has
-abbrev pub IsBelow : Line → ℕ → (ℕ → ℕ) → Type 0
-IsBelow line span bits = (x : ℕ) → span ≤ x → line_at x line ≤ 2 ^ 32 * bits x
+abbrev pub IsLineBelow : Line → ℕ → (ℕ → ℕ) → Type 0
+IsLineBelow line span bits = (x : ℕ) → span ≤ x → line_at x line ≤ 2 ^ 32 * bits x
 
 -- the same up to where it ends
-abbrev pub IsBelowUntil : Stretch → ℕ → (ℕ → ℕ) → Type 0
-IsBelowUntil stretch span bits = (x : ℕ) → span ≤ x → x ≤ stretch.until → line_at x stretch.line ≤ 2 ^ 32 * bits x
+abbrev pub IsStretchBelow : Stretch → ℕ → (ℕ → ℕ) → Type 0
+IsStretchBelow stretch span bits = (x : ℕ) → span ≤ x → x ≤ stretch.until → line_at x stretch.line ≤ 2 ^ 32 * bits x
 
 -- from a wait on, up to another one, none has room
 abbrev pub HaveNoRoomFrom : List Demand → ℕ → List Stream → ℕ → ℕ → Type 0

@@ -1,6 +1,6 @@
 //! What streams queue at least in each longer time.
 ghost use Rattle.std.specs.Prelude.{◌≡◌, ◌≤◌, ◌<◌, ◌^◌, All, Some, length, map, sum_by};
-ghost use Rattle.j39_timing.specs.LeastShares.{IsBelowUntil, part_of};
+ghost use Rattle.j39_timing.specs.LeastShares.{IsStretchBelow, part_of};
 ghost use Rattle.j39_timing.specs.Waits.{IsStream, IsWanted, as_demand, lesser, lesser_share};
 
 use crate::stream::Stream;
@@ -36,7 +36,7 @@ fn wanted_stretch(wanted: &Wanted, stream: Stream, step: u64, span: u32) -> Stre
     requires positive { IsStream stream }
     requires sound { IsWanted wanted.now }
     requires span { span < 2 ^ 32 }
-    ensures below { IsBelowUntil result span (λ x. lesser x stream (Some (as_demand wanted.now))) }
+    ensures below { IsStretchBelow result span (λ x. lesser x stream (Some (as_demand wanted.now))) }
     ensures small { (result.line.known ≤ 2 ^ 51) × (result.line.part ≤ 2 ^ 50) }
 {
     let paced = Line {
@@ -66,7 +66,7 @@ fn wanted_stretch(wanted: &Wanted, stream: Stream, step: u64, span: u32) -> Stre
 fn stretch_of(all: &[Wanted], stream: Stream, step: u64, span: u32) -> Stretch
     requires positive { IsStream stream }
     requires sound { All IsWanted all.now }
-    ensures below { IsBelowUntil result span (λ x. lesser_share (map as_demand all.now) x stream) }
+    ensures below { IsStretchBelow result span (λ x. lesser_share (map as_demand all.now) x stream) }
     ensures small { (result.line.known ≤ 2 ^ 51) × (result.line.part ≤ 2 ^ 50) }
 {
     if u64::from(stream.period) > step {
@@ -99,7 +99,7 @@ pub(crate) fn stretch_of_all(all: &[Wanted], streams: &[Stream], step: u64, span
     requires positive { All IsStream streams.now }
     requires few { length streams.now ≤ 2048 }
     requires sound { All IsWanted all.now }
-    ensures below { IsBelowUntil result span (λ x. sum_by (lesser_share (map as_demand all.now) x) streams.now) }
+    ensures below { IsStretchBelow result span (λ x. sum_by (lesser_share (map as_demand all.now) x) streams.now) }
     ensures small { result.line.known ≤ 2 ^ 62 }
 {
     let mut line = Line { known: 0, part: 0 };

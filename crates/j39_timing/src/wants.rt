@@ -1,6 +1,6 @@
 //! What is wanted of a unit that sends one long message at a time.
 ghost use Rattle.std.specs.Prelude.{◌≡◌, ◌+◌, ◌*◌, ◌<◌, ◌≤◌, ◌^◌, All, length, sum_by};
-ghost use Rattle.j39_timing.specs.LeastShares.{IsBelow};
+ghost use Rattle.j39_timing.specs.LeastShares.{IsLineBelow};
 ghost use Rattle.j39_timing.specs.Waits.{IsWant, IsWanted, as_demand, frames_of_want, frames_wanted};
 
 use crate::lines::Line;
@@ -40,7 +40,7 @@ fn want_line(want: Want, bits: u16, step: u64, span: u64) -> Line
     requires want { IsWant want }
     requires bits { bits ≤ 2 ^ 8 }
     requires span { span < 2 ^ 33 }
-    ensures below { IsBelow result span (λ x. frames_of_want x want * bits) }
+    ensures below { IsLineBelow result span (λ x. frames_of_want x want * bits) }
     ensures small { (result.known ≤ 2 ^ 51) × (result.part ≤ 2 ^ 48) }
 {
     if u64::from(want.period) > step {
@@ -77,7 +77,7 @@ fn line_of_wants(wants: &[Want], bits: u16, step: u64, span: u64) -> Line
     requires few { length wants.now ≤ 2048 }
     requires bits { bits ≤ 2 ^ 8 }
     requires span { span < 2 ^ 33 }
-    ensures below { IsBelow result span (λ x. sum_by (frames_of_want x) wants.now * bits) }
+    ensures below { IsLineBelow result span (λ x. sum_by (frames_of_want x) wants.now * bits) }
     ensures small { (result.known ≤ 2 ^ 62) × (result.part ≤ 2 ^ 59) }
 {
     let mut line = Line { known: 0, part: 0 };
@@ -107,7 +107,7 @@ impl Wanted {
         requires sound { IsWanted self.now }
         requires bits { bits ≤ 2 ^ 8 }
         requires span { span < 2 ^ 33 }
-        ensures below { IsBelow result span (λ x. frames_wanted x (as_demand self.now) * bits) }
+        ensures below { IsLineBelow result span (λ x. frames_wanted x (as_demand self.now) * bits) }
         ensures small { (result.known ≤ 2 ^ 63) × (result.part ≤ 2 ^ 59) }
     {
         let line = line_of_wants(self.wants.as_slice(), bits, step, span);

@@ -1,5 +1,5 @@
 use Rattle.std.proofs.Common.{arith, get_or, map, None}
-use Rattle.j39_timing.specs.LeastShares.{IsBelowUntil}
+use Rattle.j39_timing.specs.LeastShares.{IsStretchBelow}
 use Rattle.j39_timing.specs.Waits.{as_demand, lesser_share}
 use Rattle.j39_timing.specs.declared.lines.Stretch.{Stretch}
 use Rattle.j39_timing.specs.declared.stream.Stream.{Stream}
@@ -10,7 +10,7 @@ pub loop-stream-preserved : goal.loop-stream-preserved
 loop-stream-preserved c =
     let none : Stream = record { frames = 0; period = 0; bits = 0; late = 0; wanted = None } in
     let stretch : Stretch = record { line = c.loop-stream.line; until = c.loop-stream.until } in
-    let next : IsBelowUntil c.stretch_of-next.result c.args.span (λ x. lesser_share (map as_demand c.args.all.now) x (get_or c.args.streams.now c.loop-stream.stream-index none)) =
+    let next : IsStretchBelow c.stretch_of-next.result c.args.span (λ x. lesser_share (map as_demand c.args.all.now) x (get_or c.args.streams.now c.loop-stream.stream-index none)) =
     c.stretch_of-next.ensures.below in
     let (so_far, known, part) = c.loop-stream.invariant in
     let (few, little) = c.stretch_of-next.ensures.small in (
