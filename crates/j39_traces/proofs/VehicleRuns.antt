@@ -28,7 +28,7 @@ use Rattle.j39_world.specs.declared.flow.Flow.{Flow}
 use Rattle.j39_world.specs.Flows.{FlowGoes, flow_of, flows_of}
 use Rattle.j39_world.specs.LiveEnds.{KeepsEnds}
 use Rattle.j39_world.specs.Opening.{AreNamesDistinct}
-use Rattle.j39_world.specs.PlannedUnits.{planned_unit, unit_at, units_of}
+use Rattle.j39_findings.specs.PlannedUnits.{planned_unit, unit_at, units_of}
 use Rattle.j39_world.specs.Run.{Follows}
 use Rattle.j39_world.specs.Sent.{Sent, sent_of}
 use Rattle.j39_world.specs.World.{World}
