@@ -14,7 +14,7 @@ use Rattle.j39_world.specs.Staying.{IsAloneThere}
 use Rattle.j39_world.specs.declared.flow.Flow.{Flow}
 
 -- what holds of each planned flow holds of one
-flow_at : (P : FlowPlan → Type 0) (plan : Plan) → All P plan.flows.items → (f : ℕ) (x : FlowPlan) → slice_get plan.flows.items f ≡ Some x → P x
+pub flow_at : (P : FlowPlan → Type 0) (plan : Plan) → All P plan.flows.items → (f : ℕ) (x : FlowPlan) → slice_get plan.flows.items f ≡ Some x → P x
 flow_at P plan all f x is =
     subst P (get_or_from_slice_get plan.flows.items f x x is) (all f x (slice_get_within plan.flows.items f x is))
 
