@@ -130,7 +130,9 @@ fn is_line_of(command: Command, line: &str) -> bool {
         Command::Load => LOAD.contains(&first) || CHECK.contains(&first),
         Command::Run => RUN.contains(&first) || first.contains('#'),
         Command::Read => READ.contains(&first),
-        Command::Follow => FOLLOW.contains(&first) || first.parse::<u64>().is_ok(),
+        Command::Follow | Command::FollowAll => {
+            FOLLOW.contains(&first) || first.parse::<u64>().is_ok()
+        }
     }
 }
 

@@ -112,12 +112,13 @@ fn follow_by<F: Folder, W: Sink>(
     files: &F,
     plan: &Plan,
     log: &str,
+    all_frames: bool,
     sink: &mut W,
 ) -> Result<Verdict, Fault>
-    ensures { EndsByFile (IsFollowOf plan.now) (λ known. IsOfSome (IsFollowFrontOf plan.now known)) ⊥ log_limits
+    ensures { EndsByFile (IsFollowOf all_frames plan.now) (λ known. IsOfSome (IsFollowFrontOf all_frames plan.now known)) ⊥ log_limits
         (F.stays_shut files.now) (F.bytes_of files.now) F.File.state log.now W.state sink.old sink.new result }
 {
-    follow_text(alloc, plan, &mut files.open(log)?, sink)
+    follow_text(alloc, plan, all_frames, &mut files.open(log)?, sink)
 }
 
 // Writes what happens on the bus of a plan by a schedule, whose file is opened once the plan was read.
@@ -160,13 +161,14 @@ fn follow_files<F: Folder, W: Sink>(
     files: &F,
     plan: &str,
     log: &str,
+    all_frames: bool,
     sink: &mut W,
 ) -> Result<Verdict, Fault>
-    ensures { EndsByTwo IsFollowOf IsFollowFrontOf log_limits
+    ensures { EndsByTwo (IsFollowOf all_frames) (IsFollowFrontOf all_frames) log_limits
         (F.stays_shut files.now) (F.bytes_of files.now) F.File.state plan.now log.now W.state sink.old sink.new result }
 {
     match plan_of(alloc, files, plan, sink)? {
-        Some(plan) => follow_by(alloc, files, &plan, log, sink),
+        Some(plan) => follow_by(alloc, files, &plan, log, all_frames, sink),
         None => Ok(Verdict::Unreadable),
     }
 }
@@ -199,7 +201,9 @@ pub fn answer<F: Folder, S: Source, W: Sink>(
         Order::Load(plan) => load_file(alloc, files, plan, sink),
         Order::Run(plan, schedule) => run_files(alloc, files, plan, schedule, sink),
         Order::Read(plan, log) => read_files(alloc, files, plan, log, sink),
-        Order::Follow(plan, log) => follow_files(alloc, files, plan, log, sink),
+        Order::Follow(plan, log, all_frames) => {
+            follow_files(alloc, files, plan, log, *all_frames, sink)
+        }
         Order::Help(text) => {
             put_all(sink, text.as_bytes())?;
             Ok(Verdict::Done)

@@ -16,13 +16,13 @@ use Rattle.j39_load.specs.Ranks.{AreHeldApart, AreTwinFlows, IsShortFlow}
 use Rattle.j39_laws.proofs.Addresses.CleanEnds.{flow_at}
 use Rattle.j39_laws.proofs.Addresses.CleanUnits.{placed}
 use Rattle.j39_laws.proofs.Transfers.LiveEnds.{undisturbed_on}
-use Rattle.j39_world.specs.LiveEnds.{IsUndisturbed}
-use Rattle.j39_world.specs.PlannedUnits.{unit_at, units_of}
+use Rattle.j39_world.specs.LiveEnds.{StandsAlone}
+use Rattle.j39_findings.specs.PlannedUnits.{unit_at, units_of}
 use Rattle.j39_claim.specs.ClaimRule.{PlannedUnit}
 use Rattle.j39_world.specs.Run.{Run, is_on}
 use Rattle.j39_world.specs.Sent.{source_of}
 use Rattle.j39_world.specs.SentTransfers.{address_of}
-use Rattle.j39_world.specs.Staying.{IsAloneThere}
+use Rattle.j39_findings.specs.Staying.{IsAloneThere}
 use Rattle.j39_world.specs.Transfers.{is_among}
 use Rattle.j39_world.specs.World.{World, all_off}
 
@@ -78,7 +78,7 @@ module _ (plan : Plan) (clean : Clean plan) (live : plan.live ≡ true) (steps :
     abbrev is_end : ℕ → Bool
     is_end u = is_on w.stations u && is_among (ends_of flow ++ ends_of other) u
 
-    undisturbed : (u : ℕ) → is_end u ≡ true → IsAloneThere plan.keep_free (units_of plan) u × IsUndisturbed plan w u
+    undisturbed : (u : ℕ) → is_end u ≡ true → IsAloneThere plan.keep_free (units_of plan) u × StandsAlone plan w u
     undisturbed u end =
         let parts = and_parts (is_on w.stations u) (is_among (ends_of flow ++ ends_of other) u) end in
         let alone = among_more (ends_of flow) (ends_of other) u parts.1 (IsAloneThere plan.keep_free (units_of plan) u)

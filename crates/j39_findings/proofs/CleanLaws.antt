@@ -24,7 +24,7 @@ use Rattle.j39_signal.specs.Selectors.{selector_end}
 use Rattle.j39_findings.specs.Findings.{IsServed, GoesUnanswered, GoesUnheard, IsAnsweredAstray, AskTheSame}
 use Rattle.j39_findings.specs.CleanParts.{CanBePlanned, IsAnsweredWell, LiesInside, CleanParts}
 use Rattle.j39_findings.specs.declared.checking.finding.Finding.TheVariants.{SilentAddress, SilentInPool, FlowContested}
-use Rattle.j39_findings.specs.Findings.{IsContested, IsSilentInPool}
+use Rattle.j39_findings.specs.Findings.{IsFlowContested, IsSilentInPool}
 use Rattle.j39_findings.specs.CleanParts.{IsUnreached}
 use Rattle.j39_findings.specs.Lengths.{IsLengthOf}
 use Rattle.j39_findings.specs.TextPlaces.{last_byte}
@@ -226,7 +226,7 @@ parts_of plan clean = record {
   unreached = λ i d less silent. unreached plan (get_or plan.units.items i d) silent
       (none_at _ plan.units.items (λ k. clean (SilentInPool k)) i d less);
   senders_alone = λ live f d less. by_test _ _ (Decides-alone plan (get_or plan.flows.items f d).sender)
-      (λ none. none_at (IsContested plan) plan.flows.items (λ k. clean (FlowContested k)) f d less (live, inl none));
+      (λ none. none_at (IsFlowContested plan) plan.flows.items (λ k. clean (FlowContested k)) f d less (live, inl none));
   receivers_alone = λ live f d less r to. by_test _ _ (Decides-alone plan r)
-      (λ none. none_at (IsContested plan) plan.flows.items (λ k. clean (FlowContested k)) f d less (live, inr (r, to, none)));
+      (λ none. none_at (IsFlowContested plan) plan.flows.items (λ k. clean (FlowContested k)) f d less (live, inr (r, to, none)));
 }

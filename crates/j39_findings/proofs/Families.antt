@@ -20,9 +20,9 @@ use Rattle.j39_findings.specs.Kinds.{MayBeOne}
 use Rattle.j39_findings.specs.Findings.{HaveSameFixedAddress, HasBadPgn, HaveSamePgn, CannotGoToOne}
 use Rattle.j39_findings.specs.Findings.{EndsOutside, GoesToItsSender, AreOneFlow, Holds, PrefersKept, IsPrivateUnsent, IsOutside, IsUnmet, IsBefore, IsBelow, finding_number, places_of}
 use Rattle.j39_findings.specs.Findings.{GoesUnanswered, GoesUnheard, IsAnsweredAstray, AskTheSame, IsSelectorInside}
-use Rattle.j39_findings.specs.Findings.{HaveSilentAddress, IsSilentInPool, IsContested}
+use Rattle.j39_findings.specs.Findings.{HaveSilentAddress, IsSilentInPool, IsFlowContested}
 use Rattle.j39_findings.specs.Records.{record_count}
-use Rattle.j39_findings.specs.Found.{silent_findings, contested_findings, is_alone}
+use Rattle.j39_findings.specs.Found.{silent_findings, contested_findings, is_unit_alone}
 use Rattle.j39_findings.specs.Found.{needed_addresses, needs_pool_address, too_few_addresses, unit_findings, group_findings, has_other_width}
 use Rattle.j39_findings.specs.Found.{ends_outside, lies_outside, overlap_findings, signal_findings, flow_findings, kept_findings, unsent_findings, overlaps_of, group_overlaps, do_records_meet, record_findings, text_findings, need_findings, request_findings}
 use Rattle.j39_findings.proofs.Meeting.{of_signal_made, of_group_overlaps}
@@ -357,8 +357,8 @@ live_covered : (plan : Plan) (live : Bool) → plan.live ≡ live
     → Covers plan 28 28 (contested_findings live plan.keep_free plan.strangers plan.units.items plan.flows.items)
 unfolding contested_findings
 live_covered plan true live =
-    each_family plan 28 (IsContested plan)
-    (Decides-contested plan (is_alone plan.keep_free plan.strangers plan.units.items) (alone_by_list plan) live) FlowContested plan.flows.items (λ f h. h)
+    each_family plan 28 (IsFlowContested plan)
+    (Decides-contested plan (is_unit_alone plan.keep_free plan.strangers plan.units.items) (alone_by_list plan) live) FlowContested plan.flows.items (λ f h. h)
     (λ f. record { number = refl; places = refl })
 live_covered plan false none = family plan 28 [] (λ f h. absurd (omega arith)) tt
 

@@ -22,8 +22,8 @@ use Rattle.j39_findings.specs.Findings.{IsSelectorInside}
 use Rattle.j39_findings.specs.Found.{have_same_fixed_address, needed_addresses, too_few_addresses, unit_findings, has_bad_pgn, have_same_pgn}
 use Rattle.j39_findings.specs.Found.{group_findings, width_findings, outside_findings, overlap_findings, signal_findings, cannot_go_to_one}
 use Rattle.j39_findings.specs.Found.{goes_to_its_sender, are_one_flow, flow_findings, prefers_kept, kept_findings, is_private_unsent, unsent_findings, group_overlaps, record_findings, outside_text_findings, text_findings, is_unmet, need_findings, found}
-use Rattle.j39_findings.specs.Findings.{HaveSilentAddress, IsSilentInPool, IsContested}
-use Rattle.j39_findings.specs.Found.{have_silent_address, is_silent_in_pool, silent_findings, contested_findings, is_alone, is_contested}
+use Rattle.j39_findings.specs.Findings.{HaveSilentAddress, IsSilentInPool, IsFlowContested}
+use Rattle.j39_findings.specs.Found.{have_silent_address, is_silent_in_pool, silent_findings, contested_findings, is_unit_alone, is_contested}
 use Rattle.j39_findings.proofs.Meeting.{group_overlaps_of}
 use Rattle.j39_findings.proofs.Members.{in_each_of, found_if_of, each_of, pairs_of}
 use Rattle.j39_findings.proofs.Rising.{AllPairs-from_Rises}
@@ -157,7 +157,7 @@ silent_found plan f h =
     (elim h [ inl first ↦ Contains-append_left addresses in_pool f first | inr second ↦ Contains-append_right addresses in_pool f second ])))))))))
 
 contested_found : (plan : Plan) → plan.live ≡ true → (f : Finding)
-    → Contains (each (is_contested (is_alone plan.keep_free plan.strangers plan.units.items) plan.units.items) FlowContested 0 plan.flows.items) f
+    → Contains (each (is_contested (is_unit_alone plan.keep_free plan.strangers plan.units.items) plan.units.items) FlowContested 0 plan.flows.items) f
     → Contains (found plan) f
 unfolding contested_findings
 contested_found plan live f h =
@@ -170,10 +170,10 @@ contested_found plan live f h =
     (Contains-append_right (request_findings plan.groups.items plan.flows.items plan.requests.items) _ f
     (Contains-append_right (silent_findings plan.keep_free plan.strangers plan.units.items) _ f (on_live_bus h)))))))))
   where
-    on_live_bus : Contains (each (is_contested (is_alone plan.keep_free plan.strangers plan.units.items) plan.units.items) FlowContested 0 plan.flows.items) f
+    on_live_bus : Contains (each (is_contested (is_unit_alone plan.keep_free plan.strangers plan.units.items) plan.units.items) FlowContested 0 plan.flows.items) f
         → Contains (contested_findings plan.live plan.keep_free plan.strangers plan.units.items plan.flows.items) f
     on_live_bus h = subst
-        (λ b. Contains (if b then each (is_contested (is_alone plan.keep_free plan.strangers plan.units.items) plan.units.items) FlowContested 0 plan.flows.items else []) f)
+        (λ b. Contains (if b then each (is_contested (is_unit_alone plan.keep_free plan.strangers plan.units.items) plan.units.items) FlowContested 0 plan.flows.items else []) f)
         (sym live) h
 
 of_group : (plan : Plan) (find : ℕ → GroupPlan → List Finding) (g : ℕ) (group : GroupPlan) (f : Finding)
@@ -316,7 +316,7 @@ found_of plan (SilentInPool u) h =
     plan.units.items u h))
 found_of plan (FlowContested f) h =
     let live = h.meets.0 in
-    contested_found plan live _ (each_of (IsContested plan) (Decides-contested plan _ (alone_by_list plan) live) FlowContested plan.flows.items f h)
+    contested_found plan live _ (each_of (IsFlowContested plan) (Decides-contested plan _ (alone_by_list plan) live) FlowContested plan.flows.items f h)
 found_of plan (FlowRepeated f k) h = flow_found plan _ (inr (inr (pairs_of AreOneFlow Decides-are_one_flow FlowRepeated plan.flows.items f k h)))
 
 pub are_findings : (plan : Plan) → AreFindings plan (found plan)

@@ -17,11 +17,11 @@ use Rattle.j39_findings.specs.declared.checking.finding.Finding.TheVariants.{Req
 use Rattle.j39_findings.specs.declared.steps.Step.{Step}
 use Rattle.j39_findings.specs.ListPlaces.{pairs, PairAt}
 use Rattle.j39_findings.specs.Kinds.{MayBeOne, AreToldApart, may_be_one}
-use Rattle.j39_findings.specs.Findings.{Clean, IsAlone, IsContested}
+use Rattle.j39_findings.specs.Findings.{Clean, IsAloneInPlan, IsFlowContested}
 use Rattle.j39_findings.specs.PlannedUnits.{units_of}
 use Rattle.j39_findings.specs.Staying.{IsAloneThere}
 use Rattle.j39_findings.specs.Found.{have_same_fixed_address, needs_pool_address, unit_findings, kept_findings, prefers_kept}
-use Rattle.j39_findings.specs.Found.{have_silent_address, is_silent_in_pool, silent_findings, contested_findings, is_alone, is_contested, found}
+use Rattle.j39_findings.specs.Found.{have_silent_address, is_silent_in_pool, silent_findings, contested_findings, is_unit_alone, is_contested, found}
 use Rattle.j39_findings.specs.ConflictRuns.{are_in_conflict, steps_between, run_of_units, run_of_places, conflict_run}
 use Rattle.j39_findings.specs.VehiclePlans.{IsBoxOf, IsVehicleOf, AreFoundAlike}
 use Rattle.j39_findings.proofs.Boxes.{apart_at}
@@ -74,7 +74,7 @@ module _ (plan vehicle : Plan) (is : IsVehicleOf plan vehicle) (apart : AreToldA
       rw (paired, single) refl
 
   -- a unit is alone in both
-  to_vehicle : (u : ℕ) → IsAlone plan u → IsAlone vehicle u
+  to_vehicle : (u : ℕ) → IsAloneInPlan plan u → IsAloneInPlan vehicle u
   to_vehicle u (there, beside) = (
     subst (λ kept. IsAloneThere kept (units_of vehicle) u) (sym is.keep_free) (((stay_alike plan vehicle is apart).alone u).0 there),
     elim beside [
@@ -83,7 +83,7 @@ module _ (plan vehicle : Plan) (is : IsVehicleOf plan vehicle) (apart : AreToldA
     ],
   )
 
-  to_plan : (u : ℕ) → IsAlone vehicle u → IsAlone plan u
+  to_plan : (u : ℕ) → IsAloneInPlan vehicle u → IsAloneInPlan plan u
   to_plan u (there, beside) = (
     ((stay_alike plan vehicle is apart).alone u).1 (subst (λ kept. IsAloneThere kept (units_of vehicle) u) is.keep_free there),
     elim beside [
@@ -92,19 +92,19 @@ module _ (plan vehicle : Plan) (is : IsVehicleOf plan vehicle) (apart : AreToldA
     ],
   )
 
-  contested_over : (one other : Plan) → ((u : ℕ) → IsAlone other u → IsAlone one u) → one.live ≡ true → other.live ≡ true → (flow : FlowPlan)
-      → IsContested one flow → IsContested other flow
+  contested_over : (one other : Plan) → ((u : ℕ) → IsAloneInPlan other u → IsAloneInPlan one u) → one.live ≡ true → other.live ≡ true → (flow : FlowPlan)
+      → IsFlowContested one flow → IsFlowContested other flow
   contested_over one other over live live_other flow (_, inl sender) = (live_other, inl (λ alone. sender (over flow.sender alone)))
   contested_over one other over live live_other flow (_, inr (r, to, receiver)) = (live_other, inr (r, to, λ alone. receiver (over r alone)))
 
   ends_alike : plan.live ≡ true → (flow : FlowPlan)
-      → is_contested (is_alone vehicle.keep_free vehicle.strangers boxes) boxes flow
-      ≡ is_contested (is_alone plan.keep_free plan.strangers units) units flow
+      → is_contested (is_unit_alone vehicle.keep_free vehicle.strangers boxes) boxes flow
+      ≡ is_contested (is_unit_alone plan.keep_free plan.strangers units) units flow
   ends_alike live flow =
       let live_there = is.live ∙ live in
       let in_vehicle = Decides-contested vehicle _ (alone_by_list vehicle) live_there flow in
       let in_plan = Decides-contested plan _ (alone_by_list plan) live flow in
-      Decides-both _ _ (IsContested vehicle flow) (IsContested plan flow) in_vehicle in_plan
+      Decides-both _ _ (IsFlowContested vehicle flow) (IsFlowContested plan flow) in_vehicle in_plan
       (contested_over vehicle plan to_vehicle live_there live flow) (contested_over plan vehicle to_plan live live_there flow)
 
   contested_found : contested_findings vehicle.live vehicle.keep_free vehicle.strangers boxes vehicle.flows.items
@@ -117,8 +117,8 @@ module _ (plan vehicle : Plan) (is : IsVehicleOf plan vehicle) (apart : AreToldA
       go : (b : Bool) → plan.live ≡ b
           → contested_findings b vehicle.keep_free vehicle.strangers boxes plan.flows.items
           ≡ contested_findings b plan.keep_free plan.strangers units plan.flows.items
-      go true live = each_same (is_contested (is_alone plan.keep_free plan.strangers units) units)
-          (is_contested (is_alone vehicle.keep_free vehicle.strangers boxes) boxes) (ends_alike live) FlowContested 0 plan.flows.items
+      go true live = each_same (is_contested (is_unit_alone plan.keep_free plan.strangers units) units)
+          (is_contested (is_unit_alone vehicle.keep_free vehicle.strangers boxes) boxes) (ends_alike live) FlowContested 0 plan.flows.items
       go false none = refl
 
   pub same_found : found vehicle ≡ found plan

@@ -1,13 +1,11 @@
 -- Which units are alone at their addresses: it is told by the arrays of a search as by the test on the list of units.
-use Rattle.std.proofs.Common.{◌≡◌, ◌≢◌, ◌⊎◌, ℕ, zero, suc, [], ◌∷◌, ◌+◌, ◌<◌, arith, Bool, true, false, not, cond, ◌&&◌, ◌||◌, ◌==◌, nat_lt, List, length, get_or, set, replicate, refl, sym, ap, ◌∙◌, subst, inl, inr, Option, Some, None, is_none, is_some, if◌then◌else◌, Decides}
+use Rattle.std.proofs.Common.{◌≡◌, ◌≢◌, ◌⊎◌, ℕ, [], ◌<◌, arith, Bool, true, false, not, ◌&&◌, ◌||◌, ◌==◌, nat_lt, List, length, get_or, refl, sym, ap, ◌∙◌, subst, inl, inr, Option, Some, None, is_none, is_some, if◌then◌else◌, Decides}
 use Rattle.std.proofs.lemmas.Bool.{cases_Bool, cases_eq, cases_lt, true≢false, false≢true, and_from, not-true}
 use Rattle.std.proofs.lemmas.Bool.Decides.{Decides-eqb, Decides-and, Decides-like, Decides-ltb, Decides-or}
-use Rattle.std.proofs.lemmas.List.{get_or-replicate, get_or-set_same, get_or-set_other, length-replicate, length-set}
-use Rattle.std.proofs.lemmas.List.Sums.{sum_by-cons}
-use Rattle.std.proofs.lemmas.Option.{none-some, same_Some, slice_get_within}
+use Rattle.std.proofs.lemmas.Option.{none-some, slice_get_within}
 use Rattle.std.specs.Bool.{MatchBool}
 use Rattle.std.specs.FinSet.{FinSet, contains}
-use Rattle.std.specs.List.{count_by, list_any, slice_get}
+use Rattle.std.specs.List.{list_any, slice_get}
 use Rattle.std.specs.Option.{option_map_or}
 use Rattle.std.specs.Ordering.{nat_cmp}
 use Rattle.j39_id.specs.Addresses.{in_pool}
@@ -18,227 +16,17 @@ use Rattle.j39_findings.specs.declared.plan.flow_plan.FlowPlan.{FlowPlan}
 use Rattle.j39_findings.specs.declared.plan.to.To.{To}
 use Rattle.j39_findings.specs.declared.plan.to.To.TheVariants.{All, One}
 use Rattle.j39_findings.specs.declared.plan.unit_plan.UnitPlan.{UnitPlan}
-use Rattle.j39_findings.specs.Findings.{IsAlone, IsContested}
+use Rattle.j39_findings.specs.Findings.{IsAloneInPlan, IsFlowContested}
 use Rattle.j39_findings.specs.declared.checking.finding.Finding.TheVariants.{FlowContested}
-use Rattle.j39_findings.specs.Found.{contested_findings, has_to_move, is_alone, is_contested, is_end_contested, is_receiver_contested, is_shared}
+use Rattle.j39_findings.specs.Found.{contested_findings, has_to_move, is_unit_alone, is_contested, is_end_contested, is_receiver_contested, is_shared}
 use Rattle.j39_findings.specs.ListPlaces.{each, SomeMeets}
 use Rattle.j39_findings.specs.PlannedUnits.{units_of, unit_at}
 use Rattle.j39_findings.specs.Staying.{EachOther, IsFirstThere, Stays}
-use Rattle.j39_findings.specs.Standing.{AreFirsts, AreTold, AreTwoThere, IsMover, IsPlannedThere, TellsWhoIsAlone, is_alone_by, is_first_by, is_mover_by}
+use Rattle.j39_findings.specs.Standing.{AreFirsts, TellsAtEach, AreTwoThere, IsMover, TellsWhoIsAlone, is_alone_by, is_first_by, is_mover_by}
 use Rattle.j39_findings.proofs.Deciding.{some_decides}
 use Rattle.j39_findings.proofs.PlaceLemmas.{each_same}
 use Rattle.j39_findings.proofs.WhoStays.{first_told, not_first_told, placed, planned_at, some_come, told_by}
-
--- ---- what is planned at an address, of the first so many units
-
--- one more unit: its address is taken
-pub taken : (units : List UnitPlan) (count : ℕ) (planned : List Bool) → AreTold (IsPlannedThere units count) planned
-    → (unit : UnitPlan) → slice_get units count ≡ Some unit → AreTold (IsPlannedThere units (count + 1)) (set planned unit.address true)
-taken units count planned old unit at =
-    let place : unit.address < length planned = let size = old.size in omega (arith, size, unit.address_range) in
-    record {
-      size = length-set planned unit.address true ∙ old.size;
-      each = λ a inside. elim (cases_eq a unit.address) [
-        | inl same ↦
-            subst (λ b. MatchBool b (IsPlannedThere units (count + 1) a) (¬ IsPlannedThere units (count + 1) a))
-            (sym (ap (λ k. get_or (set planned unit.address true) k false) same ∙ get_or-set_same planned unit.address true false place))
-            (count, unit, omega arith, at, sym same)
-        | inr other ↦
-            subst (λ b. MatchBool b (IsPlannedThere units (count + 1) a) (¬ IsPlannedThere units (count + 1) a))
-            (sym (get_or-set_other planned unit.address a true false other))
-            (as_before a other (get_or planned a false) (old.each a inside))
-      ];
-    }
-  where
-    as_before : (a : ℕ) → a ≢ unit.address → (b : Bool) → MatchBool b (IsPlannedThere units count a) (¬ IsPlannedThere units count a)
-        → MatchBool b (IsPlannedThere units (count + 1) a) (¬ IsPlannedThere units (count + 1) a)
-    as_before a other true (u, x, below, at_u, there) = (u, x, omega (arith, below), at_u, there)
-    as_before a other false none = λ (u, x, below, at_u, there). elim (cases_eq u count) [
-      | inl same ↦ other (sym there ∙ ap (λ (w : UnitPlan). w.address) (same_Some _ _ (sym at_u ∙ ap (slice_get units) same ∙ at)))
-      | inr differ ↦ none (u, x, omega (arith, below, differ), at_u, there)
-    ]
-
--- and it is shared, if it was taken before
-pub shared_by_one_more : (units : List UnitPlan) (count : ℕ) (planned shared : List Bool) → AreTold (IsPlannedThere units count) planned
-    → AreTold (AreTwoThere units count) shared → (unit : UnitPlan) → slice_get units count ≡ Some unit
-    → AreTold (AreTwoThere units (count + 1)) (set shared unit.address (get_or shared unit.address false || get_or planned unit.address false))
-shared_by_one_more units count planned shared taken old unit at =
-    let value : Bool = get_or shared unit.address false || get_or planned unit.address false in
-    let within : unit.address < 256 = omega (arith, unit.address_range) in
-    let place : unit.address < length shared = let size = old.size in omega (arith, size, within) in
-    record {
-      size = length-set shared unit.address value ∙ old.size;
-      each = λ a inside. elim (cases_eq a unit.address) [
-        | inl same ↦
-            subst (λ b. MatchBool b (AreTwoThere units (count + 1) a) (¬ AreTwoThere units (count + 1) a))
-            (sym (ap (λ k. get_or (set shared unit.address value) k false) same ∙ get_or-set_same shared unit.address value false place))
-            (subst (λ k. MatchBool value (AreTwoThere units (count + 1) k) (¬ AreTwoThere units (count + 1) k)) (sym same)
-            (here (get_or shared unit.address false) (get_or planned unit.address false) (old.each unit.address within) (taken.each unit.address within)))
-        | inr other ↦
-            subst (λ b. MatchBool b (AreTwoThere units (count + 1) a) (¬ AreTwoThere units (count + 1) a))
-            (sym (get_or-set_other shared unit.address a value false other))
-            (as_before a other (get_or shared a false) (old.each a inside))
-      ];
-    }
-  where
-    more : (a : ℕ) → AreTwoThere units count a → AreTwoThere units (count + 1) a
-    more a two = record {
-      first = two.first;
-      second = two.second;
-      apart = two.apart;
-      inside = let below = two.inside in omega (arith, below);
-      one = two.one;
-      one_is = two.one_is;
-      one_there = two.one_there;
-      other = two.other;
-      other_is = two.other_is;
-      other_there = two.other_there;
-    }
-
-    fewer : (a : ℕ) (two : AreTwoThere units (count + 1) a) → two.second ≢ count → AreTwoThere units count a
-    fewer a two differ = record {
-      first = two.first;
-      second = two.second;
-      apart = two.apart;
-      inside = let below = two.inside in omega (arith, below, differ);
-      one = two.one;
-      one_is = two.one_is;
-      one_there = two.one_there;
-      other = two.other;
-      other_is = two.other_is;
-      other_there = two.other_there;
-    }
-
-    as_before : (a : ℕ) → a ≢ unit.address → (b : Bool) → MatchBool b (AreTwoThere units count a) (¬ AreTwoThere units count a)
-        → MatchBool b (AreTwoThere units (count + 1) a) (¬ AreTwoThere units (count + 1) a)
-    as_before a other true two = more a two
-    as_before a other false none = λ two. elim (cases_eq two.second count) [
-      | inl same ↦
-          other (sym two.other_there
-          ∙ ap (λ (w : UnitPlan). w.address) (same_Some _ _ (sym two.other_is ∙ ap (slice_get units) same ∙ at)))
-      | inr differ ↦ none (fewer a two differ)
-    ]
-
-    here : (was there : Bool) → MatchBool was (AreTwoThere units count unit.address) (¬ AreTwoThere units count unit.address)
-        → MatchBool there (IsPlannedThere units count unit.address) (¬ IsPlannedThere units count unit.address)
-        → MatchBool (was || there) (AreTwoThere units (count + 1) unit.address) (¬ AreTwoThere units (count + 1) unit.address)
-    here true there two one = more unit.address two
-    here false true none (u, x, below, at_u, is) = record {
-      first = u;
-      second = count;
-      apart = below;
-      inside = omega arith;
-      one = x;
-      one_is = at_u;
-      one_there = is;
-      other = unit;
-      other_is = at;
-      other_there = refl;
-    }
-    here false false none nobody = λ two. elim (cases_eq two.second count) [
-      | inl same ↦
-          let below = two.apart in
-          nobody (two.first, two.one, omega (arith, below, same), two.one_is, two.one_there)
-      | inr differ ↦ none (fewer unit.address two differ)
-    ]
-
-none_told : (There : ℕ → Type 0) → ((a : ℕ) → ¬ There a) → AreTold There (replicate 256 false)
-none_told There none = record {
-  size = length-replicate {A = Bool} 256 false;
-  each = λ a inside. subst (λ b. MatchBool b (There a) (¬ There a)) (sym (get_or-replicate 256 a false false inside)) (none a);
-}
-
-pub none_taken : (units : List UnitPlan) → AreTold (IsPlannedThere units 0) (replicate 256 false)
-none_taken units = none_told (IsPlannedThere units 0) (λ a (u, x, below, at_u, there). absurd (omega (arith, below)))
-
-pub none_shared : (units : List UnitPlan) → AreTold (AreTwoThere units 0) (replicate 256 false)
-none_shared units = none_told (AreTwoThere units 0) (λ a two. let below = two.inside in absurd (omega (arith, below)))
-
--- ---- counted on the list
-
-one_counted : (a : ℕ) (xs : List UnitPlan) → 0 < count_by (λ (x : UnitPlan). x.address == a) xs → SomeMeets (λ (x : UnitPlan). x.address ≡ a) xs
-one_counted a [] some = absurd (omega (arith, some))
-one_counted a (x ∷ xs) some = elim (cases_Bool (x.address == a)) [
-  | inl is ↦ (0, record { value = x; value_is = refl; meets = (Decides-eqb x.address a).0 is })
-  | inr other ↦
-      let counted = sum_by-cons (λ (y : UnitPlan). cond (y.address == a) 1 0) x xs in
-      let here = ap {B = ℕ} (λ b. cond b 1 0) other in
-      let (i, v) = one_counted a xs (omega (arith, some, counted, here)) in
-      (suc i, record { value = v.value; value_is = v.value_is; meets = v.meets })
-]
-
-counted_one : (a : ℕ) (xs : List UnitPlan) → SomeMeets (λ (x : UnitPlan). x.address ≡ a) xs → 0 < count_by (λ (x : UnitPlan). x.address == a) xs
-counted_one a [] (i, v) = absurd (none-some _ v.value_is)
-counted_one a (x ∷ xs) (zero, v) =
-    let is : (x.address == a) ≡ true = (Decides-eqb x.address a).1 (ap (λ (w : UnitPlan). w.address) (same_Some _ _ v.value_is) ∙ v.meets) in
-    let counted = sum_by-cons (λ (y : UnitPlan). cond (y.address == a) 1 0) x xs in
-    let here = ap {B = ℕ} (λ b. cond b 1 0) is in
-    omega (arith, counted, here)
-counted_one a (x ∷ xs) (suc i, v) =
-    let counted = sum_by-cons (λ (y : UnitPlan). cond (y.address == a) 1 0) x xs in
-    let rest = counted_one a xs (i, record { value = v.value; value_is = v.value_is; meets = v.meets }) in
-    omega (arith, counted, rest)
-
-two_counted : (a : ℕ) (xs : List UnitPlan) → 1 < count_by (λ (x : UnitPlan). x.address == a) xs → AreTwoThere xs (length xs) a
-two_counted a [] some = absurd (omega (arith, some))
-two_counted a (x ∷ xs) some =
-    let counted = sum_by-cons (λ (y : UnitPlan). cond (y.address == a) 1 0) x xs in
-    elim (cases_Bool (x.address == a)) [
-      | inl is ↦
-          let here = ap {B = ℕ} (λ b. cond b 1 0) is in
-          let (i, v) = one_counted a xs (omega (arith, some, counted, here)) in
-          let inside = slice_get_within xs i v.value v.value_is in
-          record {
-            first = 0;
-            second = suc i;
-            apart = omega arith;
-            inside = omega (arith, inside);
-            one = x;
-            one_is = refl;
-            one_there = (Decides-eqb x.address a).0 is;
-            other = v.value;
-            other_is = v.value_is;
-            other_there = v.meets;
-          }
-      | inr other ↦
-          let here = ap {B = ℕ} (λ b. cond b 1 0) other in
-          let two = two_counted a xs (omega (arith, some, counted, here)) in
-          record {
-            first = suc two.first;
-            second = suc two.second;
-            apart = let below = two.apart in omega (arith, below);
-            inside = let below = two.inside in omega (arith, below);
-            one = two.one;
-            one_is = two.one_is;
-            one_there = two.one_there;
-            other = two.other;
-            other_is = two.other_is;
-            other_there = two.other_there;
-          }
-    ]
-
-counted_two : (a : ℕ) (xs : List UnitPlan) (i j : ℕ) (x y : UnitPlan) → i < j → slice_get xs i ≡ Some x → slice_get xs j ≡ Some y
-    → x.address ≡ a → y.address ≡ a → 1 < count_by (λ (z : UnitPlan). z.address == a) xs
-counted_two a [] i j x y below first second one other = absurd (none-some _ second)
-counted_two a (z ∷ zs) i zero x y below first second one other = absurd (omega (arith, below))
-counted_two a (z ∷ zs) zero (suc j) x y below first second one other =
-    let is : (z.address == a) ≡ true = (Decides-eqb z.address a).1 (ap (λ (w : UnitPlan). w.address) (same_Some _ _ first) ∙ one) in
-    let counted = sum_by-cons (λ (w : UnitPlan). cond (w.address == a) 1 0) z zs in
-    let here = ap {B = ℕ} (λ b. cond b 1 0) is in
-    let rest = counted_one a zs (j, record { value = y; value_is = second; meets = other }) in
-    omega (arith, counted, here, rest)
-counted_two a (z ∷ zs) (suc i) (suc j) x y below first second one other =
-    let counted = sum_by-cons (λ (w : UnitPlan). cond (w.address == a) 1 0) z zs in
-    let rest = counted_two a zs i j x y (omega (arith, below)) first second one other in
-    omega (arith, counted, rest)
-
-shared_told : (units : List UnitPlan) (a : ℕ)
-    → MatchBool (is_shared units a) (AreTwoThere units (length units) a) (¬ AreTwoThere units (length units) a)
-shared_told units a =
-    let decides = Decides-ltb 1 (count_by (λ (x : UnitPlan). x.address == a) units) in
-    told_by (is_shared units a) _ _ (λ is. two_counted a units (decides.0 is))
-    (λ isnt two. true≢false (sym (decides.1 (counted_two a units two.first two.second two.one two.other two.apart two.one_is two.other_is
-    two.one_there two.other_there)) ∙ isnt))
+use Rattle.j39_findings.proofs.SharedAddresses.{shared_told}
 
 -- ---- who is alone
 
@@ -303,7 +91,7 @@ module _ (plan : Plan) where
       none (second_there u v unit p at at_v differ
       (sym (ap (λ (c : PlannedUnit). c.preferred) is_v) ∙ same ∙ ap (λ (c : PlannedUnit). c.preferred) is_u))
 
-  not_only : (u : ℕ) (unit : UnitPlan) → At u unit → Two unit.address → ¬ IsAlone plan u
+  not_only : (u : ℕ) (unit : UnitPlan) → At u unit → Two unit.address → ¬ IsAloneInPlan plan u
   not_only u unit at two alone =
       let (_, is_u) = planned_at plan.keep_free plan.units.items u unit at in
       let here = ap (λ (c : PlannedUnit). c.preferred) is_u in
@@ -318,7 +106,7 @@ module _ (plan : Plan) where
       ]
 
   -- a unit moves, and it is another one
-  moved_to : (u : ℕ) (alone : IsAlone plan u) → SomeMoves plan → in_pool (unit_at us u).preferred ≡ true
+  moved_to : (u : ℕ) (alone : IsAloneInPlan plan u) → SomeMoves plan → in_pool (unit_at us u).preferred ≡ true
       → contains plan.keep_free (unit_at us u).preferred ≡ false → ⊥
   moved_to u alone (v, in_v, arbitrary, moves) pool free = elim alone.0.unreached [
     | inl outside ↦ true≢false (sym pool ∙ outside)
@@ -337,7 +125,7 @@ module _ (plan : Plan) where
         → (coming : Bool) → MatchBool coming (0 < plan.strangers) (plan.strangers ≡ 0)
         → (kept : Bool) → contains plan.keep_free (unit_at us u).preferred ≡ kept
         → (moving : Bool) → MatchBool moving (SomeMoves plan) (¬ SomeMoves plan)
-        → MatchBool (not pool || (not coming && (kept || not moving))) (IsAlone plan u) (¬ IsAlone plan u)
+        → MatchBool (not pool || (not coming && (kept || not moving))) (IsAloneInPlan plan u) (¬ IsAloneInPlan plan u)
     reached u unit at one false outside coming come_told kept kept_is moving move_told =
         let (inside, _) = planned_at plan.keep_free plan.units.items u unit at in (
           record { inside = inside; planned = only_there u unit at one; unreached = inl outside },
@@ -371,7 +159,7 @@ module _ (plan : Plan) where
             → in_pool (unit_at us u).preferred ≡ in_pool unit.address
             → contains plan.keep_free (unit_at us u).preferred ≡ contains plan.keep_free unit.address
             → MatchBool (not b && (not (in_pool unit.address) || (not come && (contains plan.keep_free unit.address || not moves))))
-            (IsAlone plan u) (¬ IsAlone plan u)
+            (IsAloneInPlan plan u) (¬ IsAloneInPlan plan u)
         go true two pool kept = not_only u unit at two
         go false one pool kept =
             reached u unit at one (in_pool unit.address) pool come some_stranger (contains plan.keep_free unit.address) kept moves some_move
@@ -380,13 +168,13 @@ module _ (plan : Plan) where
 
 pub alone_by_arrays : (plan : Plan) (firsts : List (Option ℕ)) (mover : Option ℕ) (shared : List Bool)
     → AreFirsts plan.units.items (length plan.units.items) firsts → IsMover plan.units.items (length plan.units.items) firsts mover
-    → AreTold (AreTwoThere plan.units.items (length plan.units.items)) shared
+    → TellsAtEach (AreTwoThere plan.units.items (length plan.units.items)) shared
     → TellsWhoIsAlone plan (is_alone_by shared mover (nat_lt 0 plan.strangers) plan.keep_free)
 alone_by_arrays plan firsts mover shared are_firsts is_mover are_shared =
     let told = alone_told plan (λ a. get_or shared a false) are_shared.each (is_some mover) (move_told mover refl)
     (nat_lt 0 plan.strangers) (some_come plan.strangers) in
     λ u unit at. subst (λ b. MatchBool (not (get_or shared unit.address false)
-    && (not (in_pool unit.address) || (not (nat_lt 0 plan.strangers) && (contains plan.keep_free unit.address || b)))) (IsAlone plan u) (¬ IsAlone plan u))
+    && (not (in_pool unit.address) || (not (nat_lt 0 plan.strangers) && (contains plan.keep_free unit.address || b)))) (IsAloneInPlan plan u) (¬ IsAloneInPlan plan u))
     (none_is mover) (told u unit at)
   where
     none_is : (o : Option ℕ) → not (is_some o) ≡ is_none o
@@ -428,7 +216,7 @@ IsSmaller unit other = (other.address ≡ unit.address) × (other.name < unit.na
 abbrev Moves : List UnitPlan → UnitPlan → Type 0
 Moves units unit = (is_arbitrary unit.name ≡ true) × SomeMeets (IsSmaller unit) units
 
-pub alone_by_list : (plan : Plan) → TellsWhoIsAlone plan (is_alone plan.keep_free plan.strangers plan.units.items)
+pub alone_by_list : (plan : Plan) → TellsWhoIsAlone plan (is_unit_alone plan.keep_free plan.strangers plan.units.items)
 alone_by_list plan =
     alone_told plan (is_shared plan.units.items) (λ a inside. shared_told plan.units.items a) (list_any (has_to_move plan.units.items) plan.units.items)
     (told_by (list_any (has_to_move plan.units.items) plan.units.items) _ _ (λ is. one_moves (decided.0 is))
@@ -490,30 +278,30 @@ abbrev not_alone : (UnitPlan → Bool) → Option UnitPlan → Bool
 not_alone alone unit = option_map_or (λ unit. not (alone unit)) unit true
 
 module _ (plan : Plan) (alone : UnitPlan → Bool) (tells : TellsWhoIsAlone plan alone) where
-  Decides-end : (u : ℕ) → Decides (is_end_contested alone plan.units.items u) (¬ IsAlone plan u)
+  Decides-end : (u : ℕ) → Decides (is_end_contested alone plan.units.items u) (¬ IsAloneInPlan plan u)
   Decides-end u = go (slice_get plan.units.items u) refl where
-    told : (b : Bool) → MatchBool b (IsAlone plan u) (¬ IsAlone plan u) → Decides (not b) (¬ IsAlone plan u)
+    told : (b : Bool) → MatchBool b (IsAloneInPlan plan u) (¬ IsAloneInPlan plan u) → Decides (not b) (¬ IsAloneInPlan plan u)
     told true is = (λ e. absurd (false≢true e), λ none. absurd (none is))
     told false isnt = (λ e. isnt, λ none. refl)
 
-    go : (o : Option UnitPlan) → slice_get plan.units.items u ≡ o → Decides (is_end_contested alone plan.units.items u) (¬ IsAlone plan u)
+    go : (o : Option UnitPlan) → slice_get plan.units.items u ≡ o → Decides (is_end_contested alone plan.units.items u) (¬ IsAloneInPlan plan u)
     go (Some unit) is =
-        subst (λ o. Decides (not_alone alone o) (¬ IsAlone plan u)) (sym is) (told (alone unit) (tells u unit is))
+        subst (λ o. Decides (not_alone alone o) (¬ IsAloneInPlan plan u)) (sym is) (told (alone unit) (tells u unit is))
     go None is =
-        let nowhere : ¬ IsAlone plan u = λ there.
+        let nowhere : ¬ IsAloneInPlan plan u = λ there.
         let (p, at, _) = placed plan.keep_free plan.units.items u there.0.inside in
         none-some p (sym is ∙ at) in
-        subst (λ o. Decides (not_alone alone o) (¬ IsAlone plan u)) (sym is) (λ e. nowhere, λ none. refl)
+        subst (λ o. Decides (not_alone alone o) (¬ IsAloneInPlan plan u)) (sym is) (λ e. nowhere, λ none. refl)
 
-  Decides-receiver : (to : To) → Decides (is_receiver_contested alone plan.units.items to) ((r : ℕ) × (to ≡ One r) × (¬ IsAlone plan r))
+  Decides-receiver : (to : To) → Decides (is_receiver_contested alone plan.units.items to) ((r : ℕ) × (to ≡ One r) × (¬ IsAloneInPlan plan r))
   Decides-receiver All = (λ e. absurd (false≢true e), λ (r, is, none). cc)
   Decides-receiver (One receiver) = Decides-like _ (λ none. (receiver, refl, none))
-      (λ (r, is, none). subst (λ k. ¬ IsAlone plan k) (sym (one_same receiver r is)) none) (Decides-end receiver)
+      (λ (r, is, none). subst (λ k. ¬ IsAloneInPlan plan k) (sym (one_same receiver r is)) none) (Decides-end receiver)
     where
       one_same : (r s : ℕ) → One r ≡ One s → r ≡ s
       one_same r s is = cc
 
-  pub Decides-contested : plan.live ≡ true → (flow : FlowPlan) → Decides (is_contested alone plan.units.items flow) (IsContested plan flow)
+  pub Decides-contested : plan.live ≡ true → (flow : FlowPlan) → Decides (is_contested alone plan.units.items flow) (IsFlowContested plan flow)
   Decides-contested live flow =
       Decides-like _ (λ either. (live, either)) (λ contested. contested.1)
       (Decides-or _ _ (Decides-end flow.sender) (Decides-receiver flow.to))
@@ -522,7 +310,7 @@ module _ (plan : Plan) (alone : UnitPlan → Bool) (tells : TellsWhoIsAlone plan
 pub contested_alike : (plan : Plan) (alone other : UnitPlan → Bool) → TellsWhoIsAlone plan alone → TellsWhoIsAlone plan other
     → plan.live ≡ true → (flow : FlowPlan) → is_contested alone plan.units.items flow ≡ is_contested other plan.units.items flow
 contested_alike plan alone other one two live flow =
-    Decides-both _ _ (IsContested plan flow) (IsContested plan flow) (Decides-contested plan alone one live flow)
+    Decides-both _ _ (IsFlowContested plan flow) (IsFlowContested plan flow) (Decides-contested plan alone one live flow)
     (Decides-contested plan other two live flow) (λ is. is) (λ is. is)
 
 -- the findings by any test that tells who is alone are those of the list
@@ -531,7 +319,7 @@ pub contested_by : (plan : Plan) (alone : UnitPlan → Bool) → TellsWhoIsAlone
     ≡ contested_findings plan.live plan.keep_free plan.strangers plan.units.items plan.flows.items
 unfolding contested_findings
 contested_by plan alone tells live =
-    let by_list : UnitPlan → Bool = is_alone plan.keep_free plan.strangers plan.units.items in
+    let by_list : UnitPlan → Bool = is_unit_alone plan.keep_free plan.strangers plan.units.items in
     each_same (is_contested by_list plan.units.items) (is_contested alone plan.units.items)
     (contested_alike plan alone by_list tells (alone_by_list plan) live) FlowContested 0 plan.flows.items
     ∙ ap (λ b. if b then each (is_contested by_list plan.units.items) FlowContested 0 plan.flows.items else []) (sym live)
@@ -540,28 +328,28 @@ pub not_live : (live : Bool) (kept : FinSet nat_cmp) (strangers : ℕ) (units : 
     → contested_findings live kept strangers units flows ≡ []
 unfolding contested_findings
 not_live live kept strangers units flows none =
-    ap (λ b. if b then each (is_contested (is_alone kept strangers units) units) FlowContested 0 flows else []) none
+    ap (λ b. if b then each (is_contested (is_unit_alone kept strangers units) units) FlowContested 0 flows else []) none
 
 -- whether a unit is alone is decided
-pub Decides-alone : (plan : Plan) (u : ℕ) → Decides (not (is_end_contested (is_alone plan.keep_free plan.strangers plan.units.items) plan.units.items u)) (IsAlone plan u)
+pub Decides-alone : (plan : Plan) (u : ℕ) → Decides (not (is_end_contested (is_unit_alone plan.keep_free plan.strangers plan.units.items) plan.units.items u)) (IsAloneInPlan plan u)
 Decides-alone plan u =
-    let contested : Bool = is_end_contested (is_alone plan.keep_free plan.strangers plan.units.items) plan.units.items u in
-    go contested (Decides-end plan (is_alone plan.keep_free plan.strangers plan.units.items) (alone_by_list plan) u) (is_or_isnt u)
+    let contested : Bool = is_end_contested (is_unit_alone plan.keep_free plan.strangers plan.units.items) plan.units.items u in
+    go contested (Decides-end plan (is_unit_alone plan.keep_free plan.strangers plan.units.items) (alone_by_list plan) u) (is_or_isnt u)
   where
-    is_or_isnt : (u : ℕ) → IsAlone plan u ⊎ (¬ IsAlone plan u)
+    is_or_isnt : (u : ℕ) → IsAloneInPlan plan u ⊎ (¬ IsAloneInPlan plan u)
     is_or_isnt u = here (slice_get plan.units.items u) refl where
-      either : (b : Bool) → MatchBool b (IsAlone plan u) (¬ IsAlone plan u) → IsAlone plan u ⊎ (¬ IsAlone plan u)
+      either : (b : Bool) → MatchBool b (IsAloneInPlan plan u) (¬ IsAloneInPlan plan u) → IsAloneInPlan plan u ⊎ (¬ IsAloneInPlan plan u)
       either true is = inl is
       either false isnt = inr isnt
 
-      here : (o : Option UnitPlan) → slice_get plan.units.items u ≡ o → IsAlone plan u ⊎ (¬ IsAlone plan u)
+      here : (o : Option UnitPlan) → slice_get plan.units.items u ≡ o → IsAloneInPlan plan u ⊎ (¬ IsAloneInPlan plan u)
       here (Some unit) is =
-          either (is_alone plan.keep_free plan.strangers plan.units.items unit) (alone_by_list plan u unit is)
+          either (is_unit_alone plan.keep_free plan.strangers plan.units.items unit) (alone_by_list plan u unit is)
       here None is = inr (λ there.
           let (p, at, _) = placed plan.keep_free plan.units.items u there.0.inside in
           none-some p (sym is ∙ at))
 
-    go : (b : Bool) → Decides b (¬ IsAlone plan u) → IsAlone plan u ⊎ (¬ IsAlone plan u) → Decides (not b) (IsAlone plan u)
+    go : (b : Bool) → Decides b (¬ IsAloneInPlan plan u) → IsAloneInPlan plan u ⊎ (¬ IsAloneInPlan plan u) → Decides (not b) (IsAloneInPlan plan u)
     go true none either = (λ e. absurd (false≢true e), λ is. absurd (none.0 refl is))
     go false some (inl is) = (λ e. is, λ is. refl)
     go false some (inr isnt) = absurd (false≢true (some.1 isnt))

@@ -251,12 +251,12 @@ IsUnmet requests flows need = ¬ SomeMeets (Meets requests need) flows
 -- ---- ends of flows on a live bus
 
 -- no other unit ever holds the planned address of this one
-abbrev pub IsAlone : Plan → ℕ → Type 0
-IsAlone plan u = IsAloneBeside plan.strangers plan.keep_free (units_of plan) u
+abbrev pub IsAloneInPlan : Plan → ℕ → Type 0
+IsAloneInPlan plan u = IsAloneBeside plan.strangers plan.keep_free (units_of plan) u
 
 -- on a live bus an end of the flow isn't alone: its sender, or the one unit that it goes to; all others know the sender by its address alone
-abbrev pub IsContested : Plan → FlowPlan → Type 0
-IsContested plan flow = (plan.live ≡ true) × ((¬ IsAlone plan flow.sender) ⊎ ((r : ℕ) × (flow.to ≡ One r) × (¬ IsAlone plan r)))
+abbrev pub IsFlowContested : Plan → FlowPlan → Type 0
+IsFlowContested plan flow = (plan.live ≡ true) × ((¬ IsAloneInPlan plan flow.sender) ⊎ ((r : ℕ) × (flow.to ≡ One r) × (¬ IsAloneInPlan plan r)))
 
 -- ---- the findings
 
@@ -285,7 +285,7 @@ Holds plan (WhenOutside g) = ValueAt (λ group. ¬ IsSelectorInside group) plan.
 Holds plan (RequestRepeated r s) = PairAt (AskTheSame plan.groups.items) plan.requests.items r s
 Holds plan (SilentAddress u v) = PairAt HaveSilentAddress plan.units.items u v
 Holds plan (SilentInPool u) = ValueAt (IsSilentInPool plan.keep_free plan.strangers) plan.units.items u
-Holds plan (FlowContested f) = ValueAt (IsContested plan) plan.flows.items f
+Holds plan (FlowContested f) = ValueAt (IsFlowContested plan) plan.flows.items f
 
 -- nothing is wrong with the plan
 abbrev pub Clean : Plan → Type 0

@@ -322,8 +322,8 @@ abbrev pub has_to_move : List UnitPlan → UnitPlan → Bool
 has_to_move units unit = is_arbitrary unit.name && list_any (λ other. other.address == unit.address && nat_lt other.name unit.name) units
 
 -- whether a unit is alone at its address
-abbrev pub is_alone : FinSet nat_cmp → ℕ → List UnitPlan → UnitPlan → Bool
-is_alone kept strangers units unit =
+abbrev pub is_unit_alone : FinSet nat_cmp → ℕ → List UnitPlan → UnitPlan → Bool
+is_unit_alone kept strangers units unit =
     not (is_shared units unit.address)
     && (not (in_pool unit.address) || (not (nat_lt 0 strangers) && (contains kept unit.address || not (list_any (has_to_move units) units))))
 
@@ -340,7 +340,7 @@ is_contested alone units flow = is_end_contested alone units flow.sender || is_r
 
 unfoldable pub contested_findings : Bool → FinSet nat_cmp → ℕ → List UnitPlan → List FlowPlan → List Finding
 contested_findings live kept strangers units flows =
-    if live then each (is_contested (is_alone kept strangers units) units) FlowContested 0 flows else []
+    if live then each (is_contested (is_unit_alone kept strangers units) units) FlowContested 0 flows else []
 
 -- ---- the whole list
 

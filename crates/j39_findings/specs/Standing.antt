@@ -9,7 +9,7 @@ use Rattle.j39_id.specs.Name.{is_arbitrary}
 use Rattle.j39_findings.specs.declared.plan.Plan.{Plan}
 use Rattle.j39_findings.specs.declared.plan.unit_plan.UnitPlan.{UnitPlan}
 use Rattle.j39_findings.specs.declared.standing.Standing.{Standing}
-use Rattle.j39_findings.specs.Findings.{IsAlone}
+use Rattle.j39_findings.specs.Findings.{IsAloneInPlan}
 use Rattle.j39_findings.specs.PlannedUnits.{units_of}
 use Rattle.j39_findings.specs.Staying.{StaysBeside}
 
@@ -21,7 +21,7 @@ TellsWhoStays plan stays = (u : ℕ) (unit : UnitPlan) → slice_get plan.units.
 -- and this whether it is alone at its address
 abbrev pub TellsWhoIsAlone : Plan → (UnitPlan → Bool) → Type 0
 TellsWhoIsAlone plan alone = (u : ℕ) (unit : UnitPlan) → slice_get plan.units.items u ≡ Some unit
-    → MatchBool (alone unit) (IsAlone plan u) (¬ IsAlone plan u)
+    → MatchBool (alone unit) (IsAloneInPlan plan u) (¬ IsAloneInPlan plan u)
 
 -- this is the least NAME of those of the first so many units of which it holds, if it holds of one
 pub record IsLeastName (units : List UnitPlan) (count : ℕ) (Among : UnitPlan → Type 0) (least : Option ℕ) : Type 0 where
@@ -86,7 +86,7 @@ pub record AreTwoThere (units : List UnitPlan) (count address : ℕ) : Type 0 wh
   pub other_there : other.address ≡ address
 
 -- at each address this tells whether it is so
-pub record AreTold (There : ℕ → Type 0) (told : List Bool) : Type 0 where
+pub record TellsAtEach (There : ℕ → Type 0) (told : List Bool) : Type 0 where
   pub size : length told ≡ 256
   pub each : (a : ℕ) → a < 256 → MatchBool (slice_index_or told a false) (There a) (¬ There a)
 

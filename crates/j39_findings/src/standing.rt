@@ -1,6 +1,6 @@
 //! Which units of a plan hold their planned addresses, whatever the others do, and which are alone there.
 ghost use Rattle.std.specs.Prelude.{◌≡◌, length, IsTrue};
-ghost use Rattle.j39_findings.specs.Standing.{AreFirsts, AreTold, AreTwoThere, TellsWhoIsAlone, TellsWhoStays, IsMover, alone_of, is_alone_by, is_first_by, is_least, is_mover_by, is_settled, smaller, stays_by, stays_of};
+ghost use Rattle.j39_findings.specs.Standing.{AreFirsts, TellsAtEach, AreTwoThere, TellsWhoIsAlone, TellsWhoStays, IsMover, alone_of, is_alone_by, is_first_by, is_least, is_mover_by, is_settled, smaller, stays_by, stays_of};
 
 use crate::plan::{Plan, UnitPlan};
 use j39_claim::AddressSet;
@@ -47,7 +47,7 @@ fn firsts_of(units: &[UnitPlan]) -> Firsts
 
 // At which addresses more than one unit is planned.
 fn shared_addresses(units: &[UnitPlan]) -> [bool; 256]
-    ensures { AreTold (AreTwoThere units.now (length units.now)) result }
+    ensures { TellsAtEach (AreTwoThere units.now (length units.now)) result }
 {
     let mut planned = [false; 256];
     let mut shared = [false; 256];

@@ -6,7 +6,7 @@ ghost use Rattle.j39_findings.specs.declared.steps.Step.{Step as Steps};
 ghost use Rattle.j39_world.specs.World.{World, all_off};
 ghost use Rattle.j39_findings.specs.ConflictRuns.{IsConflictRun};
 ghost use Rattle.j39_findings.specs.declared.checking.finding.Finding.{Finding as Findings};
-ghost use Rattle.j39_world.specs.PlannedUnits.{units_of};
+ghost use Rattle.j39_findings.specs.PlannedUnits.{units_of};
 ghost use Rattle.j39_world.specs.Conflict.{LeavesWithoutAddress};
 ghost use Rattle.j39_world.specs.Opening.{AreNamesDistinct};
 ghost use Rattle.j39_world.specs.Run.{Run, RunsThrough};

@@ -6,9 +6,11 @@ pub mod Before
 pub mod BoundedFlows
 pub mod Broadcasting
 pub mod CompanyStreams
+pub mod DemandLaws
 pub mod Different
 pub mod EachFrames
 pub mod DamagedFirst
+pub mod FoundWaits
 pub mod KeepingApart
 pub mod KeepingErrors
 pub mod KeepingPlan

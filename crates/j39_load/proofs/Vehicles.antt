@@ -25,8 +25,8 @@ use Rattle.j39_load.specs.LoadFindings.{AreLoadFindings, AsksOfBus, all_findings
 use Rattle.j39_findings.specs.Standing.{TellsWhoStays}
 use Rattle.j39_load.specs.VehicleLoads.{AreLoadsAlike, StandAlike}
 use Rattle.j39_load.proofs.OneLoad.{AreSeenAlike, asked_alike, told_once}
-use Rattle.j39_world.specs.PlannedUnits.{units_of}
-use Rattle.j39_world.specs.Staying.{StaysBeside}
+use Rattle.j39_findings.specs.PlannedUnits.{units_of}
+use Rattle.j39_findings.specs.Staying.{StaysBeside}
 use Rattle.j39_findings.proofs.StayingBoxes.{stay_alike}
 
 -- what is told of a unit is told of the box at its place, which is known by its NAME

@@ -4,6 +4,7 @@ pub mod Asked
 pub mod Broadcasts
 pub mod Damage
 pub mod Delays
+pub mod Demands
 pub mod FreshNeeds
 pub mod KeepsErrors
 pub mod KeptTogether

@@ -9,6 +9,7 @@ mod companies;
 mod damage;
 mod delay;
 mod delays;
+mod demands;
 mod extreme;
 mod faults;
 mod flow_frames;

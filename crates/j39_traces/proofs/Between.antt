@@ -31,7 +31,7 @@ use Rattle.j39_world.specs.declared.wired.Wired.TheVariants as wired
 use Rattle.j39_world.specs.ClaimSteps.{GivenFrom, answer_items, asking_items, first_items}
 use Rattle.j39_world.specs.Flows.{FlowGoes, dest_of, flows_of, is_short, window_at, windows_of}
 use Rattle.j39_world.specs.Opening.{AreNamesDistinct}
-use Rattle.j39_world.specs.PlannedUnits.{unit_at, units_of}
+use Rattle.j39_findings.specs.PlannedUnits.{unit_at, units_of}
 use Rattle.j39_world.specs.LiveEnds.{KeepsEnds}
 use Rattle.j39_world.specs.Run.{StepsTo, begin_refusal, send_refusal, count_of, refusal}
 use Rattle.j39_world.specs.Sent.{Sent, frame_of, sent_of, source_of}

@@ -26,10 +26,10 @@ use Rattle.j39_world.specs.declared.wired.Wired.{Wired}
 use Rattle.j39_world.specs.declared.wired.Wired.TheVariants as wired
 use Rattle.j39_world.specs.ClaimSteps.{GivenFrom}
 use Rattle.j39_world.specs.Flows.{FlowGoes, dest_of, flows_of, windows_of}
-use Rattle.j39_world.specs.PlannedUnits.{unit_at, units_of}
+use Rattle.j39_findings.specs.PlannedUnits.{unit_at, units_of}
 use Rattle.j39_world.specs.Run.{Follows, StepsTo, at_ends, begin_refusal, begin_refusals, send_refusal, send_refusals, count_of, has_address, is_nothing_undelivered, is_on, refusal, Run}
-use Rattle.j39_world.specs.LiveEnds.{AreEndsAlone, IsUndisturbed, KeepsEnds}
-use Rattle.j39_world.specs.Staying.{IsAloneThere}
+use Rattle.j39_world.specs.LiveEnds.{AreEndsAlone, StandsAlone, KeepsEnds}
+use Rattle.j39_findings.specs.Staying.{IsAloneThere}
 use Rattle.j39_world.specs.SwitchingOff.{session_without}
 use Rattle.j39_world.specs.SoundPlan.{Always, IsSending}
 use Rattle.j39_world.specs.Transfers.{Outgoing, is_among}
@@ -209,7 +209,7 @@ module _ (plan : Plan) (quiet : plan.live ≡ false) where
 -- ---- a plan without findings whose flows have ends that are alone
 
 module _ (plan : Plan) (clean : Clean plan) (alone : AreEndsAlone plan) (steps : List Step) (w : World) (run : Run plan all_off steps w) where
-  undisturbed_end : (u : ℕ) → IsUndisturbed plan w u → IsEnd w u
+  undisturbed_end : (u : ℕ) → StandsAlone plan w u → IsEnd w u
   undisturbed_end u is = record {
     holding = (is.on, ((unit_at (units_of plan) u).preferred, is.held));
     unclaimed = λ v a at claim. is.unclaimed v

@@ -32,13 +32,13 @@ use Rattle.j39_world.specs.SwitchingOff.{switched_off}
 use Rattle.j39_world.specs.ClaimSteps.{GivenFrom, answer_items, asked as asks, asking_items, first_items, heard_and_answered, switched_on, told_to_others, without_lists_to}
 use Rattle.j39_world.specs.Flows.{dest_of, flow_of, flows_of, is_short, windows_of}
 use Rattle.j39_world.specs.Opening.{AreNamesDistinct}
-use Rattle.j39_world.specs.PlannedUnits.{unit_at, units_of}
+use Rattle.j39_findings.specs.PlannedUnits.{unit_at, units_of}
 use Rattle.j39_world.specs.Run.{StepsTo, count_of, refusal}
 use Rattle.j39_world.specs.Sent.{Sent, frame_of, sent_of, source_of}
 use Rattle.j39_world.specs.SentTransfers.{address_of, destination_of, group_of, packet_frame, short_frame}
 use Rattle.j39_world.specs.Sound.{IsQuiet}
 use Rattle.j39_world.specs.SoundPlan.{Always, IsSending}
-use Rattle.j39_world.specs.Staying.{IsAloneThere}
+use Rattle.j39_findings.specs.Staying.{IsAloneThere}
 use Rattle.j39_findings.specs.Findings.{Clean}
 use Rattle.j39_world.specs.TransferSteps.{BeginsAt, SendsAt, LostFrom, TakenFrom, first_frame}
 use Rattle.j39_world.specs.World.{Stations, Undelivered, World, changed, changed_pair}

@@ -14,7 +14,7 @@ use Rattle.j39_findings.specs.declared.steps.Step.TheVariants.{Begin, Down, Send
 use Rattle.j39_id.specs.FrameMeaning.{carries_name, requests_group}
 use Rattle.j39_world.specs.declared.flow.Flow.{Flow}
 use Rattle.j39_world.specs.Flows.{FlowGoes, flows_of}
-use Rattle.j39_world.specs.PlannedUnits.{unit_at, units_of}
+use Rattle.j39_findings.specs.PlannedUnits.{unit_at, units_of}
 use Rattle.j39_world.specs.Run.{Follows}
 use Rattle.j39_world.specs.Sent.{Sent, sent_of}
 use Rattle.j39_world.specs.SoundPlan.{IsSending}

@@ -3,17 +3,20 @@ ghost use Rattle.std.specs.Prelude.{◌≡◌, ℕ, List, false};
 ghost use Rattle.j39_findings.specs.declared.plan.Plan.{Plan as Plans};
 ghost use Rattle.j39_findings.specs.declared.steps.Step.{Step as Steps};
 ghost use Rattle.j39_world.specs.Opening.{AreNamesDistinct};
-ghost use Rattle.j39_world.specs.PlannedUnits.{units_of};
+ghost use Rattle.j39_findings.specs.PlannedUnits.{units_of};
 ghost use Rattle.j39_world.specs.Run.{Run};
 ghost use Rattle.j39_world.specs.Sound.{IsQuiet};
 ghost use Rattle.j39_world.specs.LiveEnds.{KeepsEnds};
 ghost use Rattle.j39_world.specs.SoundPlan.{IsSending};
-ghost use Rattle.j39_world.specs.Staying.{IsAloneThere};
+ghost use Rattle.j39_findings.specs.Staying.{IsAloneThere};
 ghost use Rattle.j39_world.specs.World.{World, all_off};
 ghost use Rattle.j39_traces.specs.Between.{EachGoesBetweenUnits, EndsKeepAddresses, MessagesGoBetweenHolders};
 ghost use Rattle.j39_traces.specs.Telling.{EachIsTold, FramesTellHolders, HaveOwnNumbers, IsTold};
 ghost use Rattle.j39_traces.specs.ToldFlows.{AreToldAsBegun, EachClaims};
+ghost use Rattle.j39_traces.specs.VehicleRuns.{AreVehiclesToldAsBegun, FramesTellOfVehicle, VehicleMessagesGoBetweenHolders};
 ghost use Rattle.j39_findings.specs.Findings.{Clean};
+ghost use Rattle.j39_findings.specs.Kinds.{AreToldApart};
+ghost use Rattle.j39_findings.specs.VehiclePlans.{IsVehicleOf};
 
 /// In every world of every run of a plan whose NAMEs differ and that plans none of the network's own groups, with all lawful choices:
 /// by the frames sent so far the NAME of each unit that is on holds its address, or a claim of that address is undelivered to it.
@@ -58,4 +61,19 @@ pub fn messages_go_between_holders()
 pub fn single_frames_are_told_as_begun()
     ensures { (plan : Plans) (steps : List Steps) (w : World) → Clean plan → EachClaims plan → Run plan all_off steps w
         → AreToldAsBegun plan w }
+{}
+
+/// In every world of every run of a vehicle, with all lawful choices, where no two units of the plan of its type may be
+/// one: the log of its frames tells of no other box of a unit than the vehicle's. What is said above of its messages by
+/// its own plan, in which each unit has the serial number of its box, is so by the plan of its type, by which the log
+/// is followed.
+pub fn types_tell_runs_of_vehicles()
+    ensures names { (plan vehicle : Plans) (steps : List Steps) (w : World) → IsVehicleOf plan vehicle → AreToldApart plan → HaveOwnNumbers plan
+        → Run vehicle all_off steps w → FramesTellOfVehicle plan vehicle w }
+    ensures sent { (plan vehicle : Plans) (steps : List Steps) (w : World) → IsVehicleOf plan vehicle → AreToldApart plan → KeepsEnds plan
+        → HaveOwnNumbers plan → Run vehicle all_off steps w → VehicleMessagesGoBetweenHolders plan vehicle w }
+    ensures logged { (plan vehicle : Plans) (steps : List Steps) (w : World) → IsVehicleOf plan vehicle → AreToldApart plan → KeepsEnds plan
+        → HaveOwnNumbers plan → Run vehicle all_off steps w → EachGoesBetweenUnits plan w }
+    ensures begun { (plan vehicle : Plans) (steps : List Steps) (w : World) → IsVehicleOf plan vehicle → Clean plan → EachClaims plan
+        → Run vehicle all_off steps w → AreVehiclesToldAsBegun plan vehicle w }
 {}

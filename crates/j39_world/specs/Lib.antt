@@ -1,4 +1,3 @@
-pub mod PlannedUnits
 pub mod Flows
 pub mod Sent
 pub mod Transfers
@@ -10,7 +9,7 @@ pub mod TransferSteps
 pub mod Resting
 pub mod Run
 pub mod Sound
-pub mod Staying
+pub mod HeldAddresses
 pub mod LiveEnds
 pub mod Strangers
 pub mod Settling

@@ -10,8 +10,8 @@ use Rattle.j39_findings.specs.declared.plan.to.To.TheVariants.{One}
 use Rattle.j39_world.specs.declared.flow.Flow.{Flow}
 use Rattle.j39_world.specs.declared.wired.Wired.TheVariants.{Alone}
 use Rattle.j39_world.specs.Flows.{flows_of}
-use Rattle.j39_world.specs.PlannedUnits.{unit_at, units_of}
-use Rattle.j39_world.specs.Staying.{EachOther, IsAloneThere}
+use Rattle.j39_findings.specs.PlannedUnits.{unit_at, units_of}
+use Rattle.j39_findings.specs.Staying.{EachOther, IsAloneThere}
 use Rattle.j39_world.specs.Transfers.{Outgoing, is_among}
 use Rattle.j39_world.specs.World.{World}
 
@@ -23,7 +23,7 @@ AreEndsAlone plan =
     × ((v : ℕ) → flow.to ≡ One v → IsAloneThere plan.keep_free (units_of plan) v)
 
 -- the unit is on and holds its planned address; no other one that is on does, and none claims it
-pub record IsUndisturbed (plan : Plan) (w : World) (u : ℕ) : Type 0 where
+pub record StandsAlone (plan : Plan) (w : World) (u : ℕ) : Type 0 where
   pub on : (w.stations u).on ≡ true
   pub held : (w.stations u).address ≡ Some (unit_at (units_of plan) u).preferred
   pub alone : EachOther (units_of plan) u (λ v. (w.stations v).on ≡ true → (w.stations v).address ≢ Some (unit_at (units_of plan) u).preferred)
@@ -31,16 +31,16 @@ pub record IsUndisturbed (plan : Plan) (w : World) (u : ℕ) : Type 0 where
 
 pub record AreEndsUndisturbed (plan : Plan) (w : World) : Type 0 where
   -- who sends a message, and the unit that it is for, where it is for one that is on still
-  pub sender : (u : ℕ) (s : Outgoing) → w.sessions u ≡ Some s → IsUndisturbed plan w u
-  pub receiver : (u v : ℕ) (s : Outgoing) → w.sessions u ≡ Some s → s.to ≡ One v → is_among s.targets v ≡ true → IsUndisturbed plan w v
+  pub sender : (u : ℕ) (s : Outgoing) → w.sessions u ≡ Some s → StandsAlone plan w u
+  pub receiver : (u v : ℕ) (s : Outgoing) → w.sessions u ≡ Some s → s.to ≡ One v → is_among s.targets v ≡ true → StandsAlone plan w v
   -- each unit that it goes to still is on
   pub targets : (u v : ℕ) (s : Outgoing) → w.sessions u ≡ Some s → is_among s.targets v ≡ true → (w.stations v).on ≡ true
   -- and so is each of two between whom something lies on the wire
   pub between : (u v : ℕ) → w.wire u v ≢ [] → ((w.stations u).on ≡ true) × ((w.stations v).on ≡ true)
   -- who sent a frame alone that lies there, and the unit that it is for, where it is for one
-  pub sent : (u v f : ℕ) (bytes : List ℕ) → Contains (w.wire u v) (Alone f bytes) → IsUndisturbed plan w u
+  pub sent : (u v f : ℕ) (bytes : List ℕ) → Contains (w.wire u v) (Alone f bytes) → StandsAlone plan w u
   pub sent_to : (u v f : ℕ) (bytes : List ℕ) (flow : Flow) (x : ℕ) → Contains (w.wire u v) (Alone f bytes) → slice_get (flows_of plan) f ≡ Some flow
-      → flow.to ≡ One x → (x ≡ v) × IsUndisturbed plan w v
+      → flow.to ≡ One x → (x ≡ v) × StandsAlone plan w v
 
 -- messages of the plan go on between units that hold their addresses: it isn't live, or it has no findings, so that each end is alone
 abbrev pub KeepsEnds : Plan → Type 0

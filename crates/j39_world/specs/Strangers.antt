@@ -12,8 +12,8 @@ use Rattle.j39_findings.specs.declared.plan.flow_plan.FlowPlan.{FlowPlan}
 use Rattle.j39_findings.specs.declared.plan.to.To.TheVariants.{One}
 use Rattle.j39_findings.specs.declared.plan.unit_plan.UnitPlan.{UnitPlan}
 use Rattle.j39_world.specs.Opening.{AreNamesDistinct}
-use Rattle.j39_world.specs.PlannedUnits.{unit_at, units_of}
-use Rattle.j39_world.specs.Staying.{EachOther}
+use Rattle.j39_findings.specs.PlannedUnits.{unit_at, units_of}
+use Rattle.j39_findings.specs.Staying.{EachOther}
 
 -- the second plan is the first with these strangers: it may have any groups and flows
 pub record HasStrangers (plan joined : Plan) (strangers : List UnitPlan) : Type 0 where

@@ -13,7 +13,7 @@ use Rattle.j39_claim.specs.ClaimRule.{PlannedUnit}
 use Rattle.j39_findings.proofs.CleanLaws.{parts_of}
 use Rattle.j39_findings.proofs.Deciding.{Decides-needs_pool_address, meeting_pass}
 use Rattle.j39_findings.specs.Findings.{AreNeeded, AreOneFlow, AskTheSame, CannotGoToOne, Clean, EndsOutside, GoesToItsSender, GoesUnanswered, GoesUnheard, HasBadPgn}
-use Rattle.j39_findings.specs.Findings.{HasRecordsOver, HaveSamePgn, HaveSameFixedAddress, HaveSilentAddress, IsAlone, IsAnsweredAstray, IsContested, IsOutside}
+use Rattle.j39_findings.specs.Findings.{HasRecordsOver, HaveSamePgn, HaveSameFixedAddress, HaveSilentAddress, IsAloneInPlan, IsAnsweredAstray, IsFlowContested, IsOutside}
 use Rattle.j39_findings.specs.Findings.{IsPrivateUnsent, IsSelectorInside, IsSilentInPool, IsUnmet, PrefersKept}
 use Rattle.j39_findings.specs.Found.{needs_pool_address}
 use Rattle.j39_findings.specs.ListPlaces.{PairAt, ValueAt}
@@ -26,8 +26,8 @@ use Rattle.j39_findings.specs.declared.plan.request_plan.RequestPlan.{RequestPla
 use Rattle.j39_findings.specs.declared.plan.to.To.TheVariants.{One}
 use Rattle.j39_findings.specs.declared.plan.unit_plan.UnitPlan.{UnitPlan}
 use Rattle.j39_signal.specs.Places.{SharesBit, WidthFits}
-use Rattle.j39_world.specs.PlannedUnits.{planned_unit, units_of, unit_at}
-use Rattle.j39_world.specs.Staying.{IsOutsidePool}
+use Rattle.j39_findings.specs.PlannedUnits.{planned_unit, units_of, unit_at}
+use Rattle.j39_findings.specs.Staying.{IsOutsidePool}
 use Rattle.j39_world.specs.Strangers.{ComeBesideLive, ComesClaiming, ComesSilent}
 use Rattle.j39_laws.proofs.Addresses.CleanUnits.{stands}
 use Rattle.j39_laws.proofs.Addresses.Strangers.{room_for_few, same_at}
@@ -165,8 +165,8 @@ module _ (plan joined : Plan) (ss : List UnitPlan) (clean : Clean plan) (come : 
   -- ---- ends of flows
 
   -- one that is alone is so beside those that come
-  alone_still : (u : ℕ) → IsAlone plan u
-      → ((v : ℕ) → ComesClaiming joined v → (unit_at (units_of joined) v).preferred ≢ (unit_at (units_of joined) u).preferred) → IsAlone joined u
+  alone_still : (u : ℕ) → IsAloneInPlan plan u
+      → ((v : ℕ) → ComesClaiming joined v → (unit_at (units_of joined) v).preferred ≢ (unit_at (units_of joined) u).preferred) → IsAloneInPlan joined u
   alone_still u (alone, known) none_claims =
       let in_plan : u < length planned = (let inside = alone.inside in omega (arith, inside, length-map planned (planned_unit plan.keep_free))) in
       let outside : IsOutsidePool (units_of plan) u = elim known [
@@ -194,15 +194,15 @@ module _ (plan joined : Plan) (ss : List UnitPlan) (clean : Clean plan) (come : 
   flow_at : (P : FlowPlan → Type 0) → All P plan.flows.items → (f : ℕ) (flow : FlowPlan) → slice_get plan.flows.items f ≡ Some flow → P flow
   flow_at P all f flow is = subst P (get_or_from_slice_get plan.flows.items f flow flow is) (all f flow (slice_get_within plan.flows.items f flow is))
 
-  none_contested : (f : ℕ) → ValueAt (IsContested joined) joined.flows.items f → ⊥
+  none_contested : (f : ℕ) → ValueAt (IsFlowContested joined) joined.flows.items f → ⊥
   none_contested f x =
       let is : slice_get plan.flows.items f ≡ Some x.value = sym (ap (λ (fs : List FlowPlan). slice_get fs f) come.flows) ∙ x.value_is in
       elim x.meets.1 [
         | inl sender ↦
-            sender (alone_still x.value.sender (flow_at (λ y. IsAlone plan y.sender) ((parts_of plan clean).senders_alone come.live) f x.value is)
+            sender (alone_still x.value.sender (flow_at (λ y. IsAloneInPlan plan y.sender) ((parts_of plan clean).senders_alone come.live) f x.value is)
             (λ v claims same_address. claims.sender f x.value x.value_is (sym same_address)))
         | inr (r, to, receiver) ↦
-            receiver (alone_still r (flow_at (λ y. (v : ℕ) → y.to ≡ One v → IsAlone plan v) ((parts_of plan clean).receivers_alone come.live) f x.value is r to)
+            receiver (alone_still r (flow_at (λ y. (v : ℕ) → y.to ≡ One v → IsAloneInPlan plan v) ((parts_of plan clean).receivers_alone come.live) f x.value is r to)
             (λ v claims same_address. claims.receiver f x.value r x.value_is to (sym same_address)))
       ]
 

@@ -2,15 +2,15 @@
 use Rattle.std.proofs.Common.{◌≡◌, ℕ, true, All, refl, sym, ap, ◌∙◌, subst, option_map, Option, Some, None}
 use Rattle.std.proofs.lemmas.Option.{get_or_from_slice_get, slice_get-map, slice_get_within}
 use Rattle.std.specs.List.{slice_get}
-use Rattle.j39_findings.specs.Findings.{Clean, IsAlone}
+use Rattle.j39_findings.specs.Findings.{Clean, IsAloneInPlan}
 use Rattle.j39_findings.proofs.CleanLaws.{parts_of}
 use Rattle.j39_findings.specs.declared.plan.Plan.{Plan}
 use Rattle.j39_findings.specs.declared.plan.flow_plan.FlowPlan.{FlowPlan}
 use Rattle.j39_findings.specs.declared.plan.to.To.TheVariants.{One}
 use Rattle.j39_world.specs.Flows.{flow_of}
 use Rattle.j39_world.specs.LiveEnds.{AreEndsAlone}
-use Rattle.j39_world.specs.PlannedUnits.{units_of}
-use Rattle.j39_world.specs.Staying.{IsAloneThere}
+use Rattle.j39_findings.specs.PlannedUnits.{units_of}
+use Rattle.j39_findings.specs.Staying.{IsAloneThere}
 use Rattle.j39_world.specs.declared.flow.Flow.{Flow}
 
 -- what holds of each planned flow holds of one
@@ -27,8 +27,8 @@ clean_ends_alone plan clean live f flow planned =
         × ((v : ℕ) → flow.to ≡ One v → IsAloneThere plan.keep_free (units_of plan) v)
     alone_flow x is same = (
       subst (λ (g : Flow). IsAloneThere plan.keep_free (units_of plan) g.sender) same
-          (flow_at (λ y. IsAlone plan y.sender) plan ((parts_of plan clean).senders_alone live) f x is).0,
-      λ v to. (flow_at (λ y. (r : ℕ) → y.to ≡ One r → IsAlone plan r) plan ((parts_of plan clean).receivers_alone live) f x is v
+          (flow_at (λ y. IsAloneInPlan plan y.sender) plan ((parts_of plan clean).senders_alone live) f x is).0,
+      λ v to. (flow_at (λ y. (r : ℕ) → y.to ≡ One r → IsAloneInPlan plan r) plan ((parts_of plan clean).receivers_alone live) f x is v
           (ap (λ (g : Flow). g.to) same ∙ to)).0,
     )
 

@@ -16,10 +16,10 @@ use Rattle.j39_id.specs.Name.{is_arbitrary}
 use Rattle.j39_findings.specs.declared.plan.Plan.{Plan}
 use Rattle.j39_findings.specs.declared.plan.unit_plan.UnitPlan.{UnitPlan}
 use Rattle.j39_world.specs.ClaimSteps.{told_to_others, without_lists_to}
-use Rattle.j39_world.specs.PlannedUnits.{planned_unit, units_of, unit_at}
+use Rattle.j39_findings.specs.PlannedUnits.{planned_unit, units_of, unit_at}
 use Rattle.j39_world.specs.Sound.{AreAddressesSound, AreAddressesDifferent, AreKeptFree, IsQuiet}
 use Rattle.j39_world.specs.SoundPlan.{Always}
-use Rattle.j39_world.specs.Staying.{HoldsAlone}
+use Rattle.j39_world.specs.HeldAddresses.{HoldsAlone}
 use Rattle.j39_world.specs.World.{World, Stations, Undelivered, all_off, changed, changed_pair}
 use Rattle.j39_laws.proofs.Addresses.AddressInvariant.{AddressInvariant, IsOwn, IsSaid}
 use Rattle.j39_laws.proofs.Addresses.AddressSteps.{up_keeps, up_silently, down_keeps, ask_keeps, give_keeps}

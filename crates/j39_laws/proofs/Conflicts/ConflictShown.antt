@@ -20,7 +20,7 @@ use Rattle.j39_findings.specs.declared.checking.finding.Finding.{Finding}
 use Rattle.j39_findings.specs.declared.steps.Step.{Step}
 use Rattle.j39_findings.specs.declared.steps.Step.TheVariants.{Up, Give}
 use Rattle.j39_world.specs.declared.wired.Wired.{Wired}
-use Rattle.j39_world.specs.PlannedUnits.{units_of, unit_at}
+use Rattle.j39_findings.specs.PlannedUnits.{units_of, unit_at}
 use Rattle.j39_world.specs.ClaimSteps.{GivenFrom, switched_on, heard_and_answered, told_to_others, without_lists_to, answer_items, first_items}
 use Rattle.j39_world.specs.Conflict.{IsLeftWithoutAddress, LeavesWithoutAddress}
 use Rattle.j39_world.specs.Run.{count_of, is_a_transfer_open, is_on, is_none_sending, is_nothing_undelivered, is_no_transfer_open, refusal, Run, RunsThrough}

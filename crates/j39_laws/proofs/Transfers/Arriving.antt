@@ -23,7 +23,7 @@ use Rattle.j39_world.specs.declared.wired.Wired.TheVariants as wired
 use Rattle.j39_world.specs.Arriving.{IsUnanswered, Spares, RunSparing, IsThrough, HasArrived, ArrivesUnanswered}
 use Rattle.j39_claim.specs.declared.item.Item.{Item}
 use Rattle.j39_world.specs.ClaimSteps.{GivenFrom, asked, heard_and_answered, switched_on}
-use Rattle.j39_world.specs.PlannedUnits.{units_of}
+use Rattle.j39_findings.specs.PlannedUnits.{units_of}
 use Rattle.j39_world.specs.Flows.{flows_of, windows_of, dest_of}
 use Rattle.j39_world.specs.Run.{count_of, begin_refusal, begin_refusals, refusal, StepsTo, Follows}
 use Rattle.j39_world.specs.Sound.{reported}

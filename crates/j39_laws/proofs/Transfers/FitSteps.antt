@@ -26,7 +26,7 @@ use Rattle.j39_world.specs.declared.wired.Wired.TheVariants as wired
 use Rattle.j39_claim.specs.declared.item.Item.{Item}
 use Rattle.j39_world.specs.ClaimSteps.{GivenFrom, heard_and_answered, without_lists_to, switched_on, asked}
 use Rattle.j39_world.specs.Flows.{flows_of, flow_of, windows_of, window_at, dest_of, is_short}
-use Rattle.j39_world.specs.PlannedUnits.{units_of}
+use Rattle.j39_findings.specs.PlannedUnits.{units_of}
 use Rattle.j39_world.specs.Run.{count_of, begin_refusal, begin_refusals}
 use Rattle.j39_world.specs.SoundPlan.{Always}
 use Rattle.j39_world.specs.Transfers.{Outgoing, Reported, Sessions, Wire, Receivers, is_among, added, closed_if_complete}

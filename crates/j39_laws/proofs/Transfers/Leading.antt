@@ -22,7 +22,7 @@ use Rattle.j39_world.specs.declared.wired.Wired.TheVariants as wired
 use Rattle.j39_world.specs.ClaimSteps.{GivenFrom, heard_and_answered}
 use Rattle.j39_world.specs.Leading.{LeadsOn}
 use Rattle.j39_world.specs.Flows.{flows_of, windows_of, window_at}
-use Rattle.j39_world.specs.PlannedUnits.{units_of, unit_at}
+use Rattle.j39_findings.specs.PlannedUnits.{units_of, unit_at}
 use Rattle.j39_world.specs.Run.{count_of, begin_refusal, send_refusal, can_emit, is_waiting, is_waiting_at, is_empty}
 use Rattle.j39_world.specs.SoundPlan.{Always}
 use Rattle.j39_world.specs.Transfers.{Outgoing, Reported}

@@ -17,10 +17,10 @@ use Rattle.j39_world.specs.declared.flow.Flow.{Flow}
 use Rattle.j39_world.specs.declared.wired.Wired.{Wired}
 use Rattle.j39_world.specs.declared.wired.Wired.TheVariants.{Alone}
 use Rattle.j39_world.specs.Flows.{FlowGoes, flows_of}
-use Rattle.j39_world.specs.LiveEnds.{AreEndsAlone, AreEndsUndisturbed, IsUndisturbed}
-use Rattle.j39_world.specs.PlannedUnits.{unit_at, units_of}
+use Rattle.j39_world.specs.LiveEnds.{AreEndsAlone, AreEndsUndisturbed, StandsAlone}
+use Rattle.j39_findings.specs.PlannedUnits.{unit_at, units_of}
 use Rattle.j39_world.specs.Run.{Follows, Run, both}
-use Rattle.j39_world.specs.Staying.{IsAloneThere}
+use Rattle.j39_findings.specs.Staying.{IsAloneThere}
 use Rattle.j39_world.specs.Transfers.{Outgoing, is_among}
 use Rattle.j39_world.specs.World.{World, all_off}
 use Rattle.j39_laws.proofs.Addresses.Alone.{undisturbed, unclaimed}
@@ -57,7 +57,7 @@ module _ (plan : Plan) (clean : Clean plan) (steps : List Step) (w : World) (run
       ]
     ]
 
-    pub undisturbed_on : (w.stations u).on ≡ true → IsUndisturbed plan w u
+    pub undisturbed_on : (w.stations u).on ≡ true → StandsAlone plan w u
     undisturbed_on on =
         let holds = undisturbed plan clean steps w run u alone in
         record { on = on; held = holds.held on; alone = holds.alone; unclaimed = none_claims }
@@ -71,12 +71,12 @@ module _ (plan : Plan) (clean : Clean plan) (steps : List Step) (w : World) (run
     on_at : (u : ℕ) (s : Outgoing) → w.sessions u ≡ Some s → AreEndsOn w.stations u (Some s)
     on_at u s is = subst (AreEndsOn w.stations u) is (kept.accounted.ends u)
 
-    sender_at : (u : ℕ) (s : Outgoing) → w.sessions u ≡ Some s → IsUndisturbed plan w u
+    sender_at : (u : ℕ) (s : Outgoing) → w.sessions u ≡ Some s → StandsAlone plan w u
     sender_at u s is =
         let (flow, planned, by, to) = goes u s is in
         undisturbed_on u (subst (IsAloneThere plan.keep_free (units_of plan)) by (ends s.flow flow planned).0) (on_at u s is).0
 
-    receiver_at : (u v : ℕ) (s : Outgoing) → w.sessions u ≡ Some s → s.to ≡ One v → is_among s.targets v ≡ true → IsUndisturbed plan w v
+    receiver_at : (u v : ℕ) (s : Outgoing) → w.sessions u ≡ Some s → s.to ≡ One v → is_among s.targets v ≡ true → StandsAlone plan w v
     receiver_at u v s is one among =
         let (flow, planned, by, to) = goes u s is in
         undisturbed_on v ((ends s.flow flow planned).1 v (to ∙ one)) ((on_at u s is).1 v among)
@@ -96,12 +96,12 @@ module _ (plan : Plan) (clean : Clean plan) (steps : List Step) (w : World) (run
       sent_by = All-contains (IsSentBy plan u v) (w.wire u v) (Alone f bytes)
           (All-from_recursion (IsSentBy plan u v) (w.wire u v) ((all_of_flows plan steps w run).wire u v)) lies
 
-      sent_at : IsUndisturbed plan w u
+      sent_at : StandsAlone plan w u
       sent_at =
           let (flow, planned, by, reaches) = sent_by in
           undisturbed_on u (subst (IsAloneThere plan.keep_free (units_of plan)) by (ends f flow planned).0) settled.0
 
-      sent_to_at : (flow : Flow) (x : ℕ) → slice_get (flows_of plan) f ≡ Some flow → flow.to ≡ One x → (x ≡ v) × IsUndisturbed plan w v
+      sent_to_at : (flow : Flow) (x : ℕ) → slice_get (flows_of plan) f ≡ Some flow → flow.to ≡ One x → (x ≡ v) × StandsAlone plan w v
       sent_to_at flow x planned one =
           let (other, planned_too, by, reaches) = sent_by in
           let same : other ≡ flow = same_Some _ _ (sym planned_too ∙ planned) in
@@ -121,7 +121,7 @@ module _ (plan : Plan) (clean : Clean plan) (steps : List Step) (w : World) (run
 -- a unit that is alone at its planned address is undisturbed after each step but its own Down
 pub stays_undisturbed : (plan : Plan) → Clean plan → (steps : List Step) (w : World) → Run plan all_off steps w → (u : ℕ)
     → IsAloneThere plan.keep_free (units_of plan) u → (w.stations u).on ≡ true → (step : Step) (after : World) → step ≢ Down u → Follows plan w step after
-    → IsUndisturbed plan after u
+    → StandsAlone plan after u
 stays_undisturbed plan clean steps w run u alone on step after other follows =
     undisturbed_on plan clean (steps ++ step ∷ []) after (one_more plan all_off w after steps step run follows) u alone
     (on_after plan w u on step after other follows)

@@ -29,7 +29,7 @@ use Rattle.j39_world.specs.declared.wired.Wired.{Wired}
 use Rattle.j39_world.specs.declared.wired.Wired.TheVariants as wired
 use Rattle.j39_world.specs.ClaimSteps.{GivenFrom, without_lists_to}
 use Rattle.j39_world.specs.Flows.{flows_of, windows_of, window_at, dest_of, is_short}
-use Rattle.j39_world.specs.PlannedUnits.{units_of}
+use Rattle.j39_findings.specs.PlannedUnits.{units_of}
 use Rattle.j39_world.specs.Resting.{is_of_sender, is_of_receiver, can_rest}
 use Rattle.j39_world.specs.Run.{count_of, begin_refusal, begin_refusals, refusal, StepsTo}
 use Rattle.j39_world.specs.SoundPlan.{Always}

@@ -12,7 +12,7 @@ use Rattle.j39_tp.specs.declared.receiving.progress.Progress.{Progress}
 use Rattle.j39_tp.specs.declared.receiving.progress.Progress.TheVariants.{Closed, Open, Complete}
 use Rattle.j39_world.specs.ClaimSteps.{GivenFrom, without_lists_to}
 use Rattle.j39_world.specs.Flows.{flows_of, window_at, windows_of}
-use Rattle.j39_world.specs.PlannedUnits.{units_of}
+use Rattle.j39_findings.specs.PlannedUnits.{units_of}
 use Rattle.j39_world.specs.Run.{StepsTo, count_of, is_a_transfer_open, refusal, Run}
 use Rattle.j39_world.specs.SoundPlan.{Always}
 use Rattle.j39_world.specs.SwitchingOff.{is_either, session_without, sessions_without, stopped, switched_off, without_lists_of, without_receivers_of}

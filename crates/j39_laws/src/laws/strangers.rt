@@ -8,10 +8,11 @@ ghost use Rattle.j39_findings.specs.Findings.{Clean};
 ghost use Rattle.j39_findings.specs.declared.plan.Plan.{Plan as Plans};
 ghost use Rattle.j39_findings.specs.declared.plan.unit_plan.UnitPlan.{UnitPlan as PlannedUnits};
 ghost use Rattle.j39_world.specs.Opening.{AreNamesDistinct};
-ghost use Rattle.j39_world.specs.PlannedUnits.{units_of, unit_at};
+ghost use Rattle.j39_findings.specs.PlannedUnits.{units_of, unit_at};
 ghost use Rattle.j39_world.specs.Sound.{AreAddressesDifferent, AreAddressesSound, IsQuiet};
 ghost use Rattle.j39_world.specs.SoundPlan.{AlwaysBeside};
-ghost use Rattle.j39_world.specs.Staying.{HoldsPlanned, StaysBeside};
+ghost use Rattle.j39_findings.specs.Staying.{StaysBeside};
+ghost use Rattle.j39_world.specs.HeldAddresses.{HoldsPlanned};
 ghost use Rattle.j39_world.specs.Strangers.{ComeBesideLive, HasStrangers};
 
 /// Units that stand in no plan may come beside those of a plan without findings, at most so many as it tells, each of which may choose and

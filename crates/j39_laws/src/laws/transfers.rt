@@ -5,9 +5,9 @@ ghost use Rattle.j39_findings.specs.declared.plan.Plan.{Plan as Plans};
 ghost use Rattle.j39_findings.specs.declared.steps.Step.{Step as Steps};
 ghost use Rattle.j39_world.specs.Ending.{TransfersEnd};
 ghost use Rattle.j39_world.specs.Leading.{LeadsOn};
-ghost use Rattle.j39_world.specs.LiveEnds.{AreEndsUndisturbed, IsUndisturbed};
-ghost use Rattle.j39_world.specs.PlannedUnits.{units_of};
-ghost use Rattle.j39_world.specs.Staying.{IsAloneThere};
+ghost use Rattle.j39_world.specs.LiveEnds.{AreEndsUndisturbed, StandsAlone};
+ghost use Rattle.j39_findings.specs.PlannedUnits.{units_of};
+ghost use Rattle.j39_findings.specs.Staying.{IsAloneThere};
 ghost use Rattle.j39_findings.specs.declared.steps.Step.TheVariants.{Down};
 ghost use Rattle.j39_world.specs.Run.{Follows, Run};
 ghost use Rattle.j39_world.specs.Sound.{AreAllDelivered, AreSentFramesSound, DoesOneLie};
@@ -45,5 +45,5 @@ pub fn ends_are_undisturbed()
         → AreEndsUndisturbed plan w }
     ensures stay { (plan : Plans) (steps : List Steps) (w : World) → Clean plan → Run plan all_off steps w
         → (u : ℕ) → IsAloneThere plan.keep_free (units_of plan) u → (w.stations u).on ≡ true
-        → (step : Steps) (after : World) → step ≢ Down u → Follows plan w step after → IsUndisturbed plan after u }
+        → (step : Steps) (after : World) → step ≢ Down u → Follows plan w step after → StandsAlone plan after u }
 {}

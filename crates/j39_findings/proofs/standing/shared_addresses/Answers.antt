@@ -1,7 +1,7 @@
 use Rattle.std.proofs.Common.{◌≡◌, length, get_or, false, ◌||◌, refl, sym, ap, ◌∙◌, Some}
 use Rattle.std.proofs.lemmas.Option.{slice_get_read}
 use Rattle.std.specs.List.{slice_get}
-use Rattle.j39_findings.proofs.WhoIsAlone.{none_shared, none_taken, shared_by_one_more, taken}
+use Rattle.j39_findings.proofs.SharedAddresses.{none_shared, none_taken, shared_by_one_more, taken}
 use Rattle.j39_findings.proofs.standing.shared_addresses.Goals.{then-shared-place, else-shared-place}
 use Rattle.j39_findings.proofs.standing.shared_addresses.Goals as goal
 
