@@ -1,5 +1,5 @@
 -- What is left where a unit is off.
-use Rattle.std.proofs.Common.{◌≡◌, ℕ, ◌+◌, ◌<◌, ◌≤◌, Bool, true, false, ◌||◌, cond, eqb, ltb, List, [], length, refl, sym, ap, ◌∙◌, arith, inl, inr, Option, None}
+use Rattle.std.proofs.Common.{◌≡◌, ℕ, ◌+◌, ◌≤◌, Bool, true, false, ◌||◌, cond, ltb, List, length, refl, ap, ◌∙◌, arith, inl, inr, Option, None}
 use Rattle.std.proofs.lemmas.List.{get_or_past}
 use Rattle.std.proofs.lemmas.Bool.{cases_eq, cases_lt, eq-eqb, ne_eqb, lt-ltb, le-ltb}
 use Rattle.j39_queues.proofs.Columns.{next_place}

@@ -1,7 +1,7 @@
-use Rattle.std.proofs.Common.{List, length, set, None, ◌∙◌, arith}
+use Rattle.std.proofs.Common.{None, ◌∙◌, arith}
 use Rattle.j39_bus.specs.BusState.{session_at}
 use Rattle.j39_bus.proofs.ChangedSessions.{session_set}
-use Rattle.j39_bus.proofs.LeftOut.{left_out_all, left_out_more, left_out_none}
+use Rattle.j39_bus.proofs.LeftOut.{left_out_all, left_out_more}
 use Rattle.j39_bus.proofs.sessions.switch_off.Goals as goal
 
 pub loop-sender-preserved : goal.loop-sender-preserved

@@ -1,5 +1,5 @@
 use Rattle.std.proofs.Common.{length, ap, arith, ◌∙◌}
-use Rattle.j39_queues.proofs.Columns.{row_cleared_more, row_cleared_none, row_cleared, past_columns}
+use Rattle.j39_queues.proofs.Columns.{row_cleared_more, row_cleared, past_columns}
 use Rattle.j39_bus.specs.BusState.{ReceiverTable, closed, holding_at}
 use Rattle.j39_bus.proofs.ReceiverRows.{table_seen}
 use Rattle.j39_bus.proofs.receivers.Receivers.close_for.Goals as goal

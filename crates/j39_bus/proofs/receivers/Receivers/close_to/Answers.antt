@@ -1,5 +1,5 @@
 use Rattle.std.proofs.Common.{length, ap, arith, ◌∙◌}
-use Rattle.j39_queues.proofs.Columns.{cleared_more, cleared_none, column_cleared, past_rows}
+use Rattle.j39_queues.proofs.Columns.{cleared_more, column_cleared, past_rows}
 use Rattle.j39_bus.specs.BusState.{ReceiverTable, closed, holding_at}
 use Rattle.j39_bus.proofs.ReceiverRows.{table_seen}
 use Rattle.j39_bus.proofs.receivers.Receivers.close_to.Goals as goal
