@@ -52,7 +52,7 @@ use Rattle.j39_laws.proofs.Runs.ClaimInvariants.{asking_said, claim_steps_keep, 
 use Rattle.j39_laws.proofs.Runs.Conditions.{is_unit, none_refuses, units_known}
 use Rattle.j39_laws.proofs.Runs.Units.{in_units, names_differ}
 use Rattle.j39_follow.specs.Holders.{HoldsByFrames}
-use Rattle.j39_traces.specs.Telling.{EachIsTold, FramesTellHolders, HaveOwnNumbers, IsStillToHear, IsTold}
+use Rattle.j39_traces.specs.Telling.{EachIsTold, FramesTellHolders, HaveOwnNumbers, IsStillToHear, IsHolderTold}
 use Rattle.j39_traces.proofs.Identifiers.{IsOther, carries_none, planned_other}
 use Rattle.j39_traces.proofs.Logs.{IsItemInRange, TellsNothing, asked, claimed, others, silent_keep, split, tells_nothing}
 use Rattle.j39_traces.proofs.Standing.{AreStanding, HoldsAddress, at_first, preferred_below, said_held, source_below, standing_keeps, turn, turned_any}
@@ -462,7 +462,7 @@ sent_frames_tell plan quiet distinct own steps w run sends log of u a claims on 
 
 -- of a plan without findings no claim is undelivered of an address at which a unit is alone
 pub alone_frames_tell : (plan : Plan) → Clean plan → AreNamesDistinct (units_of plan) → HaveOwnNumbers plan
-    → Always plan (λ w. (u : ℕ) → IsAloneThere plan.keep_free (units_of plan) u → IsTold plan w u)
+    → Always plan (λ w. (u : ℕ) → IsAloneThere plan.keep_free (units_of plan) u → IsHolderTold plan w u)
 alone_frames_tell plan clean distinct own steps w run u alone log of a claims on address =
     elim (frames_tell plan distinct own steps w run log of u a claims on address) [
       | inl holds ↦ holds

@@ -32,8 +32,8 @@ FramesTellHolders plan w =
     → (w.stations u).address ≡ Some a → HoldsByFrames log (unit_at (units_of plan) u).name a ⊎ IsStillToHear w.claims u a
 
 -- they tell it of this one
-abbrev pub IsTold : Plan → World → ℕ → Type 0
-IsTold plan w u =
+abbrev pub IsHolderTold : Plan → World → ℕ → Type 0
+IsHolderTold plan w u =
     (log : List Frame) → IsLogOf w log → (a : ℕ) → (unit_at (units_of plan) u).claims ≡ true → (w.stations u).on ≡ true
     → (w.stations u).address ≡ Some a → HoldsByFrames log (unit_at (units_of plan) u).name a
 

@@ -11,7 +11,7 @@ ghost use Rattle.j39_world.specs.SoundPlan.{IsSending};
 ghost use Rattle.j39_findings.specs.Staying.{IsAloneThere};
 ghost use Rattle.j39_world.specs.World.{World, all_off};
 ghost use Rattle.j39_traces.specs.Between.{EachGoesBetweenUnits, EndsKeepAddresses, MessagesGoBetweenHolders};
-ghost use Rattle.j39_traces.specs.Telling.{EachIsTold, FramesTellHolders, HaveOwnNumbers, IsTold};
+ghost use Rattle.j39_traces.specs.Telling.{EachIsTold, FramesTellHolders, HaveOwnNumbers, IsHolderTold};
 ghost use Rattle.j39_traces.specs.ToldFlows.{AreToldAsBegun, EachClaims};
 ghost use Rattle.j39_traces.specs.VehicleRuns.{AreVehiclesToldAsBegun, FramesTellOfVehicle, VehicleMessagesGoBetweenHolders};
 ghost use Rattle.j39_findings.specs.Findings.{Clean};
@@ -33,7 +33,7 @@ pub fn quiet_frames_tell_holders()
     ensures sending { (plan : Plans) (steps : List Steps) (w : World) → plan.live ≡ false → AreNamesDistinct (units_of plan) → HaveOwnNumbers plan
         → Run plan all_off steps w → IsSending w → EachIsTold plan w }
     ensures alone { (plan : Plans) (steps : List Steps) (w : World) → Clean plan → AreNamesDistinct (units_of plan) → HaveOwnNumbers plan
-        → Run plan all_off steps w → (u : ℕ) → IsAloneThere plan.keep_free (units_of plan) u → IsTold plan w u }
+        → Run plan all_off steps w → (u : ℕ) → IsAloneThere plan.keep_free (units_of plan) u → IsHolderTold plan w u }
 {}
 
 /// In every world of every run of a plan that isn't live, or that has no findings: while a unit is
