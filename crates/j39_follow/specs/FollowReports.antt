@@ -215,12 +215,12 @@ IsMessageReport plan log front m sort text =
 -- ---- frames of no planned group
 
 -- the priority of a frame and its bytes
-unfoldable pub frame_end : Frame → List ℕ
-frame_end f = field (codes " priority ") f.ident.priority ++ (codes " bytes " ++ (encode_upper f.payload.items ++ 10 ∷ []))
+unfoldable pub priority_and_bytes : Frame → List ℕ
+priority_and_bytes f = field (codes " priority ") f.ident.priority ++ (codes " bytes " ++ (encode_upper f.payload.items ++ 10 ∷ []))
 
 -- a frame by the number of its group, from whom to whom it goes, its priority and its bytes
 unfoldable pub frame_line : List ℕ → List ℕ → Frame → List ℕ
-frame_line front way f = front ++ (field (codes "frame ") (pgn_of f.ident) ++ (way ++ frame_end f))
+frame_line front way f = front ++ (field (codes "frame ") (pgn_of f.ident) ++ (way ++ priority_and_bytes f))
 
 -- where all frames are told, one of which nothing else is written has a line of its own
 abbrev pub bare_text : Bool → List ℕ → List ℕ → List ℕ

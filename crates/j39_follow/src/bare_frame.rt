@@ -1,7 +1,7 @@
 //! The line of a frame of which nothing else is written.
 ghost use Rattle.std.specs.Prelude.{◌≡◌, ◌++◌, ℕ, List, OnOk};
 ghost use Rattle.j39_follow.specs.Contests.{Timed};
-ghost use Rattle.j39_follow.specs.FollowReports.{IsWay, frame_end, frame_line};
+ghost use Rattle.j39_follow.specs.FollowReports.{IsWay, priority_and_bytes, frame_line};
 ghost use Rattle.j39_follow.specs.inside.Contesting.{ShowsParties};
 ghost use Rattle.j39_follow.specs.inside.Reporting.{front_of};
 
@@ -13,9 +13,9 @@ use j39_id::Frame;
 use j39_text::TextBuffer;
 use std::alloc::AllocError;
 
-#[tactic(auto, unfolding(crate::specs::FollowReports::frame_end))]
+#[tactic(auto, unfolding(crate::specs::FollowReports::priority_and_bytes))]
 fn write_end(text: &mut TextBuffer, frame: &Frame) -> Result<(), AllocError>
-    ensures { OnOk result (text.new ≡ text.old ++ frame_end frame.now) }
+    ensures { OnOk result (text.new ≡ text.old ++ priority_and_bytes frame.now) }
 {
     text.field(" priority ", frame.ident.priority)?;
     text.word(" bytes ")?;

@@ -2,7 +2,7 @@ use Rattle.std.proofs.Common.{◌≡◌, ◌++◌, ℕ, List, codes, refl, ap, �
 use Rattle.std.proofs.lemmas.Result.{IfOk-weaker}
 use Rattle.j39_id.specs.Ident.{pgn_of}
 use Rattle.j39_text.specs.Texts.{field}
-use Rattle.j39_follow.specs.FollowReports.{frame_end, frame_line}
+use Rattle.j39_follow.specs.FollowReports.{priority_and_bytes, frame_line}
 use Rattle.j39_follow.specs.inside.Reporting.{front_of}
 use Rattle.j39_follow.proofs.bare_frame.write_bare.Goals as goal
 
@@ -22,10 +22,10 @@ returns c =
       way.0,
       way.1,
       ended
-          ∙ ap (λ (t : List ℕ). t ++ frame_end f) (way.2
+          ∙ ap (λ (t : List ℕ). t ++ priority_and_bytes f) (way.2
           ∙ ap (λ (t : List ℕ). t ++ way.0) (c.in_ok-field.ensures
           ∙ ap (λ (t : List ℕ). t ++ field (codes "frame ") c.number-pgn.result) c.in_ok-write_stamp.ensures
           ∙ ap (λ (n : ℕ). (old ++ front) ++ field (codes "frame ") n) number))
-          ∙ joined old front (field (codes "frame ") (pgn_of f.ident)) way.0 (frame_end f),
+          ∙ joined old front (field (codes "frame ") (pgn_of f.ident)) way.0 (priority_and_bytes f),
     ))
     c.write_end.ensures
