@@ -57,7 +57,7 @@ PAIRS = (
     Pair("a single frame's last identifier is its least", "flow_loads::single_frames", KEPT, (
         Turn("specs/Loads.antt", "last_ident = group_ident (of_unit units (greatest_address stays)) group flow;",
              "last_ident = group_ident (of_unit units (least_address stays)) group flow;"),
-        Turn("src/flow_loads.rt", "last_ident: greatest_ident,", "last_ident: least_ident,"),
+        Turn("src/flow_loads.rt", "last_ident: greatest_ident,", "last_ident: group_ident(network, Extreme::Least, group, flow),"),
     )),
     Pair("125 kbit are counted as 250", "streams::bits_of_ms", KEPT, (
         Turn("specs/Loads.antt", "bits_per_ms Kbit125 = 125", "bits_per_ms Kbit125 = 250"),
