@@ -2,7 +2,7 @@
 
 import re
 
-from tests.logs_against import CLAIMS, ET1, FLOWS, PLAN, PUMP_CLAIMS, RIVALS, VALVE_CLAIMS, Compared, run
+from tests.logs_against import CLAIMS, ET1, FLOWS, PLAN, PUMP_CLAIMS, RIVALS, VALVE_CLAIMS, VI, Compared, run
 
 
 class Hands(Compared):
@@ -111,6 +111,24 @@ class Hands(Compared):
         self.assertEqual(told(("5.0", PUMP_CLAIMS), ("5.25", ET1)), [])
         self.assertEqual(told(("4.9", ET1), ("5.0", PUMP_CLAIMS), ("5.1", ET1)), [])
         self.assertEqual(told(("4.9", "18EAFFFE#00EE00"), ("5.0", PUMP_CLAIMS), ("5.1", ET1)), [])
+
+    def test_a_long_message_soon_behind_a_restart(self) -> None:
+        """On a live bus: others may hold a session with a unit that went off after its last frame. A message of before is none of this."""
+        def told(plan: str, *log: tuple[str, str]) -> list[str]:
+            name = self.write("drive.log", "".join(f"({time}) can0 {frame}\n" for time, frame in log))
+            answer = run("against.py", self.write("plan.toml", plan), name)[1]
+            return [line.replace(name, "L") for line in answer.splitlines() if "restarted" in line]
+        live = PLAN.replace("version = 1", "version = 4\nlive = true")
+        begin = [("1.0", CLAIMS[0]), ("5.0", FLOWS[0]), ("5.5", CLAIMS[0])]
+        restart = "L:3: ENGINE claims address 0, which it holds, and nobody asked: has it restarted?"
+        said = "announces a long message {} ms after it restarted: others may hold a session with it for 1650 ms after it went off"
+        self.assertEqual(told(live, *begin, ("6.6495", VI[0])), [restart, f"L:4: ENGINE {said.format('1149.5')}"])
+        self.assertEqual(told(live, *begin, ("6.65", VI[0])), [restart])
+        self.assertEqual(told(PLAN, *begin, ("6.6495", VI[0])), [restart])
+        self.assertEqual(told(live, *begin, ("5.6", FLOWS[0]), ("6.6", VI[0]), ("6.64", VI[0])), [restart, f"L:5: ENGINE {said.format('1100')}"])
+        self.assertEqual(told(live, *begin, ("5.6", "1CECFF00#20110004FFECFE00")), [restart])  # 17 bytes have three packets
+        twice = *begin, ("5.6", VI[0]), ("7.0", FLOWS[0]), ("7.9", CLAIMS[0]), ("7.95", VI[0])
+        self.assertEqual(told(live, *twice), [f"{restart}  (2 times)", f"L:7: ENGINE {said.format('50')}  (2 times)"])
 
     def test_units_that_are_not_there(self) -> None:
         """Who neither claimed an address nor sent anything; who only answers does send."""

@@ -287,6 +287,7 @@ class Comparison:
         self.sender(line, at, sender, group.label if group else "")
         if announced.is_sound:
             self.answers(line, at, sender, to, announced.pgn)
+            self.hands.announces(line, at, sender)
         route = Route(f"{group.label if group else f'PGN {announced.pgn}'} from {sender.shown} to {to.shown}", is_planned, sender.label, to.label)
         if announced.is_sound:
             self.transfers.announced(line, at, route, frame)
