@@ -269,7 +269,8 @@ class Completions(InFolder):
         for name in ("a.toml", "a.log", "a.schedule", "a.dbc"):
             self.write(name, "")
         for words, name in ((("j39plan", "check"), "a.toml"), (("j39plan", "run", "a.toml"), "a.schedule"),
-                            (("j39plan", "read", "a.toml"), "a.log"), (("j39plan", "follow", "--all", "a.toml"), "a.log"), (("j39plan-where",), "a.toml"), (("j39plan-startup",), "a.toml"),
+                            (("j39plan", "read", "a.toml"), "a.log"), (("j39plan", "follow", "--all", "a.toml"), "a.log"),
+                            (("j39plan-where",), "a.toml"), (("j39plan-startup",), "a.toml"),
                             (("j39plan-against", "a.toml"), "a.log"), (("j39plan-fleet", "a.toml", "a.log"), "a.log"), (("j39plan-join", "a.toml"), "a.toml"),
                             (("j39plan-compare", "a.toml"), "a.toml"), (("j39plan-signals", "a.toml"), "a.log"),
                             (("j39plan-plot", "a.toml"), "a.log"), (("j39plan-dbc2plan",), "a.dbc"),
