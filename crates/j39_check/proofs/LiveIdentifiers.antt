@@ -2,7 +2,7 @@
 use Rattle.std.proofs.Common.{◌≡◌, ◌≢◌, ℕ, arith, Bool, true, false, ◌&&◌, eqb, List, [], ◌∷◌, ◌++◌, refl, sym, ap, ◌∙◌, subst, inl, inr, Some}
 use Rattle.std.proofs.lemmas.Bool.{and_from, and_parts, eq-eqb, eqb-true, or_cases, or_left, or_right, true≢false}
 use Rattle.std.specs.List.{slice_get}
-use Rattle.j39_findings.specs.Findings.{Clean, IsAlone}
+use Rattle.j39_findings.specs.Findings.{Clean, IsAloneInPlan}
 use Rattle.j39_findings.proofs.CleanLaws.{parts_of}
 use Rattle.j39_findings.specs.declared.plan.Plan.{Plan}
 use Rattle.j39_findings.specs.declared.plan.flow_plan.FlowPlan.{FlowPlan}
@@ -59,7 +59,7 @@ module _ (plan : Plan) (clean : Clean plan) (live : plan.live ≡ true) (steps :
   end_alone f flow is u among = elim (or_cases (eqb u flow.sender) (is_among (receivers flow.to) u) among) [
     | inl here ↦
         subst (IsAloneThere plan.keep_free (units_of plan)) (sym (eqb-true u flow.sender here))
-        (flow_at (λ y. IsAlone plan y.sender) plan ((parts_of plan clean).senders_alone live) f flow is).0
+        (flow_at (λ y. IsAloneInPlan plan y.sender) plan ((parts_of plan clean).senders_alone live) f flow is).0
     | inr there ↦ of_receiver flow.to refl there
   ]
     where
@@ -68,7 +68,7 @@ module _ (plan : Plan) (clean : Clean plan) (live : plan.live ≡ true) (steps :
       of_receiver (One v) to is_one = elim (or_cases (eqb u v) false is_one) [
         | inl same ↦
             subst (IsAloneThere plan.keep_free (units_of plan)) (sym (eqb-true u v same))
-            (flow_at (λ y. (r : ℕ) → y.to ≡ One r → IsAlone plan r) plan ((parts_of plan clean).receivers_alone live) f flow is v to).0
+            (flow_at (λ y. (r : ℕ) → y.to ≡ One r → IsAloneInPlan plan r) plan ((parts_of plan clean).receivers_alone live) f flow is v to).0
         | inr never ↦ absurd (true≢false (sym never))
       ]
 
