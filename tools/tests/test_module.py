@@ -69,7 +69,7 @@ class Module(InFolder):
 class Plans(InFolder):
     def test_tables(self) -> None:
         plan = j39plan.read_plan(example("truck.toml"))
-        self.assertEqual((plan.version, plan.kept, [unit.label for unit in plan.units]), (3, [], ["ENGINE", "TRANSMISSION", "BRAKES", "CLUSTER"]))
+        self.assertEqual((plan.version, plan.kept, [unit.label for unit in plan.units]), (4, [], ["ENGINE", "TRANSMISSION", "BRAKES", "CLUSTER"]))
         signal = next(signal for group in plan.groups for signal in group.signals if signal.label == "SPN175")
         self.assertEqual((signal.byte, signal.bits, signal.unit, str(signal.value(8720))), (3, 16, "degC", "-1/2"))
         self.assertEqual(plan.text, text_of(example("truck.toml")))
