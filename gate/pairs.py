@@ -67,7 +67,7 @@ PAIRS = (
         Turn("specs/Damage.antt", "record { frames = rate.count; period", "record { frames = 1; period"),
         Turn("src/damage.rt", "frames: rate.count,", "frames: 1,"),
     )),
-    Pair("unplanned frames of the very priority go before none", "delays::unplanned_idents", KEPT, (
+    Pair("unplanned frames of the very priority go before none", "delays::blocking", KEPT, (
         Turn("specs/Delays.antt", "unplanned_idents timing = timing.unplanned_priority * 2 ^ 26", "unplanned_idents timing = (timing.unplanned_priority + 1) * 2 ^ 26"),
         Turn("src/delays.rt", "u64::from(timing.unplanned_priority) * 67_108_864", "(u64::from(timing.unplanned_priority) + 1) * 67_108_864"),
     )),
