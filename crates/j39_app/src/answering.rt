@@ -81,6 +81,8 @@ fn load_file<F: Folder, W: Sink>(
     load_text(alloc, &mut files.open(plan)?, sink)
 }
 
+// Those that go on by a plan hold tables on the stack, which the frame of `answer` would hold for each command.
+#[inline(never)]
 fn run_by<F: Folder, W: Sink>(
     alloc: Global,
     files: &F,
@@ -94,6 +96,7 @@ fn run_by<F: Folder, W: Sink>(
     run_planned(alloc, plan, &mut files.open(schedule)?, sink)
 }
 
+#[inline(never)]
 fn read_by<F: Folder, W: Sink>(
     alloc: Global,
     files: &F,
@@ -107,6 +110,7 @@ fn read_by<F: Folder, W: Sink>(
     read_text(alloc, plan, &mut files.open(log)?, sink)
 }
 
+#[inline(never)]
 fn follow_by<F: Folder, W: Sink>(
     alloc: Global,
     files: &F,
