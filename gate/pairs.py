@@ -42,7 +42,6 @@ class Pair:
 
 
 KEPT = "laws::frames_that_keep_a_plan"
-BETWEEN = "laws::identifiers_lie_between"
 PAIRS = (
     Pair("jitter of single frames is left out", "streams::single_stream", KEPT, (
         Turn("specs/Loads.antt", "bits = longest_frame (most_bytes group);\n  late = bits_of_ms timing pace.jitter;", "bits = longest_frame (most_bytes group);\n  late = 0;"),
@@ -75,13 +74,6 @@ PAIRS = (
         Turn("specs/Loads.antt", "is_any Any = true", "is_any Any = false"),
         Turn("proofs/Sending.antt", "let same : u ≡ v = eqb-true u v is in", "let same : u ≡ v = absurd (false≢true is) in"),
         Turn("src/identifiers.rt", "Queue::Any => Some(unit),", "Queue::Any => None,"),
-    )),
-    Pair("answers of the receiver have no identifier", "identifiers::session_ident", BETWEEN, (
-        Turn("specs/Loads.antt", "session_ident timing held flow v = max (transport_ident timing connection_management (held v) (held flow.sender))\n"
-             "    (transport_ident timing connection_management (held flow.sender) (held v))",
-             "session_ident timing held flow v = transport_ident timing connection_management (held v) (held flow.sender)"),
-        Turn("src/identifiers.rt", "asked.max(answered)", "asked"),
-        Turn("src/identifiers.rt", "    let answered = identifier(network.timing.transport_priority, pgn, from, to);\n", ""),
     )),
 )
 
