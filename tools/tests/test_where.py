@@ -145,15 +145,18 @@ class Lint(InFolder):
 
     def test_frames_of_units_that_claim_on_a_live_bus(self) -> None:
         """Where unplanned is less than the units that claim, strangers and a request."""
-        plan = 'version = 4\nlive = true\ntiming = {{ bitrate = 250000, unplanned = {} }}\n' + UNIT.format("A", 0, 1) + UNIT.format("B", 1, 2)
-        said = "3: hint unplanned = 2: on a live bus units claim at any time: 3 frames, of 2 units and a request for claims"
-        self.assertIn(said, self.lines(plan.format(2))[1])
-        silent = plan + "claims = false\n"
-        for text, told in ((plan.format(3), False), (silent.format(2), False), (silent.format(1), True), (plan.format(2).replace("live = true\n", ""), False)):
-            self.assertEqual("hint unplanned" in "".join(self.lines(text)[1]), told, text)
-        with_strangers = plan.format(7).replace("live = true", "live = true\nstrangers = 5")
+        units = UNIT.format("A", 0, 1) + UNIT.format("B", 1, 2)
+
+        def hinted(unplanned: int, live: str = "live = true\n", behind: str = "") -> list[str]:
+            head = f"version = 4\n{live}timing = {{ bitrate = 250000, unplanned = {unplanned} }}\n"
+            return self.lines(head + units + behind)[1]
+
+        self.assertIn("3: hint unplanned = 2: on a live bus units claim at any time: 3 frames, of 2 units and a request for claims", hinted(2))
+        for lines, told in ((hinted(3), False), (hinted(2, behind="claims = false\n"), False), (hinted(1, behind="claims = false\n"), True),
+                            (hinted(2, live=""), False)):
+            self.assertEqual("hint unplanned" in "".join(lines), told, lines)
         said = "4: hint unplanned = 7: on a live bus units claim at any time: 8 frames, of 2 units, 5 strangers and a request for claims"
-        self.assertIn(said, self.lines(with_strangers)[1])
+        self.assertIn(said, hinted(7, "live = true\nstrangers = 5\n"))
 
     def test_hints_at_queues(self) -> None:
         """A unit whose controller keeps no order, and that sends groups of two priorities; of one priority there is no hint."""
