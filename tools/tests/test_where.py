@@ -682,14 +682,14 @@ class Where(InFolder):
             (("F", "Y"), "from", 22, f"F isn't alone at 140: Y may move there: {outside}, or keep this one free"),
         ):
             answer = self.answer(plan + flow.format(*ends))[1]
-            self.assertEqual(answer[0], f"{line - 1}: F28 FlowContested 1  (TSC1 from {ends[0]} to {ends[1]}: key {key}: {said})")
+            self.assertEqual(answer[0], f"{line}: F28 FlowContested 1  (TSC1 from {ends[0]} to {ends[1]}: key {key}: {said})")
         kept = plan.replace("live = true\n", "live = true\nkeep_free = [140]\n")
         self.assertEqual(self.answer(kept + flow.format("F", "all"))[0], 0)
         answer = self.answer(kept + flow.format("F", "X"))[1]
-        self.assertEqual(answer[0], f"23: F28 FlowContested 1  (TSC1 from F to X: key to: X isn't alone at 128: Y {there})")
+        self.assertEqual(answer[0], f"24: F28 FlowContested 1  (TSC1 from F to X: key to: X isn't alone at 128: Y {there})")
         strangers = kept.replace("live = true\n", "live = true\nstrangers = 1\n")
         answer = self.answer(strangers + flow.format("F", "all"))[1]
-        self.assertEqual(answer[0], f"23: F28 FlowContested 1  (TSC1 from F to all: key from: F isn't alone at 140: strangers may come there: {outside})")
+        self.assertEqual(answer[0], f"24: F28 FlowContested 1  (TSC1 from F to all: key from: F isn't alone at 140: strangers may come there: {outside})")
 
     def test_what_only_version_3_knows_of_a_signal(self) -> None:
         signal = ('[[group]]\nlabel = "G"\npgn = 65262\npriority = 6\nlength = 8\n'
