@@ -5,8 +5,9 @@ any_order.py [PLANS [SEED [ANSWERS]]]
 Each of so many plans (300) has some units whose controllers keep no order, and most have twins: flows of one unit whose groups are told by
 their data alone, of which any may go first. It is played on a bus of its own, by none of the program's
 definitions: arbitration bit for bit comes down to the smallest identifier, and such a unit offers what came first, what came last, what is
-least urgent, or any frame. What is queued keeps the premises of the times (docs/TIMING.md), mostly all at once. ANSWERS is a file with what
-`load` writes of each plan behind a line `== NAME`; else ./j39plan is asked. The status is 1 where a frame is later than told.
+least urgent, or any frame. Four plans of ten have multi-packet broadcasts, seldom wanted and with gaps of 10 ms: each unit has one under way
+as the others come, and one of each flow waits. What is queued keeps the premises of the times (docs/TIMING.md), mostly all at once. ANSWERS is
+a file with what `load` writes of each plan behind a line `== NAME`; else ./j39plan is asked. The status is 1 where a frame is later than told.
 """
 from __future__ import annotations
 
@@ -17,7 +18,7 @@ import sys
 from pathlib import Path
 from typing import Iterator, NamedTuple
 
-BITS_PER_MS, LONGEST, RUNS, SPAN = 250, 160, 60, 60 * 250
+BITS_PER_MS, LONGEST, RUNS, SPAN, LONG_SPAN, GAP = 250, 160, 60, 60 * 250, 200 * 250, 10 * 250
 
 
 class Flow(NamedTuple):
@@ -31,6 +32,14 @@ class Flow(NamedTuple):
     period: int
     jitter: int
     is_twin: bool
+
+    def is_broadcast(self) -> bool:
+        """Whether its messages are multi-packet ones to all."""
+        return self.length > 8 and self.receiver is None
+
+    def packets(self) -> int:
+        """How many packets a message of it has."""
+        return -(-self.length // 7)
 
 
 class Network(NamedTuple):
@@ -51,7 +60,80 @@ class Frame(NamedTuple):
     flow: Flow | None
 
 
+class Sender:
+    """What a unit broadcasts: a message at a time, its frames a gap apart, by a timer or each behind the end of the one before. As the run begins
+    its longest message may be under way, and of each flow one that is wanted may wait; another one that is wanted meanwhile isn't sent. At its
+    worst both are so, and the next message of each flow is wanted as soon as the one that waits has begun."""
+
+    def __init__(self, net: Network, unit: int, start: int, at_worst: bool, chance: random.Random) -> None:
+        self.unit, self.address, self.chance = unit, net.addresses[unit], chance
+        flows = [flow for flow in net.flows if flow.is_broadcast() and flow.sender == unit]
+        self.left, all_packets = max(flow.packets() for flow in flows), sum(flow.packets() for flow in flows)
+        begun = {flow: start + (self.left + all_packets - flow.packets()) * GAP for flow in flows}
+        self.moments = {flow: begun[flow] + 1 - flow.period * BITS_PER_MS for flow in flows}
+        self.waiting: set[Flow] = set()
+        self.ready, self.queued, self.by_timer = start, 0, True
+        if not at_worst:
+            self.moments = {flow: start - chance.choice([0, 0, 1, chance.randrange(flow.period * BITS_PER_MS)]) for flow in flows}
+            self.left *= chance.choice([0, 1, 1])
+            self.ready += chance.choice([0, 0, 1, chance.randrange(GAP)])
+            self.by_timer = chance.random() < 0.6
+
+    def time(self) -> int:
+        """From when on its next frame is queued."""
+        wanted = self.ready if self.waiting else min(self.moments.values(), default=LONG_SPAN)
+        return self.ready if self.left else max(self.ready, wanted)
+
+    def frame(self) -> Frame:
+        """Its next frame, queued now: a packet, or the announcement of a message that waits."""
+        self.queued = self.time()
+        pgn = 60160 if self.left else 60416
+        if self.left:
+            self.left -= 1
+        else:
+            self.want(self.queued)
+            flow = self.chance.choice(sorted(self.waiting))
+            self.waiting.remove(flow)
+            self.left = flow.packets()
+        self.ready = 10 * LONG_SPAN if not self.by_timer else self.queued + (GAP if self.left else 0)
+        return Frame(self.queued, 0, LONGEST, identifier(7, pgn, 255, self.address), self.unit, None)
+
+    def want(self, time: int) -> None:
+        """What is wanted up to a moment waits."""
+        for flow in self.moments:
+            while self.moments[flow] <= time:
+                self.waiting.add(flow)
+                self.moments[flow] += flow.period * BITS_PER_MS
+
+    def sent(self, end: int) -> None:
+        """Its frame has been sent."""
+        if not self.by_timer:
+            self.ready = max(end, self.queued + GAP) if self.left else end
+        self.want(end)
+
+
 def network(chance: random.Random) -> Network:
+    """Units of which one at least keeps no order, or most broadcast, and what they send."""
+    return broadcasting(chance) if chance.random() < 0.4 else without_order(chance)
+
+
+def broadcasting(chance: random.Random) -> Network:
+    """Up to fourteen units with broadcasts, and some urgent flows beside them."""
+    units = range(chance.randint(4, 14))
+    keeps_order = [chance.random() < 0.9 for _ in units]
+    flows: list[Flow] = []
+    for unit in units:
+        for _ in range(chance.choice([0, 1, 1, 2])):
+            number = len(flows) + 1
+            flows.append(Flow(number, unit, None, 6, 0xFE00 + number, chance.choice([9, 14, 18, 28]), chance.choice([100, 500, 1000]), 0, False))
+    for _ in range(chance.randint(1, 8)):
+        number = len(flows) + 1
+        period, priority = chance.choice([(5, 3), (10, 3), (20, 3), (1000, 7), (2000, 7)])
+        flows.append(Flow(number, chance.choice(units), None, priority, 0xFE00 + number, 8, period, 0, False))
+    return Network(chance.sample(range(120), len(units)), keeps_order, flows, 0)
+
+
+def without_order(chance: random.Random) -> Network:
     """Two to five units, of which one at least keeps no order, and what they send."""
     units = range(chance.randint(2, 5))
     keeps_order = [chance.random() < 0.5 for _ in units]
@@ -77,7 +159,7 @@ def network(chance: random.Random) -> Network:
 
 def plan_text(net: Network) -> Iterator[str]:
     """The plan of a network."""
-    yield f"version = 4\ntiming = {{ bitrate = 250000, unplanned = {net.unplanned} }}\n"
+    yield f"version = 4\ntiming = {{ bitrate = 250000, unplanned = {net.unplanned}, broadcast_gap = 10 }}\n"
     for unit, (address, keeps_order) in enumerate(zip(net.addresses, net.keeps_order)):
         queue = "priority" if keeps_order else "any"
         yield f'[[unit]]\nlabel = "U{unit}"\naddress = {address}\nqueue = "{queue}"\nname = {{ identity = {unit + 1} }}\n'
@@ -101,23 +183,24 @@ def message(net: Network, flow: Flow, moment: int, queued: int, chance: random.R
     if flow.length <= 8:
         yield Frame(queued, moment, 80 + 10 * flow.length, identifier(flow.priority, flow.pgn, there, source), flow.sender, flow)
         return
-    own = [60416] + [60160] * -(-flow.length // 7)
+    own = [60416] + [60160] * flow.packets()
     for pgn, unit in [(pgn, flow.sender) for pgn in own] + [(60416, flow.receiver or 0)] * 2:
         ends = (there, source) if unit == flow.sender else (source, there)
         yield Frame(queued + chance.randrange(2), moment, LONGEST, identifier(7, pgn, *ends), unit, flow)
 
 
-def queued_frames(net: Network, chance: random.Random) -> list[Frame]:
-    """What the units queue in a run: mostly all at once, and some of them a little before."""
-    at_once, start, spread = chance.random() < 0.6, chance.randrange(400) + 3000, chance.choice([2, 2, 3, 200, 500, 1500, 2500])
-    first = chance.choice(net.flows) if chance.random() < 0.7 else None
+def queued_frames(net: Network, start: int, chance: random.Random) -> list[Frame]:
+    """What the units queue in a run but for broadcasts: mostly all at once, and some of them a little before."""
+    at_once, spread = chance.random() < 0.6, chance.choice([2, 2, 3, 200, 500, 1500, 2500])
+    flows = [flow for flow in net.flows if not flow.is_broadcast()]
+    first, span = chance.choice(flows) if chance.random() < 0.7 else None, SPAN if flows == net.flows else LONG_SPAN
     frames: list[Frame] = []
-    for flow in net.flows:
+    for flow in flows:
         period, jitter = flow.period * BITS_PER_MS, flow.jitter * BITS_PER_MS
         ready = start - (spread + 1 if flow is first else chance.randrange(spread)) if at_once else chance.randrange(period)
         late = jitter if chance.random() < 0.5 else 0
         moment = ready - late
-        while moment < SPAN:
+        while moment < span:
             held = period if flow.length > 8 and chance.random() < 0.5 else 0
             frames += message(net, flow, moment - held, moment + late, chance)
             moment += period + (chance.randrange(period // 4 + 1) if chance.random() < 0.2 else 0)
@@ -128,16 +211,22 @@ def queued_frames(net: Network, chance: random.Random) -> list[Frame]:
     return sorted(frames, key=lambda frame: frame.queued)
 
 
-def ends(frames: list[Frame], net: Network, chance: random.Random) -> Iterator[tuple[Frame, int]]:
+def ends(frames: list[Frame], net: Network, start: int, chance: random.Random) -> Iterator[tuple[Frame, int]]:
     """Each frame with the bit at which it has been sent. A unit behind the planned ones keeps order; of frames of one identifier
     such a unit offers any."""
     offers = [chance.choice(["first", "last", "least urgent", "least urgent", "any"]) for _ in [*net.addresses, None]]
     by_order = {"first": lambda some: min(some, key=lambda frame: frame.queued), "last": lambda some: max(some, key=lambda frame: frame.queued),
                 "least urgent": lambda some: max(some, key=lambda frame: frame.identifier), "any": chance.choice}
     waiting: dict[int, list[Frame]] = {}
+    at_worst = chance.random() < 0.3
+    senders = [Sender(net, unit, start, at_worst, chance) for unit in {flow.sender for flow in net.flows if flow.is_broadcast()}]
+    sending: dict[int, tuple[Sender, Frame]] = {}
     time = place = 0
     while waiting or place < len(frames):
-        time = time if waiting else max(time, frames[place].queued)
+        time = time if waiting else max(time, min([frames[place].queued, *(sender.time() for sender in senders)]))
+        for sender in [sender for sender in senders if sender.time() <= min(time, LONG_SPAN)]:
+            sending[sender.unit] = sender, sender.frame()
+            waiting.setdefault(sender.unit, []).append(sending[sender.unit][1])
         while place < len(frames) and frames[place].queued <= time:
             waiting.setdefault(frames[place].unit, []).append(frames[place])
             place += 1
@@ -152,6 +241,8 @@ def ends(frames: list[Frame], net: Network, chance: random.Random) -> Iterator[t
         if not waiting[frame.unit]:
             del waiting[frame.unit]
         time += frame.bits
+        if frame is sending.get(frame.unit, (None, None))[1]:
+            sending.pop(frame.unit)[0].sent(time)
         yield frame, time
 
 
@@ -179,7 +270,8 @@ def main(words: list[str]) -> int:
         answer = known[name] if known else subprocess.run(program, input=text, capture_output=True, text=True, check=False).stdout
         told, worst = told_by(answer), dict.fromkeys(range(len(net.flows) + 1), 0)
         for _ in range(RUNS):
-            for frame, end in ends(queued_frames(net, chance), net, chance):
+            start = chance.randrange(400) + 3000
+            for frame, end in ends(queued_frames(net, start, chance), net, start, chance):
                 frames += 1
                 if frame.flow:
                     worst[frame.flow.number] = max(worst[frame.flow.number], end - frame.moment)

@@ -1,13 +1,16 @@
 #!/usr/bin/env python3
-"""Writes a plan at its limits, a schedule for it, and a plan that tells of its bus: make_limits.py PLAN SCHEDULE TIMED
+"""Writes a plan at its limits, a schedule for it, a plan that tells of its bus, and a live plan with a schedule:
+make_limits.py PLAN SCHEDULE TIMED LIVE GOING_OFF
 
 128 units, 256 groups with 64 signals and 512 flows. In the schedule all units start and hear one another's claims, and
 then each sends a message of 64 bytes to all others, packet by packet. In the timed plan every second group has 8 bytes
 in 32 signals, each flow a period, a jitter and a pause, and 512 needs ask for groups, every second one for their age.
+On the live bus 64 messages are open, every second one to all others, and units go off and come on again, one by one.
 """
 import sys
 
 UNITS, GROUPS, SIGNALS, FLOWS, NEEDS = 128, 256, 64, 512, 512
+OPEN, ROUNDS = 64, 20
 
 
 def units():
@@ -66,6 +69,38 @@ def schedule():
         yield f"rest U{sender}"
 
 
-for name, lines in zip(sys.argv[1:], (plan(), schedule(), timed())):
+def live():
+    yield "version = 4\nlive = true"
+    yield from units()
+    yield f'[[group]]\nlabel = "G"\npgn = 126976\npriority = 6\nlength = {SIGNALS}'
+    for sender in range(OPEN):
+        yield f'[[flow]]\ngroup = "G"\nfrom = "U{sender}"\nto = "{"all" if sender % 2 else f"U{sender + OPEN}"}"'
+
+
+def begun(sender):
+    """A message is begun, and its receivers take the announcement."""
+    yield f"begin {sender + 1} {bytes(range(SIGNALS)).hex()}"
+    for receiver in range(UNITS) if sender % 2 else [sender + OPEN]:
+        if receiver != sender:
+            yield f"take U{sender} U{receiver}"
+
+
+def going_off():
+    for unit in range(UNITS):
+        yield f"up U{unit}"
+    for sender in range(OPEN):
+        yield from begun(sender)
+    for _ in range(ROUNDS):
+        for unit in range(UNITS):
+            yield from [f"down U{unit}", f"up U{unit}"]
+            partner = unit - OPEN
+            if unit < OPEN:
+                yield from begun(unit)
+            elif partner % 2 == 0:
+                yield f"rest U{partner}"
+                yield from begun(partner)
+
+
+for name, lines in zip(sys.argv[1:], (plan(), schedule(), timed(), live(), going_off())):
     with open(name, "w") as file:
         file.writelines(f"{line}\n" for line in lines)

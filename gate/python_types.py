@@ -1,5 +1,5 @@
 #!/usr/bin/env python3
-"""Looks at the types of the Python package, of the commands that run it and of the gate by mypy, as tools/mypy.ini says.
+"""Looks at the types of the Python package, of the commands that run it, of their tests and of the gate by mypy, as tools/mypy.ini says.
 
 Exit status: that of mypy.
 """

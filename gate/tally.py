@@ -26,6 +26,7 @@ COMMANDS = (
     ["read", "tractor_and_implement.toml", "tractor_and_implement.start.log"],
     ["follow", "two_units_one_address.toml", "two_units_one_address.drive.log"],
     ["follow", "service_requests.toml", "service_requests.start.log"],
+    ["follow", "--all", "service_requests.toml", "service_requests.start.log"],
     ["--help"],
 )
 

@@ -8,7 +8,7 @@ import json
 import os
 import subprocess
 import warnings
-from collections.abc import Iterable, Iterator, Mapping
+from collections.abc import Generator, Iterable, Iterator, Mapping
 from decimal import Decimal
 from typing import IO, TYPE_CHECKING, Any, NamedTuple
 
@@ -16,7 +16,7 @@ from j39plan import program
 from j39plan.fleet import drives
 from j39plan.fleet.drives import Deviation, Drive
 from j39plan.log import clock, message_lines, readings, reports
-from j39plan.log.reports import Acknowledgement, Claim, Request, Who
+from j39plan.log.reports import Acknowledgement, Claim, Frame, Request, Who
 from j39plan.plan import answers
 from j39plan.plan.answers import Age, Delay, Finding, Load, Stand
 from j39plan.plan.files import text_of
@@ -30,9 +30,9 @@ if TYPE_CHECKING:
     import pandas
 
 __all__ = [
-    "Acknowledgement", "Age", "Asking", "Claim", "Delay", "Deviation", "Drive", "Finding", "Flow", "Group", "Load", "Message", "Need", "Notice",
-    "Plan", "Reading", "Readings", "Refused", "Request", "Signal", "Stand", "Text", "Unit", "Who", "deviations", "drive", "follow", "frame",
-    "read_plan", "signals",
+    "Acknowledgement", "Age", "Asking", "Claim", "Delay", "Deviation", "Drive", "Finding", "Flow", "Frame", "Group", "Load", "Message", "Need",
+    "Notice", "Plan", "Reading", "Readings", "Refused", "Request", "Signal", "Stand", "Text", "Unit", "Who", "deviations", "drive", "follow",
+    "frame", "read_plan", "signals",
 ]
 
 # The columns of a data frame that have few different texts.
@@ -98,7 +98,7 @@ class Plan:
     and `texts`), `Flow` and `Need`, and `requests` as `Asking`; which flows meet a need says `need.is_met_by(flow)`. Of each the keys that aren't
     said have their defaults. Bytes and bits count from 1, lengths are in bytes, widths in bits, periods in ms; the value of a signal's raw number,
     in its `unit`, is `signal.value(raw)`, exactly, and `signal.values` has the names of raw numbers. `strangers` is how many further units may
-    come.
+    come, and `live` whether messages begin while units claim, and units go off in the midst of one.
     """
 
     def __init__(self, name: str, text: str) -> None:
@@ -114,6 +114,7 @@ class Plan:
         self.needs: list[Need] = tables.needs
         self.requests: list[Asking] = tables.requests
         self.strangers: int = tables.strangers
+        self.live: bool = tables.live
         self.tables = tables
 
     def __repr__(self) -> str:
@@ -159,9 +160,11 @@ def read_plan(name: str | os.PathLike[str]) -> Plan:
         return Plan(name, text_of(name))
 
 
-def follow(plan: Plan, log: str | os.PathLike[str]) -> Iterator[Message | Claim | Request | Acknowledgement]:
+def follow(
+    plan: Plan, log: str | os.PathLike[str], *, all_frames: bool = False,
+) -> Generator[Message | Claim | Request | Acknowledgement | Frame, None, None]:
     """The reports of a log of `candump -L`, one by one as `follow` writes them: messages of planned groups, claims, requests, and of a plan
-    with requests acknowledgements.
+    with requests acknowledgements; where all frames are asked for, a `Frame` also of each other one, with its `pgn`, `priority` and `data`.
 
     Of each the `line`, from 1, and the `time` as the log spells it, in brackets; who sent it (`sender`, `to`) or claimed (`who`, and of a unit of any
     serial number the `identity` of its box). A message has its `group`, the number of its `flow`, from 1 and 0 for none, its `data` as hex digits, and its `signals`, by their labels
@@ -172,7 +175,7 @@ def follow(plan: Plan, log: str | os.PathLike[str]) -> Iterator[Message | Claim 
     """
     log, groups = os.fspath(log), {group.label: group for group in plan.groups}
     with open(log, "rb"), _with_program(), program.file_of(plan.text) as copy:
-        words = [program.path(), "follow", "--", copy, log]
+        words = [program.path(), "follow", *(["--all"] if all_frames else []), "--", copy, log]
         with subprocess.Popen(words, stdin=subprocess.DEVNULL, stdout=subprocess.PIPE, stderr=subprocess.PIPE) as process:
             assert process.stdout is not None and process.stderr is not None
             ended, counts = _Ended(), reports.Counts()

@@ -1,7 +1,9 @@
 """What the tests of logs against plans share."""
 
+from collections.abc import Sequence
 from tests import support
 from tests.support import InFolder
+from typing import Any
 
 PLAN = """version = 1
 [[unit]]
@@ -71,7 +73,7 @@ to = "all"
 PUMP_CLAIMS, VALVE_CLAIMS, ET1 = "18EEFF80#0100000000000080", "18EEFF80#0200000000000080", "18FEEE80#7DFFFFFFFFFFFFFF"
 
 
-def run(*words, **more):
+def run(*words: str, **more: Any) -> tuple[int, str, str]:
     """Runs a tool, as support has it; the times beside lines are left out."""
     status, answer, said = support.run(*words, **more)
     return status, support.without_times(answer), said
@@ -80,7 +82,7 @@ def run(*words, **more):
 class Compared(InFolder):
     """Logs compared with a plan."""
 
-    def compared(self, text, frames):
+    def compared(self, text: str, frames: Sequence[str]) -> list[str]:
         """The deviations of a log of these frames from this plan."""
         plan = self.write("plan.toml", text)
         log = self.write("drive.log", "".join(f"({number}.0) can0 {frame}\n" for number, frame in enumerate(frames)))
@@ -89,6 +91,6 @@ class Compared(InFolder):
         self.assertEqual((status, count, said), (1 if found else 0, f"deviations {len(found)}", ""))
         return found
 
-    def deviations(self, *frames):
+    def deviations(self, *frames: str) -> list[str]:
         """The deviations of a log of these frames and of the flows, which stand behind them."""
         return self.compared(PLAN, [*frames, *FLOWS])

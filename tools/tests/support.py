@@ -7,8 +7,13 @@ import subprocess
 import sys
 import tempfile
 import unittest
+from collections.abc import Callable
+from typing import TypeVar
 
 from j39plan import program
+
+T = TypeVar("T")
+C = TypeVar("C", bound=Callable[..., object])
 
 TOOLS = os.path.dirname(os.path.dirname(os.path.realpath(__file__)))
 TOP = os.path.dirname(TOOLS)
@@ -50,23 +55,23 @@ to = "all"
 """
 
 
-def signal(label, byte, bits, kind, more=""):
+def signal(label: str, byte: int, bits: int, kind: str, more: str = "") -> str:
     """The table of a signal, and further lines of it."""
     return f'[[group.signal]]\nlabel = "{label}"\nbyte = {byte}\nbits = {bits}\nkind = "{kind}"\n{more}'
 
 
-def example(name):
+def example(name: str) -> str:
     """The file name of an example."""
     return os.path.join(EXAMPLES, name)
 
 
-def text_of(name):
+def text_of(name: str) -> str:
     """What a file holds."""
     with open(name, encoding="utf-8") as file:
         return file.read()
 
 
-def examples(ending):
+def examples(ending: str) -> list[str]:
     """The file names of all examples with this ending."""
     return sorted(
         os.path.join(folder, name)
@@ -76,13 +81,13 @@ def examples(ending):
     )
 
 
-def shown_refusals():
+def shown_refusals() -> list[tuple[str, str]]:
     """The plan files that docs/PLAN.md shows as refused, each with its answer."""
     page = text_of(os.path.join(TOP, "docs", "PLAN.md"))
     return re.findall(r"```toml\n([^`]*)```\n```text\n(refused [^`]*)```", page)
 
 
-def run(tool, *words, text=None):
+def run(tool: str, *words: str, text: str | None = None) -> tuple[int, str, str]:
     """Runs a tool; its exit status, standard output and standard error."""
     ended = subprocess.run(
         [sys.executable, os.path.join(TOOLS, tool), *words],
@@ -91,12 +96,18 @@ def run(tool, *words, text=None):
     return ended.returncode, ended.stdout, ended.stderr
 
 
-def without_times(answer):
+def without_times(answer: str) -> str:
     """What `against` writes without the times beside its lines."""
     return re.sub(r"(?m)(:\d+:) \(\d+\.\d+\)", r"\1", answer)
 
 
-def needs(module, package):
+def there(value: T | None) -> T:
+    """A value that may be absent, and is there."""
+    assert value is not None
+    return value
+
+
+def needs(module: str, package: str) -> Callable[[C], C]:
     """Skips a test where a module isn't there."""
     there = importlib.util.find_spec(module) is not None
     return unittest.skipUnless(there, f"{module} isn't there: apt-get install {package}")
@@ -105,16 +116,16 @@ def needs(module, package):
 class InFolder(unittest.TestCase):
     """A test with a folder of its own."""
 
-    def setUp(self):
+    def setUp(self) -> None:
         folder = tempfile.TemporaryDirectory()
         self.addCleanup(folder.cleanup)
         self.folder = folder.name
 
-    def path(self, name):
+    def path(self, name: str) -> str:
         """A file name in the folder."""
         return os.path.join(self.folder, name)
 
-    def write(self, name, text):
+    def write(self, name: str, text: str) -> str:
         """Writes a file in the folder and answers its name."""
         with open(self.path(name), "w", encoding="utf-8", newline="") as file:
             file.write(text)

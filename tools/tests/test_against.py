@@ -4,6 +4,7 @@ import random
 import re
 import unittest
 from collections import Counter
+from collections.abc import Sequence
 
 from j39plan import program
 from tests.logs_against import CLAIMS, FLOWS, PLAN, RIVALS, VI, Compared, run
@@ -15,7 +16,7 @@ GROUP = 'version = 1\n[[group]]\nlabel = "VI"\npgn = 65260\npriority = 6\nlength
 LENGTHS = (9, 14, 17)
 
 
-def random_packet(chance):
+def random_packet(chance: random.Random) -> str:
     """A frame of the transport protocol between the addresses 1 and 2, or to all: data mostly, also what breaks the rules."""
     source, destination = chance.choice([("01", "02"), ("02", "01"), ("01", "FF"), ("02", "FF")])
     if chance.random() < 0.7:
@@ -27,10 +28,13 @@ def random_packet(chance):
     return f"1CEC{destination}{source}#{control}{length:02X}00{packets:02X}FF{group}"
 
 
-def acknowledged(lines, reports, length):
+def acknowledged(lines: Sequence[str], reports: str, length: int) -> Counter[tuple[str, str]]:
     """How many messages of VI of this length the receiver says it has, though `follow` reports them not: by the lines of a log of random packets."""
     reported = {int(line) for line in re.findall(r"^(\d+) - group VI ", reports, re.MULTILINE)}
-    transfers, begun, early, found = {}, set(), set(), Counter()
+    transfers: dict[tuple[str, str], bytes] = {}
+    begun: set[tuple[str, str]] = set()
+    early: set[tuple[str, str]] = set()
+    found: Counter[tuple[str, str]] = Counter()
     for number, line in enumerate(lines, 1):
         if len(line) != 25:  # it was cut
             continue
@@ -43,7 +47,8 @@ def acknowledged(lines, reports, length):
                 begun.add((source, to))
         elif line[2:4] == "EC" and data[0] == 255:
             pair = next((pair for pair in ((source, to), (to, source)) if pair in transfers), None)
-            transfers.pop(pair, None)
+            if pair:
+                del transfers[pair]
         elif line[2:4] == "EC" and data[0] == 19 and (to, source) in begun and transfers.get((to, source)) == data[5:]:
             begun.discard((to, source))
             found[to, source] += 1
@@ -56,33 +61,33 @@ def acknowledged(lines, reports, length):
 
 
 class Against(Compared):
-    def test_a_log_as_planned(self):
+    def test_a_log_as_planned(self) -> None:
         self.assertEqual(self.deviations(*CLAIMS), [])
 
-    def test_a_log_without_claims(self):
+    def test_a_log_without_claims(self) -> None:
         self.assertEqual(self.deviations(), [])
 
-    def test_an_unknown_sender(self):
+    def test_an_unknown_sender(self) -> None:
         found = ["L:1: address 5 sends: no unit has it  (2 times)", "L:1: PGN 65265 from 5: no group has it  (2 times)"]
         self.assertEqual(self.deviations("18FEF105#FFFFFFFFFFFFFFFF", "18FEF105#00FFFFFFFFFFFFFF"), found)
 
-    def test_an_unknown_name(self):
+    def test_an_unknown_name(self) -> None:
         self.assertEqual(self.deviations("18EEFF05#0300000001000000"),
                          ["L:1: NAME 0000000100000003 (identity 3, manufacturer 0, function 0) claims address 5: no unit has it"])
 
-    def test_the_log_of_a_run(self):
+    def test_the_log_of_a_run(self) -> None:
         """A unit is switched off and one of a larger NAME takes its address: the frames of the run say who holds it then."""
         plan = self.write("plan.toml", RIVALS % "VALVE")
         frames = program.run(plan, ["up PUMP", "down PUMP", "up VALVE", "begin 1 7DFFFFFFFFFFFFFF"])
         self.assertIn("unit VALVE address 128", frames)
         self.assertEqual(self.compared(RIVALS % "VALVE", [frame for frame in frames if "#" in frame]), [])
 
-    def test_another_length(self):
+    def test_another_length(self) -> None:
         self.assertEqual(self.deviations("18FEEE00#7DFF"), ["L:1: ET1 from ENGINE has 2 bytes, planned are 8"])
         longer = ["1CECFF00#20120003FFECFE00", *VI[1:]]
         self.assertEqual(self.deviations(*longer), ["L:1: VI from ENGINE has 18 bytes, planned are 17"])
 
-    def test_a_message_counts_where_it_was_carried_whole(self):
+    def test_a_message_counts_where_it_was_carried_whole(self) -> None:
         """To one unit, with a packet that was lost and sent again; the acknowledgement is no packet of it."""
         plan = PLAN.replace('from = "ENGINE"\nto = "all"\n', 'from = "ENGINE"\nto = "DISPLAY"\n')
         sent = ["1CEC8000#10110003FFECFE00", "1CEC0080#110301FFFFECFE00", "1CEB8000#01AAAAAAAAAAAAAA", "1CEB8000#03AAAAAAAAAAAAAA",
@@ -92,7 +97,7 @@ class Against(Compared):
         self.assertEqual(self.compared(plan, sent)[:-2], [])
         self.assertEqual(self.compared(plan, sent[:-2])[0::3], [said, never])
 
-    def test_a_message_that_was_announced_and_not_carried(self):
+    def test_a_message_that_was_announced_and_not_carried(self) -> None:
         for kind, frames in {
             "nothing behind it": VI[:1],
             "a packet is missing": [VI[0], VI[1], VI[3]],
@@ -105,17 +110,17 @@ class Against(Compared):
             self.assertTrue(found[0].startswith(f"L:3: VI from ENGINE to {to}: announced, and not carried whole"), (kind, found))
             self.assertEqual(found[-1], "P: flow 3, VI from ENGINE to all: never sent", kind)
 
-    def test_a_message_of_no_group(self):
+    def test_a_message_of_no_group(self) -> None:
         frames = [frame.replace("ECFE00", "EBFE00") for frame in VI]
         self.assertEqual(self.deviations(*frames), ["L:1: PGN 65259 from ENGINE: no group has it"])
         self.assertEqual(self.deviations(*frames[:2]), ["L:1: PGN 65259 from ENGINE: no group has it"])
 
-    def test_a_message_of_a_proprietary_group_that_is_not_planned(self):
+    def test_a_message_of_a_proprietary_group_that_is_not_planned(self) -> None:
         frames = [frame.replace("ECFE00", "00EF00") for frame in VI]
         self.assertEqual(self.deviations(*frames), [])
         self.assertEqual(self.deviations(*frames[:2]), [])
 
-    def test_a_message_while_its_sender_changes(self):
+    def test_a_message_while_its_sender_changes(self) -> None:
         """DISPLAY loses 128 to a NAME that isn't planned, in the middle of its message."""
         frames = [frame.replace("FF00#", "FF80#") for frame in VI]
         self.assertEqual(self.deviations(*frames), ["L:1: VI from DISPLAY to all: no flow"])
@@ -123,7 +128,7 @@ class Against(Compared):
         self.assertEqual(found[0], "L:1: VI from DISPLAY to all: announced, and not put together, since address 128 changed hands at line 3")
         self.assertNotIn("no flow", "".join(found))
 
-    def test_messages_are_carried_whole_where_follow_reports_them(self):
+    def test_messages_are_carried_whole_where_follow_reports_them(self) -> None:
         """In a log of random packets: what was announced soundly and isn't reported is told, and nothing else is."""
         chance = random.Random(1)
         log = self.write("random.log", "".join(f"{random_packet(chance)}\n" for _ in range(20000)))
@@ -135,7 +140,7 @@ class Against(Compared):
             whole = Counter((source, "all" if to == "all" else to[-1]) for source, to in reports)
             begun = Counter((source, "all" if to == "FF" else to[1]) for to, source in announced)
             found = run("against.py", plan, log)[1]
-            told = Counter()
+            told: Counter[tuple[str, str]] = Counter()
             for source, to, times in re.findall(r": VI from (\d) to (\S+): announced, and not carried whole: [^(\n]*(?:  \((\d+) times\))?\n", found):
                 told[source, to] += int(times or 1)
             again = acknowledged(text_of(log).splitlines(), program.call(["follow", plan, log])[1], length)
@@ -143,10 +148,10 @@ class Against(Compared):
             self.assertEqual(told, begun - whole - again)
             self.assertEqual(len(told), 4)
 
-    def test_another_priority(self):
+    def test_another_priority(self) -> None:
         self.assertEqual(self.deviations("0CFEEE00#7DFFFFFFFFFFFFFF"), ["L:1: ET1 from ENGINE has priority 3, planned is 6"])
 
-    def test_proprietary_groups_that_are_planned(self):
+    def test_proprietary_groups_that_are_planned(self) -> None:
         """They are compared as any group; others are passed over."""
         group = '[[group]]\nlabel = "PROP_B"\npgn = 65300\npriority = 6\nlength = 4\n'
         plan = PLAN + group + '[[flow]]\ngroup = "PROP_B"\nfrom = "ENGINE"\nto = "all"\n'
@@ -155,7 +160,7 @@ class Against(Compared):
         found = self.compared(plan, [*FLOWS, "1CFF1400#0011", "18FF1480#00112233", "18FF1500#00"])
         self.assertEqual(found, ["L:7: PROP_B from ENGINE has 2 bytes, planned are 4", "L:8: PROP_B from DISPLAY to all: no flow"])
 
-    def test_private_groups(self):
+    def test_private_groups(self) -> None:
         """Each is told by its flow; what another unit sends with its number is another maker's."""
         group = '[[group]]\nlabel = "%s"\npgn = 65300\npriority = 6\nlength = %d\nprivate = true\n'
         flow = '[[flow]]\ngroup = "%s"\nfrom = "%s"\nto = "all"\n'
@@ -170,7 +175,7 @@ class Against(Compared):
         self.assertEqual(self.compared(plan, [*FLOWS, sent[0], "18FF1480#00112233"]), [
             "L:8: THEIRS from DISPLAY has 4 bytes, planned are 8", silent])
 
-    def test_groups_of_several_lengths(self):
+    def test_groups_of_several_lengths(self) -> None:
         """A message may have each length from the least to the greatest."""
         group = '[[group]]\nlabel = "SOFT"\npgn = 65242\npriority = 6\nlength = 2\nmost = 4\n'
         plan = PLAN.replace("version = 1", "version = 3") + group + '[[flow]]\ngroup = "SOFT"\nfrom = "ENGINE"\nto = "all"\n'
@@ -179,7 +184,7 @@ class Against(Compared):
         self.assertEqual(self.compared(plan, [*CLAIMS, *FLOWS, *sent, "18FEDA00#00", "18FEDA00#0011223344"]), [
             "L:12: SOFT from ENGINE has 1 bytes, planned are 2 to 4", "L:13: SOFT from ENGINE has 5 bytes, planned are 2 to 4"])
 
-    def test_two_groups_of_one_number(self):
+    def test_two_groups_of_one_number(self) -> None:
         """That of the message's length, and of two the first: `check` finds them."""
         group = '[[group]]\nlabel = "%s"\npgn = 65300\npriority = 6\nlength = %d\n'
         flow = '[[flow]]\ngroup = "%s"\nfrom = "%s"\nto = "all"\n'
@@ -188,31 +193,31 @@ class Against(Compared):
         found = self.compared(plan, [*FLOWS, "18FF1400#0011223344556677", "18FF1400#0011", "18FF1480#0011"])
         self.assertEqual(found, ["L:9: SHORT from DISPLAY to all: no flow", "P: flow 6, AGAIN from DISPLAY to all: never sent"])
 
-    def test_flows_that_are_not_planned(self):
+    def test_flows_that_are_not_planned(self) -> None:
         self.assertEqual(self.deviations("18FEEE80#7DFFFFFFFFFFFFFF"), ["L:1: ET1 from DISPLAY to all: no flow"])
         self.assertEqual(self.deviations("0C008000#7DFFFFFFFFFFFFFF"), ["L:1: TSC1 from ENGINE to DISPLAY: no flow"])
         self.assertEqual(self.deviations("0C000980#7DFFFFFFFFFFFFFF"), ["L:1: TSC1 from DISPLAY to 9: no flow"])
 
-    def test_a_flow_that_was_never_sent(self):
+    def test_a_flow_that_was_never_sent(self) -> None:
         plan, log = self.write("plan.toml", PLAN), self.write("drive.log", "")
         found = [f"{plan}: flow {flow}: never sent" for flow in
                  ("1, ET1 from ENGINE to all", "2, TSC1 from DISPLAY to ENGINE", "3, VI from ENGINE to all")]
         self.assertEqual(run("against.py", plan, log), (1, "\n".join([*found, "deviations 3\n"]), f"against: {log} has no frame\n"))
 
-    def test_flows_have_the_numbers_of_the_plan(self):
+    def test_flows_have_the_numbers_of_the_plan(self) -> None:
         """One that stands twice (F11) counts twice, as `check` counts it."""
         plan = self.write("plan.toml", PLAN + '[[flow]]\ngroup = "ET1"\nfrom = "ENGINE"\nto = "all"\n')
         log = self.write("drive.log", "".join(f"(1.0) can0 {frame}\n" for frame in FLOWS[1:]))
         found = [f"{plan}: flow {number}, ET1 from ENGINE to all: never sent" for number in (1, 4)]
         self.assertEqual(run("against.py", plan, log), (1, "\n".join([*found, "deviations 2\n"]), ""))
 
-    def test_what_is_no_deviation(self):
+    def test_what_is_no_deviation(self) -> None:
         services = ["18EAFF00#00EE00", "1CEBFF00#01FFFFFFFFFFFFFF", "18FF1000#00", "18EF8000#00", "1FFFFFFF#", "123#00",
                     "1CC88000#14FA060000ECFE00", "1CC78000#01FFFFFFFFFFFFFF", "18C9FF00#ECFE00", "18CAFF00#ECFE00", "18930000#00",
                     "1C4DFF00#00", "1C4EFF00#00"]
         self.assertEqual(self.deviations(*services), [])
 
-    def test_lines_that_spell_no_frame(self):
+    def test_lines_that_spell_no_frame(self) -> None:
         """They are counted as `read` counts bad lines."""
         plan = self.write("plan.toml", PLAN)
         bad = ["FFFFFFFF#00", "1234#00", "18EAFFFE#00E", "12#", "x", ""]
@@ -221,7 +226,7 @@ class Against(Compared):
         self.assertEqual(run("against.py", plan, log)[2], "against: 6 lines spell no frame\n")
         self.assertIn(" bad 6\n", program.call(["read", plan, log])[1])
 
-    def test_lines_as_read_has_them(self):
+    def test_lines_as_read_has_them(self) -> None:
         """Words are parted by spaces, tabs and carriage returns, lines by line feeds alone; a line has at most 8,192 bytes."""
         plan, frame = self.write("plan.toml", PLAN), "18FEEE00#7DFFFFFFFFFFFFFF"
         lines = [f"(1.0)\tcan0 {frame}\r", f"can0\r{frame}", f"\x0b{frame}", f"{frame}\x0c", f"x\u2003{frame}", " " * 8192,
@@ -231,7 +236,7 @@ class Against(Compared):
         self.assertEqual(counts, "frames 3 skipped 0 bad 6")
         self.assertEqual(run("against.py", plan, log)[2], "against: 6 lines spell no frame\n")
 
-    def test_two_interfaces(self):
+    def test_two_interfaces(self) -> None:
         """The first one is compared; what comes on another one isn't counted twice for its mark. A time is no interface."""
         plan = self.write("plan.toml", PLAN)
         other = [f"(2.0) can1 {frame}\n" for frame in ("18FEF105#FFFFFFFFFFFFFFFF", *VI)]
@@ -240,13 +245,13 @@ class Against(Compared):
         said = "against: can0 is read, the first of the log; 5 lines of can1 are passed over: --interface can1\n"
         self.assertEqual(run("against.py", plan, log), (0, "deviations 0\n", said))
 
-    def test_times_are_no_interfaces(self):
+    def test_times_are_no_interfaces(self) -> None:
         plan = self.write("plan.toml", PLAN)
         for form in ("({}.25) {}", "({}) {}", "can0 {1}", "{1}"):
             log = self.write("drive.log", "".join(form.format(second, frame) + "\n" for second, frame in enumerate(FLOWS)))
             self.assertEqual(run("against.py", plan, log), (0, "deviations 0\n", ""), form)
 
-    def test_words_behind_the_data(self):
+    def test_words_behind_the_data(self) -> None:
         """A direction is passed over, also behind a frame that is marked; what comes so is as long as what comes without."""
         plan = self.write("plan.toml", PLAN)
         frames = [*CLAIMS, *FLOWS, "18FEF100#00", "18FEF100#0011", "18FEEE00#7DFF", "18FEEE00#7DFFFFFFFFFFFFFF"]
@@ -258,7 +263,7 @@ class Against(Compared):
         self.assertIn("deviations 2\n", answers[0][1])
         self.assertEqual(answers, answers[:1] * 4)
 
-    def test_needs(self):
+    def test_needs(self) -> None:
         """Those that nothing met in the log, by the flows that meet them; with the signal and the unit."""
         plan = PLAN.replace("version = 1", "version = 4").replace("length = 8\n", 'length = 8\n[[group.signal]]\nlabel = "S"\nbyte = 1\nbits = 8\n'
                                                                   'kind = "raw"\n', 1)
@@ -273,7 +278,7 @@ class Against(Compared):
         self.assertEqual(found, ["P: need 1, ET1 by DISPLAY: nothing met it", "P: need 2, ET1 S by DISPLAY: nothing met it", none[0],
                                  "P: need 5, VI by DISPLAY: nothing met it", none[1]])
 
-    def test_requests(self):
+    def test_requests(self) -> None:
         """What the plan asks for and nobody answers in time, or at all, or what is refused; each with its line."""
         plan, log = example("service_requests.toml"), example("service_requests.start.log")
         silent, late, refused = (
@@ -292,13 +297,13 @@ class Against(Compared):
         busy = self.write("busy.log", text_of(log).replace("18E8F90F#01", "18E8F90F#03"))
         self.assertIn("request 3, ERC1 from TOOL to RETARDER: is told that it can't be answered now", run("against.py", plan, busy)[1])
 
-    def test_an_abort(self):
+    def test_an_abort(self) -> None:
         """Who gives a message up, and why."""
         plan = PLAN.replace('from = "ENGINE"\nto = "all"\n', 'from = "ENGINE"\nto = "DISPLAY"\n')
         sent = ["1CEC8000#10110003FFECFE00", "1CEC0080#FF03FFFFFFECFE00"]
         self.assertIn("L:2: VI from ENGINE to DISPLAY: given up by DISPLAY, reason 3 (timeout)", self.compared(plan, sent))
 
-    def test_several_logs(self):
+    def test_several_logs(self) -> None:
         """One drive in several files: lines are those of their own file, and what goes over their border is whole."""
         lines = [f"(1.{number}) can0 {frame}" for number, frame in enumerate([*FLOWS, "18FEF100#00", "18FEF105#00"])]
         first, second = self.write("a.log", "\n".join(lines[:4])), self.write("b.log", "\n".join(lines[4:]))
@@ -307,13 +312,13 @@ class Against(Compared):
             f"{second}:3: PGN 65265 from ENGINE: no group has it\n", f"{second}:4: address 5 sends: no unit has it\n",
             f"{second}:4: PGN 65265 from 5: no group has it\n", "deviations 3\n"]), ""))
 
-    def test_plans_of_toml_1_1(self):
+    def test_plans_of_toml_1_1(self) -> None:
         for text in (NEWER, MARKED):
             plan, log = self.write("plan.toml", text), self.write("drive.log", "(1.0) can0 18FEEE00#7DFFFFFFFFFFFFFF\n")
             silent = f"{plan}: unit B: neither claimed an address nor sent anything\n"
             self.assertEqual(run("against.py", plan, log), (1, f"{silent}deviations 1\n", ""))
 
-    def test_what_cannot_be_compared(self):
+    def test_what_cannot_be_compared(self) -> None:
         log = self.write("drive.log", "")
         for plan, status, said in [
             (example("findings/f07_signal_outside.toml"), 1,

@@ -5,11 +5,12 @@ import json
 import os
 import re
 import unittest
+from typing import Any
 
 from j39plan import program
 from j39plan.plan import answer_grammar
 from j39plan.plan.answers import Age, Delay, load_of, stands
-from tests.support import TOP, InFolder, example, run, text_of
+from tests.support import InFolder, TOP, example, run, text_of, there
 
 CASES = os.path.join(TOP, "crates", "examples_check", "data")
 
@@ -41,31 +42,31 @@ SAID = [
 
 
 class Grammar(unittest.TestCase):
-    def test_each_form(self):
+    def test_each_form(self) -> None:
         for text, kind, parts in SAID:
             self.assertEqual(answer_grammar.line_of(text), (kind, parts, text))
 
-    def test_what_is_said(self):
+    def test_what_is_said(self) -> None:
         """Behind what names a unit, a flow or a need, whatever these are called."""
         for text, said in (("unit stays stays 3", "stays 3"), ("flow 1 within 1 all late of 10000 us", "late of 10000 us"),
                            ("need 2 B G S old of 20000 us", "old of 20000 us"), ("need 3 B age age 640 of 2000 us", "age 640 of 2000 us")):
             self.assertEqual(answer_grammar.line_of(text).said, said)
 
-    def test_what_is_no_line(self):
+    def test_what_is_no_line(self) -> None:
         """A word more or less, a label with another sign, a number that is none."""
         for text, _, _ in SAID[:5] + SAID[11:]:
             for other in (text + " X", text.rpartition(" ")[0] + " -", "X " + text, text + "\n"):
                 with self.assertRaises(answer_grammar.Unknown, msg=other):
                     answer_grammar.line_of(other)
 
-    def test_each_finding_of_the_page(self):
+    def test_each_finding_of_the_page(self) -> None:
         """The grammar has the findings of docs/FINDINGS.md, with as many labels and numbers each."""
         listed = re.findall(r"^\| \[?`(F\d+ \w+(?: \w+)*)`", text_of(os.path.join(TOP, "docs", "FINDINGS.md")), re.MULTILINE)
         self.assertGreaterEqual(len(listed), 27)
         self.assertEqual([form.split()[:2] + [len(form.split())] for form in answer_grammar.FINDINGS],
                          [line.split()[:2] + [len(line.split())] for line in listed])
 
-    def test_each_stored_row(self):
+    def test_each_stored_row(self) -> None:
         """All that `check`, `addresses` and `load` are known to answer is understood, and what is understood is all that stands there."""
         seen = set()
         for ending in ("check", "addresses", "load"):
@@ -83,28 +84,28 @@ class Grammar(unittest.TestCase):
 
 
 class Objects(InFolder):
-    def answer(self, command, plan, status):
+    def answer(self, command: str, plan: str, status: int) -> Any:
         """What the tool writes of a plan, but for its name and its status."""
         ended, answer, said = run("answer.py", command, plan)
         found = json.loads(answer)
         self.assertEqual((ended, said, found.pop("plan"), found.pop("status")), (status, "", plan, status))
         return found
 
-    def test_check(self):
+    def test_check(self) -> None:
         plan = example("findings/f10_flow_to_self.toml")
         found = {"finding": "F10", "name": "FlowToSelf", "flow": 1, "text": "F10 FlowToSelf 1", "line": 25,
                  "hint": "TSC1 from ENGINE to ENGINE: key to: the sender itself"}
         self.assertEqual(self.answer("check", plan, 1), {"findings": [found]})
         self.assertEqual(run("answer.py", "check", plan)[1], run("where.py", "--json", plan)[1])
 
-    def test_addresses(self):
+    def test_addresses(self) -> None:
         """Where units stand; findings in their place, with their lines."""
         units = [{"unit": "ENGINE", "stays": True, "address": 0}, {"unit": "RETARDER", "stays": True, "address": 15}]
         self.assertEqual(self.answer("addresses", example("axle.toml"), 0), {"units": units})
         (found,) = self.answer("addresses", example("findings/f02_same_fixed_address.toml"), 1)["findings"]
         self.assertEqual((found["finding"], found["line"], found["steps"][0]), ("F2", 18, "up RETARDER"))
 
-    def test_load(self):
+    def test_load(self) -> None:
         """Delays, ages and the load; a plan that says nothing of its bus; one that can't be read."""
         told = self.answer("load", example("axle.toml"), 0)
         self.assertEqual(told["flows"][0], {"flow": 1, "group": "TSC1", "from": "RETARDER", "to": "ENGINE", "within": 1280, "limit": 10000})
@@ -113,19 +114,19 @@ class Objects(InFolder):
         refused = {"cause": "Range", "place": "top", "key": "version", "text": "refused Range top key version", "line": 1, "hint": "version = 9: integer 1..4"}
         self.assertEqual(self.answer("load", self.write("plan.toml", "version = 9\n"), 2), {"refused": refused})
 
-    def test_a_command_that_there_is_not(self):
+    def test_a_command_that_there_is_not(self) -> None:
         status, answer, said = run("answer.py", "read", example("axle.toml"))
         self.assertEqual((status, answer, said.splitlines()[-1].partition(": error: ")[2][:31]), (2, "", "argument COMMAND: invalid choic"))
 
-    def test_tables_of_answers(self):
+    def test_tables_of_answers(self) -> None:
         """The same as tuples, for the tools and the module."""
         text = "".join(f"{line}\n" for line, kind, _ in SAID if kind in ("flow", "need", "load"))
         load = load_of(text)
-        self.assertEqual(load.taken, (640, 250000))
-        self.assertEqual(load.delays, [Delay(1, 640, 10000, 1), Delay(2, None, 10000, 1), Delay(3, None, None, 4), Delay(4, 605760, None, 4),
+        self.assertEqual(there(load).taken, (640, 250000))
+        self.assertEqual(there(load).delays, [Delay(1, 640, 10000, 1), Delay(2, None, 10000, 1), Delay(3, None, None, 4), Delay(4, 605760, None, 4),
                                        Delay(5, 605760, 606000, 4), Delay(6, None, 605000, 4)])
-        self.assertEqual(load.ages, [Age(1, 20640, 21000), Age(2, None, 20000)])
-        self.assertEqual((load_of("refused plan NoTiming\n"), load_of("F16 NoPeriod 1\nfindings 1\n").taken), (None, None))
+        self.assertEqual(there(load).ages, [Age(1, 20640, 21000), Age(2, None, 20000)])
+        self.assertEqual((load_of("refused plan NoTiming\n"), there(load_of("F16 NoPeriod 1\nfindings 1\n")).taken), (None, None))
         self.assertEqual(stands("unit A stays 3\nunit B may move from 128\nstay 1 of 2\n"), {"A": (True, 3), "B": (False, 128)})
         self.assertEqual(stands(program.call(["addresses", example("findings/f02_same_fixed_address.toml")])[1]), {})
 

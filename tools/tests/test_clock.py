@@ -2,17 +2,18 @@
 
 import random
 import unittest
+from collections.abc import Iterator
 
 from j39plan.log.clock import DAY, SECOND, Clock
 
 
-def spelled(rng, at):
+def spelled(rng: random.Random, at: int) -> str:
     """A time as a log may spell it: mostly in microseconds."""
     seconds, rest = divmod(at, SECOND)
     return rng.choice([f"({seconds}.{rest // 1000:06})"] * 8 + [f"({seconds}.{rest:09})", f"({seconds}.{rest // 10**8})", f"({seconds})", "-", "(x.123456)"])
 
 
-def times_of(rng):
+def times_of(rng: random.Random) -> Iterator[str]:
     """Times that go on, stand still, come out of order, and of a clock that is set."""
     at = rng.choice((0, 9_999 * SECOND, 1_700_009_998 * SECOND))
     for _ in range(300):
@@ -22,7 +23,7 @@ def times_of(rng):
 
 
 class Clocks(unittest.TestCase):
-    def test_what_surely_goes_on_need_not_be_seen(self):
+    def test_what_surely_goes_on_need_not_be_seen(self) -> None:
         rng, passed, told = random.Random(5), 0, 0
         for _ in range(60):
             all_seen, some_seen = Clock(), Clock()
@@ -37,7 +38,7 @@ class Clocks(unittest.TestCase):
         self.assertGreater(passed, 3000)
         self.assertGreater(told, 1000)
 
-    def test_times_that_do_not_surely_go_on(self):
+    def test_times_that_do_not_surely_go_on(self) -> None:
         clock = Clock()
         for time, goes_on in (("(1700000000.000001)", False), ("(1700000000.000001)", True), ("(1700009999.999999)", True), ("(1700010000.000000)", False),
                               ("(1700010000.000000)", True), ("(1700010000.00000)", False), ("(1700010000.000000)", False), ("(1700005000.000000)", False),

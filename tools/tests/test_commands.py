@@ -8,15 +8,15 @@ from tests.support import TOP, text_of
 
 
 class Commands(unittest.TestCase):
-    def setUp(self):
+    def setUp(self) -> None:
         self.commands = set(re.findall(r"^  (\w+) ", program.call(["--help"])[1].partition("Commands:\n")[2].partition("\n\n")[0], re.MULTILINE)) - {"help"}
         self.assertGreaterEqual(len(self.commands), 8)
 
-    def test_the_gate_tries_each(self):
+    def test_the_gate_tries_each(self) -> None:
         tried = set(re.findall(r'^    \["(\w+)"', text_of(f"{TOP}/gate/tally.py"), re.MULTILINE))
         self.assertEqual(self.commands - tried, set())
 
-    def test_the_rows_have_each(self):
+    def test_the_rows_have_each(self) -> None:
         rows = re.findall(r"^    (\w+),$", text_of(f"{TOP}/crates/j39_vectors/src/row.rt").partition("enum Command")[2].partition("}")[0], re.MULTILINE)
         self.assertEqual(self.commands - {row.lower() for row in rows}, set())
 

@@ -7,7 +7,9 @@ import random
 import resource
 import tomllib
 import unittest
+from collections.abc import Sequence
 from types import SimpleNamespace
+from typing import Any
 
 from j39plan import program
 from j39plan.dbc import to_plan
@@ -40,13 +42,13 @@ UNITS = ["", "rpm", "°C", "µm³", "日", "k" * 33, "\"\\", "km/h\n", "%"]
 ATTRIBUTES = [*NAME_ATTRIBUTES.values(), IDENTITY_ATTRIBUTE, ("NmStationAddress", 253), ("NmJ1939AAC", 1)]
 
 
-def processor_seconds():
+def processor_seconds() -> float:
     """How long programs that were called have run on a processor."""
     used = resource.getrusage(resource.RUSAGE_CHILDREN)
     return used.ru_utime + used.ru_stime
 
 
-def random_ecu(canmatrix, chance, number):
+def random_ecu(canmatrix: Any, chance: random.Random, number: int) -> Any:
     """A node with some of the usual attributes, within their ranges and without."""
     ecu = canmatrix.Ecu(chance.choice(NAMES) + str(number))
     for attribute, most in ATTRIBUTES:
@@ -55,7 +57,7 @@ def random_ecu(canmatrix, chance, number):
     return ecu
 
 
-def random_signal(canmatrix, chance, nodes):
+def random_signal(canmatrix: Any, chance: random.Random, nodes: list[str]) -> Any:
     """A signal that often can't be carried over."""
     return canmatrix.Signal(
         chance.choice(NAMES), start_bit=chance.randrange(70), size=chance.choice([1, 2, 3, 8, 12, 16, 24, 32, 33, 64]),
@@ -67,7 +69,7 @@ def random_signal(canmatrix, chance, nodes):
     )
 
 
-def random_frame(canmatrix, chance, nodes, number):
+def random_frame(canmatrix: Any, chance: random.Random, nodes: list[str], number: int) -> Any:
     """A frame that often can't be carried over."""
     known = [0x0CF00400, 0x18FEEE00, 0x0C000003, 0x18EF0000, 0x18FF1000, 0x18EEFF00, 0x1BFEEE00]
     ident = chance.choice([*known, chance.randrange(2**29)])
@@ -82,10 +84,10 @@ def random_frame(canmatrix, chance, nodes, number):
 
 @needs("canmatrix", "python3-canmatrix")
 class Units(WithDbc):
-    def test_units(self):
+    def test_units(self) -> None:
         plan, said = self.plan()
-        units = [{"label": "ENGINE", "address": 0, "name": {"manufacturer": 310}},
-                 {"label": "RETARDER", "address": 15, "name": {"function": 10, "industry": 1, "arbitrary": True}}]
+        units: list[dict[str, Any]] = [{"label": "ENGINE", "address": 0, "name": {"manufacturer": 310}},
+                                       {"label": "RETARDER", "address": 15, "name": {"function": 10, "industry": 1, "arbitrary": True}}]
         self.assertEqual(plan["unit"], units)
         for unit, number in (("ENGINE", 4711), ("RETARDER", 4712)):
             self.assertIn(f"unit {unit}, NmJ1939IdentityNumber: {number} is left away: each box has a number of its own", said)
@@ -97,16 +99,16 @@ class Units(WithDbc):
         self.assertIn("unit TOOL: no address is given", said)
         self.assertIn("unit RETARDER, NmJ1939ManufacturerCode: 3000 is outside 0..2047", said)
 
-    def test_an_address_by_the_frames(self):
+    def test_an_address_by_the_frames(self) -> None:
         plan, said = self.plan(data='BU_: A B\nBO_ 2364539909 EEC1: 8 A\n SG_ S : 0|8@1+ (1,0) [0|0] "" B\n')
         self.assertEqual([(unit["label"], unit["address"]) for unit in plan["unit"]], [("A", 5)])
         self.assertEqual((plan["unit"][0]["name"], said), ({}, ["unit B: no address is given", "1 units 1 groups 1 flows, notes 1"]))
 
-    def test_frames_from_several_addresses(self):
+    def test_frames_from_several_addresses(self) -> None:
         _, said = self.plan(data=NODES + message(FROM_0, "EEC1", "ENGINE") + message(0x18FEEE17, "ET1", "ENGINE"))
         self.assertIn("unit ENGINE: its frames come from several addresses", said)
 
-    def test_a_default_is_no_identity_and_no_address(self):
+    def test_a_default_is_no_identity_and_no_address(self) -> None:
         """Nodes that have only defaults of the file would all be one unit. A version that asks for a number gets a free one."""
         plan, said = self.plan("--version", "3", data=NODES + message(FROM_0, "EEC1", "ENGINE") + (
             'BA_DEF_ BU_ "NmJ1939IdentityNumber" INT 0 2097151;\n'
@@ -115,12 +117,12 @@ class Units(WithDbc):
         for name, identity in (("ENGINE", 1), ("RETARDER", 2)):
             self.assertIn(f"unit {name}: no identity number is given: {identity} stands in its place", said)
 
-    def test_a_free_identity_is_one_that_no_node_has(self):
+    def test_a_free_identity_is_one_that_no_node_has(self) -> None:
         plan, _ = self.plan("--version", "3", data=NODES + message(FROM_0, "EEC1", "ENGINE") + (
             'BA_DEF_ BU_ "NmJ1939IdentityNumber" INT 0 2097151;\nBA_ "NmJ1939IdentityNumber" BU_ RETARDER 1;\n'))
         self.assertEqual([unit["name"]["identity"] for unit in plan["unit"]], [2, 1])
 
-    def test_numbers_that_tell_units_apart(self):
+    def test_numbers_that_tell_units_apart(self) -> None:
         """Two boxes of one kind keep theirs: the plan fits one vehicle then. One of another kind has none."""
         numbers = ('BA_DEF_ BU_ "NmJ1939IdentityNumber" INT 0 2097151;\nBA_DEF_ BU_ "NmJ1939Function" INT 0 255;\n'
                    'BA_ "NmJ1939Function" BU_ TOOL 129;\nBA_ "NmStationAddress" BU_ TOOL 249;\n'
@@ -133,13 +135,13 @@ class Units(WithDbc):
             f"unit ENGINE: {kept.format(5, 'RETARDER')}", f"unit RETARDER: {kept.format(6, 'ENGINE')}",
             "unit TOOL, NmJ1939IdentityNumber: 7 is left away: each box has a number of its own"])
 
-    def test_a_default_that_units_share_is_said(self):
+    def test_a_default_that_units_share_is_said(self) -> None:
         plan, said = self.plan(data=NODES + (
             'BA_DEF_ BU_ "NmJ1939ManufacturerCode" INT 0 2047;\nBA_DEF_DEF_ "NmJ1939ManufacturerCode" 310;\n'))
         self.assertEqual(plan["unit"][0]["name"], {"manufacturer": 310})
         self.assertIn("unit RETARDER, NmJ1939ManufacturerCode: 310 is the default of the file", said)
 
-    def test_attributes_that_are_no_numbers(self):
+    def test_attributes_that_are_no_numbers(self) -> None:
         for value in ("NaN", "sNaN", "Infinity", "1E999999999", "-1", "7.5", '"seven"', "300"):
             plan, said = self.plan(data=NODES + message(FROM_0, "EEC1", "ENGINE") + f'BA_ "NmStationAddress" BU_ ENGINE {value};\n')
             self.assertEqual(plan["unit"][0]["address"], 0)
@@ -148,7 +150,7 @@ class Units(WithDbc):
 
 @needs("canmatrix", "python3-canmatrix")
 class Groups(WithDbc):
-    def test_groups(self):
+    def test_groups(self) -> None:
         plan, _ = self.plan()
         shown = [(group["label"], group["pgn"], group["priority"], group["length"]) for group in plan["group"]]
         self.assertEqual(shown, [("EEC1", 61444, 3, 8), ("ET1", 65262, 6, 7), ("TSC1", 0, 3, 8), ("ODD", 65220, 6, 8),
@@ -157,14 +159,14 @@ class Groups(WithDbc):
         self.assertNotIn("MAKER", [group["label"] for group in self.plan("--version", "2")[0]["group"]])
         self.assertIn("group MAKER: PGN 65296 is proprietary", self.plan("--version", "2")[1])
 
-    def test_flows(self):
+    def test_flows(self) -> None:
         plan, _ = self.plan()
         shown = [(flow["group"], flow["from"], flow["to"]) for flow in plan["flow"]]
         self.assertEqual(shown, [("EEC1", "ENGINE", "all"), ("ET1", "ENGINE", "all"), ("TSC1", "RETARDER", "ENGINE"),
                                  ("ODD", "ENGINE", "all"), ("MAKER", "ENGINE", "all"), ("EEC1", "RETARDER", "all"),
                                  ("ET1", "RETARDER", "all")])
 
-    def test_what_is_left_out(self):
+    def test_what_is_left_out(self) -> None:
         _, said = self.plan()
         for line in [
             "signal MOTOROLA of ODD: its most significant byte comes first",
@@ -176,7 +178,7 @@ class Groups(WithDbc):
             self.assertIn(line, said)
         self.assertIn("group ET1_OTHER: its length is 7, that of ET1 is 8", self.plan("--version", "3")[1])
 
-    def test_messages_of_several_lengths(self):
+    def test_messages_of_several_lengths(self) -> None:
         """They are of one group, of whose signals only the longer ones have the later ones; earlier versions can't say that."""
         first, second, third = 'A : 0|16@1+ (1,0) [0|0] "" X', 'B : 16|8@1+ (1,0) [0|0] "" X', 'C : 24|16@1+ (1,0) [0|0] "" X'
         outside = 'D : 40|8@1+ (1,0) [0|0] "" X'
@@ -196,7 +198,7 @@ class Groups(WithDbc):
         self.assertEqual((older["length"], older.get("most"), len(older["signal"])), (5, None, 3))
         self.assertIn("group EEC1_B: its length is 2, that of EEC1 is 5", said)
 
-    def test_a_text_behind_the_shortest_message(self):
+    def test_a_text_behind_the_shortest_message(self) -> None:
         """A plan's text begins where the shortest messages end at the latest."""
         told = 'BA_DEF_ SG_ "SigType" ENUM "Default","ASCII";\nBA_ "SigType" SG_ {} {} 1;\n'
         for byte, is_kept in ((3, True), (4, False)):
@@ -206,14 +208,14 @@ class Groups(WithDbc):
             self.assertEqual(len(plan["group"][0].get("text", [])), is_kept)
             self.assertEqual("signal T of EEC1: it is text that begins after the 2 bytes of the shortest message" in said, not is_kept)
 
-    def test_no_destination_from_the_null_address(self):
+    def test_no_destination_from_the_null_address(self) -> None:
         """Identifiers that stand for a group alone have the source 254, and at the destination's place what means nothing."""
         tsc1 = 'SPN695 : 0|2@1+ (1,0) [0|3] "" RETARDER'
         for identifier, receiver in ((0x0C0000FE, "RETARDER"), (0x0C000F00, "RETARDER"), (0x0C00FFFE, "all")):
             plan, _ = self.plan(data=NODES + message(FROM_0, "EEC1", "ENGINE") + message(identifier, "TSC1", "ENGINE", tsc1))
             self.assertIn({"group": "TSC1", "from": "ENGINE", "to": receiver}, plan["flow"])
 
-    def test_groups_of_makers(self):
+    def test_groups_of_makers(self) -> None:
         """Those of one number are told from one another by who sends them to whom."""
         for number, (first, second, groups) in enumerate((
             ((0x18FF1000, "ENGINE", 8), (0x18FF100F, "RETARDER", 7), ["ONE", "TWO"]),      # each from a unit of its own
@@ -238,12 +240,12 @@ class Groups(WithDbc):
                 status, answer = program.call(["check", self.path("plan.toml")])
                 self.assertEqual(status, 0, answer)
 
-    def test_a_flow_to_itself(self):
+    def test_a_flow_to_itself(self) -> None:
         plan, said = self.plan(data=NODES + message(0x0C000F0F, "TSC1", "RETARDER"))
         self.assertNotIn("flow", plan)
         self.assertIn("flow of TSC1 from RETARDER: it goes to the unit itself", said)
 
-    def test_frames_of_one_group_mean_the_same(self):
+    def test_frames_of_one_group_mean_the_same(self) -> None:
         """Of two frames of one PGN the group has what the first one says; what the second says otherwise is noted, and at its flow too."""
         first, table = 'SPN1 : 8|8@1+ (1,-40) [0|0] "" RETARDER', 'VAL_ {} SPN1 254 "hot" ;\n'.format(FROM_15 | 1 << 31)
         scale, unit, kept = "has another factor or offset", "has another unit of measurement", "signal SPN1 of EEC1_B: SPN1 of EEC1 {}; only that one is in the plan"
@@ -266,17 +268,17 @@ class Groups(WithDbc):
             self.assertEqual('"laid out otherwise: SPN1"' in text, bool(other))
             self.assertEqual([signal["byte"] for signal in plan["group"][0]["signal"]], [2])
 
-    def test_a_group_has_one_priority(self):
+    def test_a_group_has_one_priority(self) -> None:
         plan, said = self.plan(data=NODES + message(FROM_0, "EEC1", "ENGINE") + message(0x18F0040F, "AGAIN", "RETARDER"))
         self.assertEqual((len(plan["group"]), plan["group"][0]["priority"], len(plan["flow"])), (1, 3, 2))
         self.assertIn("group AGAIN: its priority is 6, that of EEC1 is 3", said)
 
-    def test_a_choice(self):
+    def test_a_choice(self) -> None:
         self.assertEqual([group["label"] for group in self.plan("--sender", "RETARDER")[0]["group"]],
                          ["TSC1", "EEC1_AGAIN", "ET1_OTHER"])
         self.assertEqual([group["label"] for group in self.plan("--group", "61444")[0]["group"]], ["EEC1"])
 
-    def test_a_choice_of_nothing(self):
+    def test_a_choice_of_nothing(self) -> None:
         for words, why in (
             (["--sender", "Nobody"], "--sender Nobody: no frame in it is from this unit"),
             (["--sender", "TOOL"], "--sender TOOL: no frame in it is from this unit"),
@@ -287,7 +289,7 @@ class Groups(WithDbc):
         ):
             self.assertEqual(self.made(*words), (2, "", [f"dbc2plan: {self.path('file.dbc')}: {why}"]))
 
-    def test_what_is_said_is_counted(self):
+    def test_what_is_said_is_counted(self) -> None:
         _, said = self.plan()
         self.assertEqual(said[-1], f"2 units 5 groups 7 flows 6 needs, notes {len(said) - 1}")
 
@@ -300,37 +302,37 @@ DEEP = 'PAGE m3M : 8|8@1+ (1,0) [0|0] "" RETARDER', 'DEEP m4 : 16|8@1+ (1,0) [0|
 
 @needs("canmatrix", "python3-canmatrix")
 class Multiplexed(WithDbc):
-    def groups(self, *signals, identifier=FROM_0, name="EEC1", more="", words=()):
+    def groups(self, *signals: str, identifier: int = FROM_0, name: str = "EEC1", more: str = "", words: Sequence[str] = ()) -> tuple[Any, list[str]]:
         """What the groups are called, the value by which each is told, and its signals; and what is said of groups and signals."""
         plan, said = self.plan(*words, data=NODES + message(identifier, name, "ENGINE", *signals) + more)
         shown = [(group["label"], group.get("when", {}).get("value"), [signal["label"] for signal in group.get("signal", [])])
                  for group in plan["group"]]
         return shown, [line for line in said if line.startswith(("group ", "signal "))]
 
-    def test_a_group_for_each_value(self):
+    def test_a_group_for_each_value(self) -> None:
         shown, said = self.groups(AXLE, STATE, LEFT, RIGHT)
         self.assertEqual(shown, [("EEC1_m1", 1, ["AXLE", "STATE", "LEFT"]), ("EEC1_m2", 2, ["AXLE", "STATE", "RIGHT"])])
         self.assertEqual(said, [])
 
-    def test_its_keys(self):
+    def test_its_keys(self) -> None:
         plan, _ = self.plan(data=NODES + message(FROM_0, "EEC1", "ENGINE", STATE, LEFT, AXLE.replace("0|4", "28|3")))
         self.assertEqual(plan["group"][0]["when"], {"byte": 4, "bit": 5, "bits": 3, "value": 1})
         self.assertEqual(plan["flow"], [{"group": "EEC1_m1", "from": "ENGINE", "to": "all"}])
         self.assertEqual(plan["need"], [{"unit": "RETARDER", "group": "EEC1_m1"}])
 
-    def test_ranges_of_values(self):
+    def test_ranges_of_values(self) -> None:
         more = f"SG_MUL_VAL_ {FROM_0 | 1 << 31} RIGHT AXLE 2-3, 5-5;\n"
         shown, _ = self.groups(AXLE, RIGHT, LEFT, more=more)
         self.assertEqual([(label, signals) for label, _, signals in shown], [
             ("EEC1_m1", ["AXLE", "LEFT"]), ("EEC1_m2", ["AXLE", "RIGHT"]), ("EEC1_m3", ["AXLE", "RIGHT"]), ("EEC1_m5", ["AXLE", "RIGHT"])])
 
-    def test_what_another_signal_selects(self):
+    def test_what_another_signal_selects(self) -> None:
         more = "".join(f"SG_MUL_VAL_ {FROM_0 | 1 << 31} {one};\n" for one in ("LEFT AXLE 1-1", "PAGE AXLE 3-3", "DEEP PAGE 4-4"))
         shown, said = self.groups(AXLE, LEFT, *DEEP, more=more)
         self.assertEqual(shown, [("EEC1_m1", 1, ["AXLE", "LEFT"]), ("EEC1_m3", 3, ["AXLE", "PAGE"])])
         self.assertEqual(said, ["signal DEEP of EEC1: it is multiplexed by PAGE, which not each message has"])
 
-    def test_multiplexors_that_can_not_be(self):
+    def test_multiplexors_that_can_not_be(self) -> None:
         for selector, why in (
             (AXLE.replace("1+", "1-"), "its multiplexor AXLE can't be one: it is signed"),
             (AXLE.replace("0|4", "62|4"), "its multiplexor AXLE can't be one: it lies outside of the 8 bytes"),
@@ -341,38 +343,38 @@ class Multiplexed(WithDbc):
             self.assertIn(f"group EEC1: {why}", said)
             self.assertIn("signal LEFT of EEC1: it is multiplexed", said)
 
-    def test_a_value_that_the_bits_do_not_hold(self):
+    def test_a_value_that_the_bits_do_not_hold(self) -> None:
         shown, said = self.groups(AXLE, LEFT, RIGHT.replace("m2", "m16"))
         self.assertEqual([label for label, _, _ in shown], ["EEC1_m1"])
         self.assertEqual(said, ["group EEC1: its multiplexor AXLE of 4 bits is never 16"])
 
-    def test_more_than_a_plan_can_have(self):
+    def test_more_than_a_plan_can_have(self) -> None:
         signals = [f'S{value} m{value} : 16|8@1+ (1,0) [0|0] "" RETARDER' for value in range(300)]
         shown, said = self.groups(AXLE.replace("0|4", "0|16"), *signals)
         self.assertEqual([value for _, value, _ in shown], list(range(256)))
         self.assertEqual(said, ["group EEC1: a plan has at most 256 groups: taken are the first values of AXLE"])
 
-    def test_a_message_of_its_number_that_is_not_so(self):
+    def test_a_message_of_its_number_that_is_not_so(self) -> None:
         more = message(FROM_15, "EEC1_R", "RETARDER", STATE)
         shown, said = self.groups(AXLE, LEFT, more=more)
         self.assertEqual([(label, value) for label, value, _ in shown], [("EEC1", None)])
         self.assertIn("group EEC1: it is multiplexed, and not all messages of its number are so by the same bits", said)
 
-    def test_one_of_two_senders(self):
+    def test_one_of_two_senders(self) -> None:
         more = message(FROM_15, "EEC1_R", "RETARDER", AXLE, RIGHT)
         shown, _ = self.groups(AXLE, LEFT, more=more)
         self.assertEqual([label for label, _, _ in shown], ["EEC1_m1", "EEC1_R_m2"])
 
-    def test_a_makers_own_one(self):
+    def test_a_makers_own_one(self) -> None:
         shown, said = self.groups(AXLE, LEFT, RIGHT, identifier=0x0CEFFF00, name="M" * 32)
         self.assertEqual([label for label, _, _ in shown], ["M" * 29 + "_m1", "M" * 29 + "_m2"])
         self.assertEqual(said, [])
 
-    def test_what_is_left_out_is_said_once(self):
+    def test_what_is_left_out_is_said_once(self) -> None:
         _, said = self.groups(AXLE, LEFT, RIGHT, 'BIG : 32|16@0+ (1,0) [0|0] "" RETARDER')
         self.assertEqual(said, ["signal BIG of EEC1: its most significant byte comes first"])
 
-    def test_its_cycle_time(self):
+    def test_its_cycle_time(self) -> None:
         more = f'BA_DEF_ BO_ "GenMsgCycleTime" INT 0 65535;\nBA_ "GenMsgCycleTime" BO_ {FROM_0 | 1 << 31} 100;\n'
         _, said = self.groups(AXLE, LEFT, RIGHT, more=more)
         self.assertEqual(said, ["group EEC1: each of the 2 groups that it becomes has its cycle time of 100 ms"])
@@ -380,7 +382,7 @@ class Multiplexed(WithDbc):
 
 @needs("canmatrix", "python3-canmatrix")
 class Signals(WithDbc):
-    def test_exact_factors(self):
+    def test_exact_factors(self) -> None:
         signals = self.signals()
         self.assertEqual(signals["SPN190"], {"label": "SPN190", "byte": 4, "bits": 16, "kind": "measured", "per": 8, "unit": "rpm"})
         self.assertEqual(signals["SPN512"]["offset"], -125)
@@ -390,7 +392,7 @@ class Signals(WithDbc):
         self.assertEqual(signals["SIGNED"], {"label": "SIGNED", "byte": 4, "bits": 8, "kind": "signed"})
         self.assertEqual((signals["SPN4154"]["kind"], signals["SPN4154"]["bit"]), ("raw", 5))
 
-    def test_the_earlier_version(self):
+    def test_the_earlier_version(self) -> None:
         """It has fractions in the units of measurement, and neither signed signals nor states; version 3 has no names of values, and of
         messages of several lengths the first one's."""
         plan, said = self.plan("--version", "2")
@@ -408,7 +410,7 @@ class Signals(WithDbc):
         states, _ = self.plan("--version", "2", data=STATES)
         self.assertEqual({signal["kind"] for signal in states["group"][0]["signal"]}, {"raw", "discrete"})
 
-    def test_needs(self):
+    def test_needs(self) -> None:
         """Of each unit and group one, where the unit receives a signal of it from another one; none in an earlier version."""
         plan, said = self.plan()
         needs = [("RETARDER", "EEC1"), ("RETARDER", "ET1"), ("ENGINE", "TSC1"), ("RETARDER", "ODD"), ("RETARDER", "MAKER"), ("ENGINE", "EEC1")]
@@ -418,7 +420,7 @@ class Signals(WithDbc):
             less, said = self.plan(*words)
             self.assertEqual(("need" in less, "needs" in said[-1]), (False, False), words)
 
-    def test_a_need_that_nothing_meets(self):
+    def test_a_need_that_nothing_meets(self) -> None:
         """Nobody sends it, or it goes to somebody else: that is said, and check finds it. What only its receiver sends is no need."""
         signal = 'S : 0|8@1+ (1,0) [0|0] "" {}'
         for identifier, sender, receiver, unmet in (
@@ -431,19 +433,19 @@ class Signals(WithDbc):
             told = f"need of G by {receiver}: no unit of the plan sends it there"
             self.assertEqual((told in said, "F19 NeedUnmet 1\n" in program.call(["check", self.path("plan.toml")])[1]), (bool(unmet), bool(unmet)))
 
-    def test_what_is_left_out_of_a_group_of_a_maker(self):
+    def test_what_is_left_out_of_a_group_of_a_maker(self) -> None:
         _, said = self.plan(data=NODES + message(FROM_0, "EEC1", "ENGINE") + message(0x18FF1000, "ONE", "ENGINE") + (
             message(0x18FF1000, "TWO", "ENGINE", length=7) + message(0x18FF11FE, "THREE", "Vector__XXX")))
         self.assertIn("group TWO: ONE has the same PGN 65296 from the same unit to the same receiver, and is another group", said)
         self.assertIn("group THREE: PGN 65297 is proprietary, and no unit in the plan sends it to another one", said)
 
-    def test_a_version_that_there_is_not(self):
+    def test_a_version_that_there_is_not(self) -> None:
         for version in ("1", "5", "x"):
             status, plan, said = self.made("--version", version)
             self.assertEqual((status, plan), (2, ""), said)
         self.assertRegex(run("dbc2plan.py", "--version")[1], r"\Adbc2plan \(j39plan\) [\d.]+\n\Z")
 
-    def test_signed_signals(self):
+    def test_signed_signals(self) -> None:
         """Each raw number of two bits and more is a value; one bit has no room for a sign."""
         signals = self.signals(data=NODES + message(
             FROM_0, "EEC1", "ENGINE", 'BIT : 0|1@1- (1,0) [0|0] "" RETARDER', 'TWO : 1|2@1- (0.5,-1) [0|0] "A" RETARDER',
@@ -458,18 +460,18 @@ class Signals(WithDbc):
         answer = program.call(["read", self.path("plan.toml"), log])[1]
         self.assertIn("  TWO value -2 A\n  ALL value -0.0000001 deg\n", answer)
 
-    def test_states_by_tables_of_values(self):
+    def test_states_by_tables_of_values(self) -> None:
         kinds = {label: signal["kind"] for label, signal in self.signals(data=STATES).items()}
         self.assertEqual(kinds, {"LAMP": "states", "GEAR": "states", "SWITCH": "discrete", "TURNED": "raw", "OPEN": "raw"})
         log = self.write("drive.log", "0CF00400#37FEFFFFFFFFFFFF\n")
         answer = program.call(["read", self.path("plan.toml"), log])[1]
         self.assertIn("  LAMP absent\n  GEAR fault 254\n", answer)
 
-    def test_kinds_by_tables_of_values(self):
+    def test_kinds_by_tables_of_values(self) -> None:
         kinds = [(label, signal["kind"]) for label, signal in self.signals("--group", "TSC1").items()]
         self.assertEqual(kinds, [("SPN695", "discrete"), ("SPN897", "raw"), ("SPN518", "measured")])
 
-    def test_a_selector_is_a_signal(self):
+    def test_a_selector_is_a_signal(self) -> None:
         """In a version whose groups aren't told by their data."""
         plan, said = self.plan("--version", "3", data=NODES + message(
             FROM_0, "EEC1", "ENGINE", 'PAGE M : 0|8@1+ (1,0) [0|0] "" RETARDER', 'FIRST m0 : 8|8@1+ (1,0) [0|0] "" RETARDER',
@@ -478,7 +480,7 @@ class Signals(WithDbc):
         for name in ("FIRST", "SECOND"):
             self.assertIn(f"signal {name} of EEC1: it is multiplexed", said)
 
-    def test_places_that_a_group_does_not_have(self):
+    def test_places_that_a_group_does_not_have(self) -> None:
         data = NODES + message(
             FROM_0, "EEC1", "ENGINE", 'FIRST : 0|16@1+ (1,0) [0|0] "" RETARDER', 'OVER : 14|2@1+ (1,0) [0|0] "" RETARDER',
             'NEXT : 16|8@1+ (1,0) [0|0] "" RETARDER', 'BEHIND : 56|16@1+ (1,0) [0|0] "" RETARDER',
@@ -493,7 +495,7 @@ class Signals(WithDbc):
         kept = [*places, "signal LAST of EEC1: it overlaps BEHIND"]
         self.assertEqual([line for line in said if line.startswith("signal ")], [f"{line}, and is kept" for line in kept])
 
-    def test_numbers_of_any_size(self):
+    def test_numbers_of_any_size(self) -> None:
         for factor, offset, why in (
             ("1E999999", "0", "factor 1E+999999 is no step of 1 to 1000000"),
             ("0", "0", "factor 0 is no step of 1 to 1000000"),
@@ -507,7 +509,7 @@ class Signals(WithDbc):
         _, said = self.plan(data=NODES + message(FROM_0, "EEC1", "ENGINE", 'SPN1 : 0|0@1+ (1,0) [0|0] "" RETARDER'))
         self.assertIn("signal SPN1 of EEC1: it has no bits", said)
 
-    def test_units_of_measurement(self):
+    def test_units_of_measurement(self) -> None:
         for spelled, written in (("°C", "degC"), ("日本", "??"), ("\\m³", "\\m3"), ("k" * 40, "k" * 32), ("µg\tl", "ug l")):
             signal = f'SPN1 : 0|8@1+ (1,0) [0|0] "{spelled}" RETARDER'
             plan, said = self.plan(data=(NODES + message(FROM_0, "EEC1", "ENGINE", signal)).encode())
@@ -519,7 +521,7 @@ class Signals(WithDbc):
 class Periods(InFolder):
     """Cycle times of frames as canmatrix hands them out, as periods of flows."""
 
-    def plan(self, *frames, version=3):
+    def plan(self, *frames: Any, version: int = 3) -> tuple[list[Any], list[str], list[str]]:
         """The flows with their periods, the remarks of the flows and what is said, of frames of one PGN from one node."""
         ecu = SimpleNamespace(name="A", attributes={"NmStationAddress": "5", "NmJ1939IdentityNumber": "7"}, comment=None)
         ecu.attribute = lambda name, _: ecu.attributes.get(name)
@@ -534,7 +536,7 @@ class Periods(InFolder):
         flows = [flow.finished() for flow in plan.flows.values()]
         return [flow.keys.get("period") for flow in flows], [told for flow in flows for told in flow.remarks], said.getvalue().splitlines()
 
-    def frame(self, cycle_time, *signals):
+    def frame(self, cycle_time: int, *signals: Any) -> SimpleNamespace:
         """A frame of this cycle time, 0 for none, and of signals with theirs."""
         ident = SimpleNamespace(extended=True, pgn=61444, j1939_priority=3, j1939_pdu_format=2, j1939_ps=4, j1939_source=5)
         parts = [field(f"S{number}", 8 * number, 8, False) for number in range(len(signals))]
@@ -543,28 +545,28 @@ class Periods(InFolder):
         return SimpleNamespace(name="EEC1", arbitration_id=ident, size=8, transmitters=["A"], cycle_time=cycle_time, signals=parts,
                                is_fd=False, attributes={}, comment=None)
 
-    def test_periods(self):
+    def test_periods(self) -> None:
         """The frame's own, else what divides those of its signals."""
         for times, period in (((20,), 20), ((0,), None), ((0, 100, 0), 100), ((0, 20, 30), 10), ((50, 10, 20), 50), ((65535,), 65535),
                               ((1,), 1)):
             self.assertEqual(self.plan(times), ([period], [], []), times)
 
-    def test_what_is_no_period(self):
+    def test_what_is_no_period(self) -> None:
         for time in (65536, -1):
             self.assertEqual(self.plan((time,)), ([None], [f"{time} ms"], [f"group EEC1: its cycle time of {time} ms is no period of 1 to 65535 ms"]))
 
-    def test_two_frames_of_one_flow(self):
+    def test_two_frames_of_one_flow(self) -> None:
         said = ["flow of EEC1 from A to all: its cycle times are 50 and 20 ms: the lesser one is its period"]
         self.assertEqual(self.plan((50,), (20,)), ([20], [], said))
         self.assertEqual(self.plan((0,), (20,)), ([20], [], []))
         self.assertEqual(self.plan((20,), (0,)), ([20], [], []))
 
-    def test_the_earlier_version(self):
+    def test_the_earlier_version(self) -> None:
         """It has them as remarks."""
         self.assertEqual(self.plan((20,), version=2), ([None], ["20 ms"], []))
 
 
-def field(name, start, size, is_text=True):
+def field(name: str, start: int, size: int, is_text: bool = True) -> SimpleNamespace:
     """A signal as canmatrix hands it out: text of a SYM file, which a DBC file can't say, or a number."""
     return SimpleNamespace(
         name=name, size=size, is_ascii=is_text, is_signed=False, is_float=False, is_little_endian=True, factor=1, offset=0, unit="",
@@ -573,13 +575,13 @@ def field(name, start, size, is_text=True):
 
 
 class Texts(InFolder):
-    def tables(self, frame, version):
+    def tables(self, frame: Any, version: int) -> list[Any]:
         """The tables of a frame's signals."""
         signals = PlannedSignals(range(frame.size, frame.size + 1), Notes(), False, version)
         signals.take(frame, frame.name)
         return signals.tables(lambda _: [])
 
-    def test_texts(self):
+    def test_texts(self) -> None:
         """Of whole bytes, where the plan's version has them; one may lie over a signal."""
         frame = SimpleNamespace(name="VI", size=8, signals=[
             field("COUNT", 0, 8, False), field("NAME", 8, 56), field("OVER", 0, 16), field("ODD", 0, 12), field("FAR", 56, 16)])
@@ -598,7 +600,7 @@ class Texts(InFolder):
 class Remarks(WithDbc):
     """What a plan has no key for stands behind the labels."""
 
-    def test_what_a_file_says_beside(self):
+    def test_what_a_file_says_beside(self) -> None:
         number = FROM_0 | 1 << 31
         text, _ = self.text(data=NODES + message(FROM_0, "EEC1", "ENGINE", 'SPN190 : 24|16@1+ (0.125,0) [0|0] "rpm" RETARDER',
                                                 'STATE : 0|2@1+ (1,0) [0|0] "" RETARDER') + (
@@ -619,7 +621,7 @@ class Remarks(WithDbc):
         ):
             self.assertIn(line, text.splitlines())
 
-    def test_names_of_signed_numbers(self):
+    def test_names_of_signed_numbers(self) -> None:
         """A plan has them as the bits do; what no bits have stands beside, and is said."""
         number = FROM_0 | 1 << 31
         text, said = self.text(data=NODES + message(FROM_0, "EEC1", "ENGINE", 'GEAR : 24|4@1- (1,0) [0|0] "" RETARDER') + (
@@ -628,7 +630,7 @@ class Remarks(WithDbc):
         self.assertIn('values = { 0 = "neutral", 15 = "reverse" }', text.splitlines())
         self.assertIn("16 of its table of values is no number of its 4 bits: it stands in the comment", " ".join(said))
 
-    def test_names_that_are_no_labels(self):
+    def test_names_that_are_no_labels(self) -> None:
         long = "Engine_Requested_Torque_Torque_Limit"
         text, _ = self.text(data=NODES + message(FROM_0, long + "_1", "ENGINE", f'{long} : 24|16@1+ (1,0) [0|0] "" RETARDER',
                                                  f'{long}_2 : 40|8@1+ (1,0) [0|0] "" RETARDER'))
@@ -636,7 +638,7 @@ class Remarks(WithDbc):
         for line in (f'label = "{label}"  # {name}' for name, label in labels.items()):
             self.assertIn(line, text.splitlines())
 
-    def test_long_names(self):
+    def test_long_names(self) -> None:
         """A DBC has a name of more than 32 characters as an attribute, beside a shorter one by which all else calls the thing."""
         number = FROM_0 | 1 << 31
         text, said = self.text(data=NODES + message(FROM_0, "EEC1", "ENGINE", 'SPEED : 24|16@1+ (1,0) [0|0] "" RETARDER') + (
@@ -648,14 +650,14 @@ class Remarks(WithDbc):
             self.assertIn(f"label = {line}", text.splitlines())
         self.assertEqual(said[-1], "2 units 1 groups 1 flows 1 needs, notes 0")
 
-    def test_a_plan_that_is_too_long(self):
+    def test_a_plan_that_is_too_long(self) -> None:
         """The program takes a file of at most 16 MiB."""
         data = NODES + message(FROM_0, "EEC1", "ENGINE") + f'CM_ BO_ {FROM_0 | 1 << 31} "{"long " * 3_400_000}";\n'
         status, plan, said = self.made(data=data)
         self.assertEqual((status, plan), (2, ""))
         self.assertTrue(said[-1].endswith(": its plan has more than 16777216 bytes: choose groups by --sender or --group"), said)
 
-    def test_frames_that_are_of_one_group(self):
+    def test_frames_that_are_of_one_group(self) -> None:
         text, _ = self.text(data=NODES + message(FROM_0, "EEC1", "ENGINE") + message(FROM_15, "AGAIN", "RETARDER") + (
             f'BA_DEF_ BO_ "GenMsgCycleTime" INT 0 65535;\nBA_ "GenMsgCycleTime" BO_ {FROM_0 | 1 << 31} 20;\n'
             f'BA_ "GenMsgCycleTime" BO_ {FROM_15 | 1 << 31} 50;\n'))
@@ -666,7 +668,7 @@ class Remarks(WithDbc):
 
 @needs("canmatrix", "python3-canmatrix")
 class Whole(WithDbc):
-    def test_what_it_writes_can_be_read(self):
+    def test_what_it_writes_can_be_read(self) -> None:
         """Files of random nodes, frames and signals, of which much can't be carried over; no signal of them is at a wrong place."""
         import_canmatrix()
         import canmatrix
@@ -694,7 +696,7 @@ class Whole(WithDbc):
         self.assertGreater(needed, 5)
 
     @unittest.skipUnless(os.path.exists(CANMATRIX_J1939), "canmatrix's j1939.dbc isn't there")
-    def test_the_groups_of_canmatrix(self):
+    def test_the_groups_of_canmatrix(self) -> None:
         begin = processor_seconds()
         status, plan, said = run("dbc2plan.py", CANMATRIX_J1939)
         self.assertLess(processor_seconds() - begin, 5)
@@ -708,7 +710,7 @@ class Whole(WithDbc):
         self.assertIn("Engine_Speed value 12000", program.call(["read", name, log])[1])
 
     @unittest.skipUnless(os.path.exists(CANMATRIX_J1939), "canmatrix's j1939.dbc isn't there")
-    def test_the_groups_of_canmatrix_as_they_are(self):
+    def test_the_groups_of_canmatrix_as_they_are(self) -> None:
         status, plan, _ = run("dbc2plan.py", "--strict", CANMATRIX_J1939)
         self.assertEqual(status, 0)
         answer = program.call(["check", self.write("plan.toml", plan)])[1].splitlines()
@@ -722,7 +724,7 @@ class Whole(WithDbc):
 class FromOthers(InFolder):
     """The same groups and signals come out of the other formats, as canmatrix writes them."""
 
-    def test_formats(self):
+    def test_formats(self) -> None:
         import_canmatrix()
         import canmatrix.formats
         with open(self.path("file.dbc"), "w", encoding="iso-8859-1", errors="replace") as file:
@@ -743,7 +745,7 @@ class FromOthers(InFolder):
                 "SPN695": (0, 1, 1, 2), "SPN897": (0, 1, 5, 2), "SPN518": (0, 4, 1, 8),
             }, ending)
 
-    def places(self, plan):
+    def places(self, plan: str) -> dict[str, tuple[int, int, int, int]]:
         """Where the signals of a plan lie: PGN, byte, bit and width."""
         return {
             signal["label"]: (group["pgn"], signal["byte"], signal.get("bit", 1), signal["bits"])

@@ -7,6 +7,7 @@ import json
 import random
 import tomllib
 import unittest
+from typing import Any
 
 from j39plan.cli import dbc2plan
 from j39plan.left_out import Notes
@@ -39,14 +40,14 @@ def at(node: str, address: int) -> str:
 
 @needs("canmatrix", "python3-canmatrix")
 class Agreement(WithDbc):
-    def of(self, *data: str, words: tuple[str, ...] = ()) -> tuple[dict, list[str]]:
+    def of(self, *data: str, words: tuple[str, ...] = ()) -> tuple[dict[str, Any], list[str]]:
         """The plan of files `a.dbc`, `b.dbc` and so on, and what is said without their folder."""
         names = [self.write(f"{chr(97 + place)}.dbc", text) for place, text in enumerate(data)]
         status, plan, said = run("dbc2plan.py", *words, *names)
         self.assertEqual(status, 0, said)
         return tomllib.loads(self.checked(plan)), said.replace(self.folder + "/", "").splitlines()
 
-    def test_one_signal_at_two_places(self):
+    def test_one_signal_at_two_places(self) -> None:
         """By its name, or by its number where the names differ; the earlier file's place is in the plan."""
         for label in ("Speed", "WheelSpeed"):
             first = "BU_: EMS\n" + message(CCVS, "CCVS", "EMS", SPEED.format(8)) + SPN + number(CCVS, "Speed", 84)
@@ -57,12 +58,12 @@ class Agreement(WithDbc):
                 f"b.dbc: signal {label} of CCVS: it is at 6.1, 16 bits, and Speed of CCVS in a.dbc at 2.1, 16 bits; only that one is in the plan"])
             self.assertEqual(run("dbc2plan.py", "--fail-on-notes", self.path("a.dbc"), self.path("b.dbc"))[0], 1)
 
-    def test_one_message_of_two_numbers(self):
+    def test_one_message_of_two_numbers(self) -> None:
         plan, said = self.of("BU_: EMS\n" + message(CCVS, "CCVS", "EMS"), "BU_: EMS\n" + message(CCVS + 0x200, "CCVS", "EMS"))
         self.assertEqual([(group["label"], group["pgn"]) for group in plan["group"]], [("CCVS", 65265), ("CCVS_2", 65267)])
         self.assertEqual(said[:-1], ["b.dbc: group CCVS: its PGN is 65267, that of CCVS in a.dbc of EMS is 65265: it is called CCVS_2"])
 
-    def test_another_number_or_range_of_a_signal(self):
+    def test_another_number_or_range_of_a_signal(self) -> None:
         first, other = ("BU_: EMS\n" + message(CCVS, "CCVS", "EMS", SPEED.format(8).replace("250.99609375", most)) + SPN + number(CCVS, "Speed", spn)
                         for most, spn in (("250.99609375", 84), ("120", 517)))
         plan, said = self.of(first, other)
@@ -70,7 +71,7 @@ class Agreement(WithDbc):
         self.assertEqual(said[:-1], ["b.dbc: signal Speed of CCVS: its range is 0..120, and 0..250.99609375 in CCVS in a.dbc, as in the plan",
                                      "b.dbc: signal Speed of CCVS: its SPN is 517, and 84 in CCVS in a.dbc, as in the plan"])
 
-    def test_a_label_with_a_number_is_told(self):
+    def test_a_label_with_a_number_is_told(self) -> None:
         """Of two groups of one name, and of two signals whose names have one label."""
         long = "A" * 32
         plan, said = self.of("BU_: EMS TCU\n" + message(CCVS, "CCVS", "EMS", f'{long}x : 0|8@1+ (1,0) [0|0] "" TCU', f'{long}y : 8|8@1+ (1,0) [0|0] "" TCU')
@@ -80,7 +81,7 @@ class Agreement(WithDbc):
         self.assertEqual(said[:-1], [f"signal {long}y of CCVS: it is called {long[:30]}_2: {long} is another signal of the group",
                                      "group STATE: its PGN is 65296, that of STATE is 65296: it is called STATE_2"])
 
-    def test_a_file_without_a_table_contradicts_nothing(self):
+    def test_a_file_without_a_table_contradicts_nothing(self) -> None:
         """Whichever comes first: the table that there is says which numbers are values."""
         bare = "BU_: EMS\n" + message(CCVS, "CCVS", "EMS", MODE, STATE)
         full = bare + named(CCVS, "Mode", '0 "off" 1 "on"') + named(CCVS, "State", '2 "c" 3 "d"')
@@ -96,7 +97,7 @@ class Agreement(WithDbc):
         with open(self.path("plan.toml"), encoding="utf-8") as file:
             return file.read()
 
-    def test_tables_that_contradict(self):
+    def test_tables_that_contradict(self) -> None:
         """A number of two names, and a table by which other numbers are values; names that only one file has are joined."""
         first = "BU_: EMS\n" + message(CCVS, "CCVS", "EMS", MODE, STATE) + named(CCVS, "Mode", '0 "off" 1 "on"') + named(CCVS, "State", '2 "error"')
         other = "BU_: EMS\n" + message(CCVS, "CCVS", "EMS", MODE, STATE) + named(CCVS, "Mode", '1 "open" 2 "shut"') + named(CCVS, "State", '2 "c"')
@@ -107,14 +108,14 @@ class Agreement(WithDbc):
             'b.dbc: signal Mode of CCVS: it has another table of values; the plan has that of CCVS in a.dbc: 1 is "open", there "on"',
             "b.dbc: signal State of CCVS: it has another table of values, by which it is raw; the plan has that of CCVS in a.dbc"])
 
-    def test_another_name_at_the_same_bits(self):
+    def test_another_name_at_the_same_bits(self) -> None:
         plan, said = self.of("BU_: EMS\n" + message(CCVS, "CCVS", "EMS", SPEED.format(8)),
                              "BU_: EMS\n" + message(CCVS, "CCVS", "EMS", SPEED.format(8).replace("Speed", "WheelBasedVehicleSpeed")))
         self.assertEqual([signal["label"] for signal in plan["group"][0]["signal"]], ["Speed"])
         self.assertEqual(said[:-1], ["b.dbc: signal WheelBasedVehicleSpeed of CCVS: it is called Speed, as in CCVS in a.dbc"])
         self.assertRegex(self.text_of_plan(), r'label = "Speed"  # "WheelBasedVehicleSpeed in \S*b\.dbc"\n')
 
-    def test_a_message_without_a_sender(self):
+    def test_a_message_without_a_sender(self) -> None:
         """It is of the unit at its source address; where another file says the same nothing is to be noted."""
         own, heard = "BU_: EMS\n" + message(EEC1, "EEC1", "EMS"), "BU_: ICL\n" + message(CCVS, "CCVS", "Vector__XXX", 'S : 0|8@1+ (1,0) [0|0] "" ICL')
         end = ADDRESS + at("EMS", 0), ADDRESS + at("ICL", 23)
@@ -125,7 +126,7 @@ class Agreement(WithDbc):
         _, said = self.of(own + message(CCVS, "CCVS", "EMS") + end[0], heard + end[1])
         self.assertEqual(said[:-1], [])
 
-    def test_frames_of_other_protocols(self):
+    def test_frames_of_other_protocols(self) -> None:
         """Extended frames that the file says to be none of J1939; where it calls none so, nothing is known of them."""
         data = "BU_: EMS\n" + message(EEC1, "EEC1", "EMS") + message(0x18DA00F1, "UDS_REQ", "EMS") + FORMAT
         uds = f'BA_ "VFrameFormat" BO_ {0x18DA00F1 | 1 << 31} 1;\n'
@@ -136,7 +137,7 @@ class Agreement(WithDbc):
         plan, said = self.of(data + 'BA_DEF_DEF_ "VFrameFormat" "ExtendedCAN";\n')
         self.assertEqual([group["label"] for group in plan["group"]], ["EEC1", "UDS_REQ"])
 
-    def test_units_of_two_names(self):
+    def test_units_of_two_names(self) -> None:
         """Of two files, at one address, it is asked whether they are one; --same says so, --address where a node is."""
         one = "BU_: EMS\n" + message(EEC1, "EEC1", "EMS")
         two = "BU_: ENGINE TCU\n" + message(ET1, "ET1", "ENGINE") + 'BO_ 291 SHORT: 8 TCU\n SG_ T : 0|8@1+ (1,0) [0|0] "" ENGINE\n'
@@ -179,7 +180,7 @@ PLANTED = {
 
 @needs("canmatrix", "python3-canmatrix")
 class Orders(WithDbc):
-    def made_of(self, files: dict[str, str]) -> tuple[dict, list[dict]]:
+    def made_of(self, files: dict[str, str]) -> tuple[dict[str, Any], list[dict[str, Any]]]:
         """The plan of these files, and the notes."""
         names = [self.write(f"{name}.dbc", text) for name, text in files.items()]
         notes = Notes()
@@ -198,12 +199,12 @@ class Orders(WithDbc):
         return found
 
     @staticmethod
-    def tables(plan: dict) -> set[str]:
+    def tables(plan: dict[str, Any]) -> set[str]:
         """The tables of a plan, in no order."""
         groups = [{**group, "signal": sorted(group.get("signal", []), key=json.dumps)} for group in plan["group"]]
         return {json.dumps(table, sort_keys=True) for table in itertools.chain(plan["unit"], groups, plan["flow"], plan["need"])}
 
-    def test_the_order_of_files_changes_nothing(self):
+    def test_the_order_of_files_changes_nothing(self) -> None:
         whole, notes = self.made_of(SUPPLIERS)
         speed, mode = (next(signal for signal in whole["group"][0]["signal"] if signal["label"] == label) for label in ("Rpm", "Mode"))
         self.assertEqual((speed["spn"], mode["kind"], mode["values"]), (190, "raw", {"0": "idle", "1": "pedal"}))
@@ -217,7 +218,7 @@ class Orders(WithDbc):
             self.assertEqual(self.tables(plan), self.tables(whole), list(files))
             self.assertEqual(sorted(map(json.dumps, told)), sorted(map(json.dumps, notes)))
 
-    def test_what_contradicts_is_told_in_each_order(self):
+    def test_what_contradicts_is_told_in_each_order(self) -> None:
         """With the signal, and both files; and no signal has a number behind its name."""
         for name, (before, now, what) in PLANTED.items():
             self.assertIn(before, SUPPLIERS[name])

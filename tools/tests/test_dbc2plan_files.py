@@ -25,7 +25,7 @@ NODES = "BU_: ENGINE CLUSTER\n\n"
 
 @needs("canmatrix", "python3-canmatrix")
 class WhatCanmatrixSays(WithDbc):
-    def test_lines_that_it_cannot_read(self):
+    def test_lines_that_it_cannot_read(self) -> None:
         """What it prints is no part of the plan. The number that it prints is wrong behind a table of values."""
         data = NODES + message(EEC1, "EEC1", "ENGINE", SPEED, 'BAD : 0|8@1+ (1;0) [0|0] "" CLUSTER') + (
             f'VAL_ {EEC1 | 1 << 31} SPN190 65535 "not available" ;\nBA_ "SPN" SG_ {EEC1 | 1 << 31} MISSING 190;\r\n')
@@ -37,7 +37,7 @@ class WhatCanmatrixSays(WithDbc):
         ])
         self.assertEqual(said[-1], f"1 units 1 groups 1 flows, notes {len(said) - 1}")
 
-    def test_signals_of_a_message_that_it_cannot_read(self):
+    def test_signals_of_a_message_that_it_cannot_read(self) -> None:
         """They would be the signals of the message before it."""
         data = NODES + message(EEC1, "EEC1", "ENGINE", SPEED) + f"BO_ {ET1 | 1 << 31} ET1: 8\n SG_ " + SPEED.replace("24|", "0|")
         data += "\n" + message(ET1 + 0x100, "NEXT", "ENGINE", SPEED)
@@ -48,7 +48,7 @@ class WhatCanmatrixSays(WithDbc):
             "line 7: the message of this signal, at line 6, can't be read",
         ])
 
-    def test_errors_that_it_logs(self):
+    def test_errors_that_it_logs(self) -> None:
         _, said = self.plan(data=NODES + message(EEC1, "EEC1", "ENGINE", SPEED) + 'VAL_ 5 NOWHERE 0 "off" ;\n')
         logged = [line for line in said if line.startswith("canmatrix: ")]
         self.assertEqual(logged, ["canmatrix: Error with Line: ['0 ', 'off', ' ']"])
@@ -61,7 +61,7 @@ class Spelling(WithDbc):
         plan, _ = self.plan(data=data)
         return [signal.get("unit", "") for signal in plan["group"][0]["signal"]]
 
-    def test_encodings(self):
+    def test_encodings(self) -> None:
         """A line is UTF-8, else cp1252; a byte that is none of both costs a character and no signal."""
         head, tail = b'S%d : %d|8@1+ (1,0) [0|0] "', b'" CLUSTER'
         for units, spelled in (
@@ -73,13 +73,13 @@ class Spelling(WithDbc):
             data = (NODES + message(EEC1, "EEC1", "ENGINE")).encode().rstrip() + b"\n" + b"\n".join(signals) + b"\n"
             self.assertEqual(self.units_of(data), spelled)
 
-    def test_ends_of_lines(self):
+    def test_ends_of_lines(self) -> None:
         text = NODES + message(EEC1, "EEC1", "ENGINE", SPEED)
         for end in ("\n", "\r\n", "\r"):
             self.assertEqual(self.units_of(text.replace("\n", end).encode()), ["rpm"])
             self.assertEqual(self.units_of(b"\xef\xbb\xbf" + text.replace("\n", end).encode()), ["rpm"])
 
-    def test_the_plan_is_utf_8(self):
+    def test_the_plan_is_utf_8(self) -> None:
         """Whatever the terminal has."""
         data = NODES + message(EEC1, "EEC1", "ENGINE", SPEED) + f'CM_ SG_ {EEC1 | 1 << 31} SPN190 "Drehzahl, 日, für 3 Gänge";\n'
         name = self.write("file.dbc", data)
@@ -88,7 +88,7 @@ class Spelling(WithDbc):
                                    env={**os.environ, "PYTHONIOENCODING": encoding})
             self.assertIn('label = "SPN190"  # "Drehzahl, 日, für 3 Gänge"\n', self.checked(ended.stdout.decode()))
 
-    def test_names_of_files(self):
+    def test_names_of_files(self) -> None:
         for name, shown in (("a\nlabel = 1.dbc", "a label = 1.dbc"), ("\udce4 ä.dbc", "? ä.dbc"), ("\x1b[1m.DBC", "?[1m.DBC")):
             os.rename(self.write("file.dbc", DBC), self.path(name))
             status, plan, said = run("dbc2plan.py", self.path(name))
@@ -112,7 +112,7 @@ class NoPlan(WithDbc):
         self.assertNotIn("Traceback", said)
         return last.removeprefix(f"dbc2plan: {self.path(name)}: ")
 
-    def test_files_of_another_kind(self):
+    def test_files_of_another_kind(self) -> None:
         noise = random.Random(1939).randbytes(20000)
         log, plan = b"(1.0) can0 0CF00400#F07D87E02EF00F87\n", b'version = 1\n[[unit]]\nlabel = "A"\n'
         nothing = "there is nothing in it that a plan can have"
@@ -126,7 +126,7 @@ class NoPlan(WithDbc):
         for name in ("file.txt", "file", "dbc", "file.toml"):
             self.assertEqual(self.refused(name, DBC.encode()), "it is none of .dbc, .arxml, .kcd and .sym by its ending: name its kind by --kind")
 
-    def test_a_file_of_which_nothing_can_be_carried_over(self):
+    def test_a_file_of_which_nothing_can_be_carried_over(self) -> None:
         data = "BU_: ENGINE\nBO_ 291 SHORT: 8 ENGINE\n" + message(0x18FF1000, "MAKER", "Vector__XXX")
         status, plan, said = self.made(data=data)
         self.assertEqual((status, plan), (2, ""))
@@ -136,12 +136,12 @@ class NoPlan(WithDbc):
             f"dbc2plan: {self.path('file.dbc')}: there is nothing in it that a plan can have",
         ])
 
-    def test_a_file_that_is_not_there(self):
+    def test_a_file_that_is_not_there(self) -> None:
         missing = self.path("none.dbc")
         self.assertEqual(run("dbc2plan.py", missing), (4, "", f"dbc2plan: {missing}: No such file or directory\n"))
         self.assertEqual(run("dbc2plan.py", self.folder), (4, "", f"dbc2plan: {self.folder}: Is a directory\n"))
 
-    def test_a_file_that_is_read_once(self):
+    def test_a_file_that_is_read_once(self) -> None:
         os.mkfifo(self.path("pipe.dbc"))
         whole = self.write("file.dbc", DBC)
         writer = subprocess.Popen(["sh", "-c", 'cat "$1" > "$2"', "sh", whole, self.path("pipe.dbc")])
@@ -151,7 +151,7 @@ class NoPlan(WithDbc):
         self.assertEqual(status, 0, said)
         self.assertEqual(len(tomllib.loads(plan)["group"]), 5)
 
-    def test_a_choice_of_buses(self):
+    def test_a_choice_of_buses(self) -> None:
         bus = '<Bus name="{}"><Message id="0xCF00400" name="EEC1" length="8" format="extended"/></Bus>'
         head = '<?xml version="1.0"?><NetworkDefinition xmlns="http://kayak.2codeornot2code.org/1.0">'
         data = f"{head}{bus.format('engine')}{bus.format('cabin')}</NetworkDefinition>".encode()
@@ -192,7 +192,7 @@ class Damaged(WithDbc):
                 found[ending] = file.read()
         return found
 
-    def test_files_that_were_damaged(self):
+    def test_files_that_were_damaged(self) -> None:
         """Each gives a plan that `check` can read and in which no signal is at a wrong place, or is refused."""
         chance, files, plans = random.Random(81), self.files(), 0
         for ending in 60 * list(files):

@@ -6,6 +6,8 @@ import random
 import subprocess
 import sys
 import tomllib
+from collections.abc import Sequence
+from typing import Any
 
 from j39plan import program
 from tests.dbc_files import DBC, WithDbc, message
@@ -21,21 +23,21 @@ TIMES = "".join(f'BA_DEF_ BO_ "{name}" INT 0 65535;\n' for name in ("GenMsgCycle
 
 
 class WithFiles(WithDbc):
-    def joined(self, *files, words=()):
+    def joined(self, *files: str, words: Sequence[str] = ()) -> tuple[dict[str, Any], set[tuple[str, str, str]], list[str]]:
         """The plan of several files, which `check` can read, its flows by group, sender and receiver, and what is said."""
         status, text, said = run("dbc2plan.py", *files, *words)
         self.assertEqual(status, 0, said)
         plan = tomllib.loads(self.checked(text))
         return plan, {(flow["group"], flow["from"], flow["to"]) for flow in plan.get("flow", [])}, said.splitlines()
 
-    def signals_of(self, plan, label):
+    def signals_of(self, plan: dict[str, Any], label: str) -> list[str]:
         """The labels of a group's signals."""
         return [signal["label"] for group in plan["group"] if group["label"] == label for signal in group["signal"]]
 
 
 @needs("canmatrix", "python3-canmatrix")
 class Suppliers(WithFiles):
-    def test_a_truck_of_four_files(self):
+    def test_a_truck_of_four_files(self) -> None:
         """Each has its own units' NAMEs, and of the others' groups what it receives. What contradicts is said with both files' names."""
         plan, flows, said = self.joined(*SUPPLIERS, words=("--identity",))
         units = [(unit["label"], unit["address"], unit["name"]["identity"], unit["name"]["manufacturer"]) for unit in plan["unit"]]
@@ -58,7 +60,7 @@ class Suppliers(WithFiles):
         self.assertIn('group = "ET1"  # "laid out otherwise in cab.dbc: SPN174"\n', text_of(self.path("plan.toml")))
         self.assertEqual([need["unit"] for need in tomllib.loads(text_of(self.path("plan.toml")))["need"] if need["group"] == "ET1"], ["CLUSTER"])
 
-    def test_signals_of_one_group_are_joined(self):
+    def test_signals_of_one_group_are_joined(self) -> None:
         """Whichever file comes first, and that has a part of them."""
         for files in (SUPPLIERS, SUPPLIERS[::-1], [CAB, GEARBOX, ENGINE, BRAKES]):
             plan, flows, _ = self.joined(*files)
@@ -66,7 +68,7 @@ class Suppliers(WithFiles):
             self.assertEqual(set(self.signals_of(plan, "TSC1")), {"SPN695", "SPN897", "SPN898", "SPN518"})
             self.assertEqual((len(plan["unit"]), len(plan["group"]), len(flows)), (5, 14, 18))
 
-    def test_one_file_knows_its_own_addresses(self):
+    def test_one_file_knows_its_own_addresses(self) -> None:
         """So a message to another unit goes to all, which is said; with that unit's file it goes there."""
         plan, flows, said = self.joined(GEARBOX)
         self.assertEqual([unit["label"] for unit in plan["unit"]], ["GEARBOX", "ENGINE"])  # of EEC1 that it receives
@@ -80,26 +82,26 @@ class Suppliers(WithFiles):
         self.assertIn(("TSC1", "RETARDER", "ENGINE"), flows)
         self.assertNotIn("destination", " ".join(said))
 
-    def test_free_identities_are_free_in_all_files(self):
+    def test_free_identities_are_free_in_all_files(self) -> None:
         first = self.write("first.dbc", "BU_: ONE TWO\n" + message(EEC1, "EEC1", "ONE") + message(0x18FEEE07, "ET1", "TWO"))
         second = self.write("second.dbc", "BU_: THREE FOUR\n" + message(0x18FEEF08, "EFL", "THREE") + message(0x18FEF109, "CCVS", "FOUR") + (
             'BA_DEF_ BU_ "NmJ1939IdentityNumber" INT 0 2097151;\nBA_ "NmJ1939IdentityNumber" BU_ THREE 1;\n'))
         plan, _, _ = self.joined(first, second, words=("--version", "3"))
         self.assertEqual([unit["name"]["identity"] for unit in plan["unit"]], [2, 3, 1, 4])
 
-    def test_a_file_without_addresses(self):
+    def test_a_file_without_addresses(self) -> None:
         plan, flows, said = self.joined(self.write("file.dbc", message(EEC1, "EEC1", "Vector__XXX")))
         self.assertEqual((plan.get("unit"), flows, said), (None, set(), [
             "units: no node has an address, so there are neither units nor flows", "0 units 1 groups 0 flows, notes 1"]))
 
-    def test_the_same_file_twice(self):
+    def test_the_same_file_twice(self) -> None:
         copy = self.write("copy.dbc", text_of(ENGINE))
         plan, _, said = self.joined(ENGINE, copy)
         self.assertEqual(said[0], f"{copy}: file: it holds the same as {ENGINE}, and is ignored")
         alone, _, _ = self.joined(ENGINE)
         self.assertEqual(plan, alone)
 
-    def test_a_file_that_is_none(self):
+    def test_a_file_that_is_none(self) -> None:
         none = self.write("none.txt", "hello")
         missing = self.path("missing.dbc")
         ending = "it is none of .dbc, .arxml, .kcd and .sym by its ending: name its kind by --kind"
@@ -109,12 +111,12 @@ class Suppliers(WithFiles):
         self.assertEqual(run("dbc2plan.py", empty, self.write("too.dbc", "\n"))[::2], (
             2, f"dbc2plan: {empty}, {self.path('too.dbc')}: there is nothing in it that a plan can have\n"))
 
-    def test_a_choice_of_groups_of_all_files(self):
+    def test_a_choice_of_groups_of_all_files(self) -> None:
         plan, flows, _ = self.joined(*SUPPLIERS, words=("--sender", "BRAKES", "--group", "61441"))
         self.assertEqual((flows, self.signals_of(plan, "EBC1")), ({("EBC1", "BRAKES", "all")}, ["SPN563", "SPN521"]))
         self.assertEqual(run("dbc2plan.py", *SUPPLIERS, "--group", "NOPE")[0], 2)
 
-    def test_makers_own_groups_of_two_files(self):
+    def test_makers_own_groups_of_two_files(self) -> None:
         """The message that both have is one group; another one of its number from the same unit is left out."""
         state = '{} : {}|8@1+ (1,0) [0|0] "" RETARDER'
         first = self.write("first.dbc", NODES + message(0x18FF1000, "STATE", "ENGINE", state.format("A", 0), state.format("B", 8)))
@@ -127,7 +129,7 @@ class Suppliers(WithFiles):
 
 @needs("canmatrix", "python3-canmatrix")
 class OneGroup(WithFiles):
-    def test_a_group_of_several_senders_has_their_common_name(self):
+    def test_a_group_of_several_senders_has_their_common_name(self) -> None:
         """And each flow its message's."""
         plan, _ = self.text(data=NODES + message(0x18FECA00, "DM1_ENG", "ENGINE") + message(0x18FECA0F, "DM1_RET", "RETARDER") + (
             message(EEC1, "EEC1", "ENGINE") + message(EEC1_AT_15, "SPEED", "RETARDER")))
@@ -135,7 +137,7 @@ class OneGroup(WithFiles):
         for line in ('group = "DM1"  # message DM1_ENG', 'group = "DM1"  # message DM1_RET', 'group = "EEC1"', 'group = "EEC1"  # message SPEED'):
             self.assertIn(line, plan.splitlines())
 
-    def test_units_of_measurement_that_agree(self):
+    def test_units_of_measurement_that_agree(self) -> None:
         """Without case and blanks; where they are spelled otherwise that is said."""
         for unit, other, agree in (("rpm", "RPM", 1), ("deg C", "degC", 1), ("°C", "degC", 0), ("l/h", "kg/h", None), ("", "%", None)):
             name = self.write("file.dbc", NODES + message(EEC1, "EEC1", "ENGINE", f'S : 0|8@1+ (1,0) [0|0] "{unit}" RETARDER') + message(
@@ -145,13 +147,13 @@ class OneGroup(WithFiles):
             self.assertEqual((len(plan["group"]), len(flows), len(told)), (1, 2, 1 if agree is None else agree), (unit, said))
             self.assertEqual("only that one is in the plan" in "".join(told), agree is None)
 
-    def test_tables_of_values_that_differ(self):
+    def test_tables_of_values_that_differ(self) -> None:
         tables = "".join(f'VAL_ {identifier | 1 << 31} S 0 "{name}" ;\n' for identifier, name in ((EEC1, "off"), (EEC1_AT_15, "open")))
         _, said = self.text(data=NODES + message(EEC1, "EEC1", "ENGINE", 'S : 0|2@1+ (1,0) [0|0] "" RETARDER') + message(
             EEC1_AT_15, "EEC1_B", "RETARDER", 'S : 0|2@1+ (1,0) [0|0] "" ENGINE') + tables)
         self.assertIn('signal S of EEC1_B: it has another table of values; the plan has that of EEC1: 0 is "open", there "off"', said)
 
-    def test_who_receives_what(self):
+    def test_who_receives_what(self) -> None:
         """The flow has all that receive something of it, a signal those that receive it, where not all receive all."""
         signals = ('A : 0|8@1+ (1,0) [0|0] "" RETARDER,TOOL', 'B : 8|8@1+ (1,0) [0|0] "" Vector__XXX', 'C : 16|8@1+ (1,0) [0|0] "" RETARDER')
         text, _ = self.text(data=NODES + message(EEC1, "EEC1", "ENGINE", *signals))
@@ -165,7 +167,7 @@ class OneGroup(WithFiles):
 
 @needs("canmatrix", "python3-canmatrix")
 class WhatAFileSays(WithFiles):
-    def test_least_distances(self):
+    def test_least_distances(self) -> None:
         """A cycle is one only where nothing else sends the message too; the shorter one counts, and else the delay time."""
         number = EEC1 | 1 << 31
         for times, period, said in (
@@ -182,7 +184,7 @@ class WhatAFileSays(WithFiles):
             self.assertEqual(plan["flow"][0].get("period"), period, times)
             self.assertEqual([line for line in told if line.startswith("group ")], [f"group EEC1: {said}"] if said else [], times)
 
-    def test_a_default_cycle_time_is_that_of_each_message(self):
+    def test_a_default_cycle_time_is_that_of_each_message(self) -> None:
         """But of one that has its own, and one that says that it has none."""
         data = NODES + "".join(message(0x18F00000 + 0x100 * at, f"M{at}", "ENGINE") for at in range(3)) + TIMES + (
             'BA_DEF_DEF_ "GenMsgCycleTime" 100;\n' + "".join(
@@ -191,7 +193,7 @@ class WhatAFileSays(WithFiles):
         self.assertEqual([flow.get("period") for flow in plan["flow"]], [20, None, 100])
         self.assertIn("group M2, GenMsgCycleTime: 100 is the default of the file", said)
 
-    def test_what_a_signal_is(self):
+    def test_what_a_signal_is(self) -> None:
         """SigType tells texts and trouble codes; so does a unit of measurement ASCII of what is wider than a number."""
         number = 0x98FEEC00
         data = NODES + message(0x18FEEC00, "VI", "ENGINE", 'VIN : 0|136@1+ (1,0) [0|0] "" RETARDER', 'SHORT : 136|16@1+ (1,0) [0|0] "" RETARDER',
@@ -208,7 +210,7 @@ class WhatAFileSays(WithFiles):
         self.assertEqual([signal["label"] for signal in older["group"][0]["signal"]], ["CODE", "LEVEL"])
         self.assertIn("signal VIN of VI: it is text", said)
 
-    def test_ranges_of_makers_own_groups(self):
+    def test_ranges_of_makers_own_groups(self) -> None:
         """One that goes to all ones says that each number is a value; in the standard's groups it doesn't."""
         signals = ('ALL : 0|16@1+ (0.1,0) [0|6553.5] "bar" RETARDER', 'LESS : 16|16@1+ (0.1,0) [0|6425.5] "bar" RETARDER',
                    'NONE : 32|8@1+ (1,0) [0|0] "" RETARDER', 'NAMED : 40|8@1+ (1,0) [0|255] "" RETARDER')
@@ -216,13 +218,13 @@ class WhatAFileSays(WithFiles):
             plan, _ = self.plan(data=NODES + message(identifier, "G", "ENGINE", *signals) + f'VAL_ {identifier | 1 << 31} NAMED 255 "not available" ;\n')
             self.assertEqual([signal["kind"] for signal in plan["group"][0]["signal"]], kinds)
 
-    def test_ranges_are_kept(self):
+    def test_ranges_are_kept(self) -> None:
         signals = ('LESS : 0|8@1+ (1,-40) [-40|100] "" RETARDER', 'SAME : 8|8@1+ (1,-40) [-40|210] "" RETARDER', 'NONE : 16|8@1+ (1,-40) [0|0] "" RETARDER')
         text, _ = self.text(data=NODES + message(EEC1, "EEC1", "ENGINE", *signals))
         for line in ('label = "LESS"  # range -40..100', 'label = "SAME"', 'label = "NONE"'):
             self.assertIn(line, text.splitlines())
 
-    def test_how_fast_the_bus_is(self):
+    def test_how_fast_the_bus_is(self) -> None:
         """A comment that can be made a table."""
         define, beside = 'BA_DEF_ "Baudrate" INT 0 1000000;\n', NODES + message(EEC1, "EEC1", "ENGINE")
         for told, bitrate, words in (
@@ -245,7 +247,7 @@ class WhatAFileSays(WithFiles):
 
 @needs("canmatrix", "python3-canmatrix")
 class NotesAndForms(WithFiles):
-    def test_notes_as_json(self):
+    def test_notes_as_json(self) -> None:
         name = self.path("notes.json")
         status, _, said = run("dbc2plan.py", *SUPPLIERS, "--identity", "--notes", name)
         notes = [json.loads(line) for line in text_of(name).splitlines()]
@@ -255,7 +257,7 @@ class NotesAndForms(WithFiles):
         run("plan2dbc.py", example("first_plan.toml"), "--notes", name)
         self.assertEqual(text_of(name), "")
 
-    def test_a_status_for_notes(self):
+    def test_a_status_for_notes(self) -> None:
         """The plan is written all the same."""
         clean = self.write("clean.dbc", run("plan2dbc.py", example("first_plan.toml"))[1])
         for tool, file, statuses in (("dbc2plan.py", CAB, (0, 1)), ("dbc2plan.py", clean, (0, 0)),
@@ -264,14 +266,14 @@ class NotesAndForms(WithFiles):
             self.assertEqual((plain[0], strict[0]), statuses, (tool, file))
             self.assertEqual(plain[1:], strict[1:])
 
-    def test_standard_input_has_a_kind(self):
+    def test_standard_input_has_a_kind(self) -> None:
         whole = text_of(example("vehicle.dbc"))
         status, plan, said = run("dbc2plan.py", "--identity", "--kind", "dbc", "/dev/stdin", text=whole)
         self.assertEqual((status, said), (0, "group ERC1: its identifier has the source address 15, RETARDER has 0\n3 units 4 groups 4 flows 5 needs, notes 1\n"))
         self.assertEqual(plan.splitlines()[1:], run("dbc2plan.py", "--identity", example("vehicle.dbc"))[1].splitlines()[1:])
         self.assertEqual(run("dbc2plan.py", "/dev/stdin", text=whole)[0], 2)
 
-    def test_encodings(self):
+    def test_encodings(self) -> None:
         data = (NODES + message(EEC1, "EEC1", "ENGINE", 'S : 0|8@1+ (1,0) [0|0] "°C" RETARDER') + f'CM_ SG_ {EEC1 | 1 << 31} S "速度";\n')
         for name in ("gbk", "shift_jis", "utf-16"):
             with open(self.path("file.dbc"), "wb") as file:
@@ -287,7 +289,7 @@ class NotesAndForms(WithFiles):
 
 @needs("canmatrix", "python3-canmatrix")
 class Damaged(WithFiles):
-    def test_lengths_that_a_plan_can_not_have(self):
+    def test_lengths_that_a_plan_can_not_have(self) -> None:
         """Those that plan2dbc.py writes are taken where they fit."""
         number = EEC1 | 1 << 31
         for most, every, wanted in ((20, 4, (20, 4)), (7, 0, (None, None)), (9999, 256, (None, None)), ('"x"', '"x"', (None, None))):
@@ -298,7 +300,7 @@ class Damaged(WithFiles):
             self.assertEqual((group.get("most"), group.get("every")), wanted)
             self.assertEqual(group["signal"][0].get("repeated", False), wanted[1] is not None)
 
-    def test_random_orders_of_parts_of_a_file(self):
+    def test_random_orders_of_parts_of_a_file(self) -> None:
         """The messages of one file in several files, each with all nodes, give the units and flows of the whole."""
         head, *messages = DBC.split("\n\nBO_ ")
         tail = DBC[DBC.index("BA_DEF_ BU_"):]

@@ -3,16 +3,18 @@
 import contextlib
 import io
 import json
+import math
 import os
 import signal
 import subprocess
 import sys
 import time
+from collections.abc import Sequence
 
 from j39plan import program
-from j39plan.log.checks.marks import Feed
+from j39plan.log.checks.feed import Feed
 from j39plan.plan.tables import Tables
-from tests.support import TOOLS, InFolder, run, without_times
+from tests.support import TOOLS, InFolder, run, there, without_times
 
 # Two units that may choose from 128 on, one that is fixed; HITCH sends each 5 s, EBC1 each 100 ms.
 PLAN = """version = 4
@@ -72,35 +74,39 @@ PACKETS = [f"1CEB800B#0{number}AAAAAAAAAAAAAA" for number in (1, 2, 3)]
 PATIENCE = 120
 
 
-def lines_of(*log):
+def lines_of(*log: tuple[float, str]) -> str:
     """A log of times and frames."""
     return "".join(f"({at:.6f}) can0 {frame}\n" for at, frame in sorted(log, key=lambda line: line[0]))
 
 
-def brakes(begin, end):
+def brakes(begin: float, end: float) -> list[tuple[float, str]]:
     """EBC1 each 100 ms."""
     return [(begin + number / 10, EBC1) for number in range(round((end - begin) * 10))]
 
 
 class Deviations(InFolder):
-    def told(self, *log, plan=PLAN, words=("--silence", "0")):
-        """The deviations of a log, but for what was never sent and who isn't there."""
-        name = self.write("drive.log", log[0] if log and isinstance(log[0], str) else lines_of(*log))
+    def told(self, *log: tuple[float, str], plan: str = PLAN, words: Sequence[str] = ("--silence", "0")) -> list[str]:
+        """The deviations of a log of these times and frames, but for what was never sent and who isn't there."""
+        return self.told_of(lines_of(*log), plan, words)
+
+    def told_of(self, log: str, plan: str = PLAN, words: Sequence[str] = ("--silence", "0")) -> list[str]:
+        """The same of a log as it stands."""
+        name = self.write("drive.log", log)
         _, answer, self.said = run("against.py", *words, self.write("plan.toml", plan), name)
         return [line.replace(name, "L") for line in without_times(answer).splitlines()[:-1] if line.startswith((name, "  "))]
 
 
 class Units(Deviations):
-    def test_a_unit_that_defends_its_address(self):
+    def test_a_unit_that_defends_its_address(self) -> None:
         """A larger NAME claims 128, HITCH claims it again and sends at once, though it was heard last 5 s ago: it did nothing wrong."""
         begin = [(1, HITCH), (5, HSTAT), (9.9, SPRAYER_AT_128)]
         self.assertEqual(self.told(*begin, (9.905, HITCH), (10, HSTAT)), [])
 
-    def test_a_slow_unit_that_does_not_defend_its_address(self):
+    def test_a_slow_unit_that_does_not_defend_its_address(self) -> None:
         begin = [(1, HITCH), (5, HSTAT), (9.9, SPRAYER_AT_128), (10.2, HITCH.replace("EEFF80", "EEFF81"))]
         self.assertEqual(self.told(*begin), ["L:3: SPRAYER claims address 128, and HITCH doesn't defend it, whose NAME is smaller"])
 
-    def test_a_unit_that_moves_waits_again(self):
+    def test_a_unit_that_moves_waits_again(self) -> None:
         """SPRAYER claims 141 since HITCH defends 128, or moves while it sends: for 250 ms from then on it is to send nothing."""
         asks, moves = "18EAFF8D#ECFE00", SPRAYER.replace("EEFF8C", "EEFF8D")
         lost = [(1, HITCH), (9.8, HSTAT), (9.9, SPRAYER_AT_128), (9.905, HITCH)]
@@ -109,14 +115,14 @@ class Units(Deviations):
         self.assertEqual(self.told(*lost, (9.91, moves), (10.16, asks)), [])
         self.assertEqual(self.told((1, SPRAYER), (9.8, asks.replace("8D#", "8C#")), (9.9, moves), (10.1, asks)), [f"L:4: {early}"])
 
-    def test_a_restart(self):
+    def test_a_restart(self) -> None:
         """A claim of an address that its unit holds, more than 1,250 ms after a request; a repeated one 100 ms later is of the same start."""
         text = "HITCH claims address 128, which it holds, and nobody asked: has it restarted?"
         self.assertEqual(self.told((1, HITCH), (5, HITCH), (5.1, HITCH), (9, HITCH)), [f"L:2: {text}  (2 times)"])
         self.assertEqual(self.told((1, HITCH), (4, "18EAFFFE#00EE00"), (5.25, HITCH)), [])
         self.assertEqual(self.told((1, HITCH), (4, "18EAFFFE#00EE00"), (5.251, HITCH)), [f"L:3: {text}"])
 
-    def test_a_name_that_displaces_a_unit(self):
+    def test_a_name_that_displaces_a_unit(self) -> None:
         """HITCH moves, can't, or does nothing though it is on; where it defends the address it isn't displaced."""
         begin = [(1, HITCH), (5, HSTAT), (6, FOREIGN_AT_128)]
         text = "L:3: NAME 8000000000000001 takes address 128 from HITCH, which "
@@ -125,13 +131,13 @@ class Units(Deviations):
             self.assertIn(text + then, self.told(*begin, *log))
         self.assertNotIn("takes address", "".join(self.told(*begin, (6.1, HITCH))))
 
-    def test_a_flow_that_begins_late(self):
+    def test_a_flow_that_begins_late(self) -> None:
         """BRAKES claims at 1 s, and sends EBC1 each 100 ms from 3 s on: 2 s; what comes within a second of the claim isn't late."""
         late = "flow 2, EBC1 from BRAKES to all: not sent for 2000 ms before, its period is 100 ms"
         self.assertEqual(self.told((1, BRAKES), *brakes(3, 4), words=()), [f"L:2: {late}"])
         self.assertEqual(self.told((1, BRAKES), *brakes(2, 4), words=()), [])
 
-    def test_two_boxes_of_one_name(self):
+    def test_two_boxes_of_one_name(self) -> None:
         """BRAKES claims 12 while a box goes on at 11; what was under way when it moved is no second box."""
         moved = BRAKES.replace("EEFF0B", "EEFF0C")
         text = "BRAKES claims address 12, and its former address 11 sends EBC1, a planned group: two boxes of one NAME?"
@@ -142,7 +148,7 @@ class Units(Deviations):
 
 
 class Buses(Deviations):
-    def test_nothing_at_all(self):
+    def test_nothing_at_all(self) -> None:
         """Where two flows were alive and nothing came for more than a second, the bus, the log or its clock stood still, and no unit. The shortest
         period is 100 ms."""
         plan = PLAN.replace("period = 5000", "period = 200")
@@ -150,13 +156,13 @@ class Buses(Deviations):
         text = "nothing at all came for {} ms before: the bus, the log or its clock stood still; distances begin anew"
         self.assertEqual(self.told(*log, plan=plan, words=()), [f"L:32: {text.format(60100)}"])
 
-    def test_steps_back_of_the_clock(self):
+    def test_steps_back_of_the_clock(self) -> None:
         """Distances begin anew where time goes back by more than a millisecond."""
         log = lines_of(*brakes(1, 3)) + lines_of(*brakes(2.41, 4))
-        self.assertEqual(self.told(log), [])
+        self.assertEqual(self.told_of(log), [])
         self.assertEqual(self.said, f"against: {self.path('drive.log')}:21: time goes back by 490 ms\n")
 
-    def test_error_frames_of_the_interface(self):
+    def test_error_frames_of_the_interface(self) -> None:
         """In plans without timing too; what follows is no unit's silence, until the log's end neither."""
         frames = {"20000040#0000000000000000": "the interface of the log is bus-off: it hears nothing until it is restarted",
                   "20000004#0001000000000000": "the interface lost frames, since nobody took them: the log lacks these",
@@ -171,12 +177,12 @@ class Buses(Deviations):
         self.assertEqual(self.told(*brakes(1, 2), (1.95, "20000004#0004000000000000"), words=()), [])
         self.assertEqual(self.said, "")
 
-    def test_a_stranger_of_a_planned_group_is_told_once(self):
+    def test_a_stranger_of_a_planned_group_is_told_once(self) -> None:
         """By its address, and not by the priority that the group has."""
         plan = PLAN.replace("version = 4", "version = 4\ntiming = { bitrate = 250000, unplanned = 9 }").replace("priority = 6", "priority = 3")
         self.assertEqual(self.told((1, "0CF0014D#FFFFFFFFFFFFFFFF"), plan=plan), ["L:1: address 77 sends EBC1, a planned group: no unit has it"])
 
-    def test_unplanned_frames_before_those_of_a_unit_that_keeps_no_order(self):
+    def test_unplanned_frames_before_those_of_a_unit_that_keeps_no_order(self) -> None:
         """Any identifier counts there: four frames that go behind EBC1 within its bound of BRAKES, which sends any first."""
         plan = PLAN.replace("version = 4", "version = 4\ntiming = { bitrate = 250000, unplanned = 1 }").split("[[group]]\nlabel = \"VI\"")[0]
         plan += PLAN[PLAN.index('[[flow]]'):].split('[[flow]]\ngroup = "VI"')[0]
@@ -185,33 +191,33 @@ class Buses(Deviations):
         found = self.told((1, EBC1), *strange, plan=plan.replace('address = 11\n', 'address = 11\nqueue = "any"\n'))
         self.assertTrue(any(line.startswith("L:5: 4 frames that no flow has came within ") for line in found), found)
 
-    def test_requests_that_wait_on_the_bus(self):
+    def test_requests_that_wait_on_the_bus(self) -> None:
         """A request may wait no longer than EBC1, which it goes before: one that comes less than a frame nearer than its period accuses nobody."""
         plan = PLAN.split('[[group]]\nlabel = "VI"')[0] + PLAN[PLAN.index("[[flow]]"):].split('[[flow]]\ngroup = "VI"')[0]
         plan += '[[request]]\nfrom = "SPRAYER"\nto = "BRAKES"\ngroup = "EBC1"\nperiod = 5000\n'
         timing = plan.replace("version = 4", "version = 4\ntiming = { bitrate = 250000, unplanned = 0 }")
         asks = "18EA0B8C#01F000"
-        for text, second, told in ((timing, 5.9998, []), (timing, 5.99, ["990"]), (plan, 5.9998, ["999.8"])):
+        for text, second, told in ((timing, 5.9998, ()), (timing, 5.99, ("990",)), (plan, 5.9998, ("999.8",))):
             found = self.told((1, asks), (1.001, EBC1), (second, asks), (second + 0.001, EBC1), plan=text)
             said = [f"L:3: request 1, EBC1 from SPRAYER to BRAKES: 4{value} ms after the one before, its period is 5000 ms" for value in told]
             self.assertEqual([line for line in found if "request" in line], said)
 
-    def test_the_interface_that_is_read(self):
+    def test_the_interface_that_is_read(self) -> None:
         """A log that begins with one frame of another bus is refused, and the one that has nearly all is named."""
         log = "(1.0) can1 18F0010B#00\n" + lines_of(*brakes(1, 11)) * 2
-        self.assertEqual(self.told(log), [])
+        self.assertEqual(self.told_of(log), [])
         self.assertEqual(self.said, f"against: {self.path('drive.log')} begins with can1, which has 1 of its 201 lines: choose one, as --interface can0\n")
-        self.told("(1.0) can1 18F0010B#00\n" + lines_of(*brakes(1, 6)))
+        self.told_of("(1.0) can1 18F0010B#00\n" + lines_of(*brakes(1, 6)))
         self.assertEqual(self.said, "against: can1 is read, the first of the log; 50 lines of can0 are passed over: --interface can0\n")
 
 
 class Transfers(Deviations):
-    def whole(self, *frames, last=9.0):
+    def whole(self, *frames: str, last: float = 9.0) -> list[str]:
         """What is told of long messages, of frames from 2 s on, each 10 ms after the one before."""
         log = [(1, HITCH), (1, BRAKES), *[(2 + number / 100, frame) for number, frame in enumerate(frames)], (last, BRAKES.replace("0B#", "0B#"))]
         return [line for line in self.told(*log, (last, "18EAFFFE#00EE00")) if " VI " in line]
 
-    def test_by_their_cause(self):
+    def test_by_their_cause(self) -> None:
         text = "L:3: VI from BRAKES to HITCH: announced, and not carried whole: "
         self.assertEqual(self.whole(RTS, CLEAR, *PACKETS, WHOLE), [])
         self.assertEqual(self.whole(RTS), [text + "no clear to send"])
@@ -221,13 +227,13 @@ class Transfers(Deviations):
         given_up = self.whole(RTS, "1CEC0B80#FF03FFFFFFECFE00")
         self.assertEqual(given_up, [text + "it was given up", "L:4: VI from BRAKES to HITCH: given up by HITCH, reason 3 (timeout)"])
 
-    def test_a_packet_that_was_asked_for_again_alone(self):
+    def test_a_packet_that_was_asked_for_again_alone(self) -> None:
         """The receiver has the message, as it says: it is whole, and counts as sent."""
         again = "1CEC0B80#110102FFFFECFE00"
         self.assertEqual(self.whole(RTS, CLEAR, PACKETS[0], PACKETS[2], again, PACKETS[1], WHOLE), [])
         self.assertNotIn("flow 3, VI from BRAKES to HITCH: never sent", run("against.py", self.path("plan.toml"), self.path("drive.log"))[1])
 
-    def test_what_is_not_acknowledged(self):
+    def test_what_is_not_acknowledged(self) -> None:
         """1,250 ms after its last packet, or before the next announcement; at the log's end sooner than that it isn't known."""
         text = "L:7: VI from BRAKES to HITCH: carried whole, and not acknowledged"
         self.assertEqual(self.whole(RTS, CLEAR, *PACKETS, last=3.3), [text])
@@ -235,33 +241,31 @@ class Transfers(Deviations):
         self.assertEqual(self.whole(RTS, CLEAR, *PACKETS, RTS, CLEAR, *PACKETS, WHOLE, last=2.5), [text])
 
 
-class Marks(Deviations):
-    def marked(self, *frames, plan=PLAN):
-        """The numbers of the lines of a log that have a mark."""
-        tables = Tables.of(self.write("plan.toml", plan))
-        log = io.BytesIO("".join(f"(1.0) {frame}\n" for frame in frames).encode())
-        return [number for number, mark in enumerate(b"".join(Feed(tables.groups, tables.timing).pieces(log)).split(b"\n")[1::2], 1) if mark]
+class LinesBeside(Deviations):
+    def noted(self, *frames: str, plan: str = PLAN) -> tuple[list[int], list[int]]:
+        """The numbers of the lines of a log of which `follow` says nothing, and of those of which it doesn't say all."""
+        feed = Feed(Tables.of(self.write("plan.toml", plan)).timing)
+        list(feed.pieces(io.BytesIO("".join(f"(1.0) {frame}\n" for frame in frames).encode())))
+        return [noted.line for noted in feed.unheard(math.inf)], [line for line in range(1, len(frames) + 1) if feed.beside(line)]
 
-    def test_packets(self):
-        """Those of a planned group all; of another one each fourth, but where the plan has timing. Another interface has messages of its own."""
-        planned, another = "can0 1CECFF0B#20110003FFECFE00", "can0 1CECFF0B#20270006FFEBFE00"
-        packets = [f"can0 1CEBFF0B#0{number}AAAAAAAAAAAAAA" for number in range(1, 7)]
-        self.assertEqual(self.marked(planned, *packets[:3]), [1, 2, 3, 4])
-        self.assertEqual(self.marked(another, *packets), [1, 5])
-        self.assertEqual(self.marked(another, *packets, planned, *packets[:3]), [1, 5, 8, 9, 10, 11])
-        self.assertEqual(self.marked(planned, another.replace("can0", "can1"), *packets[:3]), [1, 2, 3, 4, 5])
-        timing = PLAN.replace("version = 4", "version = 4\ntiming = { bitrate = 250000, unplanned = 9 }")
-        self.assertEqual(self.marked(another, *packets, plan=timing), [1, 2, 3, 4, 5, 6, 7])
+    def test_which_are_noted(self) -> None:
+        """Error frames of the interface that is read, and acknowledgements; where the plan has timing also 11-bit frames, and claims and requests
+        that are more urgent than unplanned frames may be."""
+        frames = ("can0 20000004#0001000000000000", "can0 18FEF100#00", "can1 20000004#0001000000000000", "can0 123#00", "can0 0CEAFF0B#00EE00",
+                  "can0 18EAFF0B#00EE00", "can0 18E8FF00#00FFFFFF0BECFE00 R")
+        self.assertEqual(self.noted(*frames), ([1], [7]))
+        timing = PLAN.replace("version = 4", "version = 4\ntiming = { bitrate = 250000, unplanned = 9, unplanned_priority = 6 }")
+        self.assertEqual(self.noted(*frames, plan=timing), ([1, 4], [5, 7]))
 
 
 class Forms(Deviations):
-    def setUp(self):
+    def setUp(self) -> None:
         super().setUp()
         times = (1.0, 1.1, 1.15, 1.25, 1.34)
         self.log = self.write("a.log", lines_of(*[(at, EBC1) for at in times]))
         self.plan = self.write("plan.toml", PLAN)
 
-    def test_times_and_all_lines(self):
+    def test_times_and_all_lines(self) -> None:
         """The worst of two that came too near, 50 ms and 90 ms after the one before."""
         near = "flow 2, EBC1 from BRAKES to all: 50 ms after the one before, its period is 100 ms  (2 times)"
         lines = run("against.py", self.plan, self.log)[1].splitlines()
@@ -269,7 +273,7 @@ class Forms(Deviations):
         lines = run("against.py", "--all", self.plan, self.log)[1].splitlines()
         self.assertEqual(lines[:3], [f"{self.log}:3: (1.150000) {near}", f"  {self.log}:3: (1.150000) 50 ms", f"  {self.log}:5: (1.340000) 90 ms"])
 
-    def test_json(self):
+    def test_json(self) -> None:
         """An object a line: kind, flow, unit, place, what was measured in ms; what is the same in all logs; last the whole log."""
         *rows, whole = map(json.loads, run("against.py", "--json", "--all", self.plan, self.log)[1].splitlines())
         self.assertEqual(rows[0], {
@@ -281,33 +285,33 @@ class Forms(Deviations):
         self.assertEqual((whole.pop("requests"), len(whole.pop("units"))), ([], 3))
         self.assertEqual(whole, {"deviations": len(rows), "begin": 1.0, "end": 1.34, "worst": 800, "worst_second": 1, "explained": 0})
 
-    def test_live(self):
+    def test_live(self) -> None:
         """Each deviation as soon as its line is there, and at the end all of them."""
         words = [sys.executable, os.path.join(TOOLS, "against.py"), "--live", self.plan, "/dev/stdin"]
         with subprocess.Popen(words, stdin=subprocess.PIPE, stdout=subprocess.PIPE, text=True, env={**os.environ, "J39PLAN": os.path.abspath(program.path())},
                               bufsize=1) as process:
             with open(self.log, encoding="ascii") as log:
                 lines = log.readlines()
-            process.stdin.writelines(lines[:4])  # the next line tells that the third one is whole
+            there(process.stdin).writelines(lines[:4])  # the next line tells that the third one is whole
             near = "flow 2, EBC1 from BRAKES to all: 50 ms after the one before, its period is 100 ms"
-            self.assertEqual(process.stdout.readline(), f"/dev/stdin:3: (1.150000) {near}\n")
-            process.stdin.write(lines[4])
-            process.stdin.close()
-            self.assertEqual(process.stdout.readline(), f"/dev/stdin:3: (1.150000) {near}  (2 times)\n")
-            process.stdout.read()
+            self.assertEqual(there(process.stdout).readline(), f"/dev/stdin:3: (1.150000) {near}\n")
+            there(process.stdin).write(lines[4])
+            there(process.stdin).close()
+            self.assertEqual(there(process.stdout).readline(), f"/dev/stdin:3: (1.150000) {near}  (2 times)\n")
+            there(process.stdout).read()
 
-    def test_live_as_json(self):
+    def test_live_as_json(self) -> None:
         """An object as a deviation is met, without how often; with --all each time, with what was measured there. Then what --json has."""
         text = "flow 2, EBC1 from BRAKES to all: {} ms after the one before, its period is 100 ms"
         first = {"kind": "near", "flow": 2, "unit": "BRAKES", "log": self.log, "line": 3, "time": 1.15, "value": 50, "text": text.format(50), "what": text.format("..")}
         again = {**first, "line": 5, "time": 1.34, "value": 90, "text": text.format(90)}
-        for words, met in (([], [first]), (["--all"], [first, again])):
+        for words, met in (((), [first]), (("--all",), [first, again])):
             rows = [json.loads(line) for line in run("against.py", "--live", "--json", *words, self.plan, self.log)[1].splitlines()]
             whole = [json.loads(line) for line in run("against.py", "--json", *words, self.plan, self.log)[1].splitlines()]
             self.assertEqual(rows, met + whole)
             self.assertEqual(whole[0]["times"], 2)
 
-    def test_events(self):
+    def test_events(self) -> None:
         """A flow that is sent when something happens isn't silent; its group or its number names it."""
         log = self.write("b.log", lines_of(*brakes(1, 2), (5, EBC1)))
         for words, count in (((), 1), (("--events", "EBC1"), 0), (("--events", "2"), 0), (("--events", "1"), 1)):
@@ -317,7 +321,7 @@ class Forms(Deviations):
 
 
 class Interrupted(Deviations):
-    def test_a_fleet_keeps_what_is_done(self):
+    def test_a_fleet_keeps_what_is_done(self) -> None:
         """One log is done, the other waits: an interrupt puts the table of the first, and says so."""
         done, slow = self.write("done.log", lines_of(*brakes(1, 3))), self.write("slow.log", lines_of(*brakes(1, 4)))
         script = self.write("slow", f'#!/bin/sh\ncase "$*" in follow*slow.log) sleep 60 ;; esac\nexec {os.path.abspath(program.path())} "$@"\n')

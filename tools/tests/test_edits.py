@@ -19,7 +19,7 @@ def unknown(edit: str, code: str) -> list[str]:
 
 
 class Edits(unittest.TestCase):
-    def test_edits_are_of_names_that_their_files_know(self):
+    def test_edits_are_of_names_that_their_files_know(self) -> None:
         edits = glob.glob(f"{TOP}/crates/*/must-fail/*.edit")
         self.assertGreater(len(edits), 100)
         for edit in edits:
@@ -28,7 +28,7 @@ class Edits(unittest.TestCase):
             self.assertTrue(files, edit)
             self.assertEqual(unknown(text, "\n".join(text_of(os.path.join(crate, file)) for file in files)), [], edit)
 
-    def test_a_name_that_a_file_lacks_is_found(self):
+    def test_a_name_that_a_file_lacks_is_found(self) -> None:
         code = "ensures { IsQuiet w.claims }  // as in the first world, all.off"
         self.assertEqual(unknown("new: IsQuiet first.claims × IsQuiet w.claims × all.off\n", code), ["first", "all"])
         self.assertEqual(unknown("new: w.claims.map(|claim| claim.name + other.name)\n", code), ["other"])

@@ -12,6 +12,8 @@ import subprocess
 import sys
 import time
 import unittest
+from collections.abc import Iterator
+from typing import Any
 
 from j39plan import program
 from tests.support import TOOLS, InFolder, example, run, text_of
@@ -63,23 +65,23 @@ PATIENCE = 120
 
 
 class Fleets(InFolder):
-    def setUp(self):
+    def setUp(self) -> None:
         super().setUp()
         self.early = self.write("early.log", text_of(LOG))
         self.late = self.write("late.log", text_of(LOG).replace("(10.5", "(17.5") + FOREIGN)
 
-    def fleet(self, *words, plan=PLAN, environment=None):
+    def fleet(self, *words: Any, plan: str = PLAN, environment: dict[str, str] | None = None) -> tuple[int, str, str]:
         """Status, answer and what is said, without the folder."""
         ended = subprocess.run([sys.executable, os.path.join(TOOLS, "fleet.py"), *words[:-1], plan, *words[-1]], capture_output=True, text=True,
                                check=False, timeout=PATIENCE * 3, env={**os.environ, "J39PLAN": os.path.abspath(program.path()), **(environment or {})})
-        return ended.returncode, *(text.replace(self.folder + "/", "") for text in (ended.stdout, ended.stderr))
+        return ended.returncode, ended.stdout.replace(self.folder + "/", ""), ended.stderr.replace(self.folder + "/", "")
 
-    def tables(self, *words, **more):
+    def tables(self, *words: Any, **more: Any) -> tuple[int, Any, str]:
         """The status, the tables by their names, and what is said."""
         status, answer, said = self.fleet("--json", *words, **more)
         return status, json.loads(answer), said
 
-    def deadly(self, log=""):
+    def deadly(self, log: str = "") -> str:
         """A program that ends, when it follows a log, who called it: of a log with this name always, else the first time alone."""
         once = "" if log else f"mkdir {self.path('ended')} 2> /dev/null && "
         script = self.write("deadly", f"""#!/bin/sh
@@ -93,7 +95,7 @@ exec {os.path.abspath(program.path())} "$@"
 
 
 class Table(Fleets):
-    def test_text(self):
+    def test_text(self) -> None:
         status, answer, said = self.fleet([self.early, self.late])
         self.assertEqual((status, said), (1, ""))
         parts = answer.split("\n\n")
@@ -107,7 +109,7 @@ class Table(Fleets):
             ["late.log", "10.000", "7.7", "s", "166", "bit/s", "800", "bit/s", "8", "0", "1", "1"]])
         self.assertEqual(parts[-1], "logs 2 with deviations 1 failed 0\n")
 
-    def test_flows_and_silences(self):
+    def test_flows_and_silences(self) -> None:
         """By the times of the log: EEC1 at 10.000 alone, RIGHT's EBC2 at 10.27 and 10.56, in the other log at 17.56."""
         _, tables, _ = self.tables([self.early, self.late])
         self.assertEqual([(row["group"], row["from"], row["sent"], row["logs"]) for row in tables["flows"]],
@@ -115,7 +117,7 @@ class Table(Fleets):
         self.assertEqual([(round(row["silence"], 6), row["silence_log"], row["silence_line"]) for row in tables["flows"]],
                          [(7.7, "late.log", None), (7.55, "late.log", 6), (7.29, "late.log", 7)])
 
-    def test_needs(self):
+    def test_needs(self) -> None:
         """How often each was met, in how many logs, and in which one it wasn't: LEFT hears EEC1 once a log, and RIGHT's EBC2 in the first one."""
         needs = "".join(f'\n[[need]]\nunit = "{unit}"\ngroup = "{group}"\n' for unit, group in (("LEFT", "EEC1"), ("LEFT", "EBC2"), ("ENGINE", "EEC1")))
         text = text_of(PLAN)
@@ -130,14 +132,14 @@ class Table(Fleets):
             ["need", "met", "logs", "not", "met"], ["1", "EEC1", "by", "LEFT", "1", "1", "silent.log"],
             ["2", "EBC2", "by", "LEFT", "2", "1", "silent.log"], ["3", "EEC1", "by", "ENGINE", "0", "0", "early.log", "and", "1", "others"]])
 
-    def test_names(self):
+    def test_names(self) -> None:
         """RIGHT claimed 128 and then 129, LEFT 128, each in both logs; and one that isn't planned 5, in one of them."""
         _, tables, _ = self.tables([self.early, self.late])
         self.assertEqual([(row["unit"], row["addresses"], row["logs"], row["claims"]) for row in tables["names"]],
                          [("LEFT", [128], 2, 2), ("RIGHT", [128, 129], 2, 4), (None, [5], 1, 1)])
         self.assertEqual((tables["names"][-1]["name"], tables["names"][-1]["first"]), ("8000000000000001", "late.log"))
 
-    def test_deviations_are_those_of_against(self):
+    def test_deviations_are_those_of_against(self) -> None:
         """By log, flow and unit, with how often each was met."""
         logs = [example(name) for name in ("tractor_and_implement.start.log", "truck.drive.log", "two_units_one_address.drive.log")]
         plan = example("tractor_and_implement.toml")
@@ -154,7 +156,7 @@ class Table(Fleets):
         units = {row["unit"]: row["deviations"] for row in tables["units"]}
         self.assertEqual(units["ENGINE"], len({row["what"] for row in tables["deviations"] if row["unit"] == "ENGINE"}))
 
-    def test_signals(self):
+    def test_signals(self) -> None:
         """Between which values each was, in which log and where: the same as by `signals`."""
         log = example("tractor_and_implement.start.log")
         _, tables, _ = self.tables([log], plan=example("tractor_and_implement.toml"))
@@ -163,7 +165,7 @@ class Table(Fleets):
         self.assertEqual(rows["CCVS.SPN84"], {"signal": "CCVS.SPN84", "planned": True, "states": {"fault": 1}, "least": None, "least_log": None, "least_line": None,
                                               "most": None, "most_log": None, "most_line": None})
 
-    def test_trouble_codes_and_vehicles(self):
+    def test_trouble_codes_and_vehicles(self) -> None:
         """Logs in which one box claims are of one vehicle; one without a claim is of its own."""
         plan = self.write("plan.toml", CODES)
         logs = [self.write(f"{name}.log", "".join(f"({at:.1f}) can0 {frame}\n" for at, frame in lines)) for name, lines in (
@@ -181,7 +183,7 @@ class Table(Fleets):
             ["110", "3", "DM1", "ENGINE", "2.000", "a.log:2", "20.000", "b.log:1", "4", "3", "2"],
             ["190", "8", "DM1", "ENGINE", "3.000", "a.log:3", "3.000", "a.log:3", "1", "1", "1"]])
 
-    def test_values_of_other_senders(self):
+    def test_values_of_other_senders(self) -> None:
         """They have a row of their own, and change nothing in that of the plan's flows."""
         plan = self.write("plan.toml", CODES)
         log = self.write("a.log", "".join(f"({at}.0) can0 {frame}FFFFFFFFFFFFFF\n" for at, frame in enumerate(
@@ -193,7 +195,7 @@ class Table(Fleets):
             self.assertEqual(((row["least"], row["least_line"]), (row["most"], row["most_line"]), row["states"]), (least, most, states))
         self.assertRegex(self.fleet([log], plan=plan)[1], r"ET1\.SPN110 of others +5 +a\.log:4 +200 +a\.log:2")
 
-    def test_an_empty_log(self):
+    def test_an_empty_log(self) -> None:
         """It is named as one that failed, with status 2, and counts as no log in which nothing was sent."""
         empty = self.write("empty.log", "")
         status, answer, said = self.fleet([self.early, empty])
@@ -201,7 +203,7 @@ class Table(Fleets):
         self.assertTrue(answer.endswith("failed empty.log: it has no frame\nlogs 1 with deviations 0 failed 1\n"), answer)
         self.assertNotIn("never sent", answer)
 
-    def test_options_of_against(self):
+    def test_options_of_against(self) -> None:
         plan = self.write("plan.toml", text_of(PLAN).replace("version = 1", "version = 3", 1).replace('to = "all"\n', 'to = "all"\nperiod = 1000\n'))
         self.assertTrue(any("its period is 1000 ms" in row["text"] for row in self.tables([self.early], plan=plan)[1]["deviations"]))
         self.assertFalse(any("its period is 1000 ms" in row["text"] for row in self.tables("--jitter", "999", [self.early], plan=plan)[1]["deviations"]
@@ -210,14 +212,14 @@ class Table(Fleets):
 
 
 class Tasks(Fleets):
-    def test_how_many_at_once_makes_no_difference(self):
+    def test_how_many_at_once_makes_no_difference(self) -> None:
         logs = [self.write(f"{number}.log", text_of(LOG) * (1 + number % 3) + FOREIGN) for number in range(7)]
         first = self.fleet("--processes", "1", logs)
         self.assertEqual(first[0], 1)
-        for words in (["--processes", "3"], []):
+        for words in (("--processes", "3"), ()):
             self.assertEqual(self.fleet(*words, logs), first)
 
-    def test_a_log_that_fails_is_named(self):
+    def test_a_log_that_fails_is_named(self) -> None:
         """One that isn't there, a folder, a pipe, one without a frame and one that is packed; the others are done."""
         os.mkfifo(self.path("fifo"))
         none, packed = self.write("drive.asc", "date Mon\nbase hex\n"), self.path("drive.log.gz")
@@ -233,14 +235,14 @@ class Tasks(Fleets):
         self.assertTrue(answer.endswith("logs 1 with deviations 1 failed 5\n"))
         self.assertEqual(self.fleet([self.early, none])[0], 2)
 
-    def test_the_same_twice_is_said(self):
+    def test_the_same_twice_is_said(self) -> None:
         os.symlink(self.early, self.path("link.log"))
         status, tables, said = self.tables([self.early, self.path("link.log"), self.early])
         self.assertEqual((status, len(tables["logs"])), (0, 1))
         self.assertEqual(said, "fleet: link.log: the same log as early.log, so it is read once\n"
                                "fleet: early.log: the same log as early.log, so it is read once\n")
 
-    def test_a_plan_that_is_none(self):
+    def test_a_plan_that_is_none(self) -> None:
         none = self.write("none.toml", "version = 9\n")
         self.assertEqual(self.fleet([self.early], plan=none), (2, "", "fleet: none.toml:1: refused Range top key version  (version = 9: integer 1..4)\n"))
         bad = example("findings/f07_signal_outside.toml")
@@ -248,7 +250,7 @@ class Tasks(Fleets):
         missing = self.path("missing.toml")
         self.assertEqual(self.fleet([self.early], plan=missing), (4, "", "fleet: missing.toml: No such file or directory\n"))
 
-    def test_a_process_that_is_ended_loses_nothing(self):
+    def test_a_process_that_is_ended_loses_nothing(self) -> None:
         """What it was at is done again; a log on which it is ended each time is named, and the others are done."""
         logs = [self.write(f"{number}.drive.log", text_of(LOG)) for number in range(4)]
         expected = self.fleet(logs)
@@ -259,7 +261,7 @@ class Tasks(Fleets):
         self.assertEqual((status, said), (70, "fleet: 2.drive.log: the process that read it was ended, 3 times\n"))
         self.assertEqual([row["log"] for row in tables["logs"]], ["0.drive.log", "1.drive.log", "3.drive.log"])
 
-    def test_a_bar_on_a_terminal(self):
+    def test_a_bar_on_a_terminal(self) -> None:
         """How many logs are done is shown there alone, and what fails stands on a line of its own."""
         ours, theirs = pty.openpty()
         words = [sys.executable, os.path.join(TOOLS, "fleet.py"), PLAN, self.early, self.path("no.log"), self.late]
@@ -276,7 +278,7 @@ class Tasks(Fleets):
         self.assertIn(b"\r\x1b[Kfleet: " + self.path("no.log").encode() + b": No such file or directory\r\n", shown)
         self.assertTrue(shown.endswith(b"\r\x1b[K"))
 
-    def test_an_interrupt_ends_all(self):
+    def test_an_interrupt_ends_all(self) -> None:
         """Without a word, and no process is left."""
         script = self.write("slow", f"#!/bin/sh\n[ \"$1\" = follow ] && [ -s \"$4\" ] && sleep 60\nexec {os.path.abspath(program.path())} \"$@\"\n")
         os.chmod(script, 0o755)
@@ -295,7 +297,7 @@ class Tasks(Fleets):
         self.assertEqual(self.processes(started.pid), [])
 
     @staticmethod
-    def processes(session):
+    def processes(session: int) -> list[str]:
         """The processes of a session that aren't ended."""
         found = subprocess.run(["ps", "-o", "pid=,stat=", "-s", str(session)], capture_output=True, text=True, check=False).stdout
         return [line for line in found.splitlines() if " Z" not in line]
@@ -304,7 +306,7 @@ class Tasks(Fleets):
 @unittest.skipUnless(importlib.util.find_spec("distributed"), "distributed isn't there: apt-get install python3-distributed")
 class OnACluster(Fleets):
     @contextlib.contextmanager
-    def cluster(self, workers=2, **environment):
+    def cluster(self, workers: int = 2, **environment: str) -> Iterator[str]:
         """A scheduler and workers on the loopback; its address."""
         for name in ("package/j39plan", "scheduler.json"):
             with contextlib.suppress(FileNotFoundError):
@@ -312,9 +314,9 @@ class OnACluster(Fleets):
         os.makedirs(self.path("package"), exist_ok=True)
         os.symlink(os.path.join(TOOLS, "j39plan"), self.path("package/j39plan"))
         there = {**os.environ, "J39PLAN": os.path.abspath(program.path()), "PYTHONPATH": self.path("package"), **environment}
-        started = []
+        started: list[subprocess.Popen[bytes]] = []
 
-        def start(name, *words):
+        def start(name: str, *words: str) -> None:
             with open(self.path(f"{len(started)}.said"), "wb") as said:
                 started.append(subprocess.Popen([sys.executable, "-m", f"distributed.cli.{name}", *words], cwd=self.folder, env=there,
                                                 stdin=subprocess.DEVNULL, stdout=said, stderr=said))
@@ -334,20 +336,20 @@ class OnACluster(Fleets):
                 process.kill()
                 process.wait()
 
-    def test_the_same_as_here(self):
+    def test_the_same_as_here(self) -> None:
         logs = [self.write(f"{number}.log", text_of(LOG) * (1 + number % 3)) for number in range(6)] + [self.path("no.log")]
         here = self.fleet(logs)
         with self.cluster() as address:
             self.assertEqual(self.fleet("--scheduler", address, logs), here)
 
-    def test_a_worker_that_is_ended_in_mid_log_loses_nothing(self):
+    def test_a_worker_that_is_ended_in_mid_log_loses_nothing(self) -> None:
         logs = [self.write(f"{number}.drive.log", text_of(LOG)) for number in range(6)]
         here = self.fleet(logs)
         with self.cluster(J39PLAN=self.deadly()) as address:
             self.assertEqual(self.fleet("--scheduler", address, logs), here)
             self.assertTrue(os.path.isdir(self.path("ended")))
 
-    def test_what_cannot_do_tasks(self):
+    def test_what_cannot_do_tasks(self) -> None:
         """No scheduler, a worker without the package, one without the program."""
         status, answer, said = self.fleet("--scheduler", "tcp://127.0.0.1:9", [self.early])
         self.assertEqual((status, answer), (4, ""))
@@ -361,7 +363,7 @@ class OnACluster(Fleets):
             self.assertEqual((status, answer), (69, ""))
             self.assertRegex(said, r"^fleet: tcp://\S+ has no program, and here is j39plan \d")
 
-    def test_words(self):
+    def test_words(self) -> None:
         for words in (["--scheduler", "here"], ["--scheduler", "tcp://127.0.0.1:9", "--processes", "2"], ["--processes", "0"]):
             status, answer, said = self.fleet(*words, [self.early])
             self.assertEqual((status, answer, said[:6]), (2, "", "usage:"), words)

@@ -51,59 +51,59 @@ FIRST = "4: refused Range unit 1 key address  (address = 300: integer 0..253)"
 class FurtherFaults(InFolder):
     """By the schema, which the library checks."""
 
-    def answer(self, text, *words):
+    def answer(self, text: str, *words: str) -> list[str]:
         """The lines of where.py without the file's name."""
         plan = self.write("plan.toml", text)
         status, answer, said = run("where.py", *words, plan)
         self.assertEqual((status, said), (2, ""))
         return answer.replace(f"{plan}:", "").splitlines()
 
-    def test_all_of_a_plan(self):
+    def test_all_of_a_plan(self) -> None:
         self.assertEqual(self.answer(PLAN), [FIRST, *FURTHER])
 
-    def test_keys_of_later_versions(self):
+    def test_keys_of_later_versions(self) -> None:
         told = self.answer(PLAN.replace("version = 4", "version = 1"))
         self.assertEqual(told[-2:], ["21: also key values: only from version = 4 on: write version = 4",
                                      "26: also key deadline: only from version = 3 on: write version = 4"])
 
-    def test_a_plan_of_no_version_has_no_further_fault(self):
+    def test_a_plan_of_no_version_has_no_further_fault(self) -> None:
         """Since which keys it may have isn't known."""
         self.assertEqual(len(self.answer(PLAN.replace("version = 4", "version = 9"))), 1)
 
-    def test_statements_that_are_no_toml(self):
+    def test_statements_that_are_no_toml(self) -> None:
         """Each is told, and what they would say isn't missed."""
         text = PLAN.replace('label = "GEARBOX"', "label = GEARBOX").replace("priority = 9", "priority = True").replace("byte = 4", "byte = 0a")
         told = ["4: also address = 300: integer 0..253", *FURTHER[:3], "13: also priority = True: an integer is wanted",
                 "17: also byte = 0a: a hexadecimal number is 0x0A", *FURTHER[4:]]
         self.assertEqual(self.answer(text), ['7: refused Text  (label = GEARBOX: a text needs quotes: "GEARBOX")', *told])
 
-    def test_a_key_without_a_value(self):
+    def test_a_key_without_a_value(self) -> None:
         """What stands on the next line is another key's."""
         text = PLAN.replace("address = 300\nname", "address =\nname").replace("byte = 4", "byte = # from 1")
         self.assertEqual(self.answer(text), ["4: refused Text  (key address: one = and then a value)", *FURTHER[:4], "17: also key byte: one = and then a value",
                                              *FURTHER[4:]])
 
-    def test_what_is_no_integer_for_the_program(self):
+    def test_what_is_no_integer_for_the_program(self) -> None:
         """10.0 isn't, and no truth value."""
         self.assertEqual(self.answer(PLAN.replace("length = 8", "length = 8.0").replace("bits = 16", "bits = true"))[5:7],
                          ["14: also length = 8.0: integer 1..1785", "18: also bits = true: integer 1..64"])
 
-    def test_tables_that_are_lists(self):
+    def test_tables_that_are_lists(self) -> None:
         """A header of one bracket is told which one is meant."""
         told = self.answer(PLAN.replace("[[flow]]", "[flow]").replace("[[group.signal]]", "[group.signal]"))
         self.assertEqual(told[0], "22: refused WrongType top key flow  (key flow: an array of tables: [[flow]])")
         self.assertEqual(told[-1], "15: also key signal: an array of tables: [[group.signal]]")
 
-    def test_an_unclosed_bracket_hides_the_rest(self):
+    def test_an_unclosed_bracket_hides_the_rest(self) -> None:
         self.assertEqual(len(self.answer(PLAN.replace("foo = 1 }", "foo = 1"))), 1)
 
-    def test_json(self):
+    def test_json(self) -> None:
         """In an array of their own, with lines and hints."""
         found = json.loads("\n".join(self.answer(PLAN, "--json")))
         self.assertEqual(found["refused"]["line"], 4)
         self.assertEqual([f"{fault['line']}: also {fault['hint']}" for fault in found["further"]], FURTHER)
 
-    def test_annotations_and_reports(self):
+    def test_annotations_and_reports(self) -> None:
         told = self.answer(PLAN, "--github", "--gitlab", self.path("report.json"))
         self.assertEqual([line.partition(" file=")[0] for line in told], ["::error"] * 9)
         with open(self.path("report.json"), encoding="utf-8") as file:
@@ -111,7 +111,7 @@ class FurtherFaults(InFolder):
         self.assertEqual({one["severity"] for one in report}, {"critical"})
         self.assertEqual([one["location"]["lines"]["begin"] for one in report], [4, 8, 9, 9, 13, 19, 20, 21, 22])
 
-    def test_a_plan_with_one_fault_has_no_other(self):
+    def test_a_plan_with_one_fault_has_no_other(self) -> None:
         """The refused plans of the page."""
         for text, answer in shown_refusals():
             with self.subTest(answer):
@@ -122,9 +122,10 @@ class WithoutTheLibrary(InFolder):
     """The first fault is told all the same."""
 
     @unittest.mock.patch.dict("sys.modules", {"jsonschema": None})
-    def test_it_is_not_there(self):
+    def test_it_is_not_there(self) -> None:
         from j39plan.cli import where
-        name, written = self.write("plan.toml", PLAN), []
+        name = self.write("plan.toml", PLAN)
+        written: list[str] = []
         with unittest.mock.patch("sys.stdout.write", written.append):
             self.assertEqual(where.main([name]), 2)
         self.assertEqual("".join(written), f"{name}:{FIRST}\n")

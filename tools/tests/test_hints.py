@@ -10,13 +10,13 @@ UNIT = '[[unit]]\nlabel = "{}"\naddress = {}\nname = {{ identity = {} }}\n'
 
 
 class Hints(InFolder):
-    def answer(self, text):
+    def answer(self, text: str) -> tuple[int, list[str]]:
         """What `where` answers of a plan, without the file's name."""
         name = self.write("plan.toml", text)
         status, answer, _ = run("where.py", name)
         return status, [line for line in answer.replace(name + ":", "").splitlines() if not re.search(r"\d: also ", line)]
 
-    def test_keys_of_other_formats(self):
+    def test_keys_of_other_formats(self) -> None:
         """What they are here; and the header of a table that belongs into another one."""
         head = 'version = 4\n' + UNIT.format("A", 0, 1) + '[[group]]\nlabel = "G"\npgn = 65262\npriority = 6\nlength = 8\n'
         signal = head + '[[group.signal]]\nlabel = "S"\nbyte = 1\nbits = 8\nkind = "raw"\n'
@@ -34,7 +34,7 @@ class Hints(InFolder):
             at = text.count("\n") + 1
             self.assertEqual(self.answer(f"{text}{key}\n"), (2, [f"{at}: refused UnknownKey {place}  (key {meant})"]))
 
-    def test_hints_at_what_is_no_toml(self):
+    def test_hints_at_what_is_no_toml(self) -> None:
         """In words of the plan, each at its line: values without quotes, numbers, blanks, brackets, and tables that are none of a list."""
         for text, line, hint in (
             ("[[unit]]\nlabel = GEARBOX # the label\n", 2, 'label = GEARBOX: a text needs quotes: "GEARBOX"'),
@@ -58,7 +58,7 @@ class Hints(InFolder):
         ):
             self.assertEqual(self.answer(text), (2, [f"{line}: refused Text  ({hint})"]))
 
-    def test_numbers_that_no_group_can_have(self):
+    def test_numbers_that_no_group_can_have(self) -> None:
         """Which of the reasons of F4 it is, by the number, and what may have been meant."""
         group = '[[group]]\nlabel = "G"\npgn = {}\npriority = 6\nlength = 8\n'
         for version, number, line, hint in (
@@ -78,7 +78,7 @@ class Hints(InFolder):
             hint = f"(pgn = {number}: integer 0..16777215; a CAN identifier? its PGN is {meant})"
             self.assertEqual(self.answer("version = 4\n" + group.format(number)), (2, [f"4: refused Range group 1 key pgn  {hint}"]))
 
-    def test_widths_that_a_kind_does_not_have(self):
+    def test_widths_that_a_kind_does_not_have(self) -> None:
         """Those of the signal's own kind."""
         plan = ('version = 4\n[[group]]\nlabel = "G"\npgn = 65262\npriority = 6\nlength = 8\n'
                 '[[group.signal]]\nlabel = "S"\nbyte = 1\nbits = {}\nkind = "{}"\n')
@@ -90,7 +90,7 @@ class Hints(InFolder):
         ):
             self.assertEqual(self.answer(plan.format(bits, kind))[1][0], f"{line}: F6 SignalWidth G S {bits}  (key {hint})")
 
-    def test_values_that_are_none(self):
+    def test_values_that_are_none(self) -> None:
         """A divisor with a fraction, a name that is no label, and a text where a signal is needed."""
         signal = ('version = 4\n[[group]]\nlabel = "G"\npgn = 65262\npriority = 6\nlength = 8\n'
                   '[[group.signal]]\nlabel = "S"\nbyte = 1\nbits = 8\nkind = "states"\n')
@@ -102,7 +102,7 @@ class Hints(InFolder):
         said = "23: refused UnknownLabel need 1 key signal  (key signal: VIN is a text: leave signal out)"
         self.assertEqual(self.answer(signal + need), (2, [said]))
 
-    def test_json(self):
+    def test_json(self) -> None:
         """Findings by their parts, with lines, hints and steps; a plan that can't be read; one without findings; hints where they are asked for."""
         plan = "version = 1\n" + UNIT.format("A", 0, 1) + UNIT.format("B", 0, 2)
         name = self.write("plan.toml", plan)
@@ -115,8 +115,8 @@ class Hints(InFolder):
                    "hint": "address = 254: integer 0..253"}
         name = self.write("plan.toml", plan.replace("= 0", "= 254"))
         further = [{"line": 8, "hint": "address = 254: integer 0..253"}]
-        answer = json.loads(run("where.py", "--json", "--lint", name)[1])
-        self.assertEqual((answer.pop("further", further), answer), (further, {"plan": name, "status": 2, "refused": refused}))
+        told = json.loads(run("where.py", "--json", "--lint", name)[1])
+        self.assertEqual((told.pop("further", further), told), (further, {"plan": name, "status": 2, "refused": refused}))
         clean = example("first_plan.toml")
         ok = {"plan": clean, "status": 0, "findings": [], "counts": {"units": 2, "groups": 1, "flows": 1}}
         self.assertEqual(json.loads(run("where.py", "--json", clean)[1]), ok)

@@ -11,6 +11,7 @@ import sys
 import tempfile
 import time
 import unittest
+from typing import Any
 
 from j39plan import program
 from j39plan.log.reports import CONVERTER
@@ -33,20 +34,20 @@ OTHER_NAME = re.compile(r"/dev/(?:stdin|fd/\d+)|\b(?:fifo|link)\b|(?<=>Plan )(?:
 RANDOM = random.Random(33).randbytes(20000)
 
 
-def tool(name):
+def tool(name: str) -> str:
     """A tool as a shell calls it."""
     return f"{sys.executable} {os.path.join(TOOLS, name)}"
 
 
 class NoRegularFiles(InFolder):
-    def answer(self, command):
+    def answer(self, command: str) -> tuple[int, str]:
         """The status of a shell's command in a folder of its own, and its standard output."""
         with tempfile.TemporaryDirectory() as folder:
             ended = subprocess.run(["bash", "-c", command], cwd=folder, capture_output=True, text=True, check=False, timeout=60,
                                    env={**os.environ, "J39PLAN": os.path.abspath(program.path())})
         return ended.returncode, ended.stdout
 
-    def is_judged_alike(self, before, file, behind=""):
+    def is_judged_alike(self, before: str, file: str, behind: str = "") -> None:
         """A file is judged alike however it is given."""
         status, answer = self.answer(f"{before} {file} {behind}")
         answer = answer.replace(file, "F").replace(f">Plan {os.path.basename(file)}<", ">Plan F<")
@@ -55,7 +56,7 @@ class NoRegularFiles(InFolder):
             other_status, other = self.answer(form.format(before=before, file=file, behind=behind))
             self.assertEqual((other_status, OTHER_NAME.sub("F", other)), (status, answer), form)
 
-    def test_plans(self):
+    def test_plans(self) -> None:
         refused = self.write("refused.toml", "version = 1\n[[unit]]\nlabel = A\n")
         self.is_judged_alike(tool("where.py"), refused)
         self.is_judged_alike(tool("where.py"), example("findings/f02_same_fixed_address.toml"))
@@ -64,24 +65,24 @@ class NoRegularFiles(InFolder):
         self.is_judged_alike(tool("against.py"), PLAN, LOG)
         self.is_judged_alike(tool("signals.py"), PLAN, LOG)
 
-    def test_plans_of_a_job(self):
+    def test_plans_of_a_job(self) -> None:
         self.is_judged_alike(f"CHECK='{tool('where.py')}' {os.path.join(TOOLS, 'check-plans')}", PLAN)
 
-    def test_logs(self):
+    def test_logs(self) -> None:
         self.is_judged_alike(f"{tool('against.py')} {PLAN}", LOG)
         self.is_judged_alike(f"{tool('signals.py')} {PLAN}", LOG)
 
-    def test_plan_and_log(self):
+    def test_plan_and_log(self) -> None:
         both = f"{tool('against.py')} <(cat {PLAN}) <(cat {LOG})"
         status, answer = self.answer(f"{tool('against.py')} {PLAN} {LOG}")
         self.assertEqual((status, status), (self.answer(both)[0], 1))
         self.assertEqual(OTHER_NAME.sub("F", self.answer(both)[1]), answer.replace(PLAN, "F").replace(LOG, "F"))
 
-    def test_a_plan_without_end(self):
+    def test_a_plan_without_end(self) -> None:
         for name in ("where.py", "startup.py", "report.py", "against.py"):
             self.assertEqual(run(name, "/dev/zero", *[LOG] * (name == "against.py")), (2, "", "j39plan: input too long\n"))
 
-    def test_a_folder_and_a_file_that_may_not_be_read(self):
+    def test_a_folder_and_a_file_that_may_not_be_read(self) -> None:
         for name in ("where.py", "startup.py", "report.py", "against.py"):
             more = [LOG] * (name == "against.py")
             said = f"{name[:-3]}: {self.folder}: Is a directory\n"
@@ -90,7 +91,7 @@ class NoRegularFiles(InFolder):
 
 
 class OtherFiles(InFolder):
-    def setUp(self):
+    def setUp(self) -> None:
         super().setUp()
         with open(program.path(), "rb") as file:
             built = file.read()
@@ -104,7 +105,7 @@ class OtherFiles(InFolder):
             with open(self.path(name), "wb") as file:
                 file.write(data)
 
-    def test_as_a_plan(self):
+    def test_as_a_plan(self) -> None:
         """The program's refusal with its line and a hint, as `where` has it, and status 2."""
         for name in self.files:
             refused = program.call(["check", name])[1].strip()
@@ -112,12 +113,12 @@ class OtherFiles(InFolder):
             placed = run("where.py", name)[1]
             for words in (["startup.py", name], ["report.py", name], ["against.py", name, LOG], ["signals.py", name, LOG]):
                 self.assertEqual(run(*words), (2, "", f"{words[0][:-3]}: {placed}"))
-            for form in ([], ["--github"]):
+            for form in ((), ("--github",)):
                 status, answer, said = run("where.py", *form, name)
                 self.assertEqual((status, said), (2, ""), name)
                 self.assertIn(refused, answer.splitlines()[0])
 
-    def test_as_a_log(self):
+    def test_as_a_log(self) -> None:
         """What has lines, and none of them a frame, is refused as no log, and nothing is put; an empty file is a log without frames. Of a log
         each line is counted as `follow` counts it, and what is put is whole."""
         for name in self.files:
@@ -139,7 +140,7 @@ class OtherFiles(InFolder):
                     self.assertEqual(answer.count("\n") <= 1, not name.endswith("log"))
             self.assertEqual(os.path.exists(picture), bool(pictures) and what is None)
 
-    def test_formats_of_other_programs(self):
+    def test_formats_of_other_programs(self) -> None:
         """ASC, TRC, CSV and the lines that candump writes without -L are no log, and the way to one is told."""
         for name, text in {
             "drive.asc": " 0.004000 1  18FEEE00x       Rx   d 8 8A FF 00 30 FF FF FF FF\n",
@@ -154,7 +155,7 @@ class OtherFiles(InFolder):
                 self.assertIn(f"has no frame, and {text.count(chr(10))} lines that spell none: {CONVERTER}\n", said)
             self.assertFalse(os.path.exists(self.path("a.svg")))
 
-    def test_one_of_several_logs_that_is_none(self):
+    def test_one_of_several_logs_that_is_none(self) -> None:
         """It is named; a log of one frame is one, and a packed one is told apart."""
         drive, short, other = self.write("a.log", text_of(LOG)), self.write("b.log", "18FEEE00#8AFF0030FFFFFFFF\n"), self.write("c.asc", "date Mon Nov 23\n")
         for tool in ("against.py", "signals.py"):
@@ -164,30 +165,30 @@ class OtherFiles(InFolder):
                 file.write(text_of(LOG).encode())
             self.assertRegex(run(tool, PLAN, self.path("a.log.gz"))[2], r"/a\.log\.gz has no frame, and .*: it is packed by gzip: read it as <\(zcat FILE\)\n")
 
-    def test_names_of_any_bytes(self):
+    def test_names_of_any_bytes(self) -> None:
         """A name that is no text, or has a line feed, is no fault of a plan."""
         text = text_of(PLAN)
         for name in (b"\xff.toml", b"a\nb.toml"):
             with open(os.path.join(os.fsencode(self.folder), name), "w", encoding="utf-8") as file:
                 file.write(text)
             for words in (["where.py"], ["where.py", "--github"], ["startup.py"]):
-                status, answer, said = run(*words, os.path.join(os.fsencode(self.folder), name))
+                status, answer, said = run(*words, os.path.join(self.folder, os.fsdecode(name)))
                 self.assertEqual(status, 0, said)
             self.assertEqual(program.call(["run", PLAN, self.write("start.schedule", answer)])[0], 0)
 
 
-def lines_without_frames(log):
+def lines_without_frames(log: str) -> str | None:
     """How many lines of a log spell no frame, where it has such and none with one; else None."""
     *_, frames, _, skipped, _, bad, _, _ = program.call(["follow", PLAN, log])[1].split()
     return bad if (frames, skipped) == ("0", "0") and bad != "0" else None
 
 
-def unnamed(said):
+def unnamed(said: str) -> str:
     """What a tool says, without the names of interfaces, which random bytes may be."""
     return re.sub(r"(?m)^(\w+: ).* is read, the first of the log; (\d+) lines of .* are passed over.*$", r"\1the first interface is read; \2 lines of others are passed over", said)
 
 
-def passed_over(tool, log):
+def passed_over(tool: str, log: str) -> str:
     """What a tool says of the lines of a log that `follow` counts as bad or elsewhere, and of one without a frame."""
     *_, frames, _, _, _, bad, _, elsewhere = program.call(["follow", PLAN, log])[1].split()
     texts = [f"{log} has no frame"] * (frames == "0")
@@ -197,14 +198,14 @@ def passed_over(tool, log):
 
 
 class Interrupted(InFolder):
-    def test_an_interrupt_has_no_traceback(self):
+    def test_an_interrupt_has_no_traceback(self) -> None:
         """A tool that waits for its input ends by the signal, as a shell's other commands do."""
         os.mkfifo(self.path("fifo"))
         for words in (["where.py", "fifo"], ["startup.py", "fifo"], ["against.py", "fifo", LOG]):
             ended, answer, said = self.ended(words, interrupts=1)
             self.assertEqual((ended, answer, said), (-signal.SIGINT, "", ""), words)
 
-    def test_an_interrupt_ends_a_log_and_not_the_tool(self):
+    def test_an_interrupt_ends_a_log_and_not_the_tool(self) -> None:
         """Where the log is a pipe, the first interrupt is its end: what came is told, as of a file. It ends also where who writes it goes on."""
         os.mkfifo(self.path("fifo"))
         lines = text_of(LOG)
@@ -217,18 +218,18 @@ class Interrupted(InFolder):
             self.assertEqual((ended, answer, said), (0, "", run("plot.py", PLAN, LOG, "SPN190", "-o", self.path("b.svg"))[2]))
             self.assertIn("EEC1.SPN190", text_of(self.path("a.svg")))
 
-    def test_a_second_interrupt_ends_the_tool(self):
+    def test_a_second_interrupt_ends_the_tool(self) -> None:
         os.mkfifo(self.path("fifo"))
         ended, answer, said = self.ended(["against.py", PLAN, "fifo"], interrupts=2, lines="")
         self.assertEqual((ended, answer, said), (-signal.SIGINT, "", ""))
 
-    def test_an_interrupt_that_is_passed_over_by_the_shell(self):
+    def test_an_interrupt_that_is_passed_over_by_the_shell(self) -> None:
         """As `trap '' INT` has it: what came is told when the log ends."""
         os.mkfifo(self.path("fifo"))
         ended, answer, _ = self.ended(["against.py", PLAN, "fifo"], interrupts=3, lines=text_of(LOG), handler=signal.SIG_IGN)
         self.assertEqual((ended, answer.replace("fifo", LOG)), run("against.py", PLAN, LOG)[:2])
 
-    def ended(self, words, interrupts, lines=None, handler=signal.SIG_DFL):
+    def ended(self, words: list[str], interrupts: int, lines: Any = None, handler: Any = signal.SIG_DFL) -> tuple[int, str, str]:
         """How a tool ends that reads a FIFO, into which these lines are written, and that is interrupted then: its status, standard output and
         standard error. The FIFO stays open until the tool has ended, or where it passes over interrupts until these were sent."""
         started = subprocess.Popen(

@@ -3,6 +3,8 @@
 import re
 import tomllib
 import unittest
+from collections.abc import Sequence
+from typing import Any
 
 from j39plan import program
 from tests.support import InFolder, example, needs, run, signal, text_of
@@ -112,29 +114,29 @@ period = 10
 """
 
 
-def group(label, pgn, more="", private=True):
+def group(label: str, pgn: int, more: str = "", private: bool = True) -> str:
     """The table of a group of eight bytes."""
     return f'[[group]]\nlabel = "{label}"\npgn = {pgn}\npriority = 6\nlength = 8\nprivate = {str(private).lower()}\n{more}'
 
 
-def unit(label, address, identity, more=""):
+def unit(label: str, address: int, identity: int, more: str = "") -> str:
     """The table of a unit."""
     return f'[[unit]]\nlabel = "{label}"\naddress = {address}\nname = {{ identity = {identity}{more} }}\n'
 
 
-def flow(name, sender, to="all", more=""):
+def flow(name: str, sender: str, to: str = "all", more: str = "") -> str:
     """The table of a flow."""
     return f'[[flow]]\ngroup = "{name}"\nfrom = "{sender}"\nto = "{to}"\n{more}'
 
 
 class Joined(InFolder):
-    def join(self, *plans, words=()):
+    def join(self, *plans: str, words: Sequence[str] = ()) -> tuple[int, str, list[str]]:
         """Joins plans, each a file of its own; status, plan, and the lines that are said, without the folder."""
         names = [self.write(f"{letter}.toml", plan) for letter, plan in zip("abcd", plans)]
         status, text, said = run("join.py", *words, *names)
         return status, text.replace(self.folder + "/", ""), said.replace(self.folder + "/", "").splitlines()
 
-    def joined(self, *plans, notes=0):
+    def joined(self, *plans: str, notes: int = 0) -> dict[str, Any]:
         """The plan that is joined of plans that don't contradict one another."""
         status, text, said = self.join(*plans)
         self.assertEqual(status, 0, said)
@@ -142,7 +144,7 @@ class Joined(InFolder):
         self.assertIn(program.call(["check", self.write("joined.toml", text)])[0], (0, 1), text)
         return tomllib.loads(text)
 
-    def contradicted(self, *plans):
+    def contradicted(self, *plans: str) -> tuple[list[str], str]:
         """What is said of plans that contradict one another: nothing is written, but by --first."""
         status, text, said = self.join(*plans)
         self.assertEqual((status, text), (1, ""), said)
@@ -153,7 +155,7 @@ class Joined(InFolder):
 
 
 class Agreement(Joined):
-    def test_what_agrees_is_there_once(self):
+    def test_what_agrees_is_there_once(self) -> None:
         """Units by their NAMEs, groups by their numbers, signals by what they mean: whatever they are called."""
         plan = self.joined(ENGINE, BRAKES, notes=4)
         self.assertEqual((plan["version"], plan["keep_free"], plan["timing"]), (3, [240], {"bitrate": 250000, "unplanned": 1}))
@@ -168,11 +170,16 @@ class Agreement(Joined):
             {"group": "TSC1", "from": "ABS", "to": "all", "period": 10},
         ])
 
-    def test_of_strangers_the_most_may_come(self):
+    def test_of_strangers_the_most_may_come(self) -> None:
         plans = ["version = 4\nstrangers = 2\n", "version = 3\nkeep_free = [240]\n", "version = 4\nstrangers = 3\n", "version = 4\n"]
         self.assertEqual(self.joined(*plans), {"version": 4, "keep_free": [240], "strangers": 3})
 
-    def test_it_says_where_each_part_is_from(self):
+    def test_it_is_live_where_any_is(self) -> None:
+        for plans, live in ((("version = 4\n", "version = 4\nlive = true\n"), True), (("version = 4\nlive = true\n", "version = 4\nlive = false\n"), True),
+                            (("version = 4\nlive = true\n", "version = 3\n"), True), (("version = 4\n", "version = 4\nlive = false\n"), False)):
+            self.assertEqual(self.joined(*plans).get("live", False), live, plans)
+
+    def test_it_says_where_each_part_is_from(self) -> None:
         """Above each table, with the comments of the files; and by notes what is called otherwise. (The one flow without a period is F16,
         since one of the plans says how fast the bus is.)"""
         _, text, said = self.join(ENGINE, BRAKES)
@@ -190,7 +197,7 @@ class Agreement(Joined):
             "2 plans: findings 1, notes 4, contradictions 0",
         ])
 
-    def test_a_plan_is_what_it_was(self):
+    def test_a_plan_is_what_it_was(self) -> None:
         """Of one plan, and of the same one in two files, all tables and keys are there: of each example and each finding."""
         for name in ("tractor_and_implement.toml", "truck.toml", "trouble_codes.toml", "identification.toml", "service_addresses.toml",
                      "axle.toml", "transfers.toml"):
@@ -198,19 +205,19 @@ class Agreement(Joined):
             self.assertEqual(self.joined(text), tomllib.loads(text), name)
             self.assertEqual(self.joined(text, "# Another file.\n" + text), tomllib.loads(text), name)
 
-    def test_a_plan_without_signals_gets_those_of_another_one(self):
+    def test_a_plan_without_signals_gets_those_of_another_one(self) -> None:
         without = re.sub(r"\n\[\[group\.signal\]\]\n(?:.+\n)*", "", text_of(example("truck.toml")))
         whole = tomllib.loads(text_of(example("truck.toml")))
         self.assertNotIn("signal", tomllib.loads(without)["group"][0])
         self.assertEqual(self.joined(without, text_of(example("truck.toml"))), whole)
 
-    def test_units_of_measurement_in_other_letters(self):
+    def test_units_of_measurement_in_other_letters(self) -> None:
         one, other = (f"version = 1\n{group('A', 65262, signal('S', 1, 8, 'measured', unit), False)}".replace("private = false\n", "")
                       for unit in ('unit = "degC"\n', 'unit = "deg c"\n'))
         status, _, said = self.join(one, other)
         self.assertEqual((status, said[0]), (0, 'b.toml:12: note: signal A.S: unit = "deg c", taken is "degC" of a.toml:12'))
 
-    def test_makers_own_groups_are_told_by_their_senders(self):
+    def test_makers_own_groups_are_told_by_their_senders(self) -> None:
         """Of one number and label, but of other makers, they stay two; of the same unit they are one."""
         one = "version = 3\n" + unit("A", 1, 1) + group("STATE", 65300, signal("S", 1, 8, "raw")) + flow("STATE", "A")
         other = "version = 3\n" + unit("B", 2, 2) + group("STATE", 65300, signal("T", 2, 8, "raw")) + flow("STATE", "B")
@@ -222,7 +229,7 @@ class Agreement(Joined):
 
 
 class Contradictions(Joined):
-    def test_each_is_named_with_file_and_line(self):
+    def test_each_is_named_with_file_and_line(self) -> None:
         other = BRAKES.replace("address = 0", "address = 1").replace("byte = 3", "byte = 5").replace("pgn = 0\npriority = 3", "pgn = 0\npriority = 2")
         found, text = self.contradicted(ENGINE, other)
         self.assertEqual(found, [
@@ -234,11 +241,11 @@ class Contradictions(Joined):
         self.assertNotIn("Torque (5.1, 8 bits) is", text)
         self.assertEqual([len(group.get("signal", [])) for group in tomllib.loads(text)["group"]], [1, 0])
 
-    def test_defaults_contradict_too(self):
+    def test_defaults_contradict_too(self) -> None:
         other = BRAKES.replace('label = "ENGINE"\n', 'label = "ENGINE"\nwindow = 16\n')
         self.assertEqual(self.contradicted(ENGINE, other)[0], ["b.toml:17: unit ENGINE: window = 16, and 255 by default at a.toml:5"])
 
-    def test_examples_that_contradict(self):
+    def test_examples_that_contradict(self) -> None:
         """Two examples of one truck: another length of DM1, and another code where its codes lie."""
         found, _ = self.contradicted(text_of(example("trouble_codes.toml")), text_of(example("truck.toml")))
         self.assertEqual([line.partition(": ")[2] for line in found], [
@@ -246,7 +253,7 @@ class Contradictions(Joined):
             "signal DM1.CODE (3.1, 32 bits) shares a bit with DTC (3.1, 32 bits) at a.toml:46",
         ])
 
-    def test_units(self):
+    def test_units(self) -> None:
         """A NAME that another unit has, a fixed address that another one has, and one that may choose, which is none."""
         first = "version = 1\n" + unit("A", 1, 1)
         self.assertEqual(self.contradicted(first, "version = 1\n" + unit("B", 2, 1))[0], [
@@ -255,7 +262,7 @@ class Contradictions(Joined):
                          ["b.toml:4: unit B is fixed at address 1, as unit A is at a.toml:4: --same A=B, if they are one"])
         self.joined(first, "version = 1\n" + unit("B", 1, 2, ", arbitrary = true"))
 
-    def test_a_unit_of_another_label_and_address_is_another_one(self):
+    def test_a_unit_of_another_label_and_address_is_another_one(self) -> None:
         """Whatever its NAME is; with --first both are in the plan, and check finds the NAME that they have."""
         names = [self.write(f"{label}.toml", "version = 3\n" + unit(label, address, 1) + group(sent, pgn, private=False) + flow(sent, label))
                  for label, address, sent, pgn in (("ENGINE", 0, "EEC1", 61444), ("HVAC", 25, "AMB", 65269))]
@@ -267,7 +274,7 @@ class Contradictions(Joined):
                                              "2 plans: findings 1, notes 0, contradictions 1"])
         self.assertIn("F1 SameName ENGINE HVAC", program.call(["check", self.write("joined.toml", text)])[1])
 
-    def test_serial_numbers(self):
+    def test_serial_numbers(self) -> None:
         """Units that may be one are, at one address; a number stays where each file has it, and of two at other addresses that is told."""
         tables = [f'version = 4\n[[unit]]\nlabel = "{label}"\naddress = {address}\nname = {{ {number}manufacturer = 310 }}\n'
                   for label, address, number in (("ENGINE", 0, "identity = 5, "), ("EMS", 0, ""), ("HVAC", 25, ""))]
@@ -283,7 +290,7 @@ class Contradictions(Joined):
         self.assertEqual(self.contradicted(tables[0], tables[0].replace("= 5,", "= 6,"))[0],
                          ["b.toml:5: unit ENGINE: name.identity = 6, and 5 at a.toml:5"])
 
-    def test_units_that_are_one(self):
+    def test_units_that_are_one(self) -> None:
         """As --same says, whichever file comes first."""
         names = [self.write(f"{label}.toml", "version = 3\n" + unit(label, 0, 1) + group(sent, pgn, private=False) + flow(sent, label))
                  for label, sent, pgn in (("ENGINE", "EEC1", 61444), ("EMS", "ET1", 65262))]
@@ -296,7 +303,7 @@ class Contradictions(Joined):
         self.assertEqual(run("join.py", "--same", "ENGINE=ECM", *names)[::2], (2, "join: --same ENGINE=ECM: no unit is called ECM\n"))
         self.assertEqual(run("join.py", "--same", "ENGINE", *names)[0], 2)
 
-    def test_groups_and_periods(self):
+    def test_groups_and_periods(self) -> None:
         first = "version = 3\n" + unit("A", 1, 1) + group("G", 65262, private=False) + flow("G", "A", more="period = 10\n")
         other = "version = 3\n" + unit("A", 1, 1) + group("G", 65263, private=False) + flow("G", "A", more="period = 20\n")
         self.assertEqual(self.contradicted(first, other)[0], ["b.toml:8: group G: pgn = 65263, and 65262 at a.toml:8"])
@@ -304,12 +311,12 @@ class Contradictions(Joined):
                          ["b.toml:16: flow G from A to all: period = 20, and 10 at a.toml:16"])
         self.assertEqual(self.joined(first, other.replace("65263", "65262").replace("period = 20\n", ""))["flow"][0]["period"], 10)
 
-    def test_timing(self):
+    def test_timing(self) -> None:
         bus = "version = 3\n[timing]\nbitrate = 250000\nunplanned = 1\n"
         self.assertEqual(self.contradicted(bus, bus.replace("25", "50"))[0],
                          ["b.toml:2: timing: { bitrate = 500000, unplanned = 1 }, and { bitrate = 250000, unplanned = 1 } at a.toml:2"])
 
-    def test_needs(self):
+    def test_needs(self) -> None:
         """The same need is one; what only one of them asks for is taken; two ages of one need contradict."""
         engine = ENGINE.replace("version = 1", "version = 4")
         needs = engine + '\n[[need]]\nunit = "ABS"\ngroup = "EEC1"\n', engine + (
@@ -323,14 +330,14 @@ class Contradictions(Joined):
         line = needs[1].count("\n", 0, needs[1].index("within")) + 1
         self.assertIn(f"{names[1]}:{line}: need group EEC1 unit ABS: within = 50, and 40 at {names[0]}:{needs[0].count(chr(10)) + 1}\n", said)
 
-    def test_a_signal_and_a_text_of_one_label(self):
+    def test_a_signal_and_a_text_of_one_label(self) -> None:
         text = '[[group.text]]\nlabel = "S"\nbyte = 3\n'
         first, other = ("version = 3\n" + group("G", 65262, more, False) for more in (signal("S", 1, 8, "raw"), text))
         self.assertEqual(self.contradicted(first, other)[0], ["b.toml:9: text G.S is a signal at a.toml:8"])
 
 
     @needs("canmatrix", "python3-canmatrix")
-    def test_the_suppliers_of_a_truck(self):
+    def test_the_suppliers_of_a_truck(self) -> None:
         """A plan of each one's DBC: of what is in several of them the rest agrees. The brakes' maker has another cycle time of EEC1, the cab's
         another offset of a temperature; and each has a number of its own for NAMEs that its file doesn't know."""
         plans = [run("dbc2plan.py", example(f"suppliers/{name}.dbc"))[1] for name in ("engine", "gearbox", "brakes", "cab")]
@@ -347,7 +354,7 @@ class Contradictions(Joined):
 
 
 class BadInput(Joined):
-    def test_each_file_that_is_none_is_named(self):
+    def test_each_file_that_is_none_is_named(self) -> None:
         good, text, none = self.write("a.toml", ENGINE), self.write("b.toml", "version = 1\n[[unit]\n"), self.write("c.toml", "version = 9\n")
         status, answer, said = run("join.py", text, good, none, self.path("missing.toml"), self.folder)
         self.assertEqual((status, answer), (4, ""))
@@ -357,13 +364,13 @@ class BadInput(Joined):
         self.assertEqual(lines[2:], ["join: missing.toml: No such file or directory", f"join: {self.folder}: Is a directory"])
         self.assertEqual(run("join.py", text, good)[0], 2)
 
-    def test_the_same_twice_is_said(self):
+    def test_the_same_twice_is_said(self) -> None:
         status, text, said = self.join(ENGINE, ENGINE)
         self.assertEqual((status, said), (0, ["join: b.toml: the same plan as a.toml, so it is joined once",
                                               "1 plans: ok 2 units 2 groups 2 flows, notes 0, contradictions 0"]))
         self.assertEqual(tomllib.loads(text), tomllib.loads(ENGINE))
 
-    def test_more_than_a_plan_can_have(self):
+    def test_more_than_a_plan_can_have(self) -> None:
         plans = ["version = 1\n" + "".join(unit(f"U{number}", 200, number, ", arbitrary = true") for number in numbers)
                  for numbers in (range(100), range(100, 200))]
         status, text, said = self.join(*plans)

@@ -12,16 +12,18 @@ import warnings
 from decimal import Decimal
 
 import j39plan
+from collections.abc import Callable, Iterable
 from j39plan import program
 from j39plan.j1939 import identifier_of
-from tests.support import TOOLS, TOP, InFolder, example, run, text_of, without_times
+from tests.support import TOOLS, TOP, InFolder, example, run, text_of, there, without_times
+from typing import Any
 
 PLAN, LOG = example("tractor_and_implement.toml"), example("tractor_and_implement.start.log")
 PAGE = text_of(os.path.join(TOP, "docs", "TOOLS.md"))
 
 
 class Module(InFolder):
-    def script(self, text, cwd=None, **environment):
+    def script(self, text: str, cwd: str | None = None, **environment: str) -> str:
         """What a Python program writes that finds the module and nothing else of the tools."""
         if not os.path.exists(self.path("package")):
             os.makedirs(self.path("package"))
@@ -32,7 +34,7 @@ class Module(InFolder):
         self.assertEqual((ended.returncode, ended.stderr), (0, ""))
         return ended.stdout
 
-    def test_it_is_in_nobodys_way(self):
+    def test_it_is_in_nobodys_way(self) -> None:
         """A program may have modules of the names that the tools and their modules have, before and behind it."""
         for name in ("program", "reports", "signals", "plan"):
             self.write(f"{name}.py", f"whose = 'mine, {name}'\n")
@@ -43,7 +45,7 @@ class Module(InFolder):
                 "print(pickle.loads(pickle.dumps(plan.units)) == plan.units, pickle.loads(pickle.dumps(j39plan.Refused(2, 'x'))) is not None)\n")
         self.assertEqual(self.script(text), "mine, program; mine, reports; mine, signals; mine, plan\n[]\nTrue True\n")
 
-    def test_what_is_handed_out(self):
+    def test_what_is_handed_out(self) -> None:
         """All that the package lists is there, the same in both lists, and nothing else; importing it loads none of it."""
         from j39plan import api
         self.assertEqual(j39plan.__all__, api.__all__)
@@ -51,29 +53,29 @@ class Module(InFolder):
             self.assertIs(getattr(j39plan, name), getattr(api, name))
             self.assertIn(name, dir(j39plan))
         with self.assertRaises(AttributeError):
-            j39plan.contextlib
+            getattr(j39plan, "contextlib")
         self.assertEqual(self.script("import j39plan, sys\nprint('j39plan.api' in sys.modules, j39plan.read_plan is sys.modules['j39plan.api'].read_plan)\n"),
                          "False True\n")
 
     @unittest.skipUnless(importlib.util.find_spec("pandas"), "pandas isn't there: apt-get install python3-pandas")
-    def test_the_lines_of_the_page(self):
+    def test_the_lines_of_the_page(self) -> None:
         """They are ten at most, and write what is shown."""
         section = PAGE.partition("## A Python module")[2]
-        lines, shown = re.search(r"```python\n(.*?)```\n\n```text\n(.*?)```", section, re.DOTALL).groups()
+        lines, shown = there(re.search(r"```python\n(.*?)```\n\n```text\n(.*?)```", section, re.DOTALL)).groups()
         self.assertLessEqual(len([line for line in lines.splitlines() if line]), 10)
         self.assertEqual(self.script(lines, cwd=TOP), shown)
 
 
 class Plans(InFolder):
-    def test_tables(self):
+    def test_tables(self) -> None:
         plan = j39plan.read_plan(example("truck.toml"))
-        self.assertEqual((plan.version, plan.kept, [unit.label for unit in plan.units]), (3, [], ["ENGINE", "TRANSMISSION", "BRAKES", "CLUSTER"]))
+        self.assertEqual((plan.version, plan.kept, [unit.label for unit in plan.units]), (4, [], ["ENGINE", "TRANSMISSION", "BRAKES", "CLUSTER"]))
         signal = next(signal for group in plan.groups for signal in group.signals if signal.label == "SPN175")
         self.assertEqual((signal.byte, signal.bits, signal.unit, str(signal.value(8720))), (3, 16, "degC", "-1/2"))
         self.assertEqual(plan.text, text_of(example("truck.toml")))
         self.assertRegex(repr(plan), r"^<plan .*truck\.toml: 4 units 7 groups 8 flows>$")
 
-    def test_what_the_program_answers(self):
+    def test_what_the_program_answers(self) -> None:
         """The findings with line, hint and steps, who stays, and the load."""
         plan = j39plan.read_plan(example("findings/f02_same_fixed_address.toml"))
         finding, = plan.findings()
@@ -81,15 +83,15 @@ class Plans(InFolder):
                          ("F2 SameFixedAddress ENGINE RETARDER 0", 18, ["up RETARDER", "up ENGINE", "give ENGINE RETARDER", "give RETARDER ENGINE"]))
         self.assertEqual((plan.stands(), plan.load()), ({}, None))
         axle = j39plan.read_plan(example("axle.toml"))
-        self.assertEqual((axle.findings(), axle.load().taken, axle.load().delays[0].within), ([], (32160, 250000), 1280))
+        self.assertEqual((axle.findings(), there(axle.load()).taken, there(axle.load()).delays[0].within), ([], (32160, 250000), 1280))
         self.assertEqual((axle.stands()["RETARDER"], axle.needs), (j39plan.Stand(True, 15), []))
 
-    def test_needs(self):
+    def test_needs(self) -> None:
         plan = j39plan.read_plan(self.write("plan.toml", text_of(example("findings/f20_need_too_old.toml")).replace("within = 21", "within = 22")))
         self.assertEqual(plan.needs, [j39plan.Need("CLUSTER", "EEC1", "", "", 22)])
-        self.assertEqual((plan.needs[0].is_met_by(plan.flows[0]), plan.load().ages), (True, [j39plan.Age(1, 21280, 22000)]))
+        self.assertEqual((plan.needs[0].is_met_by(plan.flows[0]), there(plan.load()).ages), (True, [j39plan.Age(1, 21280, 22000)]))
 
-    def test_what_is_none(self):
+    def test_what_is_none(self) -> None:
         none = self.write("none.toml", "version = 1\n[[unit]]\nlabel = A\n")
         with self.assertRaises(j39plan.Refused) as caught:
             j39plan.read_plan(none)
@@ -100,7 +102,7 @@ class Plans(InFolder):
         with self.assertRaises(IsADirectoryError):
             j39plan.read_plan(self.folder)
 
-    def test_no_program(self):
+    def test_no_program(self) -> None:
         """It is said by an exception, and ends nobody's program."""
         before = os.environ.get("J39PLAN")
         os.environ["J39PLAN"] = self.path("none")
@@ -114,13 +116,14 @@ class Plans(InFolder):
 
 
 class Logs(InFolder):
-    def setUp(self):
+    def setUp(self) -> None:
         super().setUp()
         self.plan = j39plan.read_plan(PLAN)
 
-    def test_signals_are_those_of_the_tool(self):
+    def test_signals_are_those_of_the_tool(self) -> None:
         """The same rows, as it writes them for programs."""
-        for names in ([], ["SPN190", "CCVS"], ["EC1.SPN544"]):
+        choices: list[list[str]] = [[], ["SPN190", "CCVS"], ["EC1.SPN544"]]
+        for names in choices:
             rows = list(j39plan.signals(self.plan, LOG, names))
             told = [json.loads(line) for line in run("signals.py", "--json", PLAN, LOG, *names)[1].splitlines()]
             self.assertTrue(rows)
@@ -131,9 +134,9 @@ class Logs(InFolder):
         text = list(j39plan.signals(j39plan.read_plan(example("identification.toml")), example("identification.start.log")))
         self.assertIn("text", {row["state"] for row in text})
 
-    def test_reports(self):
+    def test_reports(self) -> None:
         plan = j39plan.read_plan(example("two_units_one_address.toml"))
-        reports = list(j39plan.follow(plan, example("two_units_one_address.drive.log")))
+        reports: list[Any] = list(j39plan.follow(plan, example("two_units_one_address.drive.log")))
         self.assertEqual([type(report).__name__ for report in reports], ["Message", "Claim", "Message", "Claim", "Claim", "Message", "Message"])
         self.assertEqual((reports[1].who.label, reports[1].who.address, reports[1].time), ("RIGHT", 128, "(10.010)"))
         self.assertEqual((reports[0].group, reports[0].flow, reports[0].data), ("EEC1", 1, "FFFFFFE02EFFFFFF"))
@@ -141,7 +144,16 @@ class Logs(InFolder):
         self.assertEqual(next(some).line, 1)
         some.close()
 
-    def test_deviations_are_those_of_the_tool(self):
+    def test_all_frames(self) -> None:
+        plan, log = j39plan.read_plan(example("service_requests.toml")), example("service_requests.start.log")
+        frames = [report for report in j39plan.follow(plan, log, all_frames=True) if isinstance(report, j39plan.Frame)]
+        self.assertEqual([(frame.line, frame.pgn, frame.sender.label, frame.to.label) for frame in frames[:2]],
+                         [(6, 60416, "ENGINE", "TOOL"), (7, 60416, "TOOL", "ENGINE")])
+        self.assertEqual((frames[0].identifier, frames[0].data.hex()), (0x1CECF900, "101200030aecfe00"))
+        self.assertEqual([frame.line for frame in frames], [6, 7, 8, 9, 10, 11])
+        self.assertFalse(any(isinstance(report, j39plan.Frame) for report in j39plan.follow(plan, log)))
+
+    def test_deviations_are_those_of_the_tool(self) -> None:
         *lines, _ = without_times(run("against.py", PLAN, LOG)[1]).splitlines()
         found = j39plan.deviations(self.plan, LOG)
         self.assertEqual([(f":{line}" if line else "") + f": {text}" for line, text, *_ in found],
@@ -150,12 +162,13 @@ class Logs(InFolder):
         with self.assertRaises(j39plan.Refused):
             j39plan.deviations(self.plan, LOG, ["--jitter", "x"])
 
-    def test_what_cannot_be_read(self):
-        for call in (j39plan.follow, j39plan.signals, j39plan.deviations):
+    def test_what_cannot_be_read(self) -> None:
+        calls: list[Callable[..., Iterable[object]]] = [j39plan.follow, j39plan.signals, j39plan.deviations]
+        for call in calls:
             with self.assertRaises(FileNotFoundError):
                 list(call(self.plan, self.path("missing.log")))
         bad = j39plan.read_plan(example("findings/f07_signal_outside.toml"))
-        for call in (j39plan.follow, j39plan.signals, j39plan.deviations):
+        for call in calls:
             with self.assertRaises(j39plan.Refused) as caught:
                 list(call(bad, LOG))
             self.assertEqual(caught.exception.status, 1)
@@ -165,11 +178,12 @@ class Logs(InFolder):
         self.assertEqual(j39plan.drive(self.plan, self.path("missing.log"))["status"], 4)
 
 
-    def test_what_the_tools_refuse(self):
+    def test_what_the_tools_refuse(self) -> None:
         """Logs of other programs, and options by which there is no list of deviations."""
         for name, text in (("drive.asc", "date Thu Nov 26\n base hex timestamps absolute\n 0.1 1 CF00400x Rx d 8 FF\n"), ("noise.log", "\0\1\2\n"),
                            ("console.log", "  can0  0CF00400   [8]  FF FF FF FF FF FF FF FF\n")):
-            for call in (j39plan.follow, j39plan.signals, j39plan.frame, j39plan.deviations):
+            calls: list[Callable[..., Iterable[object]]] = [j39plan.follow, j39plan.signals, j39plan.frame, j39plan.deviations]
+            for call in calls:
                 if call is j39plan.frame and importlib.util.find_spec("pandas") is None:
                     continue
                 with self.assertRaises(j39plan.Refused) as caught:
@@ -179,14 +193,14 @@ class Logs(InFolder):
             j39plan.deviations(self.plan, LOG, ["--help"])
         self.assertEqual(str(caught.exception), "with --help against writes no list of deviations")
 
-    def test_one_name_is_a_text(self):
+    def test_one_name_is_a_text(self) -> None:
         self.assertEqual(list(j39plan.signals(self.plan, LOG, "SPN190")), list(j39plan.signals(self.plan, LOG, ["SPN190"])))
 
-    def test_what_a_tool_says_is_a_warning(self):
+    def test_what_a_tool_says_is_a_warning(self) -> None:
         """How many lines spell no frame, and how many are of other interfaces; a log that is read whole has none."""
         log = self.write("drive.log", text_of(LOG) + "(1764230402.000000) can1 0CF00400#FFFFFF0019FFFFFF\nno frame\n")
-        calls = [j39plan.follow, j39plan.signals, j39plan.deviations] + [j39plan.frame] * (importlib.util.find_spec("pandas") is not None)
-        for call in calls:
+        calls: list[Callable[..., Iterable[object]]] = [j39plan.follow, j39plan.signals, j39plan.deviations]
+        for call in calls + [j39plan.frame] * (importlib.util.find_spec("pandas") is not None):
             elsewhere = "can0 is read, the first of the log; 1 lines of can1 are passed over: --interface can1"
             if call is j39plan.follow:
                 elsewhere = "the first interface is read; 1 lines of others are passed over"
@@ -198,41 +212,42 @@ class Logs(InFolder):
                 self.assertEqual([str(warning.message) for warning in said], told, call)
                 self.assertEqual({os.path.basename(warning.filename) for warning in said}, {"test_module.py"} if told else set())
 
-    def test_signals_by_their_labels(self):
+    def test_signals_by_their_labels(self) -> None:
         """Of a message, with exact values; a code and a fault by their parts."""
         message = next(report for report in j39plan.follow(self.plan, LOG) if isinstance(report, j39plan.Message))
         self.assertEqual(message.signals["SPN190"], j39plan.Reading("value", Decimal(800), "rpm", ""))
         self.assertEqual(set(message.signals), {signal.label for group in self.plan.groups if group.label == "EEC1" for signal in group.signals})
         self.assertNotIn("SPN999", message.signals)
 
-    def test_a_frame_is_decoded(self):
+    def test_a_frame_is_decoded(self) -> None:
         """As `follow` does, whose sender the plan tells; in the standard's bits: 0x1900 of 0.125 rpm are 800 rpm."""
-        for data in ("FFFFFF0019FFFFFF", bytes.fromhex("FFFFFF0019FFFFFF")):
-            message = self.plan.decode(0x0CF00400, data)
+        spelled: list[bytes | str] = ["FFFFFF0019FFFFFF", bytes.fromhex("FFFFFF0019FFFFFF")]
+        for data in spelled:
+            message = there(self.plan.decode(0x0CF00400, data))
             self.assertEqual((message.group, message.sender.label, message.signals["SPN190"].value), ("EEC1", "ENGINE", 800))
-        self.assertEqual(self.plan.decode(0x0CF00400, "FFFFFFFFFEFFFFFF").signals["SPN190"].state, "fault")
+        self.assertEqual(there(self.plan.decode(0x0CF00400, "FFFFFFFFFEFFFFFF")).signals["SPN190"].state, "fault")
         self.assertIsNone(self.plan.decode(0x18FEDF00, "FF" * 8))
         for identifier, data in ((1 << 29, "00"), (0x0CF00400, "00" * 1786), (0x0CF00400, "0")):
             with self.assertRaises(ValueError):
                 self.plan.decode(identifier, data)
 
-    def test_a_longer_message_is_decoded(self):
+    def test_a_longer_message_is_decoded(self) -> None:
         """A broadcast, and one that goes to one unit."""
         plan = j39plan.read_plan(example("identification.toml"))
         group = next(group for group in plan.groups if group.texts and group.length > 8)
         flow = next(flow for flow in plan.flows if flow.group == group.label)
         source = next(unit.address for unit in plan.units if unit.label == flow.sender)
-        message = plan.decode(identifier_of(6, group.pgn, source), b"A" * group.length)
+        message = there(plan.decode(identifier_of(6, group.pgn, source), b"A" * group.length))
         self.assertEqual((message.group, message.sender.label, message.data), (group.label, flow.sender, "41" * group.length))
         self.assertIn("text", {reading.state for reading in message.signals.values()})
         text = ("version = 1\n" + "".join(f'[[unit]]\nlabel = "{label}"\naddress = {at}\nname = {{ identity = {at} }}\n' for label, at in (("A", 1), ("B", 2)))
                 + '[[group]]\nlabel = "G"\npgn = 0xD400\npriority = 6\nlength = 20\n[[group.signal]]\nlabel = "S"\nbyte = 20\nbits = 8\nkind = "raw"\n'
                 + '[[flow]]\ngroup = "G"\nfrom = "A"\nto = "B"\n')
-        message = j39plan.read_plan(self.write("plan.toml", text)).decode(0x18D40201, bytes(range(20)))
+        message = there(j39plan.read_plan(self.write("plan.toml", text)).decode(0x18D40201, bytes(range(20))))
         self.assertEqual((message.group, message.sender.label, message.to.label, message.signals["S"].value), ("G", "A", "B", 19))
 
     @unittest.skipUnless(importlib.util.find_spec("pandas"), "pandas isn't there: apt-get install python3-pandas")
-    def test_a_table_of_pandas(self):
+    def test_a_table_of_pandas(self) -> None:
         """The rows are those of `signals`, with small types; the times are exact."""
         table, rows = j39plan.frame(self.plan, LOG), list(j39plan.signals(self.plan, LOG))
         self.assertEqual(len(table), len(rows))
@@ -249,7 +264,7 @@ class Logs(InFolder):
 
 
 class Documents(unittest.TestCase):
-    def test_each_name_is_said(self):
+    def test_each_name_is_said(self) -> None:
         """What the module hands out has a docstring; of what the page has in its table the words are those of the code."""
         for name in j39plan.__all__:
             self.assertTrue(inspect.getdoc(getattr(j39plan, name)), name)

@@ -1,6 +1,8 @@
 """What `against` has of a log as a whole: when each unit was heard, and requests that the plan doesn't have."""
 
 import json
+from collections.abc import Sequence
+from typing import Any
 
 from tests import support
 from tests.support import InFolder
@@ -43,12 +45,12 @@ OTHER_LONG = ["1CECFF00#20110003FFEBFE00", *(f"1CEBFF00#0{number}AAAAAAAAAAAAAA"
 CAB_SENDS = "18FEEE21#7DFFFFFFFFFFFFFF"
 
 
-def asks(source, to, pgn):
+def asks(source: int, to: int, pgn: int) -> str:
     """A request."""
     return f"18EA{to:02X}{source:02X}#{pgn.to_bytes(3, 'little').hex().upper()}"
 
 
-def says(control, source, to, pgn, at=0xFF):
+def says(control: int, source: int, to: int, pgn: int, at: int = 0xFF) -> str:
     """An acknowledgement, in which the address that it is for stands."""
     return f"18E8{at:02X}{source:02X}#{control:02X}FFFFFF{to:02X}{pgn.to_bytes(3, 'little').hex().upper()}"
 
@@ -56,31 +58,31 @@ def says(control, source, to, pgn, at=0xFF):
 class OtherRequests(InFolder):
     """A log of a plan in which no request stands."""
 
-    def answer(self, frames, *words, plan=PLAN):
+    def answer(self, frames: Sequence[tuple[float, str]], *words: str, plan: str = PLAN) -> str:
         """Standard output of a log of frames, each with its time."""
         log = self.write("drive.log", "".join(f"({time:.6f}) can0 {frame}\n" for time, frame in frames))
         _, answer, said = support.run("against.py", *words, self.write("plan.toml", plan), log)
         self.assertEqual(said, "")
         return answer.replace(log, "L")
 
-    def requests(self, frames, plan=PLAN):
+    def requests(self, frames: Sequence[tuple[float, str]], plan: str = PLAN) -> tuple[list[tuple[Any, ...]], list[tuple[Any, ...]]]:
         """The rows of requests, and the deviations of their kinds."""
         *rows, whole = map(json.loads, self.answer(frames, "--json", plan=plan).splitlines())
         keys = ("from", "to", "asked", "answered", "refused", "unanswered", "line")
-        told = [(row["kind"], row["unit"], row["line"], row["text"]) for row in rows if "request for" in row["text"]]
+        told: list[tuple[Any, ...]] = [(row["kind"], row["unit"], row["line"], row["text"]) for row in rows if "request for" in row["text"]]
         return [(row.get("group", row["pgn"]), *(row[key] for key in keys)) for row in whole["requests"]], told
 
-    def begun(self, *more):
+    def begun(self, *more: tuple[float, str]) -> list[tuple[float, str]]:
         """The claims, a second in which all are heard, and more at so many seconds after it."""
         heard = [(1.0, ET1), (1.001, CAB_SENDS)]
         return [*((0.001 * number, claim) for number, claim in enumerate(CLAIMS)), *heard, *((1.1 + time, frame) for time, frame in more)]
 
-    def test_one_that_is_answered(self):
+    def test_one_that_is_answered(self) -> None:
         for number, answer, what in ((65242, [SOFT], "SOFT"), (65259, [OTHER], 65259), (65259, OTHER_LONG, 65259)):
             frames = self.begun((0, asks(249, 0, number)), *((0.1 + 0.06 * at, frame) for at, frame in enumerate(answer)), (2, ET1))
             self.assertEqual(self.requests(frames), ([(what, "TOOL", "ENGINE", 1, 1, 0, 0, 6)], []))
 
-    def test_one_that_is_refused(self):
+    def test_one_that_is_refused(self) -> None:
         """The acknowledgement names the one that asked, or goes to it."""
         for refusal in (says(1, 33, 249, 65242), says(2, 33, 255, 65242, 249), says(3, 33, 255, 65242)):
             rows, told = self.requests(self.begun((0, asks(249, 33, 65242)), (0.1, refusal)))
@@ -89,14 +91,14 @@ class OtherRequests(InFolder):
         self.assertEqual(self.requests(self.begun((0, asks(249, 33, 65242)), (0.1, says(1, 33, 249, 65242))))[1][0][3],
                          "request for SOFT by TOOL to CAB, which the plan doesn't have: is refused")
 
-    def test_what_refuses_nothing(self):
+    def test_what_refuses_nothing(self) -> None:
         """Control byte 0, another unit's, for another unit, of another group, and a request to all."""
         for word in (says(0, 33, 249, 65242), says(1, 0, 249, 65242), says(1, 33, 0, 65242), says(1, 33, 249, 65259)):
             self.assertEqual(self.requests(self.begun((0, asks(249, 33, 65242)), (0.1, word)))[0], [("SOFT", "TOOL", "CAB", 1, 0, 0, 0, 6)])
         self.assertEqual(self.requests(self.begun((0, asks(249, 255, 65242)), (0.1, says(1, 33, 249, 65242))))[0],
                          [("SOFT", "TOOL", "all", 1, 0, 0, 0, 6)])
 
-    def test_one_without_an_answer(self):
+    def test_one_without_an_answer(self) -> None:
         """Told of a unit that is on and is asked alone; the log's last 1,250 ms don't count."""
         text = "request for PGN 65259 by TOOL to ENGINE, which the plan doesn't have: no answer within 1250 ms"
         frames = self.begun((0, asks(249, 0, 65259)), (1.3, ET1), (1.31, asks(249, 0, 65259)), (1.4, ET1))
@@ -104,27 +106,27 @@ class OtherRequests(InFolder):
         frames = self.begun((0, asks(249, 255, 65259)), (3, ET1))
         self.assertEqual(self.requests(frames), ([(65259, "TOOL", "all", 1, 0, 0, 1, 6)], []))
 
-    def test_a_unit_that_is_off_is_not_accused(self):
+    def test_a_unit_that_is_off_is_not_accused(self) -> None:
         frames = self.begun((5, ET1), (5.1, asks(249, 33, 65242)), (8, ET1))
         self.assertEqual(self.requests(frames), ([("SOFT", "TOOL", "CAB", 1, 0, 0, 1, 7)], []))
 
-    def test_strangers_ask(self):
+    def test_strangers_ask(self) -> None:
         """They are told as strangers, and what is refused to them is in the table alone."""
         frames = self.begun((0, asks(77, 33, 65242)), (0.1, says(1, 33, 77, 65242)))
         self.assertEqual(self.requests(frames), ([("SOFT", "77", "CAB", 1, 0, 1, 0, 6)], []))
 
-    def test_requests_of_the_plan_and_for_claims_are_none(self):
+    def test_requests_of_the_plan_and_for_claims_are_none(self) -> None:
         plan = PLAN.replace("version = 3", "version = 4") + '[[request]]\ngroup = "SOFT"\nfrom = "TOOL"\nto = "ENGINE"\n'
         frames = self.begun((0, asks(249, 0, 65242)), (0.1, SOFT), (0.2, asks(249, 255, 60928)), (0.3, asks(249, 33, 65242)), (0.4, says(1, 33, 249, 65242)))
         self.assertEqual(self.requests(frames, plan)[0], [("SOFT", "TOOL", "CAB", 1, 0, 1, 0, 9)])
 
-    def test_a_clock_that_is_set(self):
+    def test_a_clock_that_is_set(self) -> None:
         """What was open isn't told."""
         frames = [*self.begun((0, asks(249, 0, 65259))), (200000.0, ET1), (200003.0, ET1)]
         log = self.write("drive.log", "".join(f"({time:.6f}) can0 {frame}\n" for time, frame in frames))
         self.assertNotIn("request for", support.run("against.py", self.write("plan.toml", PLAN), log)[1])
 
-    def test_when_units_were_heard(self):
+    def test_when_units_were_heard(self) -> None:
         """By the last frame of each; one that never was has its name alone."""
         plan = PLAN + '[[unit]]\nlabel = "AXLE"\naddress = 40\nname = { identity = 4 }\n'
         frames = self.begun((0, CAB_SENDS), (1, ET1))
@@ -135,7 +137,7 @@ class OtherRequests(InFolder):
             {"unit": "TOOL", "address": 249, "first": 0.002, "last": 0.002, "log": "L", "line": 3},
             {"unit": "AXLE"}])
 
-    def test_the_tables(self):
+    def test_the_tables(self) -> None:
         lines = self.answer(self.begun((0, asks(249, 0, 65242)), (0.1, SOFT)), "--table").splitlines()
         at = lines.index("unit    address     first      last  last line")
         self.assertEqual(lines[at + 1:at + 8], [

@@ -14,9 +14,10 @@ import tempfile
 import tomllib
 import unittest
 from concurrent.futures import ThreadPoolExecutor
+from typing import Any
 
 from j39plan import program
-from tests.support import TOOLS, TOP, InFolder, run, text_of
+from tests.support import TOOLS, TOP, InFolder, run, text_of, there
 
 PACKAGE = os.path.join(TOOLS, "package")
 COMMANDS = ["show", "check", "addresses", "load", "run", "read", "follow", "frame", "help"]
@@ -28,12 +29,13 @@ PAGE = text_of(os.path.join(TOP, "docs", "TOOLS.md"))
 MAINTAINER = "A & B / C <maintainer@lists.test.org>"
 
 
-def lines_of(*words, **more):
+def lines_of(*words: str, **more: Any) -> list[str]:
     """What a command writes, line by line."""
-    return subprocess.run(words, check=True, capture_output=True, text=True, **more).stdout.splitlines()
+    written: str = subprocess.run(words, check=True, capture_output=True, text=True, **more).stdout
+    return written.splitlines()
 
 
-def built(folder, umask=0o022):
+def built(folder: str, umask: int = 0o022) -> list[str]:
     """Builds the packages into a folder, and answers their names."""
     before = os.umask(umask)
     try:
@@ -45,23 +47,26 @@ def built(folder, umask=0o022):
 
 
 class Built(InFolder):
+    dist: str
+    packages: list[str]
+
     @classmethod
-    def setUpClass(cls):
+    def setUpClass(cls) -> None:
         cls.dist = cls.enterClassContext(tempfile.TemporaryDirectory())
         cls.packages = built(cls.dist)
 
-    def package(self, ending):
+    def package(self, ending: str) -> str:
         """The package of this ending."""
         return next(name for name in self.packages if name.endswith(ending))
 
-    def test_two_builds_give_the_same_bytes(self):
+    def test_two_builds_give_the_same_bytes(self) -> None:
         first, second = self.packages, built(self.path("two"), umask=0o077)
-        self.assertEqual(list(map(os.path.basename, first)), list(map(os.path.basename, second)))
+        self.assertEqual([os.path.basename(name) for name in first], [os.path.basename(name) for name in second])
         for one, two in zip(first, second):
             with open(one, "rb") as left, open(two, "rb") as right:
                 self.assertEqual(left.read(), right.read(), one)
 
-    def test_what_is_installed_works(self):
+    def test_what_is_installed_works(self) -> None:
         for package in self.packages:
             if os.path.basename(package).startswith("python3-"):
                 continue
@@ -75,7 +80,7 @@ class Built(InFolder):
                 prefix = root
             self.works(prefix)
 
-    def works(self, prefix):
+    def works(self, prefix: str) -> None:
         """Checks, finds and starts an example with what stands below a prefix."""
         environment = {"PATH": f"{prefix}/bin:/usr/bin:/bin"}
         examples = f"{prefix}/share/doc/j39plan/examples"
@@ -110,7 +115,7 @@ class Built(InFolder):
         self.assertIn("/usr/share/j39plan/tools/plan.schema.json", PAGE)
         self.assertTrue(os.path.exists(f"{prefix}/share/j39plan/tools/plan.schema.json"))
 
-    def test_the_python_module_is_found(self):
+    def test_the_python_module_is_found(self) -> None:
         """Where its package puts it, and where the tarball has it; without the commands beside it."""
         root, tar = self.path("root"), self.path("tar")
         os.mkdir(tar)
@@ -126,7 +131,7 @@ class Built(InFolder):
                 self.assertEqual(lines_of("python3", "-c", script, env={"PATH": f"{prefix}/bin:/usr/bin:/bin", "PYTHONPATH": folder}, cwd=self.folder),
                                  ["(32160, 250000) False"], folder)
 
-    def does_the_jobs_of_the_page(self, environment):
+    def does_the_jobs_of_the_page(self, environment: dict[str, str]) -> None:
         """What docs/TOOLS.md has jobs of CI do, on a plan that has to be mended."""
         os.makedirs(self.path("plans"), exist_ok=True)
         plan = self.write("plans/first.toml", "version = 5\n")
@@ -139,14 +144,14 @@ class Built(InFolder):
         os.remove(plan)
 
     @unittest.skipUnless(shutil.which("dpkg-deb"), "dpkg-deb isn't there")
-    def test_the_package_names_what_it_needs(self):
+    def test_the_package_names_what_it_needs(self) -> None:
         fields = dict(line.split(": ", 1) for line in lines_of("dpkg-deb", "-f", self.package(".deb")) if re.match(r"\S+: ", line))
         self.assertEqual(fields["Version"], lines_of(program.path(), "--version")[0].split()[1])
         self.assertTrue(fields["Depends"].startswith("libc6"), fields)
         self.assertEqual(fields["Maintainer"], MAINTAINER)
 
     @unittest.skipUnless(shutil.which("dpkg-deb"), "dpkg-deb isn't there")
-    def test_the_package_has_a_changelog(self):
+    def test_the_package_has_a_changelog(self) -> None:
         """That of the repository, as Debian has it; its first version is that of the program."""
         root = self.path("root")
         subprocess.run(["dpkg-deb", "-x", self.package(".deb"), root], check=True)
@@ -161,13 +166,13 @@ class Built(InFolder):
         self.assertLessEqual(max(map(len, items)), 80)
 
     @unittest.skipUnless(shutil.which("strip"), "strip isn't there: apt-get install binutils")
-    def test_the_program_has_no_symbols(self):
+    def test_the_program_has_no_symbols(self) -> None:
         with tarfile.open(self.package(".tar.gz")) as files:
             member = next(name for name in files.getnames() if name.endswith("/bin/j39plan"))
-            self.assertNotIn(b".symtab", files.extractfile(member).read())
+            self.assertNotIn(b".symtab", there(files.extractfile(member)).read())
 
     @unittest.skipUnless(shutil.which("lintian"), "lintian isn't there: apt-get install lintian")
-    def test_lintian_misses_the_licence_alone(self):
+    def test_lintian_misses_the_licence_alone(self) -> None:
         for package in self.packages:
             if package.endswith(".deb"):
                 said = subprocess.run(["lintian", "--allow-root", package], capture_output=True, text=True, check=False).stdout
@@ -176,7 +181,7 @@ class Built(InFolder):
 
 
 class Wheel(InFolder):
-    def test_it_names_each_command(self):
+    def test_it_names_each_command(self) -> None:
         """That of the package, which a file of its name in tools/ runs; its version is that of the program."""
         with open(os.path.join(TOOLS, "pyproject.toml"), "rb") as file:
             project = tomllib.load(file)["project"]
@@ -187,7 +192,7 @@ class Wheel(InFolder):
         self.assertEqual(sorted(modules), sorted(f"{tool.replace('-', '_')}.py" for tool in INSTALLED))
 
     @unittest.skipUnless(all(map(importlib.util.find_spec, ("pip", "setuptools", "wheel"))), "pip, setuptools or wheel isn't there: apt-get install python3-pip")
-    def test_what_pip_installs_works(self):
+    def test_what_pip_installs_works(self) -> None:
         """The commands and the module, from a copy of what the wheel is made of."""
         os.mkdir(self.path("tools"))
         shutil.copy(os.path.join(TOOLS, "pyproject.toml"), self.path("tools"))
@@ -199,9 +204,9 @@ class Wheel(InFolder):
         for tool in INSTALLED:
             said = lines_of(self.path(f"there/bin/j39plan-{tool}"), "--version", env=there, cwd=self.folder)
             self.assertEqual(said, [f"{tool} (j39plan) {lines_of(program.path(), '--version')[0].split()[1]}"])
-        for tool, words in (("fleet", (plan, log)), ("signals", (plan, log)), ("where", ("--lint", plan)), ("join", (plan, os.path.join(TOP, "examples/axle.toml")))):
-            shown = subprocess.run([self.path(f"there/bin/j39plan-{tool}"), *words], env=there, cwd=self.folder, capture_output=True, text=True, check=False)
-            self.assertEqual((shown.returncode, shown.stdout, shown.stderr), run(f"{tool}.py", *words))
+        for tool, first, second in (("fleet", plan, log), ("signals", plan, log), ("where", "--lint", plan), ("join", plan, os.path.join(TOP, "examples/axle.toml"))):
+            shown = subprocess.run([self.path(f"there/bin/j39plan-{tool}"), first, second], env=there, cwd=self.folder, capture_output=True, text=True, check=False)
+            self.assertEqual((shown.returncode, shown.stdout, shown.stderr), run(f"{tool}.py", first, second))
         script = f"import j39plan; plan = j39plan.read_plan({plan!r}); print(len(list(j39plan.signals(plan, {log!r}))), j39plan.__file__)"
         count, where = lines_of(sys.executable, "-c", script, env=there, cwd=self.folder)[0].split()
         self.assertTrue(int(count) > 0 and where.startswith(self.path("there")), where)
@@ -209,12 +214,12 @@ class Wheel(InFolder):
 
 class Pages(unittest.TestCase):
     @unittest.skipUnless(shutil.which("groff"), "groff isn't there: apt-get install groff")
-    def test_man_pages_have_no_faults(self):
+    def test_man_pages_have_no_faults(self) -> None:
         for page in glob.glob(os.path.join(PACKAGE, "man", "*.1")):
             ended = subprocess.run(["groff", "-man", "-Tutf8", "-ww", "-z", page], capture_output=True, text=True, check=True)
             self.assertEqual(ended.stderr, "", page)
 
-    def test_the_page_names_each_command_and_each_status(self):
+    def test_the_page_names_each_command_and_each_status(self) -> None:
         page = text_of(os.path.join(PACKAGE, "man", "j39plan.1"))
         synopsis = re.findall(r"^\.B j39plan (\w+)$", page, re.MULTILINE)
         self.assertEqual([synopsis, re.findall(r"^\.BI (\w+) ", page, re.MULTILINE)], [COMMANDS[:-1]] * 2)
@@ -222,7 +227,7 @@ class Pages(unittest.TestCase):
             self.assertIn(f".BR j39plan-{tool} (1)", page)
         self.assertEqual(re.findall(r"\n\.TP\n\.B (\d)\n", page), ["0", "1", "2", "3", "4"])
 
-    def test_the_pages_of_tools_have_what_their_help_has(self):
+    def test_the_pages_of_tools_have_what_their_help_has(self) -> None:
         """The same options, in the synopsis too, and an example, which the help gives under the name that was called."""
         for tool in INSTALLED:
             name = tool if tool == "check-plans" else f"{tool}.py"
@@ -237,40 +242,42 @@ class Pages(unittest.TestCase):
             self.assertRegex(shown, rf"\nexample: {re.escape(name)} ", tool)
             example = page[page.index(".SH EXAMPLE"):].splitlines()[1]
             self.assertEqual(example.removeprefix(".B ").removeprefix("j39plan-"),
-                             re.search(r"\nexample: (.*)", shown).group(1).replace(name, tool), tool)
+                             there(re.search(r"\nexample: (.*)", shown)).group(1).replace(name, tool), tool)
             self.assertIn(".SH ENVIRONMENT", page, tool)
 
 
 class Completions(InFolder):
-    def test_they_have_the_commands_of_the_help(self):
+    def test_they_have_the_commands_of_the_help(self) -> None:
         shown = [line.split()[0] for line in lines_of(program.path(), "--help") if re.match(r"  [a-z]+  ", line)]
         self.assertEqual(sorted(shown), sorted(COMMANDS))
 
-    def complete_bash(self, *words, cwd=TOOLS):
+    def complete_bash(self, *words: str, cwd: str = TOOLS) -> list[str]:
         """What bash offers behind these words."""
         script = (f'source {PACKAGE}/completions/j39plan.bash; COMP_WORDS=("$@"); COMP_CWORD=$(($# - 1)); '
                   '$(complete -p "$1" | grep -o "_j39plan[a-z_]*"); ')
         return lines_of("bash", "-c", script + 'printf "%s\\n" "${COMPREPLY[@]}"', "bash", *words, cwd=cwd, env=self.environment())
 
-    def test_bash(self):
+    def test_bash(self) -> None:
         self.assertEqual(self.complete_bash("j39plan", ""), COMMANDS + ["--help", "--version"])
         self.assertEqual(self.complete_bash("j39plan", "r"), ["run", "read"])
         self.assertEqual(self.complete_bash("j39plan", "check", "plan.s", cwd=os.path.join(TOOLS, "j39plan")), ["plan.schema.json"])
         self.assertEqual(self.complete_bash("j39plan", "help", "f"), ["follow", "frame"])
+        self.assertEqual(self.complete_bash("j39plan", "follow", "--"), ["--all"])
 
-    def test_bash_of_files(self):
+    def test_bash_of_files(self) -> None:
         """Those of the ending that is wanted and folders, else all."""
         for name in ("a.toml", "a.log", "a.schedule", "a.dbc"):
             self.write(name, "")
         for words, name in ((("j39plan", "check"), "a.toml"), (("j39plan", "run", "a.toml"), "a.schedule"),
-                            (("j39plan", "read", "a.toml"), "a.log"), (("j39plan-where",), "a.toml"), (("j39plan-startup",), "a.toml"),
+                            (("j39plan", "read", "a.toml"), "a.log"), (("j39plan", "follow", "--all", "a.toml"), "a.log"),
+                            (("j39plan-where",), "a.toml"), (("j39plan-startup",), "a.toml"),
                             (("j39plan-against", "a.toml"), "a.log"), (("j39plan-fleet", "a.toml", "a.log"), "a.log"), (("j39plan-join", "a.toml"), "a.toml"),
                             (("j39plan-compare", "a.toml"), "a.toml"), (("j39plan-signals", "a.toml"), "a.log"),
                             (("j39plan-plot", "a.toml"), "a.log"), (("j39plan-dbc2plan",), "a.dbc"),
                             (("j39plan-check-plans", "a.toml"), "a.toml")):
             self.assertEqual(self.complete_bash(*words, "a", cwd=self.folder), [name], words)
 
-    def test_bash_of_files_of_several_kinds(self):
+    def test_bash_of_files_of_several_kinds(self) -> None:
         """Of what dbc2plan reads all endings, in capitals too, behind another file too."""
         files = ["a.arxml", "a.dbc", "a.DBC", "a.kcd", "a.sym", "a.SYM"]
         for name in (*files, "a.toml", "a.txt"):
@@ -278,7 +285,7 @@ class Completions(InFolder):
         for words in (("j39plan-dbc2plan",), ("j39plan-dbc2plan", "a.dbc")):
             self.assertEqual(sorted(self.complete_bash(*words, "a", cwd=self.folder)), sorted(files))
 
-    def test_bash_of_tools(self):
+    def test_bash_of_tools(self) -> None:
         """The options of each are those of its help."""
         for tool in INSTALLED:
             name = os.path.join(TOOLS, tool if tool == "check-plans" else f"{tool}.py")
@@ -291,7 +298,7 @@ class Completions(InFolder):
         self.assertEqual(self.complete_bash("j39plan-report", "plan.toml", "-o", "where."), ["where.py"])
 
     @unittest.skipUnless(shutil.which("fish"), "fish isn't there: apt-get install fish")
-    def test_fish(self):
+    def test_fish(self) -> None:
         script = f"source {PACKAGE}/completions/j39plan.fish; complete -C '{{}}'"
         offered = lines_of("fish", "--no-config", "-c", script.format("j39plan "), cwd=TOOLS)
         self.assertEqual(sorted(line.split("\t")[0] for line in offered), sorted(COMMANDS))
@@ -299,7 +306,7 @@ class Completions(InFolder):
         self.assertEqual([line.split("\t")[0] for line in offered], ["plan.schema.json"])
 
     @unittest.skipUnless(shutil.which("fish"), "fish isn't there: apt-get install fish")
-    def test_fish_of_tools(self):
+    def test_fish_of_tools(self) -> None:
         script = f"source {PACKAGE}/completions/j39plan.fish; complete -C '{{}}'"
         for tool in INSTALLED:
             shown = re.findall(r"--[a-z][a-z-]*", "\n".join(lines_of(os.path.join(TOOLS, tool if tool == "check-plans" else f"{tool}.py"), "--help")))
@@ -307,14 +314,14 @@ class Completions(InFolder):
             self.assertLessEqual(set(shown), set(offered), tool)
 
     @unittest.skipUnless(shutil.which("zsh"), "zsh isn't there: apt-get install zsh")
-    def test_zsh(self):
+    def test_zsh(self) -> None:
         offered = self.complete_zsh("j39plan r")
         self.assertIn("run a schedule on a simulated bus of a plan", offered)
         self.assertIn("decode a log by the groups of a plan", offered)
         self.assertNotIn("show what is wrong", offered)
 
     @unittest.skipUnless(shutil.which("zsh"), "zsh isn't there: apt-get install zsh")
-    def test_zsh_of_tools(self):
+    def test_zsh_of_tools(self) -> None:
         """The file is that of each tool, whose options are those of its help."""
         with open(os.path.join(PACKAGE, "completions", "_j39plan"), encoding="utf-8") as file:
             self.assertEqual(file.readline().split(), ["#compdef", "j39plan", *(f"j39plan-{tool}" for tool in INSTALLED)])
@@ -324,7 +331,7 @@ class Completions(InFolder):
             shown = set(re.findall(r"--[a-z][a-z-]*", "\n".join(lines_of(self.path(f"j39plan-{tool}"), "--help"))))
             self.assertEqual(set(re.findall(r"^\s*(--[a-z][a-z-]*) +-- ", text, re.MULTILINE)), shown, tool)
 
-    def complete_zsh(self, typed):
+    def complete_zsh(self, typed: str) -> str:
         """What zsh offers behind what was typed: only on a terminal, so it has one here."""
         script = (
             "zmodload zsh/zpty; zpty shell zsh -f -i; "
@@ -334,7 +341,7 @@ class Completions(InFolder):
         )
         return "\n".join(lines_of("zsh", "-f", "-c", script, env={**self.environment(), "TERM": "dumb"}))
 
-    def environment(self):
+    def environment(self) -> dict[str, str]:
         """An environment in which the tools are commands."""
         for tool in INSTALLED:
             with contextlib.suppress(FileExistsError):

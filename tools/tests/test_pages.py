@@ -8,6 +8,8 @@ import re
 import shutil
 import subprocess
 import unittest
+from collections.abc import Iterator
+from typing import Any
 
 from j39plan import program
 from tests.support import TOP, InFolder, example, text_of
@@ -28,18 +30,18 @@ OTHERS = {"gate/times.md", ".taplo.toml", ".vscode/tasks.json", "drive.log", "j1
 DEFINITION = re.compile(r"^(?: *(?:abbrev|unfoldable)(?: pub)?| *pub (?:record|data)|record|data) ([^\s({:]+)", re.MULTILINE)
 
 
-def page(name):
+def page(name: str) -> str:
     """A page's text."""
     return text_of(os.path.join(TOP, name))
 
 
-def blocks(text):
+def blocks(text: str) -> Iterator[tuple[Any, Any]]:
     """The indented blocks of a page, each with the block behind it."""
     found = [block.replace("\n    ", "\n")[4:] for block in re.findall(r"(?<=\n\n)    .*(?:\n    .*)*", text)]
     return zip(found, found[1:] + [""])
 
 
-def missing(command):
+def missing(command: str) -> str | None:
     """What a command needs that isn't there."""
     if re.search("vehicle|dbc2plan", command) and importlib.util.find_spec("canmatrix") is None:
         return "canmatrix isn't there: apt-get install python3-canmatrix"
@@ -49,7 +51,7 @@ def missing(command):
 
 
 class Shown(InFolder):
-    def output(self, command):
+    def output(self, command: str) -> str:
         """What a command writes, with the built program in the launcher's place and a folder of its own for /tmp."""
         name = os.path.realpath(program.path())
         environment = {**os.environ, "J39PLAN": name}
@@ -62,7 +64,7 @@ class Shown(InFolder):
         )
         return ended.stdout.replace(self.folder + "/", "/tmp/")
 
-    def test_commands_write_what_is_shown(self):
+    def test_commands_write_what_is_shown(self) -> None:
         least = {"README.md": 7, "docs/PROMISES.md": 3, "docs/PLAN.md": 3, "docs/TIMING.md": 8, "docs/SIMULATOR.md": 11, "docs/LOGS.md": 9,
                  "docs/TOOLS.md": 11}
         for name in PAGES:
@@ -74,20 +76,20 @@ class Shown(InFolder):
                         self.skipTest(missing(command))
                     self.assertEqual(self.output(command), shown + "\n")
 
-    def test_plans_are_answered_as_shown(self):
+    def test_plans_are_answered_as_shown(self) -> None:
         pages = page("docs/PLAN.md") + page("docs/TIMING.md")
         shown = re.findall(r"```toml\n([^`]*)```\n(?:(?!```).)*```text\n([^`]*)```", pages, re.DOTALL)
         self.assertGreaterEqual(len(shown), 14)
         for plan, answer in shown:
             self.assertEqual(program.call(["check", self.write("plan.toml", plan)])[1], answer, plan)
 
-    def test_examples_are_answered_as_shown(self):
+    def test_examples_are_answered_as_shown(self) -> None:
         shown = re.findall(r"`examples/(findings/\w+\.toml)`[^\n]*:\n\n```text\n(.*?)```", page("docs/FINDINGS.md"), re.DOTALL)
         self.assertGreaterEqual(len(shown), 11)
         for plan, answer in shown:
             self.assertEqual(program.call(["check", example(plan)])[1], answer, plan)
 
-    def test_files_are_as_shown(self):
+    def test_files_are_as_shown(self) -> None:
         for name, least in (("README.md", 1), ("docs/SIMULATOR.md", 4)):
             shown = re.findall(FILE, page(name))
             self.assertGreaterEqual(len(shown), least)
@@ -97,19 +99,19 @@ class Shown(InFolder):
 
 
 class Form(unittest.TestCase):
-    def test_the_readme_ends_where_a_newcomer_has_an_answer(self):
+    def test_the_readme_ends_where_a_newcomer_has_an_answer(self) -> None:
         text = page("README.md")
         self.assertLessEqual(len(text.split()), 2500)
         self.assertEqual([sentence for sentence in sentences(text) if len(sentence.split()) > 40], [])
 
-    def test_the_readme_leads_on_by_the_words_of_the_field(self):
+    def test_the_readme_leads_on_by_the_words_of_the_field(self) -> None:
         """What a newcomer searches for stands in the README, which leads to the page that has the answer."""
         text = page("README.md")
         for word in ("PGN", "NAME", "DBC", "candump", "multiplexed", "Intel", "FIFO", "response time", "bus load", "single-address",
                      "arbitrary-address capable", "deadlines", "licence", "ISOBUS"):
             self.assertRegex(text, rf"\b{re.escape(word)}", word)
 
-    def test_the_changelog_is_for_users(self):
+    def test_the_changelog_is_for_users(self) -> None:
         """In the form of Keep a Changelog: versions, below them kinds of changes, and items; at most 60 lines."""
         lines = page("CHANGELOG.md").splitlines()
         self.assertLessEqual(len(lines), 60)
@@ -118,37 +120,37 @@ class Form(unittest.TestCase):
         versions = [line for line in lines if line.startswith("## ")]
         self.assertEqual([line for line in versions if not re.fullmatch(r"## \d+\.\d+\.\d+ - (\d{4}-\d\d-\d\d|Unreleased)", line)], [])
 
-    def test_sentences_are_told_apart(self):
+    def test_sentences_are_told_apart(self) -> None:
         text = "# One\n\nTwo [a b](c d) `e f`. (Three\nfour.) Five\n- six\n- seven. Eight\n\n    code. Here\n\n| nine. | ten |\n"
         shown = ["# One", "Two [a b] CODE.", "(Three four.)", "Five", "- six", "- seven.", "Eight", "nine.", "ten"]
         self.assertEqual(list(sentences(text)), shown)
 
-    def test_prose_is_within_120_columns(self):
+    def test_prose_is_within_120_columns(self) -> None:
         """But for tables, pictures and code."""
         for name in PAGES:
             lines = [line for line in without_code(page(name)).splitlines() if not line.startswith(("|", "![", "#"))]
             self.assertTrue(lines)
             self.assertEqual([line for line in lines if len(line) > 120], [], name)
 
-    def test_cells_of_tables_are_short(self):
+    def test_cells_of_tables_are_short(self) -> None:
         """A cell of a table has at most 50 words: what needs more is prose, whose sentences are counted too."""
         for name in PAGES:
             with self.subTest(name):
                 self.assertEqual([cell for cell in cells(page(name)) if len(cell.split()) > 50], [])
 
-    def test_decisions_are_short(self):
+    def test_decisions_are_short(self) -> None:
         """Each is an item of at most 60 words: what was chosen, in place of what, and why."""
         items = [" ".join(it.split()) for it in re.split(r"\n(?=- |\n)", page("docs/DECISIONS.md")) if it.startswith("- ")]
         self.assertGreaterEqual(len(items), 120)
         self.assertEqual([item for item in items if len(item.split()) > 61], [])
 
-    def test_what_was_tried_and_left_has_a_line_each(self):
+    def test_what_was_tried_and_left_has_a_line_each(self) -> None:
         section = page("docs/DECISIONS.md").split("## Tried and left\n")[1].split("\n## ")[0].strip()
         self.assertEqual([line for line in section.splitlines() if not re.match(r"- `j39_\w+`: .*\.$", line)], [])
 
 
 class Names(InFolder):
-    def test_links_lead_somewhere(self):
+    def test_links_lead_somewhere(self) -> None:
         for name in PAGES:
             for link in re.findall(r"\]\((?!https:)([^)\s]+)\)", page(name)):
                 file, _, heading = link.partition("#")
@@ -157,7 +159,7 @@ class Names(InFolder):
                 if heading:
                     self.assertIn(heading, anchors(page(target)), f"{name}: {link}")
 
-    def test_what_is_called_proved_is_there(self):
+    def test_what_is_called_proved_is_there(self) -> None:
         """A row of docs/PROOFS.md: names, at most 40 words with clauses in brackets, and the files that have the names' contracts."""
         sections = proved_sections()
         self.assertGreaterEqual(len(sections), 10)
@@ -175,7 +177,7 @@ class Names(InFolder):
                     for clause in re.findall(r"\w+", name):
                         self.assertIn(clause, promised, heading)
 
-    def test_each_law_is_called_proved(self):
+    def test_each_law_is_called_proved(self) -> None:
         """The section of a library in docs/PROOFS.md names each law that it hands out: a public function with an empty body."""
         sections = proved_sections()
         named = {(crate, name) for crates, body in sections for crate in crates for name in re.findall(r"`(\w+)`", body)}
@@ -183,7 +185,7 @@ class Names(InFolder):
         self.assertGreaterEqual(len(laws), 30)
         self.assertEqual(sorted(laws - named), [])
 
-    def test_each_module_of_definitions_has_its_place(self):
+    def test_each_module_of_definitions_has_its_place(self) -> None:
         """The table of rules in docs/ARCHITECTURE.md has each module of specs/, and no other; specs/inside/ are for proofs."""
         table = page("docs/ARCHITECTURE.md").split("## Where each rule lives")[1]
         rows = re.findall(r"\n\| [^|]* \| `(j39_\w+)` \| ([^|]*) \|", table)
@@ -193,22 +195,22 @@ class Names(InFolder):
         there = {(crate, module) for crate, module in there if module not in ("Lib", "inside")}
         self.assertEqual(sorted(there ^ shown), [])
 
-    def test_a_name_of_definitions_has_one_home(self):
+    def test_a_name_of_definitions_has_one_home(self) -> None:
         """No two modules of specs/, specs/inside/ included, have a definition of one name: whoever looks for a rule by its name finds it."""
         homes = homes_of_definitions(TOP)
         self.assertGreaterEqual(len(homes), 1200)
         self.assertEqual({name: files for name, files in sorted(homes.items()) if len(files) > 1}, {})
 
-    def test_a_module_of_definitions_has_one_home(self):
+    def test_a_module_of_definitions_has_one_home(self) -> None:
         """No two crates have a module of specs/, specs/inside/ included, of one name."""
-        homes = {}
+        homes: dict[str, list[str]] = {}
         for file in glob.glob("crates/*/specs/**/*.antt", root_dir=TOP, recursive=True):
             homes.setdefault(os.path.basename(file), []).append(file)
         self.assertGreaterEqual(len(homes), 150)
         shared = {name: sorted(files) for name, files in homes.items() if len(files) > 1}
         self.assertEqual({name: files for name, files in shared.items() if name not in ("Lib.antt", "inside.antt")}, {})
 
-    def test_each_form_of_a_definition_is_seen(self):
+    def test_each_form_of_a_definition_is_seen(self) -> None:
         for crate, module, text in (
             ("lower", "One", "abbrev pub shared : ℕ\nshared = 1\n\nunfoldable pub own : ℕ\nown = shared\n"),
             ("lower", "inside/Two", "module _ {X : Type 0} where\n  abbrev pub shared : X → X\n  shared x = x\n"),
@@ -224,14 +226,14 @@ class Names(InFolder):
             "local": ["Five.antt"], "Hidden": ["Five.antt"],
         })
 
-    def test_each_module_of_the_tools_is_named(self):
+    def test_each_module_of_the_tools_is_named(self) -> None:
         """The table of docs/ARCHITECTURE.md has each module of tools/j39plan/ once, and no other."""
         section = page("docs/ARCHITECTURE.md").split("## The tools\n")[1].split("\n## ")[0]
         named = [folder + name for folder, cell in re.findall(r"\n\| (?:`(\w[\w/]*/)`: )?(`.*?) \|", section) for name in re.findall(r"`(\w+)`", cell)]
         modules = glob.glob("**/[!_]*.py", root_dir=os.path.join(TOP, "tools", "j39plan"), recursive=True)
         self.assertEqual(sorted(named), sorted(name[:-3] for name in modules))
 
-    def test_files_to_change_are_there(self):
+    def test_files_to_change_are_there(self) -> None:
         """The lists of docs/ARCHITECTURE.md on what is added where name files and folders that are there."""
         names = re.findall(r"`([\w.-]+(?:/[\w.-]*)*)`", page("docs/ARCHITECTURE.md").split("## To add a step")[1])
         files = [name for name in names if "/" in name]
@@ -239,7 +241,7 @@ class Names(InFolder):
         for name in files:
             self.assertTrue(any(os.path.exists(os.path.join(TOP, below, name)) for below in ("crates", "")), name)
 
-    def test_files_to_change_are_all_that_have_a_case(self):
+    def test_files_to_change_are_all_that_have_a_case(self) -> None:
         """The lists of docs/ARCHITECTURE.md on what is added name each source that has a case of the step or finding that they show."""
         text = page("docs/ARCHITECTURE.md")
         for heading, word in (("To add a step", "Down"), ("To add a finding", "KeptAddress")):
@@ -252,7 +254,7 @@ class Names(InFolder):
             self.assertGreaterEqual(len(having), 10)
             self.assertEqual(sorted(name for name in having if not name.startswith(named)), [], heading)
 
-    def test_files_in_backticks_are_there(self):
+    def test_files_in_backticks_are_there(self) -> None:
         """Each name of a file that a page has in backticks is a file or a folder of the repository, but for those of the reader."""
         known = {name for folder, folders, files in os.walk(TOP) if not folder.startswith(os.path.join(TOP, ".git"))
                  for name in (os.path.relpath(os.path.join(folder, it), TOP) for it in (*folders, *files))}
@@ -262,13 +264,13 @@ class Names(InFolder):
             with self.subTest(name):
                 self.assertEqual(sorted(it for it in shown - OTHERS if it not in ends), [])
 
-    def test_each_example_is_named(self):
+    def test_each_example_is_named(self) -> None:
         """The table of docs/EXAMPLES.md has each plan of examples/, and no other."""
         named = re.findall(r"^\| `(\w+\.toml)` \|", page("docs/EXAMPLES.md"), re.MULTILINE)
         plans = glob.glob("*.toml", root_dir=os.path.join(TOP, "examples"))
         self.assertEqual(sorted(named), sorted(plans))
 
-    def test_numbers_of_services_have_one_home(self):
+    def test_numbers_of_services_have_one_home(self) -> None:
         """The number of a group by which the network runs stands in j39_id alone, once as code and once as a definition."""
         homes = ["crates/j39_id/specs/Services.antt", "crates/j39_id/src/services.rt"]
         numbers = re.findall(r"= (\d{2})(\d{3})\n", text_of(os.path.join(TOP, homes[0])))
@@ -284,22 +286,22 @@ class Names(InFolder):
             self.assertEqual(sorted(name for name in files if number.search(files[name])), homes, high + low)
 
 
-def homes_of_definitions(top):
+def homes_of_definitions(top: str) -> dict[str, list[str]]:
     """The files of specs/ that define each name."""
-    homes = {}
+    homes: dict[str, list[str]] = {}
     for file in sorted(glob.glob("crates/*/specs/**/*.antt", root_dir=top, recursive=True)):
         for name in dict.fromkeys(re.findall(DEFINITION, text_of(os.path.join(top, file)))):
             homes.setdefault(name, []).append(file)
     return homes
 
 
-def proved_sections():
+def proved_sections() -> list[tuple[list[str], str]]:
     """The sections of docs/PROOFS.md on what is proved, each as its crates and its text."""
     sections = re.findall(r"\n## ((?:`j39_\w+`(?:, )?)+):.*?\n(.*?)(?=\n## )", page("docs/PROOFS.md"), re.DOTALL)
     return [(re.findall(r"j39_\w+", heading), body) for heading, body in sections]
 
 
-def promises(source):
+def promises(source: str) -> set[str]:
     """What clauses of a source promise: the names of its clauses, and the facts of the records of commands that it cites."""
     commands = text_of(os.path.join(TOP, "crates", "j39_stream", "specs", "CommandEnds.antt"))
     records = re.findall(r"\npub record (\w+) (.*?)(?=\n\n|$)", commands, re.DOTALL)
@@ -307,23 +309,23 @@ def promises(source):
     return set(re.findall(r"ensures (\w+)\b", source)).union(*facts)
 
 
-def rows_of(section):
+def rows_of(section: str) -> list[tuple[str, str, str]]:
     """The rows of a section's table: the calls, what is proved of them, and links to the files of their contracts."""
     return re.findall(r"\n\| (`[^|]*) \| (.*) \| (\[[^|]*) \|", section)
 
 
-def public(source):
+def public(source: str) -> str:
     """A source, in which a trait's functions are as public as it is."""
     return re.sub(r"\n    fn ", "\n    pub fn ", source)
 
 
-def source_of(crate):
+def source_of(crate: str) -> str:
     """The sources of a crate."""
     names = glob.glob(os.path.join(TOP, "crates", crate, "src", "**", "*.rt"), recursive=True)
     return "\n".join(public(text_of(name)) for name in names if "tests" not in name)
 
 
-def laws_of(crate):
+def laws_of(crate: str) -> list[str]:
     """The laws among what a crate's lib.rt hands out of its own functions."""
     lib = os.path.join(TOP, "crates", crate, "src", "lib.rt")
     handed_out = " ".join(re.findall(r"pub use [^;]+;", text_of(lib))) if os.path.exists(lib) else ""
@@ -331,28 +333,28 @@ def laws_of(crate):
     return [name for name in empty if re.search(rf"\b{name}\b", handed_out)]
 
 
-def without_code(text):
+def without_code(text: str) -> str:
     """A page without its blocks of code and its pictures."""
     return re.sub(r"```.*?```|^    .*?$|^!\[.*?$", "", text, flags=re.DOTALL | re.MULTILINE)
 
 
-def cells_of(block):
+def cells_of(block: str) -> list[str]:
     """The cells of a table."""
     return [cell for row in block.splitlines() for cell in re.split(r"(?<!\\)\|", row) if cell.strip(" -")]
 
 
-def words_of(part):
+def words_of(part: str) -> str:
     """The words of a part of a page: code is one word, and a link its text."""
     return " ".join(re.sub(r"`[^`]*`", "CODE", re.sub(r"\]\([^)]*\)", "]", part)).split())
 
 
-def cells(text):
+def cells(text: str) -> list[str]:
     """The cells of all tables of a page, by their words."""
     blocks = re.split(r"\n\s*\n", without_code(text))
     return [words_of(cell) for block in blocks if block.startswith("|") for cell in cells_of(block)]
 
 
-def sentences(text):
+def sentences(text: str) -> Iterator[str]:
     """The sentences of a page, each cell of a table, each heading and each item for itself; code is one word, and a link its text."""
     for block in re.split(r"\n\s*\n", without_code(text)):
         parts = cells_of(block) if block.startswith("|") else re.split(r"\n(?=\s*(?:-|\d+\.) )", block)
@@ -361,7 +363,7 @@ def sentences(text):
             yield from filter(None, re.split(r"(?:(?<=[.!?])|(?<=[.!?]\))) (?=[(A-Z*\[])", words))
 
 
-def anchors(text):
+def anchors(text: str) -> set[str]:
     """The anchors of a page's headings, as GitHub makes them."""
     headings = re.findall(r"^#+ (.*)$", re.sub(r"```.*?```", "", text, flags=re.DOTALL), re.MULTILINE)
     return {re.sub(r"[^\w\- ]", "", heading.lower()).replace(" ", "-") for heading in headings}

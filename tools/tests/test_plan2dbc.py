@@ -8,12 +8,14 @@ import subprocess
 import sys
 import tomllib
 import unittest
+from collections.abc import Sequence
 from fractions import Fraction
 from math import gcd
+from typing import Any
 
 from j39plan import program
 from j39plan.dbc.reader import import_canmatrix
-from tests.support import MARKED, NEWER, TOOLS, TOP, InFolder, example, examples, needs, run, text_of
+from tests.support import InFolder, MARKED, NEWER, TOOLS, TOP, example, examples, needs, run, text_of, there
 
 KINDS = {
     "measured": (8, 16, 32), "discrete": (2,), "raw": (1, 2, 3, 8, 16, 31, 32), "states": (2, 3, 8), "signed": (2, 8, 13, 32),
@@ -23,14 +25,14 @@ LABELS = ["A", "1", "7UP", "BO_", "Vector__XXX", "FILTER", "X" * 32, "motor", "M
 UNITS = ["", "rpm", "1/8 rpm", "%", "degC", "km/h"]
 
 
-def scale(signal):
+def scale(signal: dict[str, Any]) -> tuple[Any, ...]:
     """Step, offset and divisor of a signal in the smallest numbers, and its unit of measurement, without a fraction of it."""
     parts, _, unit = signal.get("unit", "").rpartition(" ") if signal.get("unit", "").startswith("1/") else ("", "", signal.get("unit", ""))
     numbers = signal.get("step", 1), signal.get("offset", 0), signal.get("per", 1) * int(parts.removeprefix("1/") or 1)
     return *(number // gcd(*numbers) for number in numbers), unit
 
 
-def said(plan):
+def said(plan: dict[str, Any]) -> tuple[Any, ...]:
     """What of a plan a DBC can say."""
     addresses = {unit["label"]: unit["address"] for unit in plan.get("unit", [])}
     units = {unit["label"]: (unit["address"], {key: part for key, part in unit["name"].items() if part})
@@ -43,16 +45,17 @@ def said(plan):
         for group in plan.get("group", [])
     }
     to_all = {label for label, group in groups.items() if group[0] >> 8 & 0xFF >= 240}
-    flows = {}
+    flows: dict[tuple[str, str, str], int | None] = {}
     for flow in plan.get("flow", []):
         way = flow["group"], flow["from"], "all" if flow["group"] in to_all else flow["to"]
         flows[way] = min(filter(None, (flows.get(way), flow.get("period"))), default=None)
     return units, groups, flows, sorted(addresses)
 
 
-def random_signals(chance, length):
+def random_signals(chance: random.Random, length: int) -> list[dict[str, Any]]:
     """Signals after one another in a group."""
-    signals, at = [], 0
+    signals: list[dict[str, Any]] = []
+    at = 0
     while True:
         kind = chance.choice(list(KINDS))
         bits, at = chance.choice(KINDS[kind]), at + chance.choice([0, 0, 1, 5])
@@ -60,22 +63,23 @@ def random_signals(chance, length):
         if at + bits > 8 * length or len(signals) == 20:
             return signals
         signals.append({"label": (LABELS + [f"S{len(signals)}"] * 20)[len(signals)], "byte": at // 8 + 1, "bit": at % 8 + 1, "bits": bits,
-                        "kind": kind, **({} if kind == "dtc" else random_scale(chance))})
+                        "kind": kind})
+        signals[-1].update({} if kind == "dtc" else random_scale(chance))
         at += bits
 
 
-def random_scale(chance):
+def random_scale(chance: random.Random) -> dict[str, int | str]:
     """What the values of a signal mean."""
     return {"step": chance.choice([1, 1, 3, 25, 1000000]), "per": chance.choice([1, 8, 10, 1000, 2**23, 5**10]),
             "offset": chance.choice([0, -40, 7, -10**12, 10**12]), "unit": chance.choice(UNITS)}
 
 
-def random_period(chance):
+def random_period(chance: random.Random) -> dict[str, int]:
     """How far apart messages of a flow are, if that is said."""
     return chance.choice([{}, {"period": chance.choice([1, 20, 65535])}])
 
 
-def written(header, keys):
+def written(header: str, keys: dict[str, Any]) -> str:
     """A table of a plan."""
     lines = [f"[[{header}]]"]
     for key, part in keys.items():
@@ -83,7 +87,7 @@ def written(header, keys):
     return "\n".join(lines) + "\n"
 
 
-def random_plan(chance):
+def random_plan(chance: random.Random) -> str:
     """The text of a random plan without findings that a DBC could not say."""
     text, labels = "version = 3\n", chance.sample(LABELS, chance.randrange(1, 6))
     for number, label in enumerate(labels):
@@ -103,13 +107,13 @@ def random_plan(chance):
 
 
 class WithPlans(InFolder):
-    def made(self, plan):
+    def made(self, plan: str) -> tuple[str, str]:
         """The DBC of a plan's file, under its name, and what is said of it."""
         status, dbc, told = run("plan2dbc.py", plan)
         self.assertEqual(status, 0, told)
         return self.write("file.dbc", dbc), told
 
-    def back(self, plan):
+    def back(self, plan: str) -> dict[str, Any]:
         """The plan that comes of a plan's DBC, whose units have the numbers that the plan has."""
         status, text, told = run("dbc2plan.py", "--identity", self.made(plan)[0])
         self.assertEqual(status, 0, told)
@@ -172,13 +176,13 @@ group = "{0}"
 
 @needs("canmatrix", "python3-canmatrix")
 class Multiplexed(WithPlans):
-    def dbc(self, text, *labels):
+    def dbc(self, text: str, *labels: str) -> tuple[str, str, bool]:
         """The DBC of a plan with these labels of its two groups, what is said of it, and whether the plan comes back."""
         plan = self.write("plan.toml", text.format(*labels))
         name, told = self.made(plan)
         return text_of(name), told, said(self.back(plan)) == said(tomllib.loads(text_of(plan)))
 
-    def test_groups_of_one_message(self):
+    def test_groups_of_one_message(self) -> None:
         dbc, told, is_back = self.dbc(TOLD + FLOWS, "TIRE_m1", "TIRE_m2")
         self.assertTrue(is_back)
         self.assertIn(" TIRE: 8 TIRES\n SG_ AXLE M : 4|4@1+ ", dbc)
@@ -186,33 +190,33 @@ class Multiplexed(WithPlans):
         self.assertEqual(dbc.count("\nBO_ "), 1)
         self.assertEqual(told, "2 nodes 1 messages, notes 0\n")
 
-    def test_a_group_without_a_signal_of_its_own(self):
+    def test_a_group_without_a_signal_of_its_own(self) -> None:
         """The message names it."""
         dbc, _, _ = self.dbc(TOLD + FLOWS, "TIRE_m1", "TIRE_m2")
         self.assertIn('BA_ "PlanGroups" BO_ 2566845491 "1 TIRE_m1, 2 TIRE_m2";', dbc)
 
-    def test_other_labels(self):
+    def test_other_labels(self) -> None:
         dbc, _, is_back = self.dbc(TOLD + FLOWS, "LEFT", "RIGHT")
         self.assertTrue(is_back)
         self.assertIn('"1 LEFT, 2 RIGHT";', dbc)
 
-    def test_groups_that_nobody_sends(self):
+    def test_groups_that_nobody_sends(self) -> None:
         self.assertTrue(self.dbc(TOLD, "LEFT", "RIGHT")[2])
 
-    def test_bits_that_are_no_signal(self):
+    def test_bits_that_are_no_signal(self) -> None:
         text = (TOLD + FLOWS).replace('label = "AXLE"\nbyte = 1\nbit = 5', 'label = "AXLE"\nbyte = 8\nbit = 5')
         dbc, told, is_back = self.dbc(text, "TIRE_m1", "TIRE_m2")
         self.assertTrue(is_back)
         self.assertIn(" SG_ Selector M : 4|4@1+ ", dbc)
         self.assertIn("message TIRE_m1: no signal has the bits that tell its groups: Selector stands for them\n", told)
 
-    def test_groups_by_other_bits(self):
+    def test_groups_by_other_bits(self) -> None:
         text = (TOLD + FLOWS).replace("bits = 4, value = 2", "bits = 3, value = 2")
         dbc, told, _ = self.dbc(text, "LEFT", "RIGHT")
         self.assertIn("flow of RIGHT from TIRES to all: another group's message has its identifier\n", told)
         self.assertEqual(dbc.count("\nBO_ "), 1)
 
-    def test_a_signal_of_several_groups_keeps_its_name(self):
+    def test_a_signal_of_several_groups_keeps_its_name(self) -> None:
         """As DBCs have it by SG_MUL_VAL_; canmatrix decodes it by its name for each value, and the plan comes back."""
         import canmatrix.formats
 
@@ -227,7 +231,7 @@ class Multiplexed(WithPlans):
         for value, names in ((1, {"AXLE", "PRESSURE"}), (2, {"AXLE", "DOOR"}), (3, {"AXLE", "DOOR"})):
             self.assertEqual(set(frame.decode(bytes((value << 4, 7, 1, 0, 0, 0, 0, 0)))), names)
 
-    def test_several_lengths(self):
+    def test_several_lengths(self) -> None:
         text = (TOLD + FLOWS).replace("length = 8", "length = 7", 1)
         dbc, told, _ = self.dbc(text, "TIRE_m1", "TIRE_m2")
         self.assertIn(" TIRE: 8 TIRES\n", dbc)
@@ -236,7 +240,7 @@ class Multiplexed(WithPlans):
 
 @needs("canmatrix", "python3-canmatrix")
 class RoundTrip(WithPlans):
-    def test_the_examples(self):
+    def test_the_examples(self) -> None:
         """But those with findings, which have two messages of one identifier or widths that no kind has."""
         plans = [plan for plan in examples(".toml") if "findings" not in plan]
         self.assertGreater(len(plans), 6)
@@ -244,7 +248,7 @@ class RoundTrip(WithPlans):
             with self.subTest(plan):
                 self.assertEqual(said(self.back(plan)), said(tomllib.loads(text_of(plan))))
 
-    def test_random_plans(self):
+    def test_random_plans(self) -> None:
         chance, flows = random.Random(1939), 0
         for number in range(40):
             with self.subTest(number):
@@ -256,7 +260,7 @@ class RoundTrip(WithPlans):
                 flows += len(whole.get("flow", []))
         self.assertGreater(flows, 60)
 
-    def test_groups_of_makers(self):
+    def test_groups_of_makers(self) -> None:
         """Two makers' groups of one number, one of them from two units."""
         units = "".join(written("unit", {"label": label, "address": address}) + f"name = {{ identity = {address} }}\n"
                         for address, label in enumerate(("ECU", "OTHER", "THIRD")))
@@ -267,7 +271,7 @@ class RoundTrip(WithPlans):
         plan = self.write("plan.toml", "version = 3\n" + units + groups + flows)
         self.assertEqual(said(self.back(plan)), said(tomllib.loads(text_of(plan))))
 
-    def test_periods(self):
+    def test_periods(self) -> None:
         """Each flow has its own, also where one group is sent to several; none becomes a remark."""
         units = "".join(written("unit", {"label": label, "address": address}) + f"name = {{ identity = {address} }}\n"
                         for address, label in enumerate(("ONE", "TWO", "THREE")))
@@ -281,7 +285,7 @@ class RoundTrip(WithPlans):
         self.assertEqual(said(self.back(plan)), said(tomllib.loads(text_of(plan))))
         self.assertNotIn(" ms", run("dbc2plan.py", dbc)[1])
 
-    def test_random_frames(self):
+    def test_random_frames(self) -> None:
         """canmatrix decodes them to the values that the plan's definition of a value gives."""
         import_canmatrix()
         import canmatrix.formats
@@ -308,14 +312,14 @@ class RoundTrip(WithPlans):
 @needs("canmatrix", "python3-canmatrix")
 @unittest.skipUnless(shutil.which("tshark"), "tshark isn't there: apt-get install tshark")
 class Wireshark(InFolder):
-    def test_the_way_of_the_page(self):
+    def test_the_way_of_the_page(self) -> None:
         """What docs/TOOLS.md has for Wireshark shows the raw numbers of a log's signals."""
         plan, lines = example("tractor_and_implement.toml"), text_of(example("tractor_and_implement.start.log")).splitlines(keepends=True)
         log = self.write("drive.log", "".join(lines[:-1]))  # the last one is bad
-        block = re.search(r"```sh\n(tools/plan2dbc\.py .*?)```", text_of(os.path.join(TOP, "docs", "TOOLS.md")), re.DOTALL).group(1)
-        for shown, there in (("tools/", TOOLS + "/"), (" plan.toml", f" {plan}"), (" drive.log", f" {log}"), ("python3 -m", f"{sys.executable} -m")):
+        block = there(re.search(r"```sh\n(tools/plan2dbc\.py .*?)```", text_of(os.path.join(TOP, "docs", "TOOLS.md")), re.DOTALL)).group(1)
+        for shown, meant in (("tools/", TOOLS + "/"), (" plan.toml", f" {plan}"), (" drive.log", f" {log}"), ("python3 -m", f"{sys.executable} -m")):
             self.assertIn(shown, block)
-            block = block.replace(shown, there)
+            block = block.replace(shown, meant)
         environment = {**os.environ, "J39PLAN": program.path(), "HOME": self.folder}
         ended = subprocess.run(["sh", "-e", "-c", block], cwd=self.folder, env=environment, capture_output=True, text=True, check=True)
         numbers = re.findall(r"^    (SPN\d+): (\d+)$", ended.stdout, re.MULTILINE)
@@ -377,7 +381,7 @@ to = "all"
 period = 10
 """
 
-    def received(self, asked, beside=""):
+    def received(self, asked: Sequence[str], beside: str = "") -> tuple[dict[tuple[str, str], Any], list[str]]:
         """Who receives each signal in each message of the plan's DBC, and what is said."""
         plan = self.PLAN % beside + "".join(f"[[need]]\n{need}\n" for need in asked)
         dbc, told = self.made(self.write("plan.toml", plan))
@@ -389,11 +393,11 @@ period = 10
                 names[message, signal] = receivers
         return names, told.splitlines()[:-1]
 
-    def test_receivers(self):
+    def test_receivers(self) -> None:
         """Of each message that meets the need, by a need of one signal of that one; of a group that nobody sends too."""
         nobody = "Vector__XXX"
         for asked, wanted in (
-            ([], [nobody] * 5),
+            ((), [nobody] * 5),
             (['unit = "DASH"\ngroup = "EEC1"'], ["DASH", "DASH", "DASH", "DASH", nobody]),
             (['unit = "BOX"\ngroup = "EEC1"', 'unit = "DASH"\ngroup = "EEC1"'], ["BOX,DASH", "BOX,DASH", "DASH", "DASH", nobody]),
             (['unit = "DASH"\ngroup = "EEC1"\nsignal = "SPN190"\nfrom = "BOX"'], [nobody, nobody, nobody, "DASH", nobody]),
@@ -404,7 +408,7 @@ period = 10
         names, _ = self.received(['unit = "DASH"\ngroup = "EEC1"', 'unit = "BOX"\ngroup = "EEC1"'], "  # for DASH")
         self.assertEqual(list(names.values())[:4], ["DASH,BOX", "BOX", "DASH", nobody])
 
-    def test_what_a_dbc_can_not_say(self):
+    def test_what_a_dbc_can_not_say(self) -> None:
         lost = ["flow of EEC1 from ENGINE to all: a DBC has no jitter", "flow of EEC1 from ENGINE to all: a DBC has no pause"]
         timing = ["timing: a DBC has no count of unplanned frames", "timing: a DBC has no broadcast_gap", "timing: a DBC has no errors"]
         _, said = self.received(['unit = "DASH"\ngroup = "EEC1"\nfrom = "BOX"\nwithin = 50', 'unit = "DASH"\ngroup = "EEC1"\nfrom = "DASH"'])
@@ -414,7 +418,7 @@ period = 10
             need.format(2, "a DBC has no from of a need")]))
 
     @needs("canmatrix", "python3-canmatrix")
-    def test_there_and_back(self):
+    def test_there_and_back(self) -> None:
         """A need of a unit and a group is one again, and so is one that nothing meets."""
         needs = [("BOX", "EEC1"), ("DASH", "EEC1"), ("DASH", "ALONE"), ("ENGINE", "EEC1")]
         plan = self.PLAN % "" + "".join(f'[[need]]\nunit = "{unit}"\ngroup = "{group}"\n' for unit, group in needs)
@@ -423,7 +427,7 @@ period = 10
 
 
 class Written(WithPlans):
-    def test_a_message(self):
+    def test_a_message(self) -> None:
         plan = self.write("plan.toml", """version = 3
 [[unit]]
 label = "A"  # The "first" one
@@ -468,7 +472,7 @@ to = "DISPLAY"
         self.assertEqual(told.splitlines(), [
             "unit DISPLAY: a DBC has no chooser", "unit DISPLAY: a DBC has no window", "2 nodes 2 messages, notes 2"])
 
-    def test_what_a_dbc_has_not_of_timing(self):
+    def test_what_a_dbc_has_not_of_timing(self) -> None:
         """Of an identifier with several flows the least period is written, and that is said."""
         text = text_of(example("axle.toml"))
         dbc, told = self.made(self.write("plan.toml", text + '[[flow]]\ngroup = "ET1"\nfrom = "ENGINE"\nto = "RETARDER"\nperiod = 500\n'))
@@ -479,7 +483,7 @@ to = "DISPLAY"
             "flow of ET1 from ENGINE to RETARDER: its identifier names no destination", "timing: a DBC has no count of unplanned frames",
             "message ET1: its flows have the periods 500, 1000 ms: the least one is its cycle time", "2 nodes 3 messages, notes 4"])
 
-    def test_texts(self):
+    def test_texts(self) -> None:
         """They are as long as the shortest messages have them; how long they are is an attribute where that isn't so."""
         dbc, told = self.made(example("identification.toml"))
         self.assertEqual(told, "2 nodes 3 messages, notes 0\n")
@@ -488,13 +492,13 @@ to = "DISPLAY"
                      f'BA_ "PlanMost" BO_ {0x98FEDA00} 201;', f'BA_ "PlanBytes" SG_ {0x98FEDA00} SPN234 0;'):
             self.assertIn(line, text_of(dbc).splitlines())
 
-    def test_a_text_that_the_shortest_messages_have_nothing_of(self):
+    def test_a_text_that_the_shortest_messages_have_nothing_of(self) -> None:
         text = text_of(example("identification.toml")).replace("length = 8\nmost = 201", "length = 1\nmost = 201")
         dbc, told = self.made(self.write("plan.toml", text))
         self.assertIn("text SPN234 of SOFT: the group's messages end with byte 1\n", told)
         self.assertNotIn("SPN234", text_of(dbc))
 
-    def test_optional_signals(self):
+    def test_optional_signals(self) -> None:
         """One that the shortest messages have is an ordinary signal; of another they have nothing."""
         text = text_of(example("trouble_codes.toml")).replace("version = 3", "version = 4")
         added = "".join(f'[[group.signal]]\nlabel = "{label}"\nbyte = {byte}\nbits = 8\nkind = "raw"\noptional = true\n'
@@ -505,7 +509,7 @@ to = "DISPLAY"
         self.assertNotIn("OUTSIDE", text_of(dbc))
 
     @needs("canmatrix", "python3-canmatrix")
-    def test_messages_of_several_lengths(self):
+    def test_messages_of_several_lengths(self) -> None:
         """Each is as long as is said beside its flow, has the signals inside, and comes back so; one of no such length is the shortest."""
         import_canmatrix()
         import canmatrix.formats
@@ -522,7 +526,7 @@ to = "DISPLAY"
                 self.assertEqual([made[key] for key in ("group", "flow")], [wanted[key] for key in ("group", "flow")])
                 self.assertIn('"EC1"  # 34 bytes\n', back)
 
-    def test_a_group_of_several_lengths(self):
+    def test_a_group_of_several_lengths(self) -> None:
         """Its message has the least one, so that others decode what goes in one frame; its first record is an ordinary signal."""
         dbc, told = self.made(example("trouble_codes.toml"))
         self.assertEqual(told, "1 nodes 1 messages, notes 0\n")
@@ -535,7 +539,7 @@ to = "DISPLAY"
         frame = canmatrix.formats.loadp_flat(dbc).frames[0]
         self.assertEqual(frame.decode(bytes.fromhex("04FF6E000301FFFF"))["DTC"].raw_value, 0x0103006E)
 
-    def test_units_of_measurement_have_no_fraction(self):
+    def test_units_of_measurement_have_no_fraction(self) -> None:
         """So others decode what the plan says."""
         dbc, _ = self.made(example("tractor_and_implement.toml"))
         self.assertRegex(text_of(dbc), r'SG_ SPN190 : 24\|16@1\+ \(0\.125,0\) \[0\|8031\.875\] "rpm" ')
@@ -549,7 +553,7 @@ to = "DISPLAY"
         self.assertIn('(0.00012207,0) [0|7.84360785] "rad/s"', text_of(self.made(plan)[0]))
         self.assertEqual(said(self.back(plan)), said(tomllib.loads(text_of(plan))))
 
-    def test_what_dbc2plan_wrote_beside(self):
+    def test_what_dbc2plan_wrote_beside(self) -> None:
         """Numbers of parameters, tables of values, ranges, receivers, comments, names and times come back as what a DBC has for them."""
         number = 0x8CF00400
         text = (f'BU_: ENGINE CLUSTER TOOL\nBO_ {number} EEC1_ENGINE: 8 ENGINE\n'
@@ -577,7 +581,7 @@ to = "DISPLAY"
         self.assertIn('BA_DEF_ BO_ "GenMsgSendType" ENUM "cyclic","OnChange";', dbc)
         self.assertEqual(said(self.back(self.path("plan.toml"))), said(tomllib.loads(plan)))
 
-    def test_units_of_any_serial_number(self):
+    def test_units_of_any_serial_number(self) -> None:
         """A DBC says nothing of their numbers."""
         plan = "version = 4\n" + "".join(written("unit", {"label": label, "address": at}) + f"name = {{ {name} }}\n" for label, at, name in (
             ("ENGINE", 0, "manufacturer = 310"), ("TOOL", 249, "identity = 0, manufacturer = 310, function = 129")))
@@ -585,13 +589,13 @@ to = "DISPLAY"
         self.assertEqual([line for line in text_of(dbc).splitlines() if line.startswith('BA_ "NmJ1939IdentityNumber"')], ['BA_ "NmJ1939IdentityNumber" BU_ TOOL 0;'])
         self.assertEqual(said(self.back(self.path("plan.toml"))), said(tomllib.loads(plan)))
 
-    def test_a_destination_that_no_unit_has(self):
+    def test_a_destination_that_no_unit_has(self) -> None:
         """It is that of the file again."""
         name = self.write("file.dbc", f'BU_: GEARBOX\nBO_ {0x8C000003} TSC1: 8 GEARBOX\n SG_ S : 0|8@1+ (1,0) [0|0] "" Vector__XXX\n')
         plan = self.write("plan.toml", run("dbc2plan.py", name)[1])
         self.assertIn(f"BO_ {0x8C000003} TSC1: 8 GEARBOX", text_of(self.made(plan)[0]).splitlines())
 
-    def test_comments_of_another_form(self):
+    def test_comments_of_another_form(self) -> None:
         """What isn't as dbc2plan.py writes it is a comment as a whole."""
         for comment, wanted in (("The engine's speed", '"The engine\'s speed"'), ("SPN 190 and more", '"SPN 190 and more"'),
                                 ('SPN 190, see "here"', "\"SPN 190, see 'here'\""), ("SPN 190, ok", '"SPN 190, ok"'), ('0 = "off", the rest is open', "\"0 = 'off', the rest is open\""),
@@ -602,7 +606,7 @@ to = "DISPLAY"
             told = [line.split(" ", 4)[4] for line in dbc.splitlines() if line.startswith("CM_ SG_ ")]
             self.assertEqual(told, [] if wanted is None else [f"{wanted};"], comment)
 
-    def test_two_messages_of_one_identifier(self):
+    def test_two_messages_of_one_identifier(self) -> None:
         """The second one, which check finds, is left out."""
         unit = written("unit", {"label": "ECU", "address": 5}) + "name = { identity = 7 }\n"
         groups = [written("group", {"label": label, "pgn": 61444, "priority": 6, "length": 8}) for label in ("FIRST", "SECOND")]
@@ -611,13 +615,13 @@ to = "DISPLAY"
         self.assertEqual(text_of(dbc).count("\nBO_ "), 1)
         self.assertIn("flow of SECOND from ECU to all: another group's message has its identifier\n", told)
 
-    def test_spellings(self):
+    def test_spellings(self) -> None:
         """A plan of TOML 1.1 gives the same as one behind a byte order mark."""
         newer, marked = (text_of(self.made(self.write("plan.toml", text))[0]) for text in (NEWER, MARKED))
         self.assertIn("\nBU_: _A _B\n", newer)
         self.assertEqual([line for line in newer.splitlines() if not line.startswith("CM_ ")], marked.splitlines())
 
-    def test_plans_that_cannot_be_read(self):
+    def test_plans_that_cannot_be_read(self) -> None:
         refused = self.write("plan.toml", "version = 9\n")
         self.assertEqual(run("plan2dbc.py", refused), (2, "", f"plan2dbc: {refused}:1: refused Range top key version  (version = 9: integer 1..4)\n"))
         missing = self.path("none.toml")

@@ -9,6 +9,7 @@ import subprocess
 import sys
 import unittest
 import xml.etree.ElementTree as ElementTree
+from typing import Any
 
 from j39plan import program
 from j39plan.log.clock import ends_of
@@ -30,13 +31,13 @@ LINES = [
 
 
 class WithLog(InFolder):
-    def setUp(self):
+    def setUp(self) -> None:
         super().setUp()
         self.log = self.write("drive.log", "".join(f"{line}\n" for line in LINES))
 
 
 class Told(WithLog):
-    def told(self, log, *names):
+    def told(self, log: str, *names: str) -> tuple[dict[Any, Any], Any]:
         """The curves of a log, and who held which address."""
         tables = tables_of(PLAN)
         timeline = Timeline(tables.units)
@@ -45,7 +46,7 @@ class Told(WithLog):
             curves = curves_of(timeline.passed(follow(PLAN, file, tables, Counts())), wanted, timeline.clock)
         return {(curve.group, curve.signal, curve.sender): curve for curve in curves}, timeline.held()
 
-    def test_curves_have_gaps(self):
+    def test_curves_have_gaps(self) -> None:
         """No value where a signal is absent or faulty, and the time of each such state; each sender has its own curve."""
         curves, _ = self.told(self.log, "SPN110", "SPN190")
         heat = curves["ET1", "SPN110", "ENGINE"]
@@ -55,7 +56,7 @@ class Told(WithLog):
         self.assertEqual(list(curves["EEC1", "SPN190", "TRANSMISSION?"].values), [1600.0])
         self.assertEqual(len(curves), 3)
 
-    def test_who_held_which_address(self):
+    def test_who_held_which_address(self) -> None:
         _, held = self.told(self.log)
         self.assertEqual([part for part in held if part.address in (0, 128, 129)], [
             Held(0, "ENGINE", 100.0, 110.0, True), Held(128, "SPRAYER", 100.0, 105.0, False),
@@ -63,12 +64,12 @@ class Told(WithLog):
         ])
         self.assertEqual([part for part in held if part.address == 3], [Held(3, "TRANSMISSION", 100.0, 110.0, False)])
 
-    def test_without_times(self):
+    def test_without_times(self) -> None:
         """The lines count."""
         bare = self.write("bare.log", "\n18FEEE00#7DFFFFFFFFFFFFFF\n18FEEE00#7DFFFFFFFFFFFFFF\n")
         self.assertEqual(list(self.told(bare, "SPN110")[0]["ET1", "SPN110", "ENGINE?"].times), [2.0, 3.0])
 
-    def test_clocks_that_are_set(self):
+    def test_clocks_that_are_set(self) -> None:
         """A curve goes on as if they weren't, and the addresses with it; that is said once."""
         lines = ["(12.0) can0 18FEEE00#7DFFFFFFFFFFFFFF", "(13.0) can0 18FEEE00#7EFFFFFFFFFFFFFF",
                  "(1764230400.0) can0 18FEEE00#7FFFFFFFFFFFFFFF", "(1764230401.5) can0 18EEFF80#7856341200000000",
@@ -81,7 +82,7 @@ class Told(WithLog):
             said = f"plot: {log}:3: time jumps by 20419.3 days; times go back or jump 2 times in all\n"
             self.assertEqual(run("plot.py", PLAN, log, "SPN110", "-o", self.path("a.svg")), (0, "", said))
 
-    def test_several_logs(self):
+    def test_several_logs(self) -> None:
         """One behind the other, also where the first ends without a line feed."""
         first, second = self.write("a.log", "\n".join(LINES[:4])), self.write("b.log", "\n".join(LINES[4:]))
         tables = tables_of(PLAN)
@@ -93,7 +94,7 @@ class Told(WithLog):
             self.assertEqual([log.place(line) for line in (1, 4, 5, 11)], [(first, 1), (first, 4), (second, 1), (second, 7)])
         self.assertEqual(list(curves[0].times), [101.0, 102.0, 103.0, 104.0])
 
-    def test_what_is_refused(self):
+    def test_what_is_refused(self) -> None:
         for words, status, said in (
             (["SPN190", "-o", self.path("a.txt")], 2, f"plot: {self.path('a.txt')}: the file's name ends in .png or .svg\n"),
             (["-o", self.path("a.png")], 2, "plot: nothing to draw: name a signal, or --addresses\n"),
@@ -101,7 +102,7 @@ class Told(WithLog):
             self.assertEqual(run("plot.py", PLAN, self.log, *words), (status, "", said))
         self.assertEqual(run("plot.py", PLAN, self.log, "SPN190")[0], 2)
 
-    def test_without_matplotlib(self):
+    def test_without_matplotlib(self) -> None:
         ended = subprocess.run([sys.executable, "-S", os.path.join(TOOLS, "plot.py"), PLAN, self.log, "SPN190", "-o", self.path("a.png")],
                                capture_output=True, text=True, check=False, env={**os.environ, "J39PLAN": program.path(), "PYTHONPATH": ""})
         self.assertEqual((ended.returncode, ended.stderr), (69, "plot: matplotlib isn't there: apt-get install python3-matplotlib\n"))
@@ -110,23 +111,23 @@ class Told(WithLog):
 
 @needs("matplotlib", "python3-matplotlib")
 class Drawn(WithLog):
-    def drawn(self, name, *words, log=None, plan=PLAN):
+    def drawn(self, name: str, *words: str, log: str | None = None, plan: str = PLAN) -> bytes:
         """The bytes of a picture."""
         self.assertEqual(run("plot.py", plan, log or self.log, *words, "-o", self.path(name)), (0, "", ""))
         with open(self.path(name), "rb") as file:
             return file.read()
 
-    def texts(self, picture):
+    def texts(self, picture: bytes) -> list[str]:
         """The texts in an SVG file, in order."""
         return ["".join(part.itertext()) for part in ElementTree.fromstring(picture).iter("{http://www.w3.org/2000/svg}text")]
 
-    def test_a_png(self):
+    def test_a_png(self) -> None:
         picture = self.drawn("a.png", "SPN190")
         self.assertEqual(picture[:8], b"\x89PNG\r\n\x1a\n")
         self.assertGreater(len(picture), 5000)
         self.assertEqual(picture, self.drawn("b.png", "SPN190"))
 
-    def test_an_svg_has_signals_units_and_states(self):
+    def test_an_svg_has_signals_units_and_states(self) -> None:
         picture = self.drawn("a.svg", "ET1.SPN110", "EEC1.SPN190")
         texts = self.texts(picture)
         for text in ("EEC1.SPN190", "rpm", "degC", "ENGINE", "TRANSMISSION?", "ENGINE: absent", "ENGINE: fault", "drive.log"):
@@ -135,12 +136,12 @@ class Drawn(WithLog):
         self.assertNotIn("address", texts)
         self.assertEqual(picture, self.drawn("b.svg", "ET1.SPN110", "EEC1.SPN190"))
 
-    def test_an_svg_of_addresses(self):
+    def test_an_svg_of_addresses(self) -> None:
         texts = self.texts(self.drawn("a.svg", "--addresses"))
         for text in ("address", "129", "SPRAYER", "#0000000012345678", "ENGINE"):
             self.assertIn(text, texts)
 
-    def test_what_the_axis_counts(self):
+    def test_what_the_axis_counts(self) -> None:
         """Seconds, and lines in a log without times."""
         self.assertIn("time in s from the log's first frame, at 100.000000", self.texts(self.drawn("a.svg", "SPN110")))
         bare = self.write("bare.log", "".join(f"{line.split()[-1]}\n" for line in LINES))
@@ -149,13 +150,13 @@ class Drawn(WithLog):
             self.assertIn("lines of the log", texts)
             self.assertNotIn("time in s", "".join(texts))
 
-    def test_what_is_not_in_the_log(self):
+    def test_what_is_not_in_the_log(self) -> None:
         status, _, said = run("plot.py", PLAN, self.log, "SPN544", "-o", self.path("a.svg"))
         self.assertEqual((status, said), (0, "plot: EC1.SPN544 isn't in the log\n"))
         with open(self.path("a.svg"), "rb") as file:
             self.assertIn("not in the log", self.texts(file.read()))
 
-    def test_what_has_no_curve(self):
+    def test_what_has_no_curve(self) -> None:
         """Records and texts are said, whatever the log has of them, and get no place in the picture."""
         plan, log, picture = example("trouble_codes.toml"), example("trouble_codes.drive.log"), self.path("a.svg")
         self.assertEqual(run("plot.py", plan, log, "DM1", "-o", picture), (0, "", "plot: DM1.DTC is repeated, and isn't drawn\n"))
@@ -169,13 +170,13 @@ class Drawn(WithLog):
         self.assertFalse(os.path.exists(self.path("b.svg")))
         self.assertEqual(run("plot.py", plan, log, "VI", "--addresses", "-o", self.path("b.svg")), (0, "", said))
 
-    def test_an_empty_log_and_an_empty_plan(self):
+    def test_an_empty_log_and_an_empty_plan(self) -> None:
         empty = self.write("empty.log", "")
         self.assertEqual(run("plot.py", PLAN, empty, "--addresses", "-o", self.path("a.svg")), (0, "", f"plot: {empty} has no frame\n"))
         self.assertTrue(os.path.exists(self.path("a.svg")))
         self.drawn("b.svg", "--addresses", plan=self.write("plan.toml", "version = 1\n"))
 
-    def test_what_cannot_be_read_or_written(self):
+    def test_what_cannot_be_read_or_written(self) -> None:
         self.assertEqual(run("plot.py", PLAN, self.log, "SPN19", "-o", self.path("a.png"))[0], 2)
         self.assertEqual(run("plot.py", PLAN, self.folder, "SPN190", "-o", self.path("a.png")),
                          (4, "", f"plot: {self.folder}: Is a directory\n"))
@@ -185,7 +186,7 @@ class Drawn(WithLog):
                          (2, "", f"plot: {refused}:1: refused Range top key version  (version = 9: integer 1..4)\n"))
 
     @unittest.skipUnless(shutil.which("chromium"), "chromium isn't there: apt-get install chromium")
-    def test_the_pictures_of_the_pages(self):
+    def test_the_pictures_of_the_pages(self) -> None:
         """They can be made anew, as large as they are."""
         ended = subprocess.run([sys.executable, os.path.join(TOOLS, "pictures"), self.folder], capture_output=True, text=True, check=False,
                                env={**os.environ, "J39PLAN": program.path()})
@@ -195,7 +196,7 @@ class Drawn(WithLog):
                 head = file.read(24)
             self.assertEqual((head[:8], int.from_bytes(head[16:20], "big")), (b"\x89PNG\r\n\x1a\n", width))
 
-    def test_lines_end_where_nothing_came(self):
+    def test_lines_end_where_nothing_came(self) -> None:
         """For ten times the usual distance and a second: there no line is drawn, and one begins anew."""
         from j39plan.log.chart import broken
 
@@ -208,7 +209,7 @@ class Drawn(WithLog):
         slow = [0.0, 60.0, 120.0, 500.0]
         self.assertEqual(broken([0, 1, 2, 3], slow, values)[0], slow)
 
-    def test_claims_narrower_than_a_column_are_one_box(self):
+    def test_claims_narrower_than_a_column_are_one_box(self) -> None:
         from j39plan.log.chart import merged
 
         fight = [Held(128, ("PUMP", "#0000000000000003")[number % 2], 5 + number / 100, 5 + (number + 1) / 100, True) for number in range(500)]
@@ -216,13 +217,13 @@ class Drawn(WithLog):
         self.assertEqual(merged(held, 0.05), [(held[0], 1), (Held(128, "PUMP", 5.0, 10.0, True), 500), (held[-2], 1), (held[-1], 1)])
         self.assertEqual(merged(held, 0.001), [(part, 1) for part in held])
 
-    def test_an_address_fight_is_drawn(self):
+    def test_an_address_fight_is_drawn(self) -> None:
         """Ten thousand claims are a box with their number, and no work for each."""
         lines = [f"({1 + number / 200:.3f}) can0 {('18EEFF80#1240A05B00800CA0', '18EEFF80#7856341200000000')[number % 2]}\n" for number in range(10000)]
         log = self.write("fight.log", "".join(lines) + "(200.0) can0 18FEEE00#7DFFFFFFFFFFFFFF\n")
         self.assertIn("10000 times claimed", self.texts(self.drawn("a.svg", "--addresses", log=log)))
 
-    def test_units_have_one_colour(self):
+    def test_units_have_one_colour(self) -> None:
         """In each signal and in their boxes, ten of them before lines are dashed."""
         from j39plan.log.chart import Colours
 
@@ -233,14 +234,14 @@ class Drawn(WithLog):
         self.assertEqual([line for _, line in given], ["-"] * 10 + ["--"] * 10 + ["-."] * 5)
         self.assertEqual(colours.of("U3"), given[3])
 
-    def test_strangers_are_named(self):
+    def test_strangers_are_named(self) -> None:
         """By `#` and the NAME, in the legend and at their boxes, also where these are narrow."""
         lines = ["(1.0) can0 18EEFF25#04000007D0210003", "(1.1) can0 18FEEE25#7DFFFFFFFFFFFFFF", "(1.5) can0 18EEFF25#1120C32600000000",
                  "(90.0) can0 18FEEE00#7DFFFFFFFFFFFFFF"]
         texts = self.texts(self.drawn("a.svg", "SPN110", "--addresses", log=self.write("a.log", "".join(f"{line}\n" for line in lines))))
         self.assertEqual(texts.count("#030021D007000004"), 2)
 
-    def test_pictures_of_one_log_agree(self):
+    def test_pictures_of_one_log_agree(self) -> None:
         """Whatever is drawn: the axis begins with the log and ends with it."""
         lines = ["(1000.0) can0 18FF1000#00\n", *(f"{line}\n" for line in LINES), "(2000.0) can0 18FF1000#00\n"]
         log = self.write("b.log", "".join(lines[:1] + [line.replace("(1", "(11") for line in lines[1:-1]] + lines[-1:]))
@@ -251,7 +252,7 @@ class Drawn(WithLog):
             axes.append(texts[:texts.index("time in s from the log's first frame, at 1000.000000")])
         self.assertEqual(axes, [["0", "200", "400", "600", "800", "1000"]] * 3)
 
-    def test_values_have_their_names(self):
+    def test_values_have_their_names(self) -> None:
         """At the axis, where they are few; of a signed signal by the numbers that its bits spell, and in the unit that is shown."""
         head = 'version = 4\n[[group]]\nlabel = "G"\npgn = 65267\npriority = 6\nlength = 8\n'
         plan = self.write("plan.toml", head + signal("MODE", 1, 4, "states", 'values = { 0 = "idle", 1 = "cruise", 7 = "unseen" }\n')
@@ -264,7 +265,7 @@ class Drawn(WithLog):
         many = "".join(f"({number}.0) can0 18FEF300#FF{number:02X}FFFFFFFFFFFF\n" for number in range(20))
         self.assertNotIn("right 1", self.texts(self.drawn("b.svg", "TURN", log=self.write("b.log", many), plan=plan)))
 
-    def test_who_is_not_sure_looks_otherwise(self):
+    def test_who_is_not_sure_looks_otherwise(self) -> None:
         """The same colour, and another line with other points."""
         from j39plan.log.chart import look_of
 
@@ -274,7 +275,7 @@ class Drawn(WithLog):
         picture = self.drawn("a.svg", "SPN110", log=self.write("a.log", "".join(f"{line}\n" for line in lines))).decode()
         self.assertEqual(picture.count("stroke: #0072b2; stroke-opacity: 0.6; stroke-width: 0.7"), 2)  # the line, and that of the legend
 
-    def test_what_is_not_in_a_part_is_not_drawn(self):
+    def test_what_is_not_in_a_part_is_not_drawn(self) -> None:
         """Neither in the legend nor by the axis: of what came before the part only the value that still holds."""
         lines = [f"({number}.0) can0 18FEEE00#{60 + number:02X}FFFFFFFFFFFFFF" for number in range(10, 20)]
         lines += ["(11.5) can0 18FEEE03#FAFFFFFFFFFFFFFF", "(12.0) can0 18FEEE03#FAFFFFFFFFFFFFFF"]
@@ -286,14 +287,14 @@ class Drawn(WithLog):
         self.assertLessEqual({degree for degree in degrees if degree > 8}, set(range(34, 39)))
         self.assertIn("not in this part of the log", self.texts(self.drawn("b.svg", "SPN110", "--from", "9.5", "--to", "9.8", log=log)))
 
-    def test_a_part_of_a_log(self):
+    def test_a_part_of_a_log(self) -> None:
         """By times as the axis has them, with no other labels than the whole."""
         texts = self.texts(self.drawn("a.svg", "SPN110", "--from", "2", "--to", "4"))
         self.assertEqual([text for text in texts if text in ("2.0", "2.00", "4.0", "4.00", "10")], ["2.00", "4.00"])
         self.assertEqual(run("plot.py", PLAN, self.log, "SPN110", "--from", "4", "--to", "4", "-o", self.path("b.svg"))[:2], (2, ""))
         self.assertEqual(run("plot.py", PLAN, self.log, "SPN110", "--from", "x", "-o", self.path("b.svg"))[0], 2)
 
-    def test_axes_have_no_offsets(self):
+    def test_axes_have_no_offsets(self) -> None:
         """Values that differ little beside what they have in common are labelled whole."""
         group = '[[group]]\nlabel = "G"\npgn = 65267\npriority = 6\nlength = 8\n' + signal("LAT", 1, 32, "raw")
         plan = self.write("plan.toml", "version = 1\n" + group)
@@ -302,7 +303,7 @@ class Drawn(WithLog):
         self.assertIn("520000000", texts)
         self.assertFalse([text for text in texts if "e" in text and text[0] in "+1"])
 
-    def test_many_points_keep_their_extremes(self):
+    def test_many_points_keep_their_extremes(self) -> None:
         from j39plan.log.chart import thinned
 
         rng = random.Random(5)

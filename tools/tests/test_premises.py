@@ -1,6 +1,8 @@
 """What the bounds of `load` rest on, as far as a log can refute it."""
 
 import unittest
+from collections.abc import Sequence
+from typing import Any
 
 from tests import support
 from tests.support import InFolder
@@ -45,7 +47,7 @@ period = 5000
 
 
 
-def timed(keys):
+def timed(keys: str) -> str:
     """The plan with further keys of its timing, which version 4 has."""
     return PLAN.replace("unplanned = 1", f"unplanned = 1, {keys}").replace("version = 3", "version = 4")
 
@@ -57,31 +59,31 @@ RTS, CLEAR, PACKETS, WHOLE = "1CECF900#10110003FFECFE00", "1CEC00F9#110301FFFFEC
 
 
 
-def run(*words, **more):
+def run(*words: str, **more: Any) -> tuple[int, str, str]:
     """Runs a tool, as support has it; the times beside lines are left out."""
     status, answer, said = support.run(*words, **more)
     return status, support.without_times(answer), said
 
 
 class Premises(InFolder):
-    def told(self, *log, plan=PLAN):
+    def told(self, *log: tuple[str, str], plan: str = PLAN) -> list[str]:
         """What is told of a log but of flows and units that aren't there."""
         name = self.write("drive.log", "".join(f"({time}) can0 {frame}\n" for time, frame in log))
         _, answer, said = run("against.py", "--silence", "0", self.write("plan.toml", plan), name)
         self.assertEqual([line for line in said.splitlines() if "distances are passed over" not in line], [])
         return [line.replace(name, "L") for line in answer.splitlines()[:-1] if line.startswith(name)]
 
-    def broadcast(self, *times, frames=None):
+    def broadcast(self, *times: str, frames: Sequence[str] | None = None) -> list[tuple[str, str]]:
         """A broadcast by the times of its frames."""
         return list(zip(times, frames or BAM))
 
-    def test_a_log_that_keeps_them(self):
+    def test_a_log_that_keeps_them(self) -> None:
         log = [("1.0", ET1), ("1.0005", STRANGE), *self.broadcast("2.00", "2.05", "2.15", "2.35"), ("3.0", RTS), ("3.2", CLEAR),
                ("3.4", PACKETS[0]), ("3.401", PACKETS[1]), ("3.402", PACKETS[2]), ("3.602", WHOLE), ("4.0", "18EAFFF9#00EE00"),
                ("4.1", "18EEFF00#0100000000000000"), ("4.2", "18EEFFF9#0200000000000000")]
         self.assertEqual(self.told(*log), [])
 
-    def test_priorities_of_what_is_not_planned(self):
+    def test_priorities_of_what_is_not_planned(self) -> None:
         """Each kind of frame: of makers' own groups, services, requests, claims, the extended page, a group without a flow."""
         said = "priority {}: by 'load' what no flow has is of 6 or more"
         for frame, what in (("0CFF10F9#00", "PGN 65296 from TOOL"), ("0CE8FFF9#00FFFFFFFFECFE00", "PGN 59392 from TOOL"),
@@ -92,14 +94,14 @@ class Premises(InFolder):
         self.assertIn(f"L:1: ET1 from TOOL has {said.format(3)}", self.told(("1.0", ET1.replace("18FEEE00", "0CFEEEF9"))))
         self.assertEqual(self.told(("1.0", "0CFF10F9#00"), ("9.0", ET1), plan=PLAN.replace("timing = { bitrate = 250000, unplanned = 1 }", "")), [])
 
-    def test_frames_with_11_bits(self):
+    def test_frames_with_11_bits(self) -> None:
         """They win against each planned frame; those of another interface don't."""
         said = "L:2: a frame with an 11-bit identifier, which may go before each planned one  (2 times)"
         self.assertEqual(self.told(("1.0", ET1), ("1.1", "123#00"), ("1.2", "7FF#"), ("1.3", ET1))[:1], [said])
         log = self.write("two.log", f"(1.0) can0 {ET1}\n(1.1) can1 123#00\n")
         self.assertNotIn("11-bit", run("against.py", self.write("plan.toml", PLAN), log)[1])
 
-    def test_more_unplanned_frames_than_the_plan_allows(self):
+    def test_more_unplanned_frames_than_the_plan_allows(self) -> None:
         """More than that within the bound of a flow before which they may go; what may not isn't counted."""
         # ET1 is on the bus within 1,920 us by `load`, and its identifiers are below those of group 65296.
         before = "18FE10F9#0000000000000000"
@@ -113,13 +115,13 @@ class Premises(InFolder):
         self.assertNotIn(said, "".join(self.told(("1.0", before), (f"{1 + span + 0.000001:.6f}", before), ("9.0", ET1))))
         self.assertNotIn("frames that no flow has", "".join(self.told(("1.0", STRANGE), ("1.0001", STRANGE), ("9.0", ET1))))
 
-    def load(self, plan):
+    def load(self, plan: str) -> list[str]:
         """What `load` says of a plan."""
         from j39plan import program
 
         return program.call(["load", self.write("plan.toml", plan)])[1].splitlines()
 
-    def test_the_priority_of_the_transport_protocol(self):
+    def test_the_priority_of_the_transport_protocol(self) -> None:
         """That of a planned message; one that isn't planned has that of all others."""
         log = self.broadcast("2.00", "2.05", "2.15", "2.35", frames=[frame.replace("1C", "18", 1) for frame in BAM])
         said = "L:1: VI from ENGINE to all: frames of the transport protocol have priority 6, by 'load' 7  (4 times)"
@@ -128,7 +130,7 @@ class Premises(InFolder):
         other = [(time, frame.replace("ECFE00", "10FF00")) for time, frame in log]
         self.assertNotIn("transport protocol", "".join(self.told(*other)))
 
-    def test_the_pace_of_broadcasts(self):
+    def test_the_pace_of_broadcasts(self) -> None:
         """Frames nearer than 50 ms, the announcement too, or further apart than 200, by the nearest and the furthest."""
         near = "VI from ENGINE to all: frames {} ms apart, at least 50 ms are between two"
         self.assertIn("L:2: " + near.format("49.999") , self.told(*self.broadcast("2.0", "2.049999", "2.1", "2.2")))
@@ -140,13 +142,13 @@ class Premises(InFolder):
         self.assertIn("L:2: " + near.format("9.999").replace("50", "10"), self.told(*self.broadcast("2.0", "2.009999", "2.1", "2.2"), plan=own))
         self.assertEqual(self.told(*self.broadcast("2.0", "2.01", "2.02", "2.11"), plan=own), [])
 
-    def test_the_priority_that_the_plan_has_of_others(self):
+    def test_the_priority_that_the_plan_has_of_others(self) -> None:
         """Where it is 3, 3 is none too small, and 2 is."""
         log = [("1.0", "0CFF10F9#00"), ("1.1", "08FF10F9#00"), ("9.0", ET1)]
         found = [line for line in self.told(*log, plan=timed("unplanned_priority = 3")) if "load" in line]
         self.assertEqual(found, ["L:2: PGN 65296 from TOOL has priority 2: by 'load' what no flow has is of 3 or more"])
 
-    def test_damaged_frames(self):
+    def test_damaged_frames(self) -> None:
         """More of them than the plan has in its time; by a plan without errors none. Classes that tell of no damage are none."""
         damaged, unanswered, bus, lost, overload = ("20000088#00000A0000000000", "20000020#0000000000000000", "20000080#0000000000000000",
                                                     "20000006#0000000000000000", "20000008#0000200000000000")
@@ -162,14 +164,14 @@ class Premises(InFolder):
             self.assertEqual(self.told(("1.0", ET1), ("1.1", overload), ("9.0", ET1), plan=plan), found)
         self.assertEqual(run("against.py", "--silence", "0", self.write("plan.toml", PLAN.replace("timing", "# timing")), self.path("drive.log"))[2], "")
 
-    def test_jitter(self):
+    def test_jitter(self) -> None:
         """Messages may come nearer by it than the period."""
         plan = timed("broadcast_gap = 50").replace("period = 10\n", "period = 10\njitter = 2\n", 1)
         said = "flow 1, ET1 from ENGINE to all: 6.079 ms after the one before, its period is 10 ms and its jitter 2 ms"
         self.assertEqual(self.told(("1.0", ET1), ("1.00608", ET1), plan=plan), [])
         self.assertEqual(self.told(("1.0", ET1), ("1.006079", ET1), plan=plan), [f"L:2: {said}"])
 
-    def test_what_a_wait_on_the_bus_explains(self):
+    def test_what_a_wait_on_the_bus_explains(self) -> None:
         """ET1 is on the bus within 1.92 ms: what is nearer by so much isn't told, and how many are is said. Without timing it is told."""
         log = self.write("drive.log", "".join(f"({time}) can0 {ET1}\n" for time in ("1.0", "1.00808", "1.02", "1.03", "1.038")))
         status, answer, said = run("against.py", "--silence", "0", self.write("plan.toml", PLAN), log)
@@ -179,7 +181,7 @@ class Premises(InFolder):
         bare = self.write("bare.toml", PLAN.replace("timing", "# timing"))
         self.assertIn(f"{log}:5: {near}  (2 times)\n", run("against.py", bare, log)[1])
 
-    def test_waits_of_single_frames_of_groups_of_several_lengths(self):
+    def test_waits_of_single_frames_of_groups_of_several_lengths(self) -> None:
         """They go before each flow of a greater identifier: DM1 (65226) waits no longer than ET1 (65262), whatever its long messages take."""
         group = '[[group]]\nlabel = "DM1"\npgn = 65226\npriority = 6\nlength = 8\nmost = 100\n[[flow]]\ngroup = "DM1"\nfrom = "TOOL"\nto = "all"\nperiod = 1000\n'
         within = int(next(line for line in self.load(timed("broadcast_gap = 50") + group) if line.startswith("flow 1 ")).split()[6]) / 1e6
@@ -187,7 +189,7 @@ class Premises(InFolder):
                 for less in (0, 0.000001)]
         self.assertEqual([any("after the one before" in line for line in lines) for lines in told], [False, True])
 
-    def test_pauses(self):
+    def test_pauses(self) -> None:
         """The greatest distance, at the line where it ended, whatever is said of silences; the end of the log too."""
         plan = timed("broadcast_gap = 50").replace("period = 10\n", "period = 10\npause = 20\n", 1)
         said = "flow 1, ET1 from ENGINE to all: not sent {}, its pause is 20 ms"
@@ -199,12 +201,12 @@ class Premises(InFolder):
         self.assertEqual(self.told(("1.0", ET1), ("1.1", STRANGE), plan=plan), ["L:1: " + said.format("any more, for 100 ms to the log's end")])
         self.assertEqual(self.told(*log, plan=plan.replace("period = 10\npause = 20", "period = 10\npause = 30")), [])
 
-    def test_answers_that_are_late(self):
+    def test_answers_that_are_late(self) -> None:
         """Behind an announcement, behind a clear to send, and behind the last packet."""
         times = [3.0, 3.1, 3.2, 3.201, 3.202, 3.3]
         frames = [RTS, CLEAR, *PACKETS, WHOLE]
         said = "VI from ENGINE to TOOL: an answer after {} ms, by the standard within 200"
-        self.assertEqual(self.told(*zip(times, frames)), [])
+        self.assertEqual(self.told(*zip(map(str, times), frames)), [])
         for at, line in ((1, 2), (2, 3), (5, 6)):
             late = [time + (0.3 if number >= at else 0) for number, time in enumerate(times)]
             duration = 1000 * (late[at] - late[at - 1])

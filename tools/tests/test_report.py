@@ -12,7 +12,7 @@ from j39plan.plan import answers
 from j39plan.plan.answer_grammar import line_of
 from j39plan.plan.answers import Age, Delay
 from j39plan.plan.tables import Tables
-from tests.support import MARKED, NEWER, TOP, InFolder, example, examples, run, signal, text_of
+from tests.support import InFolder, MARKED, NEWER, TOP, example, examples, run, signal, text_of, there
 
 PLAN, FAULTY = example("tractor_and_implement.toml"), example("findings/several.toml")
 CHECKS = os.path.join(TOP, "crates", "examples_check", "data", "checks")
@@ -52,19 +52,24 @@ frame.addEventListener("load", () => {
 class Page(HTMLParser):
     """A page as it is read: its elements close in order, and what they have is kept."""
 
-    def __init__(self, text):
+    def __init__(self, text: str) -> None:
         super().__init__()
-        self.open, self.tags, self.ids, self.links, self.faults = [], [], [], [], []
+        self.open: list[str] = []
+        self.tags: list[str] = []
+        self.ids: list[str] = []
+        self.links: list[str] = []
+        self.faults: list[str] = []
         self.captions = self.tables = 0
-        self.rows, self.cell = [], None
+        self.rows: list[list[str]] = []
+        self.cell: str | None = None
         self.feed(text)
         self.close()
 
-    def handle_starttag(self, tag, attrs):
+    def handle_starttag(self, tag: str, attrs: list[tuple[str, str | None]]) -> None:
         words = dict(attrs)
         self.tags.append(tag)
-        self.ids += [words["id"]] if "id" in words else []
-        self.links += [words["href"]] if "href" in words else []
+        self.ids += [there(words["id"])] if "id" in words else []
+        self.links += [there(words["href"])] if "href" in words else []
         self.faults += [f"{tag} has {word}" for word in words if word.startswith("on") or word in ("src", "style")]
         if tag == "table":
             self.tables += 1
@@ -80,16 +85,16 @@ class Page(HTMLParser):
         if tag not in VOID:
             self.open.append(tag)
 
-    def handle_endtag(self, tag):
+    def handle_endtag(self, tag: str) -> None:
         if not self.open or self.open.pop() != tag:
             self.faults.append(f"{tag} closes nothing")
 
-    def handle_data(self, data):
+    def handle_data(self, data: str) -> None:
         if self.rows and any(tag in self.open for tag in ("th", "td")):
             self.rows[-1][-1] += data
 
 
-def large_plan(units=128, groups=256):
+def large_plan(units: int = 128, groups: int = 256) -> str:
     """A plan of the greatest size, without a finding."""
     lines = ["version = 3"]
     for number in range(units):
@@ -104,7 +109,7 @@ def large_plan(units=128, groups=256):
 
 
 class Report(InFolder):
-    def page(self, plan):
+    def page(self, plan: str) -> Page:
         """The page of a plan file, which is sound."""
         status, text, said = run("report.py", plan)
         self.assertEqual((status, said), (0, ""), plan)
@@ -118,29 +123,36 @@ class Report(InFolder):
         self.assertIn('<html lang="en">', text)
         return read
 
-    def test_each_example_has_a_sound_page(self):
+    def test_each_example_has_a_sound_page(self) -> None:
         for plan in examples(".toml"):
             self.page(plan)
 
-    def test_plans_in_other_words_have_one_page(self):
+    def test_plans_in_other_words_have_one_page(self) -> None:
         pages = [run("report.py", self.write("plan.toml", text))[1] for text in (NEWER, MARKED)]
         self.assertEqual(pages[0], pages[1])
         self.assertIn("Addresses that no unit may choose: 201, 202.", pages[0])
 
-    def test_units_stand_as_addresses_says(self):
+    def test_units_stand_as_addresses_says(self) -> None:
         rows = self.page(example("address_contest.toml")).rows
         self.assertIn(["A", "128", "in every run", "arbitrary", "lowest", "255"], rows)
         self.assertIn(["B", "128", "may move", "arbitrary", "lowest", "255"], rows)
         self.assertIn("not known: the addresses have findings", [cell for row in self.page(FAULTY).rows for cell in row])
 
-    def test_strangers(self):
+    def test_strangers(self) -> None:
         """How many may come stands below the units, where some may."""
         plan = self.write("plan.toml", text_of(example("address_contest.toml")).replace("version = 1\n", "version = 4\nstrangers = 2\n"))
         self.page(plan)
         self.assertIn("may choose their addresses: up to 2.", run("report.py", plan)[1])
         self.assertNotIn("stand in no plan", run("report.py", example("address_contest.toml"))[1])
 
-    def test_names_are_those_that_are_claimed(self):
+    def test_live_buses(self) -> None:
+        """Of a live plan this stands below the units."""
+        text = text_of(example("service_requests.toml"))
+        said = "messages begin while units claim, and units go off in the midst of one"
+        self.assertIn(said, run("report.py", self.write("plan.toml", text.replace("version = 4\n", "version = 4\nlive = true\n")))[1])
+        self.assertNotIn(said, run("report.py", self.write("plan.toml", text))[1])
+
+    def test_names_are_those_that_are_claimed(self) -> None:
         for plan in (PLAN, example("service_addresses.toml"), example("three_at_one_address.toml")):
             labels = program.labels_of(plan)
             frames = program.run(plan, [f"up {label}" for label in labels])[:len(labels)]
@@ -150,17 +162,17 @@ class Report(InFolder):
             for label, (name, _) in claimed.items():
                 self.assertIn([label, name], rows)
 
-    def test_findings_have_their_lines(self):
+    def test_findings_have_their_lines(self) -> None:
         _, answer, _ = run("where.py", FAULTY)
-        told = [re.match(r"(.*:\d+): (.*?)(?:  \((.*)\))?$", line).groups() for line in answer.splitlines() if ": F" in line]
+        told = [there(re.match(r"(.*:\d+): (.*?)(?:  \((.*)\))?$", line)).groups() for line in answer.splitlines() if ": F" in line]
         shown = [row[1:4] for row in self.page(FAULTY).rows if row[0].isdigit() and len(row) == 5]
         self.assertEqual(shown, [list(row) for row in told])
 
-    def test_steps_of_a_run_stand_beside_their_finding(self):
+    def test_steps_of_a_run_stand_beside_their_finding(self) -> None:
         rows = self.page(example("findings/f02_same_fixed_address.toml")).rows
         self.assertTrue(any("give" in row[-1] for row in rows if row[0] == "1"), rows)
 
-    def test_bytes_show_each_bit(self):
+    def test_bytes_show_each_bit(self) -> None:
         """A signal's bits from the most significant one, bytes without a signal as one row, and what is outside or has two signals."""
         rows = self.page(PLAN).rows
         at = rows.index(["Byte", *(f"bit {bit}" for bit in range(8, 0, -1))])
@@ -170,7 +182,7 @@ class Report(InFolder):
         self.assertIn(["9 (outside)", "SPN191"], rows)
         self.assertTrue(any("SPN513 and SPN190" in row for row in rows))
 
-    def test_each_row_of_bytes_has_eight_bits(self):
+    def test_each_row_of_bytes_has_eight_bits(self) -> None:
         for plan in (PLAN, FAULTY, os.path.join(CHECKS, "f06_later_kinds.toml")):
             text = run("report.py", plan)[1]
             rows = [row for table in re.findall(r'<table class="bytes">(.*?)</table>', text, re.DOTALL)
@@ -180,7 +192,7 @@ class Report(InFolder):
                 widths = re.findall(r'<td(?: class="free")?(?: colspan="(\d)")?>', row)
                 self.assertEqual(sum(int(width or 1) for width in widths), 8, row)
 
-    def test_texts(self):
+    def test_texts(self) -> None:
         """Bytes of texts alone are one row, and a signal's bytes name the texts there, too."""
         rows = self.page(self.write("plan.toml", """version = 3
 [[group]]
@@ -206,7 +218,7 @@ bytes = 5
         for row in (["ALL", "1", "to the end"], ["FAR", "6", "5"]):
             self.assertIn(row, rows)
 
-    def test_records(self):
+    def test_records(self) -> None:
         """The bytes of further records aren't free, but for those before them; other signals among them are shown."""
         rows = self.page(example("trouble_codes.toml")).rows
         at = rows.index(["Byte", *(f"bit {bit}" for bit in range(8, 0, -1))])
@@ -223,7 +235,7 @@ every = 6
         at = rows.index(["Byte", *(f"bit {bit}" for bit in range(8, 0, -1))])
         self.assertEqual(rows[at + 3:at + 7], [["3 to 6", "free"], ["7 to 10", "further records"], ["11", "S"], ["12 to 20", "further records"]])
 
-    def test_kinds_and_values(self):
+    def test_kinds_and_values(self) -> None:
         rows = self.page(self.write("plan.toml", """version = 3
 [[group]]
 label = "G"
@@ -241,7 +253,7 @@ length = 20
                     ["KEY", "11.1", "2", "discrete", "raw", "0 to 1", "–"]):
             self.assertIn(row, rows)
 
-    def test_flows_are_a_matrix(self):
+    def test_flows_are_a_matrix(self) -> None:
         rows = self.page(PLAN).rows
         at = next(number for number, row in enumerate(rows) if row[0] == "From")
         matrix = {(row[0], head): cell for row in rows[at + 1:at + 8] for head, cell in zip(rows[at][1:], row[1:])}
@@ -249,7 +261,7 @@ length = 20
         self.assertEqual(matrix["ENGINE", "to all"], "EEC1ET1CCVSEC1")
         self.assertEqual(matrix["CLUSTER", "to ENGINE"], "–")
 
-    def test_needs(self):
+    def test_needs(self) -> None:
         """Beside each group in the matrix who needs it, and a row a need: who brings it, and its age as `load` has it."""
         text = text_of(example("findings/f20_need_too_old.toml"))
         more = '[[need]]\nunit = "CLUSTER"\ngroup = "EEC1"\nfrom = "ENGINE"\nwithin = 22\n[[need]]\nunit = "ENGINE"\ngroup = "EEC1"\n'
@@ -264,12 +276,12 @@ length = 20
         self.assertEqual([row[7] for row in rows if row[0] in "12" and len(row) == 8], ["not shown to be so young", "21.28 ms"])
         self.assertNotIn('id="needs"', run("report.py", PLAN)[1])
 
-    def test_units_of_any_serial_number(self):
+    def test_units_of_any_serial_number(self) -> None:
         """`any` for the number, and a NAME without the digits that have bits of it."""
         rows = self.page(example("first_plan.toml")).rows
         self.assertIn(["CLUSTER", "0000130026......", "any", "310", "0", "0", "19", "0", "0", "0"], rows)
 
-    def test_requests_names_and_units_that_come_or_never_claim(self):
+    def test_requests_names_and_units_that_come_or_never_claim(self) -> None:
         """A row a request with who answers it; the numbers and names of signals; and what is said of units."""
         text = text_of(example("service_requests.toml")).replace("version = 4\n", "version = 4\nstrangers = 2\n")
         name = self.write("plan.toml", text)
@@ -281,7 +293,7 @@ length = 20
             self.assertIn(row, rows)
         self.assertIn("stand in no plan, and may choose their addresses: up to 2.", run("report.py", name)[1])
 
-    def test_lines_of_load(self):
+    def test_lines_of_load(self) -> None:
         """Each form: of one frame, of long messages without and with a time, and of needs."""
         for line, delay in (
             ("flow 1 G A all within 1280 of 10000 us", Delay(1, 1280, 10000, 1)), ("flow 2 G A B late of 10000 us", Delay(2, None, 10000, 1)),
@@ -293,7 +305,7 @@ length = 20
         self.assertEqual(answers.age_of(line_of("need 1 B G age 21280 of 22000 us")), Age(1, 21280, 22000))
         self.assertEqual(answers.age_of(line_of("need 2 B G S old of 21000 us")), Age(2, None, 21000))
 
-    def test_load(self):
+    def test_load(self) -> None:
         """The delays and the load are those that `load` prints; a plan that says nothing of the bus has no such section."""
         for name in ("axle.toml", "findings/f17_overload.toml", "findings/f18_late_flow.toml"):
             answer = program.call(["load", example(name)])[1]
@@ -308,14 +320,14 @@ length = 20
         self.assertIn(full, run("report.py", example("findings/f17_overload.toml"))[1])
         self.assertNotIn('id="load"', run("report.py", PLAN)[1])
 
-    def test_what_a_flow_takes_of_the_bus(self):
+    def test_what_a_flow_takes_of_the_bus(self) -> None:
         """Its own bits of a second beside the load of all, and the delay beside its limit; neither is called by the other's name."""
         rows = self.page(example("axle.toml")).rows
         self.assertIn(["Flow", "Group", "From", "To", "Period", "Bus load", "On the bus within", "Limit", "Of its limit"], rows)
         self.assertIn(["1", "TSC1", "RETARDER", "ENGINE", "10 ms", "6.4 %", "1.28 ms", "10 ms", "12.8 %"], rows)
         self.assertIn(["3", "ET1", "ENGINE", "all", "1000 ms", "0.1 %", "3.2 ms", "50 ms", "6.4 %"], rows)
 
-    def test_load_of_other_plans(self):
+    def test_load_of_other_plans(self) -> None:
         """A long message has no bound, nor has a flow without a period; findings on identifiers leave the load unknown; a plan without flows takes nothing."""
         text = text_of(example("axle.toml"))
         text_of_long = text.replace("pgn = 65262\npriority = 6\nlength = 8", "pgn = 65262\npriority = 6\nlength = 39")
@@ -331,21 +343,21 @@ length = 20
         self.page(bare)
         self.assertIn("0 of 500000 bits a second at most, 0.0 % of the bitrate.</p>", run("report.py", bare)[1])
 
-    def test_a_plan_of_the_greatest_size(self):
+    def test_a_plan_of_the_greatest_size(self) -> None:
         plan = self.write("plan.toml", large_plan())
         rows = self.page(plan).rows
         self.assertEqual(sum(row[0] == "Byte" for row in rows), 256)
         self.assertIn(["U127", "127", "in every run", "fixed", "–", "255"], rows)
 
-    def test_a_plan_with_nothing_in_it(self):
+    def test_a_plan_with_nothing_in_it(self) -> None:
         self.page(self.write("plan.toml", "version = 1\n"))
 
-    def test_names_of_files_are_no_part_of_the_page(self):
+    def test_names_of_files_are_no_part_of_the_page(self) -> None:
         name = self.write("<script>alert(1)</script>&.toml".replace("/", "_"), text_of(FAULTY))
         self.assertNotIn("<script>", run("report.py", name)[1])
         self.page(name)
 
-    def test_a_file_is_written_only_where_the_plan_can_be_read(self):
+    def test_a_file_is_written_only_where_the_plan_can_be_read(self) -> None:
         name = self.path("page.html")
         self.assertEqual(run("report.py", PLAN, "-o", name), (0, "", ""))
         self.assertEqual(text_of(name), run("report.py", PLAN)[1])
@@ -355,7 +367,7 @@ length = 20
         self.assertEqual(run("report.py", PLAN, "-o", "/none/page.html")[0], 4)
 
     @unittest.skipUnless(shutil.which("tidy"), "tidy isn't there: apt-get install tidy")
-    def test_tidy_has_nothing_to_say(self):
+    def test_tidy_has_nothing_to_say(self) -> None:
         for plan in (*examples(".toml"), self.write("plan.toml", large_plan(20, 30)), os.path.join(CHECKS, "f06_later_kinds.toml")):
             page = self.write("page.html", run("report.py", plan)[1])
             said = subprocess.run(["tidy", "-q", "-e", page], capture_output=True, text=True, check=False)
@@ -364,39 +376,39 @@ length = 20
 
 @unittest.skipUnless(shutil.which("chromium"), "chromium isn't there: apt-get install chromium")
 class Browser(InFolder):
-    def shown(self, page, *words):
+    def shown(self, page: str, *words: str) -> tuple[list[str], str]:
         """What a browser says of a page: the lines of its console, and what it was asked to write."""
         command = ["chromium", "--headless", "--no-sandbox", "--disable-gpu", "--disable-dev-shm-usage", "--enable-logging=stderr",
                    f"--user-data-dir={self.path('user')}", *words, f"file://{page}"]
         ended = subprocess.run(command, stdin=subprocess.DEVNULL, capture_output=True, text=True, check=True, timeout=120)
         return [line for line in ended.stderr.splitlines() if "CONSOLE" in line], ended.stdout
 
-    def test_a_browser_shows_pages_without_a_word(self):
+    def test_a_browser_shows_pages_without_a_word(self) -> None:
         for plan in (PLAN, FAULTY):
             page, picture = self.write("page.html", run("report.py", plan)[1]), self.path("page.png")
             console, _ = self.shown(page, f"--screenshot={picture}", "--window-size=1000,1400")
             self.assertEqual(console, [], plan)
             self.assertGreater(os.path.getsize(picture), 20000)
 
-    def test_a_browser_reads_what_was_written(self):
+    def test_a_browser_reads_what_was_written(self) -> None:
         """The document that it has is the one that was written: it had to mend nothing."""
         text = run("report.py", PLAN)[1]
         _, document = self.shown(self.write("page.html", text), "--dump-dom")
         self.assertEqual(re.findall(r"<(\w+)", document), re.findall(r"<(\w+)", text))
 
-    def test_a_narrow_screen_scrolls_tables_alone(self):
+    def test_a_narrow_screen_scrolls_tables_alone(self) -> None:
         """The page itself fits, also where the file's name is long, and the bits of a byte are equally wide, also where labels are long."""
         plan = self.write(f"{'a_long_name_' * 8}.toml", NARROW)
         self.write("page.html", run("report.py", plan)[1])
         frame = self.write("frame.html", FRAME)
         console, document = self.shown(frame, "--allow-file-access-from-files", "--dump-dom", "--virtual-time-budget=5000")
         self.assertEqual(console, [])
-        widths = [int(width) for width in re.search(r"<title>(.*)</title>", document).group(1).split()]
+        widths = [int(width) for width in there(re.search(r"<title>(.*)</title>", document)).group(1).split()]
         self.assertLessEqual(widths[0], 400)
         self.assertLessEqual(max(widths[1:]) - min(widths[1:]), 2)
         self.assertEqual(len(widths), 9)
 
-    def test_a_faulty_page_is_told(self):
+    def test_a_faulty_page_is_told(self) -> None:
         page = run("report.py", PLAN)[1].replace("</main>", "<script>alert(1)</script></main>")
         self.assertNotEqual(self.shown(self.write("page.html", page), "--dump-dom")[0], [])
 

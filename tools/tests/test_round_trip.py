@@ -3,6 +3,8 @@
 import os
 import re
 import unittest
+from collections.abc import Iterator
+from typing import Any
 
 from j39plan.dbc.names import FAST_ATTRIBUTE, DELAY_ATTRIBUTE, IDENTITY_ATTRIBUTE, NAME_ATTRIBUTES, SEND_ATTRIBUTE
 from j39plan.dbc.reader import import_canmatrix
@@ -12,39 +14,39 @@ from tests.test_dbc2plan import CANMATRIX_J1939
 FILES = [example("vehicle.dbc"), *(example(f"suppliers/{name}.dbc") for name in ("engine", "gearbox", "brakes", "cab")), CANMATRIX_J1939]
 
 
-def in_ascii(unit):
+def in_ascii(unit: str | None) -> str:
     """A unit of measurement as docs/TOOLS.md says that it comes back."""
     return (unit or "").replace("°", "deg")
 
 
-def line_of(text):
+def line_of(text: str | None) -> str:
     """A comment as it comes back."""
     return " ".join((text or "").split()).replace('"', "'").replace("\\", "/")
 
 
-def is_by_cycle(frame):
+def is_by_cycle(frame: Any) -> bool:
     """Whether a message is sent by its cycle alone, in these files."""
     return frame.attributes.get(SEND_ATTRIBUTE) in (None, "cyclic")
 
 
 @needs("canmatrix", "python3-canmatrix")
 class Kept(InFolder):
-    known = {}  # what came back of each file
-    words = ()  # what dbc2plan.py is given beside it
+    known: dict[str, Any] = {}  # what came back of each file
+    words: tuple[str, ...] = ()  # what dbc2plan.py is given beside it
 
-    def matrix(self, name):
+    def matrix(self, name: str) -> Any:
         """A file as canmatrix reads it."""
         import_canmatrix()
         import canmatrix.formats
         return canmatrix.formats.loadp_flat(name, dbcImportEncoding="utf-8")
 
-    def there_and_back(self, name):
+    def there_and_back(self, name: str) -> Any:
         """A file and what comes back of it, and which signals and messages were noted on the way."""
         if name not in self.known:
             self.known[name] = self.made(name)
         return self.known[name]
 
-    def made(self, name):
+    def made(self, name: str) -> tuple[Any, ...]:
         """The same, made."""
         status, plan, said = run("dbc2plan.py", "--identity", *self.words, name)
         self.assertEqual(status, 0, said)
@@ -53,11 +55,12 @@ class Kept(InFolder):
         left = set(re.findall(r"^signal (.+?) of (\w+): ", said, re.MULTILINE)), set(re.findall(r"^group (\w+): ", said, re.MULTILINE))
         return self.matrix(name), self.matrix(self.write("back.dbc", dbc)), *left
 
-    def pairs(self, name):
+    def pairs(self, name: str) -> Iterator[tuple[Any, Any, list[tuple[Any, Any]]]]:
         """Each message of a file with the one that came back, and each of its signals with its own, but for what was noted as left out. A
         message that no unit sends, or not from its address, which is noted, comes back with another source, and is known by its name."""
         there, back, signals, groups = self.there_and_back(name)
-        messages, names = ({key(frame): frame for frame in back.frames} for key in (lambda frame: frame.arbitration_id.id, lambda frame: frame.name))
+        messages = {frame.arbitration_id.id: frame for frame in back.frames}
+        names = {frame.name: frame for frame in back.frames}
         for frame in there.frames:
             found = messages.get(frame.arbitration_id.id) or names.get(frame.name)
             if found is None:
@@ -68,14 +71,14 @@ class Kept(InFolder):
             parts = {signal.name: signal for signal in found.signals}
             yield frame, found, [(one, parts[line_of(one.name)]) for one in frame.signals if (one.name, frame.name) not in signals]
 
-    def all_pairs(self):
+    def all_pairs(self) -> Iterator[tuple[Any, Any, list[tuple[Any, Any]]]]:
         """Those of all files."""
         for name in FILES:
             if os.path.exists(name):
                 with self.subTest(os.path.basename(name)):
                     yield from self.pairs(name)
 
-    def test_messages_and_signals(self):
+    def test_messages_and_signals(self) -> None:
         messages, signals, tables, numbers = 0, 0, 0, 0
         for one, two, parts in self.all_pairs():
             self.assertEqual((two.name, two.size, two.transmitters), (one.name, one.size, one.transmitters))
@@ -97,7 +100,7 @@ class Kept(InFolder):
                 signals, tables, numbers = signals + 1, tables + bool(first.values), numbers + ("SPN" in first.attributes)
         self.assertTrue(messages >= 200 and signals >= 1500 and tables >= 9 and numbers >= 1500, (messages, signals, tables, numbers))
 
-    def test_receivers_senders_and_times(self):
+    def test_receivers_senders_and_times(self) -> None:
         """Of the files that have nodes."""
         receivers, times = 0, 0
         for name in FILES[:-1]:
@@ -114,7 +117,7 @@ class Kept(InFolder):
                 times += bool(one.cycle_time)
         self.assertTrue(receivers >= 40 and times >= 20, (receivers, times))
 
-    def test_nodes_and_the_bus(self):
+    def test_nodes_and_the_bus(self) -> None:
         nodes = 0
         for name in FILES[:-1]:
             there, back, *_ = self.there_and_back(name)
@@ -130,7 +133,7 @@ class Kept(InFolder):
         self.assertGreaterEqual(nodes, 20)
 
     @unittest.skipUnless(os.path.exists(CANMATRIX_J1939), "canmatrix's j1939.dbc isn't there")
-    def test_what_is_left_out_is_said(self):
+    def test_what_is_left_out_is_said(self) -> None:
         """Of j1939.dbc, which has more groups than a plan: a message that doesn't come back was said, and so was a signal."""
         there, back, signals, groups = self.there_and_back(CANMATRIX_J1939)
         here = {frame.name: {signal.name for signal in frame.signals} for frame in back.frames}
@@ -143,7 +146,7 @@ class Kept(InFolder):
 
 class WithoutNeeds(Kept):
     """The same where receivers stand in comments alone."""
-    known = {}
+    known: dict[str, Any] = {}
     words = ("--no-needs",)
 
 

@@ -6,6 +6,8 @@ import os
 import re
 import tomllib
 import unittest
+from collections.abc import Iterator
+from typing import Any
 
 from j39plan import program
 from j39plan.plan import schema
@@ -58,12 +60,12 @@ to = "all"
 """
 
 
-def rules(table):
+def rules(table: str | None) -> Any:
     """A table's schema."""
     return SCHEMA if table is None else SCHEMA["definitions"][table]
 
 
-def page_rows():
+def page_rows() -> Iterator[tuple[Any, ...]]:
     """The rows of the tables of keys in docs/PLAN.md: table, key, type and range, default, the first version where it isn't 1, meaning."""
     page = text_of(os.path.join(TOP, "docs", "PLAN.md"))
     page = page[page.index("\n## Tables and keys"):page.index("\n## Byte order: bytes and bits")]
@@ -75,13 +77,13 @@ def page_rows():
 
 
 class Schema(InFolder):
-    def test_it_has_the_keys_of_the_page(self):
-        shown = {}
+    def test_it_has_the_keys_of_the_page(self) -> None:
+        shown: dict[str, Any] = {}
         for table, key, *_ in page_rows():
             shown.setdefault(table, []).append(key)
         self.assertEqual(shown, {table: list(rules(table)["properties"]) for table in TABLES.values()})
 
-    def test_it_has_the_ranges_of_the_page(self):
+    def test_it_has_the_ranges_of_the_page(self) -> None:
         for table, key, kind, *_ in page_rows():
             rule = rules(table)["properties"][key]
             if found := re.match(r"integer (-?\d+)\.\.(\d+)", kind):
@@ -94,9 +96,9 @@ class Schema(InFolder):
             elif words := re.findall(r'`"(\w+)"`', kind):
                 self.assertEqual(rule["enum"], words, (table, key))
 
-    def test_it_has_the_versions_of_the_page(self):
+    def test_it_has_the_versions_of_the_page(self) -> None:
         """Of keys by the column Since, of kinds and bitrates by the words before them, of keys that may be absent by those on what they mean."""
-        shown = {(table, key): int(first) for table, key, _, _, first, _ in page_rows() if first}
+        shown: dict[Any, int] = {(table, key): int(first) for table, key, _, _, first, _ in page_rows() if first}
         for table, key, kind, *_, meaning in page_rows():
             if found := re.search(r"up to version (\d) it has to be there", meaning):
                 shown[schema.ABSENT, table, key] = int(found.group(1)) + 1
@@ -104,11 +106,11 @@ class Schema(InFolder):
                 shown.update((int(word) if word.isdigit() else word, int(found.group(1))) for word in re.findall(r"\w{3,}", found.group(2)))
         self.assertEqual(shown, schema.since())
 
-    def test_it_wants_the_keys_without_a_default(self):
+    def test_it_wants_the_keys_without_a_default(self) -> None:
         for table, key, _, default, *_ in page_rows():
             self.assertEqual(key in rules(table).get("required", []), default == "", (table, key))
 
-    def test_it_has_the_defaults_of_the_page(self):
+    def test_it_has_the_defaults_of_the_page(self) -> None:
         for table, key, _, default, *_ in page_rows():
             if default not in ("", "none", "`length`"):  # an array that isn't there has no elements; `most` is as `length` then
                 shown = {"empty": "", "`false`": "False", "`true`": "True"}.get(default, default.strip('`"'))
@@ -117,12 +119,12 @@ class Schema(InFolder):
 
 @needs("jsonschema", "python3-jsonschema")
 class Validated(InFolder):
-    def faults(self, text):
+    def faults(self, text: str) -> list[Any]:
         """What the schema finds wrong with a plan."""
         import jsonschema
         return list(jsonschema.Draft7Validator(SCHEMA).iter_errors(tomllib.loads(text)))
 
-    def test_a_number_may_be_absent_from_version_4_on(self):
+    def test_a_number_may_be_absent_from_version_4_on(self) -> None:
         unit = '[[unit]]\nlabel = "A"\naddress = 0\nname = {{ {} }}\n'
         for version in range(1, 5):
             for name, is_there in (("manufacturer = 1", False), ("identity = 1", True)):
@@ -130,20 +132,20 @@ class Validated(InFolder):
                 is_plan = program.call(["check", self.write("plan.toml", text)])[0] == 0
                 self.assertEqual((is_plan, self.faults(text) == []), (is_there or version == 4,) * 2, text)
 
-    def test_it_is_a_schema(self):
+    def test_it_is_a_schema(self) -> None:
         import jsonschema
         jsonschema.Draft7Validator.check_schema(SCHEMA)
 
-    def test_it_takes_the_examples(self):
+    def test_it_takes_the_examples(self) -> None:
         for plan in examples(".toml"):
             self.assertEqual(self.faults(text_of(plan)), [], plan)
 
-    def test_it_refuses_what_the_page_shows_as_refused(self):
+    def test_it_refuses_what_the_page_shows_as_refused(self) -> None:
         for plan, refused in shown_refusals():
             if not refused.startswith(tuple(f"refused {word}" for word in UNSAID)) and not refused.endswith(" key per\n"):
                 self.assertNotEqual(self.faults(plan), [], plan)
 
-    def test_it_refuses_the_cases_that_the_program_refuses(self):
+    def test_it_refuses_the_cases_that_the_program_refuses(self) -> None:
         """But for what a schema can't say: two places of a plan that have to fit together, and of which primes a number is a product."""
         plans = sorted(glob.glob(os.path.join(TOP, "crates", "examples_check", "data", "refusals", "*.toml")))
         self.assertGreater(len(plans), 100)
@@ -152,7 +154,7 @@ class Validated(InFolder):
             if os.path.basename(plan)[:-5] not in UNSAID_CASES and not refused.startswith(tuple(f"refused {word}" for word in UNSAID)):
                 self.assertNotEqual(self.faults(text_of(plan)), [], plan)
 
-    def test_it_agrees_with_the_program_on_the_addresses_kept_free(self):
+    def test_it_agrees_with_the_program_on_the_addresses_kept_free(self) -> None:
         for head in (
             "version = 1\nkeep_free = []", "version = 2\nkeep_free = []", "version = 3\nkeep_free = []", "version = 4\nkeep_free = []",
             "version = 5\nkeep_free = []", "version = 5", "version = 4", "version = 3", "version = 2", "keep_free = []",
@@ -163,7 +165,7 @@ class Validated(InFolder):
             status, _ = program.call(["check", self.write("plan.toml", head + "\n")])
             self.assertEqual(self.faults(head) == [], status != 2, head)
 
-    def test_it_agrees_with_the_program_on_strangers(self):
+    def test_it_agrees_with_the_program_on_strangers(self) -> None:
         for head in (
             "version = 3\nstrangers = 0", "version = 4\nstrangers = 0", "version = 4\nstrangers = 120", "version = 4\nstrangers = 121",
             "version = 4\nstrangers = -1", 'version = 4\nstrangers = "1"', "version = 4\nstrangers = []",
@@ -171,7 +173,15 @@ class Validated(InFolder):
             status, _ = program.call(["check", self.write("plan.toml", head + "\n")])
             self.assertEqual(self.faults(head) == [], status != 2, head)
 
-    def test_it_agrees_with_the_program_on_what_each_version_knows_of_a_signal(self):
+    def test_it_agrees_with_the_program_on_live_buses(self) -> None:
+        for head in (
+            "version = 1\nlive = true", "version = 2\nlive = false", "version = 3\nlive = false", "version = 4\nlive = false", "version = 4\nlive = true",
+            "version = 4\nlive = 1", 'version = 4\nlive = "true"',
+        ):
+            status, _ = program.call(["check", self.write("plan.toml", head + "\n")])
+            self.assertEqual(self.faults(head) == [], status != 2, head)
+
+    def test_it_agrees_with_the_program_on_what_each_version_knows_of_a_signal(self) -> None:
         for version in (1, 2, 3, 4):
             for kind in ("measured", "discrete", "raw", "states", "signed", "dtc", "text"):
                 for per in ("", "per = 1\n", "per = 0\n"):
@@ -179,7 +189,7 @@ class Validated(InFolder):
                     status, _ = program.call(["check", self.write("plan.toml", plan)])
                     self.assertEqual(self.faults(plan) == [], status != 2, plan)
 
-    def test_it_agrees_with_the_program_on_what_each_version_knows_of_records(self):
+    def test_it_agrees_with_the_program_on_what_each_version_knows_of_records(self) -> None:
         for version in (1, 2, 3, 4):
             for every in ("", "every = 0\n", "every = 4\n"):
                 for repeated in ("", "repeated = false\n", "repeated = true\n"):
@@ -187,7 +197,7 @@ class Validated(InFolder):
                     status, _ = program.call(["check", self.write("plan.toml", plan)])
                     self.assertEqual(self.faults(plan) == [], status != 2, plan)
 
-    def test_it_agrees_with_the_program_on_what_each_version_knows_of_time(self):
+    def test_it_agrees_with_the_program_on_what_each_version_knows_of_time(self) -> None:
         for version in (1, 2, 3, 4):
             for timing in (
                 "", "timing = {}\n", "timing = { bitrate = 250000, unplanned = 0 }\n", "timing = { bitrate = 125000, unplanned = 0 }\n",
@@ -198,7 +208,7 @@ class Validated(InFolder):
                     status, _ = program.call(["check", self.write("plan.toml", plan)])
                     self.assertEqual(self.faults(plan) == [], status != 2, plan)
 
-    def test_it_agrees_with_the_program_on_each_bound(self):
+    def test_it_agrees_with_the_program_on_each_bound(self) -> None:
         plan = {
             "version": 4,
             "timing": {"bitrate": 250000, "unplanned": 0, "errors": {"count": 1, "every": 10}},
@@ -218,7 +228,7 @@ class Validated(InFolder):
                 self.assertEqual(self.faults(text) == [], status != 2, (table, key, value))
 
 
-def changed(plan, table, key, value):
+def changed(plan: dict[str, Any], table: Any, key: str, value: object) -> dict[str, Any]:
     """The plan with another value of a key in its first such table."""
     plan = json.loads(json.dumps(plan))
     group, unit = plan["group"][0], plan["unit"][0]
@@ -228,7 +238,7 @@ def changed(plan, table, key, value):
     return plan
 
 
-def spelled(plan):
+def spelled(plan: dict[str, Any]) -> str:
     """The plan as TOML."""
     lines = ["version = 4", f"timing = {inline(plan['timing'])}"]
     for kind in ("unit", "group", "flow", "need", "request"):
@@ -237,7 +247,7 @@ def spelled(plan):
     return "\n".join(lines) + "\n"
 
 
-def inline(value):
+def inline(value: object) -> str:
     """A value as TOML spells it in a line."""
     if isinstance(value, dict):
         return "{ " + ", ".join(f"{key} = {inline(part)}" for key, part in value.items()) + " }"

@@ -16,7 +16,7 @@ from j39plan.log.reports import tables_of
 from j39plan.plan.cut import cut
 from j39plan.plan.cut import shorter as shorter_of
 from j39plan.plan.tables import Tables
-from tests.support import MARKED, NEWER, TOOLS, InFolder, example, needs, run, signal, text_of
+from tests.support import InFolder, MARKED, NEWER, TOOLS, example, needs, run, signal, text_of, there
 from tests.test_report import large_plan
 
 PLAN, LOG = example("tractor_and_implement.toml"), example("tractor_and_implement.start.log")
@@ -33,7 +33,7 @@ name = { identity = 2, arbitrary = true }
 """
 
 
-def group(label, pgn, length, *signals):
+def group(label: str, pgn: int, length: int, *signals: str) -> str:
     """The tables of a group."""
     return f'[[group]]\nlabel = "{label}"\npgn = {pgn}\npriority = 6\nlength = {length}\n' + "".join(signals)
 
@@ -46,7 +46,7 @@ KINDS = UNITS + group(
 )
 
 
-def random_log(rng, length=70):
+def random_log(rng: random.Random, length: int = 70) -> list[str]:
     """A log in which messages of one frame and of several, to all and to one, go on beside one another, break off and are taken back."""
     addresses = (0, 128, 37)
     lines = []
@@ -70,17 +70,17 @@ def random_log(rng, length=70):
 
 
 class Signals(InFolder):
-    def rows(self, plan, log, *words):
+    def rows(self, plan: str, log: str, *words: str) -> list[dict[str, str]]:
         """The rows of a log, as dictionaries."""
         status, answer, said = run("signals.py", plan, log, *words)
         self.assertEqual((status, said), (0, ""))
         return list(csv.DictReader(io.StringIO(answer)))
 
-    def read(self, plan, log):
+    def read(self, plan: str, log: str) -> list[tuple[str, str]]:
         """What `read` reports: each message by its group and its signals."""
         return re.findall(r"^group (\w+) from \d+ .*\n((?:  .*\n)*)", program.call(["read", plan, log])[1], re.MULTILINE)
 
-    def test_the_example(self):
+    def test_the_example(self) -> None:
         rows = self.rows(PLAN, LOG)
         said = [(row["line"], row["from"], row["group"], row["signal"], row["state"], row["value"], row["unit"]) for row in rows]
         self.assertIn(("1", "ENGINE?", "EEC1", "SPN190", "value", "800", "rpm"), said)
@@ -89,7 +89,7 @@ class Signals(InFolder):
         self.assertEqual([row["detail"] for row in rows if row["state"] == "fault"], ["65024"])
         self.assertEqual({row["time"] for row in rows if row["line"] == "5"}, {"1764230400.050000"})
 
-    def test_each_report_has_its_line(self):
+    def test_each_report_has_its_line(self) -> None:
         """The line is the one without which `read` doesn't report it, whatever the log carries beside it."""
         rng, met = random.Random(7), 0
         for number, groups in enumerate((LONG + OTHER + ONE, LONG + OTHER, ONE, OTHER, ONE + LONG) * 3):
@@ -109,7 +109,7 @@ class Signals(InFolder):
             met += len(expected)
         self.assertGreater(met, 80)
 
-    def test_who_sends_is_who_holds_the_address(self):
+    def test_who_sends_is_who_holds_the_address(self) -> None:
         """A unit that moved is called by its label, with `?` where only the plan tells who it is; who isn't planned by the NAME, and by the
         address where nothing is known."""
         log = self.write("a.log", "18EFFF80#01FFFF\n18EEFF81#0200000000000080\n18EFFF80#01FFFF\n18EF0081#01FFFF\n18EFFF25#01FFFF\n"
@@ -122,7 +122,7 @@ class Signals(InFolder):
         self.assertEqual([(told["from"], told["source"], told["to"], told["destination"]) for told in objects[2::2]],
                          [("PUMP", 129, "ENGINE?", 0), ("PUMP", 129, "#0000000100000003", 37)])
 
-    def test_private_groups_are_told_by_their_flows(self):
+    def test_private_groups_are_told_by_their_flows(self) -> None:
         """As `follow` has it: where a unit sends one by a flow."""
         log = self.write("a.log", "18EFFF80#01FFFF\n18FF1400#0102\n18FF1480#0304\n18EFFF00#02FFFF\n")
         maker = '[[group]]\nlabel = "OWN"\npgn = 65300\npriority = 6\nlength = 2\nprivate = true\n'
@@ -130,7 +130,7 @@ class Signals(InFolder):
         rows = self.rows(self.write("plan.toml", UNITS + ONE + maker), log)
         self.assertEqual([(row["line"], row["group"], row["value"]) for row in rows], [("1", "ONE", "1"), ("3", "OWN", "3"), ("4", "ONE", "2")])
 
-    def test_values_are_exact(self):
+    def test_values_are_exact(self) -> None:
         log = self.write("a.log", "18FEEE00#E12E07FF6E000305\n18FEEE00#00FF0780FFFFFFFF\n18FEEE00#00FE078000000000\n")
         rows = self.rows(self.write("plan.toml", KINDS), log)
         said = [(row["signal"], row["state"], row["value"], row["unit"], row["detail"]) for row in rows]
@@ -140,7 +140,7 @@ class Signals(InFolder):
                     ("SPEED", "fault", "", "", "65024"), ("CODE", "none", "", "", "")):
             self.assertIn(row, said)
 
-    def test_texts(self):
+    def test_texts(self) -> None:
         """Behind the signals, with what isn't printable as `read` has it; each report still has its line."""
         texts = '[[group.text]]\nlabel = "T"\nbyte = 2\nbytes = 2\n[[group.text]]\nlabel = "REST"\nbyte = 9\n'
         plan = self.write("plan.toml", UNITS + group("G", 65262, 8, signal("S", 1, 8, "raw"), texts) + ONE)
@@ -156,7 +156,7 @@ class Signals(InFolder):
         objects = [json.loads(line) for line in run("signals.py", "--json", plan, log, "G.T")[1].splitlines()]
         self.assertEqual([(told["state"], told["detail"]) for told in objects], [("text", "Hi"), ("text", "\\x22\\x5C")])
 
-    def test_records(self):
+    def test_records(self) -> None:
         """Each by its place, as many as a message has; each report still has its line, and a column has all of them."""
         plan, log = example("trouble_codes.toml"), example("trouble_codes.drive.log")
         said = [(row["line"], row["signal"], row["state"], row["detail"]) for row in self.rows(plan, log, "DTC")]
@@ -167,7 +167,7 @@ class Signals(InFolder):
         wide = [(row["DM1.DTC"], row["DM1.DTC state"]) for row in self.rows(plan, log, "--wide", "DM1.DTC")]
         self.assertEqual(wide, [("", "none"), (codes[1], ""), ("; ".join(codes), "")])
 
-    def test_codes_in_json(self):
+    def test_codes_in_json(self) -> None:
         """A code is told by its parts, as numbers, and a record by its own."""
         plan, log = example("trouble_codes.toml"), example("trouble_codes.drive.log")
         objects = [json.loads(line) for line in run("signals.py", "--json", plan, log, "DTC")[1].splitlines()]
@@ -176,7 +176,7 @@ class Signals(InFolder):
         self.assertEqual(said[:4], [(1, "none", None, None, None, None), (1, "dtc", 110, 0, 3, None), (1, "dtc", 100, 1, 2, None),
                                     (2, "dtc", 110, 0, 3, None)])
 
-    def test_all_forms_say_the_same(self):
+    def test_all_forms_say_the_same(self) -> None:
         plan = self.write("plan.toml", KINDS)
         log = self.write("a.log", "(1.50) can0 18FEEE00#E12E07FF6E000305\n(2.5) can0 18FEEE80#00FF07800000FFFF\n")
         rows = self.rows(plan, log)
@@ -194,7 +194,7 @@ class Signals(InFolder):
         self.assertEqual((second["from"], second["G.SPEED [rpm]"], second["G.SPEED state"]), ("PUMP?", "", "absent"))
 
     @needs("pandas", "python3-pandas")
-    def test_pandas_reads_numbers(self):
+    def test_pandas_reads_numbers(self) -> None:
         """Each column of values, though it has states in between."""
         import pandas
 
@@ -206,17 +206,17 @@ class Signals(InFolder):
         self.assertEqual(list(frame["G.SPEED state"].fillna("")), ["", "absent", "fault 65024"])
 
     @needs("pandas", "python3-pandas")
-    def test_the_lines_of_the_page_on_pandas(self):
+    def test_the_lines_of_the_page_on_pandas(self) -> None:
         """What docs/TOOLS.md shows runs on the table that it names, and has the columns that it asks for."""
         page = text_of(os.path.join(os.path.dirname(TOOLS), "docs", "TOOLS.md"))
-        lines = re.search(r"```python\n(import pandas\n.*?)```", page, re.DOTALL).group(1)
+        lines = there(re.search(r"```python\n(import pandas\n.*?)```", page, re.DOTALL)).group(1)
         self.write("drive.csv", run("signals.py", "--wide", PLAN, LOG)[1])
         ended = subprocess.run([sys.executable, "-c", lines + "print(len(speed), speed.iloc[0], len(joined))"], cwd=self.folder, capture_output=True,
                                text=True, check=False)
         self.assertEqual((ended.returncode, ended.stdout.splitlines()[-1]), (0, "1 800.0 2"), ended.stderr)
         self.assertIn("fault 65024", ended.stdout)
 
-    def test_what_is_chosen(self):
+    def test_what_is_chosen(self) -> None:
         log = LOG
         whole = self.rows(PLAN, log)
         for names in (["SPN190"], ["ET1"], ["EEC1.SPN512", "CCVS"]):
@@ -226,7 +226,7 @@ class Signals(InFolder):
         self.assertEqual(run("signals.py", PLAN, log, "SPN1900"), (2, "", said))
         self.assertEqual(self.rows(PLAN, log, "VI"), [])
 
-    def test_the_plan_is_cut(self):
+    def test_the_plan_is_cut(self) -> None:
         """`follow` is asked for what is chosen alone; what is told of that is the same, whatever the log carries beside it."""
         rng, told = random.Random(11), 0
         for groups in (LONG + OTHER + ONE, ONE + LONG + LONG.replace('"LONG"', '"AGAIN"') + OTHER):
@@ -248,7 +248,7 @@ class Signals(InFolder):
                 self.assertNotIn("ONE", text_of(shorter))
         self.assertGreater(told, 60)
 
-    def test_plans_that_are_not_cut(self):
+    def test_plans_that_are_not_cut(self) -> None:
         """One whose groups are no tables with headers, and one in which a code is told with a signal's label: all of it stays."""
         for text in ('version = 3\ngroup = [{ label = "ET1", pgn = 65262, priority = 6, length = 8 }]\n', NEWER):
             plan = self.write("plan.toml", text)
@@ -262,7 +262,7 @@ class Signals(InFolder):
         tables = Tables.of(self.write("plan.toml", text))
         self.assertIsNone(shorter_of(text, tables, Choice(tables, ["DTC"])))
 
-    def test_signals_of_a_group_are_cut(self):
+    def test_signals_of_a_group_are_cut(self) -> None:
         """Those that aren't wanted, but none that is repeated, and no parts of a group's own."""
         plan = example("tractor_and_implement.toml")
         tables = tables_of(plan)
@@ -270,7 +270,7 @@ class Signals(InFolder):
             self.assertEqual([[signal.label for signal in group.signals] for group in parts.groups], [["SPN190"]])
             self.assertEqual(program.call(["follow", shorter, LOG])[1].splitlines()[1], "  SPN190 value 6400 1/8 rpm")
 
-    def test_several_logs(self):
+    def test_several_logs(self) -> None:
         """One drive: each row has its log and its line there. What is no name of a group or signal is a log where it is a file."""
         lines = text_of(LOG).splitlines()
         first, second = self.write("a.log", "\n".join(lines[:9])), self.write("b, 2.log", "\n".join(lines[9:]) + "\n")
@@ -282,13 +282,13 @@ class Signals(InFolder):
         self.assertEqual({told["log"] for told in objects}, {second})
         self.assertEqual(run("signals.py", PLAN, first, self.path("none.log"))[0], 2)
 
-    def test_plans_of_every_form(self):
+    def test_plans_of_every_form(self) -> None:
         """Also those whose groups have no signals, and one without groups: there is nothing to tell."""
         log = self.write("a.log", "18FEEE00#0000000000000000\n")
         for text in (NEWER, MARKED, "version = 1\n"):
             self.assertEqual(self.rows(self.write("plan.toml", text), log), [])
 
-    def test_a_plan_of_the_greatest_size(self):
+    def test_a_plan_of_the_greatest_size(self) -> None:
         plan = self.write("plan.toml", large_plan())
         frames = (f"({number}.0) can0 18F0{number:02X}{number:02X}#{number:02X}FFFFFFFFFFFFFF\n" for number in range(128))
         log = self.write("a.log", "".join(frames))
@@ -296,7 +296,7 @@ class Signals(InFolder):
         self.assertEqual([(row["line"], row["from"], row["group"], row["value"]) for row in rows],
                          [(str(number + 1), f"U{number}?", f"G{number}", str(number)) for number in range(128)])
 
-    def test_what_is_passed_over_is_said(self):
+    def test_what_is_passed_over_is_said(self) -> None:
         log = self.write("a.log", "1\n(1.0) can0 x\n(1.0) can0 18FEEE00#7DFFFFFFFFFFFFFF\n")
         self.assertEqual(run("signals.py", PLAN, log)[2], "signals: 2 lines spell no frame\n")
         log = self.write("a.log", "(1.0) can0 18FEEE00#7DFFFFFFFFFFFFFF\n(1.0) can1 18FEEE00#7EFFFFFFFFFFFFFF\n")
@@ -304,7 +304,7 @@ class Signals(InFolder):
         self.assertEqual((status, answer.count("\n")), (0, 2))
         self.assertEqual(said, "signals: can0 is read, the first of the log; 1 lines of can1 are passed over: --interface can1\n")
 
-    def test_what_is_refused(self):
+    def test_what_is_refused(self) -> None:
         refused = self.write("plan.toml", "version = 9\n")
         self.assertEqual(run("signals.py", refused, LOG), (2, "", f"signals: {refused}:1: refused Range top key version  (version = 9: integer 1..4)\n"))
         self.assertEqual(run("signals.py", example("findings/f07_signal_outside.toml"), LOG)[::2],
@@ -312,16 +312,16 @@ class Signals(InFolder):
         self.assertEqual(run("signals.py", PLAN, self.folder), (4, "", f"signals: {self.folder}: Is a directory\n"))
         self.assertEqual(run("signals.py", PLAN)[0], 2)
 
-    def test_what_comes_from_a_pipe_is_told_at_once(self):
+    def test_what_comes_from_a_pipe_is_told_at_once(self) -> None:
         with subprocess.Popen([sys.executable, os.path.join(TOOLS, "signals.py"), PLAN, "/dev/stdin", "SPN110"], stdin=subprocess.PIPE,
                               stdout=subprocess.PIPE, text=True, env={**os.environ, "J39PLAN": program.path()}) as tool:
-            tool.stdout.readline()
+            there(tool.stdout).readline()
             for value in ("7D", "7E"):
-                tool.stdin.write(f"(1.0) can0 18FEEE00#{value}FFFFFFFFFFFFFF\n")
-                tool.stdin.flush()
-                self.assertEqual(tool.stdout.readline().split(",")[9], str(int(value, 16) - 40))
-            tool.stdin.close()
-            self.assertEqual(tool.stdout.read(), "")
+                there(tool.stdin).write(f"(1.0) can0 18FEEE00#{value}FFFFFFFFFFFFFF\n")
+                there(tool.stdin).flush()
+                self.assertEqual(there(tool.stdout).readline().split(",")[9], str(int(value, 16) - 40))
+            there(tool.stdin).close()
+            self.assertEqual(there(tool.stdout).read(), "")
 
 
 if __name__ == "__main__":

@@ -11,7 +11,7 @@ from j39plan import program
 from j39plan.plan.schema import keys_of
 from j39plan.plan.parts import source_in
 from j39plan.plan.tables import Flow, Need, Request, Tables
-from tests.support import NEWER, InFolder, example, examples, needs, run, text_of
+from tests.support import InFolder, NEWER, example, examples, needs, run, text_of, there
 
 PLAN, LOG = example("tractor_and_implement.toml"), example("tractor_and_implement.start.log")
 
@@ -66,7 +66,7 @@ to = "name"
 
 
 class OfShow(InFolder):
-    def test_what_is_not_said(self):
+    def test_what_is_not_said(self) -> None:
         """It is by default what the schema says that it is."""
         tables = Tables.of(self.write("plan.toml", LEAST))
         unit, group, flow = tables.units[0], tables.groups[0], tables.flows[0]
@@ -75,9 +75,9 @@ class OfShow(InFolder):
             self.assertTrue(told)
             self.assertEqual({key: asdict(made)[key] for key in told}, told, table)
         self.assertEqual(unit.fields, {key: default or 0 for key, default in keys_of("name").items()} | {"identity": 1})
-        self.assertEqual((group.most, group.every, group.signals[0].spn, group.signals[0].values, tables.timing.errors), (8, None, None, {}, None))
+        self.assertEqual((group.most, group.every, group.signals[0].spn, group.signals[0].values, there(tables.timing).errors), (8, None, None, {}, None))
 
-    def test_labels_of_any_kind(self):
+    def test_labels_of_any_kind(self) -> None:
         tables = Tables.of(self.write("plan.toml", NAMED))
         self.assertEqual([unit.label for unit in tables.units], ["name", "true"])
         signals = [(signal.label, signal.unit, signal.values) for group in tables.groups for signal in group.signals]
@@ -85,7 +85,7 @@ class OfShow(InFolder):
         self.assertEqual(tables.flows, [Flow("signal", "name", "true", None, is_asked=True)])
         self.assertEqual((tables.needs, tables.requests), ([Need("true", "signal", "1")], [Request("signal", "true", "name")]))
 
-    def test_examples(self):
+    def test_examples(self) -> None:
         """As many units, groups and flows as `check` counts."""
         for name in examples(".toml"):
             tables, answer = Tables.of(name), program.call(["check", name])[1]
@@ -93,17 +93,20 @@ class OfShow(InFolder):
             if counts:
                 self.assertEqual((len(tables.units), len(tables.groups), len(tables.flows)), tuple(map(int, counts.groups())), name)
 
-    def test_the_text_tells_the_same(self):
+    def test_the_text_tells_the_same(self) -> None:
         """What `show` answers is what the text has with the defaults of the schema, and each table is found at its place."""
         for name in (*examples(".toml"), self.write("least.toml", LEAST), self.write("named.toml", NAMED), self.write("newer.toml", NEWER)):
             shown, source = Tables.of(name), source_in(name)
-            for part in ("units", "groups", "flows", "needs", "requests", "strangers", "timing"):
+            for part in ("units", "groups", "flows", "needs", "requests", "strangers", "live", "timing"):
                 self.assertEqual(getattr(shown, part), getattr(source.tables, part), f"{name}: {part}")
             for tables in (shown, source.tables):
-                for table in (*tables.units, *tables.groups, *(signal for group in tables.groups for signal in group.signals)):
-                    self.assertEqual(source.places.texts[table.place + ("label",)], table.label, name)
+                signals = [signal for group in tables.groups for signal in group.signals]
+                labels = [(unit.place, unit.label) for unit in tables.units] + [(group.place, group.label) for group in tables.groups]
+                labels += [(signal.place, signal.label) for signal in signals]
+                for place, label in labels:
+                    self.assertEqual(source.places.texts[place + ("label",)], label, name)
 
-    def test_what_it_does_not_tell(self):
+    def test_what_it_does_not_tell(self) -> None:
         """Of which version a file is, and in which order it has the addresses that are kept free."""
         plan = self.write("plan.toml", NAMED)
         self.assertEqual((source_in(plan).version, source_in(plan).kept), (4, [202, 201]))
@@ -111,7 +114,7 @@ class OfShow(InFolder):
         read = j39plan.read_plan(plan)
         self.assertEqual((read.version, read.kept, read.shown), (4, [202, 201], program.shown(plan)))
 
-    def test_what_is_no_plan(self):
+    def test_what_is_no_plan(self) -> None:
         with self.assertRaises(program.Refused) as caught:
             Tables.of(self.write("plan.toml", "version = 9\n"))
         self.assertEqual((caught.exception.status, str(caught.exception)), (2, "refused Range top key version"))
@@ -120,7 +123,7 @@ class OfShow(InFolder):
 class Asked(InFolder):
     """Each tool asks once of a plan."""
 
-    def setUp(self):
+    def setUp(self) -> None:
         super().setUp()
         asked = self.path("asked")
         script = f'#!/bin/sh\n[ "$1" = show ] && echo "$PPID $3" >> {asked}\nexec {os.path.abspath(program.path())} "$@"\n'
@@ -129,31 +132,32 @@ class Asked(InFolder):
         counting.start()
         self.addCleanup(counting.stop)
 
-    def asked(self):
+    def asked(self) -> list[str]:
         """Who has asked of which plan, and nobody twice of one."""
         lines = text_of(self.path("asked")).splitlines()
         os.remove(self.path("asked"))
         self.assertEqual(sorted(set(lines)), sorted(lines))
         return [line.split()[0] for line in lines]
 
-    def test_tools(self):
+    def test_tools(self) -> None:
         """`against` and `signals` ask of the plan that is cut, too."""
-        for count, *words in ((1, "report.py", PLAN), (2, "against.py", PLAN, LOG), (2, "signals.py", PLAN, LOG, "SPN190")):
+        calls = ((1, ["report.py", PLAN]), (2, ["against.py", PLAN, LOG]), (2, ["signals.py", PLAN, LOG, "SPN190"]))
+        for count, words in calls:
             self.assertIn(run(*words)[0], (0, 1), words)
             self.assertEqual(len(self.asked()), count, words)
 
     @needs("matplotlib", "python3-matplotlib")
-    def test_plot(self):
+    def test_plot(self) -> None:
         self.assertEqual(run("plot.py", PLAN, LOG, "SPN190", "-o", self.path("a.svg"))[0], 0)
         self.assertEqual(len(self.asked()), 2)
 
-    def test_a_fleet(self):
+    def test_a_fleet(self) -> None:
         """It asks once itself, as `against` does for each log, and before them all."""
         logs = [self.write(f"{number}.log", text_of(LOG)) for number in range(3)]
         self.assertEqual(run("fleet.py", "--processes", "2", PLAN, *logs)[0], 1)
         self.assertEqual(len(set(self.asked())), 1 + 1 + len(logs))
 
-    def test_the_module(self):
+    def test_the_module(self) -> None:
         plan = j39plan.read_plan(PLAN)
         self.assertEqual(j39plan.drive(plan, LOG)["failed"], "")
         self.assertEqual((plan.findings(), bool(list(j39plan.follow(plan, LOG)))), ([], True))

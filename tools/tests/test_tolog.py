@@ -5,6 +5,8 @@ import os
 import subprocess
 import sys
 import unittest
+from collections.abc import Sequence
+from typing import Any
 
 from j39plan import program
 from tests.support import TOOLS, InFolder, example, needs, run, text_of
@@ -20,7 +22,7 @@ NO_CHANNELS = "tolog: drive.csv has no channels, as each CSV of python-can: all 
 
 @needs("can", "python3-can")
 class Converted(InFolder):
-    def recorded(self, name, messages):
+    def recorded(self, name: str, messages: Sequence[Any]) -> str:
         """A file that python-can writes."""
         import can
 
@@ -29,7 +31,7 @@ class Converted(InFolder):
                 logger(message)
         return self.path(name)
 
-    def messages(self, **more):
+    def messages(self, **more: Any) -> list[Any]:
         """The messages of the log."""
         import can
 
@@ -39,7 +41,7 @@ class Converted(InFolder):
                 setattr(message, key, value)
         return read
 
-    def test_each_format(self):
+    def test_each_format(self) -> None:
         """Each frame comes through, with its time, and `follow` says the same of it."""
         _, whole = program.call(["follow", example("truck.toml"), LOG])
         for ending in ("asc", "blf", "trc", "csv", "db"):
@@ -54,7 +56,7 @@ class Converted(InFolder):
             for time, there in zip(times, expected, strict=True):
                 self.assertAlmostEqual(time - times[0], there - expected[0], delta=0.0011)
 
-    def test_channels(self):
+    def test_channels(self) -> None:
         """Each is an interface; how many frames each has is said, and one is taken by its name or number."""
         first, second = self.messages(channel=0), self.messages(channel=1)
         file = self.recorded("drive.blf", [message for both in zip(first, second[:3] + first[3:]) for message in both])
@@ -67,7 +69,7 @@ class Converted(InFolder):
             self.assertEqual((status, said, [line.split()[1:] for line in answer.splitlines()]), (0, "", [["can1", frame] for frame in FRAMES[:3]]))
         self.assertEqual(run("tolog.py", "--channel", "can7", file), (2, "", f"tolog: {file} has no frame of can7; it has can0, can1\n"))
 
-    def test_what_has_no_place_in_a_log(self):
+    def test_what_has_no_place_in_a_log(self) -> None:
         """Error frames, remote frames and those of CAN FD are counted; an 11-bit identifier has three digits."""
         import can
 
@@ -77,7 +79,7 @@ class Converted(InFolder):
         self.assertEqual((status, [line.split()[-1] for line in answer.splitlines()]), (0, ["123#01"]))
         self.assertEqual(said, f"{NO_CHANNELS}tolog: 1 error frames are left out\ntolog: 1 remote frames are left out\n")
 
-    def test_frames_of_can_fd_are_known_by_their_length(self):
+    def test_frames_of_can_fd_are_known_by_their_length(self) -> None:
         """A CSV doesn't say that they are."""
         import can
 
@@ -86,7 +88,7 @@ class Converted(InFolder):
         self.assertEqual((status, [line.split()[-1] for line in answer.splitlines()]), (0, ["18FF0055#0000000000000000"]))
         self.assertEqual(said, f"{NO_CHANNELS}tolog: 2 frames of CAN FD are left out\n")
 
-    def test_the_first_channel_is_can0(self):
+    def test_the_first_channel_is_can0(self) -> None:
         """In each format: ASC and TRC count them from 1."""
         for ending in ("asc", "blf", "trc"):
             file = self.recorded(f"drive.{ending}", self.messages(channel=0))
@@ -95,7 +97,7 @@ class Converted(InFolder):
             f"{at:>7} {at:13.3f} DT {bus:>2} 0CF00400 Rx - 1 {at:02X}\n" for at, bus in ((1, 1), (2, 2))))
         self.assertEqual([line.split()[1:] for line in run("tolog.py", file)[1].splitlines()], [["can0", "0CF00400#01"], ["can1", "0CF00400#02"]])
 
-    def test_a_log_is_one_already(self):
+    def test_a_log_is_one_already(self) -> None:
         """Its error frames would become frames of TSC1."""
         error = "(1.000000) can0 20000004#0004000000000000\n"
         self.assertEqual(run("tolog.py", self.write("drive.log", error)), (2, "", f"tolog: {self.path('drive.log')} is a log already\n"))
@@ -104,7 +106,7 @@ class Converted(InFolder):
             file.write(error)
         self.assertEqual(run("tolog.py", packed), (2, "", f"tolog: {packed} is a log already: zcat {packed}\n"))
 
-    def test_what_is_refused(self):
+    def test_what_is_refused(self) -> None:
         """One line, and status 2: a file without frames, of another format than its ending says, cut in its midst, of no known ending."""
         blf = self.recorded("drive.blf", self.messages())
         with open(blf, "rb") as file:
@@ -119,14 +121,14 @@ class Converted(InFolder):
         missing = self.path("none.asc")
         self.assertEqual(run("tolog.py", missing), (4, "", f"tolog: {missing}: No such file or directory\n"))
 
-    def test_a_pipe_that_ends(self):
+    def test_a_pipe_that_ends(self) -> None:
         file = self.recorded("drive.asc", self.messages())
         ended = subprocess.run(["sh", "-c", f"{sys.executable} {TOOLS}/tolog.py {file} | head -1"], capture_output=True, text=True, check=False)
         self.assertEqual((ended.stdout.split()[-1], ended.stderr), (FRAMES[0], ""))
 
 
 class Missing(InFolder):
-    def test_without_python_can(self):
+    def test_without_python_can(self) -> None:
         ended = subprocess.run([sys.executable, "-S", os.path.join(TOOLS, "tolog.py"), self.write("drive.asc", "")], capture_output=True, text=True,
                                check=False, env={**os.environ, "J39PLAN": program.path(), "PYTHONPATH": ""})
         self.assertEqual((ended.returncode, ended.stderr), (69, "tolog: python-can isn't there: apt-get install python3-can\n"))

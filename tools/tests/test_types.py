@@ -10,12 +10,12 @@ from tests.support import TOOLS, TOP, InFolder
 
 @unittest.skipUnless(shutil.which("mypy"), "mypy isn't there: apt-get install mypy")
 class Types(InFolder):
-    def test_all_have_their_types(self):
+    def test_all_have_their_types(self) -> None:
         ended = subprocess.run([os.path.join(TOP, "gate/python_types.py")], cwd=self.folder, capture_output=True, text=True, check=False)
         self.assertEqual(ended.returncode, 0, ended.stdout + ended.stderr)
         self.assertRegex(ended.stdout, r"^Success: no issues found in (\d{2,}) source files\n\Z")
 
-    def test_the_module_hands_out_its_types(self):
+    def test_the_module_hands_out_its_types(self) -> None:
         """A program that uses it is told what is wrong in it, where the module lies as in a package."""
         os.makedirs(self.path("python"))
         os.symlink(os.path.join(TOOLS, "j39plan"), self.path("python/j39plan"))

@@ -13,11 +13,13 @@ import tempfile
 import threading
 import time
 import unittest
+from collections.abc import Callable, Iterator
+from typing import Any
 
 from j39plan import program
 from j39plan.cli import report
 from j39plan.plan import page_server
-from tests.support import TOOLS, InFolder, example, run, text_of
+from tests.support import TOOLS, InFolder, example, run, text_of, there
 
 FIRST = text_of(example("first_plan.toml"))
 
@@ -27,21 +29,21 @@ PATIENCE = 120
 
 class Watched(InFolder):
     @contextlib.contextmanager
-    def watching(self, plan, *words):
+    def watching(self, plan: str, *words: str) -> Iterator[tuple[str, int]]:
         """Watches a plan; the host and the port where its page is."""
         started = subprocess.Popen([sys.executable, os.path.join(TOOLS, "report.py"), "--watch", *words, plan], text=True,
                                    stdout=subprocess.PIPE, stderr=subprocess.PIPE, env={**os.environ, "J39PLAN": os.path.abspath(program.path())})
         try:
-            url = started.stdout.readline()
+            url = there(started.stdout).readline()
             found = re.fullmatch(r"http://(\[.*\]|[^:]*):(\d+)/\n", url)
-            self.assertIsNotNone(found, url or started.stderr.read())
+            assert found, url or there(started.stderr).read()
             yield found.group(1).strip("[]"), int(found.group(2))
         finally:
             started.kill()
             started.communicate()
 
     @staticmethod
-    def ask(host, port, path="/", method="GET", **headers):
+    def ask(host: str, port: int, path: str = "/", method: str = "GET", **headers: str) -> tuple[int, Any, str]:
         """Status, headers and text of an answer."""
         connection = http.client.HTTPConnection(host, port, timeout=PATIENCE)
         connection.request(method, path, headers=headers)
@@ -50,7 +52,7 @@ class Watched(InFolder):
         connection.close()
         return answer.status, answer.headers, text
 
-    def page_with(self, text, host, port):
+    def page_with(self, text: str, host: str, port: int) -> str:
         """The page, as soon as it has a text."""
         end = time.monotonic() + PATIENCE
         while time.monotonic() < end:
@@ -62,7 +64,7 @@ class Watched(InFolder):
 
 
 class Served(Watched):
-    def test_the_page_alone(self):
+    def test_the_page_alone(self) -> None:
         """It is that of the tool but for the script that loads it anew; no other path, no file, no other method."""
         plan = self.write("plan.toml", FIRST)
         written = run("report.py", plan)[1]
@@ -81,7 +83,7 @@ class Served(Watched):
             for method in ("POST", "PUT", "DELETE", "OPTIONS", "TRACE"):
                 self.assertEqual(self.ask(host, port, method=method)[0], 501, method)
 
-    def test_it_may_run_its_own_script_and_nothing_else(self):
+    def test_it_may_run_its_own_script_and_nothing_else(self) -> None:
         with self.watching(self.write("plan.toml", FIRST)) as (host, port):
             _, headers, page = self.ask(host, port)
         self.assertIn(page_server.SCRIPT, page)
@@ -92,7 +94,7 @@ class Served(Watched):
         self.assertNotIn("Content-Security-Policy", page)
         self.assertEqual((headers["X-Frame-Options"], headers["Cache-Control"]), ("DENY", "no-store"))
 
-    def test_names_of_others_are_refused(self):
+    def test_names_of_others_are_refused(self) -> None:
         """A page of somebody else's, whose name leads to this machine, reads nothing."""
         with self.watching(self.write("plan.toml", FIRST)) as (host, port):
             for name in (f"evil.test:{port}", "evil.test", "", "127.0.0.1.evil.test:80", "10.0.0.1:80"):
@@ -101,7 +103,7 @@ class Served(Watched):
             for name in (f"localhost:{port}", f"127.0.0.1:{port}"):
                 self.assertEqual(self.ask(host, port, Host=name)[0], 200)
 
-    def test_another_address_is_asked_for(self):
+    def test_another_address_is_asked_for(self) -> None:
         """Without that other addresses of the machine answer nothing."""
         plan = self.write("plan.toml", FIRST)
         with self.watching(plan) as (_, port):
@@ -110,7 +112,7 @@ class Served(Watched):
         with self.watching(plan, "--address", "127.0.0.2") as (host, port):
             self.assertEqual((host, self.ask("127.0.0.2", port)[0]), ("127.0.0.2", 200))
 
-    def test_a_port(self):
+    def test_a_port(self) -> None:
         with socket.socket() as taken:
             taken.bind(("127.0.0.1", 0))
             taken.listen()
@@ -122,7 +124,7 @@ class Served(Watched):
 
 
 class DrawnAnew(Watched):
-    def test_as_the_file_is_saved(self):
+    def test_as_the_file_is_saved(self) -> None:
         """Written over, put in its place by another name, and with a finding on top, which has file and line."""
         plan = self.write("plan.toml", FIRST)
         with self.watching(plan) as (host, port):
@@ -134,7 +136,7 @@ class DrawnAnew(Watched):
             self.assertIn(f"{plan}:23</code>", page)
             self.assertLess(page.index("F6 SignalWidth"), page.index('<section id="units"'))
 
-    def test_what_is_no_plan(self):
+    def test_what_is_no_plan(self) -> None:
         """Why stands on top with its line, and below what could be read last."""
         plan = self.write("plan.toml", FIRST)
         with self.watching(plan) as (host, port):
@@ -148,7 +150,7 @@ class DrawnAnew(Watched):
             self.write("plan.toml", FIRST.replace("SPN110", "COOLANT"))
             self.assertNotIn('role="alert"', self.page_with("COOLANT", host, port))
 
-    def test_a_plan_that_is_none_at_first(self):
+    def test_a_plan_that_is_none_at_first(self) -> None:
         plan = self.write("plan.toml", "version = 9 # <b>\n")
         with self.watching(plan) as (host, port):
             page = self.ask(host, port)[2]
@@ -157,7 +159,7 @@ class DrawnAnew(Watched):
             self.write("plan.toml", FIRST)
             self.page_with("SPN110", host, port)
 
-    def test_a_browser_that_waits_is_told(self):
+    def test_a_browser_that_waits_is_told(self) -> None:
         """Of the page that is there, and of the next one, once each."""
         plan = self.write("plan.toml", FIRST)
         with self.watching(plan) as (host, port), socket.create_connection((host, port), PATIENCE) as connection:
@@ -176,7 +178,7 @@ class DrawnAnew(Watched):
 
 
 class BadWords(Watched):
-    def test_what_goes_with_what(self):
+    def test_what_goes_with_what(self) -> None:
         plan = self.write("plan.toml", FIRST)
         for words in (["--port", "1"], ["--address", "127.0.0.1"], ["--watch", "-o", self.path("page.html")], ["--watch", "--port", "65536"],
                       ["--watch", "--port", "x"]):
@@ -184,7 +186,7 @@ class BadWords(Watched):
             self.assertEqual((status, answer, said[:6]), (2, "", "usage:"), words)
         self.assertFalse(os.path.exists(self.path("page.html")))
 
-    def test_only_a_file_can_be_watched(self):
+    def test_only_a_file_can_be_watched(self) -> None:
         os.mkfifo(self.path("fifo"))
         for name in (self.path("fifo"), self.folder):
             self.assertTrue(not stat.S_ISREG(os.stat(name).st_mode))
@@ -195,7 +197,7 @@ class BadWords(Watched):
 
 @unittest.skipUnless(shutil.which("chromium"), "chromium isn't there: apt-get install chromium")
 class InChromium(Watched):
-    def test_it_loads_the_page_anew(self):
+    def test_it_loads_the_page_anew(self) -> None:
         """Chromium asks for the page a second time once the file is saved, and runs no other script than the page's own."""
         plan = self.write("plan.toml", FIRST)
         asked = []
@@ -205,7 +207,7 @@ class InChromium(Watched):
         class Counting(page_server.Handler):
             """Counts the pages that are asked for."""
 
-            def do_GET(self):
+            def do_GET(self) -> None:
                 super().do_GET()
                 asked.append(self.path)
 
@@ -226,7 +228,7 @@ class InChromium(Watched):
                 browser.wait()
                 server.shutdown()
 
-    def wait_until(self, is_so):
+    def wait_until(self, is_so: Callable[[], object]) -> None:
         """Waits until something is so."""
         end = time.monotonic() + PATIENCE
         while not is_so():

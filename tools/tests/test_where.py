@@ -12,7 +12,7 @@ from j39plan import program
 from j39plan.cli import where
 from j39plan.plan import answer_places
 from j39plan.plan.parts import Source
-from tests.support import MARKED, NEWER, TOOLS, TOP, InFolder, example, examples, run, shown_refusals, text_of
+from tests.support import InFolder, MARKED, NEWER, TOOLS, TOP, example, examples, run, shown_refusals, text_of, there
 
 CASES = os.path.join(TOP, "crates", "examples_check", "data")
 
@@ -83,17 +83,19 @@ HINTS = [
     "32: hint group SHORT: 7 bytes; a group of one frame has 8, unused ones filled with ones",
     "34: hint group UNSENT: no flow sends it",
 ]
+# That a plan of version 4 could be live.
+MAY_BE_LIVE = "1: hint live = true adds no finding: then what check promises holds while units claim, and go off in mid-message"
 
 
 class SerialNumbers(InFolder):
-    def told(self, *names, version=4):
+    def told(self, *names: str, version: int = 4) -> list[str]:
         """What `where` says of two units of these NAMEs."""
         text = f"version = {version}\n" + "".join(f'[[unit]]\nlabel = "{label}"\naddress = {at}\nname = {{ {name} }}\n'
                                                   for label, at, name in zip("AB", (0, 3), names))
         name = self.write("plan.toml", text)
         return run("where.py", name)[1].replace(f"{name}:", "").splitlines()
 
-    def test_units_that_may_have_one_name(self):
+    def test_units_that_may_have_one_name(self) -> None:
         """Both, or one of them, without a number: only the serial numbers of their boxes tell them apart."""
         for names in (("manufacturer = 1", "manufacturer = 1"), ("manufacturer = 1", "identity = 7, manufacturer = 1")):
             self.assertEqual(self.told(*names), [
@@ -103,37 +105,60 @@ class SerialNumbers(InFolder):
         for names in (("identity = 7", "identity = 8"), ("function = 1", "function = 2"), ("", "identity = 7, ecu = 1")):
             self.assertEqual(self.told(*names), ["ok 2 units 0 groups 0 flows"])
 
-    def test_earlier_versions_ask_for_a_number(self):
+    def test_earlier_versions_ask_for_a_number(self) -> None:
         for version in (1, 2, 3):
             self.assertEqual(self.told("manufacturer = 1", "identity = 2", version=version), [
                 "5: refused Missing unit 1 name key identity  (key identity isn't there: integer 0..2097151; from version = 4 on it may be left away)"])
 
 
 class Lint(InFolder):
-    def lines(self, text, *words):
+    def lines(self, text: str, *words: str) -> tuple[int, list[str]]:
         """What `where --lint` answers of a plan, without the file's name, and its status."""
         name = self.write("plan.toml", text)
         status, answer, said = run("where.py", "--lint", *words, name)
         self.assertEqual(said, "")
         return status, answer.replace(f"{name}:", "").replace(f"file={name},", "").splitlines()
 
-    def test_units_without_numbers_are_not_compared_by_them(self):
+    def test_units_without_numbers_are_not_compared_by_them(self) -> None:
         status, lines = self.lines(re.sub(r"version = \d", "version = 4", LINTED, count=1).replace("identity = 7, ", ""))
-        self.assertEqual((status, lines), (0, [*(hint for hint in HINTS if "identity" not in hint), "ok 4 units 4 groups 3 flows"]))
+        self.assertEqual((status, lines), (0, [MAY_BE_LIVE, *(hint for hint in HINTS if "identity" not in hint), "ok 4 units 4 groups 3 flows"]))
 
-    def test_each_hint(self):
+    def test_each_hint(self) -> None:
         self.assertEqual(self.lines(LINTED), (0, [*HINTS, "ok 4 units 4 groups 3 flows"]))
 
-    def test_hints_at_answers(self):
+    def test_hints_at_answers(self) -> None:
         """A flow that is sent only as an answer, and that nobody asks for; a unit that asks isn't idle."""
         flow = '[[flow]]\ngroup = "UNSENT"\nfrom = "A"\nto = "all"\non_request = true\n'
         request = '[[request]]\ngroup = "UNSENT"\nfrom = "IDLE"\nto = "A"\n'
         plan = LINTED.replace("version = 2", "version = 4") + flow
         hint = f"{plan.count(chr(10))}: hint flow 4, UNSENT from A to all: it is sent only as an answer, and no request of the plan asks for it"
-        self.assertEqual(self.lines(plan)[1], [*HINTS[:5], hint, "ok 4 units 4 groups 4 flows"])
-        self.assertEqual(self.lines(plan + request)[1], [HINTS[0], *HINTS[2:5], "ok 4 units 4 groups 4 flows"])
+        self.assertEqual(self.lines(plan)[1], [MAY_BE_LIVE, *HINTS[:5], hint, "ok 4 units 4 groups 4 flows"])
+        self.assertEqual(self.lines(plan + request)[1], [MAY_BE_LIVE, HINTS[0], *HINTS[2:5], "ok 4 units 4 groups 4 flows"])
 
-    def test_hints_at_queues(self):
+    def test_a_plan_that_may_be_live(self) -> None:
+        """One of version 4 whose flows go between units that are alone; not one that is live, nor where F28 would be, nor without flows."""
+        plan = LINTED.replace("version = 2", "version = 4")
+        self.assertEqual(self.lines(plan)[1][0], MAY_BE_LIVE)
+        beside = plan.replace("address = 202", "address = 0")
+        for other in (LINTED, plan.replace("version = 4", "version = 4\nlive = true"), beside, plan.partition("[[flow]]")[0]):
+            self.assertNotIn("hint live", "".join(self.lines(other)[1]))
+
+    def test_frames_of_units_that_claim_on_a_live_bus(self) -> None:
+        """Where unplanned is less than the units that claim, strangers and a request."""
+        units = UNIT.format("A", 0, 1) + UNIT.format("B", 1, 2)
+
+        def hinted(unplanned: int, live: str = "live = true\n", behind: str = "") -> list[str]:
+            head = f"version = 4\n{live}timing = {{ bitrate = 250000, unplanned = {unplanned} }}\n"
+            return self.lines(head + units + behind)[1]
+
+        self.assertIn("3: hint unplanned = 2: on a live bus units claim at any time: 3 frames, of 2 units and a request for claims", hinted(2))
+        for lines, told in ((hinted(3), False), (hinted(2, behind="claims = false\n"), False), (hinted(1, behind="claims = false\n"), True),
+                            (hinted(2, live=""), False)):
+            self.assertEqual("hint unplanned" in "".join(lines), told, lines)
+        said = "4: hint unplanned = 7: on a live bus units claim at any time: 8 frames, of 2 units, 5 strangers and a request for claims"
+        self.assertIn(said, hinted(7, "live = true\nstrangers = 5\n"))
+
+    def test_hints_at_queues(self) -> None:
         """A unit whose controller keeps no order, and that sends groups of two priorities; of one priority there is no hint."""
         flow = '[[flow]]\ngroup = "SHORT"\nfrom = "A"\nto = "all"\n'
         plan = LINTED.replace("version = 2", "version = 4").replace("address = 0\n", 'address = 0\nqueue = "any"\n', 1) + flow
@@ -142,14 +167,14 @@ class Lint(InFolder):
         for other in (plan.replace('"any"', '"priority"'), plan.replace(flow, "")):
             self.assertNotIn("keeps no order", "".join(self.lines(other)[1]))
 
-    def test_short_messages_of_a_group_of_several_lengths(self):
+    def test_short_messages_of_a_group_of_several_lengths(self) -> None:
         """Those of fewer than 8 bytes go in one frame; where each has 8 or more there is no hint."""
         hint = "32: hint group SHORT: messages of 7 bytes and more; one of one frame has 8, unused ones filled with ones"
         plan = LINTED.replace("version = 2", "version = 3").replace("length = 7\n", "length = 7\nmost = 20\n")
         self.assertIn(hint, self.lines(plan)[1])
         self.assertNotIn("SHORT: ", "".join(self.lines(plan.replace("length = 7", "length = 8"))[1]))
 
-    def test_hints_at_needs(self):
+    def test_hints_at_needs(self) -> None:
         """A flow to one unit that doesn't need it, and a need that two units meet; a unit that needs something isn't idle."""
         needs = '[[need]]\nunit = "IDLE"\ngroup = "ET1"\n[[need]]\nunit = "C"\ngroup = "SHORT"\n'
         flow = '[[flow]]\ngroup = "SHORT"\nfrom = "A"\nto = "all"\n'
@@ -160,7 +185,7 @@ class Lint(InFolder):
         taken = self.lines(LINTED.replace("version = 2", "version = 4") + flow + needs + 'from = "B"\n[[need]]\nunit = "A"\ngroup = "TSC1"\n')[1]
         self.assertEqual([hint for hint in taken if " need" in hint], [])
 
-    def test_hints_at_broadcasts(self):
+    def test_hints_at_broadcasts(self) -> None:
         """Those that take longer than their period, at the gap of the plan; to one unit, and without timing, there are none."""
         plan = LINTED.replace("version = 2", "version = 4\ntiming = { bitrate = 250000, unplanned = 0 }").replace("length = 7", "length = 8\nmost = 140")
         plan = plan.replace('to = "all"\n', 'to = "all"\nperiod = 999\n').replace('to = "A"\n', 'to = "A"\nperiod = 999\n')
@@ -174,7 +199,7 @@ class Lint(InFolder):
             lines = self.lines(text)[1]
             self.assertEqual([line for line in lines if "packets" in line], told, lines)
 
-    def test_hints_at_broadcasts_of_one_unit(self):
+    def test_hints_at_broadcasts_of_one_unit(self) -> None:
         """One for which its period has time, and not for another one of its unit before it; of two units there is none."""
         plan = 'version = 4\ntiming = { bitrate = 250000, unplanned = 0 }\n' + "".join(
             f'[[unit]]\nlabel = "{label}"\naddress = {address}\nname = {{ identity = {address + 1} }}\n' for address, label in enumerate("AB")) + "".join(
@@ -185,7 +210,7 @@ class Lint(InFolder):
             lines = self.lines(text)[1]
             self.assertEqual([line for line in lines if "may send first" in line], told, lines)
 
-    def test_hints_at_single_frames(self):
+    def test_hints_at_single_frames(self) -> None:
         """Where the messages of one frame of flows that have long ones too take more than half of the bus, each of these flows is told."""
         plan = 'version = 4\ntiming = { bitrate = 125000, unplanned = 0 }\n[[unit]]\nlabel = "A"\naddress = 0\nname = { identity = 1 }\n' + "".join(
             f'[[group]]\nlabel = "G{number}"\npgn = {65260 + number}\npriority = 6\nlength = 8\nmost = 9\n'
@@ -196,20 +221,20 @@ class Lint(InFolder):
         for other in (plan.replace("125000", "250000"), plan.replace("length = 8", "length = 9"), plan.replace("most = 9\n", ""), plan.replace("period = 15", "period = 18")):
             self.assertEqual([line for line in self.lines(other)[1] if "one frame take" in line], [])
 
-    def test_hints_stand_before_findings_and_leave_the_status(self):
+    def test_hints_stand_before_findings_and_leave_the_status(self) -> None:
         status, lines = self.lines(LINTED.replace('to = "A"', 'to = "C"'))
         self.assertEqual((status, lines[:6], lines[-1]), (1, HINTS, "findings 1"))
         self.assertTrue(lines[6].startswith("54: F10 FlowToSelf 3"), lines)
 
-    def test_notices_of_github(self):
+    def test_notices_of_github(self) -> None:
         _, lines = self.lines(LINTED, "--github")
         self.assertEqual(lines[5], "::notice line=34::hint group UNSENT: no flow sends it")
 
-    def test_a_plan_that_is_refused_has_no_hints(self):
+    def test_a_plan_that_is_refused_has_no_hints(self) -> None:
         status, lines = self.lines(LINTED.replace("version = 2", "version = 9"))
         self.assertEqual((status, len(lines)), (2, 1))
 
-    def test_all_examples(self):
+    def test_all_examples(self) -> None:
         """Hints come before what is answered without them."""
         hints = 0
         for plan in examples(".toml"):
@@ -220,28 +245,28 @@ class Lint(InFolder):
         self.assertGreater(hints, 3)
 
 
-def first_of(answer):
+def first_of(answer: str) -> list[str]:
     """The lines of an answer without further faults of a plan that is refused."""
     return [line for line in answer.splitlines() if not re.search(r"\d: also ", line)]
 
 
 class Where(InFolder):
-    def answer(self, text, *words):
+    def answer(self, text: str, *words: str) -> tuple[int, list[str]]:
         """What `where` answers of a plan, without the file's name."""
         name = self.write("plan.toml", text)
         status, answer, _ = run("where.py", *words, name)
         return status, first_of(answer.replace(name + ":", ""))
 
-    def test_a_plan_without_findings_is_passed_on(self):
+    def test_a_plan_without_findings_is_passed_on(self) -> None:
         self.assertEqual(run("where.py", example("first_plan.toml")), (0, "ok 2 units 1 groups 1 flows\n", ""))
 
-    def test_the_answers_themselves_stay(self):
+    def test_the_answers_themselves_stay(self) -> None:
         for plan in examples(".toml"):
             _, answer, _ = run("where.py", plan)
             lines = [line.split(": ", 1)[-1].split("  (")[0] for line in answer.splitlines()]
             self.assertEqual("".join(f"{line}\n" for line in lines), text_of(plan[:-5] + ".check"), plan)
 
-    def test_findings_of_the_examples(self):
+    def test_findings_of_the_examples(self) -> None:
         for name, line, key in [
             ("f01_same_name", 'name = { identity = 7001, function = 129, industry = 2, arbitrary = true }', "key name"),
             ("f02_same_fixed_address", "address = 0", "key address"),
@@ -263,13 +288,13 @@ class Where(InFolder):
             self.assertEqual(shown.split(" = ")[0], line.split(" = ")[0], first)
             self.assertIn(key, first)
 
-    def test_the_second_of_two_is_named(self):
+    def test_the_second_of_two_is_named(self) -> None:
         plan = "version = 1\n\n" + UNIT.format("A", 0, 1) + "\n" + UNIT.format("B", 0, 2)
         hint = "10: F2 SameFixedAddress A B 0  (key address: the same as of A at line 5)"
         steps = ["  up B", "  up A", "  give A B", "  give B A"]
         self.assertEqual(self.answer(plan), (1, [hint, *steps, "findings 1"]))
 
-    def test_an_annotation_holds_the_steps_of_its_finding(self):
+    def test_an_annotation_holds_the_steps_of_its_finding(self) -> None:
         units = [UNIT.format("A", 0, 1), UNIT.format("B", 0, 2), UNIT.format("C", 1, 1)]
         status, answer, _ = run("where.py", "--github", name := self.write("plan.toml", "version = 1\n\n" + "\n".join(units)))
         self.assertEqual(status, 1)
@@ -279,7 +304,7 @@ class Where(InFolder):
         self.assertTrue(second.endswith(")%0A  up B%0A  up A%0A  give A B%0A  give B A"), second)
         self.assertEqual(count, "findings 2")
 
-    def test_signals_that_overlap(self):
+    def test_signals_that_overlap(self) -> None:
         plan = (
             'version = 1\n[[group]]\nlabel = "G"\npgn = 65262\npriority = 6\nlength = 8\n'
             '[[group.signal]]\nlabel = "S"\nbyte = 1\nbits = 4\nkind = "raw"\n'
@@ -287,7 +312,7 @@ class Where(InFolder):
         )
         self.assertEqual(self.answer(plan)[1][0], "12: F8 SignalOverlap G S T  (shares a bit with S at line 7)")
 
-    def test_texts(self):
+    def test_texts(self) -> None:
         """Where one lies outside, which label it repeats, and from which version on there are any."""
         plan = (
             'version = 3\n[[group]]\nlabel = "G"\npgn = 65262\npriority = 6\nlength = 8\n'
@@ -301,7 +326,7 @@ class Where(InFolder):
         early = "12: refused UnknownKey group 1  (key text: only from version = 3 on: write version = 4)"
         self.assertEqual(self.answer(plan.replace("version = 3", "version = 2")), (2, [early]))
 
-    def test_flows_are_named(self):
+    def test_flows_are_named(self) -> None:
         """Answers have them by their numbers alone: who sends what to whom, in the hint of each finding on one."""
         for name, found in (
             ("f09_flow_to_one", "42: F9 FlowToOne 2  (ET1 from ENGINE to CLUSTER: key to: a frame of this group goes to all)"),
@@ -313,7 +338,7 @@ class Where(InFolder):
             plan = example(f"findings/{name}.toml")
             self.assertTrue(run("where.py", plan)[1].startswith(f"{plan}:{found}"), name)
 
-    def test_loads(self):
+    def test_loads(self) -> None:
         """Which flow has no period or is late, where the bitrate stands, and from which version on these keys are known."""
         head = 'version = 3\n[timing]\nbitrate = 250000\nunplanned = 0\n[[unit]]\nlabel = "A"\naddress = 0\nname = { identity = 1 }\n'
         group = '[[group]]\nlabel = "G"\npgn = 61444\npriority = 3\nlength = 8\n'
@@ -336,7 +361,7 @@ class Where(InFolder):
         missing = "2: refused Missing timing key unplanned  (key unplanned isn't there: integer 0..1000)"
         self.assertEqual(self.answer(head.replace("unplanned = 0\n", "")), (2, [missing]))
 
-    def test_needs(self):
+    def test_needs(self) -> None:
         """What nobody sends, what is too old, which names there are, and from which version on needs are known."""
         head = 'version = 4\n[timing]\nbitrate = 250000\nunplanned = 0\n' + UNIT.format("A", 0, 1) + UNIT.format("B", 3, 2)
         plan = head + '[[group]]\nlabel = "G"\npgn = 61444\npriority = 3\nlength = 8\n[[group.signal]]\nlabel = "SPN190"\nbyte = 4\nbits = 16\nkind = "raw"\n'
@@ -363,7 +388,7 @@ class Where(InFolder):
         at = narrow.count("\n") + 2
         self.assertEqual(self.answer(narrow + need.format("B")), (1, [f"{at}: F19 NeedUnmet 1  (G by B: key unit: it goes to C alone)", "findings 1"]))
 
-    def test_needs_that_are_too_old(self):
+    def test_needs_that_are_too_old(self) -> None:
         """What is known of each flow that meets them; long messages have no age."""
         head = 'version = 4\n[timing]\nbitrate = 250000\nunplanned = 0\n' + UNIT.format("A", 0, 1) + UNIT.format("B", 3, 2) + UNIT.format("C", 9, 3)
         plan = head + '[[group]]\nlabel = "G"\npgn = 61444\npriority = 3\nlength = 8\n'
@@ -382,7 +407,7 @@ class Where(InFolder):
             at = text.count("\n") + 4
             self.assertEqual(self.answer(text + need), (1, [f"{at}: F20 NeedTooOld 1  ({hint})", "findings 1"]))
 
-    def test_requests(self):
+    def test_requests(self) -> None:
         """What nobody answers, and why; answers that go elsewhere; requests that are one."""
         units = UNIT.format("A", 0, 1) + UNIT.format("B", 3, 2) + UNIT.format("C", 9, 3)
         plan = "version = 4\n" + units + '[[group]]\nlabel = "G"\npgn = 57344\npriority = 6\nlength = 8\n'
@@ -408,7 +433,7 @@ class Where(InFolder):
         hint = f"G of A for B: on the bus the same as at line {at - 4}"
         self.assertEqual(self.answer(text + request.format("A")), (1, [f"{at}: F25 RequestRepeated 1 2  ({hint})", "findings 1"]))
 
-    def test_answers(self):
+    def test_answers(self) -> None:
         """What is sent only as an answer meets a need where somebody asks for it, and has no age."""
         head = "version = 4\n[timing]\nbitrate = 250000\nunplanned = 0\n" + UNIT.format("A", 0, 1) + UNIT.format("B", 3, 2)
         plan = head + '[[group]]\nlabel = "G"\npgn = 65254\npriority = 6\nlength = 8\n'
@@ -421,7 +446,7 @@ class Where(InFolder):
         old = f"{lines + 4}: F20 NeedTooOld 1  (G by B: key within: flow 1 is sent only as an answer)"
         self.assertEqual(self.answer(plan + flow + need + request), (1, [old, "findings 1"]))
 
-    def test_long_messages_that_are_late(self):
+    def test_long_messages_that_are_late(self) -> None:
         """They are looked at by their deadline, those of one frame by their period."""
         plan = 'version = 3\n' + UNIT.format("A", 0, 1) + '[[group]]\nlabel = "G"\npgn = 61444\npriority = 3\nlength = 8\n'
         flow = '[[flow]]\ngroup = "G"\nfrom = "A"\nto = "all"\nperiod = 10\ndeadline = 5\n'
@@ -429,9 +454,9 @@ class Where(InFolder):
         late = "G from A to all: key deadline: its long messages aren't shown to be whole within it"
         for most, at, hint in (("", lines + 5, "G from A to all: key period: within the deadline, or"), ("most = 9\n", lines + 7, late)):
             line, told = answer_places.finding(Source(plan + most + flow), "F18 LateFlow 1")
-            self.assertEqual((line, told[:len(hint)]), (at, hint))
+            self.assertEqual((line, there(told)[:len(hint)]), (at, hint))
 
-    def test_names_in_needs(self):
+    def test_names_in_needs(self) -> None:
         """Which there are, and from which version on needs and what comes with them are known."""
         head = 'version = 4\n[timing]\nbitrate = 250000\nunplanned = 0\n' + UNIT.format("A", 0, 1) + UNIT.format("B", 3, 2)
         plan = head + '[[group]]\nlabel = "G"\npgn = 61444\npriority = 3\nlength = 8\n[[group.signal]]\nlabel = "SPN190"\nbyte = 4\nbits = 16\nkind = "raw"\n'
@@ -458,14 +483,14 @@ class Where(InFolder):
         rates = '(bitrate = 100000: 250000 or 500000 or 125000 or 1000000)'
         self.assertEqual(self.answer(head.replace("250000", "100000")), (2, [f"3: refused Range timing key bitrate  {rates}"]))
 
-    def test_lengths(self):
+    def test_lengths(self) -> None:
         """What `most` can be, and from which version on it is known."""
         plan = 'version = 3\n[[group]]\nlabel = "G"\npgn = 65242\npriority = 6\nlength = 8\nmost = 7\n'
         self.assertEqual(self.answer(plan), (2, ["7: refused Range group 1 key most  (most = 7: integer 1..1785, at least the length)"]))
         early = "7: refused UnknownKey group 1  (key most: only from version = 3 on: write version = 4)"
         self.assertEqual(self.answer(plan.replace("version = 3", "version = 2")), (2, [early]))
 
-    def test_records(self):
+    def test_records(self) -> None:
         """Which signal comes onto which, which group has no records, and from which version on they are known."""
         plan = (
             'version = 3\n[[group]]\nlabel = "G"\npgn = 65226\npriority = 6\nlength = 8\nevery = 3\n'
@@ -482,7 +507,7 @@ class Where(InFolder):
         early = "12: refused UnknownKey group 1 signal 1  (key repeated: only from version = 3 on: write version = 4)"
         self.assertEqual(self.answer(plan.replace("version = 3", "version = 2").replace("every = 3\n", "")), (2, [early]))
 
-    def test_groups_told_by_their_data(self):
+    def test_groups_told_by_their_data(self) -> None:
         """Why two of one number aren't told apart, where the bits of one end, and keys of the table."""
         group = '[[group]]\nlabel = "{}"\npgn = 65268\npriority = 6\nlength = 1\n{}\n'
         plan = "version = 4\n" + group.format("G", "when = {{ byte = 1, bits = {}, value = 1 }}") + group.format("H", "{}")
@@ -502,7 +527,7 @@ class Where(InFolder):
             (placed,) = answer_places.placed(plan.format(4, other).encode(), answer + "\n")
             self.assertEqual((placed.line, placed.text), (line, f"{answer}  ({hint})"))
 
-    def test_optional_signals(self):
+    def test_optional_signals(self) -> None:
         """Where one ends, that one which is repeated is none, and from which version on they are known."""
         plan = (
             'version = 4\n[[group]]\nlabel = "G"\npgn = 65226\npriority = 6\nlength = 8\nmost = 12\nevery = 4\n'
@@ -517,7 +542,7 @@ class Where(InFolder):
         early = "14: refused UnknownKey group 1 signal 1  (key optional: only from version = 4 on: write version = 4)"
         self.assertEqual(self.answer(plan.replace("version = 4", "version = 3")), (2, [early]))
 
-    def test_each_shown_refusal_has_its_line(self):
+    def test_each_shown_refusal_has_its_line(self) -> None:
         lines = [4, 3, 9, 2, 3, 11, 3, 4, 15, 14, 7, 9, 16]
         shown = shown_refusals()
         self.assertEqual(len(shown), len(lines))
@@ -526,7 +551,7 @@ class Where(InFolder):
             self.assertEqual((status, len(answer)), (2, 1))
             self.assertTrue(answer[0].startswith(f"{line}: {refused.strip()}"), answer)
 
-    def test_each_refusal_of_the_cases_has_its_line_and_a_hint(self):
+    def test_each_refusal_of_the_cases_has_its_line_and_a_hint(self) -> None:
         """Those of all keys; where a key is named the line is that of the key, else that of its table."""
         plans = sorted(glob.glob(os.path.join(CASES, "refusals", "*.toml")))
         self.assertGreater(len(plans), 100)
@@ -540,18 +565,18 @@ class Where(InFolder):
             self.assertIsNotNone(found, answer)
             key = re.search(r" key (\w+)$", refused)
             if key and not refused.startswith(("refused Missing", "refused TooMany")):
-                self.assertRegex(lines[int(found.group(1)) - 1], rf"\b{key.group(1)}\b", answer)
+                self.assertRegex(lines[int(there(found).group(1)) - 1], rf"\b{key.group(1)}\b", answer)
 
-    def test_a_key_that_was_meant(self):
+    def test_a_key_that_was_meant(self) -> None:
         plan = 'version = 1\n[[unit]]\nlabel = "A"\nadress = 1\nname = { identity = 1 }\n'
         self.assertEqual(self.answer(plan)[1], ["4: refused UnknownKey unit 1  (key adress; did you mean address?)"])
 
-    def test_a_key_that_was_begun(self):
+    def test_a_key_that_was_begun(self) -> None:
         group = 'version = 1\n[[group]]\nlabel = "G"\npgn = 65262\nprio = 6\nlength = 8\n'
         self.assertEqual(self.answer(group)[1], ["5: refused UnknownKey group 1  (key prio; did you mean priority?)"])
         self.assertEqual(self.answer(group.replace("prio", "pr"))[1], ["5: refused UnknownKey group 1  (key pr isn't listed)"])
 
-    def test_a_word_that_was_meant(self):
+    def test_a_word_that_was_meant(self) -> None:
         signal = ('version = 1\n[[group]]\nlabel = "G"\npgn = 65262\npriority = 6\nlength = 8\n'
                   '[[group.signal]]\nlabel = "S"\nbyte = 1\nbits = 8\nkind = "{}"\n')
         wanted = '"measured" or "discrete" or "raw"'
@@ -561,7 +586,7 @@ class Where(InFolder):
         said = f'11: refused Range group 1 signal 1 key kind  (kind = "other": {wanted})'
         self.assertEqual(self.answer(signal.format("other")), (2, [said]))
 
-    def test_all_that_was_meant(self):
+    def test_all_that_was_meant(self) -> None:
         flow = '[[group]]\nlabel = "G"\npgn = 65262\npriority = 6\nlength = 8\n[[flow]]\ngroup = "G"\nfrom = "%s"\nto = "%s"\n'
         plan = "version = 1\n" + UNIT.format("A", 0, 1) + flow
         said = "14: refused UnknownLabel flow 1 key to  (key to: no unit is called ALL; did you mean all?)"
@@ -569,7 +594,7 @@ class Where(InFolder):
         said = "13: refused UnknownLabel flow 1 key from  (key from: no unit is called ALL)"
         self.assertEqual(self.answer(plan % ("ALL", "all")), (2, [said]))
 
-    def test_fractions_go_into_the_unit(self):
+    def test_fractions_go_into_the_unit(self) -> None:
         signal = ('version = 1\n[[group]]\nlabel = "G"\npgn = 65262\npriority = 6\nlength = 8\n'
                   '[[group.signal]]\nlabel = "S"\nbyte = 1\nbits = 16\nkind = "measured"\n')
         into = "the fraction goes into the unit"
@@ -588,35 +613,35 @@ class Where(InFolder):
             status, answer = self.answer(signal + keys)
             self.assertEqual((status, "; " in answer[0]), (2, False), answer)
 
-    def test_a_key_of_another_table(self):
+    def test_a_key_of_another_table(self) -> None:
         plan = 'version = 1\n[[unit]]\nlabel = "A"\naddress = 1\npgn = 3\nname = { identity = 1 }\n'
         self.assertEqual(self.answer(plan)[1], ["5: refused UnknownKey unit 1  (key pgn belongs to group)"])
 
-    def test_inline_tables_and_arrays(self):
+    def test_inline_tables_and_arrays(self) -> None:
         plan = (
             "version = 1\n# a comment with [[unit]]\nunit = [\n  { label = \"A\", address = 1, name = { identity = 1 } },\n"
             "  { label = \"B]\", address = 2,\n  name = { identity = 1 } }, # }\n]\n"
         )
         self.assertEqual(self.answer(plan)[1][0].split("  ")[0], "5: refused Range unit 2 key label")
 
-    def test_dotted_keys_and_quoted_ones(self):
+    def test_dotted_keys_and_quoted_ones(self) -> None:
         plan = "version = 1\n[[unit]]\n'label' = 'A'\n\"address\" = 1\nname.identity = 1\nname . manufacturer = 2048\n"
         self.assertEqual(self.answer(plan)[1][0].split("  ")[0], "6: refused Range unit 1 name key manufacturer")
 
-    def test_a_header_in_a_text_is_none(self):
+    def test_a_header_in_a_text_is_none(self) -> None:
         signal = '[[group.signal]]\nlabel = "S"\nbyte = 1\nbits = 8\nkind = "raw"\nunit = """[[group]]\n[[x]] """\n'
         plan = 'version = 1\n[[group]]\nlabel = "G"\npgn = 65262\npriority = 8\nlength = 8\n' + signal
         self.assertEqual(self.answer(plan)[1][0].split("  ")[0], "5: refused Range group 1 key priority")
 
-    def test_carriage_returns(self):
+    def test_carriage_returns(self) -> None:
         plan = "version = 1\r\n\r\n" + UNIT.format("A", 254, 1).replace("\n", "\r\n")
         self.assertEqual(self.answer(plan)[1], ["5: refused Range unit 1 key address  (address = 254: integer 0..253)"])
 
-    def test_too_many(self):
+    def test_too_many(self) -> None:
         plan = "version = 1\n" + "".join(UNIT.format(f"U{n}", n % 100, n) for n in range(129))
         self.assertEqual(self.answer(plan)[1], ["514: refused TooMany top key unit  (key unit: at most 128)"])
 
-    def test_addresses_that_are_kept_free(self):
+    def test_addresses_that_are_kept_free(self) -> None:
         plan = "version = 2\nkeep_free = [\n  240,\n  241,\n  {},\n]\n"
         wanted = "(key keep_free: an array of integers 128..247, each once)"
         for element, cause in (("240", "Repeated"), ("127", "Range"), ('"242"', "WrongType")):
@@ -634,13 +659,39 @@ class Where(InFolder):
         hint = "(key address: kept free: a unit with arbitrary = true may not hold it)"
         self.assertEqual(self.answer(plan.format("242") + unit)[1][0], f"9: F12 KeptAddress A 241  {hint}")
 
-    def test_strangers(self):
+    def test_strangers(self) -> None:
         hint = "(strangers = 121: integer 0..120)"
         self.assertEqual(self.answer("version = 4\nstrangers = 121\n"), (2, [f"2: refused Range top key strangers  {hint}"]))
         hint = "(key strangers: only from version = 4 on: write version = 4)"
         self.assertEqual(self.answer("version = 3\nstrangers = 1\n"), (2, [f"2: refused UnknownKey top  {hint}"]))
 
-    def test_what_only_version_3_knows_of_a_signal(self):
+    def test_live_buses(self) -> None:
+        self.assertEqual(self.answer("version = 4\nlive = 1\n"), (2, ["2: refused WrongType top key live  (live = 1: true or false)"]))
+        hint = "(key live: only from version = 4 on: write version = 4)"
+        self.assertEqual(self.answer("version = 3\nlive = true\n"), (2, [f"2: refused UnknownKey top  {hint}"]))
+
+    def test_ends_that_are_not_alone(self) -> None:
+        """The end that isn't alone, that of the sender first, and why: the unit that is planned there, the one that may move there, strangers."""
+        unit = '[[unit]]\nlabel = "{}"\naddress = {}\nname = {{ identity = {}, arbitrary = {} }}\n'
+        flow = '[[group]]\nlabel = "TSC1"\npgn = 0\npriority = 3\nlength = 8\n[[flow]]\ngroup = "TSC1"\nfrom = "{}"\nto = "{}"\n'
+        plan = "version = 4\nlive = true\n" + unit.format("X", 128, 1, "true") + unit.format("Y", 128, 2, "true") + unit.format("F", 140, 3, "false")
+        there, outside = "is planned there too: give one of them another address", "give it an address outside 128..247"
+        for ends, key, line, said in (
+            (("X", "all"), "from", 22, f"X isn't alone at 128: Y {there}"), (("X", "Y"), "from", 22, f"X isn't alone at 128: Y {there}"),
+            (("F", "all"), "from", 22, f"F isn't alone at 140: Y may move there: {outside}, or keep this one free"),
+            (("F", "Y"), "from", 22, f"F isn't alone at 140: Y may move there: {outside}, or keep this one free"),
+        ):
+            answer = self.answer(plan + flow.format(*ends))[1]
+            self.assertEqual(answer[0], f"{line}: F28 FlowContested 1  (TSC1 from {ends[0]} to {ends[1]}: key {key}: {said})")
+        kept = plan.replace("live = true\n", "live = true\nkeep_free = [140]\n")
+        self.assertEqual(self.answer(kept + flow.format("F", "all"))[0], 0)
+        answer = self.answer(kept + flow.format("F", "X"))[1]
+        self.assertEqual(answer[0], f"24: F28 FlowContested 1  (TSC1 from F to X: key to: X isn't alone at 128: Y {there})")
+        strangers = kept.replace("live = true\n", "live = true\nstrangers = 1\n")
+        answer = self.answer(strangers + flow.format("F", "all"))[1]
+        self.assertEqual(answer[0], f"24: F28 FlowContested 1  (TSC1 from F to all: key from: F isn't alone at 140: strangers may come there: {outside})")
+
+    def test_what_only_version_3_knows_of_a_signal(self) -> None:
         signal = ('[[group]]\nlabel = "G"\npgn = 65262\npriority = 6\nlength = 8\n'
                   '[[group.signal]]\nlabel = "S"\nbyte = 1\nbits = 32\nkind = "{}"\n')
         place = "group 1 signal 1"
@@ -660,7 +711,7 @@ class Where(InFolder):
         ):
             self.assertEqual(self.answer(plan), (2, [answer]))
 
-    def test_each_spelling_of_a_version(self):
+    def test_each_spelling_of_a_version(self) -> None:
         for version in ("2", "0x2", "0b10", "0o2", "+2", "0x0_2"):
             plan = f"version = {version}\nkeep_free = [\n  240, 241,\n  0xF0]\n"
             hint = "(key keep_free: an array of integers 128..247, each once)"
@@ -669,13 +720,13 @@ class Where(InFolder):
             hint = "(key keep_free: only from version = 2 on: write version = 4)"
             self.assertEqual(self.answer(f"version = {version}\nkeep_free = []\n"), (2, [f"2: refused UnknownKey top  {hint}"]))
 
-    def test_a_byte_order_mark(self):
+    def test_a_byte_order_mark(self) -> None:
         plan = "\ufeffversion = 1\n\n" + UNIT.format("A", 254, 1)
         self.assertEqual(self.answer(plan), (2, ["5: refused Range unit 1 key address  (address = 254: integer 0..253)"]))
         status, answer = self.answer(plan.replace("254", "x"))
         self.assertEqual((status, answer), (2, ["5: refused Text  (address = x: an integer is wanted)"]))
 
-    def test_what_toml_1_1_allows_is_no_fault(self):
+    def test_what_toml_1_1_allows_is_no_fault(self) -> None:
         for plan in (NEWER, MARKED):
             self.assertEqual(self.answer(plan)[1], ["ok 2 units 1 groups 1 flows"])
             line = plan.split("ET1")[0].count("\n") + 1
@@ -683,7 +734,7 @@ class Where(InFolder):
             self.assertEqual((status, answer[0].split("  ")[0]), (2, f"{line}: refused Range group 1 key label"))
             self.assertEqual(self.answer(plan + "x = \n")[1][0].split("  ")[0], f"{plan.count(chr(10)) + 1}: refused Text")
 
-    def test_a_statement_of_toml_1_1_with_a_fault(self):
+    def test_a_statement_of_toml_1_1_with_a_fault(self) -> None:
         """What is wrong in it can't be told from what TOML 1.0 doesn't have: the line is that of its beginning."""
         for fault, line, hint in [
             ("address = x", 3, ""), ("address = 01", 3, ""), ("address = 1, address = 2", 3, ""), ("label = 'B'", 3, ""),
@@ -692,35 +743,35 @@ class Where(InFolder):
             plan = f"version = 1\ngroup = []\nunit = [{{\n  label = 'A',\n  name = {{ identity = 1, }},\n  {fault},\n}}]\n"
             self.assertEqual(self.answer(plan), (2, [f"{line}: refused Text{hint}"]), fault)
 
-    def test_integers_beyond_64_bits(self):
+    def test_integers_beyond_64_bits(self) -> None:
         for number in ("99999999999999999999", "-9223372036854775809", "0x1_0000_0000_0000_0000", "9" * 5000):
             plan = f"version = 1\n[[unit]]\nlabel = 'A'\naddress = {number}\nname = {{ identity = 1 }}\n"
             self.assertEqual(self.answer(plan), (2, ["4: refused Text  (an integer beyond 64 bits)"]))
         plan = "version = 2\nkeep_free = [\n  240,\n  9999999999999999999,\n]\n"
         self.assertEqual(self.answer(plan), (2, ["4: refused Text  (an integer beyond 64 bits)"]))
 
-    def test_faults_that_only_the_program_knows(self):
+    def test_faults_that_only_the_program_knows(self) -> None:
         for fault in ("1e400", "[" * 2000 + "]" * 2000):
             self.assertEqual(self.answer(f"version = 1\nx = 1\ny = {fault}\nz = 2\n"), (2, ["3: refused Text"]))
 
-    def test_a_key_that_is_given_twice(self):
+    def test_a_key_that_is_given_twice(self) -> None:
         hint = "(key address stands at line 3 too)"
         self.assertEqual(self.answer("version = 1\n[[unit]]\naddress = 1\nlabel = 'A'\naddress = 2\nx = 1\n"),
                          (2, [f"5: refused Text  {hint}"]))
 
-    def test_bytes_that_are_no_text(self):
+    def test_bytes_that_are_no_text(self) -> None:
         with open(self.path("plan.toml"), "wb") as file:
             file.write(b'version = 1\n[[unit]]\nlabel = "\xb0"\n')
         status, answer, _ = run("where.py", self.path("plan.toml"))
         self.assertEqual((status, answer.split(":", 1)[1]), (2, "3: refused Text  (byte B0 is no UTF-8)\n"))
 
-    def test_annotations(self):
+    def test_annotations(self) -> None:
         name = self.write("plan.toml", "version = 5\n")
         status, answer, _ = run("where.py", "--github", name)
         self.assertEqual(status, 2)
         self.assertTrue(answer.startswith(f"::error file={name},line=1::refused Range top key version"), answer)
 
-    def test_annotations_are_escaped(self):
+    def test_annotations_are_escaped(self) -> None:
         """As GitHub's workflow commands have it: in a property also the marks that part properties."""
         plan = self.write("50%,a:b.toml", "version = 1\n" + UNIT.format("A", 254, 1))
         _, answer, _ = run("where.py", "--github", plan)
@@ -729,7 +780,7 @@ class Where(InFolder):
         shown = where.github_annotation("a\rb\n", 1, "50%: x, y\r", ["  z"])
         self.assertEqual(shown, ["::error file=a%0Db%0A,line=1::50%25: x, y%0D%0A  z"])
 
-    def test_every_fault_has_a_line(self):
+    def test_every_fault_has_a_line(self) -> None:
         """Each line of a plan is left out, doubled and cut in turn: the answers stay, and their lines are in the file."""
         lines = text_of(example("findings/several.toml")).splitlines(keepends=True)
         for at, line in enumerate(lines):
@@ -745,7 +796,7 @@ class Where(InFolder):
                     else:
                         self.assertRegex(part, r"ok |findings |  \w")
 
-    def test_a_program_that_is_not_there(self):
+    def test_a_program_that_is_not_there(self) -> None:
         environment = {**os.environ, "J39PLAN": self.path("j39plan")}
         ended = subprocess.run(
             [sys.executable, os.path.join(TOOLS, "where.py"), example("first_plan.toml")],
@@ -754,17 +805,17 @@ class Where(InFolder):
         said = f"j39plan can't be run: {self.path('j39plan')}: No such file or directory\n"
         self.assertEqual((ended.returncode, ended.stdout, ended.stderr), (69, "", said))
 
-    def test_the_pattern_for_editors(self):
+    def test_the_pattern_for_editors(self) -> None:
         """What docs/TOOLS.md gives VS Code finds file, line and text of each answer with a place, and no other."""
-        task = json.loads(re.search(r"```json\n(.*?)```", text_of(os.path.join(TOP, "docs", "TOOLS.md")), re.DOTALL).group(1))
+        task = json.loads(there(re.search(r"```json\n(.*?)```", text_of(os.path.join(TOP, "docs", "TOOLS.md")), re.DOTALL)).group(1))
         pattern = task["tasks"][0]["problemMatcher"]["pattern"]["regexp"]
         plan = example("findings/several.toml")
         *findings, count = run("where.py", plan)[1].splitlines()
         self.assertIsNone(re.match(pattern, count))
         for line in findings:
-            self.assertEqual(re.match(pattern, line).group(1), plan)
+            self.assertEqual(there(re.match(pattern, line)).group(1), plan)
 
-    def test_a_missing_file(self):
+    def test_a_missing_file(self) -> None:
         status, answer, said = run("where.py", self.path("none.toml"))
         self.assertEqual((status, answer, said), (4, "", f"where: {self.path('none.toml')}: No such file or directory\n"))
 

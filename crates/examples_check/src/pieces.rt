@@ -8,7 +8,7 @@ use std::alloc::{AllocError, Global};
 // The most bytes that a call gives.
 const SIZES: [usize; 4] = [1, 2, 3, 4_096];
 
-// Runs a schedule by a plan, or reads or follows a log.
+// Runs a schedule by a plan, or reads or follows a log, all frames of it where the command is no other one.
 fn perform<S: Source, W: Sink>(
     alloc: Global,
     command: &str,
@@ -22,7 +22,8 @@ fn perform<S: Source, W: Sink>(
     match command {
         "run" => run_planned(alloc, &plan, input, sink),
         "read" => read_text(alloc, &plan, input, sink),
-        _ => follow_text(alloc, &plan, input, sink),
+        "follow" => follow_text(alloc, &plan, false, input, sink),
+        _ => follow_text(alloc, &plan, true, input, sink),
     }
 }
 

@@ -2,8 +2,8 @@
 //!
 //! `PLAN.toml` is checked, and where `PLAN.addresses`, `PLAN.load` or `PLAN.show` stands beside it also answered as to its
 //! addresses, its load or its values; `PLAN.NAME.schedule` is run and `PLAN.NAME.log` is read by the plan beside it and,
-//! where `PLAN.NAME.follow` stands there, also followed; `NAME.line` is a frame line. Standard error stays empty, and the
-//! status is one of the program's output.
+//! where `PLAN.NAME.follow` stands there, also followed, or `PLAN.NAME.all`, all frames of it; `NAME.line` is a frame line.
+//! Standard error stays empty, and the status is one of the program's output.
 
 use crate::outcome::perform;
 use crate::pieces::are_as_shown;
@@ -19,7 +19,7 @@ struct Kind {
     shown: &'static str,
 }
 
-const KINDS: [Kind; 8] = [
+const KINDS: [Kind; 9] = [
     Kind {
         command: "check",
         ending: ".toml",
@@ -56,6 +56,11 @@ const KINDS: [Kind; 8] = [
         shown: ".follow",
     },
     Kind {
+        command: "follow --all",
+        ending: ".all",
+        shown: ".all",
+    },
+    Kind {
         command: "frame",
         ending: ".line",
         shown: ".frame",
@@ -80,11 +85,13 @@ fn words_of<R: Files + AllocGlobal>(
 ) -> Result<Vec<Vec<u8>>, anyhow::Error> {
     let file = format!(in rt.alloc(); "{name}{}", kind.ending)?;
     let mut words = Vec::new(rt.alloc());
-    words.push(kind.command.as_bytes().to_vec(rt.alloc())?)?;
+    for word in kind.command.split(' ') {
+        words.push(word.as_bytes().to_vec(rt.alloc())?)?;
+    }
     match kind.command {
         "check" => words.push(file.into_bytes())?,
         "addresses" | "load" | "show" => words.push(plan_of(rt, name)?.into_bytes())?,
-        "follow" => {
+        "follow" | "follow --all" => {
             words.push(plan_of(rt, name)?.into_bytes())?;
             words.push(format!(in rt.alloc(); "{name}.log")?.into_bytes())?;
         }
@@ -107,7 +114,7 @@ fn is_shown_in_pieces<R: Files + AllocGlobal>(
 ) -> Result<bool, anyhow::Error> {
     let ending = match kind.command {
         "run" => ".schedule",
-        "read" | "follow" => ".log",
+        "read" | "follow" | "follow --all" => ".log",
         _ => return Ok(true),
     };
     let plan = format!(in rt.alloc(); "{folder}{}", plan_of(rt, name)?)?;

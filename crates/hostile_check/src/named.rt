@@ -49,10 +49,10 @@ const REFUSED_STEP: [&str; 13] = [
 ];
 
 // The first words of lines of check, and of lines of read.
-const CHECK: [&str; 31] = [
+const CHECK: [&str; 32] = [
     "ok", "findings", "F1", "F2", "F3", "F4", "F5", "F6", "F7", "F8", "F9", "F10", "F11", "F12",
     "F13", "F14", "F15", "F16", "F17", "F18", "F19", "F20", "F21", "F22", "F23", "F24", "F25",
-    "F26", "F27", "", "refused",
+    "F26", "F27", "F28", "", "refused",
 ];
 
 // Those of show.
@@ -130,7 +130,9 @@ fn is_line_of(command: Command, line: &str) -> bool {
         Command::Load => LOAD.contains(&first) || CHECK.contains(&first),
         Command::Run => RUN.contains(&first) || first.contains('#'),
         Command::Read => READ.contains(&first),
-        Command::Follow => FOLLOW.contains(&first) || first.parse::<u64>().is_ok(),
+        Command::Follow | Command::FollowAll => {
+            FOLLOW.contains(&first) || first.parse::<u64>().is_ok()
+        }
     }
 }
 

@@ -1,5 +1,5 @@
 -- What is written for what a command line orders.
-use Rattle.std.specs.Prelude.{◌≡◌, ◌⊎◌, ℕ, List, Option, string_bytes, length}
+use Rattle.std.specs.Prelude.{◌≡◌, ◌⊎◌, ℕ, Bool, List, Option, string_bytes, length}
 use Rattle.j39_app.specs.Known.{AreFrontOf, AreOf, Names}
 use Rattle.j39_check.specs.AddressesText.{IsAddressesText}
 use Rattle.j39_check.specs.LoadText.{IsLoadText}
@@ -44,9 +44,10 @@ IsRunOf plan known text verdict =
 abbrev pub IsReadOf : Plan → Option (List ℕ) → List ℕ → Verdict → Type 0
 IsReadOf plan known text verdict = (log : List ℕ) × (verdict ≡ Done → AreOf known log) × IsReadText plan log text verdict
 
--- by the claims of the log itself
-abbrev pub IsFollowOf : Plan → Option (List ℕ) → List ℕ → Verdict → Type 0
-IsFollowOf plan known text verdict = (log : List ℕ) × (verdict ≡ Done → AreOf known log) × IsFollowText plan log text verdict
+-- by the claims of the log itself, of all frames or of those of planned groups
+abbrev pub IsFollowOf : Bool → Plan → Option (List ℕ) → List ℕ → Verdict → Type 0
+IsFollowOf all_frames plan known text verdict =
+    (log : List ℕ) × (verdict ≡ Done → AreOf known log) × IsFollowText plan all_frames log text verdict
 
 -- what is written for an order, with the verdict, where files have these names and the input is this
 abbrev pub IsAnswer : Names → Option (List ℕ) → Order → List ℕ → Verdict → Type 0
@@ -60,8 +61,8 @@ IsAnswer files input (Run plan schedule) text verdict =
     IsAnswerOfTwo IsRunOf (files (string_bytes plan)) (files (string_bytes schedule)) text verdict
 IsAnswer files input (Read plan log) text verdict =
     IsAnswerOfTwo IsReadOf (files (string_bytes plan)) (files (string_bytes log)) text verdict
-IsAnswer files input (Follow plan log) text verdict =
-    IsAnswerOfTwo IsFollowOf (files (string_bytes plan)) (files (string_bytes log)) text verdict
+IsAnswer files input (Follow plan log all_frames) text verdict =
+    IsAnswerOfTwo (IsFollowOf all_frames) (files (string_bytes plan)) (files (string_bytes log)) text verdict
 IsAnswer files input (Help shown) text verdict = (text ≡ string_bytes shown) × (verdict ≡ Done)
 
 -- ---- what a part may stand written of
@@ -74,8 +75,9 @@ IsRunFrontOf plan known text verdict =
 abbrev pub IsReadFrontOf : Plan → Option (List ℕ) → List ℕ → Verdict → Type 0
 IsReadFrontOf plan known text verdict = (log : List ℕ) × AreFrontOf known log × IsReadText plan log text verdict
 
-abbrev pub IsFollowFrontOf : Plan → Option (List ℕ) → List ℕ → Verdict → Type 0
-IsFollowFrontOf plan known text verdict = (log : List ℕ) × AreFrontOf known log × IsFollowText plan log text verdict
+abbrev pub IsFollowFrontOf : Bool → Plan → Option (List ℕ) → List ℕ → Verdict → Type 0
+IsFollowFrontOf all_frames plan known text verdict =
+    (log : List ℕ) × AreFrontOf known log × IsFollowText plan all_frames log text verdict
 
 -- the text of an order, or of one whose schedule or log begins like this one's
 abbrev pub IsFrontAnswer : Names → Option (List ℕ) → Order → List ℕ → Verdict → Type 0
@@ -83,6 +85,6 @@ IsFrontAnswer files input (Run plan schedule) text verdict =
     IsAnswerOfTwo IsRunFrontOf (files (string_bytes plan)) (files (string_bytes schedule)) text verdict
 IsFrontAnswer files input (Read plan log) text verdict =
     IsAnswerOfTwo IsReadFrontOf (files (string_bytes plan)) (files (string_bytes log)) text verdict
-IsFrontAnswer files input (Follow plan log) text verdict =
-    IsAnswerOfTwo IsFollowFrontOf (files (string_bytes plan)) (files (string_bytes log)) text verdict
+IsFrontAnswer files input (Follow plan log all_frames) text verdict =
+    IsAnswerOfTwo (IsFollowFrontOf all_frames) (files (string_bytes plan)) (files (string_bytes log)) text verdict
 IsFrontAnswer files input order text verdict = IsAnswer files input order text verdict

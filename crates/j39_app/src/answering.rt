@@ -10,7 +10,9 @@ ghost use Rattle.j39_check.specs.LoadText.{IsLoadText};
 ghost use Rattle.j39_check.specs.CheckText.{IsCheckText};
 ghost use Rattle.j39_check.specs.PlanText.{IsPlanText};
 ghost use Rattle.j39_check.specs.ShowText.{IsShowText};
+ghost use Rattle.j39_stream.specs.CommandEnds.{AnswersWhole, IsOfAny};
 ghost use Rattle.j39_stream.specs.Streams.{HasFailed, log_limits, plan_limits};
+ghost use Rattle.j39_text.specs.FrameText.{IsInputText};
 
 use crate::{
     Fault, Folder, Order, Sink, Source, Verdict, addresses_text, check_text, follow_text,
@@ -18,6 +20,18 @@ use crate::{
 };
 use j39_findings::Plan;
 use std::alloc::Global;
+
+// Each command holds its buffers and tables in a frame of its own, since that of `answer` lies on the stack below all of them.
+#[inline(never)]
+fn input_by<S: Source, W: Sink>(
+    alloc: Global,
+    input: &mut S,
+    sink: &mut W,
+) -> Result<Verdict, Fault>
+    ensures { AnswersWhole IsInputText (IsOfAny IsInputText) plan_limits (S.state input.old) (S.state input.new) W.state sink.old sink.new result }
+{
+    input_text(alloc, input, sink)
+}
 
 // The plan of a file. Where the file describes none, writes why, and gives none.
 fn plan_of<F: Folder, W: Sink>(
@@ -33,6 +47,7 @@ fn plan_of<F: Folder, W: Sink>(
     plan_text(alloc, &mut files.open(name)?, sink)
 }
 
+#[inline(never)]
 fn show_file<F: Folder, W: Sink>(
     alloc: Global,
     files: &F,
@@ -45,6 +60,7 @@ fn show_file<F: Folder, W: Sink>(
     show_text(alloc, &mut files.open(plan)?, sink)
 }
 
+#[inline(never)]
 fn check_file<F: Folder, W: Sink>(
     alloc: Global,
     files: &F,
@@ -57,6 +73,7 @@ fn check_file<F: Folder, W: Sink>(
     check_text(alloc, &mut files.open(plan)?, sink)
 }
 
+#[inline(never)]
 fn addresses_file<F: Folder, W: Sink>(
     alloc: Global,
     files: &F,
@@ -69,6 +86,7 @@ fn addresses_file<F: Folder, W: Sink>(
     addresses_text(alloc, &mut files.open(plan)?, sink)
 }
 
+#[inline(never)]
 fn load_file<F: Folder, W: Sink>(
     alloc: Global,
     files: &F,
@@ -81,6 +99,7 @@ fn load_file<F: Folder, W: Sink>(
     load_text(alloc, &mut files.open(plan)?, sink)
 }
 
+#[inline(never)]
 fn run_by<F: Folder, W: Sink>(
     alloc: Global,
     files: &F,
@@ -94,6 +113,7 @@ fn run_by<F: Folder, W: Sink>(
     run_planned(alloc, plan, &mut files.open(schedule)?, sink)
 }
 
+#[inline(never)]
 fn read_by<F: Folder, W: Sink>(
     alloc: Global,
     files: &F,
@@ -107,17 +127,19 @@ fn read_by<F: Folder, W: Sink>(
     read_text(alloc, plan, &mut files.open(log)?, sink)
 }
 
+#[inline(never)]
 fn follow_by<F: Folder, W: Sink>(
     alloc: Global,
     files: &F,
     plan: &Plan,
     log: &str,
+    all_frames: bool,
     sink: &mut W,
 ) -> Result<Verdict, Fault>
-    ensures { EndsByFile (IsFollowOf plan.now) (λ known. IsOfSome (IsFollowFrontOf plan.now known)) ⊥ log_limits
+    ensures { EndsByFile (IsFollowOf all_frames plan.now) (λ known. IsOfSome (IsFollowFrontOf all_frames plan.now known)) ⊥ log_limits
         (F.stays_shut files.now) (F.bytes_of files.now) F.File.state log.now W.state sink.old sink.new result }
 {
-    follow_text(alloc, plan, &mut files.open(log)?, sink)
+    follow_text(alloc, plan, all_frames, &mut files.open(log)?, sink)
 }
 
 // Writes what happens on the bus of a plan by a schedule, whose file is opened once the plan was read.
@@ -160,13 +182,14 @@ fn follow_files<F: Folder, W: Sink>(
     files: &F,
     plan: &str,
     log: &str,
+    all_frames: bool,
     sink: &mut W,
 ) -> Result<Verdict, Fault>
-    ensures { EndsByTwo IsFollowOf IsFollowFrontOf log_limits
+    ensures { EndsByTwo (IsFollowOf all_frames) (IsFollowFrontOf all_frames) log_limits
         (F.stays_shut files.now) (F.bytes_of files.now) F.File.state plan.now log.now W.state sink.old sink.new result }
 {
     match plan_of(alloc, files, plan, sink)? {
-        Some(plan) => follow_by(alloc, files, &plan, log, sink),
+        Some(plan) => follow_by(alloc, files, &plan, log, all_frames, sink),
         None => Ok(Verdict::Unreadable),
     }
 }
@@ -191,7 +214,7 @@ pub fn answer<F: Folder, S: Source, W: Sink>(
     ensures memory { IsErrOf result Fault.Memory → AsksForMemory order.now }
 {
     match order {
-        Order::Input => input_text(alloc, input, sink),
+        Order::Input => input_by(alloc, input, sink),
         Order::Frame(line) => frame_text(alloc, line.as_bytes(), sink),
         Order::Show(plan) => show_file(alloc, files, plan, sink),
         Order::Check(plan) => check_file(alloc, files, plan, sink),
@@ -199,7 +222,9 @@ pub fn answer<F: Folder, S: Source, W: Sink>(
         Order::Load(plan) => load_file(alloc, files, plan, sink),
         Order::Run(plan, schedule) => run_files(alloc, files, plan, schedule, sink),
         Order::Read(plan, log) => read_files(alloc, files, plan, log, sink),
-        Order::Follow(plan, log) => follow_files(alloc, files, plan, log, sink),
+        Order::Follow(plan, log, all_frames) => {
+            follow_files(alloc, files, plan, log, *all_frames, sink)
+        }
         Order::Help(text) => {
             put_all(sink, text.as_bytes())?;
             Ok(Verdict::Done)

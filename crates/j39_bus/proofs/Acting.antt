@@ -19,7 +19,7 @@ refusal_as net s t cause same h = subst (λ (x : Step). IsRefusal net x cause) (
 -- what a step finds that is not refused
 module _ (net : Network) where
   -- the last of its refusals does not hold
-  last : (step : Step) → IsRefusal net step None → NoneHold (step_refusals (length net.claimers.items) net.flows.items (world_in nowhere net) step)
+  last : (step : Step) → IsRefusal net step None → NoneHold (step_refusals net.live (length net.claimers.items) net.flows.items (world_in nowhere net) step)
   last step none = none_refuses net nowhere step (none.is nowhere)
 
   pub finds : (step : Step) → IsRefusal net step None → Finds net step
@@ -27,8 +27,8 @@ module _ (net : Network) where
   finds (Down u) none = unit_inside _ _ _ (none.is nowhere)
   finds (Give u v) none = (pair_inside _ _ _ _ (none.is nowhere), ltb-true 0 _ (not-false _ (last (Give u v) none).1.1.0))
   finds (Ask u) none = unit_inside _ _ _ (none.is nowhere)
-  finds (Begin f bytes) none = flow_inside (length net.claimers.items) (world_in nowhere net) net.flows.items f bytes.items (none.is nowhere)
-  finds (Send f bytes) none = sending.flow_inside (length net.claimers.items) (world_in nowhere net) net.flows.items f bytes.items (none.is nowhere)
+  finds (Begin f bytes) none = flow_inside net.live (length net.claimers.items) (world_in nowhere net) net.flows.items f bytes.items (none.is nowhere)
+  finds (Send f bytes) none = sending.flow_inside net.live (length net.claimers.items) (world_in nowhere net) net.flows.items f bytes.items (none.is nowhere)
   finds (Emit u) none = (unit_inside _ _ _ (none.is nowhere), not-false _ (last (Emit u) none).1.1.0)
   finds (Take u v) none = (pair_inside _ _ _ _ (none.is nowhere), ltb-true 0 _ (not-false _ (last (Take u v) none).1.1.0))
   finds (Lose u v) none = (pair_inside _ _ _ _ (none.is nowhere), ltb-true 0 _ (not-false _ (last (Lose u v) none).1.1.0))

@@ -20,10 +20,10 @@ use Rattle.j39_bus.proofs.Outside.{each_list}
 use Rattle.j39_bus.proofs.Rested.{all_below}
 
 -- a message is begun by a flow alone
-pub flow_inside : (n : ℕ) (w : World) (flows : List Flow) (f : ℕ) (bytes : List ℕ) → begin_refusal n w (slice_get flows f) bytes ≡ None → f < length flows
-flow_inside n w [] f bytes allowed = absurd (cc allowed)
-flow_inside n w (x ∷ flows) zero bytes allowed = omega arith
-flow_inside n w (x ∷ flows) (suc f) bytes allowed = let less : f < length flows = flow_inside n w flows f bytes allowed in omega arith
+pub flow_inside : (live : Bool) (n : ℕ) (w : World) (flows : List Flow) (f : ℕ) (bytes : List ℕ) → begin_refusal live n w (slice_get flows f) bytes ≡ None → f < length flows
+flow_inside live n w [] f bytes allowed = absurd (cc allowed)
+flow_inside live n w (x ∷ flows) zero bytes allowed = omega arith
+flow_inside live n w (x ∷ flows) (suc f) bytes allowed = let less : f < length flows = flow_inside live n w flows f bytes allowed in omega arith
 
 -- whether anything is undelivered
 pub settled_by : {X : Type 0} (n : ℕ) (lists : List (List (List X))) → IsTable n lists → (b : Bool)
@@ -48,10 +48,10 @@ settled_by {X} n lists table b (none, all) = elim (cases_Bool b) [
 
 -- ---- a message that may be begun
 module _ (net : Network) (well : IsNetwork net) (f : ℕ) (bytes : List ℕ)
-    (allowed : (h : Histories) → begin_refusal (length net.claimers.items) (world_in h net) (slice_get net.flows.items f) bytes ≡ None)
+    (allowed : (h : Histories) → begin_refusal net.live (length net.claimers.items) (world_in h net) (slice_get net.flows.items f) bytes ≡ None)
     (flow : Flow) (at : flow ≡ get_or net.flows.items f flow) where
   inside : f < length net.flows.items
-  inside = flow_inside (length net.claimers.items) (world_in nowhere net) net.flows.items f bytes (allowed nowhere)
+  inside = flow_inside net.live (length net.claimers.items) (world_in nowhere net) net.flows.items f bytes (allowed nowhere)
 
   flow_is : slice_get net.flows.items f ≡ Some flow
   flow_is = got net.flows.items f flow inside at
@@ -62,8 +62,8 @@ module _ (net : Network) (well : IsNetwork net) (f : ℕ) (bytes : List ℕ)
   pub is_in_length : length bytes ≤ message_bytes
   is_in_length =
       let (sendable, (on, (told, (addressed, (free, (fits, rest)))))) =
-      none_hold (begin_refusals (length net.claimers.items) (world_in nowhere net) (Some flow) bytes)
-      (ap (λ (o : Option Flow). begin_refusal (length net.claimers.items) (world_in nowhere net) o bytes) (sym flow_is) ∙ allowed nowhere) in
+      none_hold (begin_refusals net.live (length net.claimers.items) (world_in nowhere net) (Some flow) bytes)
+      (ap (λ (o : Option Flow). begin_refusal net.live (length net.claimers.items) (world_in nowhere net) o bytes) (sym flow_is) ∙ allowed nowhere) in
       let most : length bytes ≤ flow.most = leb-true (length bytes) flow.most (and_parts (nat_le flow.length (length bytes)) _ (not-false _ fits)).1 in
       omega (arith, most, flow_fits.length)
 

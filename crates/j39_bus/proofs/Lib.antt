@@ -2,6 +2,7 @@ pub mod Acting
 pub mod BeginRefused
 pub mod SendRefused
 pub mod ChangedSessions
+pub mod LeftOut
 pub mod Delivered
 pub mod Heard
 pub mod Lost
@@ -16,6 +17,7 @@ pub mod Running
 pub mod Settled
 pub mod Standing
 pub mod Steady
+pub mod SwitchedOff
 pub mod SwitchedOn
 pub mod WellFormed
 pub mod Worlds

@@ -3,9 +3,11 @@ use Rattle.std.proofs.Common.{◌≡◌, ℕ, zero, suc, ◌<◌, ◌&&◌, eqb,
 use Rattle.std.proofs.Common.{inr, None}
 use Rattle.std.proofs.lemmas.List.{get_or-map, length-map, length-replicate, map-set}
 use Rattle.std.proofs.Math.ListN.{length-set}
+use Rattle.std.proofs.Math.Path.{transport}
 use Rattle.std.proofs.Math.Seq.{map-set_same}
 use Rattle.std.proofs.lemmas.Bool.{and_parts, cases_Bool, eqb-true}
 use Rattle.std.specs.Vec.{with_item}
+use Rattle.j39_queues.specs.Queued.{IsTable}
 use Rattle.j39_queues.proofs.Tables.{cell_is, row_is, tabled_set, with_cell_at, with_cell_columns}
 use Rattle.j39_world.specs.Flows.{window_at}
 use Rattle.j39_world.specs.World.{changed_pair}
@@ -17,6 +19,11 @@ slots r = r.items
 
 length-holdings : (rows : List ReceiverRow) → length (holdings_of rows) ≡ length rows
 length-holdings rows = length-map rows (λ (r : ReceiverRow). map holding_of r.items)
+
+-- rows that are seen so are a table of as many as there are windows
+pub table_seen : (windows : List ℕ) (rows : List ReceiverRow) (was : ReceiverTable) → record { windows = windows; holdings = holdings_of rows } ≡ was
+    → IsReceivers windows rows → IsTable (length was.windows) was.holdings
+table_seen windows rows was is well = transport (λ i. IsTable (length (is i).windows) (is i).holdings) well.table
 
 -- what is seen of rows is known, and they are a table
 module _ (windows : List ℕ) (rows : List ReceiverRow) (was : ReceiverTable) (is : record { windows = windows; holdings = holdings_of rows } ≡ was)

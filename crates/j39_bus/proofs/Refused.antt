@@ -41,8 +41,8 @@ last_decides ((e, false) ∷ rest) c x g c_is none = last_decides rest c x g c_i
 
 -- none holds of a step that is not refused
 pub none_refuses : (net : Network) (h : Histories) (step : Step) → refusal_in net h step ≡ None
-    → NoneHold (step_refusals (length net.claimers.items) net.flows.items (world_in h net) step)
-none_refuses net h step = none_hold (step_refusals (length net.claimers.items) net.flows.items (world_in h net) step)
+    → NoneHold (step_refusals net.live (length net.claimers.items) net.flows.items (world_in h net) step)
+none_refuses net h step = none_hold (step_refusals net.live (length net.claimers.items) net.flows.items (world_in h net) step)
 
 -- ---- no cause is want of memory
 
@@ -60,35 +60,35 @@ own_first [] own = tt
 own_first ((e, true) ∷ rest) own = own.0
 own_first ((e, false) ∷ rest) own = own_first rest own.1
 
-own_by_flow : (count : ℕ) (w : World) (flow : Option Flow) (bytes : List ℕ) → AreOwn (begin_refusals count w flow bytes)
-own_by_flow count w None bytes = (refl, tt)
-own_by_flow count w (Some flow) bytes = (refl, (refl, (refl, (refl, (refl, (refl, (refl, tt)))))))
+own_by_flow : (live : Bool) (count : ℕ) (w : World) (flow : Option Flow) (bytes : List ℕ) → AreOwn (begin_refusals live count w flow bytes)
+own_by_flow live count w None bytes = (refl, tt)
+own_by_flow live count w (Some flow) bytes = (refl, (refl, (refl, (refl, (refl, (refl, (refl, tt)))))))
 
-own_by_send : (count : ℕ) (w : World) (flow : Option Flow) (bytes : List ℕ) → AreOwn (send_refusals count w flow bytes)
-own_by_send count w None bytes = (refl, tt)
-own_by_send count w (Some flow) bytes = (refl, (refl, (refl, (refl, (refl, (refl, (refl, tt)))))))
+own_by_send : (live : Bool) (count : ℕ) (w : World) (flow : Option Flow) (bytes : List ℕ) → AreOwn (send_refusals live count w flow bytes)
+own_by_send live count w None bytes = (refl, tt)
+own_by_send live count w (Some flow) bytes = (refl, (refl, (refl, (refl, (refl, (refl, (refl, tt)))))))
 
-own_by_step : (count : ℕ) (flows : List Flow) (w : World) (step : Step) → AreOwn (step_refusals count flows w step)
-own_by_step count flows w (Up u) = (refl, (refl, (refl, tt)))
-own_by_step count flows w (Down u) = (refl, (refl, (refl, tt)))
-own_by_step count flows w (Give u v) = (refl, (refl, (refl, tt)))
-own_by_step count flows w (Ask u) = (refl, (refl, (refl, tt)))
-own_by_step count flows w (Begin f bytes) = own_by_flow count w (slice_get flows f) bytes.items
-own_by_step count flows w (Send f bytes) = own_by_send count w (slice_get flows f) bytes.items
-own_by_step count flows w (Emit u) = (refl, (refl, (refl, tt)))
-own_by_step count flows w (Take u v) = (refl, (refl, (refl, tt)))
-own_by_step count flows w (Lose u v) = (refl, (refl, (refl, tt)))
-own_by_step count flows w (LateSender u) = (refl, (refl, (refl, tt)))
-own_by_step count flows w (LateReceiver u v) = (refl, (refl, (refl, tt)))
-own_by_step count flows w (Rest u) = (refl, (refl, (refl, tt)))
+own_by_step : (live : Bool) (count : ℕ) (flows : List Flow) (w : World) (step : Step) → AreOwn (step_refusals live count flows w step)
+own_by_step live count flows w (Up u) = (refl, (refl, (refl, tt)))
+own_by_step live count flows w (Down u) = (refl, (refl, (refl, tt)))
+own_by_step live count flows w (Give u v) = (refl, (refl, (refl, tt)))
+own_by_step live count flows w (Ask u) = (refl, (refl, (refl, tt)))
+own_by_step live count flows w (Begin f bytes) = own_by_flow live count w (slice_get flows f) bytes.items
+own_by_step live count flows w (Send f bytes) = own_by_send live count w (slice_get flows f) bytes.items
+own_by_step live count flows w (Emit u) = (refl, (refl, (refl, tt)))
+own_by_step live count flows w (Take u v) = (refl, (refl, (refl, tt)))
+own_by_step live count flows w (Lose u v) = (refl, (refl, (refl, tt)))
+own_by_step live count flows w (LateSender u) = (refl, (refl, (refl, tt)))
+own_by_step live count flows w (LateReceiver u v) = (refl, (refl, (refl, tt)))
+own_by_step live count flows w (Rest u) = (refl, (refl, (refl, tt)))
 
-pub own_cause : (count : ℕ) (flows : List Flow) (w : World) (step : Step) → IsOwnCause (refusal_among count flows w step)
-own_cause count flows w step = own_first (step_refusals count flows w step) (own_by_step count flows w step)
+pub own_cause : (live : Bool) (count : ℕ) (flows : List Flow) (w : World) (step : Step) → IsOwnCause (refusal_among live count flows w step)
+own_cause live count flows w step = own_first (step_refusals live count flows w step) (own_by_step live count flows w step)
 
 -- ---- the refusal of a network's step is the definition's
 pub refusal_is : (plan : Plan) (net : Network) → IsOfPlan plan net → (w : World) (step : Step)
-    → refusal plan w step ≡ refusal_among (length net.claimers.items) net.flows.items w step
-refusal_is plan net of w step = λ i. refusal_among (units_count plan net of i) (sym of.flows i) w step
+    → refusal plan w step ≡ refusal_among net.live (length net.claimers.items) net.flows.items w step
+refusal_is plan net of w step = λ i. refusal_among (sym of.live i) (units_count plan net of i) (sym of.flows i) w step
 
 -- ---- what holds of a step that is not refused
 

@@ -22,7 +22,7 @@ module _ (old : Network) (b : BusState) (is_state : bus_state old ≡ b) (step :
 
   refused_by : (plan : Plan) (w : World) (s : Stands (bus_state old) plan w) → refusal plan w step ≡ refusal_in old (histories_of w) step
   refused_by plan w s = refusal_is plan old s.planned w step
-      ∙ (λ i. refusal_among (length old.claimers.items) old.flows.items (s.world i) step)
+      ∙ (λ i. refusal_among old.live (length old.claimers.items) old.flows.items (s.world i) step)
 
   -- what a step of the network does, the bus does
   pub step_done : (new : Network) → KeepsPlan old new → IsAllowed old step → Steps old step new → (plan : Plan) (w : World) → Stands b plan w
@@ -45,7 +45,7 @@ module _ (old : Network) (b : BusState) (is_state : bus_state old ≡ b) (step :
 -- the cause is the world's, and not want of memory
 pub own_refusal : (net : Network) (step : Step) (e : StepError) → IsRefusal net step (Some e) → Some e ≡ cause_of e
 own_refusal net step e refuses =
-    subst IsOwnCause (refuses.is nowhere) (own_cause (length net.claimers.items) net.flows.items (world_in nowhere net) step)
+    subst IsOwnCause (refuses.is nowhere) (own_cause net.live (length net.claimers.items) net.flows.items (world_in nowhere net) step)
 
 -- one more step of a run
 pub runs_more : (plan : Plan) (w : World) (done : List Step) (mid : World) (step : Step) (after : World) → RunsThrough plan w done mid

@@ -26,6 +26,7 @@ steps_same plan old step new steps same = λ h held. (h, steps h, subst (HoldTak
 pub plan_kept : (old new : Network) (plan : Plan) → KeepsPlan old new → IsOfPlan plan old → IsOfPlan plan new
 plan_kept old new plan keeps of = record {
   units = keeps.planned_units ∙ of.units;
+  live = keeps.live ∙ of.live;
   flows = keeps.flows ∙ of.flows;
   windows = keeps.windows ∙ of.windows;
 }
@@ -36,6 +37,7 @@ module _ (old new : Network) (same : IsSameNetwork old new) where
   state_is = λ i. record {
     units = same.claimers i;
     claims = same.claims i;
+    live = same.live i;
     flows = same.flows i;
     sessions = same.sessions i;
     wire = same.wire i;
@@ -51,7 +53,7 @@ module _ (old new : Network) (same : IsSameNetwork old new) where
   held_same h held = subst (HoldTaken h.taken) (sym same.receivers) held
 
   pub plan_same : KeepsPlan old new
-  plan_same = record { planned_units = ap planned_units same.claimers; flows = same.flows; windows = ap (λ r. r.windows) same.receivers }
+  plan_same = record { planned_units = ap planned_units same.claimers; live = same.live; flows = same.flows; windows = ap (λ r. r.windows) same.receivers }
 
   pub steps_after : (plan : Plan) (step : Step) (after : Network) → HasStepped plan new step after → HasStepped plan old step after
   steps_after plan step after steps h held =

@@ -1,14 +1,14 @@
--- A unit that is switched on or off.
+-- A unit that is switched on.
 use Rattle.std.proofs.Common.{◌≡◌, ℕ, ◌<◌, List, length, get_or, set, sym, ap, ◌∙◌, Option}
 use Rattle.j39_claim.specs.declared.item.Say.{Say}
 use Rattle.j39_claim.specs.declared.item.Say.TheVariants.{Claim}
-use Rattle.j39_claim.specs.ClaimRule.{PlannedUnit, off, said_by, started}
+use Rattle.j39_claim.specs.ClaimRule.{PlannedUnit, said_by, started}
 use Rattle.j39_claim.specs.ClaimerValue.{ClaimerValue}
-use Rattle.j39_world.specs.PlannedUnits.{unit_at}
+use Rattle.j39_findings.specs.PlannedUnits.{unit_at}
 use Rattle.j39_world.specs.Sent.{Sent}
 use Rattle.j39_world.specs.Transfers.{Wire}
 use Rattle.j39_world.specs.World.{World, Undelivered, changed}
-use Rattle.j39_world.specs.ClaimSteps.{answer_items, tell, switched_on, switched_off, without_lists_to}
+use Rattle.j39_world.specs.ClaimSteps.{answer_items, tell, switched_on, without_lists_to}
 use Rattle.j39_bus.specs.Stations.{absent_unit, station_at}
 use Rattle.j39_bus.specs.inside.Network.{planned_units}
 use Rattle.j39_bus.proofs.Worlds.{any_default, planned_units-set, unit_at-planned_units, world, world_set}
@@ -39,20 +39,3 @@ module _ (cs : List ClaimerValue) (u : ℕ) (inside : u < length cs) (old new : 
       (λ i. world b (set cs u new) (left_is i) fs) ∙ world_set b cs (without_lists_to u claims) fs u new inside
       ∙ (λ i. record b { stations = changed (station_at cs) u (state i); claims = without_lists_to u claims; frames = fs }) in
       after_is ∙ (λ i. tell (planned_units_on i) (record (before i) { wire = wire_is i }) u (answer_items (says_is i)))
-
-module _ (cs : List ClaimerValue) (u : ℕ) (inside : u < length cs) (old new : ClaimerValue) (at : old ≡ get_or cs u old)
-    (stops : new ≡ record old { state = off }) where
-  pub off_planned_unit : new.planned ≡ (get_or cs u absent_unit).planned
-  off_planned_unit = ap (λ (c : ClaimerValue). c.planned) stops ∙ ap (λ (c : ClaimerValue). c.planned) (at ∙ any_default cs u old absent_unit inside)
-
-  pub planned_units_off : planned_units (set cs u new) ≡ planned_units cs
-  planned_units_off = planned_units-set cs u new off_planned_unit
-
-  pub switched_off_world : (b : World) (claims left : Undelivered) (fs : List Sent) → left ≡ without_lists_to u claims → (wire : Wire)
-      → wire ≡ without_lists_to u b.wire
-      → record (world b (set cs u new) left fs) { wire = wire } ≡ switched_off (world b cs claims fs) u
-  switched_off_world b claims left fs left_is wire wire_is =
-      let before : world b (set cs u new) left fs ≡ record b { stations = changed (station_at cs) u off; claims = without_lists_to u claims; frames = fs } =
-      (λ i. world b (set cs u new) (left_is i) fs) ∙ world_set b cs (without_lists_to u claims) fs u new inside
-      ∙ (λ i. record b { stations = changed (station_at cs) u (stops i).state; claims = without_lists_to u claims; frames = fs }) in
-      λ i. record (before i) { wire = wire_is i }

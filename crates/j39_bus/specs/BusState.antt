@@ -1,5 +1,5 @@
 -- What contracts see of a bus.
-use Rattle.std.specs.Prelude.{ℕ, List, [], slice_index_or, Option, None}
+use Rattle.std.specs.Prelude.{ℕ, Bool, List, [], slice_index_or, Option, None}
 use Rattle.j39_claim.specs.declared.item.Item.{Item}
 use Rattle.j39_claim.specs.ClaimerValue.{ClaimerValue}
 use Rattle.j39_queues.specs.Queued.{pair_in}
@@ -31,6 +31,8 @@ pub record BusState : Type 0 where
   pub units : List ClaimerValue
   -- of each unit to each, what is undelivered, the oldest first
   pub claims : List (List (List Item))
+  -- whether units are switched and ask for claims while messages are sent, and send while claims are undelivered
+  pub live : Bool
   -- what is sent by each flow
   pub flows : List Flow
   -- the message that each unit sends

@@ -6,15 +6,16 @@ use Rattle.j39_findings.specs.declared.plan.Plan.{Plan}
 use Rattle.j39_findings.specs.declared.steps.Step.{Step}
 use Rattle.j39_world.specs.declared.step_error.StepError.{StepError}
 use Rattle.j39_world.specs.declared.step_error.StepError.TheVariants.{Memory}
-use Rattle.j39_world.specs.PlannedUnits.{units_of}
+use Rattle.j39_findings.specs.PlannedUnits.{units_of}
 use Rattle.j39_world.specs.World.{World}
 use Rattle.j39_bus.specs.BusState.{BusState, ReceiverTable, histories_of, holding_at, world_of}
 use Rattle.j39_world.specs.Flows.{flows_of, windows_of}
 use Rattle.j39_world.specs.Run.{refusal, cause_of, takes_memory, RunsThrough}
 
--- the bus has the units of the plan, its flows and its windows
+-- the bus has the units of the plan, its flows and its windows, and is live where the plan is
 pub record IsPlannedBy (plan : Plan) (b : BusState) : Type 0 where
   pub units : map (λ c. c.planned) b.units ≡ units_of plan
+  pub live : b.live ≡ plan.live
   pub flows : b.flows ≡ flows_of plan
   pub windows : b.receivers.windows ≡ windows_of plan
 

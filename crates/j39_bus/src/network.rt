@@ -15,12 +15,13 @@ use j39_queues::Queues;
 use j39_world::{Flow, Wired};
 use std::alloc::AllocError;
 
-/// The units of a plan by their places, all that is undelivered of claims, the flows, the message that each unit sends, what is
-/// not taken of it, the receivers, and all messages received and all frames sent, each in order.
+/// The units of a plan by their places, all that is undelivered of claims, whether the plan's bus is live, the flows, the message
+/// that each unit sends, what is not taken of it, the receivers, and all messages received and all frames sent, each in order.
 #[derive(Drop)]
 pub(crate) struct Network {
     pub(crate) claimers: Vec<Claimer>,
     pub(crate) claims: Queues<Item>,
+    pub(crate) live: bool,
     pub(crate) flows: Vec<Flow>,
     pub(crate) sessions: Vec<Option<Session>>,
     pub(crate) wire: Queues<Wired>,

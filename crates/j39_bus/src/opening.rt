@@ -102,6 +102,7 @@ fn network_of(alloc: Global, plan: &Plan) -> Result<Network, AllocError>
     Ok(Network {
         claimers,
         claims,
+        live: plan.live,
         flows,
         sessions,
         wire,

@@ -1,11 +1,11 @@
 //! A receiver of each unit for what each other sends.
-ghost use Rattle.std.specs.Prelude.{◌≡◌, ℕ, ◌<◌, ◌≤◌, true, [], length, map, vec_capacity, OnOk, OnErr, IfOk};
+ghost use Rattle.std.specs.Prelude.{◌≡◌, ℕ, ◌<◌, ◌≤◌, true, cond, nat_eq, [], length, map, vec_capacity, OnOk, OnErr, IfOk};
 ghost use Rattle.j39_tp.specs.declared.receiving.manner.Manner.TheVariants.{Answering};
 ghost use Rattle.j39_world.specs.Flows.{window_at};
 ghost use Rattle.j39_tp.specs.Receiver.{hears, is_complete, receives, timed_out, gives_up, is_open_at, message_of};
 ghost use Rattle.j39_world.specs.World.{changed_pair};
 ghost use Rattle.j39_bus.specs.BusState.{closed, holding_at};
-ghost use Rattle.j39_bus.specs.inside.Receivers.{HasRoomFor, IsAnswering, IsReady, answering, holding_of, left_at, left_of, message_in};
+ghost use Rattle.j39_bus.specs.inside.Receivers.{HasRoomFor, IsAnswering, IsReady, answering, holding_of, left_at, left_of, message_in, without_holdings_of};
 ghost use Rattle.j39_bus.specs.inside.Receivers.{receiver_at};
 
 use crate::places::empty_places;
@@ -222,6 +222,50 @@ impl Receivers {
         let row = &mut self.rows[to];
         let slot = &mut row[from];
         late_in(slot)
+    }
+
+    // Gives up the receiver of a unit for what another sends.
+    fn close(&mut self, from: usize, to: usize)
+        requires from { from < length self.old.windows }
+        requires to { to < length self.old.windows }
+        ensures windows { self.new.windows ≡ self.old.windows }
+        ensures after { holding_at self.new.holdings ≡ changed_pair (holding_at self.old.holdings) to from closed }
+    {
+        let row = &mut self.rows[to];
+        let slot = &mut row[from];
+        *slot = None;
+    }
+
+    // Gives up the receivers of a unit.
+    fn close_for(&mut self, unit: usize)
+        requires { unit < length self.old.windows }
+        ensures windows { self.new.windows ≡ self.old.windows }
+        ensures after { holding_at self.new.holdings ≡ (λ v s. cond (nat_eq v unit) closed (holding_at self.old.holdings v s)) }
+    {
+        for from in 0..self.windows.len() {
+            self.close(from, unit);
+        }
+    }
+
+    // Gives up the receivers of others for what a unit sends.
+    fn close_to(&mut self, unit: usize)
+        requires { unit < length self.old.windows }
+        ensures windows { self.new.windows ≡ self.old.windows }
+        ensures after { holding_at self.new.holdings ≡ (λ v s. cond (nat_eq s unit) closed (holding_at self.old.holdings v s)) }
+    {
+        for to in 0..self.windows.len() {
+            self.close(unit, to);
+        }
+    }
+
+    /// A unit is off: its receivers are given up, and those of others for what it sends.
+    pub(crate) fn switch_off(&mut self, unit: usize)
+        requires { unit < length self.old.windows }
+        ensures windows { self.new.windows ≡ self.old.windows }
+        ensures after { holding_at self.new.holdings ≡ without_holdings_of unit (holding_at self.old.holdings) }
+    {
+        self.close_to(unit);
+        self.close_for(unit);
     }
 
     /// Whether the receiver of a unit for what another sends is open.

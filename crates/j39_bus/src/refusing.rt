@@ -1,5 +1,5 @@
 //! Why steps are refused.
-ghost use Rattle.std.specs.Prelude.{◌≡◌, ◌||◌, Some, length};
+ghost use Rattle.std.specs.Prelude.{◌≡◌, ◌&&◌, ◌||◌, not, Some, length};
 ghost use Rattle.j39_findings.specs.declared.steps.Step.TheVariants.{Up, Give, Ask, Emit, Take, LateSender, LateReceiver, Rest};
 ghost use Rattle.j39_world.specs.Flows.{can_be_sent, has_length};
 ghost use Rattle.j39_bus.specs.Stations.{station_at};
@@ -104,7 +104,7 @@ impl Network {
         if self.claimers[unit].is_started() {
             return Some(StepError::AlreadyStarted);
         }
-        if self.is_transfer_open() {
+        if self.waits_for_transfers() {
             return Some(StepError::TransferOpen);
         }
         None
@@ -135,7 +135,7 @@ impl Network {
         if let Some(error) = self.refusal_of_unit(unit) {
             return Some(error);
         }
-        if self.is_transfer_open() {
+        if self.waits_for_transfers() {
             return Some(StepError::TransferOpen);
         }
         None
@@ -145,7 +145,7 @@ impl Network {
     fn refusal_of_flow(&self, flow: &Flow, bytes: &[u8]) -> Option<StepError>
         requires network { IsNetwork self.now }
         requires flow { IsFlow (length self.now.claimers.items) flow.now }
-        ensures { (h : Histories) → result ≡ begin_refusal (length self.now.claimers.items) (world_in h self.now) (Some flow.now) bytes.now }
+        ensures { (h : Histories) → result ≡ begin_refusal self.now.live (length self.now.claimers.items) (world_in h self.now) (Some flow.now) bytes.now }
     {
         if !can_be_sent(flow) {
             return Some(StepError::NoSuchFlow);
@@ -153,7 +153,7 @@ impl Network {
         if !self.are_started(flow) {
             return Some(StepError::NotStarted);
         }
-        if !self.is_nothing_undelivered() {
+        if self.waits_for_claims() {
             return Some(StepError::NotSettled);
         }
         if !self.have_addresses(flow) {
@@ -247,8 +247,24 @@ impl Network {
         is_either(is_sending, is_untaken)
     }
 
+    // Whether a unit can't be switched or ask for claims yet: a transfer is open, and the bus isn't live.
+    fn waits_for_transfers(&self) -> bool
+        requires { IsNetwork self.now }
+        ensures { result ≡ (not self.now.live && is_a_transfer_open (length self.now.claimers.items) (world_in nowhere self.now)) }
+    {
+        !self.live && self.is_transfer_open()
+    }
+
+    /// Whether no unit can send yet: a claim or a request is undelivered, and the bus isn't live.
+    pub(crate) fn waits_for_claims(&self) -> bool
+        requires { IsNetwork self.now }
+        ensures { result ≡ (not self.now.live && not (is_nothing_undelivered (length self.now.claimers.items) (pair_in self.now.claims.lists))) }
+    {
+        !self.live && !self.is_nothing_undelivered()
+    }
+
     // Whether no claim and no request is undelivered.
-    pub(crate) fn is_nothing_undelivered(&self) -> bool
+    fn is_nothing_undelivered(&self) -> bool
         requires { IsNetwork self.now }
         ensures { result ≡ is_nothing_undelivered (length self.now.claimers.items) (pair_in self.now.claims.lists) }
     {

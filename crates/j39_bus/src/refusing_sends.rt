@@ -30,7 +30,7 @@ impl Network {
     fn refusal_of_frame(&self, flow: &Flow, bytes: &[u8]) -> Option<StepError>
         requires network { IsNetwork self.now }
         requires flow { IsFlow (length self.now.claimers.items) flow.now }
-        ensures { (h : Histories) → result ≡ send_refusal (length self.now.claimers.items) (world_in h self.now) (Some flow.now) bytes.now }
+        ensures { (h : Histories) → result ≡ send_refusal self.now.live (length self.now.claimers.items) (world_in h self.now) (Some flow.now) bytes.now }
     {
         if !can_be_sent(flow) {
             return Some(StepError::NoSuchFlow);
@@ -38,7 +38,7 @@ impl Network {
         if !self.are_started(flow) {
             return Some(StepError::NotStarted);
         }
-        if !self.is_nothing_undelivered() {
+        if self.waits_for_claims() {
             return Some(StepError::NotSettled);
         }
         if !self.have_addresses(flow) {

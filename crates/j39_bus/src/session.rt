@@ -1,10 +1,14 @@
 //! Messages that are sent.
-ghost use Rattle.std.specs.Prelude.{◌≡◌, ◌≤◌, length};
+ghost use Rattle.std.specs.Prelude.{◌≡◌, ◌≤◌, not, nat_eq, length};
+ghost use Rattle.std.specs.List.{filter};
 ghost use Rattle.j39_id.specs.Limits.{message_bytes};
-ghost use Rattle.j39_tp.specs.Sender.{data_next, after_packet, timeout_packet, after_timeout, outcome_of, phase_of};
+ghost use Rattle.j39_findings.specs.declared.plan.to.To.{To};
+ghost use Rattle.j39_tp.specs.declared.sending.outcome.Outcome.TheVariants.{GaveUp};
+ghost use Rattle.j39_tp.specs.Sender.{data_next, after_packet, ended, timeout_packet, after_timeout, outcome_of, phase_of};
 ghost use Rattle.j39_world.specs.Flows.{dest_of};
 ghost use Rattle.j39_bus.specs.inside.Content.{GoesTo, bytes_in, group_in, stage_in};
 ghost use Rattle.j39_world.specs.TransferSteps.{begun_stage, first_item, outgoing_hears};
+ghost use Rattle.j39_world.specs.SwitchingOff.{without_target};
 ghost use Rattle.j39_world.specs.Transfers.{is_among};
 
 use j39_findings::To;
@@ -61,6 +65,26 @@ fn is_among(targets: &[usize], unit: usize) -> bool
     ensures { result ≡ is_among targets.now unit }
 {
     targets.iter().any(|target| unit == *target)
+}
+
+// A unit is struck from these.
+fn strike(targets: &mut Vec<usize>, unit: usize)
+    ensures { targets.new.items ≡ filter (λ v. not (nat_eq v unit)) targets.old.items }
+{
+    targets.retain(|target| *target != unit);
+}
+
+// What is sent is given up without a packet, unless it has ended.
+fn give_up(content: &mut Content)
+    ensures group { group_in content.new ≡ group_in content.old }
+    ensures bytes { bytes_in content.new ≡ bytes_in content.old }
+    ensures stage { stage_in content.new ≡ (ended GaveUp (stage_in content.old)).0 }
+    ensures goes { (to : To) → GoesTo to content.old → GoesTo to content.new }
+{
+    match content {
+        Content::Short(_, _) => {}
+        Content::Long(transfer) => transfer.give_up(),
+    }
 }
 
 impl Model for Session {
@@ -176,6 +200,17 @@ impl Session {
         match &mut self.content {
             Content::Long(transfer) if hears => transfer.hear(packet),
             _ => Reaction::Nothing,
+        }
+    }
+
+    /// Goes to a unit no more, since this is off. A message to it alone is given up, unless it has ended.
+    pub(crate) fn leave_out(&mut self, unit: usize)
+        ensures { self.new ≡ without_target unit self.old }
+    {
+        strike(&mut self.targets, unit);
+        match self.to {
+            To::One(receiver) if receiver == unit => give_up(&mut self.content),
+            _ => {}
         }
     }
 

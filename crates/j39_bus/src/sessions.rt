@@ -7,6 +7,7 @@ ghost use Rattle.j39_bus.specs.inside.KeptMessages.{at_stage};
 ghost use Rattle.j39_tp.specs.Sender.{data_next, after_packet, timeout_packet, after_timeout};
 ghost use Rattle.j39_world.specs.Flows.{dest_of};
 ghost use Rattle.j39_world.specs.Run.{can_emit, is_of_group, is_waiting};
+ghost use Rattle.j39_world.specs.SwitchingOff.{session_without, sessions_without};
 ghost use Rattle.j39_world.specs.TransferSteps.{flow_in, reaction_of, session_after};
 ghost use Rattle.j39_world.specs.Transfers.{Outgoing, outcome_in};
 ghost use Rattle.j39_world.specs.World.{changed};
@@ -121,4 +122,28 @@ pub(crate) fn hear(
         Some(session) => session.hear(from, packet),
         None => Reaction::Nothing,
     }
+}
+
+// The message of a unit goes to another no more, since this is off.
+fn leave_out(sessions: &mut Vec<Option<Session>>, sender: usize, unit: usize)
+    requires { sender < length sessions.old.items }
+    ensures session { session_at sessions.new.items ≡ changed (session_at sessions.old.items) sender
+        (session_without unit (session_at sessions.old.items sender)) }
+    ensures count { length sessions.new.items ≡ length sessions.old.items }
+{
+    if let Some(session) = &mut sessions[sender] {
+        session.leave_out(unit);
+    }
+}
+
+/// A unit is off: its message is gone, and each other goes to it no more.
+pub(crate) fn switch_off(sessions: &mut Vec<Option<Session>>, unit: usize)
+    requires { unit < length sessions.old.items }
+    ensures sessions { session_at sessions.new.items ≡ sessions_without unit (session_at sessions.old.items) }
+    ensures count { length sessions.new.items ≡ length sessions.old.items }
+{
+    for sender in 0..sessions.len() {
+        leave_out(sessions, sender, unit);
+    }
+    sessions[unit] = None;
 }

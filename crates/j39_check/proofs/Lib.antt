@@ -1,4 +1,5 @@
 pub mod FindingLists
+pub mod LiveIdentifiers
 pub mod LoadReports
 pub mod OneText
 pub mod Reported

@@ -10,7 +10,7 @@ use Rattle.j39_load.specs.declared.load_finding.LoadFinding.{LoadFinding}
 use Rattle.j39_load.specs.Delays.{TellDelays}
 use Rattle.j39_load.specs.LoadFindings.{AreLoadFindings, AsksOfBus, all_findings}
 use Rattle.j39_load.specs.Asked.{Asked, asked_of, total_load}
-use Rattle.j39_load.specs.Standing.{TellsWhoStays}
+use Rattle.j39_findings.specs.Standing.{TellsWhoStays}
 use Rattle.j39_check.specs.CheckText.{IsReport, findings_text}
 use Rattle.j39_check.specs.LoadText.{IsLoadReport, TellsLoads, load_verdict, tells_times, untold_text}
 use Rattle.j39_check.specs.LoadLines.{loads_text}

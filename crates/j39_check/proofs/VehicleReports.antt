@@ -60,6 +60,7 @@ vehicle_of_vehicle plan vehicle other first second = record {
   boxes = boxes_of_boxes plan.units.items vehicle.units.items other.units.items first.boxes second.boxes;
   keep_free = second.keep_free ∙ first.keep_free;
   strangers = second.strangers ∙ first.strangers;
+  live = second.live ∙ first.live;
   timing = second.timing ∙ first.timing;
   groups = second.groups ∙ first.groups;
   flows = second.flows ∙ first.flows;

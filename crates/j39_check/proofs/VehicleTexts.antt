@@ -9,7 +9,7 @@ use Rattle.j39_findings.specs.Found.{is_unmet}
 use Rattle.j39_findings.specs.VehiclePlans.{IsBoxOf, IsVehicleOf}
 use Rattle.j39_findings.specs.declared.checking.finding.Finding.{Finding}
 use Rattle.j39_findings.specs.declared.checking.finding.Finding.TheVariants.{SameName, SameFixedAddress, TooFewAddresses, BadPgn, SamePgn, SignalWidth, SignalOutside, SignalOverlap, FlowToOne, FlowToSelf, FlowRepeated, KeptAddress, PrivateUnsent, RecordOverlap, TextOutside, NeedUnmet}
-use Rattle.j39_findings.specs.declared.checking.finding.Finding.TheVariants.{RequestUnanswered, RequestUnheard, AnswerAstray, WhenOutside, RequestRepeated, SilentAddress, SilentInPool}
+use Rattle.j39_findings.specs.declared.checking.finding.Finding.TheVariants.{RequestUnanswered, RequestUnheard, AnswerAstray, WhenOutside, RequestRepeated, SilentAddress, SilentInPool, FlowContested}
 use Rattle.j39_findings.specs.declared.plan.Plan.{Plan}
 use Rattle.j39_findings.specs.declared.plan.flow_plan.FlowPlan.{FlowPlan}
 use Rattle.j39_findings.specs.declared.plan.group_plan.GroupPlan.{GroupPlan}
@@ -23,7 +23,7 @@ use Rattle.j39_findings.specs.declared.plan.to.To.TheVariants.{All, One}
 use Rattle.j39_findings.specs.declared.plan.unit_plan.UnitPlan.{UnitPlan}
 use Rattle.j39_findings.specs.declared.steps.Step.{Step}
 use Rattle.j39_findings.specs.declared.steps.Step.TheVariants.{Up, Down, Give, Ask, Begin, Send, Emit, Take, Lose, LateSender, LateReceiver, Rest}
-use Rattle.j39_findings.proofs.Vehicles.{AreBoth, both_at}
+use Rattle.j39_findings.proofs.VehicleUnits.{AreBoth, both_at}
 use Rattle.j39_load.specs.declared.delay.Delay.{Delay}
 use Rattle.j39_load.specs.declared.flow_load.FlowLoad.{FlowLoad}
 use Rattle.j39_load.specs.declared.load_finding.LoadFinding.{LoadFinding}
@@ -152,6 +152,7 @@ module _ (plan vehicle : Plan) (is : IsVehicleOf plan vehicle) where
   finding_text_same (RequestRepeated r s) = refl
   finding_text_same (SilentAddress u v) = rw (units_text_same (codes "F26 SilentAddress ") u v, unit_address_same u) refl
   finding_text_same (SilentInPool u) = rw (unit_label_same u, unit_address_same u) refl
+  finding_text_same (FlowContested f) = refl
 
   step_unit_same : (word : List ℕ) (u : ℕ) → step_unit_text word vehicle u ≡ step_unit_text word plan u
   unfolding step_unit_text
@@ -200,12 +201,12 @@ module _ (plan vehicle : Plan) (is : IsVehicleOf plan vehicle) where
     pub findings_text_same : (findings : List Finding) (others : List LoadFinding) → findings_text vehicle findings others ≡ findings_text plan findings others
     unfolding findings_text
     findings_text_same findings others =
-        rw (finding_lines_same 1 16 findings, finding_lines_same 19 20 findings, finding_lines_same 21 28 findings) refl
+        rw (finding_lines_same 1 16 findings, finding_lines_same 19 20 findings, finding_lines_same 21 29 findings) refl
 
     pub untold_text_same : (findings : List Finding) (others : List LoadFinding) → untold_text vehicle findings others ≡ untold_text plan findings others
     unfolding untold_text untold_lines
     untold_text_same findings others =
-        rw (finding_lines_same 1 16 findings, finding_lines_same 19 20 findings, finding_lines_same 21 28 findings) refl
+        rw (finding_lines_same 1 16 findings, finding_lines_same 19 20 findings, finding_lines_same 21 29 findings) refl
 
   pub ok_line_same : ok_line vehicle ≡ ok_line plan
   unfolding ok_line

@@ -5,10 +5,11 @@ use Rattle.j39_findings.specs.declared.plan.unit_plan.UnitPlan.{UnitPlan}
 use Rattle.j39_findings.specs.declared.checking.finding.Finding.{Finding}
 use Rattle.j39_findings.specs.declared.checking.finding.Finding.TheVariants.{SameName, SameFixedAddress, TooFewAddresses, KeptAddress, SilentAddress, SilentInPool}
 use Rattle.j39_findings.specs.Findings.{Holds}
-use Rattle.j39_load.specs.Standing.{TellsWhoStays}
-use Rattle.j39_world.specs.PlannedUnits.{units_of}
+use Rattle.j39_findings.specs.Standing.{TellsWhoStays}
+use Rattle.j39_findings.specs.PlannedUnits.{units_of}
 use Rattle.j39_world.specs.SoundPlan.{Always, AlwaysBeside}
-use Rattle.j39_world.specs.Staying.{HoldsPlanned, StaysBeside}
+use Rattle.j39_findings.specs.Staying.{StaysBeside}
+use Rattle.j39_world.specs.HeldAddresses.{HoldsPlanned}
 use Rattle.j39_check.specs.CheckText.{IsReport}
 use Rattle.j39_check.specs.PlanText.{IsReportedText}
 use Rattle.j39_text.specs.Texts.{field}

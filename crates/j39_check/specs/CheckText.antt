@@ -26,7 +26,7 @@ findings_text plan findings others = finding_lines 1 16 plan findings
     ++ (load_finding_lines 16 19 others
     ++ (finding_lines 19 20 plan findings
     ++ (load_finding_lines 20 21 others
-    ++ (finding_lines 21 28 plan findings
+    ++ (finding_lines 21 29 plan findings
     ++ (field (codes "findings ") (length findings + length others) ++ 10 ∷ [])))))
 
 -- what is written for a plan, with the verdict: one in which nothing is wrong is sound, and its frames

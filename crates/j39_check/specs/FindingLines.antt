@@ -9,7 +9,7 @@ use Rattle.j39_findings.specs.declared.plan.Plan.{Plan}
 use Rattle.j39_findings.specs.declared.checking.finding.Finding.{Finding}
 use Rattle.j39_findings.specs.declared.checking.finding.Finding.TheVariants.{SameName, SameFixedAddress, TooFewAddresses, BadPgn, SamePgn, SignalWidth, SignalOutside, SignalOverlap, FlowToOne, FlowToSelf, FlowRepeated, KeptAddress, PrivateUnsent, RecordOverlap, TextOutside, NeedUnmet}
 use Rattle.j39_findings.specs.declared.checking.finding.Finding.TheVariants.{RequestUnanswered, RequestUnheard, AnswerAstray, WhenOutside, RequestRepeated}
-use Rattle.j39_findings.specs.declared.checking.finding.Finding.TheVariants.{SilentAddress, SilentInPool}
+use Rattle.j39_findings.specs.declared.checking.finding.Finding.TheVariants.{SilentAddress, SilentInPool, FlowContested}
 use Rattle.j39_text.specs.Labels.{group_label, group_pgn, group_selector_end, group_text, signal_bits, signal_end, signal_label, text_end, text_label, unit_address, unit_label, units_text}
 use Rattle.j39_text.specs.Texts.{field, place_field}
 use Rattle.j39_schedule.specs.Schedule.{read_as, readings_of}
@@ -46,6 +46,7 @@ finding_text plan (WhenOutside g) = group_text (codes "F24 WhenOutside ") plan g
 finding_text plan (RequestRepeated r s) = place_field (codes "F25 RequestRepeated ") r ++ place_field (codes " ") s
 finding_text plan (SilentAddress u v) = units_text (codes "F26 SilentAddress ") plan u v ++ field (codes " ") (unit_address plan u)
 finding_text plan (SilentInPool u) = codes "F27 SilentInPool " ++ (unit_label plan u ++ field (codes " ") (unit_address plan u))
+finding_text plan (FlowContested f) = place_field (codes "F28 FlowContested ") f
 
 -- ---- all of them
 

@@ -41,7 +41,7 @@ unfoldable pub untold_lines : Plan → List Finding → List LoadFinding → Lis
 untold_lines plan findings others = finding_lines 1 16 plan findings
     ++ (load_finding_lines 16 17 others
     ++ (finding_lines 19 20 plan findings
-    ++ (finding_lines 21 28 plan findings
+    ++ (finding_lines 21 29 plan findings
     ++ (field (codes "findings ") (untold_count findings others) ++ 10 ∷ []))))
 
 -- where there are any

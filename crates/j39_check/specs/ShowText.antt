@@ -249,7 +249,8 @@ request_lines plan r request =
 
 unfoldable pub top_lines : Plan → List ℕ
 top_lines plan =
-    kept_lines plan.keep_free 120 ++ (value_line at.Top key.Strangers (decimal plan.strangers) ++ timing_lines plan.timing)
+    kept_lines plan.keep_free 120 ++ (value_line at.Top key.Strangers (decimal plan.strangers)
+    ++ (truth_line at.Top key.Live plan.live ++ timing_lines plan.timing))
 
 unfoldable pub show_text : Plan → List ℕ
 show_text plan =

@@ -227,6 +227,7 @@ fn write_finding(text: &mut TextBuffer, plan: &Plan, finding: Finding) -> Result
         Finding::RequestRepeated(r, s) => write_request_repeated(text, plan, r, s),
         Finding::SilentAddress(u, v) => write_silent_address(text, plan, u, v),
         Finding::SilentInPool(u) => write_silent_in_pool(text, plan, u),
+        Finding::FlowContested(f) => text.place("F28 FlowContested ", f),
     }
 }
 

@@ -6,6 +6,7 @@ mod certificate;
 mod check;
 mod finding_lines;
 mod laws;
+mod live_identifiers;
 mod load;
 mod load_lines;
 mod load_report;
@@ -24,6 +25,7 @@ pub use laws::{
     addresses_have_one_text, check_has_one_text, load_has_one_text, serial_numbers_change_no_text,
     show_has_one_text, written_runs_read_back, written_runs_show_the_conflict,
 };
+pub use live_identifiers::live_flows_have_different_identifiers;
 pub use load::load_text;
 pub use plan_file::plan_text;
 pub use show::show_text;

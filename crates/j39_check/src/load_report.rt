@@ -64,7 +64,7 @@ fn write_untold_lines(
     write_lines(alloc, text, plan, findings, 1, 16)?;
     write_load_findings(text, others, 16, 17)?;
     write_lines(alloc, text, plan, findings, 19, 20)?;
-    write_lines(alloc, text, plan, findings, 21, 28)?;
+    write_lines(alloc, text, plan, findings, 21, 29)?;
     text.field("findings ", count)?;
     text.end_line()
 }

@@ -16,7 +16,7 @@ use j39_plan::{Key, Table};
 use j39_text::TextBuffer;
 use std::alloc::AllocError;
 use units::write_units;
-use values::write_number;
+use values::{write_number, write_truth};
 
 // An address that is kept free.
 #[tactic(auto, unfolding(crate::specs::ShowText::kept_line))]
@@ -113,6 +113,7 @@ fn write_top(text: &mut TextBuffer, plan: &Plan) -> Result<(), AllocError>
 {
     write_all_kept(text, &plan.keep_free)?;
     write_number(text, Table::Top, Key::Strangers, plan.strangers)?;
+    write_truth(text, Table::Top, Key::Live, plan.live)?;
     write_timing(text, plan.timing)
 }
 

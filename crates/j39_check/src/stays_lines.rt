@@ -1,10 +1,9 @@
 //! The lines that say which units of a plan stay.
 ghost use Rattle.std.specs.Prelude.{◌≡◌, ◌++◌, OnOk};
 ghost use Rattle.j39_check.specs.AddressesText.{stays_text, stays_word, staying_line, staying_lines};
-ghost use Rattle.j39_load.specs.Standing.{stays_of};
+ghost use Rattle.j39_findings.specs.Standing.{stays_of};
 
-use j39_findings::UnitPlan;
-use j39_load::Standing;
+use j39_findings::{Standing, UnitPlan};
 use j39_text::TextBuffer;
 use std::alloc::AllocError;
 

@@ -7,7 +7,7 @@ use Rattle.std.proofs.lemmas.Option.{slice_get-get_or}
 use Rattle.j39_findings.specs.Adding.{Adds}
 use Rattle.j39_findings.specs.ListPlaces.{in_each, each, pairs, found_if}
 use Rattle.j39_findings.specs.Found.{unit_findings, group_findings, signal_findings, flow_findings, kept_findings, unsent_findings, record_findings, text_findings, need_findings, request_findings, found}
-use Rattle.j39_findings.specs.Found.{silent_findings}
+use Rattle.j39_findings.specs.Found.{silent_findings, contested_findings}
 use Rattle.j39_findings.specs.Findings.{Clean}
 use Rattle.j39_findings.specs.declared.checking.finding.Finding.{Finding}
 use Rattle.j39_findings.specs.declared.plan.Plan.{Plan}
@@ -153,10 +153,20 @@ silent_some plan some =
     (some_right (unsent_findings plan.groups.items plan.flows.items) _
     (some_right (record_findings plan.groups.items) _ (some_right (text_findings plan.groups.items) _
     (some_right (need_findings plan.requests.items plan.flows.items plan.needs.items) _
-    (some_right (request_findings plan.groups.items plan.flows.items plan.requests.items) _ some)))))))
+    (some_right (request_findings plan.groups.items plan.flows.items plan.requests.items) _ (some_left _ _ some))))))))
+
+pub contested_some : (plan : Plan) → contested_findings plan.live plan.keep_free plan.strangers plan.units.items plan.flows.items ≢ [] → found plan ≢ []
+contested_some plan some =
+    rest_some plan (some_right (flow_findings plan.groups.items plan.flows.items) _
+    (some_right (kept_findings plan.keep_free plan.units.items) _
+    (some_right (unsent_findings plan.groups.items plan.flows.items) _
+    (some_right (record_findings plan.groups.items) _ (some_right (text_findings plan.groups.items) _
+    (some_right (need_findings plan.requests.items plan.flows.items plan.needs.items) _
+    (some_right (request_findings plan.groups.items plan.flows.items plan.requests.items) _
+    (some_right (silent_findings plan.keep_free plan.strangers plan.units.items) _ some))))))))
 
 -- the parts one after another, each added behind those before it, are the whole list
-pub whole_list : (plan : Plan) (units groups signals flows kept unsent records texts needs requests silent : List Finding)
+pub whole_list : (plan : Plan) (units groups signals flows kept unsent records texts needs requests silent contested : List Finding)
     → units ≡ unit_findings plan.keep_free plan.strangers plan.units.items
     → groups ≡ units ++ group_findings plan.groups.items plan.flows.items
     → signals ≡ groups ++ signal_findings plan.groups.items
@@ -168,7 +178,8 @@ pub whole_list : (plan : Plan) (units groups signals flows kept unsent records t
     → needs ≡ texts ++ need_findings plan.requests.items plan.flows.items plan.needs.items
     → requests ≡ needs ++ request_findings plan.groups.items plan.flows.items plan.requests.items
     → silent ≡ requests ++ silent_findings plan.keep_free plan.strangers plan.units.items
-    → silent ≡ found plan
+    → contested ≡ silent ++ contested_findings plan.live plan.keep_free plan.strangers plan.units.items plan.flows.items
+    → contested ≡ found plan
 unfolding found
-whole_list plan units groups signals flows kept unsent records texts needs requests silent a b c d e f g h i j k =
-    rw (k, j, i, h, g, f, e, d, c, b, a) (simp append_assoc)
+whole_list plan units groups signals flows kept unsent records texts needs requests silent contested a b c d e f g h i j k l =
+    rw (l, k, j, i, h, g, f, e, d, c, b, a) (simp append_assoc)

@@ -23,14 +23,15 @@ use Rattle.j39_findings.specs.SignalPlaces.{room_of_signal}
 use Rattle.j39_signal.specs.Selectors.{selector_end}
 use Rattle.j39_findings.specs.Findings.{IsServed, GoesUnanswered, GoesUnheard, IsAnsweredAstray, AskTheSame}
 use Rattle.j39_findings.specs.CleanParts.{CanBePlanned, IsAnsweredWell, LiesInside, CleanParts}
-use Rattle.j39_findings.specs.declared.checking.finding.Finding.TheVariants.{SilentAddress, SilentInPool}
-use Rattle.j39_findings.specs.Findings.{IsSilentInPool}
+use Rattle.j39_findings.specs.declared.checking.finding.Finding.TheVariants.{SilentAddress, SilentInPool, FlowContested}
+use Rattle.j39_findings.specs.Findings.{IsFlowContested, IsSilentInPool}
 use Rattle.j39_findings.specs.CleanParts.{IsUnreached}
 use Rattle.j39_findings.specs.Lengths.{IsLengthOf}
 use Rattle.j39_findings.specs.TextPlaces.{last_byte}
 use Rattle.j39_findings.specs.Records.{signals_in}
 use Rattle.j39_findings.proofs.RecordBits.{IsApart, bits_once, laid_with_records}
 use Rattle.j39_findings.proofs.Boxes.{names_apart}
+use Rattle.j39_findings.proofs.WhoIsAlone.{Decides-alone}
 use Rattle.j39_findings.proofs.Deciding.{Decides-differ_in_value, Decides-is_pgn, Decides-is_proprietary, Decides-sends_some, Decides-some_meets}
 use Rattle.j39_findings.proofs.Deciding.{Decides-is_served, Decides-is_served_to_one, Decides-is_served_to_all, asks_one_or_all, served_to_one, served_to_all}
 
@@ -224,4 +225,8 @@ parts_of plan clean = record {
       no_pair_at _ plan.units.items (λ k l. clean (SilentAddress k l)) i j d below less (same, silent);
   unreached = λ i d less silent. unreached plan (get_or plan.units.items i d) silent
       (none_at _ plan.units.items (λ k. clean (SilentInPool k)) i d less);
+  senders_alone = λ live f d less. by_test _ _ (Decides-alone plan (get_or plan.flows.items f d).sender)
+      (λ none. none_at (IsFlowContested plan) plan.flows.items (λ k. clean (FlowContested k)) f d less (live, inl none));
+  receivers_alone = λ live f d less r to. by_test _ _ (Decides-alone plan r)
+      (λ none. none_at (IsFlowContested plan) plan.flows.items (λ k. clean (FlowContested k)) f d less (live, inr (r, to, none)));
 }

@@ -11,9 +11,9 @@ use Rattle.j39_findings.specs.declared.checking.finding.Finding.{Finding}
 use Rattle.j39_findings.specs.declared.checking.finding.Finding.TheVariants.{SameName, SameFixedAddress, TooFewAddresses, BadPgn, SamePgn, SignalWidth}
 use Rattle.j39_findings.specs.declared.checking.finding.Finding.TheVariants.{SignalOutside, SignalOverlap, FlowToOne, FlowToSelf, FlowRepeated, KeptAddress, PrivateUnsent, RecordOverlap, TextOutside, NeedUnmet}
 use Rattle.j39_findings.specs.declared.checking.finding.Finding.TheVariants.{RequestUnanswered, RequestUnheard, AnswerAstray, WhenOutside, RequestRepeated}
-use Rattle.j39_findings.specs.declared.checking.finding.Finding.TheVariants.{SilentAddress, SilentInPool}
+use Rattle.j39_findings.specs.declared.checking.finding.Finding.TheVariants.{SilentAddress, SilentInPool, FlowContested}
 use Rattle.j39_findings.specs.declared.steps.Step.{Step}
-use Rattle.j39_findings.specs.Kinds.{kind_of_name, MayBeOne}
+use Rattle.j39_findings.specs.Kinds.{MayBeOne}
 use Rattle.j39_findings.specs.Findings.{HaveSameFixedAddress}
 use Rattle.j39_findings.specs.ConflictRuns.{conflict_steps, AreInConflict, TellsOfConflict, IsConflictRun, are_in_conflict}
 use Rattle.j39_findings.specs.ConflictRuns.{steps_between, run_of_units, run_of_places, conflict_run, RunsAreExact}
@@ -107,6 +107,7 @@ sound plan (WhenOutside g) steps is = cc
 sound plan (RequestRepeated r s) steps is = cc
 sound plan (SilentAddress u v) steps is = cc
 sound plan (SilentInPool u) steps is = cc
+sound plan (FlowContested f) steps is = cc
 
 given : (plan : Plan) (i j : ℕ) (u v : UnitPlan) → slice_get plan.units.items i ≡ Some u → slice_get plan.units.items j ≡ Some v → i < j
     → HaveSameFixedAddress u v × (¬ MayBeOne u v) → run_of_places plan i j ≡ Some (steps_between i j u v)

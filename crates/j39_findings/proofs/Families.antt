@@ -13,22 +13,23 @@ use Rattle.j39_findings.specs.declared.checking.finding.Finding.{Finding}
 use Rattle.j39_findings.specs.declared.checking.finding.Finding.TheVariants.{SameName, SameFixedAddress, TooFewAddresses, BadPgn, SamePgn, SignalWidth}
 use Rattle.j39_findings.specs.declared.checking.finding.Finding.TheVariants.{SignalOutside, SignalOverlap, FlowToOne, FlowToSelf, FlowRepeated, KeptAddress, PrivateUnsent, RecordOverlap, TextOutside, NeedUnmet}
 use Rattle.j39_findings.specs.declared.checking.finding.Finding.TheVariants.{RequestUnanswered, RequestUnheard, AnswerAstray, WhenOutside, RequestRepeated}
-use Rattle.j39_findings.specs.declared.checking.finding.Finding.TheVariants.{SilentAddress, SilentInPool}
+use Rattle.j39_findings.specs.declared.checking.finding.Finding.TheVariants.{SilentAddress, SilentInPool, FlowContested}
 use Rattle.j39_findings.specs.ListPlaces.{found_if, in_each, each, pairs, ValueAt, PairAt}
 use Rattle.j39_claim.specs.AddressSets.{free_count}
 use Rattle.j39_findings.specs.Kinds.{MayBeOne}
 use Rattle.j39_findings.specs.Findings.{HaveSameFixedAddress, HasBadPgn, HaveSamePgn, CannotGoToOne}
 use Rattle.j39_findings.specs.Findings.{EndsOutside, GoesToItsSender, AreOneFlow, Holds, PrefersKept, IsPrivateUnsent, IsOutside, IsUnmet, IsBefore, IsBelow, finding_number, places_of}
 use Rattle.j39_findings.specs.Findings.{GoesUnanswered, GoesUnheard, IsAnsweredAstray, AskTheSame, IsSelectorInside}
-use Rattle.j39_findings.specs.Findings.{HaveSilentAddress, IsSilentInPool}
+use Rattle.j39_findings.specs.Findings.{HaveSilentAddress, IsSilentInPool, IsFlowContested}
 use Rattle.j39_findings.specs.Records.{record_count}
-use Rattle.j39_findings.specs.Found.{silent_findings}
+use Rattle.j39_findings.specs.Found.{silent_findings, contested_findings, is_unit_alone}
 use Rattle.j39_findings.specs.Found.{needed_addresses, needs_pool_address, too_few_addresses, unit_findings, group_findings, has_other_width}
 use Rattle.j39_findings.specs.Found.{ends_outside, lies_outside, overlap_findings, signal_findings, flow_findings, kept_findings, unsent_findings, overlaps_of, group_overlaps, do_records_meet, record_findings, text_findings, need_findings, request_findings}
 use Rattle.j39_findings.proofs.Meeting.{of_signal_made, of_group_overlaps}
 use Rattle.j39_findings.proofs.Members.{of_in_each, of_found_if, of_each, of_pairs}
 use Rattle.j39_findings.proofs.Rising.{Rises, Rises-append, Rises-found_if, Rises-in_each, Rises-each, Rises-pairs}
 use Rattle.j39_findings.proofs.Deciding.{Decides-may_be_one, Decides-have_same_fixed_address, Decides-needs_pool_address, Decides-has_bad_pgn, passing_meet}
+use Rattle.j39_findings.proofs.WhoIsAlone.{alone_by_list, Decides-contested}
 use Rattle.j39_findings.proofs.Deciding.{Decides-have_silent_address, Decides-is_silent_in_pool}
 use Rattle.j39_findings.proofs.Deciding.{Decides-have_same_pgn, Decides-has_other_width, Decides-ends_outside, Decides-shares_bit}
 use Rattle.j39_findings.proofs.Deciding.{Decides-cannot_go_to_one, Decides-goes_to_its_sender, Decides-are_one_flow, Decides-prefers_kept, Decides-is_private_unsent, Decides-lies_outside, Decides-is_unmet}
@@ -349,3 +350,18 @@ silent_covered plan =
     (pairs_family plan 26 HaveSilentAddress Decides-have_silent_address SilentAddress units (λ i j h. h) (λ i j. record { number = refl; places = refl }))
     (each_family plan 27 (IsSilentInPool kept plan.strangers) (Decides-is_silent_in_pool kept plan.strangers) SilentInPool units (λ i h. h)
     (λ i. record { number = refl; places = refl }))
+
+-- ---- ends of flows on a live bus
+
+live_covered : (plan : Plan) (live : Bool) → plan.live ≡ live
+    → Covers plan 28 28 (contested_findings live plan.keep_free plan.strangers plan.units.items plan.flows.items)
+unfolding contested_findings
+live_covered plan true live =
+    each_family plan 28 (IsFlowContested plan)
+    (Decides-contested plan (is_unit_alone plan.keep_free plan.strangers plan.units.items) (alone_by_list plan) live) FlowContested plan.flows.items (λ f h. h)
+    (λ f. record { number = refl; places = refl })
+live_covered plan false none = family plan 28 [] (λ f h. absurd (omega arith)) tt
+
+pub contested_covered : (plan : Plan)
+    → Covers plan 28 28 (contested_findings plan.live plan.keep_free plan.strangers plan.units.items plan.flows.items)
+contested_covered plan = live_covered plan plan.live refl

@@ -1,5 +1,5 @@
 -- The list of findings has exactly what holds, in order.
-use Rattle.std.proofs.Common.{◌≡◌, ℕ, ◌<◌, ◌⊎◌, List, [], ◌∷◌, ◌++◌, Some, Contains, refl, sym, ap, ◌∙◌, ◌+◌, subst, inl, inr, arith}
+use Rattle.std.proofs.Common.{◌≡◌, ℕ, true, ◌<◌, ◌⊎◌, List, [], ◌∷◌, ◌++◌, Some, Contains, if◌then◌else◌, refl, sym, ap, ◌∙◌, ◌+◌, subst, inl, inr, arith}
 use Rattle.std.specs.List.{slice_get}
 use Rattle.std.proofs.lemmas.Bool.Decides.{Decides-ltb}
 use Rattle.std.proofs.lemmas.List.Elements.{Contains-append_left, Contains-append_right}
@@ -10,7 +10,7 @@ use Rattle.j39_findings.specs.declared.checking.finding.Finding.{Finding}
 use Rattle.j39_findings.specs.declared.checking.finding.Finding.TheVariants.{SameName, SameFixedAddress, TooFewAddresses, BadPgn, SamePgn, SignalWidth}
 use Rattle.j39_findings.specs.declared.checking.finding.Finding.TheVariants.{SignalOutside, SignalOverlap, FlowToOne, FlowToSelf, FlowRepeated, KeptAddress, PrivateUnsent, RecordOverlap, TextOutside, NeedUnmet}
 use Rattle.j39_findings.specs.declared.checking.finding.Finding.TheVariants.{RequestUnanswered, RequestUnheard, AnswerAstray, WhenOutside, RequestRepeated}
-use Rattle.j39_findings.specs.declared.checking.finding.Finding.TheVariants.{SilentAddress, SilentInPool}
+use Rattle.j39_findings.specs.declared.checking.finding.Finding.TheVariants.{SilentAddress, SilentInPool, FlowContested}
 use Rattle.j39_findings.specs.ListPlaces.{in_each, each, pairs}
 use Rattle.j39_claim.specs.AddressSets.{free_count}
 use Rattle.j39_findings.specs.Kinds.{MayBeOne, may_be_one}
@@ -22,8 +22,8 @@ use Rattle.j39_findings.specs.Findings.{IsSelectorInside}
 use Rattle.j39_findings.specs.Found.{have_same_fixed_address, needed_addresses, too_few_addresses, unit_findings, has_bad_pgn, have_same_pgn}
 use Rattle.j39_findings.specs.Found.{group_findings, width_findings, outside_findings, overlap_findings, signal_findings, cannot_go_to_one}
 use Rattle.j39_findings.specs.Found.{goes_to_its_sender, are_one_flow, flow_findings, prefers_kept, kept_findings, is_private_unsent, unsent_findings, group_overlaps, record_findings, outside_text_findings, text_findings, is_unmet, need_findings, found}
-use Rattle.j39_findings.specs.Findings.{HaveSilentAddress, IsSilentInPool}
-use Rattle.j39_findings.specs.Found.{have_silent_address, is_silent_in_pool, silent_findings}
+use Rattle.j39_findings.specs.Findings.{HaveSilentAddress, IsSilentInPool, IsFlowContested}
+use Rattle.j39_findings.specs.Found.{have_silent_address, is_silent_in_pool, silent_findings, contested_findings, is_unit_alone, is_contested}
 use Rattle.j39_findings.proofs.Meeting.{group_overlaps_of}
 use Rattle.j39_findings.proofs.Members.{in_each_of, found_if_of, each_of, pairs_of}
 use Rattle.j39_findings.proofs.Rising.{AllPairs-from_Rises}
@@ -32,21 +32,23 @@ use Rattle.j39_findings.proofs.Deciding.{Decides-have_silent_address, Decides-is
 use Rattle.j39_findings.proofs.Deciding.{Decides-have_same_pgn, Decides-has_other_width, Decides-ends_outside, Decides-shares_bit}
 use Rattle.j39_findings.proofs.Deciding.{Decides-cannot_go_to_one, Decides-goes_to_its_sender, Decides-are_one_flow, Decides-prefers_kept, Decides-is_private_unsent, Decides-lies_outside, Decides-is_unmet}
 use Rattle.j39_findings.proofs.Deciding.{Decides-goes_unanswered, Decides-goes_unheard, Decides-is_answered_astray, Decides-ask_the_same, Decides-is_selector_outside}
-use Rattle.j39_findings.proofs.Families.{Covers, Covers-append, units_covered, groups_covered, signals_covered, flows_covered, kept_covered, unsent_covered, records_covered, texts_covered, needs_covered, requests_covered, silent_covered}
+use Rattle.j39_findings.proofs.Families.{Covers, Covers-append, units_covered, groups_covered, signals_covered, flows_covered, kept_covered, unsent_covered, records_covered, texts_covered, needs_covered, requests_covered, silent_covered, contested_covered}
+use Rattle.j39_findings.proofs.WhoIsAlone.{alone_by_list, Decides-contested}
 
-found_covered : (plan : Plan) → Covers plan 1 27 (found plan)
+found_covered : (plan : Plan) → Covers plan 1 28 (found plan)
 unfolding found
 found_covered plan =
-    Covers-append plan 1 3 4 27 _ _ (omega arith) (omega arith) (omega arith) (units_covered plan)
-    (Covers-append plan 4 5 6 27 _ _ (omega arith) (omega arith) (omega arith) (groups_covered plan)
-    (Covers-append plan 6 8 9 27 _ _ (omega arith) (omega arith) (omega arith) (signals_covered plan)
-    (Covers-append plan 9 11 12 27 _ _ (omega arith) (omega arith) (omega arith) (flows_covered plan)
-    (Covers-append plan 12 12 13 27 _ _ (omega arith) (omega arith) (omega arith) (kept_covered plan)
-    (Covers-append plan 13 13 14 27 _ _ (omega arith) (omega arith) (omega arith) (unsent_covered plan)
-    (Covers-append plan 14 14 15 27 _ _ (omega arith) (omega arith) (omega arith) (records_covered plan)
-    (Covers-append plan 15 15 19 27 _ _ (omega arith) (omega arith) (omega arith) (texts_covered plan)
-    (Covers-append plan 19 19 21 27 _ _ (omega arith) (omega arith) (omega arith) (needs_covered plan)
-    (Covers-append plan 21 25 26 27 _ _ (omega arith) (omega arith) (omega arith) (requests_covered plan) (silent_covered plan))))))))))
+    Covers-append plan 1 3 4 28 _ _ (omega arith) (omega arith) (omega arith) (units_covered plan)
+    (Covers-append plan 4 5 6 28 _ _ (omega arith) (omega arith) (omega arith) (groups_covered plan)
+    (Covers-append plan 6 8 9 28 _ _ (omega arith) (omega arith) (omega arith) (signals_covered plan)
+    (Covers-append plan 9 11 12 28 _ _ (omega arith) (omega arith) (omega arith) (flows_covered plan)
+    (Covers-append plan 12 12 13 28 _ _ (omega arith) (omega arith) (omega arith) (kept_covered plan)
+    (Covers-append plan 13 13 14 28 _ _ (omega arith) (omega arith) (omega arith) (unsent_covered plan)
+    (Covers-append plan 14 14 15 28 _ _ (omega arith) (omega arith) (omega arith) (records_covered plan)
+    (Covers-append plan 15 15 19 28 _ _ (omega arith) (omega arith) (omega arith) (texts_covered plan)
+    (Covers-append plan 19 19 21 28 _ _ (omega arith) (omega arith) (omega arith) (needs_covered plan)
+    (Covers-append plan 21 25 26 28 _ _ (omega arith) (omega arith) (omega arith) (requests_covered plan)
+    (Covers-append plan 26 27 28 28 _ _ (omega arith) (omega arith) (omega arith) (silent_covered plan) (contested_covered plan)))))))))))
 
 in_units : (plan : Plan) (f : Finding) → Contains (unit_findings plan.keep_free plan.strangers plan.units.items) f → Contains (found plan) f
 unfolding found
@@ -72,7 +74,8 @@ rest plan =
     ++ (record_findings plan.groups.items ++ (text_findings plan.groups.items
     ++ (need_findings plan.requests.items plan.flows.items plan.needs.items
     ++ (request_findings plan.groups.items plan.flows.items plan.requests.items
-    ++ silent_findings plan.keep_free plan.strangers plan.units.items))))))
+    ++ (silent_findings plan.keep_free plan.strangers plan.units.items
+    ++ contested_findings plan.live plan.keep_free plan.strangers plan.units.items plan.flows.items)))))))
 
 in_rest : (plan : Plan) (f : Finding) → Contains (rest plan) f → Contains (found plan) f
 unfolding found
@@ -150,7 +153,28 @@ silent_found plan f h =
     (Contains-append_right (text_findings plan.groups.items) _ f
     (Contains-append_right (need_findings plan.requests.items plan.flows.items plan.needs.items) _ f
     (Contains-append_right (request_findings plan.groups.items plan.flows.items plan.requests.items) _ f
-    (elim h [ inl first ↦ Contains-append_left addresses in_pool f first | inr second ↦ Contains-append_right addresses in_pool f second ]))))))))
+    (Contains-append_left (addresses ++ in_pool) _ f
+    (elim h [ inl first ↦ Contains-append_left addresses in_pool f first | inr second ↦ Contains-append_right addresses in_pool f second ])))))))))
+
+contested_found : (plan : Plan) → plan.live ≡ true → (f : Finding)
+    → Contains (each (is_contested (is_unit_alone plan.keep_free plan.strangers plan.units.items) plan.units.items) FlowContested 0 plan.flows.items) f
+    → Contains (found plan) f
+unfolding contested_findings
+contested_found plan live f h =
+    in_rest plan f (Contains-append_right (flow_findings plan.groups.items plan.flows.items) _ f
+    (Contains-append_right (kept_findings plan.keep_free plan.units.items) _ f
+    (Contains-append_right (unsent_findings plan.groups.items plan.flows.items) _ f
+    (Contains-append_right (record_findings plan.groups.items) _ f
+    (Contains-append_right (text_findings plan.groups.items) _ f
+    (Contains-append_right (need_findings plan.requests.items plan.flows.items plan.needs.items) _ f
+    (Contains-append_right (request_findings plan.groups.items plan.flows.items plan.requests.items) _ f
+    (Contains-append_right (silent_findings plan.keep_free plan.strangers plan.units.items) _ f (on_live_bus h)))))))))
+  where
+    on_live_bus : Contains (each (is_contested (is_unit_alone plan.keep_free plan.strangers plan.units.items) plan.units.items) FlowContested 0 plan.flows.items) f
+        → Contains (contested_findings plan.live plan.keep_free plan.strangers plan.units.items plan.flows.items) f
+    on_live_bus h = subst
+        (λ b. Contains (if b then each (is_contested (is_unit_alone plan.keep_free plan.strangers plan.units.items) plan.units.items) FlowContested 0 plan.flows.items else []) f)
+        (sym live) h
 
 of_group : (plan : Plan) (find : ℕ → GroupPlan → List Finding) (g : ℕ) (group : GroupPlan) (f : Finding)
     → slice_get plan.groups.items g ≡ Some group
@@ -290,6 +314,9 @@ found_of plan (SilentAddress u v) h =
 found_of plan (SilentInPool u) h =
     silent_found plan _ (inr (each_of (IsSilentInPool plan.keep_free plan.strangers) (Decides-is_silent_in_pool plan.keep_free plan.strangers) SilentInPool
     plan.units.items u h))
+found_of plan (FlowContested f) h =
+    let live = h.meets.0 in
+    contested_found plan live _ (each_of (IsFlowContested plan) (Decides-contested plan _ (alone_by_list plan) live) FlowContested plan.flows.items f h)
 found_of plan (FlowRepeated f k) h = flow_found plan _ (inr (inr (pairs_of AreOneFlow Decides-are_one_flow FlowRepeated plan.flows.items f k h)))
 
 pub are_findings : (plan : Plan) → AreFindings plan (found plan)

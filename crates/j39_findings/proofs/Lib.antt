@@ -16,4 +16,9 @@ pub mod RecordBits
 pub mod RecordCounts
 pub mod Rising
 pub mod Selectors
+pub mod SharedAddresses
+pub mod StayingBoxes
+pub mod VehicleUnits
 pub mod Vehicles
+pub mod WhoIsAlone
+pub mod WhoStays

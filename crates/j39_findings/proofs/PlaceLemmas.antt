@@ -1,5 +1,5 @@
 -- Findings of a list, one value at a time.
-use Rattle.std.proofs.Common.{◌≡◌, ℕ, ◌+◌, ◌<◌, ◌≤◌, List, ◌++◌, Bool, length, get_or, drop, append_assoc, refl}
+use Rattle.std.proofs.Common.{◌≡◌, ℕ, ◌+◌, ◌<◌, ◌≤◌, List, [], ◌∷◌, ◌++◌, Bool, length, get_or, drop, append_assoc, refl, ap, ◌∙◌}
 use Rattle.std.proofs.lemmas.List.{append-nil, drop_more, drop_all}
 use Rattle.j39_findings.specs.ListPlaces.{in_each, each, pairs, found_if}
 
@@ -33,3 +33,10 @@ pub pairs_is : {A B : Type 0} (test : A → A → Bool) (make : ℕ → ℕ → 
     → pairs test make xs ≡ in_each (after test make xs) 0 xs
 unfolding pairs
 pairs_is test make xs = refl
+
+-- by tests that agree the same is found
+pub each_same : {A B : Type 0} (f g : A → Bool) → ((x : A) → g x ≡ f x) → (make : ℕ → B) → (i : ℕ) (xs : List A) → each g make i xs ≡ each f make i xs
+unfolding each in_each
+each_same f g same make i [] = refl
+each_same f g same make i (x ∷ xs) =
+    ap (λ b. found_if b (make i) ++ each g make (i + 1) xs) (same x) ∙ ap (λ b. found_if (f x) (make i) ++ b) (each_same f g same make (i + 1) xs)

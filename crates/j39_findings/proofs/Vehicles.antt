@@ -1,88 +1,37 @@
 -- In the plan of each vehicle the same is found as in the plan, where no two units may be one.
-use Rattle.std.proofs.Common.{◌≡◌, ◌≢◌, ℕ, zero, suc, ◌+◌, ◌<◌, List, [], ◌∷◌, ◌++◌, Bool, true, false, not, ◌&&◌, nat_lt, Option, Some, None, cond, drop, Contains, if◌then◌else◌}
+use Rattle.std.proofs.Common.{◌≡◌, ◌≢◌, ℕ, List, [], ◌∷◌, Bool, true, false, nat_lt, Option, Some, None, Contains, if◌then◌else◌}
 use Rattle.std.proofs.Common.{refl, sym, ◌∙◌, ap, subst, inl, inr, arith}
 use Rattle.std.specs.FinSet.{FinSet}
-use Rattle.std.specs.List.{AllZip, count_by, slice_get}
+use Rattle.std.specs.List.{slice_get}
 use Rattle.std.specs.Ordering.{nat_cmp}
-use Rattle.std.proofs.lemmas.Bool.{cases_Bool, false≢true}
+use Rattle.std.proofs.lemmas.Bool.{cases_Bool}
 use Rattle.std.proofs.lemmas.Bool.Decides.{Decides-ltb}
-use Rattle.std.proofs.lemmas.Option.{none-some, same_Some}
-use Rattle.std.proofs.lemmas.List.Sums.{sum_by-cons}
-use Rattle.j39_id.specs.Name.{is_arbitrary}
 use Rattle.j39_findings.specs.declared.plan.Plan.{Plan}
+use Rattle.j39_findings.specs.declared.plan.flow_plan.FlowPlan.{FlowPlan}
 use Rattle.j39_findings.specs.declared.plan.unit_plan.UnitPlan.{UnitPlan}
 use Rattle.j39_findings.specs.declared.checking.finding.Finding.{Finding}
-use Rattle.j39_findings.specs.declared.checking.finding.Finding.TheVariants.{SameName, SameFixedAddress, KeptAddress, SilentAddress, SilentInPool}
+use Rattle.j39_findings.specs.declared.checking.finding.Finding.TheVariants.{SameName, SameFixedAddress, KeptAddress, SilentAddress, SilentInPool, FlowContested}
 use Rattle.j39_findings.specs.declared.checking.finding.Finding.TheVariants.{TooFewAddresses, BadPgn, SamePgn, SignalWidth}
 use Rattle.j39_findings.specs.declared.checking.finding.Finding.TheVariants.{SignalOutside, SignalOverlap, FlowToOne, FlowToSelf, FlowRepeated, PrivateUnsent, RecordOverlap, TextOutside, NeedUnmet}
 use Rattle.j39_findings.specs.declared.checking.finding.Finding.TheVariants.{RequestUnanswered, RequestUnheard, AnswerAstray, WhenOutside, RequestRepeated}
 use Rattle.j39_findings.specs.declared.steps.Step.{Step}
-use Rattle.j39_findings.specs.ListPlaces.{found_if, in_each, each, pairs, PairAt}
-use Rattle.j39_findings.specs.Kinds.{MayBeOne, MayBeOneAt, AreToldApart, may_be_one}
-use Rattle.j39_findings.specs.Findings.{Clean}
-use Rattle.j39_findings.specs.Found.{have_same_fixed_address, needs_pool_address, needed_addresses, unit_findings, kept_findings, prefers_kept}
-use Rattle.j39_findings.specs.Found.{have_silent_address, is_silent_in_pool, silent_findings, found}
+use Rattle.j39_findings.specs.ListPlaces.{pairs, PairAt}
+use Rattle.j39_findings.specs.Kinds.{MayBeOne, AreToldApart, may_be_one}
+use Rattle.j39_findings.specs.Findings.{Clean, IsAloneInPlan, IsFlowContested}
+use Rattle.j39_findings.specs.PlannedUnits.{units_of}
+use Rattle.j39_findings.specs.Staying.{IsAloneThere}
+use Rattle.j39_findings.specs.Found.{have_same_fixed_address, needs_pool_address, unit_findings, kept_findings, prefers_kept}
+use Rattle.j39_findings.specs.Found.{have_silent_address, is_silent_in_pool, silent_findings, contested_findings, is_unit_alone, is_contested, found}
 use Rattle.j39_findings.specs.ConflictRuns.{are_in_conflict, steps_between, run_of_units, run_of_places, conflict_run}
 use Rattle.j39_findings.specs.VehiclePlans.{IsBoxOf, IsVehicleOf, AreFoundAlike}
-use Rattle.j39_findings.proofs.Boxes.{AreOrderedAlike, apart_at, same_choice, same_order}
+use Rattle.j39_findings.proofs.Boxes.{apart_at}
 use Rattle.j39_findings.proofs.Deciding.{Decides-may_be_one}
 use Rattle.j39_findings.proofs.FoundLaws.{clean_from_none, none_from_clean}
 use Rattle.j39_findings.proofs.Members.{of_pairs}
-
--- ---- lists whose values stand in a relation, place by place
-
-abbrev pub AreBoth : {A B : Type 0} → (A → B → Type 0) → Option A → Option B → Type 0
-AreBoth R None None = Unit {0}
-AreBoth R None (Some y) = ⊥
-AreBoth R (Some x) None = ⊥
-AreBoth R (Some x) (Some y) = R x y
-
-pub both_at : {A B : Type 0} (R : A → B → Type 0) (xs : List A) (ys : List B) → AllZip R xs ys → (k : ℕ) → AreBoth R (slice_get xs k) (slice_get ys k)
-both_at R [] [] all k = tt
-both_at R [] (y ∷ ys) all k = absurd all
-both_at R (x ∷ xs) [] all k = absurd all
-both_at R (x ∷ xs) (y ∷ ys) all zero = all.0
-both_at R (x ∷ xs) (y ∷ ys) all (suc k) = both_at R xs ys all.1 k
-
-drop_alike : {A B : Type 0} (R : A → B → Type 0) (xs : List A) (ys : List B) → AllZip R xs ys → (k : ℕ) → AllZip R (drop k xs) (drop k ys)
-drop_alike R xs ys all zero = all
-drop_alike R [] [] all (suc k) = tt
-drop_alike R [] (y ∷ ys) all (suc k) = absurd all
-drop_alike R (x ∷ xs) [] all (suc k) = absurd all
-drop_alike R (x ∷ xs) (y ∷ ys) all (suc k) = drop_alike R xs ys all.1 k
-
-in_each_alike : {A B : Type 0} (R : A → A → Type 0) (f g : ℕ → A → List B) → ((i : ℕ) (x y : A) → R x y → g i y ≡ f i x)
-    → (i : ℕ) (xs ys : List A) → AllZip R xs ys → in_each g i ys ≡ in_each f i xs
-unfolding in_each
-in_each_alike R f g same i [] [] all = refl
-in_each_alike R f g same i [] (y ∷ ys) all = absurd all
-in_each_alike R f g same i (x ∷ xs) [] all = absurd all
-in_each_alike R f g same i (x ∷ xs) (y ∷ ys) all =
-    ap (λ b. b ++ in_each g (i + 1) ys) (same i x y all.0) ∙ ap (λ b. f i x ++ b) (in_each_alike R f g same (i + 1) xs ys all.1)
-
-each_alike : {A B : Type 0} (R : A → A → Type 0) (f g : A → Bool) → ((x y : A) → R x y → g y ≡ f x) → (make : ℕ → B)
-    → (i : ℕ) (xs ys : List A) → AllZip R xs ys → each g make i ys ≡ each f make i xs
-unfolding each
-each_alike R f g same make i xs ys all =
-    in_each_alike R (λ k x. found_if (f x) (make k)) (λ k x. found_if (g x) (make k)) (λ k x y is. ap (λ b. found_if b (make k)) (same x y is)) i xs ys all
-
-pairs_alike : {A B : Type 0} (R : A → A → Type 0) (f : A → A → Bool) → ((x y v w : A) → R x y → R v w → f y w ≡ f x v) → (make : ℕ → ℕ → B)
-    → (xs ys : List A) → AllZip R xs ys → pairs f make ys ≡ pairs f make xs
-unfolding pairs
-pairs_alike R f same make xs ys all =
-    in_each_alike R (λ i x. each (f x) (make i) (i + 1) (drop (i + 1) xs)) (λ i x. each (f x) (make i) (i + 1) (drop (i + 1) ys))
-    (λ i x y is. each_alike R (f x) (f y) (λ v w other. same x y v w is other) (make i) (i + 1) (drop (i + 1) xs) (drop (i + 1) ys)
-    (drop_alike R xs ys all (i + 1)))
-    0 xs ys all
-
-count_alike : {A : Type 0} (R : A → A → Type 0) (f : A → Bool) → ((x y : A) → R x y → f y ≡ f x) → (xs ys : List A) → AllZip R xs ys
-    → count_by f ys ≡ count_by f xs
-count_alike R f same [] [] all = refl
-count_alike R f same [] (y ∷ ys) all = absurd all
-count_alike R f same (x ∷ xs) [] all = absurd all
-count_alike R f same (x ∷ xs) (y ∷ ys) all =
-    sum_by-cons (λ z. cond (f z) 1 0) y ys ∙ ap (λ b. cond b 1 0 + count_by f ys) (same x y all.0)
-    ∙ ap (λ n. cond (f x) 1 0 + n) (count_alike R f same xs ys all.1) ∙ sym (sum_by-cons (λ z. cond (f z) 1 0) x xs)
+use Rattle.j39_findings.proofs.VehicleUnits.{AreBoth, both_at, boxes_apart, boxes_fixed, boxes_silent, box_needs, box_prefers, box_silent, count_alike, each_alike, ordered, pairs_alike}
+use Rattle.j39_findings.proofs.PlaceLemmas.{each_same}
+use Rattle.j39_findings.proofs.StayingBoxes.{outside_alike, outside_back, stay_alike}
+use Rattle.j39_findings.proofs.WhoIsAlone.{alone_by_list, Decides-both, Decides-contested}
 
 none_paired : (units : List UnitPlan) → ((i j : ℕ) → ¬ PairAt MayBeOne units i j) → pairs may_be_one SameName units ≡ []
 none_paired units none =
@@ -95,28 +44,6 @@ none_paired units none =
     go [] none = refl
     go (f ∷ fs) none = absurd (none f (0, omega arith, refl))
 
--- ---- a unit and its box
-
-module _ (u b : UnitPlan) (box : IsBoxOf u b) where
-  pub box_chooses : is_arbitrary b.name ≡ is_arbitrary u.name
-  box_chooses = sym (same_choice u.name b.name box.name.0)
-
-  box_needs : (kept : FinSet nat_cmp) → needs_pool_address kept b ≡ needs_pool_address kept u
-  box_needs kept = rw (box_chooses, box.address) refl
-
-  box_prefers : (kept : FinSet nat_cmp) → prefers_kept kept b ≡ prefers_kept kept u
-  box_prefers kept = rw (box_chooses, box.address) refl
-
-  box_silent : (kept : FinSet nat_cmp) (strangers : ℕ) → is_silent_in_pool kept strangers b ≡ is_silent_in_pool kept strangers u
-  box_silent kept strangers = rw (box.address, box.claims) refl
-
-boxes_fixed : (u b v c : UnitPlan) → IsBoxOf u b → IsBoxOf v c → have_same_fixed_address b c ≡ have_same_fixed_address u v
-boxes_fixed u b v c one other =
-    rw (box_chooses u b one, box_chooses v c other, one.address, other.address, one.claims, other.claims) refl
-
-boxes_silent : (u b v c : UnitPlan) → IsBoxOf u b → IsBoxOf v c → have_silent_address b c ≡ have_silent_address u v
-boxes_silent u b v c one other = rw (one.address, other.address, one.claims, other.claims) refl
-
 -- ---- a plan and the plan of a vehicle
 
 module _ (plan vehicle : Plan) (is : IsVehicleOf plan vehicle) (apart : AreToldApart plan) where
@@ -126,38 +53,10 @@ module _ (plan vehicle : Plan) (is : IsVehicleOf plan vehicle) (apart : AreToldA
   abbrev boxes : List UnitPlan
   boxes = vehicle.units.items
 
-  -- the box at a place is that of the unit there
-  pub unit_of : (k : ℕ) (b : UnitPlan) → slice_get boxes k ≡ Some b → (u : UnitPlan) × (slice_get units k ≡ Some u) × IsBoxOf u b
-  unit_of k b at = go (slice_get units k) (slice_get boxes k) refl at (both_at IsBoxOf units boxes is.boxes k) where
-    go : (o p : Option UnitPlan) → slice_get units k ≡ o → p ≡ Some b → AreBoth IsBoxOf o p → (u : UnitPlan) × (slice_get units k ≡ Some u) × IsBoxOf u b
-    go None None at_unit at_box both = absurd (none-some _ at_box)
-    go None (Some c) at_unit at_box both = absurd both
-    go (Some u) None at_unit at_box both = absurd both
-    go (Some u) (Some c) at_unit at_box both =
-        let P : UnitPlan → Type 0 = IsBoxOf u in
-        (u, at_unit, subst P (same_Some _ _ at_box) both)
-
-  -- boxes at two places have different NAMEs, ordered as those of their units
-  pub ordered : (i j : ℕ) (u v b c : UnitPlan) → slice_get units i ≡ Some u → slice_get units j ≡ Some v → IsBoxOf u b → IsBoxOf v c → i ≢ j
-      → AreOrderedAlike u v b c
-  ordered i j u v b c first second one other differ = same_order u v b c (apart_at plan apart i j u v first second differ) one other
-
-  pub boxes_apart : AreToldApart vehicle
-  boxes_apart i j pair =
-      let one = unit_of i pair.first pair.first_is in
-      let other = unit_of j pair.second pair.second_is in
-      let differ : i ≢ j = λ same. let b = pair.below in absurd (omega (arith, b, same)) in
-      let alike = ordered i j one.0 other.0 pair.first pair.second one.1 other.1 one.2 other.2 differ in
-      elim pair.related.1 [
-        | inl same ↦ alike.apart same
-        | inr (inl any) ↦ false≢true (sym one.2.number ∙ any)
-        | inr (inr any) ↦ false≢true (sym other.2.number ∙ any)
-      ]
-
   units_found : (kept : FinSet nat_cmp) (strangers : ℕ) → unit_findings kept strangers boxes ≡ unit_findings kept strangers units
   unfolding unit_findings
   units_found kept strangers =
-      let names = none_paired boxes boxes_apart ∙ sym (none_paired units apart) in
+      let names = none_paired boxes (boxes_apart plan vehicle is apart) ∙ sym (none_paired units apart) in
       let fixed = pairs_alike IsBoxOf have_same_fixed_address (λ u b v c. boxes_fixed u b v c) SameFixedAddress units boxes is.boxes in
       let counted = count_alike IsBoxOf (needs_pool_address kept) (λ u b box. box_needs u b box kept) units boxes is.boxes in
       rw (names, fixed, counted) refl
@@ -174,10 +73,59 @@ module _ (plan vehicle : Plan) (is : IsVehicleOf plan vehicle) (apart : AreToldA
       (λ u b box. box_silent u b box kept strangers) SilentInPool 0 units boxes is.boxes in
       rw (paired, single) refl
 
+  -- a unit is alone in both
+  to_vehicle : (u : ℕ) → IsAloneInPlan plan u → IsAloneInPlan vehicle u
+  to_vehicle u (there, beside) = (
+    subst (λ kept. IsAloneThere kept (units_of vehicle) u) (sym is.keep_free) (((stay_alike plan vehicle is apart).alone u).0 there),
+    elim beside [
+      | inl none ↦ inl (is.strangers ∙ none)
+      | inr outside ↦ inr (outside_alike plan vehicle is apart u outside)
+    ],
+  )
+
+  to_plan : (u : ℕ) → IsAloneInPlan vehicle u → IsAloneInPlan plan u
+  to_plan u (there, beside) = (
+    ((stay_alike plan vehicle is apart).alone u).1 (subst (λ kept. IsAloneThere kept (units_of vehicle) u) is.keep_free there),
+    elim beside [
+      | inl none ↦ inl (sym is.strangers ∙ none)
+      | inr outside ↦ inr (outside_back plan vehicle is apart u outside)
+    ],
+  )
+
+  contested_over : (one other : Plan) → ((u : ℕ) → IsAloneInPlan other u → IsAloneInPlan one u) → one.live ≡ true → other.live ≡ true → (flow : FlowPlan)
+      → IsFlowContested one flow → IsFlowContested other flow
+  contested_over one other over live live_other flow (_, inl sender) = (live_other, inl (λ alone. sender (over flow.sender alone)))
+  contested_over one other over live live_other flow (_, inr (r, to, receiver)) = (live_other, inr (r, to, λ alone. receiver (over r alone)))
+
+  ends_alike : plan.live ≡ true → (flow : FlowPlan)
+      → is_contested (is_unit_alone vehicle.keep_free vehicle.strangers boxes) boxes flow
+      ≡ is_contested (is_unit_alone plan.keep_free plan.strangers units) units flow
+  ends_alike live flow =
+      let live_there = is.live ∙ live in
+      let in_vehicle = Decides-contested vehicle _ (alone_by_list vehicle) live_there flow in
+      let in_plan = Decides-contested plan _ (alone_by_list plan) live flow in
+      Decides-both _ _ (IsFlowContested vehicle flow) (IsFlowContested plan flow) in_vehicle in_plan
+      (contested_over vehicle plan to_vehicle live_there live flow) (contested_over plan vehicle to_plan live live_there flow)
+
+  contested_found : contested_findings vehicle.live vehicle.keep_free vehicle.strangers boxes vehicle.flows.items
+      ≡ contested_findings plan.live plan.keep_free plan.strangers units plan.flows.items
+  unfolding contested_findings
+  contested_found =
+      ap (λ b. contested_findings b vehicle.keep_free vehicle.strangers boxes vehicle.flows.items) is.live
+      ∙ ap (contested_findings plan.live vehicle.keep_free vehicle.strangers boxes) is.flows ∙ go plan.live refl
+    where
+      go : (b : Bool) → plan.live ≡ b
+          → contested_findings b vehicle.keep_free vehicle.strangers boxes plan.flows.items
+          ≡ contested_findings b plan.keep_free plan.strangers units plan.flows.items
+      go true live = each_same (is_contested (is_unit_alone plan.keep_free plan.strangers units) units)
+          (is_contested (is_unit_alone vehicle.keep_free vehicle.strangers boxes) boxes) (ends_alike live) FlowContested 0 plan.flows.items
+      go false none = refl
+
   pub same_found : found vehicle ≡ found plan
   unfolding found
   same_found =
       rw (
+        contested_found,
         is.keep_free,
         is.strangers,
         is.groups,
@@ -196,9 +144,9 @@ module _ (plan vehicle : Plan) (is : IsVehicleOf plan vehicle) (apart : AreToldA
       → (are_in_conflict b c ≡ are_in_conflict u v) × (steps_between i j b c ≡ steps_between i j u v)
   unfolding steps_between are_in_conflict
   in_conflict i j u v b c first second at other one two differ =
-      let alike = ordered i j u v b c first second one two differ in
+      let alike = ordered plan vehicle is apart i j u v b c first second one two differ in
       let apart_units : may_be_one u v ≡ false = not_one u v (apart_at plan apart i j u v first second differ) in
-      let apart_boxes : may_be_one b c ≡ false = not_one b c (apart_at vehicle boxes_apart i j b c at other differ) in
+      let apart_boxes : may_be_one b c ≡ false = not_one b c (apart_at vehicle (boxes_apart plan vehicle is apart) i j b c at other differ) in
       (rw (boxes_fixed u b v c one two, apart_units, apart_boxes) refl, rw alike.order refl)
     where
       not_one : (x y : UnitPlan) → ¬ MayBeOne x y → may_be_one x y ≡ false
@@ -253,6 +201,7 @@ module _ (plan vehicle : Plan) (is : IsVehicleOf plan vehicle) (apart : AreToldA
   same_run (RequestRepeated r s) = refl
   same_run (SilentAddress u v) = refl
   same_run (SilentInPool u) = refl
+  same_run (FlowContested f) = refl
 
   pub found_alike : AreFoundAlike plan vehicle
   found_alike = record { findings = same_found; runs = same_run }

@@ -13,7 +13,7 @@ use Rattle.j39_findings.specs.ListPlaces.{ValueAt, SomeMeets}
 use Rattle.j39_findings.specs.Records.{record_count}
 use Rattle.j39_findings.specs.TextPlaces.{last_byte}
 use Rattle.j39_findings.specs.Findings.{IsFixed, IsSelectorInside, AreNeeded, IsProprietary, IsToOne, IsOneFrameToAll, AreOneFlow, Sends, AreSentTogether, Meets}
-use Rattle.j39_findings.specs.Findings.{AskTheSame, AsksAll, AsksOne, IsServed, IsServedToAll, IsServedToOne, MayNameReceiver}
+use Rattle.j39_findings.specs.Findings.{IsAloneInPlan, AskTheSame, AsksAll, AsksOne, IsServed, IsServedToAll, IsServedToOne, MayNameReceiver}
 use Rattle.j39_findings.specs.declared.plan.Plan.{Plan}
 use Rattle.j39_findings.specs.declared.plan.group_plan.GroupPlan.{GroupPlan}
 use Rattle.j39_findings.specs.declared.plan.request_plan.RequestPlan.{RequestPlan}
@@ -90,3 +90,5 @@ pub record CleanParts (plan : Plan) : Type 0 where
   pub asked_once : AllPairs (λ r s. ¬ AskTheSame plan.groups.items r s) plan.requests.items
   pub silent_addresses : AllPairs IsApartFromSilent plan.units.items
   pub unreached : All (λ u. u.claims ≡ false → IsUnreached plan u) plan.units.items
+  pub senders_alone : plan.live ≡ true → All (λ f. IsAloneInPlan plan f.sender) plan.flows.items
+  pub receivers_alone : plan.live ≡ true → All (λ f. (r : ℕ) → f.to ≡ One r → IsAloneInPlan plan r) plan.flows.items

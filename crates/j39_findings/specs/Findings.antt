@@ -16,6 +16,8 @@ use Rattle.j39_signal.specs.Selectors.{DifferInValue, EndsInside}
 use Rattle.j39_signal.specs.Parts.{SignalParts}
 use Rattle.j39_signal.specs.Places.{Covers, WidthFits, IsInside, SharesBit, further}
 use Rattle.j39_findings.specs.Kinds.{MayBeOne}
+use Rattle.j39_findings.specs.PlannedUnits.{units_of}
+use Rattle.j39_findings.specs.Staying.{IsAloneBeside}
 use Rattle.j39_findings.specs.ListPlaces.{ValueAt, PairAt, SomeMeets, SoManyMeet}
 use Rattle.j39_findings.specs.Records.{record_count}
 use Rattle.j39_findings.specs.SignalPlaces.{room_of_signal}
@@ -32,7 +34,7 @@ use Rattle.j39_findings.specs.declared.checking.finding.Finding.{Finding}
 use Rattle.j39_findings.specs.declared.checking.finding.Finding.TheVariants.{SameName, SameFixedAddress, TooFewAddresses, BadPgn, SamePgn, SignalWidth}
 use Rattle.j39_findings.specs.declared.checking.finding.Finding.TheVariants.{SignalOutside, SignalOverlap, FlowToOne, FlowToSelf, FlowRepeated, KeptAddress, PrivateUnsent, RecordOverlap, TextOutside, NeedUnmet}
 use Rattle.j39_findings.specs.declared.checking.finding.Finding.TheVariants.{RequestUnanswered, RequestUnheard, AnswerAstray, WhenOutside, RequestRepeated}
-use Rattle.j39_findings.specs.declared.checking.finding.Finding.TheVariants.{SilentAddress, SilentInPool}
+use Rattle.j39_findings.specs.declared.checking.finding.Finding.TheVariants.{SilentAddress, SilentInPool, FlowContested}
 
 -- ---- units
 
@@ -246,6 +248,16 @@ pub record Meets (requests : List RequestPlan) (need : NeedPlan) (flow : FlowPla
 abbrev pub IsUnmet : List RequestPlan → List FlowPlan → NeedPlan → Type 0
 IsUnmet requests flows need = ¬ SomeMeets (Meets requests need) flows
 
+-- ---- ends of flows on a live bus
+
+-- no other unit ever holds the planned address of this one
+abbrev pub IsAloneInPlan : Plan → ℕ → Type 0
+IsAloneInPlan plan u = IsAloneBeside plan.strangers plan.keep_free (units_of plan) u
+
+-- on a live bus an end of the flow isn't alone: its sender, or the one unit that it goes to; all others know the sender by its address alone
+abbrev pub IsFlowContested : Plan → FlowPlan → Type 0
+IsFlowContested plan flow = (plan.live ≡ true) × ((¬ IsAloneInPlan plan flow.sender) ⊎ ((r : ℕ) × (flow.to ≡ One r) × (¬ IsAloneInPlan plan r)))
+
 -- ---- the findings
 
 -- what a finding says of a plan
@@ -273,6 +285,7 @@ Holds plan (WhenOutside g) = ValueAt (λ group. ¬ IsSelectorInside group) plan.
 Holds plan (RequestRepeated r s) = PairAt (AskTheSame plan.groups.items) plan.requests.items r s
 Holds plan (SilentAddress u v) = PairAt HaveSilentAddress plan.units.items u v
 Holds plan (SilentInPool u) = ValueAt (IsSilentInPool plan.keep_free plan.strangers) plan.units.items u
+Holds plan (FlowContested f) = ValueAt (IsFlowContested plan) plan.flows.items f
 
 -- nothing is wrong with the plan
 abbrev pub Clean : Plan → Type 0
@@ -305,6 +318,7 @@ finding_number (WhenOutside g) = 24
 finding_number (RequestRepeated r s) = 25
 finding_number (SilentAddress u v) = 26
 finding_number (SilentInPool u) = 27
+finding_number (FlowContested f) = 28
 
 -- the places that it names
 abbrev pub places_of : Finding → List ℕ
@@ -331,6 +345,7 @@ places_of (WhenOutside g) = g ∷ []
 places_of (RequestRepeated r s) = r ∷ s ∷ []
 places_of (SilentAddress u v) = u ∷ v ∷ []
 places_of (SilentInPool u) = u ∷ []
+places_of (FlowContested f) = f ∷ []
 
 -- the first place in which two lists differ is smaller in the first list
 abbrev pub IsBelow : List ℕ → List ℕ → Type 0

@@ -33,7 +33,7 @@ use Rattle.j39_findings.specs.declared.checking.finding.Finding.{Finding}
 use Rattle.j39_findings.specs.declared.checking.finding.Finding.TheVariants.{SameName, SameFixedAddress, TooFewAddresses, BadPgn, SamePgn, SignalWidth}
 use Rattle.j39_findings.specs.declared.checking.finding.Finding.TheVariants.{SignalOutside, SignalOverlap, FlowToOne, FlowToSelf, FlowRepeated, KeptAddress, PrivateUnsent, RecordOverlap, TextOutside, NeedUnmet}
 use Rattle.j39_findings.specs.declared.checking.finding.Finding.TheVariants.{RequestUnanswered, RequestUnheard, AnswerAstray, WhenOutside, RequestRepeated}
-use Rattle.j39_findings.specs.declared.checking.finding.Finding.TheVariants.{SilentAddress, SilentInPool}
+use Rattle.j39_findings.specs.declared.checking.finding.Finding.TheVariants.{SilentAddress, SilentInPool, FlowContested}
 
 -- ---- units
 
@@ -311,6 +311,37 @@ is_silent_in_pool kept strangers unit = not unit.claims && (in_pool unit.address
 unfoldable pub silent_findings : FinSet nat_cmp → ℕ → List UnitPlan → List Finding
 silent_findings kept strangers units = pairs have_silent_address SilentAddress units ++ each (is_silent_in_pool kept strangers) SilentInPool 0 units
 
+-- ---- ends of flows on a live bus
+
+-- more than one unit is planned at an address
+abbrev pub is_shared : List UnitPlan → ℕ → Bool
+is_shared units address = nat_lt 1 (count_by (λ unit. unit.address == address) units)
+
+-- a unit may have to move: it may choose, and one of smaller NAME is planned at its address
+abbrev pub has_to_move : List UnitPlan → UnitPlan → Bool
+has_to_move units unit = is_arbitrary unit.name && list_any (λ other. other.address == unit.address && nat_lt other.name unit.name) units
+
+-- whether a unit is alone at its address
+abbrev pub is_unit_alone : FinSet nat_cmp → ℕ → List UnitPlan → UnitPlan → Bool
+is_unit_alone kept strangers units unit =
+    not (is_shared units unit.address)
+    && (not (in_pool unit.address) || (not (nat_lt 0 strangers) && (contains kept unit.address || not (list_any (has_to_move units) units))))
+
+-- whether an end of a flow isn't, where this tells who is
+abbrev pub is_end_contested : (UnitPlan → Bool) → List UnitPlan → ℕ → Bool
+is_end_contested alone units u = option_map_or (λ unit. not (alone unit)) (slice_get units u) true
+
+abbrev pub is_receiver_contested : (UnitPlan → Bool) → List UnitPlan → To → Bool
+is_receiver_contested alone units All = false
+is_receiver_contested alone units (One receiver) = is_end_contested alone units receiver
+
+abbrev pub is_contested : (UnitPlan → Bool) → List UnitPlan → FlowPlan → Bool
+is_contested alone units flow = is_end_contested alone units flow.sender || is_receiver_contested alone units flow.to
+
+unfoldable pub contested_findings : Bool → FinSet nat_cmp → ℕ → List UnitPlan → List FlowPlan → List Finding
+contested_findings live kept strangers units flows =
+    if live then each (is_contested (is_unit_alone kept strangers units) units) FlowContested 0 flows else []
+
 -- ---- the whole list
 
 unfoldable pub found : Plan → List Finding
@@ -321,4 +352,5 @@ found plan =
     ++ (record_findings plan.groups.items ++ (text_findings plan.groups.items
     ++ (need_findings plan.requests.items plan.flows.items plan.needs.items
     ++ (request_findings plan.groups.items plan.flows.items plan.requests.items
-    ++ silent_findings plan.keep_free plan.strangers plan.units.items)))))))))
+    ++ (silent_findings plan.keep_free plan.strangers plan.units.items
+    ++ contested_findings plan.live plan.keep_free plan.strangers plan.units.items plan.flows.items))))))))))

@@ -10,6 +10,7 @@ pub mod ListPlaces
 pub mod NeedPlaces
 pub mod Needs
 pub mod PlanLimits
+pub mod PlannedUnits
 pub mod PlannedGroups
 pub mod PrivateGroups
 pub mod Records
@@ -17,6 +18,8 @@ pub mod Refused
 pub mod PlannedRequests
 pub mod SignalPlaces
 pub mod SoundSignals
+pub mod Standing
+pub mod Staying
 pub mod TextPlaces
 pub mod VehiclePlans
 pub mod WithoutOptional

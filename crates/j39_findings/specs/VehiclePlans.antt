@@ -24,6 +24,7 @@ pub record IsVehicleOf (plan vehicle : Plan) : Type 0 where
   pub boxes : AllZip IsBoxOf plan.units.items vehicle.units.items
   pub keep_free : vehicle.keep_free ≡ plan.keep_free
   pub strangers : vehicle.strangers ≡ plan.strangers
+  pub live : vehicle.live ≡ plan.live
   pub timing : vehicle.timing ≡ plan.timing
   pub groups : vehicle.groups.items ≡ plan.groups.items
   pub flows : vehicle.flows.items ≡ plan.flows.items

@@ -4,6 +4,7 @@ ghost use Rattle.j39_findings.specs.Findings.{AreFindings, Clean};
 ghost use Rattle.j39_findings.specs.Found.{found};
 
 mod checked_plan;
+mod contested;
 mod finding;
 mod flows;
 mod groups;
@@ -21,6 +22,7 @@ mod units;
 
 use crate::plan::Plan;
 pub use checked_plan::{CheckedPlan, checked};
+use contested::find_contested;
 pub use finding::{Finding, Findings};
 use flows::find_in_flows;
 use groups::find_in_groups;
@@ -58,5 +60,6 @@ pub fn check(alloc: Global, plan: &Plan) -> Result<Findings, AllocError>
     find_in_needs(&mut findings, &plan.requests, &plan.flows, &plan.needs)?;
     find_in_requests(&mut findings, &plan.groups, &plan.flows, &plan.requests)?;
     find_silent(&mut findings, &plan.keep_free, plan.strangers, &plan.units)?;
+    find_contested(&mut findings, plan)?;
     Ok(findings)
 }

@@ -9,6 +9,7 @@ pub mod limits;
 mod plan;
 mod planned_groups;
 mod records;
+mod standing;
 mod steps;
 
 pub use checking::{
@@ -30,4 +31,5 @@ pub use plan::{
 };
 pub use planned_groups::{GroupFault, layout_of};
 pub use records::stands_once;
+pub use standing::Standing;
 pub use steps::Step;

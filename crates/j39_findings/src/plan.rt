@@ -44,6 +44,8 @@ pub struct Plan {
     pub keep_free: AddressSet,
     /// How many units that stand in no plan and may choose may come beside these, at most 120: a service tool, units of another vehicle.
     pub strangers: u8,
+    /// Whether messages and single frames begin at any time, also while units claim, and units go off in the midst of a message.
+    pub live: bool,
     /// What is known of the bus itself, where its load and its delays are to be told.
     pub timing: Option<Timing>,
     pub units: Vec<UnitPlan>,

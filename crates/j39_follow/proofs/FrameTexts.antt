@@ -1,9 +1,11 @@
 -- What a frame is, and what is written at it.
-use Rattle.std.proofs.Common.{◌≡◌, ◌++◌, ℕ, true, false, List, Option, Some, None, sym, ap, ◌∙◌, append_assoc}
+use Rattle.std.proofs.Common.{◌≡◌, ◌++◌, ◌==◌, ◌&&◌, ℕ, Bool, true, false, if◌then◌else◌, List, [], length, Option, Some, None, inl, inr, refl, sym, ap, ◌∙◌, append_assoc, arith, eq-eqb, eqb-true}
+use Rattle.std.proofs.lemmas.Bool.{cases_Bool, eqb-false, ne_eqb}
+use Rattle.std.proofs.lemmas.List.{length-append}
 use Rattle.j39_findings.specs.declared.plan.Plan.{Plan}
 use Rattle.j39_follow.specs.Contests.{Timed}
 use Rattle.j39_follow.specs.Fits.{IsSentGroup}
-use Rattle.j39_follow.specs.FollowReports.{IsGroupOfMessage, IsGrouped, IsSendingOf, Message}
+use Rattle.j39_follow.specs.FollowReports.{IsGroupOfMessage, IsGrouped, IsSendingOf, Message, bare_text}
 use Rattle.j39_follow.specs.declared.message.Sort.{Sort}
 use Rattle.j39_follow.specs.declared.sending.Sending.{Sending}
 use Rattle.j39_follow.specs.inside.Reporting.{is_grouped}
@@ -31,3 +33,46 @@ pub three_texts : (old a b c first second third : List ℕ) → first ≡ old ++
 three_texts old a b c first second third x y z =
     z ∙ ap (λ (t : List ℕ). t ++ c) (y ∙ ap (λ (t : List ℕ). t ++ b) x)
     ∙ append_assoc (old ++ a) b c ∙ append_assoc old a (b ++ c)
+
+-- four texts after one another, of which three are one piece
+pub last_text : (old a b c d first second : List ℕ) → first ≡ old ++ (a ++ (b ++ c)) → second ≡ first ++ d → second ≡ old ++ (a ++ (b ++ (c ++ d)))
+last_text old a b c d first second x y =
+    let whole : (old ++ (a ++ (b ++ c))) ++ d ≡ old ++ (a ++ (b ++ (c ++ d))) = simp append_assoc refl in
+    y ∙ ap (λ (t : List ℕ). t ++ d) x ∙ whole
+
+-- a text that got no longer got nothing
+pub same_length : (old more : List ℕ) → (length (old ++ more) == length old) ≡ (length more == 0)
+same_length old more = elim (cases_Bool (length more == 0)) [
+  | inl none ↦
+      let empty = eqb-true (length more) 0 none in
+      let sum = length-append old more in
+      let same : length (old ++ more) ≡ length old = omega (arith, sum, empty) in
+      eq-eqb _ _ same ∙ sym none
+  | inr some ↦
+      let full = eqb-false (length more) 0 some in
+      let sum = length-append old more in
+      ne_eqb _ _ (λ same. full (omega (arith, sum, same))) ∙ sym some
+]
+
+-- what was written is nothing exactly where the text is as long as before
+as_long : (old new written : List ℕ) (n m : ℕ) → new ≡ old ++ written → n ≡ length new → m ≡ length old → (n == m) ≡ (length written == 0)
+as_long old new written n m is now before =
+    ap (λ (x : ℕ). x == m) (now ∙ ap length is) ∙ ap (λ (y : ℕ). length (old ++ written) == y) before ∙ same_length old written
+
+-- so a frame has a line of its own
+pub has_line : (all_frames : Bool) (old new written line : List ℕ) (n m : ℕ) → new ≡ old ++ written → n ≡ length new → m ≡ length old
+    → all_frames ≡ true → n ≡ m → line ≡ bare_text all_frames written line
+has_line all_frames old new written line n m is now before asked same =
+    let empty = sym (as_long old new written n m is now before) ∙ eq-eqb n m same in
+    sym (ap (λ (b : Bool). if b && length written == 0 then line else []) asked ∙ ap (λ (b : Bool). if b then line else []) empty)
+
+-- or none, since there is another one
+pub has_another : (all_frames : Bool) (old new written line : List ℕ) (n m : ℕ) → new ≡ old ++ written → n ≡ length new → m ≡ length old
+    → all_frames ≡ true → (n ≡ m → ⊥) → [] ≡ bare_text all_frames written line
+has_another all_frames old new written line n m is now before asked other =
+    let full = sym (as_long old new written n m is now before) ∙ ne_eqb n m other in
+    sym (ap (λ (b : Bool). if b && length written == 0 then line else []) asked ∙ ap (λ (b : Bool). if b then line else []) full)
+
+-- or none, since none is asked for
+pub has_none : (all_frames : Bool) (written line : List ℕ) → all_frames ≡ false → [] ≡ bare_text all_frames written line
+has_none all_frames written line unasked = sym (ap (λ (b : Bool). if b && length written == 0 then line else []) unasked)

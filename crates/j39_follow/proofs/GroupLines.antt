@@ -1,6 +1,6 @@
 -- What `follow` and `read` write of the groups of one log, line after line.
 use Rattle.std.proofs.Common.{◌≡◌, ◌⊎◌, ◌+◌, ◌-◌, ◌<◌, ◌≤◌, ◌==◌, ◌&&◌, ℕ, zero, suc, Bool, true, false, not, List, [], ◌∷◌, ◌++◌, length}
-use Rattle.std.proofs.Common.{Option, Some, None, inl, inr, refl, sym, ap, subst, ◌∙◌, arith, append_assoc, eq-eqb, eqb-true, get_or, nat_le}
+use Rattle.std.proofs.Common.{Option, Some, None, inl, inr, refl, sym, ap, subst, ◌∙◌, arith, append_assoc, eq-eqb, eqb-true, get_or, nat_le, if◌then◌else◌}
 use Rattle.std.specs.List.{All, slice_get}
 use Rattle.std.proofs.lemmas.Bool.{cases_Bool, true≢false}
 use Rattle.std.proofs.lemmas.List.{append-nil, length-append, map-append}
@@ -29,13 +29,21 @@ use Rattle.j39_tp.specs.declared.packet.Packet.{Packet}
 use Rattle.j39_follow.specs.Alike.{IsUndirected}
 use Rattle.j39_follow.specs.Contests.{Timed}
 use Rattle.j39_follow.specs.Fits.{IsPlannedAs, IsSentGroup, MayBeGroup, fitting_flow}
-use Rattle.j39_follow.specs.FollowReports.{IsGroupOfMessage, IsGrouped, IsMessageReport, Message, in_frame, stamp}
+use Rattle.j39_follow.specs.FollowReports.{IsBareText, IsGroupOfMessage, IsGrouped, IsMessageReport, IsNotice, Message, frame_line, in_frame, stamp}
 use Rattle.j39_follow.specs.FollowText.{FollowedPast, FollowsFrame, FollowsLine, FollowsLines, FollowsPart, HeardSince, IsFollowedAs, IsPacketReport}
 use Rattle.j39_follow.specs.FollowText.{frames_seen, line_passed_over, lines_with, nothing_followed, one_line_more}
 use Rattle.j39_follow.specs.GroupLines.{AreToldAlike, GroupsAreToldAlike, IsNoticed, IsThinned, IsWhole, LineTexts, StayInHands, TellOneMessage, all_followed, all_read}
 use Rattle.j39_follow.specs.declared.message.Sort.{Sort}
 use Rattle.j39_follow.specs.declared.sending.Sending.{Sending}
 use Rattle.j39_follow.proofs.Alike.{line_grows, lines_grow, whole_part}
+
+empty_list : (t : List ℕ) → length t ≡ 0 → t ≡ []
+empty_list [] none = refl
+empty_list (x ∷ t) none = absurd (omega (arith, none))
+
+left_empty : (a b : List ℕ) → a ++ b ≡ [] → a ≡ []
+left_empty [] b none = refl
+left_empty (x ∷ a) b none = cc
 
 -- ---- groups
 
@@ -325,21 +333,47 @@ nothing_alike plan before t u followed read empty blank same seen = record {
   grown = ([], same ∙ sym (append-nil before));
 }
 
-frame_alike : (plan : Plan) → HasNoPrivate plan → (past : FollowedPast) (read : Past) (time : List ℕ) (named : Option (List ℕ)) (f : Frame)
-    (next : FollowedPast) (other : Past) (t u : List ℕ) → past.seen ≡ read.seen → FollowsFrame plan past time named f next t
+-- what stands before what is written of groups is a notice, or a frame itself, of which nothing else is written then
+before_groups : (plan : Plan) (all_frames : Bool) (log : List Timed) (front : List ℕ) (f : Frame) (notice report bare carried read : List ℕ)
+    → IsNotice plan log front f notice → IsBareText plan all_frames log front f (notice ++ report) bare
+    → (told : List ℕ) × IsNoticed plan (record { notice = told; followed = report ++ carried; read = read })
+    × (notice ++ (report ++ (bare ++ carried)) ≡ told ++ (report ++ carried))
+before_groups plan all_frames log front f notice report bare carried read is (way, way_is, text) =
+    elim (cases_Bool (all_frames && length (notice ++ report) == 0)) [
+      | inl itself ↦
+          let whole : bare ≡ frame_line front way f = text ∙ ap (λ (b : Bool). if b then frame_line front way f else []) itself in
+          let none : notice ++ report ≡ [] = empty_list _ (eqb-true _ 0 (both_true all_frames _ itself).1) in
+          let first : notice ≡ [] = left_empty notice report none in
+          let second : report ≡ [] = sym (ap (λ (t : List ℕ). t ++ report) first) ∙ none in (
+            bare,
+            inr (inr (front, way, f, whole)),
+            ap (λ (t : List ℕ). t ++ (report ++ (bare ++ carried))) first ∙ ap (λ (t : List ℕ). t ++ (bare ++ carried)) second
+                ∙ sym (ap (λ (t : List ℕ). bare ++ (t ++ carried)) second),
+          )
+      | inr told ↦
+          let none : bare ≡ [] = text ∙ ap (λ (b : Bool). if b then frame_line front way f else []) told in (
+            notice,
+            inr (inl (log, front, f, is)),
+            ap (λ (t : List ℕ). notice ++ (report ++ (t ++ carried))) none,
+          )
+    ]
+
+frame_alike : (plan : Plan) (all_frames : Bool) → HasNoPrivate plan → (past : FollowedPast) (read : Past) (time : List ℕ) (named : Option (List ℕ)) (f : Frame)
+    (next : FollowedPast) (other : Past) (t u : List ℕ) → past.seen ≡ read.seen → FollowsFrame plan all_frames past time named f next t
     → ReadsFrame plan read f other u → LineAlike plan past.seen t u next.seen other.seen
-frame_alike plan shared past read time named f next other t u seen a b =
+frame_alike plan all_frames shared past read time named f next other t u seen a b =
     let packet : a.packet ≡ b.0 = same_packet plan shared (lines_with past f time) f a.packet b.0 a.heard_as b.1 in
     let at_packet : IsFrameReport plan read.seen f a.packet u = subst (λ (p : Option Packet). IsFrameReport plan read.seen f p u) (sym packet) b.2 in
     let at_seen : IsFrameReport plan past.seen f a.packet u = subst (λ (s : List Seen). IsFrameReport plan s f a.packet u) (sym seen) at_packet in
     let body = body_alike plan shared past.seen (lines_with past f time) (stamp past.number time) f a.packet a.sort a.sorts a.report a.carried u
     a.heard_as a.report_is a.carried_is at_seen in
+    let before = before_groups plan all_frames (lines_with past f time) (stamp past.number time) f a.notice a.report a.bare a.carried u a.notice_is a.bare_is in
     let step : next.seen ≡ past.seen ++ record { frame = f; packet = a.packet } ∷ [] = ap (λ (p : FollowedPast). p.seen) a.next_is in
     record {
-      row = record { notice = a.notice; followed = a.report ++ a.carried; read = u };
-      text_is = a.text_is;
+      row = record { notice = before.0; followed = a.report ++ a.carried; read = u };
+      text_is = a.text_is ∙ before.2;
       read_is = refl;
-      noticed = inr (lines_with past f time, stamp past.number time, f, a.notice_is);
+      noticed = before.1;
       thinned = body.thinned;
       whole = body.whole;
       seen =
@@ -364,43 +398,43 @@ over_seen BadIdent past = refl
 over_seen TooLong past = refl
 over_seen BadData past = refl
 
-part_alike : (plan : Plan) → HasNoPrivate plan → (past : FollowedPast) (read : Past) (line part : List ℕ) (named : Option (List ℕ)) (next : FollowedPast)
-    (other : Past) (t u : List ℕ) → part ≡ line → past.seen ≡ read.seen → FollowsPart plan past line part named next t
+part_alike : (plan : Plan) (all_frames : Bool) → HasNoPrivate plan → (past : FollowedPast) (read : Past) (line part : List ℕ) (named : Option (List ℕ)) (next : FollowedPast)
+    (other : Past) (t u : List ℕ) → part ≡ line → past.seen ≡ read.seen → FollowsPart plan all_frames past line part named next t
     → ReadsLine plan read (Short line) other u → LineAlike plan past.seen t u next.seen other.seen
-part_alike plan shared past read line part named next other t u whole seen (inl f) (inl g) =
+part_alike plan all_frames shared past read line part named next other t u whole seen (inl f) (inl g) =
     let same : f.0 ≡ g.0 = one_spelled line f.0 g.0 (subst (λ (p : List ℕ). Spells p f.0) whole f.2) g.1 in
-    frame_alike plan shared past read f.1 named g.0 next other t u seen
-    (subst (λ (x : Frame). FollowsFrame plan past f.1 named x next t) same f.4) g.2
-part_alike plan shared past read line part named next other t u whole seen (inl f) (inr g) =
+    frame_alike plan all_frames shared past read f.1 named g.0 next other t u seen
+    (subst (λ (x : Frame). FollowsFrame plan all_frames past f.1 named x next t) same f.4) g.2
+part_alike plan all_frames shared past read line part named next other t u whole seen (inl f) (inr g) =
     absurd (not_both line f.0 g.0 (subst (λ (p : List ℕ). Spells p f.0) whole f.2) g.1)
-part_alike plan shared past read line part named next other t u whole seen (inr f) (inl g) =
+part_alike plan all_frames shared past read line part named next other t u whole seen (inr f) (inl g) =
     absurd (not_both line g.0 f.0 g.1 (subst (λ (p : List ℕ). HasLineFault p f.0) whole f.1))
-part_alike plan shared past read line part named next other t u whole seen (inr f) (inr g) =
+part_alike plan all_frames shared past read line part named next other t u whole seen (inr f) (inr g) =
     let here : next.seen ≡ past.seen = ap (λ (p : FollowedPast). p.seen) f.2 ∙ passed_seen f.0 past in
     let there : other.seen ≡ read.seen = ap (λ (p : Past). p.seen) g.2 ∙ over_seen g.0 read in
     nothing_alike plan past.seen t u next.seen other.seen f.3 g.3 here (here ∙ seen ∙ sym there)
 
-line_alike : (plan : Plan) → HasNoPrivate plan → (past : FollowedPast) (read : Past) (line : Line) (next : FollowedPast) (other : Past) (t u : List ℕ)
-    → past.seen ≡ read.seen → IsUndirected line → FollowsLine plan past line next t → next.elsewhere ≡ past.elsewhere
+line_alike : (plan : Plan) (all_frames : Bool) → HasNoPrivate plan → (past : FollowedPast) (read : Past) (line : Line) (next : FollowedPast) (other : Past) (t u : List ℕ)
+    → past.seen ≡ read.seen → IsUndirected line → FollowsLine plan all_frames past line next t → next.elsewhere ≡ past.elsewhere
     → ReadsLine plan read line other u → LineAlike plan past.seen t u next.seen other.seen
-line_alike plan shared past read (Short line) next other t u seen undirected follows stays reads = elim follows.4 [
+line_alike plan all_frames shared past read (Short line) next other t u seen undirected follows stays reads = elim follows.4 [
   | inl away ↦ (let e = ap (λ (p : FollowedPast). p.elsewhere) away.1 in absurd (omega (arith, e, stays)))
   | inr here ↦
-      part_alike plan shared (one_line_more past) read line follows.0 follows.1 next other t u (whole_part line follows.0 undirected follows.2)
+      part_alike plan all_frames shared (one_line_more past) read line follows.0 follows.1 next other t u (whole_part line follows.0 undirected follows.2)
       seen here.1 reads
 ]
-line_alike plan shared past read Long next other t u seen undirected follows stays reads =
+line_alike plan all_frames shared past read Long next other t u seen undirected follows stays reads =
     let here : next.seen ≡ past.seen = ap (λ (p : FollowedPast). p.seen) follows.0 in
     let there : other.seen ≡ read.seen = ap (λ (p : Past). p.seen) reads.0 in
     nothing_alike plan past.seen t u next.seen other.seen follows.1 reads.1 here (here ∙ seen ∙ sym there)
 
 -- ---- all lines
 
-lines_alike : (plan : Plan) → HasNoPrivate plan → (log : List Line) (past : FollowedPast) (read : Past) (end : FollowedPast) (other : Past) (t u : List ℕ)
-    → past.seen ≡ read.seen → All IsUndirected log → FollowsLines plan past log end t → end.elsewhere ≡ past.elsewhere
+lines_alike : (plan : Plan) (all_frames : Bool) → HasNoPrivate plan → (log : List Line) (past : FollowedPast) (read : Past) (end : FollowedPast) (other : Past) (t u : List ℕ)
+    → past.seen ≡ read.seen → All IsUndirected log → FollowsLines plan all_frames past log end t → end.elsewhere ≡ past.elsewhere
     → ReadsLines plan read log other u → AreToldAlike plan (frames_seen end.seen) t u × ((more : List Seen) × (end.seen ≡ past.seen ++ more))
 unfolding all_followed all_read
-lines_alike plan shared [] past read end other t u seen undirected follows stays reads = (
+lines_alike plan all_frames shared [] past read end other t u seen undirected follows stays reads = (
   record {
     rows = [];
     reports_are = follows.1;
@@ -411,14 +445,14 @@ lines_alike plan shared [] past read end other t u seen undirected follows stays
   },
   ([], ap (λ (p : FollowedPast). p.seen) follows.0 ∙ sym (append-nil past.seen)),
 )
-lines_alike plan shared (line ∷ log) past read end other t u seen undirected follows stays reads =
-    let first = line_grows plan past line follows.0 follows.1 follows.3 in
-    let rest = lines_grow plan follows.0 log end follows.2 follows.4 in
+lines_alike plan all_frames shared (line ∷ log) past read end other t u seen undirected follows stays reads =
+    let first = line_grows plan all_frames past line follows.0 follows.1 follows.3 in
+    let rest = lines_grow plan all_frames follows.0 log end follows.2 follows.4 in
     let here : follows.0.elsewhere ≡ past.elsewhere = omega (arith, first, rest, stays) in
     let behind : end.elsewhere ≡ follows.0.elsewhere = omega (arith, first, rest, stays) in
-    let now = line_alike plan shared past read line follows.0 reads.0 follows.1 reads.1 seen (All-head IsUndirected line log undirected) follows.3 here
+    let now = line_alike plan all_frames shared past read line follows.0 reads.0 follows.1 reads.1 seen (All-head IsUndirected line log undirected) follows.3 here
     reads.3 in
-    let later = lines_alike plan shared log follows.0 reads.0 end other follows.2 reads.2 now.seen (All-tail IsUndirected line log undirected) follows.4
+    let later = lines_alike plan all_frames shared log follows.0 reads.0 end other follows.2 reads.2 now.seen (All-tail IsUndirected line log undirected) follows.4
     behind reads.4 in
     let told = later.0 in
     let more = now.grown.0 ++ later.1.0 in
@@ -440,5 +474,5 @@ lines_alike plan shared (line ∷ log) past read end other t u seen undirected f
     )
 
 pub told_alike : GroupsAreToldAlike
-told_alike plan log followed read reports texts shared undirected follows none reads =
-    (lines_alike plan shared (lines log) nothing_followed nothing_yet followed read reports texts refl undirected follows none reads).0
+told_alike plan all_frames log followed read reports texts shared undirected follows none reads =
+    (lines_alike plan all_frames shared (lines log) nothing_followed nothing_yet followed read reports texts refl undirected follows none reads).0

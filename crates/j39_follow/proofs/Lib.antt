@@ -32,5 +32,11 @@ pub mod Times
 pub mod ToAll
 pub mod Told
 pub mod UnitNames
+pub mod VehicleEnds
+pub mod VehicleLines
+pub mod VehicleParties
+pub mod VehicleReports
+pub mod VehicleTexts
+pub mod VehicleUnits
 pub mod Ways
 pub mod WordPlaces

@@ -1,5 +1,5 @@
 -- A log that is read line after line.
-use Rattle.std.proofs.Common.{◌≡◌, ◌≢◌, ◌⊎◌, ◌==◌, ℕ, zero, suc, true, List, [], ◌∷◌, ◌++◌, codes, Option, Some, None, inl, inr, refl, sym, ap, ◌∙◌, subst, append_assoc, eqb-true}
+use Rattle.std.proofs.Common.{◌≡◌, ◌≢◌, ◌⊎◌, ◌==◌, ℕ, zero, suc, Bool, true, List, [], ◌∷◌, ◌++◌, codes, Option, Some, None, inl, inr, refl, sym, ap, ◌∙◌, subst, append_assoc, eqb-true}
 use Rattle.std.specs.List.{slice_get}
 use Rattle.std.proofs.lemmas.Bool.{cases_Bool, eqb-false}
 use Rattle.std.proofs.lemmas.List.{append-nil}
@@ -19,17 +19,17 @@ use Rattle.j39_follow.specs.declared.reading.Reading.{Reading}
 
 -- ---- lines after lines
 
-reads_on : (plan : Plan) (first more : List Line) (past middle end : FollowedPast) (text piece : List ℕ) → FollowsLines plan past first middle text
-    → FollowsLines plan middle more end piece → FollowsLines plan past (first ++ more) end (text ++ piece)
-reads_on plan [] more past middle end text piece all rest =
-    let here : FollowsLines plan past more end piece = subst (λ (p : FollowedPast). FollowsLines plan p more end piece) all.0 rest in
-    subst (λ (t : List ℕ). FollowsLines plan past more end (t ++ piece)) (sym all.1) here
-reads_on plan (line ∷ first) more past middle end text piece all rest = (
+reads_on : (plan : Plan) (all_frames : Bool) (first more : List Line) (past middle end : FollowedPast) (text piece : List ℕ) → FollowsLines plan all_frames past first middle text
+    → FollowsLines plan all_frames middle more end piece → FollowsLines plan all_frames past (first ++ more) end (text ++ piece)
+reads_on plan all_frames [] more past middle end text piece all rest =
+    let here : FollowsLines plan all_frames past more end piece = subst (λ (p : FollowedPast). FollowsLines plan all_frames p more end piece) all.0 rest in
+    subst (λ (t : List ℕ). FollowsLines plan all_frames past more end (t ++ piece)) (sym all.1) here
+reads_on plan all_frames (line ∷ first) more past middle end text piece all rest = (
   all.0,
   all.1,
   all.2 ++ piece,
   all.3,
-  reads_on plan first more all.0 middle end all.2 piece all.4 rest,
+  reads_on plan all_frames first more all.0 middle end all.2 piece all.4 rest,
   ap (λ (t : List ℕ). t ++ piece) all.5 ∙ append_assoc all.1 all.2 piece,
 )
 
@@ -38,14 +38,15 @@ begun plan reading text recalls = record { past = nothing_followed; reports = []
 
 -- what is told next is read
 pub read_next : (plan : Plan) (before next : List Line) (old new : Reading) (written : List ℕ)
-    → ((past : FollowedPast) → RecallsPast plan old past → (end : FollowedPast) × (piece : List ℕ) × FollowsLines plan past next end piece × RecallsPast plan new end
+    → ((past : FollowedPast) → RecallsPast plan old past → (end : FollowedPast) × (piece : List ℕ) × FollowsLines plan old.all_frames past next end piece × RecallsPast plan new end
     × (new.text ≡ old.text ++ piece))
-    → HasFollowedLines plan before old written → HasFollowedLines plan (before ++ next) new written
-read_next plan before next old new written step all =
+    → new.all_frames ≡ old.all_frames → HasFollowedLines plan before old written → HasFollowedLines plan (before ++ next) new written
+read_next plan before next old new written step same all =
     let one = step all.past all.recalls in record {
       past = one.0;
       reports = all.reports ++ one.1;
-      read = reads_on plan before next nothing_followed all.past one.0 all.reports one.1 all.read one.2;
+      read = subst (λ (b : Bool). FollowsLines plan b nothing_followed (before ++ next) one.0 (all.reports ++ one.1)) (sym same)
+          (reads_on plan old.all_frames before next nothing_followed all.past one.0 all.reports one.1 all.read one.2);
       recalls = one.3;
       text_is = ap (λ (t : List ℕ). t ++ one.1) all.text_is ∙ append_assoc written old.text one.1 ∙ sym (ap (λ (t : List ℕ). written ++ t) one.4);
     }
@@ -86,12 +87,12 @@ put plan told_so_far old written text empty before =
 pub closed : (plan : Plan) (log : List ℕ) (told : List Line) (reading : Reading) (written text : List ℕ) (before : HasFollowedLines plan told reading written)
     → HasLines true told log
     → (units : List ℕ) × AreUnitLines plan (frames_seen before.past.seen) 0 plan.units.items units × (text ≡ reading.text ++ behind_reports plan before.past units)
-    → IsFollowedLog plan log (written ++ text)
+    → IsFollowedLog plan reading.all_frames log (written ++ text)
 closed plan log told reading written text before all ends = record {
   past = before.past;
   reports = before.reports;
   units = ends.0;
-  read = subst (λ (ls : List Line). FollowsLines plan nothing_followed ls before.past before.reports) (sym all) before.read;
+  read = subst (λ (ls : List Line). FollowsLines plan reading.all_frames nothing_followed ls before.past before.reports) (sym all) before.read;
   units_are = ends.1;
   text_is =
       ap (λ (t : List ℕ). written ++ t) ends.2 ∙ sym (append_assoc written reading.text (behind_reports plan before.past ends.0))
@@ -102,7 +103,7 @@ closed plan log told reading written text before all ends = record {
 
 -- a text of these lines begins with what is written of them
 pub so_far : (plan : Plan) (told : List Line) (reading : Reading) (written : List ℕ) → HasFollowedLines plan told reading written
-    → IsSoFar (λ told written. HasFollowedLines plan told reading written) (λ log text verdict. IsFollowedLog plan log text × (verdict ≡ Done))
+    → IsSoFar (λ told written. HasFollowedLines plan told reading written) (λ log text verdict. IsFollowedLog plan reading.all_frames log text × (verdict ≡ Done))
     true reading.text told written
 so_far plan told reading written before =
     let units = unit_lines plan reading.directory.holders (frames_seen before.past.seen) before.recalls.remembers.knows.recounts in
@@ -117,7 +118,7 @@ so_far plan told reading written before =
             past = before.past;
             reports = before.reports;
             units = units.0;
-            read = subst (λ (all : List Line). FollowsLines plan nothing_followed all before.past before.reports) (sym is) before.read;
+            read = subst (λ (all : List Line). FollowsLines plan reading.all_frames nothing_followed all before.past before.reports) (sym is) before.read;
             units_are = units.1;
             text_is = sym (append_assoc written reading.text end) ∙ ap (λ (t : List ℕ). t ++ end) (sym before.text_is);
           },

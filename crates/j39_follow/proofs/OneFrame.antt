@@ -15,7 +15,7 @@ use Rattle.j39_tp.proofs.Tracking.{one_message, one_pgn}
 use Rattle.j39_tp.specs.declared.packet.Packet.{Packet}
 use Rattle.j39_follow.specs.Contests.{Timed}
 use Rattle.j39_follow.specs.Fits.{IsSentGroup, fitting_flow}
-use Rattle.j39_follow.specs.FollowReports.{AreTold, IsAnswerWay, IsAsked, IsGroupOfMessage, IsGrouped, IsMessageReport, IsNotice, IsSendingOf, IsWay, Message, aim_at, answer_way_text, in_frame, is_to_all, message_line, notice_text, told_events}
+use Rattle.j39_follow.specs.FollowReports.{AreTold, IsAnswerWay, IsAsked, IsBareText, IsGroupOfMessage, IsGrouped, IsMessageReport, IsNotice, IsSendingOf, IsWay, Message, aim_at, answer_way_text, bare_text, frame_line, in_frame, is_to_all, message_line, notice_text, told_events}
 use Rattle.j39_follow.specs.FollowText.{HeardSince, IsCarriedReport, IsFollowedAs, IsPacketReport, OneChangesHands}
 use Rattle.j39_follow.specs.LoggedRequests.{asked_request, told_address}
 use Rattle.j39_follow.specs.Who.{unit_of, who_text}
@@ -92,6 +92,12 @@ one_notice plan log front f t u a b =
     ∙ ap (λ (o : Option ℕ). notice_text plan front f b.way o a.back) asked
     ∙ ap (λ (w : List ℕ). notice_text plan front f b.way b.asked w) back
     ∙ sym b.text_is
+
+-- a frame has one line of its own, or none
+pub one_bare : (plan : Plan) (all_frames : Bool) (log : List Timed) (front : List ℕ) (f : Frame) (written t u : List ℕ)
+    → IsBareText plan all_frames log front f written t → IsBareText plan all_frames log front f written u → t ≡ u
+one_bare plan all_frames log front f written t u a b =
+    a.2 ∙ ap (λ (w : List ℕ). bare_text all_frames written (frame_line front w f)) (one_way plan log f.ident a.0 b.0 a.1 b.1) ∙ sym b.2
 
 -- what a frame tells of requests is one list
 pub one_told : (plan : Plan) (log : List Timed) (f : Frame) (sorts : List Sort) (a b : List Event)

@@ -1,5 +1,5 @@
 -- What `follow` and `read` see in one log.
-use Rattle.std.specs.Prelude.{◌≡◌, ℕ, List}
+use Rattle.std.specs.Prelude.{◌≡◌, ℕ, Bool, List}
 use Rattle.std.specs.List.{All}
 use Rattle.j39_id.specs.Lines.{Line, Short, Long, lines}
 use Rattle.j39_findings.specs.declared.plan.Plan.{Plan}
@@ -22,6 +22,6 @@ pub record SawAlike (followed : FollowedPast) (read : Past) : Type 0 where
 
 -- of a log in which no line ends in a direction and none is elsewhere both see the same frames, and count alike
 abbrev pub FollowAndReadSeeAlike : Type 0
-FollowAndReadSeeAlike = (plan : Plan) (log : List ℕ) (followed : FollowedPast) (read : Past) (reports texts : List ℕ)
-    → All IsUndirected (lines log) → FollowsLines plan nothing_followed (lines log) followed reports → followed.elsewhere ≡ 0
+FollowAndReadSeeAlike = (plan : Plan) (all_frames : Bool) (log : List ℕ) (followed : FollowedPast) (read : Past) (reports texts : List ℕ)
+    → All IsUndirected (lines log) → FollowsLines plan all_frames nothing_followed (lines log) followed reports → followed.elsewhere ≡ 0
     → ReadsLines plan nothing_yet (lines log) read texts → SawAlike followed read

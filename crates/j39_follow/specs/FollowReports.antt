@@ -1,6 +1,6 @@
 -- The lines that report what a frame tells, and what was sent.
 use Rattle.std.specs.Prelude.{◌≡◌, ℕ, ◌==◌, ◌||◌, ◌&&◌, ◌%◌, ◌^◌, Bool, if◌then◌else◌, List, []}
-use Rattle.std.specs.Prelude.{◌∷◌, ◌++◌, codes, decimal, map, is_some, option_map, Option, Some, None}
+use Rattle.std.specs.Prelude.{◌∷◌, ◌++◌, codes, decimal, length, map, is_some, option_map, Option, Some, None}
 use Rattle.std.specs.Option.{option_map_or, option_to_list}
 use Rattle.hex.specs.Hex.{encode_upper}
 use Rattle.j39_id.specs.Addresses.{global_address}
@@ -211,3 +211,21 @@ abbrev pub IsMessageReport : Plan → List Timed → List ℕ → Message → So
 IsMessageReport plan log front m sort text =
     (sent : Sending) × (group : Option ℕ) × IsSendingOf plan log m sent × IsSentGroup plan m.pgn m.bytes sent group
     × IsGrouped plan log front m sent group sort text
+
+-- ---- frames of no planned group
+
+-- the priority of a frame and its bytes
+unfoldable pub priority_and_bytes : Frame → List ℕ
+priority_and_bytes f = field (codes " priority ") f.ident.priority ++ (codes " bytes " ++ (encode_upper f.payload.items ++ 10 ∷ []))
+
+-- a frame by the number of its group, from whom to whom it goes, its priority and its bytes
+unfoldable pub frame_line : List ℕ → List ℕ → Frame → List ℕ
+frame_line front way f = front ++ (field (codes "frame ") (pgn_of f.ident) ++ (way ++ priority_and_bytes f))
+
+-- where all frames are told, one of which nothing else is written has a line of its own
+abbrev pub bare_text : Bool → List ℕ → List ℕ → List ℕ
+bare_text all_frames written line = if all_frames && length written == 0 then line else []
+
+abbrev pub IsBareText : Plan → Bool → List Timed → List ℕ → Frame → List ℕ → List ℕ → Type 0
+IsBareText plan all_frames log front f written text =
+    (way : List ℕ) × IsWay plan log f.ident way × (text ≡ bare_text all_frames written (frame_line front way f))

@@ -28,7 +28,7 @@ use Rattle.j39_text.specs.Texts.{field, place_field}
 use Rattle.j39_stream.specs.declared.verdict.Verdict.{Verdict}
 use Rattle.j39_stream.specs.declared.verdict.Verdict.TheVariants.{Done, Findings, Refused, Unreadable}
 use Rattle.j39_follow.specs.Contests.{Timed}
-use Rattle.j39_follow.specs.FollowReports.{AreTold, IsGroupOfMessage, IsMessageReport, IsNotice, in_frame, stamp}
+use Rattle.j39_follow.specs.FollowReports.{AreTold, IsBareText, IsGroupOfMessage, IsMessageReport, IsNotice, in_frame, stamp}
 use Rattle.j39_follow.specs.LoggedRequests.{times_answered, times_asked, times_refused}
 use Rattle.j39_follow.specs.declared.event.Event.{Event}
 use Rattle.j39_follow.specs.declared.message.Sort.{Sort}
@@ -114,8 +114,9 @@ line_passed_over _ past = with_bad_line past
 abbrev pub lines_with : FollowedPast → Frame → List ℕ → List Timed
 lines_with past f time = past.timed ++ record { frame = f; time = moment_of time } ∷ []
 
--- from what came so far a frame leads to this, and this is written at it: what it tells, what it is, and what it ends
-pub record FollowsFrame (plan : Plan) (past : FollowedPast) (time : List ℕ) (named : Option (List ℕ)) (f : Frame)
+-- from what came so far a frame leads to this, and this is written at it: what it tells, what it is, the frame itself where all frames are told
+-- and it neither tells nor is anything, and what it ends
+pub record FollowsFrame (plan : Plan) (all_frames : Bool) (past : FollowedPast) (time : List ℕ) (named : Option (List ℕ)) (f : Frame)
     (next : FollowedPast) (text : List ℕ) : Type 0 where
   pub packet : Option Packet
   pub sort : Sort
@@ -123,13 +124,15 @@ pub record FollowsFrame (plan : Plan) (past : FollowedPast) (time : List ℕ) (n
   pub events : List Event
   pub notice : List ℕ
   pub report : List ℕ
+  pub bare : List ℕ
   pub carried : List ℕ
   pub heard_as : IsFollowedAs plan (lines_with past f time) f packet
   pub notice_is : IsNotice plan (lines_with past f time) (stamp past.number time) f notice
   pub report_is : IsMessageReport plan (lines_with past f time) (stamp past.number time) (in_frame f) sort report
+  pub bare_is : IsBareText plan all_frames (lines_with past f time) (stamp past.number time) f (notice ++ report) bare
   pub carried_is : IsPacketReport plan past.seen (lines_with past f time) (stamp past.number time) f packet sorts carried
   pub events_are : AreTold plan (lines_with past f time) f (sort ∷ sorts) events
-  pub text_is : text ≡ notice ++ (report ++ carried)
+  pub text_is : text ≡ notice ++ (report ++ (bare ++ carried))
   pub next_is : next ≡ record past {
     seen = past.seen ++ record { frame = f; packet = packet } ∷ [];
     timed = lines_with past f time;
@@ -139,32 +142,32 @@ pub record FollowsFrame (plan : Plan) (past : FollowedPast) (time : List ℕ) (n
   }
 
 -- a line that isn't elsewhere is read: as the frame that its part spells, or it is passed over
-abbrev pub FollowsPart : Plan → FollowedPast → List ℕ → List ℕ → Option (List ℕ) → FollowedPast → List ℕ → Type 0
-FollowsPart plan past line part named next text =
+abbrev pub FollowsPart : Plan → Bool → FollowedPast → List ℕ → List ℕ → Option (List ℕ) → FollowedPast → List ℕ → Type 0
+FollowsPart plan all_frames past line part named next text =
     ((f : Frame) × (time : List ℕ) × Spells part f × IsTimeText line time
-    × FollowsFrame plan past time named f next text)
+    × FollowsFrame plan all_frames past time named f next text)
     ⊎ ((e : LineError) × HasLineFault part e × (next ≡ line_passed_over e past) × (text ≡ []))
 
-abbrev pub FollowsShort : Plan → FollowedPast → List ℕ → FollowedPast → List ℕ → Type 0
-FollowsShort plan past line next text =
+abbrev pub FollowsShort : Plan → Bool → FollowedPast → List ℕ → FollowedPast → List ℕ → Type 0
+FollowsShort plan all_frames past line next text =
     (part : List ℕ) × (named : Option (List ℕ)) × IsReadPart line part × NamesInterface part named
     × ((IsElsewhere past.interface part named × (next ≡ record past { elsewhere = past.elsewhere + 1 }) × (text ≡ []))
-    ⊎ ((¬ IsElsewhere past.interface part named) × FollowsPart plan past line part named next text))
+    ⊎ ((¬ IsElsewhere past.interface part named) × FollowsPart plan all_frames past line part named next text))
 
 -- the past, once a line more has begun
 abbrev pub one_line_more : FollowedPast → FollowedPast
 one_line_more past = record past { number = past.number + 1 }
 
-abbrev pub FollowsLine : Plan → FollowedPast → Line → FollowedPast → List ℕ → Type 0
-FollowsLine plan past (Short line) next text = FollowsShort plan (one_line_more past) line next text
-FollowsLine plan past Long next text = (next ≡ with_bad_line (one_line_more past)) × (text ≡ [])
+abbrev pub FollowsLine : Plan → Bool → FollowedPast → Line → FollowedPast → List ℕ → Type 0
+FollowsLine plan all_frames past (Short line) next text = FollowsShort plan all_frames (one_line_more past) line next text
+FollowsLine plan all_frames past Long next text = (next ≡ with_bad_line (one_line_more past)) × (text ≡ [])
 
 -- so do all lines, one after another
-abbrev pub FollowsLines : Plan → FollowedPast → List Line → FollowedPast → List ℕ → Type 0
-FollowsLines plan past [] end text = (end ≡ past) × (text ≡ [])
-FollowsLines plan past (line ∷ rest) end text =
-    (next : FollowedPast) × (front : List ℕ) × (back : List ℕ) × FollowsLine plan past line next front
-    × FollowsLines plan next rest end back × (text ≡ front ++ back)
+abbrev pub FollowsLines : Plan → Bool → FollowedPast → List Line → FollowedPast → List ℕ → Type 0
+FollowsLines plan all_frames past [] end text = (end ≡ past) × (text ≡ [])
+FollowsLines plan all_frames past (line ∷ rest) end text =
+    (next : FollowedPast) × (front : List ℕ) × (back : List ℕ) × FollowsLine plan all_frames past line next front
+    × FollowsLines plan all_frames next rest end back × (text ≡ front ++ back)
 
 -- ---- the end of a log
 
@@ -309,26 +312,26 @@ follow_counts_line frames skipped bad elsewhere =
 
 -- what is written of a log: what its lines report, then what was sent of each flow and group, where each unit stands, what was asked
 -- and answered of each request, what met each need, and the counts
-pub record IsFollowedLog (plan : Plan) (log text : List ℕ) : Type 0 where
+pub record IsFollowedLog (plan : Plan) (all_frames : Bool) (log text : List ℕ) : Type 0 where
   pub past : FollowedPast
   pub reports : List ℕ
   pub units : List ℕ
-  pub read : FollowsLines plan nothing_followed (lines log) past reports
+  pub read : FollowsLines plan all_frames nothing_followed (lines log) past reports
   pub units_are : AreUnitLines plan (frames_seen past.seen) 0 plan.units.items units
   pub text_is : text ≡ reports ++ (flow_ends plan past.sent 0 plan.flows.items ++ (group_ends plan past.sent 0 plan.groups.items
       ++ (units ++ (request_ends plan past.told 0 plan.requests.items ++ (need_ends plan past.sent 0 plan.needs.items
       ++ follow_counts_line (length past.seen) past.skipped past.bad past.elsewhere)))))
 
--- what is written for a plan and a log, with the verdict; of the log of a refused plan nothing is read
-abbrev pub IsFollowText : Plan → List ℕ → List ℕ → Verdict → Type 0
-IsFollowText plan log text Done = All IsSendable plan.groups.items × IsFollowedLog plan log text
-IsFollowText plan log text Refused = (g : ℕ) × IsFirstRefused plan.groups.items g × (text ≡ refused_plan_line plan g) × (log ≡ [])
-IsFollowText plan log text Findings = ⊥
-IsFollowText plan log text Unreadable = ⊥
+-- what is written for a plan and a log, with the verdict, where all frames are told or those of planned groups alone; of the log of a refused plan nothing is read
+abbrev pub IsFollowText : Plan → Bool → List ℕ → List ℕ → Verdict → Type 0
+IsFollowText plan all_frames log text Done = All IsSendable plan.groups.items × IsFollowedLog plan all_frames log text
+IsFollowText plan all_frames log text Refused = (g : ℕ) × IsFirstRefused plan.groups.items g × (text ≡ refused_plan_line plan g) × (log ≡ [])
+IsFollowText plan all_frames log text Findings = ⊥
+IsFollowText plan all_frames log text Unreadable = ⊥
 
 -- ---- a law
 
--- for a plan and a log there is one text, and one verdict
+-- for a plan and a log there is one text, and one verdict, whichever frames are told
 abbrev pub LogHasOneFollowText : Type 0
-LogHasOneFollowText = (plan : Plan) (log text other : List ℕ) (verdict outcome : Verdict)
-    → IsFollowText plan log text verdict → IsFollowText plan log other outcome → (text ≡ other) × (verdict ≡ outcome)
+LogHasOneFollowText = (plan : Plan) (all_frames : Bool) (log text other : List ℕ) (verdict outcome : Verdict)
+    → IsFollowText plan all_frames log text verdict → IsFollowText plan all_frames log other outcome → (text ≡ other) × (verdict ≡ outcome)

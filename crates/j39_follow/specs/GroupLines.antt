@@ -1,5 +1,5 @@
 -- What `follow` and `read` write of the groups of one log.
-use Rattle.std.specs.Prelude.{◌≡◌, ◌⊎◌, ℕ, List, [], ◌∷◌, ◌++◌, Option, Some}
+use Rattle.std.specs.Prelude.{◌≡◌, ◌⊎◌, ℕ, Bool, List, [], ◌∷◌, ◌++◌, Option, Some}
 use Rattle.std.specs.List.{All, slice_get}
 use Rattle.j39_id.specs.Lines.{lines}
 use Rattle.j39_id.specs.declared.frame.Frame.{Frame}
@@ -10,7 +10,7 @@ use Rattle.j39_log.specs.NamedReports.{named_reading_lines, named_report}
 use Rattle.j39_log.specs.ReadText.{Past, ReadsLines, nothing_yet}
 use Rattle.j39_follow.specs.Alike.{IsUndirected}
 use Rattle.j39_follow.specs.Contests.{Timed}
-use Rattle.j39_follow.specs.FollowReports.{IsNotice, Message, message_line}
+use Rattle.j39_follow.specs.FollowReports.{IsNotice, Message, frame_line, message_line}
 use Rattle.j39_follow.specs.FollowText.{FollowedPast, FollowsLines, frames_seen, nothing_followed}
 use Rattle.j39_follow.specs.Who.{ChangesHands}
 
@@ -26,7 +26,7 @@ pub record TellOneMessage (plan : Plan) (followed read : List ℕ) : Type 0 wher
   pub followed_is : followed ≡ message_line group front way flow message ++ named_reading_lines plan group message.bytes
   pub read_is : read ≡ named_report plan group message.ident message.bytes
 
--- what is written at one line: by `follow` what the frame tells of addresses and requests, and then of a group; by `read` of a group
+-- what is written at one line: by `follow` what the frame tells of addresses and requests, or of itself, and then of a group; by `read` of a group
 pub record LineTexts : Type 0 where
   pub notice : List ℕ
   pub followed : List ℕ
@@ -40,9 +40,12 @@ unfoldable pub all_read : List LineTexts → List ℕ
 all_read [] = []
 all_read (line ∷ rest) = line.read ++ all_read rest
 
--- a notice is what some frame tells
+-- a notice is what some frame tells, or a frame itself
 abbrev pub IsNoticed : Plan → LineTexts → Type 0
-IsNoticed plan line = (line.notice ≡ []) ⊎ ((log : List Timed) × (front : List ℕ) × (f : Frame) × IsNotice plan log front f line.notice)
+IsNoticed plan line =
+    (line.notice ≡ [])
+    ⊎ ((log : List Timed) × (front : List ℕ) × (f : Frame) × IsNotice plan log front f line.notice)
+    ⊎ ((front : List ℕ) × (way : List ℕ) × (f : Frame) × (line.notice ≡ frame_line front way f))
 
 -- `follow` writes of no group, or of the message that `read` writes of
 abbrev pub IsThinned : Plan → LineTexts → Type 0
@@ -70,7 +73,7 @@ pub record AreToldAlike (plan : Plan) (frames : List Frame) (reports texts : Lis
 
 -- of a plan without private groups, and a log in which no line ends in a direction and none is elsewhere
 abbrev pub GroupsAreToldAlike : Type 0
-GroupsAreToldAlike = (plan : Plan) (log : List ℕ) (followed : FollowedPast) (read : Past) (reports texts : List ℕ)
-    → HasNoPrivate plan → All IsUndirected (lines log) → FollowsLines plan nothing_followed (lines log) followed reports
+GroupsAreToldAlike = (plan : Plan) (all_frames : Bool) (log : List ℕ) (followed : FollowedPast) (read : Past) (reports texts : List ℕ)
+    → HasNoPrivate plan → All IsUndirected (lines log) → FollowsLines plan all_frames nothing_followed (lines log) followed reports
     → followed.elsewhere ≡ 0 → ReadsLines plan nothing_yet (lines log) read texts
     → AreToldAlike plan (frames_seen followed.seen) reports texts

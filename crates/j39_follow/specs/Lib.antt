@@ -8,5 +8,6 @@ pub mod Holders
 pub mod LogLines
 pub mod LoggedRequests
 pub mod UnitsOfNames
+pub mod VehicleLogs
 pub mod Who
 pub mod inside

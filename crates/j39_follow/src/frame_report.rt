@@ -1,4 +1,4 @@
-//! What is written at a frame: what it tells, what it is, and the message that it ends.
+//! What is written at a frame: what it tells, what it is, or a line of its own, and the message that it ends.
 ghost use Rattle.std.specs.Prelude.{◌≡◌, ◌++◌, ◌+◌, ◌^◌, ◌<◌, ◌∷◌, [], ℕ, List, Some, length, IfOk, OnOk};
 ghost use Rattle.std.specs.Option.{option_to_list};
 ghost use Rattle.j39_log.specs.LogPairs.{Seen};
@@ -9,11 +9,12 @@ ghost use Rattle.j39_follow.specs.FollowReports.{IsMessageReport};
 ghost use Rattle.j39_follow.specs.FollowText.{IsPacketReport};
 ghost use Rattle.j39_follow.specs.declared.event.Event.{Event as AnEvent};
 ghost use Rattle.j39_follow.specs.inside.Exchanging.{AreExchanges, AreNoted};
-ghost use Rattle.j39_follow.specs.inside.FrameWriting.{IsFrameWritten};
+ghost use Rattle.j39_follow.specs.inside.FrameWriting.{IsFrameWritten, IsItselfWritten};
 ghost use Rattle.j39_follow.specs.inside.Hearing.{HaveHeardOneMore, HaveHeardSince};
 ghost use Rattle.j39_follow.specs.inside.Contesting.{ShowsAsker, ShowsParties};
 ghost use Rattle.j39_follow.specs.inside.Reporting.{front_of, arrived_message};
 
+use crate::bare_frame::write_bare;
 use crate::exchanges::Exchanges;
 use crate::group_line::write_message;
 use crate::known_parties::Parties;
@@ -60,9 +61,33 @@ fn write_packet(
     Ok(Some(sort))
 }
 
+// What is written of a frame itself, and what it counts as.
+#[inline(always)]
+fn write_itself(
+    all_frames: bool,
+    text: &mut TextBuffer,
+    groups: &Groups<'_>,
+    parties: &Parties,
+    stamp: Stamp<'_>,
+    frame: &Frame,
+) -> Result<Sort, AllocError>
+    ensures { IfOk result (λ sort. (log : List Timed) → ShowsParties groups.now parties.now log frame.now.ident
+        → ShowsAsker groups.now parties.now log frame.now
+        → IsItselfWritten groups.now all_frames log (front_of stamp.entry) frame.now sort text.old text.new) }
+{
+    let begun = text.len();
+    write_notice(text, groups.plan(), parties, stamp, frame)?;
+    let sort = write_message(text, groups, parties, stamp, in_frame(frame))?;
+    if all_frames && text.len() == begun {
+        write_bare(text, groups.plan(), parties, stamp, frame)?;
+    }
+    Ok(sort)
+}
+
 // What is written at a frame whose claim was noted, what it counts as, and what the message counts as that it ends.
 #[inline(always)]
 fn write_frame(
+    all_frames: bool,
     text: &mut TextBuffer,
     listeners: &mut Listeners,
     groups: &Groups<'_>,
@@ -72,10 +97,9 @@ fn write_frame(
 ) -> Result<(Sort, Option<Sort>), AllocError>
     ensures { IfOk result (λ sorts. (seen : List Seen) (log : List Timed) → ShowsParties groups.now parties.now log frame.now.ident
         → ShowsAsker groups.now parties.now log frame.now → HaveHeardSince groups.now listeners.old seen → AreAllInRange seen
-        → IsFrameWritten groups.now listeners.new seen log (front_of stamp.entry) frame.now sorts.0 sorts.1 text.old text.new) }
+        → IsFrameWritten groups.now all_frames listeners.new seen log (front_of stamp.entry) frame.now sorts.0 sorts.1 text.old text.new) }
 {
-    write_notice(text, groups.plan(), parties, stamp, frame)?;
-    let sort = write_message(text, groups, parties, stamp, in_frame(frame))?;
+    let sort = write_itself(all_frames, text, groups, parties, stamp, frame)?;
     if sort.is_grouped() {
         return Ok((sort, None));
     }
@@ -90,6 +114,7 @@ fn write_frame(
 /// requests is noted, where the plan has any.
 #[inline(always)]
 pub(crate) fn report_frame(
+    all_frames: bool,
     text: &mut TextBuffer,
     listeners: &mut Listeners,
     exchanges: &mut Exchanges,
@@ -100,12 +125,12 @@ pub(crate) fn report_frame(
 ) -> Result<(Sort, Option<Sort>), AllocError>
     ensures written { IfOk result (λ sorts. (seen : List Seen) (log : List Timed) → ShowsParties groups.now parties.now log frame.now.ident
         → ShowsAsker groups.now parties.now log frame.now → HaveHeardSince groups.now listeners.old seen → AreAllInRange seen
-        → IsFrameWritten groups.now listeners.new seen log (front_of stamp.entry) frame.now sorts.0 sorts.1 text.old text.new) }
+        → IsFrameWritten groups.now all_frames listeners.new seen log (front_of stamp.entry) frame.now sorts.0 sorts.1 text.old text.new) }
     ensures noted { IfOk result (λ sorts. (log : List Timed) (events : List AnEvent) → ShowsParties groups.now parties.now log frame.now.ident
         → ShowsAsker groups.now parties.now log frame.now → length events + 3 < 2 ^ 64 → AreExchanges groups.now exchanges.old events
         → AreNoted groups.now log frame.now (sorts.0 ∷ option_to_list sorts.1) events exchanges.new) }
 {
-    let (sort, ended) = write_frame(text, listeners, groups, parties, stamp, frame)?;
+    let (sort, ended) = write_frame(all_frames, text, listeners, groups, parties, stamp, frame)?;
     if groups.plan().requests.is_empty() {
         return Ok((sort, ended));
     }

@@ -4,6 +4,7 @@ ghost use Rattle.j39_follow.specs.FollowText.{LogHasOneFollowText};
 ghost use Rattle.j39_follow.specs.GroupLines.{GroupsAreToldAlike};
 ghost use Rattle.j39_follow.specs.Holders.{HasOneHolder, HoldsOneAddress};
 ghost use Rattle.j39_follow.specs.UnitsOfNames.{NamesAreOfTheirUnits};
+ghost use Rattle.j39_follow.specs.VehicleLogs.{TypesTellVehicles};
 
 /// After any frames an address has one holder or none, and a NAME holds one address at most.
 pub fn holders_are_one_to_one()
@@ -32,4 +33,10 @@ pub fn follow_and_read_see_alike()
 /// `follow` tells of groups are told by `read` too, line after line, and all that `read` tells are where no address changes hands.
 pub fn groups_are_told_alike()
     ensures { GroupsAreToldAlike }
+{}
+
+/// Where no two units of a plan may be one, `follow` by this plan writes of the log of a vehicle what it writes by the
+/// plan of this vehicle, with the serial numbers of boxes behind their claims and Cannots.
+pub fn types_tell_vehicles()
+    ensures { TypesTellVehicles }
 {}

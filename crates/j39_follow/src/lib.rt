@@ -3,6 +3,7 @@
 
 mod acknowledgement;
 mod asking;
+mod bare_frame;
 mod changed_hands;
 mod claim;
 mod claimants;

@@ -25,7 +25,7 @@ impl<'a> LineReader for LogReader<'a> {
 
     ghost has_read = { λ reader told written. HasFollowedLines reader.groups.now told reader.reading written };
 
-    ghost is_text = { λ reader log text verdict. IsFollowedLog reader.groups.now log text × (verdict ≡ Done) };
+    ghost is_text = { λ reader log text verdict. IsFollowedLog reader.groups.now reader.reading.all_frames log text × (verdict ≡ Done) };
 
     ghost within = { λ reader most. CountsWithin reader.reading most };
 

@@ -14,7 +14,8 @@ use std::alloc::Global;
 /// plan that it asks, in a plan with requests each acknowledgement, and each frame or message of a planned group
 /// with the unit that is taken to hold its source and the flow that it fits, with the number of its line and its
 /// time; at the end how often each flow was sent, what met each need, how often each request was asked, answered
-/// and refused, and where each unit stands.
+/// and refused, and where each unit stands. Where all frames are asked for, each frame of which nothing else is
+/// written has a line of its own.
 ///
 /// The lines of the log are those that `read_frame` reads. Behind the frame of a line may stand its direction, and the
 /// word before the frame is its interface: lines of another interface than the log's first are counted and passed over.
@@ -23,14 +24,15 @@ use std::alloc::Global;
 pub fn follow_text<S: Source, W: Sink>(
     alloc: Global,
     plan: &Plan,
+    all_frames: bool,
     source: &mut S,
     sink: &mut W,
 ) -> Result<Verdict, Fault>
-    ensures { AnswersInPieces (IsFollowText plan.now) log_limits (S.state source.old) (S.state source.new) W.state sink.old sink.new result }
+    ensures { AnswersInPieces (IsFollowText plan.now all_frames) log_limits (S.state source.old) (S.state source.new) W.state sink.old sink.new result }
 {
     match Groups::new(alloc, plan) {
         Ok(groups) => {
-            let reading = Reading::new(alloc, plan);
+            let reading = Reading::new(alloc, plan, all_frames);
             let mut reader = LogReader {
                 groups: &groups,
                 reading,

@@ -45,6 +45,8 @@ use std::alloc::{AllocError, Global};
 #[derive(Drop)]
 pub(crate) struct Reading {
     alloc: Global,
+    // Whether frames of which nothing else is written have a line of their own.
+    pub all_frames: bool,
     pub text: TextBuffer,
     directory: Directory,
     contests: Contests,
@@ -96,13 +98,15 @@ fn kept_interface(kept: &Option<Vec<u8>>) -> Option<&[u8]>
 }
 
 impl Reading {
-    pub fn new(alloc: Global, plan: &Plan) -> Self
+    pub fn new(alloc: Global, plan: &Plan, all_frames: bool) -> Self
         ensures text { result.text ≡ [] }
+        ensures told { result.all_frames ≡ all_frames }
         ensures past { RecallsPast plan.now result nothing_followed }
         ensures count { CountsWithin result 0 }
     {
         Reading {
             alloc,
+            all_frames,
             text: TextBuffer::new(alloc),
             directory: Directory::new(alloc, plan),
             contests: Contests::new(alloc),
@@ -130,7 +134,7 @@ impl Reading {
         ensures written { IfOk result (λ sorts. (seen : List Seen) (log : List Timed) → Knows groups.now self.old.directory (frames_of log)
             → AreContests groups.now self.old.contests log → IsNow log (moment_of stamp.entry.time.now)
             → HaveHeardSince groups.now self.old.listeners seen → AreAllInRange seen
-            → IsFrameWritten groups.now self.new.listeners seen log (front_of stamp.entry) frame.now sorts.0 sorts.1 self.old.text self.new.text) }
+            → IsFrameWritten groups.now self.old.all_frames self.new.listeners seen log (front_of stamp.entry) frame.now sorts.0 sorts.1 self.old.text self.new.text) }
         ensures noted { IfOk result (λ sorts. (log : List Timed) (events : List AnEvent) → Knows groups.now self.old.directory (frames_of log)
             → AreContests groups.now self.old.contests log → IsNow log (moment_of stamp.entry.time.now)
             → length events + 3 < 2 ^ 64 → AreExchanges groups.now self.old.exchanges events
@@ -144,6 +148,7 @@ impl Reading {
             moment(stamp.time),
         );
         report_frame(
+            self.all_frames,
             &mut self.text,
             &mut self.listeners,
             &mut self.exchanges,
@@ -167,13 +172,14 @@ impl Reading {
         ensures written { IfOk result (λ sorts. (seen : List Seen) (log : List Timed) → Knows groups.now self.old.directory (frames_of log)
             → IsDefender groups.now log frame.now.ident.sa None → IsDefender groups.now log frame.now.ident.ps None
             → HaveHeardSince groups.now self.old.listeners seen → AreAllInRange seen
-            → IsFrameWritten groups.now self.new.listeners seen log (front_of stamp.entry) frame.now sorts.0 sorts.1 self.old.text self.new.text) }
+            → IsFrameWritten groups.now self.old.all_frames self.new.listeners seen log (front_of stamp.entry) frame.now sorts.0 sorts.1 self.old.text self.new.text) }
         ensures noted { IfOk result (λ sorts. (log : List Timed) (events : List AnEvent) → Knows groups.now self.old.directory (frames_of log)
             → IsDefender groups.now log frame.now.ident.sa None → IsDefender groups.now log frame.now.ident.ps None
             → length events + 3 < 2 ^ 64 → AreExchanges groups.now self.old.exchanges events
             → AreNoted groups.now log frame.now (sorts.0 ∷ option_to_list sorts.1) events self.new.exchanges) }
     {
         report_frame(
+            self.all_frames,
             &mut self.text,
             &mut self.listeners,
             &mut self.exchanges,
@@ -195,7 +201,7 @@ impl Reading {
         ensures written { IfOk result (λ sorts. (seen : List Seen) (log : List Timed) → Knows groups.now self.old.directory (frames_of log)
             → AreContests groups.now self.old.contests log → IsNow log (moment_of stamp.entry.time.now)
             → HaveHeardSince groups.now self.old.listeners seen → AreAllInRange seen
-            → IsFrameWritten groups.now self.new.listeners seen log (front_of stamp.entry) frame.now sorts.0 sorts.1 self.old.text self.new.text) }
+            → IsFrameWritten groups.now self.old.all_frames self.new.listeners seen log (front_of stamp.entry) frame.now sorts.0 sorts.1 self.old.text self.new.text) }
         ensures noted { IfOk result (λ sorts. (log : List Timed) (events : List AnEvent) → Knows groups.now self.old.directory (frames_of log)
             → AreContests groups.now self.old.contests log → IsNow log (moment_of stamp.entry.time.now)
             → length events + 3 < 2 ^ 64 → AreExchanges groups.now self.old.exchanges events
@@ -278,7 +284,7 @@ impl Reading {
     ) -> Result<(), AllocError>
         requires { CountsWithin self.old (2 ^ 62 + 1) }
         ensures frame { OnOk result ((past : FollowedPast) → RecallsPast groups.now self.old past → (next : FollowedPast) × (piece : List ℕ)
-            × FollowsFrame groups.now past time.now (option_copied named.entry) frame.now next piece
+            × FollowsFrame groups.now self.old.all_frames past time.now (option_copied named.entry) frame.now next piece
             × RecallsPast groups.now self.new next × (self.new.text ≡ self.old.text ++ piece)) }
         ensures count { OnOk result (IsOneMore self.old self.new) }
     {
@@ -306,7 +312,7 @@ impl Reading {
     fn read_line(&mut self, groups: &Groups<'_>, line: &[u8]) -> Result<(), AllocError>
         requires { CountsWithin self.old (2 ^ 62 + 1) }
         ensures line { OnOk result ((past : FollowedPast) → RecallsPast groups.now self.old past → (next : FollowedPast) × (piece : List ℕ)
-            × FollowsShort groups.now past line.now next piece × RecallsPast groups.now self.new next × (self.new.text ≡ self.old.text ++ piece)) }
+            × FollowsShort groups.now self.old.all_frames past line.now next piece × RecallsPast groups.now self.new next × (self.new.text ≡ self.old.text ++ piece)) }
         ensures count { OnOk result (IsOneMore self.old self.new) }
     {
         let part = read_part(line);
@@ -329,9 +335,10 @@ impl Reading {
     pub fn read_cut(&mut self, groups: &Groups<'_>, cut: Cut, line: &[u8]) -> Result<(), AllocError>
         requires { CountsWithin self.old (2 ^ 62) }
         ensures lines { OnOk result ((past : FollowedPast) → RecallsPast groups.now self.old past → (next : FollowedPast) × (piece : List ℕ)
-            × FollowsLines groups.now past (tells cut line.now) next piece × RecallsPast groups.now self.new next
+            × FollowsLines groups.now self.old.all_frames past (tells cut line.now) next piece × RecallsPast groups.now self.new next
             × (self.new.text ≡ self.old.text ++ piece)) }
         ensures count { OnOk result ((most : ℕ) → CountsWithin self.old most → CountsWithin self.new (most + 1)) }
+        ensures told { OnOk result (self.new.all_frames ≡ self.old.all_frames) }
     {
         match cut {
             Cut::More => Ok(()),

@@ -1,5 +1,6 @@
 pub mod Counting
 pub mod CleanUnits
+pub mod CleanEnds
 pub mod FreeAddress
 pub mod AddressInvariant
 pub mod Telling
@@ -12,3 +13,4 @@ pub mod PlannedApart
 pub mod Alone
 pub mod Strangers
 pub mod StrangersComing
+pub mod BesideLive

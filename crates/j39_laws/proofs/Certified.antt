@@ -1,5 +1,5 @@
 -- What the laws say together of one plan.
-use Rattle.std.proofs.Common.{◌≡◌, ℕ, ◌<◌, false, List, [], length, arith, subst}
+use Rattle.std.proofs.Common.{◌≡◌, ℕ, ◌<◌, false, true, List, [], length, arith, subst, inl, inr}
 use Rattle.std.specs.List.{Contains}
 use Rattle.j39_claim.specs.declared.item.Say.TheVariants.{Claim, Cannot}
 use Rattle.j39_claim.specs.declared.item.Item.{Item}
@@ -12,16 +12,19 @@ use Rattle.j39_findings.specs.declared.plan.Plan.{Plan}
 use Rattle.j39_findings.specs.declared.steps.Step.{Step}
 use Rattle.j39_world.specs.World.{World, Undelivered, all_off}
 use Rattle.j39_world.specs.Run.{Run}
-use Rattle.j39_world.specs.PlannedUnits.{unit_at, units_of}
+use Rattle.j39_findings.specs.PlannedUnits.{unit_at, units_of}
 use Rattle.j39_world.specs.Opening.{AreNamesDistinct}
 use Rattle.j39_world.specs.Settling.{Settles}
 use Rattle.j39_world.specs.Ending.{TransfersEnd}
+use Rattle.j39_world.specs.LiveEnds.{AreEndsUndisturbed}
 use Rattle.j39_world.specs.Arriving.{ArrivesUnanswered, ArrivesAnswered}
 use Rattle.j39_world.specs.Needed.{Delivered, ReportsNeeded, LastWrite, ReadsAsWritten, bytes_of}
 use Rattle.j39_world.specs.SentArriving.{HasArrivedAlone, NeededAlone, SentFramesArrive}
-use Rattle.j39_world.specs.Sound.{AreAddressesSound, AreAddressesDifferent, AreNotesRight, AreKeptFree, IsQuiet, AreReportsSound, AreSentFramesSound, IsAcknowledgedReported}
-use Rattle.j39_world.specs.SoundPlan.{AlwaysBeside, IsSound}
-use Rattle.j39_world.specs.Staying.{ArePlannedApart, HoldsAlone, HoldsPlanned, IsAloneThere}
+use Rattle.j39_world.specs.Sound.{AreAddressesSound, AreAddressesDifferent, AreAllDelivered, AreNotesRight, AreKeptFree, DoesOneLie, IsQuiet}
+use Rattle.j39_world.specs.Sound.{AreReportsSound, AreSentFramesSound, IsAcknowledgedReported}
+use Rattle.j39_world.specs.SoundPlan.{AlwaysBeside, IsSending, IsSound}
+use Rattle.j39_findings.specs.Staying.{IsAloneThere}
+use Rattle.j39_world.specs.HeldAddresses.{ArePlannedApart, HoldsAlone, HoldsPlanned}
 use Rattle.j39_laws.proofs.Addresses.CleanUnits.{clean_units}
 
 none_in : (x : Item) → ¬ Contains [] x
@@ -49,8 +52,11 @@ pub sound_by_laws : (plan : Plan) → Clean plan
     → ((p : Plan) (steps : List Step) (w : World) → AreNamesDistinct (units_of p) → Run p all_off steps w → Settles p w)
     → ((p : Plan) → Clean p → SoundSignals p)
     → ((p : Plan) (steps : List Step) (w : World) → Run p all_off steps w → AreReportsSound w)
+    → ((p : Plan) (steps : List Step) (w : World) → p.live ≡ false → Run p all_off steps w → IsSending w → AreAllDelivered w.claims)
     → ((p : Plan) (steps : List Step) (w : World) → Run p all_off steps w → AreSentFramesSound w)
+    → ((p : Plan) (steps : List Step) (w : World) → p.live ≡ false → Run p all_off steps w → DoesOneLie w → AreAllDelivered w.claims)
     → ((p : Plan) (steps : List Step) (w : World) → Run p all_off steps w → IsAcknowledgedReported w)
+    → ((p : Plan) (steps : List Step) (w : World) → Clean p → p.live ≡ true → Run p all_off steps w → AreEndsUndisturbed p w)
     → ((p : Plan) (steps : List Step) (w : World) → Run p all_off steps w → TransfersEnd p w)
     → ((p : Plan) (steps : List Step) (w : World) → Run p all_off steps w → ArrivesUnanswered p w)
     → ((p : Plan) (steps : List Step) (w : World) → Run p all_off steps w → ArrivesAnswered p w)
@@ -66,11 +72,11 @@ pub sound_by_laws : (plan : Plan) → Clean plan
     → ((p : Plan) (steps : List Step) (w : World) → Clean p → Run p all_off steps w
     → (n : NeededAlone p w) (x : LastWrite n.message) → ReadsAsWritten n.message x x.write.place)
     → IsSound plan
-sound_by_laws plan clean addresses different planned alone silent strangers strangers_quiet notes kept settles signals reports sent_frames acknowledged ends
-    arrives arrives_answered sent_arrive served answered needs needed read needed_sent read_sent = record {
+sound_by_laws plan clean addresses different planned alone silent strangers strangers_quiet notes kept settles signals reports delivered sent_frames beside
+    acknowledged undisturbed ends arrives arrives_answered sent_arrive served answered needs needed read needed_sent read_sent = record {
       addresses = λ steps w run. addresses plan steps w clean run;
       quiet = λ steps w run. different plan steps w clean run;
-      sending = λ steps w run (u, o, is). different plan steps w clean run (quiet_where_empty w.claims ((reports plan steps w run).delivered u o is));
+      sending = λ quiet steps w run sends. different plan steps w clean run (quiet_where_empty w.claims (delivered plan steps w quiet run sends));
       planned = λ apart steps w run. planned plan steps w apart run;
       alone = λ steps w run. alone plan steps w clean run;
       silent = λ steps w run. silent plan steps w clean run;
@@ -82,7 +88,12 @@ sound_by_laws plan clean addresses different planned alone silent strangers stra
       signals = signals plan clean;
       reports = λ steps w run. reports plan steps w run;
       sent_frames = λ steps w run. sent_frames plan steps w run;
+      delivered = λ quiet steps w run which. elim which [
+        | inl sends ↦ delivered plan steps w quiet run sends
+        | inr lies ↦ beside plan steps w quiet run lies
+      ];
       acknowledged = λ steps w run. acknowledged plan steps w run;
+      undisturbed = λ live steps w run. undisturbed plan steps w clean live run;
       ends = λ steps w run. ends plan steps w run;
       arrives = λ steps w run. arrives plan steps w run;
       arrives_answered = λ steps w run. arrives_answered plan steps w run;

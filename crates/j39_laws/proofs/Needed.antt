@@ -33,6 +33,7 @@ use Rattle.j39_world.specs.TransferSteps.{outgoing, targets_of}
 use Rattle.j39_world.specs.Transfers.{is_among}
 use Rattle.j39_world.specs.World.{World, Stations, all_off, is_other_on}
 use Rattle.j39_world.specs.declared.flow.Flow.{Flow}
+use Rattle.j39_laws.proofs.Reports.SenderSteps.{among_one}
 use Rattle.j39_laws.proofs.Transfers.Arriving.{arrives_unanswered}
 use Rattle.j39_laws.proofs.Transfers.ArrivingAnswered.{arrives_answered}
 use Rattle.j39_laws.proofs.Transfers.SentArriving.{arrives_alone}
@@ -117,28 +118,42 @@ module _ (plan : Plan) (m : NeededMessage plan) where
   among : (w : World) → is_on w.stations m.need.unit ≡ true → is_among (targets_of (count_of plan) w.stations m.flow.sender m.flow.to) m.need.unit ≡ true
   among w on = among_targets (count_of plan) w.stations m.flow.sender m.need.unit m.flow.to unit_below (λ same. m.meets.other (sym same)) on m.meets.reaches
 
-  from_arrival : (w after : World) (flow : Flow) (outcome : Outcome) → is_on w.stations m.need.unit ≡ true → flow ≡ flow_of plan.groups.items m.flow
-      → HasArrived w after flow.sender (outgoing (count_of plan) w.stations m.place flow (bytes_of m)) outcome
+  -- the need's unit is among the receivers
+  among_of : (w : World) (flow : Flow) → is_on w.stations m.need.unit ≡ true → flow ≡ flow_of plan.groups.items m.flow
+      → is_among (targets_of (count_of plan) w.stations flow.sender flow.to) m.need.unit ≡ true
+  among_of w flow on same = subst (λ (f : Flow). is_among (targets_of (count_of plan) w.stations f.sender f.to) m.need.unit ≡ true) (sym same) (among w on)
+
+  from_arrival : (w after : World) (flow : Flow) (meant : List ℕ) (outcome : Outcome) → is_among meant m.need.unit ≡ true
+      → flow ≡ flow_of plan.groups.items m.flow
+      → HasArrived w after flow.sender (outgoing (count_of plan) w.stations m.place flow (bytes_of m)) meant outcome
       → reported after.reports m.need.unit m.flow.sender
       ≡ reported w.reports m.need.unit m.flow.sender ++ record { flow = m.place; bytes = bytes_of m } ∷ []
-  from_arrival w after flow outcome on same has =
-      let arrived : HasArrived w after m.flow.sender (outgoing (count_of plan) w.stations m.place (flow_of plan.groups.items m.flow) (bytes_of m)) outcome =
-      subst (λ (f : Flow). HasArrived w after f.sender (outgoing (count_of plan) w.stations m.place f (bytes_of m)) outcome) same has in
-      arrived.reports m.need.unit (among w on)
+  from_arrival w after flow meant outcome here same has =
+      let arrived : HasArrived w after m.flow.sender (outgoing (count_of plan) w.stations m.place (flow_of plan.groups.items m.flow) (bytes_of m)) meant outcome =
+      subst (λ (f : Flow). HasArrived w after f.sender (outgoing (count_of plan) w.stations m.place f (bytes_of m)) meant outcome) same has in
+      arrived.reports m.need.unit here
 
   from_delivery : (steps : List Step) (w after : World) → Run plan all_off steps w → is_on w.stations m.need.unit ≡ true → IsDelivered plan m w after
       → reported after.reports m.need.unit m.flow.sender
       ≡ reported w.reports m.need.unit m.flow.sender ++ record { flow = m.place; bytes = bytes_of m } ∷ []
   from_delivery steps w after run on (inl (flow, more, planned, unanswered, allowed, sparing, through)) =
-      from_arrival w after flow Sent on (flow_here flow planned)
-      (arrives_unanswered plan steps w run m.place flow (bytes_of m) more after planned unanswered allowed sparing through)
+      let same : flow ≡ flow_of plan.groups.items m.flow = flow_here flow planned in
+      let itself : is_among (m.need.unit ∷ []) m.need.unit ≡ true = (let e : eqb m.need.unit m.need.unit ≡ true = eq-eqb m.need.unit m.need.unit refl in rw e refl) in
+      from_arrival w after flow (m.need.unit ∷ []) Sent itself same
+      (arrives_unanswered plan steps w run m.place flow (bytes_of m) (m.need.unit ∷ []) more after planned unanswered allowed
+      (λ v is. subst (λ k. is_among (targets_of (count_of plan) w.stations flow.sender flow.to) k ≡ true) (sym (among_one m.need.unit v is))
+      (among_of w flow on same)) sparing through)
   from_delivery steps w after run on (inr (a, alone, place, bytes, last)) =
-      let has : HasArrived w a.after a.flow.sender (outgoing (count_of plan) w.stations a.place a.flow a.bytes) Acked = arrives_answered plan steps w run a alone in
+      let has : HasArrived w a.after a.flow.sender (outgoing (count_of plan) w.stations a.place a.flow a.bytes) (a.receiver ∷ []) Acked =
+      arrives_answered plan steps w run a alone in
       let planned : slice_get (flows_of plan) m.place ≡ Some a.flow = subst (λ (k : ℕ). slice_get (flows_of plan) k ≡ Some a.flow) place a.planned in
-      let there = subst (λ (x : World). HasArrived w x a.flow.sender (outgoing (count_of plan) w.stations a.place a.flow a.bytes) Acked) last has in
-      let placed = subst (λ (k : ℕ). HasArrived w after a.flow.sender (outgoing (count_of plan) w.stations k a.flow a.bytes) Acked) place there in
-      from_arrival w after a.flow Acked on (flow_here a.flow planned)
-      (subst (λ (bs : List ℕ). HasArrived w after a.flow.sender (outgoing (count_of plan) w.stations m.place a.flow bs) Acked) bytes placed)
+      let there = subst (λ (x : World). HasArrived w x a.flow.sender (outgoing (count_of plan) w.stations a.place a.flow a.bytes) (a.receiver ∷ []) Acked) last has in
+      let placed = subst (λ (k : ℕ). HasArrived w after a.flow.sender (outgoing (count_of plan) w.stations k a.flow a.bytes) (a.receiver ∷ []) Acked) place there in
+      let here : is_among (a.receiver ∷ []) m.need.unit ≡ true =
+      subst (λ (to : To). is_among (targets_of (count_of plan) w.stations a.flow.sender to) m.need.unit ≡ true) a.one
+      (among_of w a.flow on (flow_here a.flow planned)) in
+      from_arrival w after a.flow (a.receiver ∷ []) Acked here (flow_here a.flow planned)
+      (subst (λ (bs : List ℕ). HasArrived w after a.flow.sender (outgoing (count_of plan) w.stations m.place a.flow bs) (a.receiver ∷ []) Acked) bytes placed)
 
 pub is_reported : (plan : Plan) (steps : List Step) (w : World) → Clean plan → Run plan all_off steps w → (d : Delivered plan w) → ReportsNeeded plan w d
 is_reported plan steps w clean run d = from_delivery plan d.message steps w d.after run d.on d.through

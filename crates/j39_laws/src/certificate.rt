@@ -4,22 +4,22 @@ ghost use Rattle.j39_world.specs.SoundPlan.{AreVehiclesSound, IsSound};
 use crate::laws::{
     a_needed_value_arrives, a_sent_value_arrives, acknowledged_messages_were_reported,
     addresses_are_sound, alone_units_are_undisturbed, answered_messages_arrive, claims_die_down,
-    every_transfer_ends, kept_addresses_stay_free, planned_addresses_stay, quiet_notes_are_right,
-    reports_are_sound, sent_frames_are_sound, sent_frames_arrive, silent_units_are_undisturbed,
-    strangers_keep_addresses, unanswered_messages_arrive,
+    ends_are_undisturbed, every_transfer_ends, kept_addresses_stay_free, planned_addresses_stay,
+    quiet_notes_are_right, reports_are_sound, sent_frames_are_sound, sent_frames_arrive,
+    silent_units_are_undisturbed, strangers_keep_addresses, unanswered_messages_arrive,
 };
 use j39_findings::{
     CheckedPlan, needs_are_met, requests_are_served, serial_numbers_change_nothing,
     signals_are_sound,
 };
 
-/// A checked plan is sound: in every world of every run of it, with all lawful choices and whatever is lost, addresses and reports
-/// are sound, addresses also with strangers, planned addresses stay where they differ, a unit that is alone at its own is undisturbed, and
-/// so is one that never claims, what units have noted of one another is right where no claim is undelivered, what it keeps free stays free,
-/// claims die down, messages come to their end, those of which nothing is lost arrive, its signals read back what they were last given, some
-/// flow of it answers each request, some flow brings each unit what it needs, and a message of such a flow of which nothing is lost reads
-/// there as it was written. So is the plan of each vehicle, whatever the serial numbers of its boxes are.
-/// `docs/PROMISES.md` has it in plain words. It does nothing when it runs; it rests on the laws that it calls.
+/// A checked plan is sound: in every world of every run of it, with all lawful choices and whatever is lost, addresses and reports are
+/// sound, addresses also with strangers, planned addresses stay where they differ, a unit that is alone at its own is undisturbed, and so
+/// is one that never claims, what units have noted of one another is right where no claim is undelivered, what it keeps free stays free,
+/// claims die down, messages come to their end, on a live bus nobody disturbs their ends, those of which nothing is lost arrive, its
+/// signals read back what they were last given, some flow of it answers each request, some flow brings each unit what it needs, and a
+/// message of such a flow of which nothing is lost reads there as it was written. So is the plan of each vehicle, whatever the serial
+/// numbers of its boxes are. `docs/PROMISES.md` has it in plain words. It does nothing when it runs; it rests on the laws that it calls.
 pub fn certify(checked: &CheckedPlan)
     ensures sound { IsSound checked.now }
     ensures vehicles { AreVehiclesSound checked.now }
@@ -37,6 +37,7 @@ pub fn certify(checked: &CheckedPlan)
     reports_are_sound();
     sent_frames_are_sound();
     acknowledged_messages_were_reported();
+    ends_are_undisturbed();
     every_transfer_ends();
     unanswered_messages_arrive();
     answered_messages_arrive();

@@ -1,23 +1,26 @@
 //! Laws of all runs of a plan.
-ghost use Rattle.std.specs.Prelude.{List};
+ghost use Rattle.std.specs.Prelude.{◌≡◌, List, false};
 ghost use Rattle.j39_findings.specs.Findings.{Clean};
 ghost use Rattle.j39_findings.specs.declared.plan.Plan.{Plan as Plans};
 ghost use Rattle.j39_findings.specs.declared.steps.Step.{Step as Steps};
 ghost use Rattle.j39_world.specs.World.{World, all_off};
 ghost use Rattle.j39_findings.specs.ConflictRuns.{IsConflictRun};
 ghost use Rattle.j39_findings.specs.declared.checking.finding.Finding.{Finding as Findings};
-ghost use Rattle.j39_world.specs.PlannedUnits.{units_of};
+ghost use Rattle.j39_findings.specs.PlannedUnits.{units_of};
 ghost use Rattle.j39_world.specs.Conflict.{LeavesWithoutAddress};
 ghost use Rattle.j39_world.specs.Opening.{AreNamesDistinct};
 ghost use Rattle.j39_world.specs.Run.{Run, RunsThrough};
 ghost use Rattle.j39_world.specs.Settling.{Settles};
-ghost use Rattle.j39_world.specs.Sound.{AreAddressesSound, AreAddressesDifferent, AreKeptFree, AreNotesRight, IsQuiet, AreReportsSound, IsAcknowledgedReported};
+ghost use Rattle.j39_world.specs.Sound.{AreAddressesSound, AreAddressesDifferent, AreAllDelivered, AreKeptFree, AreNotesRight};
+ghost use Rattle.j39_world.specs.Sound.{AreReportsSound, IsAcknowledgedReported, IsQuiet};
+ghost use Rattle.j39_world.specs.SoundPlan.{IsSending};
 
 mod arrivals;
 mod lengths;
 mod needs;
 mod staying;
 mod strangers;
+mod switching_off;
 mod transfers;
 
 pub use arrivals::{answered_messages_arrive, sent_frames_arrive, unanswered_messages_arrive};
@@ -28,8 +31,14 @@ pub use staying::{
     smaller_names_are_undisturbed, units_hold_planned_or_pool_addresses,
     units_stay_in_each_vehicle, who_stays,
 };
-pub use strangers::{strangers_can_come, strangers_keep_addresses, who_stays_with_strangers};
-pub use transfers::{every_transfer_ends, sent_frames_are_sound, steps_lead_somewhere};
+pub use strangers::{
+    strangers_can_come, strangers_disturb_no_message, strangers_keep_addresses,
+    who_stays_with_strangers,
+};
+pub use switching_off::units_only_stop_between_messages;
+pub use transfers::{
+    ends_are_undisturbed, every_transfer_ends, sent_frames_are_sound, steps_lead_somewhere,
+};
 
 /// In every world of every run of a plan without findings, with all lawful choices, addresses are sound: each unit that is on holds
 /// one, a fixed unit its own, and where no claim is undelivered they are pairwise different.
@@ -45,9 +54,12 @@ pub fn kept_addresses_stay_free()
 {}
 
 /// In every world of every run, with all lawful choices and whatever is lost, reports are sound: what a unit reported of another is a
-/// subsequence of what that one began for it, and while a message is sent no claim and no request is undelivered.
+/// subsequence of what that one began for it (`sound`). Of a plan that isn't live, while a message is sent no claim and no request is
+/// undelivered (`delivered`).
 pub fn reports_are_sound()
-    ensures { (plan : Plans) (steps : List Steps) (w : World) → Run plan all_off steps w → AreReportsSound w }
+    ensures sound { (plan : Plans) (steps : List Steps) (w : World) → Run plan all_off steps w → AreReportsSound w }
+    ensures delivered { (plan : Plans) (steps : List Steps) (w : World) → plan.live ≡ false → Run plan all_off steps w
+        → IsSending w → AreAllDelivered w.claims }
 {}
 
 /// In every world of every run, a sender that rests acknowledged sends to one unit, and what this unit reported of it last is the message.

@@ -6,7 +6,6 @@ use Rattle.std.proofs.lemmas.List.{get_or-append-add, get_or_append_left, get_or
 use Rattle.std.proofs.lemmas.List.FromFn.{get_or-map-range_with_len}
 use Rattle.std.proofs.lemmas.Option.{none-some, same_Some}
 use Rattle.std.specs.Bool.{MatchBool}
-use Rattle.std.specs.Int.{div_ceil}
 use Rattle.std.specs.Option.{option_map_or}
 use Rattle.j39_id.specs.Limits.{unit_limit}
 use Rattle.j39_findings.specs.declared.plan.timing.Timing.{Timing}
@@ -14,12 +13,14 @@ use Rattle.j39_load.specs.declared.flow_frames.FlowFrames.{FlowFrames}
 use Rattle.j39_load.specs.Ages.{least, smaller_known}
 use Rattle.j39_load.specs.AnyQueues.{AreAtMost, IsCompanyLevel, IsCompanyWait, IsHeldFor, IsOffer, Offer, TellWaits, are_of_unit, held_at, is_member, is_of_company, keep_order, later_frames, least_of, leasts_of, may_be_passed, offered, own_least, unheld_at, with_unplanned}
 use Rattle.j39_load.specs.Damage.{damage_frames}
-use Rattle.j39_load.specs.Delays.{need_of}
+use Rattle.j39_load.specs.Delays.{blocking, need_of, streams_before}
+use Rattle.j39_load.specs.Demands.{demands_of}
 use Rattle.j39_load.specs.LineLists.{lines_of_each}
 use Rattle.j39_load.specs.PlannedFrames.{AreFramesInAnyOrder, KeepToCompany, company_of, no_frames, others_of, planned_at, traffic_of}
 use Rattle.j39_load.specs.Twins.{are_twins, is_same, may_precede}
 use Rattle.j39_load.proofs.LeastKnown.{least_of_both}
 use Rattle.j39_load.proofs.CompanyStreams.{company_room}
+use Rattle.j39_load.proofs.DemandLaws.{demands_where_offered, demands_with_damage}
 use Rattle.j39_load.proofs.Offering.{offered_read, one_each}
 use Rattle.j39_load.proofs.PositivePeriods.{HasPeriod}
 use Rattle.j39_load.proofs.Sending.{IsSent}
@@ -32,7 +33,8 @@ use Rattle.j39_timing.specs.TimedFrames.{Schedule}
 use Rattle.j39_timing.specs.FrameStreams.{Origins}
 use Rattle.j39_timing.specs.Sums.{total}
 use Rattle.j39_timing.specs.Traffic.{AreQueuedBehind, AreSteady, HasRoom, IsSingle, IsStreamInTime, delay_of, others_before}
-use Rattle.j39_timing.specs.Waits.{share}
+use Rattle.j39_timing.specs.Waits.{Demand, lesser_share, need}
+use Rattle.j39_timing.specs.declared.stream.Stream.{Stream}
 use Rattle.j39_timing.proofs.CompanyTraffic.{begun_within, company_in_time, company_sent}
 use Rattle.j39_timing.proofs.Offered.{ordered_behind, ordered_in_time}
 use Rattle.j39_timing.proofs.Sums.{total-le}
@@ -260,6 +262,7 @@ module _ (timing : Timing) (asked : List (Option FlowFrames)) (paced : All HasPe
       company_known = record {
         longest_at_most = known.known.longest_at_most;
         of_streams = known.known.of_streams;
+        as_wanted = known.known.as_wanted;
         from_least = known.known.from_least;
         to_level = to_level;
         closed = closed;
@@ -326,23 +329,26 @@ module _ (timing : Timing) (asked : List (Option FlowFrames)) (paced : All HasPe
   -- ---- room beside them
 
   module _ (waits : List (Option ℕ)) (count : length waits ≡ length asked) (i : ℕ) (own : FlowFrames) (span : ℕ) where
+    abbrev demands : List Demand
+    demands = demands_of all
+
     abbrev later : List (Option FlowFrames)
     later = offered waits asked ++ damage_frames timing
 
     abbrev part : FlowFrames → ℕ → ℕ → ℕ
-    part f w j = cond (not (eqb j i) && may_precede own f) (share span (later_by w f.stream)) 0
+    part f w j = cond (not (eqb j i) && may_precede own f) (lesser_share demands span (later_by w f.stream)) 0
 
     length_offered : length (offered waits asked) ≡ length asked
     length_offered = one_each (λ (p : ℕ) (x : Option FlowFrames). option_map (later_frames (held_at waits p)) x) 0 asked
 
     none_part : (w j : ℕ) → part no_frames w j ≤ 0
-    none_part w j = elim (not (eqb j i) && may_precede own no_frames) as (λ e. cond e (share span (later_by w no_frames.stream)) 0 ≤ 0) [
+    none_part w j = elim (not (eqb j i) && may_precede own no_frames) as (λ e. cond e (lesser_share demands span (later_by w no_frames.stream)) 0 ≤ 0) [
       | true ↦ omega arith
       | false ↦ omega arith
     ]
 
     front : (j : ℕ) (o : Option FlowFrames) → j < length asked → get_or asked j None ≡ o
-        → part (planned_at all j) (held_at waits j) j ≤ taken later i own span j
+        → part (planned_at all j) (held_at waits j) j ≤ taken demands later i own span j
     front j None below at =
         let here : planned_at all j ≡ no_frames =
         ap (λ (x : Option FlowFrames). unwrap_or x no_frames) (get_or_append_left asked (damage_frames timing) None j below ∙ at) in
@@ -355,12 +361,12 @@ module _ (timing : Timing) (asked : List (Option FlowFrames)) (paced : All HasPe
         ap (λ (f : Option FlowFrames). unwrap_or f no_frames)
         (get_or_append_left (offered waits asked) (damage_frames timing) None j (omega (arith, below, length_offered))
         ∙ offered_read waits asked j below ∙ ap (option_map (later_frames (held_at waits j))) at) in
-        subst (λ (f : FlowFrames). part f (held_at waits j) j ≤ taken later i own span j) (sym here)
-        (subst (λ (f : FlowFrames). part x (held_at waits j) j ≤ cond (not (eqb j i) && may_precede own f) (share span f.stream) 0) (sym there)
+        subst (λ (f : FlowFrames). part f (held_at waits j) j ≤ taken demands later i own span j) (sym here)
+        (subst (λ (f : FlowFrames). part x (held_at waits j) j ≤ cond (not (eqb j i) && may_precede own f) (lesser_share demands span f.stream) 0) (sym there)
         (omega arith))
 
     behind : (n : ℕ) → part (planned_at all (length asked + n)) (held_at waits (length asked + n)) (length asked + n)
-        ≤ taken later i own span (length asked + n)
+        ≤ taken demands later i own span (length asked + n)
     behind n =
         let j : ℕ = length asked + n in
         let here : get_or all (length asked + n) None ≡ get_or (damage_frames timing) n None = get_or-append-add asked (damage_frames timing) n None in
@@ -372,33 +378,36 @@ module _ (timing : Timing) (asked : List (Option FlowFrames)) (paced : All HasPe
         ap (λ (x : Option ℕ). unwrap_or x 0) (get_or_past waits (length asked + n) None (omega (arith, count))) in
         let f : FlowFrames = planned_at all (length asked + n) in
         subst (λ (g : FlowFrames). part (planned_at all (length asked + n)) (held_at waits (length asked + n)) (length asked + n)
-        ≤ cond (not (eqb (length asked + n) i) && may_precede own g) (share span g.stream) 0) (sym same)
+        ≤ cond (not (eqb (length asked + n) i) && may_precede own g) (lesser_share demands span g.stream) 0) (sym same)
         (subst (λ (w : ℕ). part (planned_at all (length asked + n)) w (length asked + n)
-        ≤ cond (not (eqb (length asked + n) i) && may_precede own (planned_at all (length asked + n))) (share span (planned_at all (length asked + n)).stream) 0)
+        ≤ cond (not (eqb (length asked + n) i) && may_precede own (planned_at all (length asked + n))) (lesser_share demands span (planned_at all (length asked + n)).stream) 0)
         (sym none) (no_later (planned_at all (length asked + n)) (not (eqb (length asked + n) i) && may_precede own (planned_at all (length asked + n)))))
       where
-        no_later : (f : FlowFrames) (e : Bool) → cond e (share span (later_by 0 f.stream)) 0 ≤ cond e (share span f.stream) 0
+        queued_late : Stream → ℕ → Stream
+        queued_late x n = record { frames = x.frames; period = x.period; bits = x.bits; late = n; wanted = x.wanted }
+
+        no_later : (f : FlowFrames) (e : Bool) → cond e (lesser_share demands span (later_by 0 f.stream)) 0 ≤ cond e (lesser_share demands span f.stream) 0
         no_later f true =
             let same : f.stream.late + 0 ≡ f.stream.late = omega arith in
-            let equal : share span (later_by 0 f.stream) ≡ share span f.stream =
-            ap (λ (n : ℕ). f.stream.frames * (div_ceil (span + n) f.stream.period * f.stream.bits)) same in
+            let equal : lesser_share demands span (later_by 0 f.stream) ≡ lesser_share demands span f.stream =
+            ap (λ (n : ℕ). lesser_share demands span (queued_late f.stream n)) same in
             omega (arith, equal)
         no_later f false = omega arith
 
-    each_part : (j : ℕ) → part (planned_at all j) (held_at waits j) j ≤ taken later i own span j
+    each_part : (j : ℕ) → part (planned_at all j) (held_at waits j) j ≤ taken demands later i own span j
     each_part j = elim (cases_lt j (length asked)) [
       | inl below ↦ front j (get_or asked j None) below refl
       | inr past ↦
           let place : length asked + (j - length asked) ≡ j = omega arith in
-          subst (λ (n : ℕ). part (planned_at all n) (held_at waits n) n ≤ taken later i own span n) place (behind (j - length asked))
+          subst (λ (n : ℕ). part (planned_at all n) (held_at waits n) n ≤ taken demands later i own span n) place (behind (j - length asked))
     ]
 
-    pub offered_parts : total (length all) (λ j. part (planned_at all j) (held_at waits j) j) ≤ total (length later) (taken later i own span)
+    pub offered_parts : total (length all) (λ j. part (planned_at all j) (held_at waits j) j) ≤ total (length later) (taken demands later i own span)
     offered_parts =
-        let most = total-le (length all) (λ j. part (planned_at all j) (held_at waits j) j) (taken later i own span) (λ j below. each_part j) in
+        let most = total-le (length all) (λ j. part (planned_at all j) (held_at waits j) j) (taken demands later i own span) (λ j below. each_part j) in
         let same : length later ≡ length all =
         append_same (offered waits asked) asked (damage_frames timing) length_offered in
-        subst (λ (n : ℕ). total (length all) (λ j. part (planned_at all j) (held_at waits j) j) ≤ total n (taken later i own span)) (sym same) most
+        subst (λ (n : ℕ). total (length all) (λ j. part (planned_at all j) (held_at waits j) j) ≤ total n (taken demands later i own span)) (sym same) most
       where
         append_same : (xs ys zs : List (Option FlowFrames)) → length xs ≡ length ys → length (xs ++ zs) ≡ length (ys ++ zs)
         append_same [] [] zs same = refl
@@ -416,13 +425,16 @@ module _ (timing : Timing) (asked : List (Option FlowFrames)) (paced : All HasPe
 
     room : HasRoom (offered_traffic (traffic_of all) (held_at offer.waits)) (others_of timing) (longest_frame 8) i wait
     room =
-        let needed : need_of timing (offered offer.waits asked) i frames wait ≤ wait =
+        let placed_need : need_of timing (offered offer.waits asked) i frames wait ≤ wait =
         subst (λ (xs : List (Option FlowFrames)). need_of timing xs i frames wait ≤ wait) offers.frames enough in
-        let most = all_before i frames (wait + 1) timing (offered offer.waits asked) in
+        let needed : need (demands_of all) (blocking timing frames.greatest_ident) (streams_before timing i frames (offered offer.waits asked)) wait ≤ wait =
+        subst (λ (ds : List Demand). need ds (blocking timing frames.greatest_ident) (streams_before timing i frames (offered offer.waits asked)) wait ≤ wait)
+        (demands_where_offered offer.waits asked ∙ sym (demands_with_damage timing asked)) placed_need in
+        let most = all_before (demands_of all) i frames (wait + 1) timing (offered offer.waits asked) in
         let parts = offered_parts offer.waits offers.held.count i frames (wait + 1) in
         subst (λ (own : FlowFrames). longest_frame 8 * (1 + others_before (others_of timing) own.greatest_ident)
         + total (length all) (λ j. cond (not (eqb j i) && may_precede own (planned_at all j))
-        (share (wait + 1) (later_by (held_at offer.waits j) (planned_at all j).stream)) 0) ≤ wait) (sym placed)
+        (lesser_share (demands_of all) (wait + 1) (later_by (held_at offer.waits j) (planned_at all j).stream)) 0) ≤ wait) (sym placed)
         (omega (arith, needed, most, parts))
 
     -- each stream that may go before has a wait

@@ -7,16 +7,21 @@ use Rattle.j39_findings.specs.declared.plan.timing.Timing.{Timing}
 use Rattle.j39_load.specs.declared.flow_frames.FlowFrames.{FlowFrames}
 use Rattle.j39_load.specs.AnyQueues.{blocking_with, is_of_company, leasts_of, stream_with, streams_with, with_unplanned}
 use Rattle.j39_load.specs.Damage.{damage_frames, damage_streams, first_of_all}
+use Rattle.j39_load.specs.Demands.{demands_of}
 use Rattle.j39_load.specs.LineLists.{lines_of_each}
 use Rattle.j39_load.specs.PlannedFrames.{company_of, no_frames, planned_at, traffic_of}
+use Rattle.j39_load.proofs.DemandLaws.{demands_with_damage}
 use Rattle.j39_load.proofs.StreamsBefore.{taken_within, told_of_two}
 use Rattle.j39_timing.specs.Companies.{HasRoomInCompany}
 use Rattle.j39_timing.specs.FrameBits.{longest_frame}
 use Rattle.j39_timing.specs.Sums.{total}
-use Rattle.j39_timing.specs.Waits.{need, share}
+use Rattle.j39_timing.specs.Waits.{Demand, lesser_share, need}
 use Rattle.j39_timing.specs.declared.stream.Stream.{Stream}
 
 module _ (timing : Timing) (asked : List (Option FlowFrames)) (own : FlowFrames) (level span : ℕ) where
+  abbrev demands : List Demand
+  demands = demands_of (asked ++ damage_frames timing)
+
   abbrev leasts : List (Option ℕ)
   leasts = leasts_of asked
 
@@ -35,16 +40,16 @@ module _ (timing : Timing) (asked : List (Option FlowFrames)) (own : FlowFrames)
   tell j (Some x) = if has j || ltb x.least_ident level then x.stream ∷ [] else []
 
   abbrev taken : ℕ → ℕ
-  taken j = cond (has j || ltb ((traffic_of all).least j) level) (share span ((traffic_of all).stream j)) 0
+  taken j = cond (has j || ltb ((traffic_of all).least j) level) (lesser_share demands span ((traffic_of all).stream j)) 0
 
-  taken_most : (j : ℕ) (frames : Option FlowFrames) → get_or all j None ≡ frames → taken j ≤ sum_by (share span) (tell j frames)
-  taken_most j None is = rw (is) (elim (has j || ltb 0 level) as (λ e. cond e (share span no_frames.stream) 0 ≤ sum_by (share span) []) [
+  taken_most : (j : ℕ) (frames : Option FlowFrames) → get_or all j None ≡ frames → taken j ≤ sum_by (lesser_share demands span) (tell j frames)
+  taken_most j None is = rw (is) (elim (has j || ltb 0 level) as (λ e. cond e (lesser_share demands span no_frames.stream) 0 ≤ sum_by (lesser_share demands span) []) [
     | true ↦ omega arith
     | false ↦ omega arith
   ])
   taken_most j (Some x) is = rw (is) (elim (has j || ltb x.least_ident level)
-      as (λ e. cond e (share span x.stream) 0 ≤ sum_by (share span) (if e then x.stream ∷ [] else [])) [
-        | true ↦ rw (sum_by-cons (share span) x.stream []) (omega arith)
+      as (λ e. cond e (lesser_share demands span x.stream) 0 ≤ sum_by (lesser_share demands span) (if e then x.stream ∷ [] else [])) [
+        | true ↦ rw (sum_by-cons (lesser_share demands span) x.stream []) (omega arith)
         | false ↦ omega arith
       ])
 
@@ -69,38 +74,41 @@ module _ (timing : Timing) (asked : List (Option FlowFrames)) (own : FlowFrames)
             | false ↦ refl
           ])
 
-  damage_most : (place : ℕ) (streams : List Stream) → sum_by (share span) (lines_of_each tell place (map first_of_all streams)) ≤ sum_by (share span) streams
+  damage_most : (place : ℕ) (streams : List Stream) → sum_by (lesser_share demands span) (lines_of_each tell place (map first_of_all streams)) ≤ sum_by (lesser_share demands span) streams
   unfolding lines_of_each
   damage_most place [] = omega arith
   damage_most place (stream ∷ streams) =
-      let first : sum_by (share span) (tell place (first_of_all stream)) ≤ share span stream = go (has place || ltb 0 level) in
+      let first : sum_by (lesser_share demands span) (tell place (first_of_all stream)) ≤ lesser_share demands span stream = go (has place || ltb 0 level) in
       let rest = damage_most (place + 1) streams in
-      let parts = sum_by-append (share span) (tell place (first_of_all stream)) (lines_of_each tell (place + 1) (map first_of_all streams)) in
-      let one = sum_by-cons (share span) stream streams in
+      let parts = sum_by-append (lesser_share demands span) (tell place (first_of_all stream)) (lines_of_each tell (place + 1) (map first_of_all streams)) in
+      let one = sum_by-cons (lesser_share demands span) stream streams in
       omega (arith, first, rest, parts, one)
     where
-      go : (e : Bool) → sum_by (share span) (if e then stream ∷ [] else []) ≤ share span stream
-      go true = rw (sum_by-cons (share span) stream []) (omega arith)
+      go : (e : Bool) → sum_by (lesser_share demands span) (if e then stream ∷ [] else []) ≤ lesser_share demands span stream
+      go true = rw (sum_by-cons (lesser_share demands span) stream []) (omega arith)
       go false = omega arith
 
-  pub company_taken : total (length all) taken ≤ sum_by (share span) (streams_with timing leasts asked own_too level)
+  pub company_taken : total (length all) taken ≤ sum_by (lesser_share demands span) (streams_with timing leasts asked own_too level)
   company_taken =
-      let whole = taken_within tell span taken all (λ k below. taken_most k (get_or all k None) refl) in
-      let two = ap (sum_by (share span)) (told_of_two tell 0 asked (damage_frames timing)) in
-      let parts = sum_by-append (share span) (lines_of_each tell 0 asked) (lines_of_each tell (0 + length asked) (damage_frames timing)) in
-      let same = ap (sum_by (share span)) (same_told 0 asked (λ k below. ap (λ (n : ℕ). get_or asked n None) (omega arith))) in
+      let whole = taken_within demands tell span taken all (λ k below. taken_most k (get_or all k None) refl) in
+      let two = ap (sum_by (lesser_share demands span)) (told_of_two tell 0 asked (damage_frames timing)) in
+      let parts = sum_by-append (lesser_share demands span) (lines_of_each tell 0 asked) (lines_of_each tell (0 + length asked) (damage_frames timing)) in
+      let same = ap (sum_by (lesser_share demands span)) (same_told 0 asked (λ k below. ap (λ (n : ℕ). get_or asked n None) (omega arith))) in
       let damage = damage_most (0 + length asked) (damage_streams timing) in
-      let needed = sum_by-append (share span) (damage_streams timing) (filter_map (stream_with leasts own_too level) asked) in
+      let needed = sum_by-append (lesser_share demands span) (damage_streams timing) (filter_map (stream_with leasts own_too level) asked) in
       omega (arith, whole, two, parts, same, damage, needed)
 
 -- the wait that is told has room
 pub company_room : (timing : Timing) (asked : List (Option FlowFrames)) (own : FlowFrames) (level wait i : ℕ)
     → planned_at (asked ++ damage_frames timing) i ≡ own
-    → need (blocking_with timing own) (streams_with timing (leasts_of asked) asked (with_unplanned timing own) level) wait ≤ wait
+    → need (demands_of asked) (blocking_with timing own) (streams_with timing (leasts_of asked) asked (with_unplanned timing own) level) wait ≤ wait
     → HasRoomInCompany (traffic_of (asked ++ damage_frames timing)) (company_of timing asked own level) timing.unplanned (longest_frame 8) i wait
 company_room timing asked own level wait i read enough =
     let most = company_taken timing asked own level (wait + 1) in
-    let needed = enough in
+    let needed : need (demands_of (asked ++ damage_frames timing)) (blocking_with timing own)
+    (streams_with timing (leasts_of asked) asked (with_unplanned timing own) level) wait ≤ wait =
+    subst (λ (ds : List Demand). need ds (blocking_with timing own) (streams_with timing (leasts_of asked) asked (with_unplanned timing own) level) wait ≤ wait)
+    (sym (demands_with_damage timing asked)) enough in
     subst (λ (x : FlowFrames). longest_frame 8 * (1 + timing.unplanned)
     + total (length (asked ++ damage_frames timing)) (taken timing asked own level (wait + 1)) ≤ wait + x.stream.bits) (sym read)
     (omega (arith, most, needed))

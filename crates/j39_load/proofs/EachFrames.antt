@@ -18,16 +18,18 @@ use Rattle.j39_load.specs.declared.flow_load.FlowLoad.{FlowLoad}
 use Rattle.j39_load.specs.declared.messages.Messages.TheVariants.{Short}
 use Rattle.j39_load.specs.declared.request_load.RequestLoad.{RequestLoad}
 use Rattle.j39_load.specs.declared.unit_load.UnitLoad.{UnitLoad}
-use Rattle.j39_load.specs.Asked.{announcements_of_unit, asked_of, frames_asked, frames_of_flow, frames_of_request, own_frames, packets_of_unit, singles_of_flow}
+use Rattle.j39_load.specs.Asked.{announcements_of_unit, asked_of, frames_asked, frames_of_flow, frames_of_request, own_frames, packets_of_unit, singles_of_flow, wanting}
 use Rattle.j39_load.specs.Broadcasts.{broadcast_frames, broadcasts_by, known_unit_load, least_packets, unit_loads_of}
-use Rattle.j39_load.specs.Loads.{has_short, is_always_short, load_of_flow, loads_of, long_messages, packet_frames, single_frames}
+use Rattle.j39_load.specs.Demands.{announcements_demand, packets_demand}
+use Rattle.j39_load.specs.Loads.{broadcast_of, has_short, is_always_short, load_of_flow, loads_of, long_messages, packet_frames, single_frames}
 use Rattle.j39_load.specs.RequestLoads.{load_of_request, request_load, request_loads_of}
 use Rattle.j39_tp.specs.Chunks.{packets_of}
 
 module _ (timing : Timing) (plan : Plan) (stays : UnitPlan → Bool) (P : FlowFrames → Type 0)
     (single : (flow : FlowPlan) (pace : Pace) (group : GroupPlan) → P (single_frames timing plan.units.items stays flow pace group))
     (session : (flow : FlowPlan) (v : ℕ) (pace : Pace) (packets : ℕ) → P (packet_frames timing plan.units.items stays flow v pace packets))
-    (broadcast : (pgn u gaps : ℕ) → P (broadcast_frames timing plan.units.items stays pgn u gaps))
+    (broadcast : (pgn u gaps place : ℕ) → P (broadcast_frames timing plan.units.items stays pgn u gaps place))
+    (wants : (broadcast : Broadcast) → P (wanting broadcast))
     (asking : (request : RequestPlan) (period : ℕ) → P (request_load timing plan.units.items stays request period).frames) where
   abbrev Fits : Option FlowFrames → Type 0
   Fits frames = IfSome frames P
@@ -36,7 +38,7 @@ module _ (timing : Timing) (plan : Plan) (stays : UnitPlan → Bool) (P : FlowFr
 
   long : (flow : FlowPlan) (pace : Pace) (group : GroupPlan) (to : To)
       → Fits (own_frames (long_messages timing plan.units.items stays flow pace group to))
-  long flow pace group ToAllUnits = tt
+  long flow pace group ToAllUnits = wants (broadcast_of timing flow pace group)
   long flow pace group (One v) = session flow v pace (packets_of group.most)
 
   by_lengths : (flow : FlowPlan) (pace : Pace) (group : GroupPlan) (short has : Bool)
@@ -67,7 +69,10 @@ module _ (timing : Timing) (plan : Plan) (stays : UnitPlan → Bool) (P : FlowFr
 
   of_unit : (u : ℕ) (broadcasts : List Broadcast) → OfUnit (known_unit_load timing plan.units.items stays u broadcasts)
   of_unit u [] = (tt, tt)
-  of_unit u (b ∷ bs) = (broadcast data_transfer u 1, broadcast connection_management u (least_packets (b ∷ bs)))
+  of_unit u (b ∷ bs) = (
+    broadcast data_transfer u 1 (packets_demand u),
+    broadcast connection_management u (least_packets (b ∷ bs)) (announcements_demand u),
+  )
 
   of_units : (loads : List (Option FlowLoad)) → All OfUnit (unit_loads_of timing plan.units.items stays loads)
   of_units [] = λ k d below. absurd (omega arith)

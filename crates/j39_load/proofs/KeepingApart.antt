@@ -30,7 +30,7 @@ use Rattle.j39_load.specs.KeptTogether.{CanBeKeptTogether}
 use Rattle.j39_load.specs.Loads.{bits_per_ms, is_any}
 use Rattle.j39_load.specs.Ranks.{AreHeldApart}
 use Rattle.j39_load.proofs.DamagedFirst as damaged_first
-use Rattle.j39_load.proofs.WhoStays.{placed}
+use Rattle.j39_findings.proofs.WhoStays.{placed}
 use Rattle.j39_timing.proofs.Rounds.{rounds_legal}
 use Rattle.j39_timing.proofs.Sums.{total-none}
 use Rattle.j39_timing.specs.AnyOrder.{Controllers}
@@ -40,8 +40,8 @@ use Rattle.j39_timing.specs.Rounds.{AreSenders, Senders, all_planned, in_rounds}
 use Rattle.j39_timing.specs.Sums.{total}
 use Rattle.j39_timing.specs.TimedFrames.{Schedule}
 use Rattle.j39_timing.specs.Traffic.{others_queued}
-use Rattle.j39_world.specs.PlannedUnits.{planned_unit, unit_at, units_of}
-use Rattle.j39_world.specs.Staying.{ArePlannedApart}
+use Rattle.j39_findings.specs.PlannedUnits.{planned_unit, unit_at, units_of}
+use Rattle.j39_world.specs.HeldAddresses.{ArePlannedApart}
 
 in_ms_behind : (bitrate : Bitrate) (ms a b : ℕ) → a + ms * bits_per_ms bitrate ≤ b → a * bit_time bitrate + 1000 * ms ≤ b * bit_time bitrate
 in_ms_behind Kbit125 ms a b behind = omega arith

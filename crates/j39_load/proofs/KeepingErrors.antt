@@ -22,8 +22,9 @@ use Rattle.j39_load.specs.KeepsErrors.{KeepsErrors, origins_with, planned_with}
 use Rattle.j39_load.specs.KeepsPlan.{Held, IsFrameOf, KeepsToPlan, FrameFlows, goes_to, origins_of}
 use Rattle.j39_load.specs.Loads.{bits_of_ms, load_of_flow}
 use Rattle.j39_load.specs.PlannedFrames.{AreFramesOfPlan, no_frames, planned_at}
-use Rattle.j39_load.specs.Standing.{TellsWhoStays}
+use Rattle.j39_findings.specs.Standing.{TellsWhoStays}
 use Rattle.j39_load.specs.Twins.{is_same}
+use Rattle.j39_load.proofs.DemandLaws.{never_wanted}
 use Rattle.j39_load.proofs.Attempts.{a_window_apart}
 use Rattle.j39_load.proofs.KeepingPlan.{behind_bits, between, frame_at_most, here, keeps_stream, of_streams, one, own, own_identifier, read, traffic}
 use Rattle.j39_load.proofs.StreamsBefore.{get_or_inside}
@@ -411,6 +412,11 @@ module _ (plan : Plan) (timing : Timing) (stays : UnitPlan → Bool) (tells : Te
         | inr at ↦ let bits = at.bits in let few = narrow at.error in omega (arith, bits, few)
       ];
       of_streams = streams_with;
+      as_wanted = never_wanted w is_planned of (traffic plan timing stays).demands (traffic plan timing stays).stream (λ p in_p is. elim (kinds p in_p) [
+        | inl at ↦ ap (λ (f : FlowFrames). f.stream.wanted)
+            (ap (planned_at streams) at.source ∙ here plan timing stays tells clean s bus.queued_first planned sent held keeps p at.below (sym at.plans ∙ is))
+        | inr at ↦ ap (λ (f : FlowFrames). f.stream.wanted) (ap (planned_at streams) at.source ∙ damage_read at.error)
+      ]);
       from_least = λ p in_p is. elim (kinds p in_p) [
         | inl at ↦ (between_with p at (sym at.plans ∙ is)).0
         | inr at ↦ let none = ap (λ (f : FlowFrames). f.least_ident) (ap (planned_at streams) at.source ∙ damage_read at.error) in omega (arith, none)

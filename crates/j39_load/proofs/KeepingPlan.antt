@@ -31,8 +31,9 @@ use Rattle.j39_load.specs.KeepsPlan.{Held, IsFrameOf, KeepsToPlan, KeepsQueues, 
 use Rattle.j39_load.specs.Loads.{any_unit, bits_per_ms, destination_at, flow_load, group_ident, is_always_short, is_any, load_of_flow, loads_of, single_frames}
 use Rattle.j39_load.specs.PlannedFrames.{AreFramesInAnyOrder, AreFramesOfPlan, KeepToCompany, company_of, no_frames, planned_at, traffic_of}
 use Rattle.j39_load.specs.Ranks.{AreUnitsPlanned, IsShortFlow}
-use Rattle.j39_load.specs.Standing.{TellsWhoStays}
+use Rattle.j39_findings.specs.Standing.{TellsWhoStays}
 use Rattle.j39_load.specs.Twins.{are_twins, is_same}
+use Rattle.j39_load.proofs.DemandLaws.{never_wanted}
 use Rattle.j39_load.proofs.Different.{different, senders}
 use Rattle.j39_load.proofs.Ranks.{lie_between}
 use Rattle.j39_load.proofs.StreamsBefore.{get_or_inside, own_read, with_damage}
@@ -301,6 +302,8 @@ module _ (plan : Plan) (timing : Timing) (stays : UnitPlan → Bool) where
         | inr other ↦ keeps.others_length p in_p other
       ];
       of_streams = of_streams;
+      as_wanted = never_wanted s planned (origins_of sent) traffic.demands traffic.stream
+          (λ p in_p is. ap (λ (f : FlowFrames). f.stream.wanted) (here p in_p is));
       from_least = λ p in_p is. subst (λ (f : FlowFrames). f.least_ident ≤ s.ident p) (sym (here p in_p is)) (between p in_p is).0;
       to_greatest = λ p in_p is source. subst (λ (k : ℕ). s.ident p ≤ traffic.greatest k) source
           (subst (λ (f : FlowFrames). s.ident p ≤ f.greatest_ident) (sym (here p in_p is)) (between p in_p is).1);

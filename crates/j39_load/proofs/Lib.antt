@@ -6,9 +6,11 @@ pub mod Before
 pub mod BoundedFlows
 pub mod Broadcasting
 pub mod CompanyStreams
+pub mod DemandLaws
 pub mod Different
 pub mod EachFrames
 pub mod DamagedFirst
+pub mod FoundWaits
 pub mod KeepingApart
 pub mod KeepingErrors
 pub mod KeepingPlan
@@ -26,6 +28,5 @@ pub mod TurnTimes
 pub mod ValuesInTime
 pub mod Vehicles
 pub mod WantedMemory
-pub mod WhoStays
 pub mod WholeMessages
 pub mod WithoutFlows

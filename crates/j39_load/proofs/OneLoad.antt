@@ -22,7 +22,7 @@ use Rattle.j39_findings.specs.declared.plan.timing.Timing.{Timing}
 use Rattle.j39_findings.specs.declared.plan.to.To.{To}
 use Rattle.j39_findings.specs.declared.plan.to.To.TheVariants.{All as ToAllUnits, One}
 use Rattle.j39_findings.specs.declared.plan.unit_plan.UnitPlan.{UnitPlan}
-use Rattle.j39_findings.proofs.Vehicles.{AreBoth}
+use Rattle.j39_findings.proofs.VehicleUnits.{AreBoth}
 use Rattle.j39_load.specs.declared.broadcast.Broadcast.{Broadcast}
 use Rattle.j39_load.specs.declared.delay.Delay.{Delay}
 use Rattle.j39_load.specs.declared.delay.Delay.TheVariants.{Within, Late, Long, Whole}
@@ -37,11 +37,12 @@ use Rattle.j39_load.specs.AnyQueues.{IsCompanyLevel, IsCompanyWait, IsHeldFor, I
 use Rattle.j39_load.specs.Asked.{Asked, asked_by, asked_of, frames_asked}
 use Rattle.j39_load.specs.Broadcasts.{broadcast_frames, broadcasts_by, known_unit_load, least_packets, unit_loads_of}
 use Rattle.j39_load.specs.Delays.{HasDelayBy, IsDelay, IsDelayOf, IsFrameDelay, IsLeastWait, IsShortDelay, IsTurnTimeBy, IsWaitIn, IsWaitOf, IsWholeTime, TellDelays, announcements_place, any_delay, known_turn_time, need_of, packets_place, whole_time}
+use Rattle.j39_load.specs.Demands.{announcements_demand, demands_of, packets_demand}
 use Rattle.j39_load.specs.LoadFindings.{AsksOfBus}
 use Rattle.j39_load.specs.Loads.{any_unit, destination_at, flow_load, frames_to_one, greatest_address, group_ident, is_any, least_address, load_of_flow, loads_of, long_messages}
 use Rattle.j39_load.specs.Loads.{of_unit, packet_frames, packet_ident, session_ident, single_frames}
 use Rattle.j39_load.specs.RequestLoads.{load_of_request, request_ident, request_load, request_loads_of}
-use Rattle.j39_load.specs.Standing.{TellsWhoStays}
+use Rattle.j39_findings.specs.Standing.{TellsWhoStays}
 use Rattle.j39_timing.specs.Traffic.{delay_of}
 use Rattle.j39_timing.specs.Waits.{HaveNoRoom, need}
 use Rattle.j39_timing.specs.declared.stream.Stream.{Stream}
@@ -164,8 +165,9 @@ module _ (timing : Timing) (stays other : UnitPlan → Bool) (units boxes : List
       → flow_load timing units stays flow pace group ≡ flow_load timing boxes other flow pace group
   load_same flow pace group = rw (singles_same flow pace group, long_same flow pace group flow.to) refl
 
-  broadcast_same : (pgn u gaps : ℕ) → broadcast_frames timing units stays pgn u gaps ≡ broadcast_frames timing boxes other pgn u gaps
-  broadcast_same pgn u gaps =
+  broadcast_same : (pgn u gaps place : ℕ)
+      → broadcast_frames timing units stays pgn u gaps place ≡ broadcast_frames timing boxes other pgn u gaps place
+  broadcast_same pgn u gaps place =
       rw (
         unit_same (least_address stays) (least_address other) least_same u,
         unit_same (greatest_address stays) (greatest_address other) greatest_same u,
@@ -176,7 +178,7 @@ module _ (timing : Timing) (stays other : UnitPlan → Bool) (units boxes : List
       → known_unit_load timing units stays u broadcasts ≡ known_unit_load timing boxes other u broadcasts
   unit_load_same u [] = refl
   unit_load_same u (b ∷ bs) =
-      rw (broadcast_same data_transfer u 1, broadcast_same connection_management u (least_packets (b ∷ bs))) refl
+      rw (broadcast_same data_transfer u 1 (packets_demand u), broadcast_same connection_management u (least_packets (b ∷ bs)) (announcements_demand u)) refl
 
   units_same : (loads : List (Option FlowLoad)) (places : List ℕ)
       → map (λ u. known_unit_load timing units stays u (broadcasts_by u loads)) places
@@ -314,8 +316,8 @@ module _ (timing : Timing) (all : List (Option FlowFrames)) where
       let above = another.least level is.is in
       omega (arith, below, above)
 
-  one_least : (streams : List Stream) (blocking : ℕ) (wait other : Option ℕ) → IsWaitWith timing streams blocking wait
-      → IsWaitWith timing streams blocking other → wait ≡ other
+  one_least : (streams : List Stream) (blocking : ℕ) (wait other : Option ℕ) → IsWaitWith timing (demands_of all) streams blocking wait
+      → IsWaitWith timing (demands_of all) streams blocking other → wait ≡ other
   one_least streams blocking None None is another = refl
   one_least streams blocking None (Some other) is another = absurd (let below = another.0 in let room = another.1 in omega (arith, is other (omega arith)))
   one_least streams blocking (Some wait) None is another = absurd (let below = is.0 in let room = is.1 in omega (arith, another wait (omega arith)))
@@ -324,7 +326,7 @@ module _ (timing : Timing) (all : List (Option FlowFrames)) where
       let below : wait ≤ other = not_before other wait another.1 is.2 in
       ap Some (omega (arith, above, below))
     where
-      not_before : (a b : ℕ) → need blocking streams a ≤ a → HaveNoRoom blocking streams b → b ≤ a
+      not_before : (a b : ℕ) → need (demands_of all) blocking streams a ≤ a → HaveNoRoom (demands_of all) blocking streams b → b ≤ a
       not_before a b room least = elim (cases_lt a b) [
         | inl less ↦ absurd (omega (arith, least a less, room))
         | inr above ↦ above
@@ -335,7 +337,7 @@ module _ (timing : Timing) (all : List (Option FlowFrames)) where
   one_company_wait own wait other is another =
       let same = one_level (with_unplanned timing own) is.level another.level is.of_company another.of_company in
       one_least (streams_with timing (leasts_of all) all (with_unplanned timing own) another.level) (blocking_with timing own) wait other
-      (subst (λ (n : ℕ). IsWaitWith timing (streams_with timing (leasts_of all) all (with_unplanned timing own) n) (blocking_with timing own) wait) same
+      (subst (λ (n : ℕ). IsWaitWith timing (demands_of all) (streams_with timing (leasts_of all) all (with_unplanned timing own) n) (blocking_with timing own) wait) same
       is.least_wait) another.least_wait
 
   one_held : (frames : Option FlowFrames) (wait other : Option ℕ) → IsHeldFor timing all frames wait → IsHeldFor timing all frames other → wait ≡ other

@@ -126,7 +126,7 @@ own_paced (Some load) known = go load.messages known.messages
     go : (messages : Messages) → ArePaced load.limit messages → HasPeriod (own_frames messages)
     go (Short frames) is = is.0
     go (ToOne frames) is = is
-    go (ToAll broadcast) is = tt
+    go (ToAll broadcast) is = omega arith
 
 singles_paced : (load : Option FlowLoad) → IsOfFlowIfKnown load → HasPeriod (singles_of_flow load)
 singles_paced None known = tt

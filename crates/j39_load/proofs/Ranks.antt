@@ -21,11 +21,11 @@ use Rattle.j39_findings.specs.declared.plan.unit_plan.UnitPlan.{UnitPlan}
 use Rattle.j39_load.specs.Loads.{destination_at, greatest_address, least_address, may_move, of_unit}
 use Rattle.j39_findings.proofs.Members.{all_at}
 use Rattle.j39_load.specs.Ranks.{AreHeldByPlan, AreUnitsPlanned, LieBetween, RequestLiesBetween}
-use Rattle.j39_load.specs.Standing.{TellsWhoStays}
-use Rattle.j39_load.proofs.WhoStays.{placed}
+use Rattle.j39_findings.specs.Standing.{TellsWhoStays}
+use Rattle.j39_findings.proofs.WhoStays.{placed}
 use Rattle.j39_claim.specs.ClaimRule.{PlannedUnit}
-use Rattle.j39_world.specs.PlannedUnits.{planned_unit, unit_at, units_of}
-use Rattle.j39_world.specs.Staying.{StaysBeside}
+use Rattle.j39_findings.specs.PlannedUnits.{planned_unit, unit_at, units_of}
+use Rattle.j39_findings.specs.Staying.{StaysBeside}
 
 -- of two groups alike the one with the smaller addresses has the smaller identifier
 identifier-mono : (priority pgn d e s t : ℕ) → d ≤ e → s ≤ t → identifier_of priority pgn d s ≤ identifier_of priority pgn e t

@@ -20,9 +20,10 @@ use Rattle.j39_findings.specs.declared.plan.timing.Timing.{Timing}
 use Rattle.j39_findings.specs.declared.plan.to.To.{To}
 use Rattle.j39_findings.specs.declared.plan.to.To.TheVariants.{All as ToAllUnits, One}
 use Rattle.j39_findings.specs.declared.plan.unit_plan.UnitPlan.{UnitPlan}
+use Rattle.j39_load.specs.declared.broadcast.Broadcast.{Broadcast}
 use Rattle.j39_load.specs.declared.flow_frames.FlowFrames.{FlowFrames}
 use Rattle.j39_load.specs.AnyQueues.{are_of_unit, keep_order}
-use Rattle.j39_load.specs.Asked.{asked_of, frames_asked}
+use Rattle.j39_load.specs.Asked.{asked_of, frames_asked, wanting}
 use Rattle.j39_load.specs.Broadcasts.{broadcast_frames}
 use Rattle.j39_load.specs.Loads.{any_unit, destination_at, greatest_address, is_always_short, is_any, least_address, may_move, most_bytes, of_unit, packet_frames, single_frames}
 use Rattle.j39_load.specs.RequestLoads.{request_load}
@@ -139,11 +140,18 @@ module _ (timing : Timing) (plan : Plan) (stays : UnitPlan → Bool) where
       below_max : (a b c : ℕ) → a < b → a < max b c
       below_max a b c less = omega (arith, less)
 
-  broadcast : (pgn u gaps : ℕ) → IsSent (broadcast_frames timing units stays pgn u gaps)
-  broadcast pgn u gaps = record {
+  broadcast : (pgn u gaps place : ℕ) → IsSent (broadcast_frames timing units stays pgn u gaps place)
+  broadcast pgn u gaps place = record {
     short = omega arith;
     rises = λ is. absurd (false≢true is);
     placed = λ v is. placed v (one_end units u v is);
+  }
+
+  wants : (broadcast : Broadcast) → IsSent (wanting broadcast)
+  wants broadcast = record {
+    short = omega arith;
+    rises = λ is. absurd (false≢true is);
+    placed = λ v is. absurd (false≢true is);
   }
 
   asking : (request : RequestPlan) (period : ℕ) → IsSent (request_load timing units stays request period).frames
@@ -154,7 +162,7 @@ module _ (timing : Timing) (plan : Plan) (stays : UnitPlan → Bool) where
   }
 
   pub all_sent : All (λ (frames : Option FlowFrames). IfSome frames IsSent) (frames_asked (asked_of timing plan stays))
-  all_sent = each_fits timing plan stays IsSent single session broadcast asking
+  all_sent = each_fits timing plan stays IsSent single session broadcast wants asking
 
 -- ---- plans whose units all keep order
 
@@ -178,7 +186,7 @@ module _ (timing : Timing) (plan : Plan) (stays : UnitPlan → Bool)
 
   all_ordered : All (λ (frames : Option FlowFrames). IfSome frames (λ (f : FlowFrames). keep_order f ≡ true)) (frames_asked (asked_of timing plan stays))
   all_ordered = each_fits timing plan stays (λ (f : FlowFrames). keep_order f ≡ true) (λ flow pace group. one_none flow.sender)
-      (λ flow v pace packets. two_none flow.sender v) (λ pgn u gaps. one_none u) (λ request period. one_none request.sender)
+      (λ flow v pace packets. two_none flow.sender v) (λ pgn u gaps place. one_none u) (λ broadcast. refl) (λ request period. one_none request.sender)
 
   pub in_order : AreAllOrdered (frames_asked (asked_of timing plan stays))
   in_order j = go (get_or (frames_asked (asked_of timing plan stays)) j None) refl

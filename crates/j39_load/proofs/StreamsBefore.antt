@@ -19,7 +19,7 @@ use Rattle.j39_load.specs.PlannedFrames.{no_frames, planned_at}
 use Rattle.j39_load.specs.Twins.{may_precede}
 use Rattle.j39_load.proofs.Before.{more}
 use Rattle.j39_timing.specs.Sums.{total}
-use Rattle.j39_timing.specs.Waits.{share}
+use Rattle.j39_timing.specs.Waits.{Demand, lesser_share}
 use Rattle.j39_timing.specs.declared.stream.Stream.{Stream}
 
 -- ---- where nothing is told
@@ -42,48 +42,48 @@ told_nothing tell place (first ∷ xs) none (suc k) x at =
 -- ---- the streams before
 
 -- what each place takes is within what is told of it, and so is all of it
-module _ (tell : ℕ → Option FlowFrames → List Stream) (span : ℕ) (taken : ℕ → ℕ) (all : List (Option FlowFrames))
-    (each : (k : ℕ) → k < length all → taken k ≤ sum_by (share span) (tell k (get_or all k None))) where
-  up_to : (k : ℕ) → k ≤ length all → total k taken ≤ sum_by (share span) (lines_of_each tell 0 (take k all))
+module _ (demands : List Demand) (tell : ℕ → Option FlowFrames → List Stream) (span : ℕ) (taken : ℕ → ℕ) (all : List (Option FlowFrames))
+    (each : (k : ℕ) → k < length all → taken k ≤ sum_by (lesser_share demands span) (tell k (get_or all k None))) where
+  up_to : (k : ℕ) → k ≤ length all → total k taken ≤ sum_by (lesser_share demands span) (lines_of_each tell 0 (take k all))
   unfolding total
   up_to zero le = omega arith
   up_to (suc k) le =
-      let before : total k taken ≤ sum_by (share span) (lines_of_each tell 0 (take k all)) = up_to k (omega arith) in
-      let this : taken k ≤ sum_by (share span) (tell k (get_or all k None)) = each k (omega arith) in
-      let both : sum_by (share span) (lines_of_each tell 0 (take (k + 1) all))
-      ≡ sum_by (share span) (lines_of_each tell 0 (take k all)) + sum_by (share span) (tell k (get_or all k None)) =
-      ap (sum_by (share span)) (more tell k all None (omega arith))
-      ∙ sum_by-append (share span) (lines_of_each tell 0 (take k all)) (tell k (get_or all k None)) in
+      let before : total k taken ≤ sum_by (lesser_share demands span) (lines_of_each tell 0 (take k all)) = up_to k (omega arith) in
+      let this : taken k ≤ sum_by (lesser_share demands span) (tell k (get_or all k None)) = each k (omega arith) in
+      let both : sum_by (lesser_share demands span) (lines_of_each tell 0 (take (k + 1) all))
+      ≡ sum_by (lesser_share demands span) (lines_of_each tell 0 (take k all)) + sum_by (lesser_share demands span) (tell k (get_or all k None)) =
+      ap (sum_by (lesser_share demands span)) (more tell k all None (omega arith))
+      ∙ sum_by-append (lesser_share demands span) (lines_of_each tell 0 (take k all)) (tell k (get_or all k None)) in
       let next : k + 1 ≡ suc k = omega arith in
-      subst (λ (n : ℕ). total k taken + taken k ≤ sum_by (share span) (lines_of_each tell 0 (take n all))) next (omega (arith, before, this, both))
+      subst (λ (n : ℕ). total k taken + taken k ≤ sum_by (lesser_share demands span) (lines_of_each tell 0 (take n all))) next (omega (arith, before, this, both))
 
-  pub taken_within : total (length all) taken ≤ sum_by (share span) (lines_of_each tell 0 all)
-  taken_within = subst (λ (xs : List (Option FlowFrames)). total (length all) taken ≤ sum_by (share span) (lines_of_each tell 0 xs))
+  pub taken_within : total (length all) taken ≤ sum_by (lesser_share demands span) (lines_of_each tell 0 all)
+  taken_within = subst (λ (xs : List (Option FlowFrames)). total (length all) taken ≤ sum_by (lesser_share demands span) (lines_of_each tell 0 xs))
       (take_all (length all) all (omega arith)) (up_to (length all) (omega arith))
 
-module _ (all : List (Option FlowFrames)) (i : ℕ) (own : FlowFrames) (span : ℕ) where
+module _ (demands : List Demand) (all : List (Option FlowFrames)) (i : ℕ) (own : FlowFrames) (span : ℕ) where
   -- what the stream at a place takes
   abbrev pub taken : ℕ → ℕ
-  taken j = cond (not (eqb j i) && may_precede own (planned_at all j)) (share span (planned_at all j).stream) 0
+  taken j = cond (not (eqb j i) && may_precede own (planned_at all j)) (lesser_share demands span (planned_at all j).stream) 0
 
-  taken_most : (j : ℕ) (frames : Option FlowFrames) → get_or all j None ≡ frames → taken j ≤ sum_by (share span) (going_before i own j frames)
-  taken_most j None is = rw (is) (elim (not (eqb j i) && may_precede own no_frames) as (λ e. cond e (share span no_frames.stream) 0 ≤ sum_by (share span) []) [
+  taken_most : (j : ℕ) (frames : Option FlowFrames) → get_or all j None ≡ frames → taken j ≤ sum_by (lesser_share demands span) (going_before i own j frames)
+  taken_most j None is = rw (is) (elim (not (eqb j i) && may_precede own no_frames) as (λ e. cond e (lesser_share demands span no_frames.stream) 0 ≤ sum_by (lesser_share demands span) []) [
     | true ↦ omega arith
     | false ↦ omega arith
   ])
   taken_most j (Some frames) is = rw (is) (elim (eqb j i)
-      as (λ e. cond (not e && may_precede own frames) (share span frames.stream) 0
-      ≤ sum_by (share span) (if e then [] else frames_before own frames)) [
+      as (λ e. cond (not e && may_precede own frames) (lesser_share demands span frames.stream) 0
+      ≤ sum_by (lesser_share demands span) (if e then [] else frames_before own frames)) [
         | true ↦ omega arith
         | false ↦ elim (may_precede own frames)
-            as (λ e. cond e (share span frames.stream) 0 ≤ sum_by (share span) (cond e (frames.stream ∷ []) [])) [
-              | true ↦ rw (sum_by-cons (share span) frames.stream []) (omega arith)
+            as (λ e. cond e (lesser_share demands span frames.stream) 0 ≤ sum_by (lesser_share demands span) (cond e (frames.stream ∷ []) [])) [
+              | true ↦ rw (sum_by-cons (lesser_share demands span) frames.stream []) (omega arith)
               | false ↦ omega arith
             ]
       ])
 
-  whole_taken : total (length all) taken ≤ sum_by (share span) (lines_of_each (going_before i own) 0 all)
-  whole_taken = taken_within (going_before i own) span taken all (λ k below. taken_most k (get_or all k None) refl)
+  whole_taken : total (length all) taken ≤ sum_by (lesser_share demands span) (lines_of_each (going_before i own) 0 all)
+  whole_taken = taken_within demands (going_before i own) span taken all (λ k below. taken_most k (get_or all k None) refl)
 
 -- what is told of two lists, one after the other
 pub told_of_two : {X Y : Type 0} (tell : ℕ → X → List Y) (place : ℕ) (xs ys : List X)
@@ -95,35 +95,35 @@ told_of_two tell place (x ∷ xs) ys =
     ∙ ap (λ (n : ℕ). tell place x ++ (lines_of_each tell (place + 1) xs ++ lines_of_each tell n ys)) (omega arith)
     ∙ sym (append_assoc (tell place x) (lines_of_each tell (place + 1) xs) (lines_of_each tell (place + length (x ∷ xs)) ys))
 
-module _ (i : ℕ) (own : FlowFrames) (span : ℕ) where
+module _ (demands : List Demand) (i : ℕ) (own : FlowFrames) (span : ℕ) where
   damage_most : (place : ℕ) (streams : List Stream)
-      → sum_by (share span) (lines_of_each (going_before i own) place (map first_of_all streams)) ≤ sum_by (share span) streams
+      → sum_by (lesser_share demands span) (lines_of_each (going_before i own) place (map first_of_all streams)) ≤ sum_by (lesser_share demands span) streams
   unfolding lines_of_each
   damage_most place [] = omega arith
   damage_most place (stream ∷ streams) =
-      let first : sum_by (share span) (going_before i own place (first_of_all stream)) ≤ share span stream =
+      let first : sum_by (lesser_share demands span) (going_before i own place (first_of_all stream)) ≤ lesser_share demands span stream =
       go (eqb place i) (may_precede own (first_frames stream)) in
       let rest = damage_most (place + 1) streams in
-      let parts = sum_by-append (share span) (going_before i own place (first_of_all stream))
+      let parts = sum_by-append (lesser_share demands span) (going_before i own place (first_of_all stream))
       (lines_of_each (going_before i own) (place + 1) (map first_of_all streams)) in
-      let one = sum_by-cons (share span) stream streams in
+      let one = sum_by-cons (lesser_share demands span) stream streams in
       omega (arith, first, rest, parts, one)
     where
-      go : (same goes : Bool) → sum_by (share span) (if same then [] else (if goes then stream ∷ [] else [])) ≤ share span stream
+      go : (same goes : Bool) → sum_by (lesser_share demands span) (if same then [] else (if goes then stream ∷ [] else [])) ≤ lesser_share demands span stream
       go true goes = omega arith
-      go false true = rw (sum_by-cons (share span) stream []) (omega arith)
+      go false true = rw (sum_by-cons (lesser_share demands span) stream []) (omega arith)
       go false false = omega arith
 
   -- with what comes of damage
   pub all_before : (timing : Timing) (all : List (Option FlowFrames))
-      → total (length (all ++ damage_frames timing)) (taken (all ++ damage_frames timing) i own span)
-      ≤ sum_by (share span) (streams_before timing i own all)
+      → total (length (all ++ damage_frames timing)) (taken demands (all ++ damage_frames timing) i own span)
+      ≤ sum_by (lesser_share demands span) (streams_before timing i own all)
   all_before timing all =
-      let whole = whole_taken (all ++ damage_frames timing) i own span in
-      let two = ap (sum_by (share span)) (told_of_two (going_before i own) 0 all (damage_frames timing)) in
-      let parts = sum_by-append (share span) (lines_of_each (going_before i own) 0 all) (lines_of_each (going_before i own) (0 + length all) (damage_frames timing)) in
+      let whole = whole_taken demands (all ++ damage_frames timing) i own span in
+      let two = ap (sum_by (lesser_share demands span)) (told_of_two (going_before i own) 0 all (damage_frames timing)) in
+      let parts = sum_by-append (lesser_share demands span) (lines_of_each (going_before i own) 0 all) (lines_of_each (going_before i own) (0 + length all) (damage_frames timing)) in
       let damage = damage_most (0 + length all) (damage_streams timing) in
-      let needed = sum_by-append (share span) (damage_streams timing) (lines_of_each (going_before i own) 0 all) in
+      let needed = sum_by-append (lesser_share demands span) (damage_streams timing) (lines_of_each (going_before i own) 0 all) in
       omega (arith, whole, two, parts, damage, needed)
 
 -- where something is read there is a place

@@ -15,19 +15,19 @@ use Rattle.j39_findings.specs.declared.plan.request_plan.RequestPlan.{RequestPla
 use Rattle.j39_findings.specs.declared.plan.timing.Timing.{Timing}
 use Rattle.j39_findings.specs.declared.plan.unit_plan.UnitPlan.{UnitPlan}
 use Rattle.j39_findings.proofs.Boxes.{AreOrderedAlike}
-use Rattle.j39_findings.proofs.Vehicles.{AreBoth, both_at, box_chooses, ordered, unit_of}
+use Rattle.j39_findings.proofs.VehicleUnits.{AreBoth, both_at, box_chooses, ordered, unit_of}
 use Rattle.j39_load.specs.declared.delay.Delay.{Delay}
 use Rattle.j39_load.specs.declared.load_finding.LoadFinding.{LoadFinding}
 use Rattle.j39_load.specs.Ages.{old_needs}
 use Rattle.j39_load.specs.Asked.{Asked, asked_of, total_load}
 use Rattle.j39_load.specs.Delays.{TellDelays}
 use Rattle.j39_load.specs.LoadFindings.{AreLoadFindings, AsksOfBus, all_findings, load_findings}
-use Rattle.j39_load.specs.Standing.{TellsWhoStays}
+use Rattle.j39_findings.specs.Standing.{TellsWhoStays}
 use Rattle.j39_load.specs.VehicleLoads.{AreLoadsAlike, StandAlike}
 use Rattle.j39_load.proofs.OneLoad.{AreSeenAlike, asked_alike, told_once}
-use Rattle.j39_world.specs.PlannedUnits.{units_of}
-use Rattle.j39_world.specs.Staying.{StaysBeside}
-use Rattle.j39_world.proofs.Boxes.{stay_alike}
+use Rattle.j39_findings.specs.PlannedUnits.{units_of}
+use Rattle.j39_findings.specs.Staying.{StaysBeside}
+use Rattle.j39_findings.proofs.StayingBoxes.{stay_alike}
 
 -- what is told of a unit is told of the box at its place, which is known by its NAME
 told_by : List UnitPlan → List UnitPlan → (UnitPlan → Bool) → UnitPlan → Bool

@@ -8,11 +8,12 @@ use Rattle.j39_id.specs.Limits.{unit_limit}
 use Rattle.j39_load.specs.declared.flow_frames.FlowFrames.{FlowFrames}
 use Rattle.j39_load.specs.Ages.{least}
 use Rattle.j39_load.specs.Damage.{damage_streams}
+use Rattle.j39_load.specs.Demands.{demands_of}
 use Rattle.j39_load.specs.Loads.{longest_wait}
 use Rattle.j39_load.specs.LineLists.{lines_of_each}
 use Rattle.j39_timing.specs.AnyOrder.{later_by}
 use Rattle.j39_timing.specs.FrameBits.{longest_frame}
-use Rattle.j39_timing.specs.Waits.{HaveNoRoom, need}
+use Rattle.j39_timing.specs.Waits.{Demand, HaveNoRoom, need}
 use Rattle.j39_timing.specs.declared.stream.Stream.{Stream}
 
 -- ---- companies
@@ -92,10 +93,10 @@ abbrev pub blocking_with : Timing → FlowFrames → ℕ
 blocking_with timing own = longest_frame 8 * (1 + timing.unplanned) - own.stream.bits
 
 -- the least wait that has room for these, or none of at most so many bits as are looked for has
-abbrev pub IsWaitWith : Timing → List Stream → ℕ → Option ℕ → Type 0
-IsWaitWith timing streams blocking (Some wait) =
-    (wait ≤ longest_wait timing) × (need blocking streams wait ≤ wait) × HaveNoRoom blocking streams wait
-IsWaitWith timing streams blocking None = HaveNoRoom blocking streams (longest_wait timing + 1)
+abbrev pub IsWaitWith : Timing → List Demand → List Stream → ℕ → Option ℕ → Type 0
+IsWaitWith timing demands streams blocking (Some wait) =
+    (wait ≤ longest_wait timing) × (need demands blocking streams wait ≤ wait) × HaveNoRoom demands blocking streams wait
+IsWaitWith timing demands streams blocking None = HaveNoRoom demands blocking streams (longest_wait timing + 1)
 
 -- the wait of some frames in a unit that keeps no order
 pub record IsCompanyWait (timing : Timing) (leasts : List (Option ℕ)) (all : List (Option FlowFrames)) (own : FlowFrames)
@@ -103,7 +104,7 @@ pub record IsCompanyWait (timing : Timing) (leasts : List (Option ℕ)) (all : L
   pub level : ℕ
   pub of_company : IsCompanyLevel leasts all (with_unplanned timing own) level
   pub least_wait :
-      IsWaitWith timing (streams_with timing leasts all (with_unplanned timing own) level) (blocking_with timing own) wait
+      IsWaitWith timing (demands_of all) (streams_with timing leasts all (with_unplanned timing own) level) (blocking_with timing own) wait
 
 -- ---- from when on frames are offered for good: where their units keep order from when they are ready
 

@@ -1,10 +1,11 @@
 -- What a plan asks of its bus: what each flow asks, what the broadcasts of each unit do, and what each request does; and all frames that come
 -- of it.
-use Rattle.std.specs.Prelude.{ℕ, ◌+◌, Bool, List, ◌++◌, map, sum_by, Option, Some, None}
+use Rattle.std.specs.Prelude.{ℕ, ◌+◌, ◌^◌, Bool, List, ◌++◌, map, sum_by, Option, Some, None}
 use Rattle.std.specs.Option.{option_and_then, option_map, option_map_or}
 use Rattle.j39_findings.specs.declared.plan.Plan.{Plan}
 use Rattle.j39_findings.specs.declared.plan.timing.Timing.{Timing}
 use Rattle.j39_findings.specs.declared.plan.unit_plan.UnitPlan.{UnitPlan}
+use Rattle.j39_load.specs.declared.broadcast.Broadcast.{Broadcast}
 use Rattle.j39_load.specs.declared.flow_frames.FlowFrames.{FlowFrames}
 use Rattle.j39_load.specs.declared.flow_load.FlowLoad.{FlowLoad}
 use Rattle.j39_load.specs.declared.messages.Messages.{Messages}
@@ -32,11 +33,24 @@ asked_of timing plan stays =
     asked_by (loads_of timing plan stays) (unit_loads_of timing plan.units.items stays (loads_of timing plan stays))
     (request_loads_of timing plan stays)
 
+-- in place of frames of its own, which a flow with long messages to all has none of, what it wants of its unit's
+abbrev pub wanting : Broadcast → FlowFrames
+wanting broadcast = record {
+  stream = record { frames = 0; period = 1; bits = 0; late = 0; wanted = None };
+  least_ident = 2 ^ 29;
+  greatest_ident = 2 ^ 29;
+  any_sender = None;
+  any_receiver = None;
+  last_ident = 2 ^ 29;
+  twin_ident = None;
+  want = Some broadcast;
+}
+
 -- the frames that are a flow's own: those of a broadcast are among its unit's
 abbrev pub own_frames : Messages → Option FlowFrames
 own_frames (Short frames) = Some frames
 own_frames (ToOne frames) = Some frames
-own_frames (ToAll broadcast) = None
+own_frames (ToAll broadcast) = Some (wanting broadcast)
 
 abbrev pub frames_of_flow : Option FlowLoad → Option FlowFrames
 frames_of_flow load = option_and_then (λ (l : FlowLoad). own_frames l.messages) load

@@ -13,6 +13,7 @@ use Rattle.j39_load.specs.declared.flow_load.FlowLoad.{FlowLoad}
 use Rattle.j39_load.specs.declared.messages.Messages.{Messages}
 use Rattle.j39_load.specs.declared.messages.Messages.TheVariants.{Short, ToAll, ToOne}
 use Rattle.j39_load.specs.declared.unit_load.UnitLoad.{UnitLoad}
+use Rattle.j39_load.specs.Demands.{announcements_demand, packets_demand}
 use Rattle.j39_load.specs.Loads.{any_unit, bits_of_ms, broadcast_ident, greatest_address, least_address, of_unit}
 use Rattle.j39_timing.specs.FrameBits.{longest_frame}
 use Rattle.j39_timing.specs.declared.stream.Stream.{Stream}
@@ -36,25 +37,27 @@ unfoldable pub least_packets : List Broadcast → ℕ
 least_packets [] = 255
 least_packets (broadcast ∷ broadcasts) = min broadcast.least_packets (least_packets broadcasts)
 
--- single frames of eight bytes, which are queued at least so many gaps apart
-abbrev pub spaced_stream : Timing → ℕ → Stream
-spaced_stream timing gaps = record {
+-- single frames of eight bytes, which are queued at least so many gaps apart; what is wanted of them stands at a place
+abbrev pub spaced_stream : Timing → ℕ → ℕ → Stream
+spaced_stream timing gaps place = record {
   frames = 1;
   period = gaps * bits_of_ms timing timing.broadcast_gap;
   bits = longest_frame frame_bytes;
   late = 0;
+  wanted = Some place;
 }
 
 -- frames of one of the two groups of the transport protocol, from a unit to all
-abbrev pub broadcast_frames : Timing → List UnitPlan → (UnitPlan → Bool) → ℕ → ℕ → ℕ → FlowFrames
-broadcast_frames timing units stays pgn u gaps = record {
-  stream = spaced_stream timing gaps;
+abbrev pub broadcast_frames : Timing → List UnitPlan → (UnitPlan → Bool) → ℕ → ℕ → ℕ → ℕ → FlowFrames
+broadcast_frames timing units stays pgn u gaps place = record {
+  stream = spaced_stream timing gaps place;
   least_ident = broadcast_ident timing pgn (of_unit units (least_address stays)) u;
   greatest_ident = broadcast_ident timing pgn (of_unit units (greatest_address stays)) u;
   any_sender = any_unit units u;
   any_receiver = None;
   last_ident = broadcast_ident timing pgn (of_unit units (greatest_address stays)) u;
   twin_ident = None;
+  want = None;
 }
 
 -- the bits that so many frames take in a second at most, which are sent again after so many milliseconds
@@ -93,8 +96,8 @@ load_of_announcements timing broadcasts =
 -- what these broadcasts of the unit at a place ask of the bus
 abbrev pub unit_load : Timing → List UnitPlan → (UnitPlan → Bool) → ℕ → List Broadcast → UnitLoad
 unit_load timing units stays u broadcasts = record {
-  packets = broadcast_frames timing units stays data_transfer u 1;
-  announcements = broadcast_frames timing units stays connection_management u (least_packets broadcasts);
+  packets = broadcast_frames timing units stays data_transfer u 1 (packets_demand u);
+  announcements = broadcast_frames timing units stays connection_management u (least_packets broadcasts) (announcements_demand u);
   flows = length broadcasts;
   all_packets = sum_by (λ b. b.packets) broadcasts;
   bits_per_second = load_of_packets timing broadcasts + (load_of_firsts broadcasts + load_of_announcements timing broadcasts);

@@ -17,6 +17,7 @@ use Rattle.j39_load.specs.declared.whole_time.WholeTime.{WholeTime}
 use Rattle.j39_load.specs.AnyQueues.{IsOffer, Offer, keep_order, may_be_passed}
 use Rattle.j39_load.specs.Asked.{Asked, frames_asked}
 use Rattle.j39_load.specs.Damage.{damage_streams}
+use Rattle.j39_load.specs.Demands.{demands_of}
 use Rattle.j39_load.specs.Loads.{bits_of_ms, frames_to_all, longest_wait}
 use Rattle.j39_load.specs.LineLists.{lines_of_each}
 use Rattle.j39_load.specs.Twins.{may_precede}
@@ -48,11 +49,11 @@ streams_before timing i own all = damage_streams timing ++ lines_of_each (going_
 
 -- what a wait of so many bits of a frame of these, at their place among all, has to have room for
 abbrev pub need_of : Timing → List (Option FlowFrames) → ℕ → FlowFrames → ℕ → ℕ
-need_of timing all i frames wait = need (blocking timing frames.greatest_ident) (streams_before timing i frames all) wait
+need_of timing all i frames wait = need (demands_of all) (blocking timing frames.greatest_ident) (streams_before timing i frames all) wait
 
 -- and that no shorter wait has
 abbrev pub IsLeastWait : Timing → List (Option FlowFrames) → ℕ → FlowFrames → ℕ → Type 0
-IsLeastWait timing all i frames wait = HaveNoRoom (blocking timing frames.greatest_ident) (streams_before timing i frames all) wait
+IsLeastWait timing all i frames wait = HaveNoRoom (demands_of all) (blocking timing frames.greatest_ident) (streams_before timing i frames all) wait
 
 -- the wait has room, and its delay is within the limit
 pub record IsInTime (timing : Timing) (all : List (Option FlowFrames)) (i : ℕ) (frames : FlowFrames) (limit wait : ℕ) : Type 0 where

@@ -4,6 +4,7 @@ pub mod Asked
 pub mod Broadcasts
 pub mod Damage
 pub mod Delays
+pub mod Demands
 pub mod FreshNeeds
 pub mod KeepsErrors
 pub mod KeptTogether
@@ -16,7 +17,6 @@ pub mod Ranks
 pub mod ReadInTime
 pub mod RequestLoads
 pub mod SoundLoads
-pub mod Standing
 pub mod ToldBytes
 pub mod Twins
 pub mod ValuesInTime

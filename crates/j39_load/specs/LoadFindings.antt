@@ -16,7 +16,7 @@ use Rattle.j39_load.specs.Damage.{load_of_damage}
 use Rattle.j39_load.specs.Delays.{TellDelays}
 use Rattle.j39_load.specs.Loads.{bits_of_second}
 use Rattle.j39_load.specs.LineLists.{lines_of_each}
-use Rattle.j39_load.specs.Standing.{TellsWhoStays}
+use Rattle.j39_findings.specs.Standing.{TellsWhoStays}
 
 -- the number under which a finding is known
 abbrev pub load_finding_number : LoadFinding → ℕ

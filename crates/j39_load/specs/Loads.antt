@@ -91,6 +91,7 @@ single_stream timing group pace = record {
   period = bits_of_ms timing pace.period;
   bits = longest_frame (most_bytes group);
   late = bits_of_ms timing pace.jitter;
+  wanted = None;
 }
 
 -- long messages of so many packets to one unit, each of which has ended before the next one begins
@@ -100,6 +101,7 @@ packet_stream timing units packets v pace = record {
   period = bits_of_ms timing pace.period;
   bits = longest_frame frame_bytes;
   late = bits_of_ms timing pace.period + bits_of_ms timing pace.jitter;
+  wanted = None;
 }
 
 -- ---- identifiers: the smaller one goes first
@@ -170,6 +172,7 @@ single_frames timing units stays flow pace group = record {
   any_receiver = None;
   last_ident = group_ident (of_unit units (greatest_address stays)) group flow;
   twin_ident = twin_ident group flow;
+  want = None;
 }
 
 -- those of its long messages to the unit at a place, each of so many packets
@@ -182,6 +185,7 @@ packet_frames timing units stays flow v pace packets = record {
   any_receiver = any_unit units v;
   last_ident = session_ident timing (of_unit units (greatest_address stays)) flow v;
   twin_ident = None;
+  want = None;
 }
 
 -- its long messages to all, by its sender. Those of the transport protocol have two packets at least
@@ -192,6 +196,7 @@ broadcast_of timing flow pace group = record {
   least_packets = max 2 (packets_of group.length);
   has_short = has_short group;
   period = pace.period;
+  apart = bits_of_ms timing pace.period;
   late = bits_of_ms timing pace.jitter;
   deadline = option_map (bits_of_ms timing) pace.deadline;
 }

@@ -15,6 +15,7 @@ use Rattle.j39_load.specs.AnyQueues.{IsCompanyLevel, IsOffer, Offer, are_of_unit
 use Rattle.j39_load.specs.Asked.{Asked, asked_of, frames_asked}
 use Rattle.j39_load.specs.Broadcasts.{broadcasts_by}
 use Rattle.j39_load.specs.Damage.{damage_frames}
+use Rattle.j39_load.specs.Demands.{demands_of}
 use Rattle.j39_load.specs.Delays.{IsFrameDelay, IsWholeTime, announcements_place, packets_place, unplanned_idents}
 use Rattle.j39_load.specs.LoadFindings.{AsksOfBus}
 use Rattle.j39_load.specs.Loads.{bits_of_ms}
@@ -30,13 +31,14 @@ use Rattle.j39_timing.specs.Traffic.{Traffic, Others, AreQueuedBehind, AreSteady
 -- frames of which none is ever queued
 abbrev pub no_frames : FlowFrames
 no_frames = record {
-  stream = record { frames = 0; period = 1; bits = 0; late = 0 };
+  stream = record { frames = 0; period = 1; bits = 0; late = 0; wanted = None };
   least_ident = 0;
   greatest_ident = 0;
   any_sender = None;
   any_receiver = None;
   last_ident = 0;
   twin_ident = None;
+  want = None;
 }
 
 -- the frames at a place
@@ -48,6 +50,7 @@ abbrev pub traffic_of : List (Option FlowFrames) → Traffic
 traffic_of all = record {
   count = length all;
   stream = λ j. (planned_at all j).stream;
+  demands = demands_of all;
   least = λ j. (planned_at all j).least_ident;
   greatest = λ j. (planned_at all j).greatest_ident;
   are_twins = λ i j. are_twins (planned_at all i) (planned_at all j);

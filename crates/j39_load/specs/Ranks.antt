@@ -12,8 +12,8 @@ use Rattle.j39_findings.specs.declared.plan.to.To.TheVariants.{One}
 use Rattle.j39_findings.specs.declared.plan.unit_plan.UnitPlan.{UnitPlan}
 use Rattle.j39_load.specs.Loads.{broadcast_ident, greatest_address, group_ident, is_always_short, least_address, of_unit, packet_ident, twin_ident}
 use Rattle.j39_load.specs.RequestLoads.{request_ident}
-use Rattle.j39_world.specs.PlannedUnits.{unit_at, units_of}
-use Rattle.j39_world.specs.Staying.{StaysBeside}
+use Rattle.j39_findings.specs.PlannedUnits.{unit_at, units_of}
+use Rattle.j39_findings.specs.Staying.{StaysBeside}
 
 -- each unit of the plan holds its planned address, or one of the pool where it may choose and doesn't stay, with strangers where they come
 abbrev pub AreHeldByPlan : Plan → (ℕ → ℕ) → Type 0

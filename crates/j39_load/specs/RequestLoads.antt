@@ -18,7 +18,7 @@ abbrev pub request_bytes : ℕ
 request_bytes = 3
 
 abbrev pub request_stream : Timing → ℕ → Stream
-request_stream timing period = record { frames = 1; period = bits_of_ms timing period; bits = longest_frame request_bytes; late = 0 }
+request_stream timing period = record { frames = 1; period = bits_of_ms timing period; bits = longest_frame request_bytes; late = 0; wanted = None }
 
 -- the identifier of a request, where the units hold these addresses
 abbrev pub request_ident : (ℕ → ℕ) → RequestPlan → ℕ
@@ -34,6 +34,7 @@ request_load timing units stays request period = record {
     any_receiver = None;
     last_ident = request_ident (of_unit units (greatest_address stays)) request;
     twin_ident = None;
+    want = None;
   };
   bits_per_second = load_of (request_stream timing period) period;
 }

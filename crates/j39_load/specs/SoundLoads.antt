@@ -10,8 +10,11 @@ use Rattle.j39_load.specs.declared.unit_load.UnitLoad.{UnitLoad}
 use Rattle.j39_load.specs.Asked.{own_frames}
 use Rattle.j39_timing.specs.Waits.{IsStream}
 
+abbrev pub IsSoundBroadcast : Broadcast → Type 0
+IsSoundBroadcast broadcast = (1 ≤ broadcast.period) × (2 ≤ broadcast.least_packets) × (broadcast.late < 2 ^ 31) × (1 ≤ broadcast.apart)
+
 abbrev pub AreSound : FlowFrames → Type 0
-AreSound frames = IsStream frames.stream × (frames.stream.late < 2 ^ 30) × (frames.stream.bits ≤ 160)
+AreSound frames = IsStream frames.stream × (frames.stream.late < 2 ^ 30) × (frames.stream.bits ≤ 160) × IfSome frames.want IsSoundBroadcast
 
 -- where they are queued later
 abbrev pub FitIfAny : Option FlowFrames → Type 0
@@ -19,9 +22,6 @@ FitIfAny frames = IfSome frames (λ (f : FlowFrames). IsStream f.stream)
 
 abbrev pub AreSoundIfAny : Option FlowFrames → Type 0
 AreSoundIfAny frames = IfSome frames AreSound
-
-abbrev pub IsSoundBroadcast : Broadcast → Type 0
-IsSoundBroadcast broadcast = (1 ≤ broadcast.period) × (2 ≤ broadcast.least_packets) × (broadcast.late < 2 ^ 31)
 
 abbrev pub broadcast_part : Messages → Option Broadcast
 broadcast_part (Short frames) = None

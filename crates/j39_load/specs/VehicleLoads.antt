@@ -7,7 +7,7 @@ use Rattle.j39_findings.specs.declared.plan.unit_plan.UnitPlan.{UnitPlan}
 use Rattle.j39_load.specs.declared.load_finding.LoadFinding.{LoadFinding}
 use Rattle.j39_load.specs.Asked.{asked_of}
 use Rattle.j39_load.specs.LoadFindings.{AreLoadFindings}
-use Rattle.j39_load.specs.Standing.{TellsWhoStays}
+use Rattle.j39_findings.specs.Standing.{TellsWhoStays}
 
 -- of the vehicle the same is told, place by place
 pub record StandAlike (plan vehicle : Plan) (stays : UnitPlan → Bool) : Type 0 where

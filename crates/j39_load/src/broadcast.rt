@@ -13,6 +13,8 @@ pub struct Broadcast {
     pub has_short: bool,
     /// How far apart the moments at which one is wanted are at least, in milliseconds.
     pub period: u16,
+    /// The same in bits.
+    pub apart: u32,
     /// A message is ready to be sent at most so many bits after its moment.
     pub late: u32,
     /// Within so many bits of its moment each has to be whole, where a deadline is written.

@@ -17,6 +17,7 @@ use crate::streams::{bits_each, spaced_stream};
 use crate::unit_load::UnitLoad;
 use j39_findings::Timing;
 use j39_id::Pgn;
+use j39_id::limits::UNIT_LIMIT;
 use j39_id::services::{CONNECTION_MANAGEMENT, DATA_TRANSFER};
 use std::alloc::{AllocError, Global};
 
@@ -194,23 +195,31 @@ fn bits_per_second(timing: Timing, broadcasts: &[Broadcast]) -> u64
     packets + (firsts + announcements)
 }
 
-// Frames of a group of the transport protocol, from a unit to all, which are queued at least so many gaps apart.
-fn broadcast_frames(network: &Network<'_>, pgn: Pgn, unit: usize, gaps: u8) -> FlowFrames
+// Frames of a group of the transport protocol, from a unit to all, which are queued at least so many gaps apart, and of which what stands at a
+// place is wanted.
+fn broadcast_frames(
+    network: &Network<'_>,
+    pgn: Pgn,
+    unit: usize,
+    gaps: u8,
+    place: usize,
+) -> FlowFrames
     requires unit { unit < length (units_in network.now) }
     requires gaps { 1 ≤ gaps }
     ensures frames { result
-        ≡ broadcast_frames network.now.timing (units_in network.now) (stays_in network.now) pgn unit gaps }
+        ≡ broadcast_frames network.now.timing (units_in network.now) (stays_in network.now) pgn unit gaps place }
     ensures fits { AreSound result }
 {
     let greatest_ident = broadcast_ident(network, pgn, Extreme::Greatest, unit);
     FlowFrames {
-        stream: spaced_stream(network.timing, gaps),
+        stream: spaced_stream(network.timing, gaps, place),
         least_ident: broadcast_ident(network, pgn, Extreme::Least, unit),
         greatest_ident,
         any_sender: any_unit(network, unit),
         any_receiver: None,
         last_ident: greatest_ident,
         twin_ident: None,
+        want: None,
     }
 }
 
@@ -228,8 +237,14 @@ fn unit_load(network: &Network<'_>, unit: usize, broadcasts: &[Broadcast]) -> Op
     }
     let least = least_packets(broadcasts);
     Some(UnitLoad {
-        packets: broadcast_frames(network, DATA_TRANSFER, unit, 1),
-        announcements: broadcast_frames(network, CONNECTION_MANAGEMENT, unit, least),
+        packets: broadcast_frames(network, DATA_TRANSFER, unit, 1, unit),
+        announcements: broadcast_frames(
+            network,
+            CONNECTION_MANAGEMENT,
+            unit,
+            least,
+            UNIT_LIMIT + unit,
+        ),
         flows: broadcasts.len() as u32,
         all_packets: all_packets(broadcasts),
         bits_per_second: bits_per_second(network.timing, broadcasts),

@@ -1,12 +1,13 @@
 //! Which frames may go before one of a unit whose controller keeps no order, and how long these wait.
-ghost use Rattle.std.specs.Prelude.{◌≡◌, ◌≤◌, ◌<◌, ◌^◌, ◌+◌, ◌++◌, ◌==◌, ℕ, false, All, IfOk, IfSome, IfNone, OnOk, length, [], ◌∷◌};
+ghost use Rattle.std.specs.Prelude.{◌≡◌, ◌≤◌, ◌<◌, ◌^◌, ◌+◌, ◌++◌, ◌==◌, ℕ, false, All, IfOk, IfSome, IfNone, OnOk, length, map, [], ◌∷◌};
 ghost use Rattle.std.specs.List.{cons_option};
 ghost use Rattle.std.specs.Option.{ForSome, option_map_or};
 ghost use Rattle.j39_load.specs.Ages.{least};
 ghost use Rattle.j39_load.specs.AnyQueues.{AreAtMost, IsCompanyLevel, IsCompanyWait, are_of_unit, is_member, is_of_company, keep_order, least_of, leasts_of, own_least, stream_with, streams_with};
 ghost use Rattle.j39_load.specs.AnyQueues.{with_unplanned};
+ghost use Rattle.j39_load.specs.Demands.{demands_of};
 ghost use Rattle.j39_load.specs.SoundLoads.{AreSoundIfAny};
-ghost use Rattle.j39_timing.specs.Waits.{IsStream};
+ghost use Rattle.j39_timing.specs.Waits.{IsStream, IsWanted, as_demand};
 
 use crate::ages::smaller;
 use crate::damage::add_damage;
@@ -14,7 +15,7 @@ use crate::flow_frames::FlowFrames;
 use crate::streams::bits_of_ms;
 use j39_findings::Timing;
 use j39_id::limits::UNIT_LIMIT;
-use j39_timing::{Stream, frame_bits, least_wait};
+use j39_timing::{Stream, Wanted, frame_bits, least_wait};
 use std::alloc::{AllocError, Global};
 
 // The place is that of the unit, where there is one.
@@ -225,11 +226,14 @@ pub(crate) fn company_wait(
     alloc: Global,
     timing: Timing,
     leasts: &[Option<u64>],
+    demands: &[Wanted],
     all: &[Option<FlowFrames>],
     own: &FlowFrames,
 ) -> Result<Option<u32>, AllocError>
     requires fit { All AreSoundIfAny all.now }
     requires few { length all.now ≤ 2000 }
+    requires demands { map as_demand demands.now ≡ demands_of all.now }
+    requires sound { All IsWanted demands.now }
     requires bits { own.now.stream.bits ≤ 160 }
     ensures wait { IfOk result (IsCompanyWait timing leasts.now all.now own.now) }
     ensures short { IfOk result (λ wait. ForSome wait (λ bits. bits < 2 ^ 27)) }
@@ -240,6 +244,7 @@ pub(crate) fn company_wait(
     let most = bits_of_ms(timing, 65_535);
     let longest = u32::from(frame_bits(8)) * (1 + u32::from(timing.unplanned));
     match least_wait(
+        demands,
         longest - u32::from(own.stream.bits),
         streams.as_slice(),
         most,

@@ -19,6 +19,7 @@ fn damage_stream(timing: Timing, rate: ErrorRate, bits: u16) -> Stream
         period: bits_of_ms(timing, rate.every),
         bits,
         late: 0,
+        wanted: None,
     }
 }
 

@@ -101,19 +101,19 @@ fn streams_before(
 fn wait_of(
     alloc: Global,
     timing: Timing,
-    all: &[Option<FlowFrames>],
+    offers: &Offers,
     place: usize,
     frames: &FlowFrames,
 ) -> Result<Option<u32>, AllocError>
-    requires fit { All FitIfAny all.now }
-    requires few { length all.now ≤ 2000 }
-    ensures wait { IfOk result (IsWaitOf timing all.now place frames.now) }
+    requires offers { AreFitOffers offers.now }
+    ensures wait { IfOk result (IsWaitOf timing (offer_of offers.now).frames place frames.now) }
     ensures short { IfOk result (λ wait. ForSome wait (λ bits. bits < 2 ^ 27)) }
 {
-    let streams = streams_before(alloc, timing, all, place, frames)?;
+    let streams = streams_before(alloc, timing, offers.frames.as_slice(), place, frames)?;
+    let demands = offers.demands.as_slice();
     let blocking = blocking(timing, frames.greatest_ident);
     let most = bits_of_ms(timing, 65_535);
-    match least_wait(blocking, streams.as_slice(), most) {
+    match least_wait(demands, blocking, streams.as_slice(), most) {
         Some(wait) => Ok(Some(wait)),
         None => Ok(None),
     }
@@ -139,31 +139,31 @@ pub(crate) fn wait_in(
     if offers.may_be_passed(frames.greatest_ident) {
         return Ok(None);
     }
-    wait_of(alloc, timing, offers.frames.as_slice(), place, frames)
+    wait_of(alloc, timing, offers, place, frames)
 }
 
 // The delay of a flow whose messages go in one frame each, of these, with this limit, where its sender keeps order.
 fn short_delay(
     alloc: Global,
     timing: Timing,
-    all: &[Option<FlowFrames>],
+    offers: &Offers,
     flow: usize,
     frames: &FlowFrames,
     limit: u32,
 ) -> Result<Delay, AllocError>
-    requires fit { All FitIfAny all.now }
-    requires few { length all.now ≤ 2000 }
+    requires offers { AreFitOffers offers.now }
     requires frames { AreSound frames.now }
     requires limit { limit < 2 ^ 31 }
-    ensures { IfOk result (IsShortDelay timing all.now flow frames.now limit) }
+    ensures { IfOk result (IsShortDelay timing (offer_of offers.now).frames flow frames.now limit) }
 {
     let own = frames.stream.late + u32::from(frames.stream.bits);
     if limit < own {
         return Ok(Delay::Late);
     }
-    let streams = streams_before(alloc, timing, all, flow, frames)?;
+    let streams = streams_before(alloc, timing, offers.frames.as_slice(), flow, frames)?;
+    let demands = offers.demands.as_slice();
     let blocking = blocking(timing, frames.greatest_ident);
-    match least_wait(blocking, streams.as_slice(), limit - own) {
+    match least_wait(demands, blocking, streams.as_slice(), limit - own) {
         Some(wait) => Ok(Delay::Within(wait + own)),
         None => Ok(Delay::Late),
     }
@@ -206,7 +206,7 @@ fn frame_delay(
     if offers.may_be_passed(frames.greatest_ident) {
         return Ok(Delay::Late);
     }
-    short_delay(alloc, timing, offers.frames.as_slice(), flow, frames, limit)
+    short_delay(alloc, timing, offers, flow, frames, limit)
 }
 
 // How long the broadcasts of a unit take, one of each flow.

@@ -1,10 +1,10 @@
 //! The least and the greatest of the addresses that a unit may come to hold.
 ghost use Rattle.std.specs.Prelude.{◌≡◌};
-ghost use Rattle.j39_load.specs.Standing.{stays_of};
+ghost use Rattle.j39_findings.specs.Standing.{stays_of};
+ghost use Rattle.j39_load.specs.Loads.{may_move};
 ghost use Rattle.j39_load.specs.inside.Extremes.{extreme_address};
 
-use crate::standing::Standing;
-use j39_findings::UnitPlan;
+use j39_findings::{Standing, UnitPlan};
 use j39_id::addresses::{POOL_FIRST, POOL_LAST};
 
 /// One end of the addresses that a unit may come to hold.
@@ -14,13 +14,20 @@ pub(crate) enum Extreme {
     Greatest,
 }
 
+// Whether the unit may come to hold another address than its planned one.
+fn may_move(standing: &Standing, unit: &UnitPlan) -> bool
+    ensures { result ≡ may_move (stays_of standing.now) unit.now }
+{
+    unit.name.is_arbitrary() && !standing.stays(unit)
+}
+
 impl Extreme {
     /// The unit's address at this end.
     pub fn address(self, standing: &Standing, unit: &UnitPlan) -> u8
         ensures { result ≡ extreme_address self (stays_of standing.now) unit.now }
     {
         let planned = unit.address.number();
-        if !standing.may_move(unit) {
+        if !may_move(standing, unit) {
             return planned;
         }
         match self {

@@ -1,5 +1,6 @@
 //! Frames of a flow, or of a unit's broadcasts.
 
+use crate::broadcast::Broadcast;
 use j39_timing::Stream;
 
 /// Frames of a flow, or of a unit's broadcasts, with how urgent they are.
@@ -18,4 +19,6 @@ pub struct FlowFrames {
     pub last_ident: u64,
     /// What only frames have in common whose identifiers are the same on every bus, where they are of a group that is told by its data.
     pub twin_ident: Option<u64>,
+    /// Where they stand for long messages to all, none of which is a frame of the flow's own: what the flow wants of its unit's broadcasts.
+    pub want: Option<Broadcast>,
 }

@@ -54,6 +54,7 @@ fn single_frames(
         any_receiver: None,
         last_ident: greatest_ident,
         twin_ident: twin_ident(group, flow),
+        want: None,
     }
 }
 
@@ -81,6 +82,7 @@ fn packet_frames(
         any_receiver: any_unit(network, unit),
         last_ident: session_ident(network, Extreme::Greatest, flow, unit),
         twin_ident: None,
+        want: None,
     }
 }
 
@@ -129,6 +131,7 @@ fn broadcast(
         least_packets: least_packets(group),
         has_short: has_short(group),
         period: pace.period,
+        apart: bits_of_ms(timing, pace.period),
         late: bits_of_ms(timing, pace.jitter),
         deadline: deadline(timing, pace),
     }

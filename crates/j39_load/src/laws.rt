@@ -26,15 +26,15 @@ ghost use Rattle.j39_load.specs.PlannedFrames.{AreAllOrdered, AreDeadlinesKept, 
 ghost use Rattle.j39_load.specs.Ranks.{AreHeldApart, AreHeldByPlan, AreTwinFlows, AreUnitsPlanned, IsAskedBetween, IsShortFlow, LieBetween, RequestLiesBetween};
 ghost use Rattle.j39_load.specs.ReadInTime.{AreNeedsRead, AreWritten};
 ghost use Rattle.j39_load.specs.RequestLoads.{request_ident};
-ghost use Rattle.j39_load.specs.Standing.{TellsWhoStays};
+ghost use Rattle.j39_findings.specs.Standing.{TellsWhoStays};
 ghost use Rattle.j39_load.specs.ToldBytes.{IsToldOf, LeaveSelector};
 ghost use Rattle.j39_load.specs.ValuesInTime.{AreValuesInTime};
 ghost use Rattle.j39_load.specs.VehicleLoads.{AreLoadsAlike};
 ghost use Rattle.j39_timing.specs.AnyOrder.{Controllers, IsLegalInAnyOrder};
 ghost use Rattle.j39_timing.specs.Errors.{Damaged, IsLegalWithErrors, with_errors};
 ghost use Rattle.j39_timing.specs.TimedFrames.{IsLegal, Schedule};
-ghost use Rattle.j39_world.specs.PlannedUnits.{units_of};
-ghost use Rattle.j39_world.specs.Staying.{ArePlannedApart};
+ghost use Rattle.j39_findings.specs.PlannedUnits.{units_of};
+ghost use Rattle.j39_world.specs.HeldAddresses.{ArePlannedApart};
 
 /// The delays of a plan bound the time of its frames. A delay that `Loads::delays` tells holds in every schedule whose
 /// planned frames are those of the plan's flows, of which a flow without a period has none, whether units keep order or

@@ -3,10 +3,10 @@ ghost use Rattle.std.specs.Prelude.{◌≡◌, ◌≢◌, [], ◌≤◌, ◌<◌
 ghost use Rattle.j39_findings.specs.PlanLimits.{flow_limit, request_limit};
 ghost use Rattle.j39_findings.specs.declared.plan.unit_plan.UnitPlan.{UnitPlan as APlannedUnit};
 ghost use Rattle.j39_load.specs.AnyQueues.{IsOffer};
-ghost use Rattle.j39_load.specs.Asked.{all_frames, announcements_of_unit, asked_by, asked_of, frames_of_flow, frames_of_request, packets_of_unit, singles_of_flow, total_load};
+ghost use Rattle.j39_load.specs.Asked.{all_frames, announcements_of_unit, asked_by, asked_of, frames_of_flow, frames_of_request, packets_of_unit, singles_of_flow, total_load, wanting};
 ghost use Rattle.j39_load.specs.Delays.{HasDelay, TellDelays};
-ghost use Rattle.j39_load.specs.SoundLoads.{AreSoundIfAny, IsSoundIfAsked, IsSoundIfKnown, IsSoundIfSent};
-ghost use Rattle.j39_load.specs.Standing.{TellsWhoStays, stays_of};
+ghost use Rattle.j39_load.specs.SoundLoads.{AreSound, AreSoundIfAny, IsSoundBroadcast, IsSoundIfAsked, IsSoundIfKnown, IsSoundIfSent};
+ghost use Rattle.j39_findings.specs.Standing.{TellsWhoStays, stays_of};
 ghost use Rattle.j39_load.specs.inside.FramesBy.{frames_by, broadcasts_by_unit};
 ghost use Rattle.j39_load.specs.inside.Offers.{AreFitOffers, offer_of};
 ghost use Rattle.j39_load.specs.inside.TurnTimes.{AreShortTimes, TellTurnTimes};
@@ -14,6 +14,7 @@ ghost use Rattle.j39_id.specs.Limits.{unit_limit};
 ghost use Rattle.std.proofs.Props.{props};
 ghost use Rattle.std.specs.Option.{option_map_or};
 
+use crate::broadcast::Broadcast;
 use crate::broadcasts::unit_loads_of;
 use crate::damage::load_of_damage;
 use crate::delay::Delay;
@@ -26,12 +27,36 @@ use crate::network::Network;
 use crate::offers::{Offers, offers_of};
 use crate::request_load::RequestLoad;
 use crate::requests::request_loads_of;
-use crate::standing::Standing;
 use crate::unit_load::UnitLoad;
-use j39_findings::{Plan, Timing};
+use j39_findings::{Plan, Standing, Timing};
+use j39_timing::Stream;
 use std::alloc::{AllocError, Global};
 
-// The frames that are a flow's own.
+// What stands in place of frames of its own of a flow with such messages.
+fn wanting(broadcast: &Broadcast) -> FlowFrames
+    requires { IsSoundBroadcast broadcast.now }
+    ensures frames { result ≡ wanting broadcast.now }
+    ensures fit { AreSound result }
+{
+    FlowFrames {
+        stream: Stream {
+            frames: 0,
+            period: 1,
+            bits: 0,
+            late: 0,
+            wanted: None,
+        },
+        least_ident: 536_870_912,
+        greatest_ident: 536_870_912,
+        any_sender: None,
+        any_receiver: None,
+        last_ident: 536_870_912,
+        twin_ident: None,
+        want: Some(*broadcast),
+    }
+}
+
+// The frames that are a flow's own, or what it wants of its unit's.
 fn frames_of_flow(load: &Option<FlowLoad>) -> Option<FlowFrames>
     requires { IsSoundIfKnown load.now }
     ensures frames { result ≡ frames_of_flow load.now }
@@ -40,10 +65,10 @@ fn frames_of_flow(load: &Option<FlowLoad>) -> Option<FlowFrames>
     let Some(load) = load else {
         return None;
     };
-    match load.messages {
-        Messages::Short(frames) => Some(frames),
-        Messages::ToOne(frames) => Some(frames),
-        Messages::ToAll(_broadcast) => None,
+    match &load.messages {
+        Messages::Short(frames) => Some(*frames),
+        Messages::ToOne(frames) => Some(*frames),
+        Messages::ToAll(broadcast) => Some(wanting(broadcast)),
     }
 }
 

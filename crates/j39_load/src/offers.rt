@@ -1,16 +1,18 @@
 //! From when on frames are offered for good.
-ghost use Rattle.std.specs.Prelude.{◌≡◌, ◌≤◌, ◌<◌, ◌^◌, ◌∷◌, [], All, length, IfOk, None, slice_index_or};
+ghost use Rattle.std.specs.Prelude.{◌≡◌, ◌≤◌, ◌<◌, ◌^◌, ◌∷◌, [], All, length, map, IfOk, None, slice_index_or};
 ghost use Rattle.j39_load.specs.Ages.{least};
 ghost use Rattle.j39_load.specs.AnyQueues.{IsHeldFor, IsOffer, TellWaits, later_frames, leasts_of, may_be_passed, held_at, offered, offered_at, unheld, unheld_at};
+ghost use Rattle.j39_load.specs.Demands.{demands_of};
 ghost use Rattle.j39_load.specs.SoundLoads.{AreSound, AreSoundIfAny, FitIfAny};
 ghost use Rattle.j39_load.specs.inside.Offers.{AreFitOffers, IsShortWait, offer_of};
-ghost use Rattle.j39_timing.specs.Waits.{IsStream};
+ghost use Rattle.j39_timing.specs.Waits.{IsStream, IsWanted, as_demand};
 
 use crate::ages::smaller;
 use crate::companies::{company_wait, keep_order, leasts_of};
+use crate::demands::demands_of;
 use crate::flow_frames::FlowFrames;
 use j39_findings::Timing;
-use j39_timing::Stream;
+use j39_timing::{Stream, Wanted};
 use std::alloc::{AllocError, Global};
 
 /// All frames of a plan where they are offered for good: frames of a unit that keeps no order as many bits later as they
@@ -23,6 +25,8 @@ pub(crate) struct Offers {
     pub waits: Vec<Option<u32>>,
     /// The least identifier of those of which it isn't.
     pub unheld: Option<u64>,
+    /// What is wanted of the broadcasts of units.
+    pub demands: Vec<Wanted>,
 }
 
 impl Offers {
@@ -55,9 +59,12 @@ fn held_for(
     alloc: Global,
     timing: Timing,
     leasts: &[Option<u64>],
+    demands: &[Wanted],
     all: &[Option<FlowFrames>],
     frames: &Option<FlowFrames>,
 ) -> Result<Option<u32>, AllocError>
+    requires demands { map as_demand demands.now ≡ demands_of all.now }
+    requires sound { All IsWanted demands.now }
     requires leasts { leasts.now ≡ leasts_of all.now }
     requires fit { All AreSoundIfAny all.now }
     requires few { length all.now ≤ 2000 }
@@ -66,7 +73,9 @@ fn held_for(
     ensures short { IfOk result IsShortWait }
 {
     match frames {
-        Some(frames) if !keep_order(frames) => company_wait(alloc, timing, leasts, all, frames),
+        Some(frames) if !keep_order(frames) => {
+            company_wait(alloc, timing, leasts, demands, all, frames)
+        }
         _ => Ok(Some(0)),
     }
 }
@@ -75,8 +84,11 @@ fn held_for(
 fn waits_of(
     alloc: Global,
     timing: Timing,
+    demands: &[Wanted],
     all: &[Option<FlowFrames>],
 ) -> Result<Vec<Option<u32>>, AllocError>
+    requires demands { map as_demand demands.now ≡ demands_of all.now }
+    requires sound { All IsWanted demands.now }
     requires fit { All AreSoundIfAny all.now }
     requires few { length all.now ≤ 2000 }
     ensures held { IfOk result (λ waits. TellWaits timing all.now waits.items) }
@@ -85,7 +97,7 @@ fn waits_of(
     let leasts = leasts_of(alloc, all)?;
     let mut waits = Vec::new(alloc);
     for frames in all {
-        let wait = held_for(alloc, timing, leasts.as_slice(), all, frames)?;
+        let wait = held_for(alloc, timing, leasts.as_slice(), demands, all, frames)?;
         waits.push(wait)?;
     }
     Ok(waits)
@@ -118,6 +130,7 @@ fn later_frames(frames: &FlowFrames, more: u32) -> FlowFrames
             period: stream.period,
             bits: stream.bits,
             late: stream.late + more,
+            wanted: stream.wanted,
         },
         ..*frames
     }
@@ -196,12 +209,14 @@ pub(crate) fn offers_of(
     ensures offer { IfOk result (λ offers. IsOffer timing all.now (offer_of offers)) }
     ensures fit { IfOk result AreFitOffers }
 {
-    let waits = waits_of(alloc, timing, all)?;
+    let demands = demands_of(alloc, all)?;
+    let waits = waits_of(alloc, timing, demands.as_slice(), all)?;
     let frames = offered(alloc, waits.as_slice(), all)?;
     let least = unheld(waits.as_slice(), all);
     Ok(Offers {
         frames,
         waits,
         unheld: least,
+        demands,
     })
 }

@@ -36,6 +36,7 @@ fn load_of_request(network: &Network<'_>, request: &RequestPlan) -> Option<Reque
             any_receiver: None,
             last_ident: greatest_ident,
             twin_ident: None,
+            want: None,
         },
         bits_per_second: load(stream, period),
     })

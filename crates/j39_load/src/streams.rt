@@ -71,6 +71,7 @@ pub(crate) fn single_stream(timing: Timing, group: &GroupPlan, pace: Pace) -> St
         period: bits_of_ms(timing, pace.period),
         bits: frame_bits(most_bytes(group)),
         late: bits_of_ms(timing, pace.jitter),
+        wanted: None,
     }
 }
 
@@ -88,13 +89,14 @@ pub(crate) fn packet_stream(network: &Network<'_>, packets: u8, unit: usize, pac
         period: bits_of_ms(network.timing, pace.period),
         bits: frame_bits(FRAME_BYTES as u8),
         late: bits_of_ms(network.timing, pace.period) + bits_of_ms(network.timing, pace.jitter),
+        wanted: None,
     }
 }
 
-/// Single frames that are queued at least so many gaps of a broadcast apart.
-pub(crate) fn spaced_stream(timing: Timing, gaps: u8) -> Stream
+/// Single frames that are queued at least so many gaps of a broadcast apart, and of which what stands at a place is wanted.
+pub(crate) fn spaced_stream(timing: Timing, gaps: u8, place: usize) -> Stream
     requires { 1 ≤ gaps }
-    ensures stream { result ≡ spaced_stream timing gaps }
+    ensures stream { result ≡ spaced_stream timing gaps place }
     ensures fits { IsStream result }
     ensures late { result.late < 2 ^ 30 }
     ensures short { result.bits ≤ 160 }
@@ -104,6 +106,7 @@ pub(crate) fn spaced_stream(timing: Timing, gaps: u8) -> Stream
         period: u32::from(gaps) * bits_of_ms(timing, timing.broadcast_gap),
         bits: frame_bits(FRAME_BYTES as u8),
         late: 0,
+        wanted: Some(place),
     }
 }
 
@@ -121,6 +124,7 @@ pub(crate) fn request_stream(timing: Timing, period: u16) -> Stream
         period: bits_of_ms(timing, period),
         bits: frame_bits(3),
         late: 0,
+        wanted: None,
     }
 }
 

@@ -8,14 +8,14 @@ use Rattle.j39_plan.specs.declared.reading.key.Key.{Key}
 use Rattle.j39_plan.specs.declared.reading.key.Key.TheVariants as key
 use Rattle.j39_plan.specs.declared.reading.place.Table.TheVariants as at
 use Rattle.j39_plan.specs.Words.{word_of}
-use Rattle.j39_plan.specs.Schema.{number_of, table_of, tables_of}
+use Rattle.j39_plan.specs.Schema.{number_of, flag_of, table_of, tables_of}
 use Rattle.j39_plan.specs.TableFaults.{key_faults, keys_faults, is_key_word, has_only}
 use Rattle.j39_plan.specs.Elements.{each_faults, label_in}
 use Rattle.j39_plan.specs.UnitTables.{IsUnitOf, unit_faults, unit_label_in}
 use Rattle.j39_plan.specs.GroupTables.{IsGroupOf, group_faults}
 use Rattle.j39_plan.specs.FlowTables.{IsFlowOf, flow_faults}
 use Rattle.j39_plan.specs.TimingTables.{timing_table_faults, TellsTiming}
-use Rattle.j39_plan.specs.PlanFaults.{version_rule, keep_free_rule, strangers_rule, strangers_of, strangers_faults, timing_rule, units_rule, groups_rule, flows_rule, needs_rule, requests_rule, knows_fourth, head_faults, timing_faults, array_rules, top_faults, unit_labels, group_labels, units_faults, groups_faults, flows_faults, needs_faults, need_tables_of, requests_faults, request_tables_of, no_label, faults}
+use Rattle.j39_plan.specs.PlanFaults.{version_rule, keep_free_rule, strangers_rule, strangers_of, strangers_faults, live_rule, live_of, live_faults, timing_rule, units_rule, groups_rule, flows_rule, needs_rule, requests_rule, knows_fourth, head_faults, timing_faults, array_rules, top_faults, unit_labels, group_labels, units_faults, groups_faults, flows_faults, needs_faults, need_tables_of, requests_faults, request_tables_of, no_label, faults}
 use Rattle.j39_plan.specs.Described.{keep_free_of, TellsPlan}
 use Rattle.j39_plan.specs.Versions.{with_version, fourth_top_keys, Lacks, IsThirdBus, IsThirdUnit, IsThirdGroup, IsThirdFlow, IsThirdPlan, ReadAlike}
 use Rattle.j39_plan.proofs.Absent.{lacked, IsNone, only_same, Alike, alike_both, alike_unknown, alike_each, told_alike}
@@ -30,7 +30,7 @@ use Rattle.j39_plan.proofs.FourthPlans.{flow_alike, third_flow, fourth_flow, tim
 
 -- the keys of the top table in both versions
 abbrev fourth_keys : List Key
-fourth_keys = key.Version ∷ key.KeepFree ∷ key.Strangers ∷ key.Timing ∷ key.Unit ∷ key.Group ∷ key.Flow ∷ key.Need ∷ key.Request ∷ []
+fourth_keys = key.Version ∷ key.KeepFree ∷ key.Strangers ∷ key.Live ∷ key.Timing ∷ key.Unit ∷ key.Group ∷ key.Flow ∷ key.Need ∷ key.Request ∷ []
 
 abbrev third_keys : List Key
 third_keys = key.Version ∷ key.KeepFree ∷ key.Timing ∷ key.Unit ∷ key.Group ∷ key.Flow ∷ []
@@ -38,7 +38,7 @@ third_keys = key.Version ∷ key.KeepFree ∷ key.Timing ∷ key.Unit ∷ key.Gr
 top_words : (l : List ℕ) → IsNone fourth_top_keys l
     → is_key_word fourth_keys l
     ≡ is_key_word third_keys l
-top_words l none = rw (none 0 key.Strangers (omega arith), none 1 key.Need (omega arith), none 2 key.Request (omega arith))
+top_words l none = rw (none 0 key.Strangers (omega arith), none 1 key.Live (omega arith), none 2 key.Need (omega arith), none 3 key.Request (omega arith))
 
 known_alike : (n : ℕ) (tree : Members) → Lacks fourth_top_keys tree
     → has_only fourth_keys tree
@@ -88,6 +88,25 @@ as_many : (s : Members) → Beside s → strangers_of (knows_fourth (with_versio
 as_many s b =
     rw ((knows_4 s b.is).of_fourth, (knows_3 (with_version 3 s) b.other).of_fourth) (sym (none_come s (no_strangers s b.older.keys)))
 
+no_live : (s : Members) → Lacks fourth_top_keys s → get_member (word_of key.Live) s ≡ None
+no_live s lacks = lacked key.Live s (lacks 1 key.Live (omega arith))
+
+live_unfaulted : (s : Members) → get_member (word_of key.Live) s ≡ None → key_faults at.Top s live_rule ≡ []
+unfolding key_faults
+live_unfaulted s none = rw none
+
+live_alike : (s : Members) → Beside s → Alike (live_faults s) (live_faults (with_version 3 s))
+live_alike s b =
+    rw ((knows_4 s b.is).of_fourth, (knows_3 (with_version 3 s) b.other).of_fourth, live_unfaulted s (no_live s b.older.keys)) refl
+
+not_live : (s : Members) → get_member (word_of key.Live) s ≡ None → live_of true s ≡ false
+unfolding flag_of
+not_live s none = rw none
+
+as_live : (s : Members) → Beside s → live_of (knows_fourth (with_version 3 s)) (with_version 3 s) ≡ live_of (knows_fourth s) s
+as_live s b =
+    rw ((knows_4 s b.is).of_fourth, (knows_3 (with_version 3 s) b.other).of_fourth) (sym (not_live s (no_live s b.older.keys)))
+
 bus_alike : (found : Option Members) → IfSome found IsThirdBus
     → Alike (option_map_or (timing_table_faults true) found []) (option_map_or (timing_table_faults false) found [])
 bus_alike None third = refl
@@ -101,7 +120,7 @@ timing_part_alike s b =
     (alike_both _ _ _ _ refl (bus_alike (table_of timing_rule s) b.older.bus))
 
 no_needs : (s : Members) → Lacks fourth_top_keys s → get_member (word_of key.Need) s ≡ None
-no_needs s lacks = lacked key.Need s (lacks 1 key.Need (omega arith))
+no_needs s lacks = lacked key.Need s (lacks 2 key.Need (omega arith))
 
 needs_unfaulted : (s : Members) → get_member (word_of key.Need) s ≡ None → key_faults at.Top s needs_rule ≡ []
 unfolding key_faults
@@ -112,7 +131,7 @@ unfolding tables_of
 no_need_tables s none = rw none
 
 no_requests : (s : Members) → Lacks fourth_top_keys s → get_member (word_of key.Request) s ≡ None
-no_requests s lacks = lacked key.Request s (lacks 2 key.Request (omega arith))
+no_requests s lacks = lacked key.Request s (lacks 3 key.Request (omega arith))
 
 requests_unfaulted : (s : Members) → get_member (word_of key.Request) s ≡ None → key_faults at.Top s requests_rule ≡ []
 unfolding key_faults
@@ -173,7 +192,8 @@ faults_alike s b =
     alike_both (top_faults s) _ (top_faults (with_version 3 s)) _
     (alike_both (head_faults s) _ (head_faults (with_version 3 s)) _ (head_alike s b)
     (alike_both (strangers_faults s) _ (strangers_faults (with_version 3 s)) _ (strangers_alike s b)
-    (alike_both (timing_faults s) _ (timing_faults (with_version 3 s)) _ (timing_part_alike s b) (arrays_alike s b))))
+    (alike_both (live_faults s) _ (live_faults (with_version 3 s)) _ (live_alike s b)
+    (alike_both (timing_faults s) _ (timing_faults (with_version 3 s)) _ (timing_part_alike s b) (arrays_alike s b)))))
     (alike_both (units_faults s) _ (units_faults (with_version 3 s)) _ (units_alike s b)
     (alike_both (groups_faults s) _ (groups_faults (with_version 3 s)) _ (groups_alike s b)
     (alike_both (flows_faults s) _ (flows_faults (with_version 3 s)) _ (flows_alike s b)
@@ -203,6 +223,7 @@ third_plan s p b told =
     record {
       has_keep_free = told.has_keep_free ∙ sym (kept_alike s b);
       has_strangers = told.has_strangers ∙ sym (as_many s b);
+      has_live = told.has_live ∙ sym (as_live s b);
       has_timing = rw (o.of_third, o.of_fourth, table_other 3 timing_rule s refl)
           (bus_older (table_of timing_rule s) p.timing b.older.bus (rw (k.of_third, k.of_fourth) at told.has_timing));
       has_units = rw (o.of_fourth, tables_other 3 units_rule s refl)
@@ -226,6 +247,7 @@ fourth_plan s p b told =
     record {
       has_keep_free = told.has_keep_free ∙ kept_alike s b;
       has_strangers = told.has_strangers ∙ as_many s b;
+      has_live = told.has_live ∙ as_live s b;
       has_timing = rw (k.of_third, k.of_fourth)
           (bus_newer (table_of timing_rule s) p.timing b.older.bus (rw (o.of_third, o.of_fourth, table_other 3 timing_rule s refl) at told.has_timing));
       has_units = rw k.of_fourth

@@ -191,6 +191,7 @@ one_plan : (tree : Members) (p q : Plan) → TellsPlan tree p → TellsPlan tree
 one_plan tree p q a b = record {
   keep_free = a.has_keep_free ∙ sym b.has_keep_free;
   strangers = a.has_strangers ∙ sym b.has_strangers;
+  live = a.has_live ∙ sym b.has_live;
   timing = one_timing (knows_fourth tree) (timing_table tree) p.timing q.timing a.has_timing b.has_timing;
   units = one_each (IsUnitOf (knows_fourth tree)) AreOneUnit (one_unit (knows_fourth tree)) (tables_of units_rule tree) _ _ a.has_units b.has_units;
   groups = one_each (IsGroupOf (knows_third tree) (knows_fourth tree)) AreOneGroup (one_group (knows_third tree) (knows_fourth tree)) (tables_of groups_rule tree) _ _ a.has_groups b.has_groups;

@@ -12,7 +12,7 @@ use Rattle.j39_plan.specs.TableFaults.{key_faults, keys_faults, is_key_word, has
 use Rattle.j39_plan.specs.Elements.{each_faults, label_in}
 use Rattle.j39_plan.specs.GroupTables.{IsGroupOf, group_faults}
 use Rattle.j39_plan.specs.FlowTables.{IsFlowOf, flow_faults}
-use Rattle.j39_plan.specs.PlanFaults.{version_rule, keep_free_rule, strangers_of, strangers_faults, timing_rule, units_rule, groups_rule, flows_rule, knows_fourth, head_faults, timing_faults, array_rules, top_faults, unit_labels, group_labels, units_faults, groups_faults, flows_faults, needs_faults, requests_faults, no_label, faults}
+use Rattle.j39_plan.specs.PlanFaults.{version_rule, keep_free_rule, strangers_of, strangers_faults, live_of, live_faults, timing_rule, units_rule, groups_rule, flows_rule, knows_fourth, head_faults, timing_faults, array_rules, top_faults, unit_labels, group_labels, units_faults, groups_faults, flows_faults, needs_faults, requests_faults, no_label, faults}
 use Rattle.j39_plan.specs.Described.{keep_free_of, TellsPlan}
 use Rattle.j39_plan.specs.Versions.{with_version, Lacks, IsSecondGroup, IsSecondFlow, IsSecondPlan, ReadAlike}
 use Rattle.j39_plan.proofs.Absent.{lacked, IsNone, only_same, Alike, alike_both, alike_unknown, alike_each, told_alike}
@@ -69,6 +69,12 @@ strangers_alike s b = rw ((knows_3 s b.is).of_fourth, (knows_2 (with_version 2 s
 
 as_many : (s : Members) → Beside s → strangers_of (knows_fourth (with_version 2 s)) (with_version 2 s) ≡ strangers_of (knows_fourth s) s
 as_many s b = rw ((knows_3 s b.is).of_fourth, (knows_2 (with_version 2 s) b.other).of_fourth) refl
+
+live_alike : (s : Members) → Beside s → Alike (live_faults s) (live_faults (with_version 2 s))
+live_alike s b = rw ((knows_3 s b.is).of_fourth, (knows_2 (with_version 2 s) b.other).of_fourth) refl
+
+as_live : (s : Members) → Beside s → live_of (knows_fourth (with_version 2 s)) (with_version 2 s) ≡ live_of (knows_fourth s) s
+as_live s b = rw ((knows_3 s b.is).of_fourth, (knows_2 (with_version 2 s) b.other).of_fourth) refl
 
 no_bus : (s : Members) → Lacks (key.Timing ∷ []) s → get_member (word_of key.Timing) s ≡ None
 no_bus s lacks = lacked key.Timing s (lacks 0 key.Timing (omega arith))
@@ -132,7 +138,8 @@ faults_alike s b =
     alike_both (top_faults s) _ (top_faults (with_version 2 s)) _
     (alike_both (head_faults s) _ (head_faults (with_version 2 s)) _ (head_alike s b)
     (alike_both (strangers_faults s) _ (strangers_faults (with_version 2 s)) _ (strangers_alike s b)
-    (alike_both (timing_faults s) _ (timing_faults (with_version 2 s)) _ (timing_part_alike s b) (arrays_alike s b))))
+    (alike_both (live_faults s) _ (live_faults (with_version 2 s)) _ (live_alike s b)
+    (alike_both (timing_faults s) _ (timing_faults (with_version 2 s)) _ (timing_part_alike s b) (arrays_alike s b)))))
     (alike_both (units_faults s) _ (units_faults (with_version 2 s)) _ (ap first (sym (units_alike s b)))
     (alike_both (groups_faults s) _ (groups_faults (with_version 2 s)) _ (groups_alike s b)
     (alike_both (flows_faults s) _ (flows_faults (with_version 2 s)) _ (flows_alike s b)
@@ -150,6 +157,7 @@ second_plan s p b told =
     record {
       has_keep_free = told.has_keep_free ∙ sym (kept_alike s b);
       has_strangers = told.has_strangers ∙ sym (as_many s b);
+      has_live = told.has_live ∙ sym (as_live s b);
       has_timing = rw o.of_third (rw (k.of_third, k.of_fourth, no_bus_table s (no_bus s b.older.keys)) at told.has_timing);
       has_units = rw (o.of_fourth, tables_other 2 units_rule s refl) (rw k.of_fourth at told.has_units);
       has_groups = rw (o.of_third, o.of_fourth, tables_other 2 groups_rule s refl)
@@ -169,6 +177,7 @@ third_plan s p b told =
     record {
       has_keep_free = told.has_keep_free ∙ kept_alike s b;
       has_strangers = told.has_strangers ∙ as_many s b;
+      has_live = told.has_live ∙ as_live s b;
       has_timing = rw (k.of_third, k.of_fourth, no_bus_table s (no_bus s b.older.keys)) (rw o.of_third at told.has_timing);
       has_units = rw k.of_fourth (rw (o.of_fourth, tables_other 2 units_rule s refl) at told.has_units);
       has_groups = rw (k.of_third, k.of_fourth)

@@ -19,17 +19,18 @@ use Rattle.j39_plan.specs.NeedTables.{IsNeedOf}
 use Rattle.j39_plan.specs.RequestTables.{IsRequestOf}
 use Rattle.j39_plan.specs.TimingTables.{TellsTiming}
 use Rattle.j39_plan.specs.PlanFaults.{faults, may_keep, knows_third, knows_fourth, keep_free_rule, timing_table, units_rule, groups_rule, flows_rule}
-use Rattle.j39_plan.specs.PlanFaults.{strangers_of, need_tables, request_tables, unit_labels, group_labels, group_signals}
+use Rattle.j39_plan.specs.PlanFaults.{strangers_of, live_of, need_tables, request_tables, unit_labels, group_labels, group_signals}
 
 -- the addresses that a tree keeps free: none, where its version keeps none
 abbrev pub keep_free_of : Members → FinSet nat_cmp
 keep_free_of tree = if may_keep tree then addresses_of keep_free_rule tree else empty
 
--- what the plan keeps free, how many strangers it tells of, what it knows of the bus, its units, groups, flows, needs and requests are those of the
--- tree
+-- what the plan keeps free, how many strangers it tells of, whether its bus is live, what it knows of the bus, its units, groups, flows, needs and
+-- requests are those of the tree
 pub record TellsPlan (tree : Members) (p : Plan) : Type 0 where
   pub has_keep_free : p.keep_free ≡ keep_free_of tree
   pub has_strangers : p.strangers ≡ strangers_of (knows_fourth tree) tree
+  pub has_live : p.live ≡ live_of (knows_fourth tree) tree
   pub has_timing : TellsTiming (knows_fourth tree) (timing_table tree) p.timing
   pub has_units : Each (IsUnitOf (knows_fourth tree)) (tables_of units_rule tree) p.units.items
   pub has_groups : Each (IsGroupOf (knows_third tree) (knows_fourth tree)) (tables_of groups_rule tree) p.groups.items

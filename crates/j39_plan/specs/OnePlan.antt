@@ -125,6 +125,7 @@ pub record AreOneRequest (r s : RequestPlan) : Type 0 where
 pub record AreOnePlan (p q : Plan) : Type 0 where
   pub keep_free : p.keep_free ≡ q.keep_free
   pub strangers : p.strangers ≡ q.strangers
+  pub live : p.live ≡ q.live
   pub timing : AreOneTiming p.timing q.timing
   pub units : AllZip AreOneUnit p.units.items q.units.items
   pub groups : AllZip AreOneGroup p.groups.items q.groups.items

@@ -8,7 +8,7 @@ use Rattle.j39_findings.specs.PlanLimits.{flow_limit, group_limit, need_limit, r
 use Rattle.j39_plan.specs.declared.reading.key.Key.TheVariants as key
 use Rattle.j39_plan.specs.declared.reading.place.Table.TheVariants as at
 use Rattle.j39_plan.specs.declared.reading.fault.Fault.{Fault}
-use Rattle.j39_plan.specs.Schema.{Rule, number, addresses, tables, optional_table, number_of, table_of, tables_of}
+use Rattle.j39_plan.specs.Schema.{Rule, number, flag, addresses, tables, optional_table, number_of, flag_of, table_of, tables_of}
 use Rattle.j39_plan.specs.TableFaults.{unknown_faults, keys_faults}
 use Rattle.j39_plan.specs.Elements.{each_faults, labels_of, label_in}
 use Rattle.j39_plan.specs.UnitTables.{unit_faults, unit_label_in}
@@ -40,6 +40,10 @@ keep_free_rule = addresses key.KeepFree pool_size
 -- how many units that stand in no plan may come
 abbrev pub strangers_rule : Rule
 strangers_rule = number key.Strangers 0 pool_size (Some 0)
+
+-- whether transfers begin at any time, and units go off in the midst of one
+abbrev pub live_rule : Rule
+live_rule = flag key.Live false
 
 -- what is known of the bus itself
 abbrev pub timing_rule : Rule
@@ -77,16 +81,26 @@ abbrev pub strangers_rules : Bool → List Rule
 strangers_rules true = strangers_rule ∷ []
 strangers_rules false = []
 
+-- and live buses
+abbrev pub live_rules : Bool → List Rule
+live_rules true = live_rule ∷ []
+live_rules false = []
+
 abbrev pub timing_head_rules : Members → List Rule
 timing_head_rules tree = if knows_third tree then timing_rule ∷ [] else []
 
 abbrev pub top_rules : Members → List Rule
 top_rules tree =
-    head_rules tree ++ (strangers_rules (knows_fourth tree) ++ (timing_head_rules tree ++ array_rules (knows_fourth tree)))
+    head_rules tree
+    ++ (strangers_rules (knows_fourth tree) ++ (live_rules (knows_fourth tree) ++ (timing_head_rules tree ++ array_rules (knows_fourth tree))))
 
 -- but in the fourth version there are no strangers
 abbrev pub OlderStrangers : Type 0
 OlderStrangers = strangers_rules false ≡ []
+
+-- nor are there live buses
+abbrev pub OlderLive : Type 0
+OlderLive = live_rules false ≡ []
 
 -- but in the fourth version the arrays are those of units, groups and flows
 abbrev pub OlderArrays : Type 0
@@ -96,6 +110,11 @@ OlderArrays = array_rules false ≡ units_rule ∷ groups_rule ∷ flows_rule �
 abbrev pub strangers_of : Bool → Members → ℕ
 strangers_of true tree = number_of strangers_rule tree
 strangers_of false tree = 0
+
+-- whether the bus of a tree is live: none is in a version that doesn't know them
+abbrev pub live_of : Bool → Members → Bool
+live_of true tree = flag_of live_rule tree
+live_of false tree = false
 
 -- the table of the bus itself: none in a version that doesn't know it
 abbrev pub timing_table : Members → Option Members
@@ -154,6 +173,10 @@ head_faults tree = unknown_faults at.Top (map (λ r. r.key) (top_rules tree)) tr
 abbrev pub strangers_faults : Members → List Fault
 strangers_faults tree = keys_faults at.Top tree (strangers_rules (knows_fourth tree))
 
+-- and at that of live buses
+abbrev pub live_faults : Members → List Fault
+live_faults tree = keys_faults at.Top tree (live_rules (knows_fourth tree))
+
 -- what stands at the key of the bus itself, and then the faults of its table
 abbrev pub timing_faults : Members → List Fault
 timing_faults tree =
@@ -161,7 +184,8 @@ timing_faults tree =
 
 abbrev pub top_faults : Members → List Fault
 top_faults tree =
-    head_faults tree ++ (strangers_faults tree ++ (timing_faults tree ++ keys_faults at.Top tree (array_rules (knows_fourth tree))))
+    head_faults tree
+    ++ (strangers_faults tree ++ (live_faults tree ++ (timing_faults tree ++ keys_faults at.Top tree (array_rules (knows_fourth tree)))))
 
 -- the top table's keys, then the units, the groups, the flows, the needs and the requests, each in order
 abbrev pub faults : Members → List Fault

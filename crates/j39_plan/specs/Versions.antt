@@ -67,7 +67,7 @@ abbrev pub IsThirdFlow : Members → Type 0
 IsThirdFlow = Lacks fourth_flow_keys
 
 abbrev pub fourth_top_keys : List Key
-fourth_top_keys = key.Strangers ∷ key.Need ∷ key.Request ∷ []
+fourth_top_keys = key.Strangers ∷ key.Live ∷ key.Need ∷ key.Request ∷ []
 
 -- nor in a plan
 pub record IsThirdPlan (tree : Members) : Type 0 where

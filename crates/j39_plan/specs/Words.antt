@@ -10,6 +10,7 @@ abbrev pub word_of : Key → List ℕ
 word_of key.Version = codes "version"
 word_of key.KeepFree = codes "keep_free"
 word_of key.Strangers = codes "strangers"
+word_of key.Live = codes "live"
 word_of key.Timing = codes "timing"
 word_of key.Bitrate = codes "bitrate"
 word_of key.Unplanned = codes "unplanned"

@@ -35,7 +35,7 @@ use elements::read_each;
 pub use fault::Fault;
 use flows::Flows;
 use groups::Groups;
-use heads::{head, knows_fourth, knows_third, strangers};
+use heads::{head, knows_fourth, knows_third, live, strangers};
 use j39_findings::Plan;
 use j39_findings::limits::{FLOW_LIMIT, GROUP_LIMIT, UNIT_LIMIT};
 pub use key::Key;
@@ -58,6 +58,7 @@ fn read_top(alloc: Global, members: &toml::Table) -> Result<Plan, PlanError>
     let third = knows_third(members);
     let fourth = knows_fourth(members);
     let strangers = strangers(members, fourth)?;
+    let live = live(members, fourth)?;
     let timing = timing(members, third, fourth)?;
     let unit_values = array(members, Table::Top, Key::Unit, UNIT_LIMIT)?;
     let group_values = array(members, Table::Top, Key::Group, GROUP_LIMIT)?;
@@ -94,6 +95,7 @@ fn read_top(alloc: Global, members: &toml::Table) -> Result<Plan, PlanError>
     Ok(Plan {
         keep_free,
         strangers,
+        live,
         timing,
         units,
         groups,
@@ -109,7 +111,7 @@ fn read_top(alloc: Global, members: &toml::Table) -> Result<Plan, PlanError>
 /// lengths, with records of signals that are repeated, more kinds of signals, what their values are divided by, 64 texts of a group, what
 /// is known of the bus itself, and how often flows are sent. Version 4 knows more of the bus, how far behind its moments a flow is sent,
 /// for how long it is silent, whether it is sent on request alone, which unit needs what and which one asks whom for what, units that
-/// never claim, how many strangers may come, the numbers of signals, and names of their raw numbers.
+/// never claim, how many strangers may come, whether the bus is live, the numbers of signals, and names of their raw numbers.
 ///
 /// Refuses bytes that are no TOML text, and else the first fault, in the order of the file's tables and keys. Takes no
 /// memory of bytes that are no UTF-8, or white space and comments alone.

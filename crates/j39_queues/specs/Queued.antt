@@ -38,6 +38,10 @@ changed_in f u v x s t = cond (nat_eq s u && nat_eq t v) x (f s t)
 abbrev pub without_column : {X : Type 0} → ℕ → (ℕ → ℕ → List X) → ℕ → ℕ → List X
 without_column v f s t = cond (nat_eq t v) [] (f s t)
 
+-- nothing from one unit, the same as before from each other
+abbrev pub without_row : {X : Type 0} → ℕ → (ℕ → ℕ → List X) → ℕ → ℕ → List X
+without_row u f s t = cond (nat_eq s u) [] (f s t)
+
 -- one for a pair of units, and none for each other
 abbrev pub one_at : ℕ → ℕ → ℕ → ℕ → ℕ
 one_at u v = changed_in (λ s t. 0) u v 1

@@ -2,7 +2,7 @@
 ghost use Rattle.std.specs.Prelude.{◌≡◌, ℕ, ◌+◌, ◌<◌, ◌≤◌, ◌↔◌, [], ◌∷◌, ◌++◌, drop, length, map, nat_eq, replicate, IsTrue, IfOk, IfSome, IfNone, OnOk, OnErr};
 ghost use Rattle.std.specs.List.{list_all};
 ghost use Rattle.j39_queues.specs.inside.Rows.{items, one_if_some};
-ghost use Rattle.j39_queues.specs.Queued.{IsTable, KeepsRoom, one_at, pair_in, room_at, changed_in, without_column};
+ghost use Rattle.j39_queues.specs.Queued.{IsTable, KeepsRoom, one_at, pair_in, room_at, changed_in, without_column, without_row};
 
 use std::alloc::{AllocError, Global};
 use std::collections::VecDeque;
@@ -160,6 +160,18 @@ impl<T: Drop> Queues<T> {
     {
         for from in 0..self.rows.len() {
             self.clear(from, to);
+        }
+    }
+
+    /// Drops all items from a unit.
+    pub fn clear_from(&mut self, unit: usize)
+        requires { unit < length self.old.lists }
+        ensures table { IsTable (length self.old.lists) self.new.lists }
+        ensures lists { pair_in self.new.lists ≡ without_row unit (pair_in self.old.lists) }
+        ensures room { KeepsRoom self.old self.new }
+    {
+        for to in 0..self.rows.len() {
+            self.clear(unit, to);
         }
     }
 }

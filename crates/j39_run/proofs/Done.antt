@@ -8,7 +8,7 @@ use Rattle.j39_findings.specs.declared.plan.Plan.{Plan}
 use Rattle.j39_findings.specs.declared.steps.Step.{Step}
 use Rattle.j39_world.specs.declared.step_error.StepError.{StepError}
 use Rattle.j39_bus.specs.BusState.{BusState, undelivered}
-use Rattle.j39_world.specs.PlannedUnits.{planned_unit}
+use Rattle.j39_findings.specs.PlannedUnits.{planned_unit}
 use Rattle.j39_bus.specs.Stations.{station_at}
 use Rattle.j39_world.specs.Run.{StepsTo, RunsThrough, refusal}
 use Rattle.j39_world.specs.Sent.{sent_of}

@@ -11,7 +11,7 @@ use Rattle.j39_findings.specs.declared.steps.Step.TheVariants.{Up, Down, Give, A
 use Rattle.j39_world.specs.declared.wired.Wired.{Wired}
 use Rattle.j39_world.specs.declared.wired.Wired.TheVariants as wired
 use Rattle.j39_bus.specs.BusState.{BusState}
-use Rattle.j39_world.specs.PlannedUnits.{units_of}
+use Rattle.j39_findings.specs.PlannedUnits.{units_of}
 use Rattle.j39_world.specs.ClaimSteps.{GivenFrom}
 use Rattle.j39_world.specs.Flows.{flows_of, windows_of}
 use Rattle.j39_world.specs.declared.flow.Flow.{Flow}

@@ -82,6 +82,7 @@ module _ (s : Schedule) (controllers : Controllers) (traffic : Traffic) (unplann
           };
       spaced = known.of_streams.spaced;
     };
+    as_wanted = known.as_wanted;
     from_least = λ p in_p is.
         let (plain, early) = is_planned_then s planned by p is in
         let least = known.from_least p in_p plain in

@@ -1,18 +1,15 @@
 -- Frames of units that keep no order are in time where the wait has room for their company, and for what may go before its frames.
-use Rattle.std.proofs.Common.{◌≡◌, ◌≢◌, ℕ, suc, ◌+◌, ◌*◌, ◌-◌, ◌/◌, ◌<◌, ◌≤◌, ◌⊎◌, Bool, true, false, not, cond, ◌&&◌, ◌||◌, eqb, ltb, leb, refl, sym, subst, ap, arith, inl, inr}
+use Rattle.std.proofs.Common.{◌≡◌, ◌≢◌, ℕ, ◌+◌, ◌<◌, ◌≤◌, ◌⊎◌, Bool, true, false, not, cond, ◌&&◌, ◌||◌, eqb, ltb, leb, refl, sym, subst, ap, arith, inl, inr}
 use Rattle.std.proofs.lemmas.Bool.{and_parts, and_from, cases_lt, cases_eq, cases_Bool, or_cases, or_left, or_right, le-leb, lt-ltb, ltb-true, eqb-true, eq-eqb, both_ways}
-use Rattle.j39_timing.specs.Sums.{total}
-use Rattle.j39_timing.specs.TimedFrames.{Schedule, Waits, demand}
-use Rattle.j39_timing.specs.declared.stream.Stream.{Stream}
-use Rattle.j39_timing.specs.FrameStreams.{Origins, AreOfStreams}
+use Rattle.j39_timing.specs.TimedFrames.{Schedule, Waits}
+use Rattle.j39_timing.specs.FrameStreams.{Origins}
 use Rattle.j39_timing.specs.Traffic.{Traffic, IsQueuedAt, IsStreamInTime}
-use Rattle.j39_timing.specs.Waits.{share}
 use Rattle.j39_timing.specs.AnyOrder.{AreBegunWithin, Controllers, IsLegalInAnyOrder}
 use Rattle.j39_timing.specs.Messages.{AreSentWithin}
 use Rattle.j39_timing.specs.Companies.{Company, CompanyWaits, HasRoomInCompany, IsTrafficOfCompany, is_unplanned_queued, is_with_company, may_go_with, unplanned_queued}
 use Rattle.j39_timing.proofs.FullWindows.{some_wait, too_full, total-one}
 use Rattle.j39_timing.proofs.Sums.{total-le}
-use Rattle.j39_timing.proofs.WaitingWindow.{GoingWait, IsBusyWith, busy_with, going_demand, is_other_going, is_within, others_going}
+use Rattle.j39_timing.proofs.WaitingWindow.{GoingWait, busy_with, is_other_going, others_going}
 
 module _ (s : Schedule) (controllers : Controllers) (traffic : Traffic) (unplanned longest : ℕ) (planned : ℕ → Bool) (of : Origins) (company : Company)
     (legal : IsLegalInAnyOrder s controllers) (known : IsTrafficOfCompany s controllers traffic unplanned longest planned of company)
@@ -74,7 +71,7 @@ module _ (s : Schedule) (controllers : Controllers) (traffic : Traffic) (unplann
     module _ (seen : s.queued x + wait < s.now) (late : s.queued x + wait < s.start x) where
       -- the frame itself has room in the wait
       some : 1 ≤ wait
-      some = some_wait s traffic.count traffic.stream planned of known.of_streams positive (may_go_with traffic company) with_it goes wait
+      some = some_wait s traffic.count traffic.stream traffic.demands planned of known.of_streams known.as_wanted positive (may_go_with traffic company) with_it goes wait
           longest unplanned (traffic.stream i).bits x in_x is_planned x_with x_bits small (legal.positive x in_x) (known.longest_at_most x in_x) room
 
       -- so no more of what isn't planned is queued than is foreseen
@@ -163,7 +160,7 @@ module _ (s : Schedule) (controllers : Controllers) (traffic : Traffic) (unplann
       not_late =
           let (begin, is_busy) = busy_with s planned first longest wait legal.positive legal.queued_first legal.never_idle known.longest_at_most x in_x
           is_planned seen late closed in
-          too_full s traffic.count traffic.stream planned of known.of_streams positive (may_go_with traffic company) with_it goes wait
+          too_full s traffic.count traffic.stream traffic.demands planned of known.of_streams known.as_wanted positive (may_go_with traffic company) with_it goes wait
           longest unplanned (traffic.stream i).bits x in_x is_planned x_with x_bits small (legal.positive x in_x) (known.longest_at_most x in_x) room
           first itself (λ p is one. first_with p is (inl one)) begin is_busy.before is_busy (fewer begin is_busy.waiting)
 

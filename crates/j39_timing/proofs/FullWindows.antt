@@ -1,17 +1,18 @@
 -- A frame that waits longer than there is room for sees more on the bus than the streams can queue: in windows of a wait and one bit more,
 -- from where the bus is busy on.
-use Rattle.std.proofs.Common.{◌≡◌, ℕ, zero, suc, ◌+◌, ◌*◌, ◌-◌, ◌/◌, ◌<◌, ◌≤◌, Bool, true, false, cond, ◌&&◌, ltb, leb, refl, sym, subst, arith, inl, inr}
+use Rattle.std.proofs.Common.{◌≡◌, ℕ, zero, suc, ◌+◌, ◌*◌, ◌-◌, ◌/◌, ◌<◌, ◌≤◌, Bool, true, false, cond, ◌&&◌, eqb, ltb, leb, List, Option, None, Some, refl, sym, subst, arith, inl, inr}
 use Rattle.std.proofs.Math.Nat.{mul-le-mul_left, div-mul-le_self, lt-div-mul-add}
 use Rattle.std.specs.Int.{div_ceil}
-use Rattle.std.proofs.lemmas.Bool.{and_parts, and_from, cases_lt, cases_Bool, le-leb, lt-ltb, leb-true, ltb-true}
+use Rattle.std.proofs.lemmas.Bool.{and_parts, and_from, cases_lt, cases_Bool, le-leb, lt-ltb, leb-true, ltb-true, eqb-true}
 use Rattle.std.proofs.lemmas.Grind.{div_ceil_times}
 use Rattle.j39_timing.specs.Sums.{total}
 use Rattle.j39_timing.specs.TimedFrames.{Schedule, demand}
 use Rattle.j39_timing.specs.declared.stream.Stream.{Stream}
 use Rattle.j39_timing.specs.FrameStreams.{Origins, AreOfStreams}
-use Rattle.j39_timing.specs.Waits.{share}
-use Rattle.j39_timing.proofs.StreamSums.{all_streams}
-use Rattle.j39_timing.proofs.Sums.{total-le, total-less, total-none, total-two}
+use Rattle.j39_timing.specs.Traffic.{AreAsWanted, moments_in}
+use Rattle.j39_timing.specs.Waits.{Demand, demand_of, frames_wanted, lesser, lesser_share, share}
+use Rattle.j39_timing.proofs.StreamSums.{all_streams, inside as in_window, inside_from, inside_parts, is_of, of_stream, queued_in}
+use Rattle.j39_timing.proofs.Sums.{total-le, total-less, total-none, total-times, total-two}
 use Rattle.j39_timing.proofs.WaitingWindow.{IsBusyWith, going_demand, is_within, others_going}
 
 -- what is queued in two windows is what is queued in each
@@ -79,11 +80,11 @@ too_many k longest wait count bits shares planned others has most times room sma
     omega arith
 
 -- what the streams that may go can queue in a wait and the bit behind
-abbrev pub shares_of : ℕ → (ℕ → Stream) → (ℕ → Bool) → ℕ → ℕ
-shares_of count stream may wait = total count (λ j. cond (may j) (share (wait + 1) (stream j)) 0)
+abbrev pub shares_of : ℕ → (ℕ → Stream) → List Demand → (ℕ → Bool) → ℕ → ℕ
+shares_of count stream demands may wait = total count (λ j. cond (may j) (lesser_share demands (wait + 1) (stream j)) 0)
 
-module _ (s : Schedule) (count : ℕ) (stream : ℕ → Stream) (planned : ℕ → Bool) (of : Origins)
-    (known : AreOfStreams s (λ p. planned p ≡ true) count stream of) (positive : (j : ℕ) → j < count → 0 < (stream j).period)
+module _ (s : Schedule) (count : ℕ) (stream : ℕ → Stream) (demands : List Demand) (planned : ℕ → Bool) (of : Origins)
+    (known : AreOfStreams s (λ p. planned p ≡ true) count stream of) (as_wanted : AreAsWanted s planned of demands stream) (positive : (j : ℕ) → j < count → 0 < (stream j).period)
     (may with_it : ℕ → Bool) (goes : (p : ℕ) → p < s.count → planned p ≡ true → with_it p ≡ true → may (of.source p) ≡ true) (wait : ℕ) where
   -- the schedule in which only the planned frames that go have a smaller identifier than 1, each as long as its stream says
   abbrev going_only : Schedule
@@ -108,6 +109,7 @@ module _ (s : Schedule) (count : ℕ) (stream : ℕ → Stream) (planned : ℕ �
     period = (stream j).period;
     bits = (stream j).bits;
     late = (stream j).late;
+    wanted = (stream j).wanted;
   }
 
   abbrev slots : ℕ → ℕ
@@ -130,21 +132,66 @@ module _ (s : Schedule) (count : ℕ) (stream : ℕ → Stream) (planned : ℕ �
   }
 
   abbrev shares : ℕ
-  shares = shares_of count stream may wait
+  shares = shares_of count stream demands may wait
 
-  window : (t : ℕ) → demand going_only 1 t (wait + 1) ≤ shares
-  window t =
-      let cover : (j : ℕ) → j < count → wait + 1 + (stream j).late ≤ slots j * (stream j).period = λ j below.
+  -- what a stream queues in such a window
+  abbrev queued : ℕ → ℕ → ℕ
+  queued t j = queued_in going_only 1 count before of of_streams t (wait + 1) j
+
+  -- is no more than its pace allows
+  at_pace : (t j : ℕ) → j < count → queued t j ≤ cond (may j) (share (wait + 1) (stream j)) 0
+  at_pace t j below =
+      let cover : wait + 1 + (stream j).late ≤ slots j * (stream j).period =
       (div_ceil_times (wait + 1 + (stream j).late) (stream j).period (positive j below)).0 in
-      let most : demand going_only 1 t (wait + 1) ≤ total count (λ j. (before j).frames * (slots j * (before j).bits)) =
-      all_streams going_only 1 count before of of_streams t (wait + 1) slots cover in
-      let same : total count (λ j. (before j).frames * (slots j * (before j).bits)) ≤ shares =
-      total-le count (λ j. (before j).frames * (slots j * (before j).bits)) (λ j. cond (may j) (share (wait + 1) (stream j)) 0) (λ j below.
+      let most : queued t j ≤ (before j).frames * (slots j * (before j).bits) =
+      of_stream going_only 1 count before of of_streams j (slots j) t (wait + 1) cover in
+      let same : (before j).frames * (slots j * (before j).bits) ≤ cond (may j) (share (wait + 1) (stream j)) 0 =
       elim (may j) as (λ e. cond e (stream j).frames 0 * (slots j * (stream j).bits) ≤ cond e (share (wait + 1) (stream j)) 0) [
         | true ↦ omega arith
         | false ↦ omega arith
-      ]) in
-      omega arith
+      ] in
+      omega (arith, most, same)
+
+  -- nor than is wanted
+  at_demand : (t j : ℕ) (wanted : Demand) → demand_of demands (stream j) ≡ Some wanted
+      → queued t j ≤ frames_wanted (wait + 1 + (stream j).late) wanted * (stream j).bits
+  at_demand t j wanted its =
+      let few : moments_in s planned of j (t - (stream j).late) (wait + 1 + (stream j).late) ≤ frames_wanted (wait + 1 + (stream j).late) wanted =
+      as_wanted j (t - (stream j).late) (wait + 1 + (stream j).late) wanted its in
+      let each : queued t j ≤ (stream j).bits * moments_in s planned of j (t - (stream j).late) (wait + 1 + (stream j).late) =
+      total-times s.count (λ p. is_of going_only 1 count before of of_streams j p && in_window t (wait + 1) (s.queued p))
+      (λ p. planned p && (eqb (of.source p) j && (leb (t - (stream j).late) (of.since p) && ltb (of.since p) (t - (stream j).late + (wait + 1 + (stream j).late)))))
+      (λ p. (stream (of.source p)).bits) (stream j).bits (λ p in_p is.
+      let one = and_parts (is_of going_only 1 count before of of_streams j p) (in_window t (wait + 1) (s.queued p)) is in
+      let two = and_parts (ltb (going_only.ident p) 1) (eqb (of.source p) j) one.0 in
+      let (of_plan, _) = its_parts p (ltb-true (going_only.ident p) 1 two.0) in
+      let at : of.source p ≡ j = eqb-true (of.source p) j two.1 in
+      let (low, high) = inside_parts t (wait + 1) (s.queued p) one.1 in
+      let keeps = known.keeps p in_p of_plan in
+      let first : of.since p ≤ s.queued p = keeps.moment_first in
+      let last : s.queued p ≤ of.since p + (stream j).late = subst (λ i. s.queued p ≤ of.since p + (stream i).late) at keeps.late_at_most in (
+        and_from (planned p) (eqb (of.source p) j && (leb (t - (stream j).late) (of.since p) && ltb (of.since p) (t - (stream j).late + (wait + 1 + (stream j).late))))
+            of_plan (and_from (eqb (of.source p) j) (leb (t - (stream j).late) (of.since p) && ltb (of.since p) (t - (stream j).late + (wait + 1 + (stream j).late))) two.1
+            (inside_from (t - (stream j).late) (wait + 1 + (stream j).late) (of.since p) (omega (arith, low, last)) (omega (arith, high, first)))),
+        subst (λ i. (stream i).bits ≤ (stream j).bits) (sym at) (omega arith),
+      )) in
+      let most : (stream j).bits * moments_in s planned of j (t - (stream j).late) (wait + 1 + (stream j).late)
+      ≤ (stream j).bits * frames_wanted (wait + 1 + (stream j).late) wanted = mul-le-mul_left (stream j).bits few in
+      let turned : (stream j).bits * frames_wanted (wait + 1 + (stream j).late) wanted ≡ frames_wanted (wait + 1 + (stream j).late) wanted * (stream j).bits = grind arith in
+      omega (arith, each, most, turned)
+
+  at_lesser : (t j : ℕ) → j < count → queued t j ≤ cond (may j) (lesser_share demands (wait + 1) (stream j)) 0
+  at_lesser t j below = go (may j) (demand_of demands (stream j)) (at_pace t j below) (λ wanted is. at_demand t j wanted is)
+    where
+      go : (e : Bool) (wanted : Option Demand) → queued t j ≤ cond e (share (wait + 1) (stream j)) 0
+          → ((d : Demand) → wanted ≡ Some d → queued t j ≤ frames_wanted (wait + 1 + (stream j).late) d * (stream j).bits)
+          → queued t j ≤ cond e (lesser (wait + 1) (stream j) wanted) 0
+      go false wanted paced by = paced
+      go true None paced by = paced
+      go true (Some d) paced by = let few = by d refl in omega (arith, paced, few)
+
+  window : (t : ℕ) → demand going_only 1 t (wait + 1) ≤ shares
+  window t = all_streams going_only 1 count before of of_streams t (wait + 1) (λ j. cond (may j) (lesser_share demands (wait + 1) (stream j)) 0) (at_lesser t)
 
   -- a frame that counts in a window
   counts_in : (t span p : ℕ) → planned p ≡ true → with_it p ≡ true → is_within s t span p ≡ true
@@ -156,7 +203,7 @@ module _ (s : Schedule) (count : ℕ) (stream : ℕ → Stream) (planned : ℕ �
   -- the bits of frames in a window that go are no more than the streams can queue
   pub window_most : (passes : ℕ → Bool) (t : ℕ)
       → ((p : ℕ) → p < s.count → passes p ≡ true → (planned p ≡ true) × (with_it p ≡ true) × (is_within s t (wait + 1) p ≡ true))
-      → total s.count (λ p. cond (passes p) (s.bits p) 0) ≤ shares_of count stream may wait
+      → total s.count (λ p. cond (passes p) (s.bits p) 0) ≤ shares_of count stream demands may wait
   window_most passes t parts =
       let most = window t in
       let all : total s.count (λ p. cond (passes p) (s.bits p) 0) ≤ demand going_only 1 t (wait + 1) =
@@ -176,7 +223,7 @@ module _ (s : Schedule) (count : ℕ) (stream : ℕ → Stream) (planned : ℕ �
 
   module _ (longest others own x : ℕ) (in_x : x < s.count) (is_planned : planned x ≡ true) (x_with : with_it x ≡ true)
       (x_bits : (stream (of.source x)).bits ≡ own) (small : own ≤ longest) (shortest : 1 ≤ s.bits x) (short : s.bits x ≤ longest)
-      (room : longest * (1 + others) + shares_of count stream may wait ≤ wait + own) where
+      (room : longest * (1 + others) + shares_of count stream demands may wait ≤ wait + own) where
     -- it has room itself
     pub some_wait : 1 ≤ wait
     some_wait =

@@ -1,5 +1,5 @@
 -- A vehicle of which all is known that the law of vehicles asks: one bus with one frame, and others to which it is handed on.
-use Rattle.std.proofs.Common.{◌≡◌, ℕ, zero, suc, ◌+◌, ◌*◌, ◌<◌, ◌≤◌, Bool, true, false, refl, arith}
+use Rattle.std.proofs.Common.{◌≡◌, ℕ, zero, suc, ◌+◌, ◌*◌, ◌<◌, ◌≤◌, Bool, true, false, refl, arith, None, []}
 use Rattle.j39_timing.specs.Sums.{total}
 use Rattle.j39_timing.specs.TimedFrames.{IsLegal}
 use Rattle.j39_timing.specs.FrameStreams.{AreOfStreams}
@@ -8,6 +8,7 @@ use Rattle.j39_timing.specs.Prefixes.{IsPlannedUntil, planned_until}
 use Rattle.j39_timing.specs.Gateways.{IsHandedOn}
 use Rattle.j39_timing.proofs.Prefixes.{begun_until}
 use Rattle.j39_timing.specs.Vehicles.{Bus, Vehicle, IsKnown, carrier, input_at}
+use Rattle.j39_timing.proofs.Demands.{nothing_wanted}
 
 -- when the frame of a bus is queued, and begins: on the first bus at once, on the others at its end there
 abbrev at : ℕ → ℕ
@@ -34,7 +35,8 @@ one_bus b = record {
   of = record { source = λ p. 0; turn = λ p. 0; since = λ p. 0 };
   traffic = record {
     count = 1;
-    stream = λ j. record { frames = 1; period = 10000; bits = 160; late = late_at b };
+    stream = λ j. record { frames = 1; period = 10000; bits = 160; late = late_at b; wanted = None };
+    demands = [];
     least = λ j. 5;
     greatest = λ j. 5;
     are_twins = no_twins;
@@ -97,6 +99,7 @@ known_until : (b by : ℕ) → AreOfStreams (one_bus b).schedule (λ p. planned_
 known_until b by streams = record {
   longest_at_most = λ p in_p. omega arith;
   of_streams = streams;
+  as_wanted = nothing_wanted (one_bus b).schedule (planned_until (one_bus b).schedule (one_bus b).planned by) (one_bus b).of [] (one_bus b).traffic.stream (λ j. refl);
   from_least = λ p in_p is. omega arith;
   to_greatest = λ p in_p is source. omega arith;
   own_identifier = λ p q t in_p in_q seen is shared at_p at_q same. (refl, refl);

@@ -1,15 +1,21 @@
 -- Below the wait from which the loads allow it nothing has room.
-use Rattle.std.proofs.Common.{◌≡◌, ℕ, ◌+◌, ◌*◌, ◌-◌, ◌^◌, ◌<◌, ◌≤◌, max, List, [], ◌∷◌, length, All, sum_by, arith, inl, inr, sym, ap, ◌∙◌}
+use Rattle.std.proofs.Common.{◌≡◌, ℕ, ◌+◌, ◌*◌, ◌-◌, ◌/◌, ◌^◌, ◌<◌, ◌≤◌, max, min, List, length, take, get_or, All, map, sum_by, None, Some, arith, inl, inr, sym, ap, ◌∙◌}
 use Rattle.std.specs.Int.{div_ceil}
-use Rattle.std.proofs.lemmas.Bool.{cases_Bool, cases_lt}
+use Rattle.std.specs.List.{slice_get}
+use Rattle.std.specs.Option.{option_map}
+use Rattle.std.proofs.lemmas.Bool.{cases_lt}
 use Rattle.std.proofs.lemmas.Grind.{div_ceil_times}
-use Rattle.std.proofs.lemmas.List.Elements.{All-head, All-tail}
-use Rattle.std.proofs.lemmas.List.Sums.{sum_by-cons, sum_by-le}
-use Rattle.std.proofs.Math.Nat.{div-mul-le_self, div-le_self, mul-le-mul_left}
-use Rattle.j39_timing.specs.LeastShares.{HaveNoRoomFrom, dense_part, is_dense, part_of, sparse_share}
-use Rattle.j39_timing.specs.Waits.{HaveNoRoom, IsStream, need, share}
+use Rattle.std.proofs.lemmas.Option.{slice_get-map}
+use Rattle.std.proofs.lemmas.List.Sums.{sum_by_more}
+use Rattle.std.proofs.Math.Nat.{div-mul-le_self, div-le_self, lt-mul-div-succ, mul-le-mul_left}
+use Rattle.j39_timing.specs.LeastShares.{HaveNoRoomFrom, IsLineBelow, IsStretchBelow, line_at, part_of}
+use Rattle.j39_timing.specs.Waits.{Demand, HaveNoRoom, IsStream, IsWant, as_demand, demand_of, frames_of_want, frames_wanted, lesser, lesser_share, need, share}
+use Rattle.j39_timing.specs.declared.lines.Line.{Line}
+use Rattle.j39_timing.specs.declared.lines.Stretch.{Stretch}
 use Rattle.j39_timing.specs.declared.stream.Stream.{Stream}
-use Rattle.j39_timing.proofs.Needs.{no_room, share-mono, share-small}
+use Rattle.j39_timing.specs.declared.wants.Want.{Want}
+use Rattle.j39_timing.specs.declared.wants.Wanted.{Wanted}
+use Rattle.j39_timing.proofs.Needs.{AreDemands, no_room, want-mono}
 
 pub part-small : (x : Stream) → IsStream x → part_of x ≤ 2 ^ 50
 part-small x ok =
@@ -18,95 +24,165 @@ part-small x ok =
     let all : part_of x ≤ x.frames * x.bits * 2 ^ 32 = div-le_self (x.frames * x.bits * 2 ^ 32) x.period in
     omega (arith, some, frames, all)
 
-dense-small : (step : ℕ) (x : Stream) → IsStream x → dense_part step x ≤ 2 ^ 50
-dense-small step x ok = elim (cases_Bool (is_dense step x)) [
-  | inl dense ↦ rw dense (part-small x ok)
-  | inr sparse ↦ rw sparse (omega arith)
-]
-
-pub dense-parts-small : (step : ℕ) (xs : List Stream) → All IsStream xs → length xs ≤ 2048 → sum_by (dense_part step) xs ≤ 2 ^ 61
-dense-parts-small step xs all few =
-    let most : sum_by (dense_part step) xs ≤ length xs * 2 ^ 50 = sum_by-le (dense_part step) (2 ^ 50) xs (λ k d inside. dense-small step _ (all k d inside)) in
-    omega arith
-
-sparse-small : (step span : ℕ) (x : Stream) → span < 2 ^ 32 → IsStream x → sparse_share step span x ≤ 2 ^ 51
-sparse-small step span x small ok = elim (cases_Bool (is_dense step x)) [
-  | inl dense ↦ rw dense (omega arith)
-  | inr sparse ↦ rw sparse (share-small span x small ok)
-]
-
-pub sparse-shares-small : (step span : ℕ) (xs : List Stream) → span < 2 ^ 32 → All IsStream xs → length xs ≤ 2048
-    → sum_by (sparse_share step span) xs ≤ 2 ^ 63
-sparse-shares-small step span xs small all few =
-    let most : sum_by (sparse_share step span) xs ≤ length xs * 2 ^ 51 =
-    sum_by-le (sparse_share step span) (2 ^ 51) xs (λ k d inside. sparse-small step span _ small (all k d inside)) in
-    omega arith
+-- so many frames, of which there are at least as many as periods, take their part of the bus
+takes : (x late period frames bits : ℕ) → 0 < period
+    → frames * bits * 2 ^ 32 / period * x ≤ 2 ^ 32 * (frames * (div_ceil (x + late) period * bits))
+takes x late period frames bits some =
+    let c : ℕ = div_ceil (x + late) period in
+    let part : ℕ = frames * bits * 2 ^ 32 / period in
+    let reached : x + late ≤ c * period = (div_ceil_times (x + late) period some).0 in
+    let whole : part * period ≤ frames * bits * 2 ^ 32 = div-mul-le_self (frames * bits * 2 ^ 32) period in
+    let long : part * x ≤ part * (c * period) = mul-le-mul_left part (omega (arith, reached)) in
+    let often : c * (part * period) ≤ c * (frames * bits * 2 ^ 32) = mul-le-mul_left c whole in
+    let same : part * (c * period) ≡ c * (part * period) = grind arith in
+    let all : c * (frames * bits * 2 ^ 32) ≡ 2 ^ 32 * (frames * (c * bits)) = grind arith in
+    omega (arith, long, often, same, all)
 
 -- a stream queues its part of the bus at least
-takes-part : (v : ℕ) (x : Stream) → IsStream x → part_of x * (v + 1) ≤ 2 ^ 32 * share (v + 1) x
-takes-part v x ok =
-    let c : ℕ = div_ceil (v + 1 + x.late) x.period in
-    let reached : v + 1 + x.late ≤ c * x.period = (div_ceil_times (v + 1 + x.late) x.period ok.0).0 in
-    let whole : part_of x * x.period ≤ x.frames * x.bits * 2 ^ 32 = div-mul-le_self (x.frames * x.bits * 2 ^ 32) x.period in
-    let long : part_of x * (v + 1) ≤ part_of x * (c * x.period) = mul-le-mul_left (part_of x) (omega (arith, reached)) in
-    let often : c * (part_of x * x.period) ≤ c * (x.frames * x.bits * 2 ^ 32) = mul-le-mul_left c whole in
-    let same : part_of x * (c * x.period) ≡ c * (part_of x * x.period) = grind arith in
-    let bits : c * (x.frames * x.bits * 2 ^ 32) ≡ 2 ^ 32 * share (v + 1) x = grind arith in
-    omega (arith, long, often, same, bits)
+pub takes-part : (x : ℕ) (stream : Stream) → IsStream stream → part_of stream * x ≤ 2 ^ 32 * share x stream
+takes-part x stream ok = takes x stream.late stream.period stream.frames stream.bits ok.0
 
--- so do all that are dense, and the others what they queue in a shorter wait
-take-parts : (step w v : ℕ) (xs : List Stream) → w ≤ v → All IsStream xs
-    → 2 ^ 32 * sum_by (sparse_share step (w + 1)) xs + sum_by (dense_part step) xs * (v + 1) ≤ 2 ^ 32 * sum_by (share (v + 1)) xs
-take-parts step w v [] from all = omega arith
-take-parts step w v (x ∷ xs) from all =
-    rw (sum_by-cons (sparse_share step (w + 1)) x xs, sum_by-cons (dense_part step) x xs, sum_by-cons (share (v + 1)) x xs)
-    (let ok : IsStream x = All-head IsStream x xs all in
-    let rest : 2 ^ 32 * sum_by (sparse_share step (w + 1)) xs + sum_by (dense_part step) xs * (v + 1) ≤ 2 ^ 32 * sum_by (share (v + 1)) xs =
-    take-parts step w v xs from (All-tail IsStream x xs all) in
-    elim (cases_Bool (is_dense step x)) [
-      | inl dense ↦
-          let part : part_of x * (v + 1) ≤ 2 ^ 32 * share (v + 1) x = takes-part v x ok in
-          rw dense (grind (arith, rest, part))
-      | inr sparse ↦
-          let more : share (w + 1) x ≤ share (v + 1) x = share-mono (w + 1) (v + 1) x (omega arith) ok in
-          rw sparse (grind (arith, rest, more))
-    ])
+-- and it asks for no less in a longer time
+pub wants-before : (x span bits : ℕ) (want : Want) → IsWant want → span ≤ x
+    → 2 ^ 32 * (frames_of_want span want * bits) + 0 * x ≤ 2 ^ 32 * (frames_of_want x want * bits)
+wants-before x span bits want ok from =
+    let more : bits * frames_of_want span want ≤ bits * frames_of_want x want = mul-le-mul_left bits (want-mono span x want from ok) in
+    omega (arith, more)
 
-module _ (blocking step w : ℕ) (xs : List Stream) (all : All IsStream xs) where
-  -- the dense ones take all of the bus
-  pub never : 2 ^ 32 ≤ sum_by (dense_part step) xs → (to : ℕ) → HaveNoRoomFrom blocking xs w to
-  never full to v from below =
-      let taken : 2 ^ 32 * sum_by (sparse_share step (w + 1)) xs + sum_by (dense_part step) xs * (v + 1) ≤ 2 ^ 32 * sum_by (share (v + 1)) xs =
-      take-parts step w v xs from all in
-      let most : (v + 1) * 2 ^ 32 ≤ (v + 1) * sum_by (dense_part step) xs = mul-le-mul_left (v + 1) full in
-      let turned : (v + 1) * sum_by (dense_part step) xs ≡ sum_by (dense_part step) xs * (v + 1) = grind arith in
+-- a flow asks for a message at least, and its part of the bus
+pub wants-part : (x bits : ℕ) (want : Want) → IsWant want
+    → 2 ^ 32 * (want.frames * bits) + want.frames * bits * 2 ^ 32 / want.period * x ≤ 2 ^ 32 * (frames_of_want x want * bits)
+wants-part x bits want ok =
+    let part : want.frames * bits * 2 ^ 32 / want.period * x ≤ 2 ^ 32 * (want.frames * (div_ceil (x + want.late) want.period * bits)) =
+    takes x want.late want.period want.frames bits ok.0 in
+    let more : frames_of_want x want * bits ≡ want.frames * (div_ceil (x + want.late) want.period * bits) + want.frames * bits = grind arith in
+    omega (arith, part, more)
+
+-- ---- what is wanted of a stream
+pub wanted-of : (all : List Wanted) (stream : Stream) (place : ℕ) (wanted : Wanted) → stream.wanted ≡ Some place → slice_get all place ≡ Some wanted
+    → demand_of (map as_demand all) stream ≡ Some (as_demand wanted)
+wanted-of all stream place wanted is found = rw (is) (slice_get-map as_demand all place ∙ ap (option_map as_demand) found)
+
+pub nothing-of : (all : List Wanted) (stream : Stream) (place : ℕ) → stream.wanted ≡ Some place → slice_get all place ≡ None
+    → demand_of (map as_demand all) stream ≡ None
+nothing-of all stream place is none = rw (is) (slice_get-map as_demand all place ∙ ap (option_map as_demand) none)
+
+-- ---- its pace, and what is wanted of it: lines that cross in some time
+module _ (paced asked k : ℕ) (less : asked < paced) where
+  -- up to then its pace is the lesser
+  pub before : (x : ℕ) → x ≤ k * 2 ^ 32 / (paced - asked) → paced * x ≤ 2 ^ 32 * k + asked * x
+  before x within =
+      let free : ℕ = paced - asked in
+      let whole : k * 2 ^ 32 / free * free ≤ k * 2 ^ 32 = div-mul-le_self (k * 2 ^ 32) free in
+      let most : free * x ≤ free * (k * 2 ^ 32 / free) = mul-le-mul_left free within in
+      let turned : free * (k * 2 ^ 32 / free) ≡ k * 2 ^ 32 / free * free = grind arith in
+      let sum : paced ≡ free + asked = omega (arith, less) in
+      let all : paced * x ≡ free * x + asked * x = ap (λ (n : ℕ). n * x) sum ∙ grind arith in
+      omega (arith, whole, most, turned, all)
+
+  -- and behind it what is wanted
+  pub behind : (x : ℕ) → k * 2 ^ 32 / (paced - asked) < x → 2 ^ 32 * k + asked * x ≤ paced * x
+  behind x after =
+      let free : ℕ = paced - asked in
+      let reached : k * 2 ^ 32 < free * (k * 2 ^ 32 / free + 1) = lt-mul-div-succ (k * 2 ^ 32) (omega (arith, less)) in
+      let most : free * (k * 2 ^ 32 / free + 1) ≤ free * x = mul-le-mul_left free (omega (arith, after)) in
+      let sum : paced ≡ free + asked = omega (arith, less) in
+      let all : paced * x ≡ free * x + asked * x = ap (λ (n : ℕ). n * x) sum ∙ grind arith in
+      omega (arith, reached, most, all)
+
+module _ (stream : Stream) (demand : Demand) (asked : Line) (span : ℕ) (ok : IsStream stream)
+    (below : IsLineBelow asked (span + stream.late) (λ n. frames_wanted n demand * stream.bits)) where
+  -- what is below both is below the lesser
+  below-both : (x low : ℕ) → span ≤ x → low ≤ part_of stream * x → low ≤ line_at x asked → low ≤ 2 ^ 32 * lesser x stream (Some demand)
+  below-both x low from first second =
+      let paced : part_of stream * x ≤ 2 ^ 32 * share x stream = takes-part x stream ok in
+      let later : asked.part * x ≤ asked.part * (x + stream.late) = mul-le-mul_left asked.part (omega arith) in
+      let wanted : line_at (x + stream.late) asked ≤ 2 ^ 32 * (frames_wanted (x + stream.late) demand * stream.bits) = below (x + stream.late) (omega (arith, from)) in
+      omega (arith, first, second, paced, later, wanted)
+
+  -- its pace alone, where no less is wanted
+  pub always-paced : part_of stream ≤ asked.part → (x : ℕ) → span ≤ x → part_of stream * x ≤ 2 ^ 32 * lesser x stream (Some demand)
+  always-paced more x from =
+      let most : x * part_of stream ≤ x * asked.part = mul-le-mul_left x more in
+      below-both x (part_of stream * x) from (omega arith) (omega (arith, most))
+
+  -- its pace, as long as no less is wanted
+  pub paced-before : asked.part < part_of stream → (x : ℕ) → span ≤ x → x ≤ asked.known * 2 ^ 32 / (part_of stream - asked.part)
+      → part_of stream * x ≤ 2 ^ 32 * lesser x stream (Some demand)
+  paced-before less x from within = below-both x (part_of stream * x) from (omega arith) (before (part_of stream) asked.part asked.known less x within)
+
+  -- what is wanted, from then on
+  pub asked-behind : asked.part < part_of stream → asked.known * 2 ^ 32 / (part_of stream - asked.part) < span
+      → (x : ℕ) → span ≤ x → line_at x asked ≤ 2 ^ 32 * lesser x stream (Some demand)
+  asked-behind less after x from =
+      below-both x (line_at x asked) from (behind (part_of stream) asked.part asked.known less x (omega (arith, after, from))) (omega arith)
+
+  pub asked-small : asked.part < part_of stream → asked.known * 2 ^ 32 / (part_of stream - asked.part) < span → span < 2 ^ 32 → asked.known ≤ 2 ^ 51
+  asked-small less after short =
+      let most : 2 ^ 32 * asked.known + asked.part * span ≤ part_of stream * span = behind (part_of stream) asked.part asked.known less span after in
+      let part : part_of stream ≤ 2 ^ 50 = part-small stream ok in
+      let all : span * part_of stream ≤ span * 2 ^ 50 = mul-le-mul_left span part in
+      omega (arith, most, all, short)
+
+-- ---- all that want, and all streams: one more
+pub one-more-want : (a b : Line) (span bits : ℕ) (xs : List Want) (i : ℕ) (d : Want) → i < length xs
+    → IsLineBelow a span (λ x. sum_by (frames_of_want x) (take i xs) * bits) → IsLineBelow b span (λ x. frames_of_want x (get_or xs i d) * bits)
+    → IsLineBelow (record { known = a.known + b.known; part = a.part + b.part }) span (λ x. sum_by (frames_of_want x) (take (i + 1) xs) * bits)
+one-more-want a b span bits xs i d inside first second x from =
+    rw (sum_by_more (frames_of_want x) xs i d inside)
+    (let one = first x from in
+    let other = second x from in
+    let left : (a.part + b.part) * x ≡ a.part * x + b.part * x = grind arith in
+    let right : (sum_by (frames_of_want x) (take i xs) + frames_of_want x (get_or xs i d)) * bits
+    ≡ sum_by (frames_of_want x) (take i xs) * bits + frames_of_want x (get_or xs i d) * bits = grind arith in
+    omega (arith, one, other, left, right))
+
+pub one-more-stream : (demands : List Demand) (a b : Stretch) (span : ℕ) (xs : List Stream) (i : ℕ) (d : Stream) → i < length xs
+    → IsStretchBelow a span (λ x. sum_by (lesser_share demands x) (take i xs)) → IsStretchBelow b span (λ x. lesser_share demands x (get_or xs i d))
+    → IsStretchBelow (record { line = record { known = a.line.known + b.line.known; part = a.line.part + b.line.part }; until = min b.until a.until }) span
+    (λ x. sum_by (lesser_share demands x) (take (i + 1) xs))
+one-more-stream demands a b span xs i d inside first second x from within =
+    rw (sum_by_more (lesser_share demands x) xs i d inside)
+    (let one = first x from (omega (arith, within)) in
+    let other = second x from (omega (arith, within)) in
+    let left : (a.line.part + b.line.part) * x ≡ a.line.part * x + b.line.part * x = grind arith in
+    omega (arith, one, other, left))
+
+module _ (demands : List Demand) (blocking w : ℕ) (xs : List Stream) (stretch : Stretch)
+    (below : IsStretchBelow stretch (w + 1) (λ x. sum_by (lesser_share demands x) xs)) where
+  -- the parts take all of the bus
+  pub never : 2 ^ 32 ≤ stretch.line.part → HaveNoRoomFrom demands blocking xs w stretch.until
+  never full v from before =
+      let taken : line_at (v + 1) stretch.line ≤ 2 ^ 32 * sum_by (lesser_share demands (v + 1)) xs = below (v + 1) (omega (arith, from)) (omega (arith, before)) in
+      let most : (v + 1) * 2 ^ 32 ≤ (v + 1) * stretch.line.part = mul-le-mul_left (v + 1) full in
+      let turned : (v + 1) * stretch.line.part ≡ stretch.line.part * (v + 1) = grind arith in
       omega (arith, taken, most, turned)
 
   -- they leave some
-  pub allowed : (parts bits : ℕ) → parts ≡ sum_by (dense_part step) xs → parts < 2 ^ 32
-      → bits ≡ (blocking + sum_by (sparse_share step (w + 1)) xs) * 2 ^ 32 + parts
-      → HaveNoRoomFrom blocking xs w (div_ceil bits (2 ^ 32 - parts))
-  allowed parts bits parts_are left bits_are v from below =
-      let taken : 2 ^ 32 * sum_by (sparse_share step (w + 1)) xs + sum_by (dense_part step) xs * (v + 1) ≤ 2 ^ 32 * sum_by (share (v + 1)) xs =
-      take-parts step w v xs from all in
+  pub allowed : (bits : ℕ) → stretch.line.part < 2 ^ 32 → bits ≡ (blocking + stretch.line.known) * 2 ^ 32 + stretch.line.part
+      → HaveNoRoomFrom demands blocking xs w (min (div_ceil bits (2 ^ 32 - stretch.line.part)) stretch.until)
+  allowed bits left bits_are v from before =
+      let taken : line_at (v + 1) stretch.line ≤ 2 ^ 32 * sum_by (lesser_share demands (v + 1)) xs = below (v + 1) (omega (arith, from)) (omega (arith, before)) in
+      let parts : ℕ = stretch.line.part in
       let free : ℕ = 2 ^ 32 - parts in
       let whole : free + parts ≡ 2 ^ 32 = omega (arith, left) in
       let above : div_ceil bits free * free < bits + free = (div_ceil_times bits free (omega (arith, left))).1 in
-      let few : free * (v + 1) ≤ free * div_ceil bits free = mul-le-mul_left free (omega (arith, below)) in
+      let few : free * (v + 1) ≤ free * div_ceil bits free = mul-le-mul_left free (omega (arith, before)) in
       let turned : free * div_ceil bits free ≡ div_ceil bits free * free = grind arith in
       let one : free * (v + 1) ≡ free * v + free = grind arith in
-      let next : sum_by (dense_part step) xs * (v + 1) ≡ parts * v + parts = rw parts_are (grind arith) in
+      let next : parts * (v + 1) ≡ parts * v + parts = grind arith in
       let split : (free + parts) * v ≡ free * v + parts * v = grind arith in
       let all_of : 2 ^ 32 * v ≡ free * v + parts * v = ap (λ (n : ℕ). n * v) (sym whole) ∙ split in
       omega (arith, taken, above, few, turned, one, next, all_of, bits_are)
 
 -- up to a wait none has room, nor from there on up to what it needs, nor up to what is allowed: so none has up to the greater one of both
-pub no_room_below : (blocking : ℕ) (xs : List Stream) (w needed first next : ℕ) → All IsStream xs → HaveNoRoom blocking xs w
-    → needed ≤ need blocking xs w → HaveNoRoomFrom blocking xs w first → next ≤ max needed first → HaveNoRoom blocking xs next
-no_room_below blocking xs w needed first next all none within allows most v below = elim (cases_lt v w) [
+pub no_room_below : (demands : List Demand) (blocking : ℕ) (xs : List Stream) (w needed first next : ℕ) → AreDemands demands → All IsStream xs
+    → HaveNoRoom demands blocking xs w → needed ≤ need demands blocking xs w → HaveNoRoomFrom demands blocking xs w first → next ≤ max needed first
+    → HaveNoRoom demands blocking xs next
+no_room_below demands blocking xs w needed first next known all none within allows most v below = elim (cases_lt v w) [
   | inl before ↦ none v before
   | inr from ↦ elim (cases_lt v first) [
     | inl early ↦ allows v from early
-    | inr late ↦ no_room blocking xs w needed all none within v (omega (arith, below, most, late))
+    | inr late ↦ no_room demands blocking xs w needed known all none within v (omega (arith, below, most, late))
   ]
 ]

@@ -1,13 +1,19 @@
 -- What streams need in a wait: a bound, and that a longer wait needs no less.
-use Rattle.std.proofs.Common.{ℕ, ◌+◌, ◌*◌, ◌^◌, ◌<◌, ◌≤◌, List, [], ◌∷◌, length, All, sum_by, arith, inl, inr}
+use Rattle.std.proofs.Common.{◌≡◌, ℕ, ◌+◌, ◌*◌, ◌^◌, ◌<◌, ◌≤◌, List, [], ◌∷◌, length, map, All, sum_by, Option, None, Some, IfSome, refl, subst, arith, inl, inr}
 use Rattle.std.specs.Int.{div_ceil}
 use Rattle.std.proofs.lemmas.Bool.{cases_lt}
 use Rattle.std.proofs.lemmas.Grind.{div_ceil_times}
-use Rattle.std.proofs.lemmas.List.Elements.{All-head, All-tail}
+use Rattle.std.proofs.lemmas.List.Elements.{All-get_or, All-head, All-map, All-tail}
+use Rattle.std.proofs.lemmas.Option.{get_or_from_slice_get, slice_get_within}
 use Rattle.std.proofs.lemmas.List.Sums.{sum_by-cons, sum_by-le}
 use Rattle.std.proofs.Math.Nat.{mul-le-mul_left, lt_of_mul-lt-mul_right}
-use Rattle.j39_timing.specs.Waits.{IsStream, share, need, HaveNoRoom}
+use Rattle.std.specs.List.{slice_get}
+use Rattle.std.specs.Option.{option_and_then}
+use Rattle.j39_timing.specs.Waits.{Demand, IsDemand, IsStream, IsWant, IsWanted, HaveNoRoom, as_demand, demand_of, frames_of_want, frames_wanted, lesser, lesser_share, need, share}
 use Rattle.j39_timing.specs.declared.stream.Stream.{Stream}
+use Rattle.j39_timing.specs.declared.wants.Want.{Want}
+use Rattle.j39_timing.specs.declared.wants.Wanted.{Wanted}
+use Rattle.j39_timing.proofs.Demands.{lesser-most}
 
 ceil-le : (a k : ℕ) → 0 < k → div_ceil a k ≤ a
 ceil-le a k some = elim (cases_lt a (div_ceil a k)) [
@@ -45,24 +51,94 @@ share-mono a b x le ok =
     let all : div_ceil (a + x.late) x.period * x.bits ≤ div_ceil (b + x.late) x.period * x.bits = omega arith in
     mul-le-mul_left x.frames all
 
-shares-mono : (a b : ℕ) (xs : List Stream) → a ≤ b → All IsStream xs → sum_by (share a) xs ≤ sum_by (share b) xs
-shares-mono a b [] le all = omega arith
-shares-mono a b (x ∷ xs) le all =
-    rw (sum_by-cons (share a) x xs, sum_by-cons (share b) x xs)
-    (let one : share a x ≤ share b x = share-mono a b x le (All-head IsStream x xs all) in
-    let rest : sum_by (share a) xs ≤ sum_by (share b) xs = shares-mono a b xs le (All-tail IsStream x xs all) in
+want-small : (span : ℕ) (x : Want) → span < 2 ^ 33 → IsWant x → frames_of_want span x ≤ 2 ^ 43
+want-small span x small ok =
+    let few : div_ceil (span + x.late) x.period ≤ span + x.late = ceil-le (span + x.late) x.period ok.0 in
+    let (_, frames, late) = ok in
+    let messages : div_ceil (span + x.late) x.period + 1 ≤ 2 ^ 34 = omega (arith, few, small, late) in
+    let most : x.frames * (div_ceil (span + x.late) x.period + 1) ≤ x.frames * 2 ^ 34 = mul-le-mul_left x.frames messages in
+    omega (arith, most, frames)
+
+pub wants-small : (span : ℕ) (xs : List Want) → span < 2 ^ 33 → All IsWant xs → length xs ≤ 2048 → sum_by (frames_of_want span) xs ≤ 2 ^ 54
+wants-small span xs small all few =
+    let most : sum_by (frames_of_want span) xs ≤ length xs * 2 ^ 43 =
+    sum_by-le (frames_of_want span) (2 ^ 43) xs (λ k d inside. want-small span _ small (all k d inside)) in
+    omega (arith, most, few)
+
+pub want-mono : (a b : ℕ) (x : Want) → a ≤ b → IsWant x → frames_of_want a x ≤ frames_of_want b x
+want-mono a b x le ok =
+    let more : div_ceil (a + x.late) x.period ≤ div_ceil (b + x.late) x.period = ceil-mono (a + x.late) (b + x.late) x.period ok.0 (omega arith) in
+    mul-le-mul_left x.frames (omega (arith, more))
+
+wants-mono : (a b : ℕ) (xs : List Want) → a ≤ b → All IsWant xs → sum_by (frames_of_want a) xs ≤ sum_by (frames_of_want b) xs
+wants-mono a b [] le all = omega arith
+wants-mono a b (x ∷ xs) le all =
+    rw (sum_by-cons (frames_of_want a) x xs, sum_by-cons (frames_of_want b) x xs)
+    (let one : frames_of_want a x ≤ frames_of_want b x = want-mono a b x le (All-head IsWant x xs all) in
+    let rest : sum_by (frames_of_want a) xs ≤ sum_by (frames_of_want b) xs = wants-mono a b xs le (All-tail IsWant x xs all) in
     omega arith)
 
-pub shares-small : (span : ℕ) (xs : List Stream) → span < 2 ^ 32 → All IsStream xs → length xs ≤ 2048 → sum_by (share span) xs ≤ 2 ^ 63
-shares-small span xs small all few =
-    let most : sum_by (share span) xs ≤ length xs * 2 ^ 51 = sum_by-le (share span) (2 ^ 51) xs (λ k d inside. share-small span _ small (all k d inside)) in
+-- of all of which less may be wanted it is known what
+abbrev pub AreDemands : List Demand → Type 0
+AreDemands demands = All IsDemand demands
+
+pub demands-sound : (all : List Wanted) → All IsWanted all → AreDemands (map as_demand all)
+demands-sound all known = All-map IsDemand as_demand all known
+
+lesser-mono : (a b : ℕ) (x : Stream) (wanted : Option Demand) → a ≤ b → IsStream x → IfSome wanted IsDemand → lesser a x wanted ≤ lesser b x wanted
+lesser-mono a b x None le ok sound = share-mono a b x le ok
+lesser-mono a b x (Some demand) le ok sound =
+    let paced : share a x ≤ share b x = share-mono a b x le ok in
+    let wanted : frames_wanted (a + x.late) demand ≤ frames_wanted (b + x.late) demand =
+    (let wants = wants-mono (a + x.late) (b + x.late) demand.wants (omega arith) sound.2 in omega (arith, wants)) in
+    let bits : x.bits * frames_wanted (a + x.late) demand ≤ x.bits * frames_wanted (b + x.late) demand = mul-le-mul_left x.bits wanted in
+    omega (arith, paced, bits)
+
+pub demand-sound : (demands : List Demand) (x : Stream) → AreDemands demands → IfSome (demand_of demands x) IsDemand
+demand-sound demands x all = go x.wanted
+  where
+    at : (place : ℕ) (found : Option Demand) → slice_get demands place ≡ found → IfSome (slice_get demands place) IsDemand
+    at place None is = rw (is) tt
+    at place (Some demand) is = rw (is) (subst IsDemand (get_or_from_slice_get demands place demand demand is)
+        (All-get_or IsDemand demands place demand (slice_get_within demands place demand is) all))
+
+    go : (place : Option ℕ) → IfSome (option_and_then (λ p. slice_get demands p) place) IsDemand
+    go None = tt
+    go (Some place) = at place (slice_get demands place) refl
+
+pub lesser_share-mono : (demands : List Demand) (a b : ℕ) (x : Stream) → AreDemands demands → a ≤ b → IsStream x
+    → lesser_share demands a x ≤ lesser_share demands b x
+lesser_share-mono demands a b x known le ok = lesser-mono a b x (demand_of demands x) le ok (demand-sound demands x known)
+
+pub lesser_share-small : (demands : List Demand) (span : ℕ) (x : Stream) → span < 2 ^ 32 → IsStream x → lesser_share demands span x ≤ 2 ^ 51
+lesser_share-small demands span x small ok =
+    let most : share span x ≤ 2 ^ 51 = share-small span x small ok in
+    let less = lesser-most span x (demand_of demands x) in
+    omega (arith, most, less)
+
+shares-mono : (demands : List Demand) (a b : ℕ) (xs : List Stream) → AreDemands demands → a ≤ b → All IsStream xs
+    → sum_by (lesser_share demands a) xs ≤ sum_by (lesser_share demands b) xs
+shares-mono demands a b [] known le all = omega arith
+shares-mono demands a b (x ∷ xs) known le all =
+    rw (sum_by-cons (lesser_share demands a) x xs, sum_by-cons (lesser_share demands b) x xs)
+    (let one : lesser_share demands a x ≤ lesser_share demands b x = lesser_share-mono demands a b x known le (All-head IsStream x xs all) in
+    let rest : sum_by (lesser_share demands a) xs ≤ sum_by (lesser_share demands b) xs = shares-mono demands a b xs known le (All-tail IsStream x xs all) in
+    omega (arith, one, rest))
+
+pub shares-small : (demands : List Demand) (span : ℕ) (xs : List Stream) → span < 2 ^ 32 → All IsStream xs → length xs ≤ 2048
+    → sum_by (lesser_share demands span) xs ≤ 2 ^ 63
+shares-small demands span xs small all few =
+    let most : sum_by (lesser_share demands span) xs ≤ length xs * 2 ^ 51 =
+    sum_by-le (lesser_share demands span) (2 ^ 51) xs (λ k d inside. lesser_share-small demands span _ small (all k d inside)) in
     omega arith
 
 -- where a wait has no room and all shorter ones have none, none up to what it needs has
-pub no_room : (blocking : ℕ) (xs : List Stream) (w n : ℕ) → All IsStream xs → HaveNoRoom blocking xs w → n ≤ need blocking xs w → HaveNoRoom blocking xs n
-no_room blocking xs w n all none within v less = elim (cases_lt v w) [
+pub no_room : (demands : List Demand) (blocking : ℕ) (xs : List Stream) (w n : ℕ) → AreDemands demands → All IsStream xs
+    → HaveNoRoom demands blocking xs w → n ≤ need demands blocking xs w → HaveNoRoom demands blocking xs n
+no_room demands blocking xs w n known all none within v less = elim (cases_lt v w) [
   | inl before ↦ none v before
   | inr from ↦
-      let more : sum_by (share (w + 1)) xs ≤ sum_by (share (v + 1)) xs = shares-mono (w + 1) (v + 1) xs (omega arith) all in
-      omega arith
+      let more : sum_by (lesser_share demands (w + 1)) xs ≤ sum_by (lesser_share demands (v + 1)) xs =
+      shares-mono demands (w + 1) (v + 1) xs known (omega arith) all in
+      omega (arith, more, within, less)
 ]

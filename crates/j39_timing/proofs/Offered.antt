@@ -8,7 +8,7 @@ use Rattle.j39_timing.specs.FrameStreams.{Origins}
 use Rattle.j39_timing.specs.Traffic.{Traffic, Others, IsPlannedTraffic, AreQueuedBehind, AreSteady, IsSingle, HasRoom, IsStreamInTime, delay_of}
 use Rattle.j39_timing.specs.Traffic.{may_go_before, others_queued, is_other_queued}
 use Rattle.j39_timing.specs.Messages.{AreSentWithin}
-use Rattle.j39_timing.specs.Waits.{share}
+use Rattle.j39_timing.specs.Waits.{lesser_share}
 use Rattle.j39_timing.specs.AnyOrder.{AreBegunWithin, Controllers, IsLegalInAnyOrder, IsFromOrdered, IsOrderedStream, HaveWaits, as_offered, is_passed_by, later_by, offered_from, offered_traffic}
 use Rattle.j39_timing.proofs.PlannedTraffic.{begun_in_time, behind_in_time, stream_in_time}
 use Rattle.j39_timing.proofs.Sums.{total-le}
@@ -207,6 +207,7 @@ module _ (s : Schedule) (controllers : Controllers) (legal : IsLegalInAnyOrder s
             };
         spaced = known.of_streams.spaced;
       };
+      as_wanted = known.as_wanted;
       from_least = known.from_least;
       to_greatest = known.to_greatest;
       own_identifier = λ p q t in_p in_q seen is shared at_p at_q same.
@@ -240,10 +241,10 @@ module _ (s : Schedule) (controllers : Controllers) (legal : IsLegalInAnyOrder s
 
     later_room : HasRoom later others longest i wait
     later_room =
-        let same : total traffic.count (λ j. cond (may_go_before traffic i j) (share (wait + 1) (later_by (more j) (traffic.stream j))) 0)
-        ≤ total traffic.count (λ j. cond (may_go_before traffic i j) (share (wait + 1) (later_by (waits j) (traffic.stream j))) 0) =
-        total-le traffic.count (λ j. cond (may_go_before traffic i j) (share (wait + 1) (later_by (more j) (traffic.stream j))) 0)
-        (λ j. cond (may_go_before traffic i j) (share (wait + 1) (later_by (waits j) (traffic.stream j))) 0) (λ j below.
+        let same : total traffic.count (λ j. cond (may_go_before traffic i j) (lesser_share traffic.demands (wait + 1) (later_by (more j) (traffic.stream j))) 0)
+        ≤ total traffic.count (λ j. cond (may_go_before traffic i j) (lesser_share traffic.demands (wait + 1) (later_by (waits j) (traffic.stream j))) 0) =
+        total-le traffic.count (λ j. cond (may_go_before traffic i j) (lesser_share traffic.demands (wait + 1) (later_by (more j) (traffic.stream j))) 0)
+        (λ j. cond (may_go_before traffic i j) (lesser_share traffic.demands (wait + 1) (later_by (waits j) (traffic.stream j))) 0) (λ j below.
         elim (cases_Bool (may_go_before traffic i j)) [
           | inl goes ↦ rw (goes) (omega arith)
           | inr stays ↦ rw (stays) (omega arith)

@@ -11,11 +11,19 @@ use Rattle.j39_timing.specs.FrameStreams.{Origins, AreOfStreams}
 use Rattle.j39_timing.specs.Traffic.{Traffic, Others, IsPlannedTraffic, IsSingle, HasRoom, IsStreamInTime, PlannedFramesWait, AreQueuedBehind, AreSteady, delay_of}
 use Rattle.j39_timing.specs.Traffic.{may_go_before, may_share, others_before, others_queued, is_other_queued}
 use Rattle.j39_timing.specs.Messages.{AreSentWithin}
-use Rattle.j39_timing.specs.Waits.{share}
+use Rattle.j39_timing.specs.Waits.{demand_of, lesser_share, share}
 use Rattle.j39_timing.proofs.FullWindows.{shares_of, some_wait, too_full, window_most}
 use Rattle.j39_timing.proofs.StreamSums.{at_most_one}
 use Rattle.j39_timing.proofs.Sums.{total-le, total-none, total-two}
+use Rattle.j39_timing.proofs.Demands.{lesser-most}
 use Rattle.j39_timing.proofs.WaitingWindow.{GoingWait, IsBusyFrom, busy_from, busy_with, is_other_going, is_planned_within, is_within, others_going, planned_demand}
+
+-- what counts of a stream, where it is the frame's own, or may go before
+counted : (own goes : Bool) (itself other longest : ℕ) → (own ≡ true → itself ≤ longest) → (own ≡ false → itself ≤ other)
+    → cond (own || goes) itself 0 ≤ cond goes other 0 + cond own longest 0
+counted true goes itself other longest small less = let le = small refl in omega (arith, le)
+counted false true itself other longest small less = let le = less refl in omega (arith, le)
+counted false false itself other longest small less = omega arith
 
 module _ (s : Schedule) (traffic : Traffic) (others : Others) (longest : ℕ) (planned : ℕ → Bool) (of : Origins) (legal : IsLegal s)
     (i wait : ℕ) (known : IsPlannedTraffic s traffic others longest planned of i)
@@ -34,7 +42,7 @@ module _ (s : Schedule) (traffic : Traffic) (others : Others) (longest : ℕ) (p
 
   -- what the streams that may go before can queue in a wait and the bit behind
   abbrev shares : ℕ
-  shares = shares_of traffic.count traffic.stream (may_go_before traffic i) wait
+  shares = shares_of traffic.count traffic.stream traffic.demands (may_go_before traffic i) wait
 
   -- a frame of another stream with a smaller identifier than one of this stream is of one that may go before
   goes_before : (c p : ℕ) → c ≤ traffic.greatest i → p < s.count → planned p ≡ true → eqb (of.source p) i ≡ false → s.ident p < c
@@ -88,6 +96,7 @@ module _ (s : Schedule) (traffic : Traffic) (others : Others) (longest : ℕ) (p
       period = (traffic.stream j).period;
       bits = cond (eqb j i) longest (traffic.stream j).bits;
       late = (traffic.stream j).late;
+      wanted = (traffic.stream j).wanted;
     }
 
     of_streams : AreOfStreams s (λ p. planned p ≡ true) traffic.count streams of
@@ -139,28 +148,34 @@ module _ (s : Schedule) (traffic : Traffic) (others : Others) (longest : ℕ) (p
                 absurd (omega (arith, more, few_slots, bits, some, fits))
           ]
 
-      shares_most : shares_of traffic.count streams may wait ≤ shares + longest
+      shares_most : shares_of traffic.count streams traffic.demands may wait ≤ shares + longest
       shares_most =
           let one = one_message in
           let itself : total traffic.count (λ j. cond (eqb j i) longest 0) ≤ longest =
           at_most_one traffic.count (λ j. eqb j i) (λ j. longest) longest (λ j below is. omega arith)
           (λ j k below_j below_k is_j is_k. let same_j = eqb-true j i is_j in let same_k = eqb-true k i is_k in omega (arith, same_j, same_k)) in
-          let two : shares_of traffic.count streams may wait ≤ shares + total traffic.count (λ j. cond (eqb j i) longest 0) =
-          total-two traffic.count (λ j. cond (may j) (share (wait + 1) (streams j)) 0)
-          (λ j. cond (may_go_before traffic i j) (share (wait + 1) (traffic.stream j)) 0) (λ j. cond (eqb j i) longest 0) (λ j below.
-          elim (cases_Bool (eqb j i)) [
-            | inl same ↦
-                let at : j ≡ i = eqb-true j i same in
-                let frames : (traffic.stream j).frames ≡ 1 = ap (λ k. (traffic.stream k).frames) at ∙ single in
-                let slots : div_ceil (wait + 1 + (traffic.stream j).late) (traffic.stream j).period ≤ 1 =
-                subst (λ k. div_ceil (wait + 1 + (traffic.stream k).late) (traffic.stream k).period ≤ 1) (sym at) one in
-                let bits : longest * div_ceil (wait + 1 + (traffic.stream j).late) (traffic.stream j).period ≤ longest * 1 = mul-le-mul_left longest slots in
-                rw (same, frames) (omega (arith, bits))
-            | inr other ↦ rw (other) (omega arith)
-          ]) in
+          let two : shares_of traffic.count streams traffic.demands may wait ≤ shares + total traffic.count (λ j. cond (eqb j i) longest 0) =
+          total-two traffic.count (λ j. cond (may j) (lesser_share traffic.demands (wait + 1) (streams j)) 0)
+          (λ j. cond (may_go_before traffic i j) (lesser_share traffic.demands (wait + 1) (traffic.stream j)) 0) (λ j. cond (eqb j i) longest 0) (λ j below.
+          counted (eqb j i) (may_go_before traffic i j) (lesser_share traffic.demands (wait + 1) (streams j))
+          (lesser_share traffic.demands (wait + 1) (traffic.stream j)) longest (λ same.
+          let at : j ≡ i = eqb-true j i same in
+          let frames : (traffic.stream j).frames ≡ 1 = ap (λ k. (traffic.stream k).frames) at ∙ single in
+          let slots : div_ceil (wait + 1 + (traffic.stream j).late) (traffic.stream j).period ≤ 1 =
+          subst (λ k. div_ceil (wait + 1 + (traffic.stream k).late) (traffic.stream k).period ≤ 1) (sym at) one in
+          let bits : longest * div_ceil (wait + 1 + (traffic.stream j).late) (traffic.stream j).period ≤ longest * 1 = mul-le-mul_left longest slots in
+          let most : share (wait + 1) (streams j) ≤ longest = rw (same, frames) (omega (arith, bits)) in
+          let less : lesser_share traffic.demands (wait + 1) (streams j) ≤ share (wait + 1) (streams j) =
+          lesser-most (wait + 1) (streams j) (demand_of traffic.demands (streams j)) in
+          omega (arith, most, less))
+          (λ other.
+          let alike : streams j ≡ traffic.stream j = rw (other) refl in
+          let equal : lesser_share traffic.demands (wait + 1) (streams j) ≡ lesser_share traffic.demands (wait + 1) (traffic.stream j) =
+          ap (lesser_share traffic.demands (wait + 1)) alike in
+          omega (arith, equal))) in
           omega (arith, itself, two)
 
-      roomy : longest * (1 + count) + shares_of traffic.count streams may wait ≤ wait + longest
+      roomy : longest * (1 + count) + shares_of traffic.count streams traffic.demands may wait ≤ wait + longest
       roomy = let most = shares_most in omega (arith, most, room)
 
       -- what goes with it: frames of smaller identifiers, and of its own one those of its stream and of twins
@@ -195,7 +210,7 @@ module _ (s : Schedule) (traffic : Traffic) (others : Others) (longest : ℕ) (p
       x_bits = let same = eq-eqb (of.source x) i source in rw (same) refl
 
       some : 1 ≤ wait
-      some = some_wait s traffic.count streams planned of of_streams positive may with_it goes wait longest count longest x in_x is_planned x_with x_bits
+      some = some_wait s traffic.count streams traffic.demands planned of of_streams known.as_wanted positive may with_it goes wait longest count longest x in_x is_planned x_with x_bits
           (omega arith) shortest short roomy
 
       -- what goes before it: of its own identifier only planned frames do
@@ -304,7 +319,7 @@ module _ (s : Schedule) (traffic : Traffic) (others : Others) (longest : ℕ) (p
         not_late =
             let (begin, is_busy) = busy_with s planned first longest wait legal.positive legal.queued_first legal.never_idle known.longest_at_most x in_x
             is_planned seen late closed in
-            too_full s traffic.count streams planned of of_streams positive may with_it goes wait longest count longest x in_x is_planned x_with x_bits
+            too_full s traffic.count streams traffic.demands planned of of_streams known.as_wanted positive may with_it goes wait longest count longest x in_x is_planned x_with x_bits
             (omega arith) shortest short roomy first itself first_with begin is_busy.before is_busy (fewer begin is_busy.waiting)
 
     pub begun_in_time : (p : ℕ) → p < s.count → planned p ≡ true → of.source p ≡ i → s.queued p + wait < s.now → s.start p ≤ s.queued p + wait
@@ -371,7 +386,7 @@ module _ (s : Schedule) (traffic : Traffic) (others : Others) (longest : ℕ) (p
 
       planned_most : planned_demand s planned (s.ident x) begin (wait + 1) ≤ shares
       planned_most =
-          window_most s traffic.count traffic.stream planned of known.of_streams positive (may_go_before traffic i) foreign goes_foreign wait
+          window_most s traffic.count traffic.stream traffic.demands planned of known.of_streams known.as_wanted positive (may_go_before traffic i) foreign goes_foreign wait
           (is_planned_within s planned (s.ident x) begin (wait + 1)) begin (λ p in_p is.
           let one = and_parts (planned p) (ltb (s.ident p) (s.ident x) && is_within s begin (wait + 1) p) is in
           let rest = and_parts (ltb (s.ident p) (s.ident x)) (is_within s begin (wait + 1) p) one.1 in

@@ -100,6 +100,7 @@ module _ (s : Schedule) (traffic : Traffic) (others : Others) (longest : ℕ) (p
           };
       spaced = known.of_streams.spaced;
     };
+    as_wanted = known.as_wanted;
     from_least = λ p in_p is.
         let (plain, early) = is_planned p is in
         let least = known.from_least p in_p plain in

@@ -1,6 +1,6 @@
 -- The premises of a company can be met: a frame of another unit has just begun, and of two that wait in a unit without
 -- order the one with the larger identifier goes first, so that the other one waits for both.
-use Rattle.std.proofs.Common.{◌≡◌, ℕ, ◌+◌, ◌*◌, ◌-◌, ◌<◌, ◌≤◌, Bool, true, eqb, ltb, refl, arith, inl, inr}
+use Rattle.std.proofs.Common.{◌≡◌, ℕ, ◌+◌, ◌*◌, ◌-◌, ◌<◌, ◌≤◌, Bool, true, eqb, ltb, refl, arith, inl, inr, None, []}
 use Rattle.std.proofs.lemmas.Bool.{cases_lt, eqb-true, lt-ltb, ltb-true, or_cases}
 use Rattle.j39_timing.specs.Sums.{total}
 use Rattle.j39_timing.specs.TimedFrames.{Schedule}
@@ -10,6 +10,7 @@ use Rattle.j39_timing.specs.AnyOrder.{Controllers, IsLegalInAnyOrder, IsUnordere
 use Rattle.j39_timing.specs.Companies.{Company, HasRoomInCompany, IsTrafficOfCompany}
 use Rattle.j39_timing.specs.Rounds.{all_planned}
 use Rattle.j39_timing.proofs.Sums.{total-none}
+use Rattle.j39_timing.proofs.Demands.{nothing_wanted}
 
 abbrev three : Schedule
 three = record { count = 3; queued = λ p. 0; start = λ p. p * 160; bits = λ p. 160; ident = λ p. 3 - p; now = 1000 }
@@ -21,7 +22,8 @@ two_units = record { unit = λ p. 1 - p; keeps_order = λ u. eqb u 1 }
 abbrev three_streams : Traffic
 three_streams = record {
   count = 3;
-  stream = λ j. record { frames = 1; period = 1000; bits = 160; late = 0 };
+  stream = λ j. record { frames = 1; period = 1000; bits = 160; late = 0; wanted = None };
+  demands = [];
   least = λ j. j + 1;
   greatest = λ j. j + 1;
   are_twins = no_twins;
@@ -74,6 +76,7 @@ three_of_company = record {
     };
     spaced = λ p q in_p in_q differ _ _ same _. absurd (differ (omega (arith, in_p, in_q, same)));
   };
+  as_wanted = nothing_wanted three all_planned last_first [] three_streams.stream (λ j. refl);
   from_least = λ p in_p _. omega (arith, in_p);
   to_level = λ p in_p _ has. let member : 2 - p < 2 = ltb-true (2 - p) 2 has in omega (arith, in_p, member);
   closed = λ p q in_p in_q _ _ unit _ with_it.

@@ -1,5 +1,5 @@
 -- The premises of planned traffic can be met: one unplanned frame has just begun, and the planned one waits for all of it.
-use Rattle.std.proofs.Common.{◌≡◌, ℕ, ◌+◌, ◌-◌, ◌<◌, Bool, true, not, ◌&&◌, cond, eqb, ltb, leb, refl, arith, inl, inr}
+use Rattle.std.proofs.Common.{◌≡◌, ℕ, ◌+◌, ◌-◌, ◌<◌, Bool, true, not, ◌&&◌, cond, eqb, ltb, leb, refl, arith, inl, inr, None, []}
 use Rattle.std.proofs.lemmas.Bool.{and_parts, both_ways, cases_Bool, cases_eq, eq-eqb, eqb-true, ltb-true}
 use Rattle.j39_timing.specs.Sums.{total}
 use Rattle.j39_timing.specs.TimedFrames.{Schedule, IsLegal}
@@ -7,11 +7,13 @@ use Rattle.j39_timing.specs.FrameStreams.{Origins}
 use Rattle.j39_timing.specs.Traffic.{Traffic, Others, IsPlannedTraffic, HasRoom, is_other_queued, no_twins, others_queued}
 use Rattle.j39_timing.proofs.Reached.{two, two_legal}
 use Rattle.j39_timing.proofs.Sums.{total-none}
+use Rattle.j39_timing.proofs.Demands.{nothing_wanted}
 
 abbrev one_stream : Traffic
 one_stream = record {
   count = 1;
-  stream = λ j. record { frames = 1; period = 1000; bits = 160; late = 0 };
+  stream = λ j. record { frames = 1; period = 1000; bits = 160; late = 0; wanted = None };
+  demands = [];
   least = λ j. 0;
   greatest = λ j. 0;
   are_twins = no_twins;
@@ -53,6 +55,7 @@ two_planned = record {
         let q_is : q ≡ 1 = eqb-true q 1 is_q in
         absurd (differ (omega (arith, p_is, q_is)));
   };
+  as_wanted = nothing_wanted two second at_once [] one_stream.stream (λ j. refl);
   from_least = λ p _ _. omega arith;
   to_greatest = λ p _ is _. let same : p ≡ 1 = eqb-true p 1 is in omega (arith, same);
   own_identifier = λ p q t _ in_q _ is _ _ _ alike.

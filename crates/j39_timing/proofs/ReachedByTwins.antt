@@ -1,12 +1,13 @@
 -- The premises of twins can be met: an unplanned frame has just begun, and of two planned ones of one identifier that wait the other one goes
 -- first.
-use Rattle.std.proofs.Common.{◌≡◌, ℕ, ◌+◌, ◌*◌, ◌-◌, ◌<◌, ◌≤◌, Bool, true, not, ◌&&◌, cond, eqb, ltb, leb, refl, arith, inl, inr}
+use Rattle.std.proofs.Common.{◌≡◌, ℕ, ◌+◌, ◌*◌, ◌-◌, ◌<◌, ◌≤◌, Bool, true, not, ◌&&◌, cond, eqb, ltb, leb, refl, arith, inl, inr, None, []}
 use Rattle.std.proofs.lemmas.Bool.{and_parts, both_ways, cases_Bool, cases_lt, lt-ltb, ltb-true, or_right}
 use Rattle.j39_timing.specs.Sums.{total}
 use Rattle.j39_timing.specs.TimedFrames.{Schedule, IsLegal}
 use Rattle.j39_timing.specs.FrameStreams.{Origins}
 use Rattle.j39_timing.specs.Traffic.{Traffic, Others, IsPlannedTraffic, HasRoom, is_other_queued, others_queued}
 use Rattle.j39_timing.proofs.Sums.{total-none}
+use Rattle.j39_timing.proofs.Demands.{nothing_wanted}
 
 abbrev three : Schedule
 three = record { count = 3; queued = λ p. 0; start = λ p. p * 160; bits = λ p. 160; ident = λ p. 1 - p; now = 1000 }
@@ -14,7 +15,8 @@ three = record { count = 3; queued = λ p. 0; start = λ p. p * 160; bits = λ p
 abbrev two_streams : Traffic
 two_streams = record {
   count = 2;
-  stream = λ j. record { frames = 1; period = 1000; bits = 160; late = 0 };
+  stream = λ j. record { frames = 1; period = 1000; bits = 160; late = 0; wanted = None };
+  demands = [];
   least = λ j. 0;
   greatest = λ j. 0;
   are_twins = λ i j. true;
@@ -77,6 +79,7 @@ three_planned = record {
         let some_q = ltb-true 0 q is_q in
         absurd (differ (omega (arith, in_p, in_q, some_p, some_q, same)));
   };
+  as_wanted = nothing_wanted three last_two last_first [] two_streams.stream (λ j. refl);
   from_least = λ p _ _. omega arith;
   to_greatest = λ p _ is _. let some = ltb-true 0 p is in omega (arith, some);
   own_identifier = λ p q t _ _ _ is _ _ _ alike.

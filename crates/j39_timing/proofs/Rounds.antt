@@ -1,10 +1,11 @@
 -- Units can send their long messages one after the other as the premises have it.
-use Rattle.std.proofs.Common.{◌≡◌, ℕ, ◌+◌, ◌*◌, ◌-◌, ◌/◌, ◌%◌, ◌<◌, ◌≤◌, Bool, true, false, cond, ltb, refl, sym, ap, ◌∙◌, subst, arith, inl, inr}
+use Rattle.std.proofs.Common.{◌≡◌, ℕ, ◌+◌, ◌*◌, ◌-◌, ◌/◌, ◌%◌, ◌<◌, ◌≤◌, Bool, true, false, cond, ltb, refl, sym, ap, ◌∙◌, subst, arith, inl, inr, []}
 use Rattle.std.proofs.Math.Nat.{div-add-mod, mod-lt, mul-le-mul_left}
 use Rattle.std.proofs.lemmas.Bool.{cases_eq, cases_lt, eqb-true, le-ltb, lt-ltb, true≢false}
 use Rattle.j39_timing.specs.TimedFrames.{IsLegal}
 use Rattle.j39_timing.specs.Traffic.{AreQueuedBehind, AreSteady, IsPlannedTraffic, may_share}
 use Rattle.j39_timing.specs.Rounds.{AreSenders, Senders, all_planned, in_rounds, begins_message, nothing_else, of_rounds, stream_of, traffic_of_rounds, turn_of, sender_of}
+use Rattle.j39_timing.proofs.Demands.{nothing_wanted}
 
 -- of two numbers with one rest the larger one has a larger quotient
 apart_by : (p q n : ℕ) → 0 < n → p % n ≡ q % n → p < q → p / n + 1 ≤ q / n
@@ -141,6 +142,7 @@ module _ (x : Senders) (is : AreSenders x) (count : ℕ) where
         | inr more ↦ inr (subst (λ j. q * x.step + gaps j * x.gap ≤ p * x.step) (sym same) (spaced q p (omega (arith, more, differ)) (sym same)))
       ];
     };
+    as_wanted = nothing_wanted (in_rounds x count) all_planned (of_rounds x) [] (traffic_of_rounds x).stream (λ j. refl);
     from_least = λ p _ _. omega arith;
     to_greatest = λ p _ _ same. subst (λ j. x.ident (stream_of x p) ≤ x.ident j) same (omega arith);
     own_identifier = λ p q t _ _ _ _ shared at_p at_q _.

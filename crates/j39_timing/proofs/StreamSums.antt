@@ -28,15 +28,15 @@ at_most_one (suc n) passes f most small one =
     ] refl
 
 -- the window of `span` bits from t on
-abbrev inside : ℕ → ℕ → ℕ → Bool
+abbrev pub inside : ℕ → ℕ → ℕ → Bool
 inside t span q = leb t q && ltb q (t + span)
 
-inside_parts : (t span q : ℕ) → inside t span q ≡ true → (t ≤ q) × (q < t + span)
+pub inside_parts : (t span q : ℕ) → inside t span q ≡ true → (t ≤ q) × (q < t + span)
 inside_parts t span q is =
     let parts = and_parts (leb t q) (ltb q (t + span)) is in
     (leb-true t q parts.0, ltb-true q (t + span) parts.1)
 
-inside_from : (t span q : ℕ) → t ≤ q → q < t + span → inside t span q ≡ true
+pub inside_from : (t span q : ℕ) → t ≤ q → q < t + span → inside t span q ≡ true
 inside_from t span q low high = and_from (leb t q) (ltb q (t + span)) (le-leb t q low) (lt-ltb q (t + span) high)
 
 -- places that pass and keep a distance: k windows of this length have k of them at most
@@ -103,13 +103,13 @@ module _ (n : ℕ) (passes : ℕ → Bool) (at bits : ℕ → ℕ) (period most 
       let rest : within (t + period) (span - period) ≤ k * most = windows k (t + period) (span - period) (omega arith) in
       omega arith
 
-  windows_sum : (k t span : ℕ) → span ≤ k * period → total n (λ i. cond (passes i && inside t span (at i)) (bits i) 0) ≤ k * most
+  pub windows_sum : (k t span : ℕ) → span ≤ k * period → total n (λ i. cond (passes i && inside t span (at i)) (bits i) 0) ≤ k * most
   unfolding within
   windows_sum k t span le = windows k t span le
 
 module _ (s : Schedule) (c count : ℕ) (stream : ℕ → Stream) (of : Origins) (known : AreOfStreams s (λ p. s.ident p < c) count stream of) where
   -- a frame that goes before, and of which stream
-  abbrev is_of : ℕ → ℕ → Bool
+  abbrev pub is_of : ℕ → ℕ → Bool
   is_of j p = ltb (s.ident p) c && eqb (of.source p) j
 
   -- and of which turn
@@ -213,7 +213,7 @@ module _ (s : Schedule) (c count : ℕ) (stream : ℕ → Stream) (of : Origins)
       omega arith
 
   -- one stream
-  of_stream : (j k t span : ℕ) → span + late j ≤ k * (stream j).period
+  pub of_stream : (j k t span : ℕ) → span + late j ≤ k * (stream j).period
       → total s.count (λ p. cond (is_of j p && inside t span (s.queued p)) (s.bits p) 0) ≤ (stream j).frames * (k * (stream j).bits)
   of_stream j k t span le =
       let turns = first_turns j k t span (stream j).frames le in
@@ -239,11 +239,15 @@ module _ (s : Schedule) (c count : ℕ) (stream : ℕ → Stream) (of : Origins)
   abbrev of_first : ℕ → ℕ → ℕ → ℕ → Bool
   of_first k t span p = ltb (s.ident p) c && (ltb (of.source p) k && inside t span (s.queued p))
 
-  module _ (t span : ℕ) (slots : ℕ → ℕ) where
-    first_streams : (k : ℕ) → ((j : ℕ) → j < k → span + late j ≤ slots j * (stream j).period)
-        → total s.count (λ p. cond (of_first k t span p) (s.bits p) 0) ≤ total k (λ j. (stream j).frames * (slots j * (stream j).bits))
+  -- what a stream queues in a window
+  abbrev pub queued_in : ℕ → ℕ → ℕ → ℕ
+  queued_in t span j = total s.count (λ p. cond (is_of j p && inside t span (s.queued p)) (s.bits p) 0)
+
+  module _ (t span : ℕ) (most : ℕ → ℕ) where
+    first_streams : (k : ℕ) → ((j : ℕ) → j < k → queued_in t span j ≤ most j)
+        → total s.count (λ p. cond (of_first k t span p) (s.bits p) 0) ≤ total k most
     unfolding total
-    first_streams zero cover =
+    first_streams zero each =
         let none : total s.count (λ p. cond (of_first 0 t span p) (s.bits p) 0) ≡ 0 = total-none s.count (λ p. cond (of_first 0 t span p) (s.bits p) 0) (λ p in_p.
         elim (cases_Bool (of_first 0 t span p)) [
           | inl is ↦
@@ -253,11 +257,10 @@ module _ (s : Schedule) (c count : ℕ) (stream : ℕ → Stream) (of : Origins)
           | inr fails ↦ rw (fails) refl
         ]) in
         omega arith
-    first_streams (suc k) cover =
-        let earlier : total s.count (λ p. cond (of_first k t span p) (s.bits p) 0) ≤ total k (λ j. (stream j).frames * (slots j * (stream j).bits)) =
-        first_streams k (λ j below. cover j (omega arith)) in
-        let this : total s.count (λ p. cond (is_of k p && inside t span (s.queued p)) (s.bits p) 0) ≤ (stream k).frames * (slots k * (stream k).bits) =
-        of_stream k (slots k) t span (cover k (omega arith)) in
+    first_streams (suc k) each =
+        let earlier : total s.count (λ p. cond (of_first k t span p) (s.bits p) 0) ≤ total k most =
+        first_streams k (λ j below. each j (omega arith)) in
+        let this : total s.count (λ p. cond (is_of k p && inside t span (s.queued p)) (s.bits p) 0) ≤ most k = each k (omega arith) in
         let parts : total s.count (λ p. cond (of_first (suc k) t span p) (s.bits p) 0)
         ≤ total s.count (λ p. cond (of_first k t span p) (s.bits p) 0) + total s.count (λ p. cond (is_of k p && inside t span (s.queued p)) (s.bits p) 0) =
         total-two s.count (λ p. cond (of_first (suc k) t span p) (s.bits p) 0) (λ p. cond (of_first k t span p) (s.bits p) 0)
@@ -283,9 +286,9 @@ module _ (s : Schedule) (c count : ℕ) (stream : ℕ → Stream) (of : Origins)
         omega arith
 
     -- all that goes before
-    pub all_streams : ((j : ℕ) → j < count → span + late j ≤ slots j * (stream j).period) → demand s c t span ≤ total count (λ j. (stream j).frames * (slots j * (stream j).bits))
-    all_streams cover =
-        let most = first_streams count cover in
+    pub all_streams : ((j : ℕ) → j < count → queued_in t span j ≤ most j) → demand s c t span ≤ total count most
+    all_streams each =
+        let all = first_streams count each in
         let less : demand s c t span ≤ total s.count (λ p. cond (of_first count t span p) (s.bits p) 0) =
         total-le s.count (λ p. cond (ltb (s.ident p) c && inside t span (s.queued p)) (s.bits p) 0) (λ p. cond (of_first count t span p) (s.bits p) 0) (λ p in_p.
         elim (cases_Bool (ltb (s.ident p) c && inside t span (s.queued p))) [

@@ -1,6 +1,6 @@
 -- Sums over the places below a number.
-use Rattle.std.proofs.Common.{◌≡◌, ℕ, zero, suc, ◌+◌, ◌<◌, ◌≤◌, refl, subst, arith, inl, inr}
-use Rattle.std.proofs.lemmas.Bool.{cases_eq}
+use Rattle.std.proofs.Common.{◌≡◌, ℕ, zero, suc, ◌+◌, ◌*◌, ◌<◌, ◌≤◌, Bool, true, false, cond, refl, subst, arith, inl, inr}
+use Rattle.std.proofs.lemmas.Bool.{cases_Bool, cases_eq}
 use Rattle.j39_timing.specs.Sums.{total}
 
 pub total-le : (n : ℕ) (f g : ℕ → ℕ) → ((i : ℕ) → i < n → f i ≤ g i) → total n f ≤ total n g
@@ -44,3 +44,22 @@ total-two (suc n) f g h le =
     let before : total n f ≤ total n g + total n h = total-two n f g h (λ i inside. le i (omega arith)) in
     let last : f n ≤ g n + h n = le n (omega arith) in
     omega arith
+
+-- what passes counts, and is so much at most
+pub total-times : (n : ℕ) (passes counts : ℕ → Bool) (f : ℕ → ℕ) (most : ℕ) → ((i : ℕ) → i < n → passes i ≡ true → (counts i ≡ true) × (f i ≤ most))
+    → total n (λ i. cond (passes i) (f i) 0) ≤ most * total n (λ i. cond (counts i) 1 0)
+unfolding total
+total-times zero passes counts f most each = omega arith
+total-times (suc n) passes counts f most each =
+    let before : total n (λ i. cond (passes i) (f i) 0) ≤ most * total n (λ i. cond (counts i) 1 0) =
+    total-times n passes counts f most (λ i inside. each i (omega arith)) in
+    elim (cases_Bool (passes n)) [
+      | inr fails ↦ rw (fails) (elim (counts n)
+          as (λ e. total n (λ i. cond (passes i) (f i) 0) + 0 ≤ most * (total n (λ i. cond (counts i) 1 0) + cond e 1 0)) [
+            | true ↦ omega (arith, before)
+            | false ↦ omega (arith, before)
+          ])
+      | inl is ↦
+          let (counted, few) = each n (omega arith) is in
+          rw (is, counted) (omega (arith, before, few))
+    ]

@@ -76,13 +76,14 @@ HaveWaits s controllers traffic planned of i waits = (p : ℕ) → p < s.count �
 
 -- a stream whose frames may be queued so many bits later
 abbrev pub later_by : ℕ → Stream → Stream
-later_by more stream = record { frames = stream.frames; period = stream.period; bits = stream.bits; late = stream.late + more }
+later_by more stream = record { frames = stream.frames; period = stream.period; bits = stream.bits; late = stream.late + more; wanted = stream.wanted }
 
 -- the streams where frames that wait in units without order count from the bit from which they are offered for good
 abbrev pub offered_traffic : Traffic → (ℕ → ℕ) → Traffic
 offered_traffic traffic waits = record {
   count = traffic.count;
   stream = λ j. later_by (waits j) (traffic.stream j);
+  demands = traffic.demands;
   least = traffic.least;
   greatest = traffic.greatest;
   are_twins = traffic.are_twins;

@@ -3,8 +3,8 @@ use Rattle.std.specs.Prelude.{◌≡◌, ℕ, ◌+◌, ◌*◌, ◌<◌, ◌≤�
 use Rattle.j39_timing.specs.Sums.{total}
 use Rattle.j39_timing.specs.TimedFrames.{Schedule, Waits}
 use Rattle.j39_timing.specs.FrameStreams.{Origins, AreOfStreams}
-use Rattle.j39_timing.specs.Traffic.{Traffic, IsQueuedAt}
-use Rattle.j39_timing.specs.Waits.{share}
+use Rattle.j39_timing.specs.Traffic.{Traffic, AreAsWanted, IsQueuedAt}
+use Rattle.j39_timing.specs.Waits.{lesser_share}
 use Rattle.j39_timing.specs.AnyOrder.{Controllers, IsUnordered}
 
 -- all streams of some units that keep no order
@@ -39,6 +39,8 @@ pub record IsTrafficOfCompany (s : Schedule) (controllers : Controllers) (traffi
   pub longest_at_most : (p : ℕ) → p < s.count → s.bits p ≤ longest
   -- a planned frame is one of a stream
   pub of_streams : AreOfStreams s (λ p. planned p ≡ true) traffic.count traffic.stream of
+  -- of which a unit queues no more than it wants
+  pub as_wanted : AreAsWanted s planned of traffic.demands traffic.stream
   -- no frame of a stream has an identifier below its least one, and none of the company one above the level
   pub from_least : (p : ℕ) → p < s.count → planned p ≡ true → traffic.least (of.source p) ≤ s.ident p
   pub to_level : (p : ℕ) → p < s.count → planned p ≡ true → company.has (of.source p) ≡ true → s.ident p ≤ company.level
@@ -64,5 +66,5 @@ may_go_with traffic company j = company.has j || nat_lt (traffic.least j) compan
 -- can queue in it and in the bit behind, but for the frame itself
 abbrev pub HasRoomInCompany : Traffic → Company → ℕ → ℕ → ℕ → ℕ → Type 0
 HasRoomInCompany traffic company unplanned longest i wait =
-    longest * (1 + unplanned) + total traffic.count (λ j. cond (may_go_with traffic company j) (share (wait + 1) (traffic.stream j)) 0)
+    longest * (1 + unplanned) + total traffic.count (λ j. cond (may_go_with traffic company j) (lesser_share traffic.demands (wait + 1) (traffic.stream j)) 0)
     ≤ wait + (traffic.stream i).bits

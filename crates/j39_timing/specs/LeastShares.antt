@@ -1,24 +1,26 @@
--- What streams queue at least in a longer wait: some by their parts of the bus, the others what they queue in a shorter one.
-use Rattle.std.specs.Prelude.{ℕ, ◌*◌, ◌/◌, ◌^◌, ◌<◌, ◌≤◌, nat_le, if◌then◌else◌, Bool, List}
-use Rattle.j39_timing.specs.Waits.{need, share}
+-- What is queued at least in each time from one on: so many bits, and beside these a part of the time.
+use Rattle.std.specs.Prelude.{ℕ, ◌+◌, ◌*◌, ◌/◌, ◌^◌, ◌<◌, ◌≤◌, List}
+use Rattle.j39_timing.specs.Waits.{Demand, need}
+use Rattle.j39_timing.specs.declared.lines.Line.{Line}
+use Rattle.j39_timing.specs.declared.lines.Stretch.{Stretch}
 use Rattle.j39_timing.specs.declared.stream.Stream.{Stream}
 
 -- the stream's part of the bus, of 2 ^ 32
 abbrev pub part_of : Stream → ℕ
 part_of stream = stream.frames * stream.bits * 2 ^ 32 / stream.period
 
--- its messages come at least as often as each so many bits
-abbrev pub is_dense : ℕ → Stream → Bool
-is_dense step stream = nat_le stream.period step
+-- 2 ^ 32 times the bits that a line has in a time
+abbrev pub line_at : ℕ → Line → ℕ
+line_at x line = 2 ^ 32 * line.known + line.part * x
 
--- the part of the bus of a stream that is dense
-abbrev pub dense_part : ℕ → Stream → ℕ
-dense_part step stream = if is_dense step stream then part_of stream else 0
+-- in each time from one on no fewer bits are queued than a line has
+abbrev pub IsLineBelow : Line → ℕ → (ℕ → ℕ) → Type 0
+IsLineBelow line span bits = (x : ℕ) → span ≤ x → line_at x line ≤ 2 ^ 32 * bits x
 
--- what one that isn't queues in so many bits
-abbrev pub sparse_share : ℕ → ℕ → Stream → ℕ
-sparse_share step span stream = if is_dense step stream then 0 else share span stream
+-- the same up to where it ends
+abbrev pub IsStretchBelow : Stretch → ℕ → (ℕ → ℕ) → Type 0
+IsStretchBelow stretch span bits = (x : ℕ) → span ≤ x → x ≤ stretch.until → line_at x stretch.line ≤ 2 ^ 32 * bits x
 
 -- from a wait on, up to another one, none has room
-abbrev pub HaveNoRoomFrom : ℕ → List Stream → ℕ → ℕ → Type 0
-HaveNoRoomFrom blocking streams from to = (v : ℕ) → from ≤ v → v < to → v < need blocking streams v
+abbrev pub HaveNoRoomFrom : List Demand → ℕ → List Stream → ℕ → ℕ → Type 0
+HaveNoRoomFrom demands blocking streams from to = (v : ℕ) → from ≤ v → v < to → v < need demands blocking streams v

@@ -14,3 +14,4 @@ pub mod Prefixes
 pub mod Vehicles
 pub mod Messages
 pub mod Rounds
+pub mod WantedMessages

@@ -4,7 +4,7 @@ use Rattle.j39_timing.specs.TimedFrames.{Schedule, Waits}
 use Rattle.j39_timing.specs.FrameStreams.{Origins, AreOfStreams}
 use Rattle.j39_timing.specs.AnyOrder.{Controllers, IsUnordered}
 use Rattle.j39_timing.specs.Companies.{Company, CompanyWaits, is_with_company, unplanned_queued}
-use Rattle.j39_timing.specs.Traffic.{Traffic, Others, IsQueuedAt, PlannedFramesWait, may_go_before, may_share, others_queued}
+use Rattle.j39_timing.specs.Traffic.{Traffic, Others, AreAsWanted, IsQueuedAt, PlannedFramesWait, may_go_before, may_share, others_queued}
 
 -- what is seen up to a bit: frames that are queued later count as others, with this identifier
 abbrev pub seen_until : Schedule → ℕ → ℕ → Schedule
@@ -24,6 +24,7 @@ planned_until s planned by p = planned p && nat_lt (s.queued p) by
 pub record IsPlannedUntil (s : Schedule) (traffic : Traffic) (others : Others) (longest : ℕ) (planned : ℕ → Bool) (of : Origins) (i by : ℕ) : Type 0 where
   pub longest_at_most : (p : ℕ) → p < s.count → s.bits p ≤ longest
   pub of_streams : AreOfStreams s (λ p. planned_until s planned by p ≡ true) traffic.count traffic.stream of
+  pub as_wanted : AreAsWanted s (planned_until s planned by) of traffic.demands traffic.stream
   pub from_least : (p : ℕ) → p < s.count → planned p ≡ true → traffic.least (of.source p) ≤ s.ident p
   pub to_greatest : (p : ℕ) → p < s.count → planned p ≡ true → of.source p ≡ i → s.ident p ≤ traffic.greatest i
   pub own_identifier : (p q t : ℕ) → p < s.count → q < s.count → t < s.now → planned p ≡ true → may_share traffic i (of.source p) ≡ true
@@ -41,6 +42,7 @@ pub record IsCompanyUntil (s : Schedule) (controllers : Controllers) (traffic : 
     (company : Company) (by : ℕ) : Type 0 where
   pub longest_at_most : (p : ℕ) → p < s.count → s.bits p ≤ longest
   pub of_streams : AreOfStreams s (λ p. planned_until s planned by p ≡ true) traffic.count traffic.stream of
+  pub as_wanted : AreAsWanted s (planned_until s planned by) of traffic.demands traffic.stream
   pub from_least : (p : ℕ) → p < s.count → planned p ≡ true → traffic.least (of.source p) ≤ s.ident p
   pub to_level : (p : ℕ) → p < s.count → planned p ≡ true → company.has (of.source p) ≡ true → s.ident p ≤ company.level
   pub closed : (p q : ℕ) → p < s.count → q < s.count → planned p ≡ true → planned q ≡ true → controllers.unit q ≡ controllers.unit p

@@ -1,6 +1,6 @@
 -- A bus on which units send long messages to all without a pause: in each round each of them sends the next frame of its messages, which
 -- stand one after the other, each an announcement and so many packets.
-use Rattle.std.specs.Prelude.{ℕ, ◌+◌, ◌*◌, ◌-◌, ◌/◌, ◌%◌, ◌<◌, ◌≤◌, Bool, true, cond, nat_eq, nat_lt}
+use Rattle.std.specs.Prelude.{ℕ, ◌+◌, ◌*◌, ◌-◌, ◌/◌, ◌%◌, ◌<◌, ◌≤◌, Bool, true, cond, nat_eq, nat_lt, [], None}
 use Rattle.j39_timing.specs.declared.stream.Stream.{Stream}
 use Rattle.j39_timing.specs.TimedFrames.{Schedule}
 use Rattle.j39_timing.specs.FrameStreams.{Origins}
@@ -57,13 +57,14 @@ of_rounds x = record { source = stream_of x; turn = λ p. 0; since = λ p. p * x
 
 -- single frames so many gaps apart
 abbrev pub gap_stream : Senders → ℕ → Stream
-gap_stream x gaps = record { frames = 1; period = gaps * x.gap; bits = x.bits; late = 0 }
+gap_stream x gaps = record { frames = 1; period = gaps * x.gap; bits = x.bits; late = 0; wanted = None }
 
 -- the streams: packets are a gap apart, and two announcements at least as many as the message between has packets
 abbrev pub traffic_of_rounds : Senders → Traffic
 traffic_of_rounds x = record {
   count = x.units + x.units;
   stream = λ j. gap_stream x (cond (nat_lt j x.units) 1 (x.packets (j - x.units)));
+  demands = [];
   least = x.ident;
   greatest = x.ident;
   are_twins = no_twins;

@@ -1,21 +1,33 @@
 -- Planned frames among all that are on a bus: of which streams they are, between which identifiers, and what else there is.
 use Rattle.j39_timing.specs.declared.stream.Stream.{Stream}
-use Rattle.std.specs.Prelude.{◌≡◌, ◌≢◌, ℕ, ◌+◌, ◌*◌, ◌<◌, ◌≤◌, ◌⊎◌, Bool, true, false, not, ◌&&◌, ◌||◌, cond, nat_eq, nat_lt, nat_le}
+use Rattle.std.specs.Prelude.{◌≡◌, ◌≢◌, ℕ, ◌+◌, ◌*◌, ◌<◌, ◌≤◌, ◌⊎◌, Bool, true, false, not, ◌&&◌, ◌||◌, cond, nat_eq, nat_lt, nat_le, List, Some}
 use Rattle.j39_timing.specs.Sums.{total}
 use Rattle.j39_timing.specs.TimedFrames.{Schedule, Waits}
 use Rattle.j39_timing.specs.FrameStreams.{Origins, AreOfStreams}
-use Rattle.j39_timing.specs.Waits.{share}
+use Rattle.j39_timing.specs.Waits.{Demand, demand_of, frames_wanted, lesser_share}
 
 -- streams of planned frames, by their places, with their identifiers, which may change
 pub record Traffic : Type 0 where
   pub count : ℕ
   pub stream : ℕ → Stream
+  -- what is wanted of some of them, which name it by its place
+  pub demands : List Demand
   -- no frame of the stream has a smaller identifier
   pub least : ℕ → ℕ
   -- and where it is one of single frames, none has a greater one
   pub greatest : ℕ → ℕ
   -- a frame of one stream may have the identifier of a frame of another one: they are twins, of one unit
   pub are_twins : ℕ → ℕ → Bool
+
+-- how many planned frames of stream j have their moments in so many bits from bit t on
+abbrev pub moments_in : Schedule → (ℕ → Bool) → Origins → ℕ → ℕ → ℕ → ℕ
+moments_in s planned of j t span =
+    total s.count (λ p. cond (planned p && (nat_eq (of.source p) j && (nat_le t (of.since p) && nat_lt (of.since p) (t + span)))) 1 0)
+
+-- of a stream of which less may be wanted than its pace allows, there are no more in any time than are wanted
+abbrev pub AreAsWanted : Schedule → (ℕ → Bool) → Origins → List Demand → (ℕ → Stream) → Type 0
+AreAsWanted s planned of demands stream = (j t span : ℕ) (demand : Demand) → demand_of demands (stream j) ≡ Some demand
+    → moments_in s planned of j t span ≤ frames_wanted span demand
 
 -- no stream is a twin of another
 abbrev pub no_twins : ℕ → ℕ → Bool
@@ -62,6 +74,8 @@ pub record IsPlannedTraffic (s : Schedule) (traffic : Traffic) (others : Others)
   pub longest_at_most : (p : ℕ) → p < s.count → s.bits p ≤ longest
   -- a planned frame is one of a stream
   pub of_streams : AreOfStreams s (λ p. planned p ≡ true) traffic.count traffic.stream of
+  -- of which a unit queues no more than it wants
+  pub as_wanted : AreAsWanted s planned of traffic.demands traffic.stream
   -- its identifier is one of the stream's: none is below the least, and of stream i none above the greatest
   pub from_least : (p : ℕ) → p < s.count → planned p ≡ true → traffic.least (of.source p) ≤ s.ident p
   pub to_greatest : (p : ℕ) → p < s.count → planned p ≡ true → of.source p ≡ i → s.ident p ≤ traffic.greatest i
@@ -88,7 +102,7 @@ others_before others ident = cond (nat_le others.least ident) others.count 0
 abbrev pub HasRoom : Traffic → Others → ℕ → ℕ → ℕ → Type 0
 HasRoom traffic others longest i wait =
     longest * (1 + others_before others (traffic.greatest i))
-    + total traffic.count (λ j. cond (may_go_before traffic i j) (share (wait + 1) (traffic.stream j)) 0) ≤ wait
+    + total traffic.count (λ j. cond (may_go_before traffic i j) (lesser_share traffic.demands (wait + 1) (traffic.stream j)) 0) ≤ wait
 
 -- how many bits after its moment a frame of the stream has been sent at most, where it waits for so many
 abbrev pub delay_of : Stream → ℕ → ℕ

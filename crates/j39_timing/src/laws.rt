@@ -10,9 +10,11 @@ ghost use Rattle.j39_timing.specs.Prefixes.{IsPlannedUntil, AreBegunUntil, HaveW
 ghost use Rattle.j39_timing.specs.Gateways.{Carrier, IsIts, time_of, Comes, IsYoung, HasOwnMoments, IsOldAtMost, KeepTo, HandsOn, SendsNewest, IsHandedOn, AreApart, EndWithin, KeepsToStream, Coming, ComesSo, Hop, AreHops, age_of, coming_at_last, last_of};
 ghost use Rattle.j39_timing.specs.AnyOrder.{AreBegunWithin, Controllers, HaveWaits, IsLegalInAnyOrder, IsFromOrdered, IsOrderedStream, IsUnordered, as_offered, offered_traffic};
 ghost use Rattle.j39_timing.specs.Companies.{Company, HasRoomInCompany, IsTrafficOfCompany};
+ghost use Rattle.j39_timing.specs.WantedMessages.{AreAnnouncements, AreFramesOfMessages, AreWantedInTurn, HasLongest, HavePeriods, UnitMessages};
+ghost use Rattle.j39_timing.specs.Waits.{Demand, frames_wanted};
 ghost use Rattle.j39_timing.specs.declared.stream.Stream.{Stream as TheStream};
 ghost use Rattle.j39_timing.specs.Rounds.{AreSenders, Senders, all_planned, in_rounds, nothing_else, of_rounds, traffic_of_rounds};
-ghost use Rattle.j39_timing.specs.Traffic.{Traffic, Others, IsPlannedTraffic, IsSingle, HasRoom, IsStreamInTime, AreQueuedBehind, AreSteady, delay_of};
+ghost use Rattle.j39_timing.specs.Traffic.{Traffic, Others, IsPlannedTraffic, IsSingle, HasRoom, IsStreamInTime, AreQueuedBehind, AreSteady, delay_of, moments_in};
 
 /// Of planned frames among all that are on a bus, whose identifiers may change from one to the next: in every legal schedule of such
 /// traffic, where a wait has room for the frame that has begun, for others, and for all streams of which a frame may go before,
@@ -83,6 +85,25 @@ pub fn messages_in_turn_are_whole_in_time()
         → (messages : List LongMessage) (by : ℕ) → AreSentInTurn s gap by messages → All (IsBroadcast s planned of a p) messages
         → by + time_of_messages (wait + announcements.bits) gap (more + packets.bits) messages < s.now
         → all_whole_at s by messages ≤ by + time_of_messages (wait + announcements.bits) gap (more + packets.bits) messages }
+{}
+
+/// A unit that sends one message at a time, behind which one of each flow waits at most, queues no more than is wanted: of its packets those
+/// of the message that is under way as a time begins, of one of each flow, and of those whose moments lie in this time, or as much before it as
+/// they may be wanted later (`packets`); and of its announcements as many as these (`announcements`).
+pub fn messages_ask_for_no_more()
+    ensures packets { (s : Schedule) (planned : ℕ → Bool) (of : Origins) (j : ℕ) (demand : Demand) (messages : UnitMessages) → HavePeriods demand
+        → AreWantedInTurn demand messages → AreFramesOfMessages s planned of j demand messages → HasLongest demand
+        → (t span : ℕ) → moments_in s planned of j t span ≤ frames_wanted span demand }
+    ensures announcements { (s : Schedule) (planned : ℕ → Bool) (of : Origins) (j : ℕ) (demand : Demand) (messages : UnitMessages) → HavePeriods demand
+        → AreWantedInTurn demand messages → AreFramesOfMessages s planned of j demand messages → AreAnnouncements s planned of j messages
+        → (t span : ℕ) → moments_in s planned of j t span ≤ frames_wanted span demand }
+{}
+
+/// So much can be asked for: a flow of two packets whose messages are wanted as soon as they may be has in some time as many of them as is told.
+pub fn what_is_wanted_is_reached()
+    ensures { (s : Schedule) × (planned : ℕ → Bool) × (of : Origins) × (demand : Demand) × (messages : UnitMessages) × HavePeriods demand
+        × AreWantedInTurn demand messages × AreFramesOfMessages s planned of 0 demand messages × HasLongest demand
+        × (moments_in s planned of 0 72 51 ≡ frames_wanted 51 demand) }
 {}
 
 /// The premises can be met, and there is a bus on which the bound is reached: a legal schedule of planned traffic in which a frame waits

@@ -9,4 +9,6 @@ pub struct Stream {
     pub period: u32,
     pub bits: u16,
     pub late: u32,
+    /// Where its unit may want less than that of it: what it wants, by its place among all such.
+    pub wanted: Option<usize>,
 }

@@ -1,11 +1,13 @@
 //! The least wait of a frame.
-ghost use Rattle.std.specs.Prelude.{◌≡◌, ℕ, ◌+◌, ◌<◌, ◌≤◌, ◌^◌, length, All, sum_by, IfSome, None};
-ghost use Rattle.j39_timing.specs.LeastShares.{HaveNoRoomFrom, dense_part, is_dense, part_of, sparse_share};
-ghost use Rattle.j39_timing.specs.Waits.{IsStream, share, need, HaveNoRoom};
+ghost use Rattle.std.specs.Prelude.{◌≡◌, ℕ, ◌+◌, ◌*◌, ◌<◌, ◌≤◌, ◌^◌, length, map, All, sum_by, IfSome, None};
+ghost use Rattle.j39_timing.specs.LeastShares.{HaveNoRoomFrom};
+ghost use Rattle.j39_timing.specs.Waits.{IsStream, IsWanted, as_demand, demand_of, frames_wanted, lesser_share, share, need, HaveNoRoom};
 
+use crate::lines::stretch_of_all;
 use crate::stream::Stream;
+use crate::wants::Wanted;
 
-/// The bits that a stream can queue in `span` bits.
+/// The bits that a stream can queue in `span` bits at its pace.
 fn queued_bits(stream: Stream, span: u32) -> u64
     requires positive { IsStream stream }
     ensures share { result ≡ share span stream }
@@ -15,125 +17,88 @@ fn queued_bits(stream: Stream, span: u32) -> u64
     u64::from(stream.frames) * bits
 }
 
+// The bits that are wanted of it in `span` bits, where less may be.
+fn wanted_bits(wanted: &Wanted, stream: Stream, span: u32) -> u64
+    requires positive { IsStream stream }
+    requires sound { IsWanted wanted.now }
+    requires span { span < 2 ^ 32 }
+    ensures { result ≡ frames_wanted (span + stream.late) (as_demand wanted.now) * stream.bits }
+{
+    wanted.frames(u64::from(span) + u64::from(stream.late)) * u64::from(stream.bits)
+}
+
+/// The bits that a stream can queue in `span` bits.
+pub(crate) fn lesser_share(all: &[Wanted], stream: Stream, span: u32) -> u64
+    requires positive { IsStream stream }
+    requires sound { All IsWanted all.now }
+    ensures { result ≡ lesser_share (map as_demand all.now) span stream }
+{
+    let paced = queued_bits(stream, span);
+    let Some(place) = stream.wanted else {
+        return paced;
+    };
+    match all.get(place) {
+        Some(wanted) => wanted_bits(wanted, stream, span).min(paced),
+        None => paced,
+    }
+}
+
 /// The bits that the streams can queue in `span` bits.
-fn demand(streams: &[Stream], span: u32) -> u64
+fn demand(all: &[Wanted], streams: &[Stream], span: u32) -> u64
     requires positive { All IsStream streams.now }
     requires few { length streams.now ≤ 2048 }
-    ensures sum { result ≡ sum_by (share span) streams.now }
+    requires sound { All IsWanted all.now }
+    ensures sum { result ≡ sum_by (lesser_share (map as_demand all.now) span) streams.now }
     ensures small { result ≤ 2 ^ 63 }
 {
     let mut sum: u64 = 0;
     for stream in streams {
-        sum += queued_bits(*stream, span);
+        sum += lesser_share(all, *stream, span);
     }
     sum
 }
 
-// The stream's part of the bus, of 2 ^ 32.
-fn part_of(stream: Stream) -> u64
-    requires positive { IsStream stream }
-    ensures part { result ≡ part_of stream }
-    ensures small { result ≤ 2 ^ 50 }
-{
-    let bits = u64::from(stream.frames) * u64::from(stream.bits);
-    bits * 4_294_967_296 / u64::from(stream.period)
-}
-
-// Its messages come at least as often as each so many bits.
-fn is_dense(stream: Stream, step: u64) -> bool
-    ensures { result ≡ is_dense step stream }
-{
-    u64::from(stream.period) <= step
-}
-
-// The part of the bus of a stream that is dense.
-fn dense_part(stream: Stream, step: u64) -> u64
-    requires positive { IsStream stream }
-    ensures { result ≡ dense_part step stream }
-{
-    if is_dense(stream, step) {
-        part_of(stream)
-    } else {
-        0
-    }
-}
-
-// What one that isn't can queue in `span` bits.
-fn sparse_share(stream: Stream, step: u64, span: u32) -> u64
-    requires positive { IsStream stream }
-    ensures { result ≡ sparse_share step span stream }
-{
-    if is_dense(stream, step) {
-        0
-    } else {
-        queued_bits(stream, span)
-    }
-}
-
-// The parts of the bus of the streams that are dense.
-fn dense_parts(streams: &[Stream], step: u64) -> u64
+// From a wait on no shorter one has room than the one from which the loads allow it.
+fn first_allowed(all: &[Wanted], blocking: u32, streams: &[Stream], wait: u32, step: u64) -> u128
     requires positive { All IsStream streams.now }
     requires few { length streams.now ≤ 2048 }
-    ensures { result ≡ sum_by (dense_part step) streams.now }
-{
-    let mut sum: u64 = 0;
-    for stream in streams {
-        sum += dense_part(*stream, step);
-    }
-    sum
-}
-
-// What the others can queue in `span` bits.
-fn sparse_shares(streams: &[Stream], step: u64, span: u32) -> u64
-    requires positive { All IsStream streams.now }
-    requires few { length streams.now ≤ 2048 }
-    ensures sum { result ≡ sum_by (sparse_share step span) streams.now }
-    ensures small { result ≤ 2 ^ 63 }
-{
-    let mut sum: u64 = 0;
-    for stream in streams {
-        sum += sparse_share(*stream, step, span);
-    }
-    sum
-}
-
-// From a wait on no shorter one has room than the one from which the loads allow it: streams that are dense take their parts of the bus at
-// least, and the others queue no less than in this wait.
-fn first_allowed(blocking: u32, streams: &[Stream], wait: u32, step: u64) -> u128
-    requires positive { All IsStream streams.now }
-    requires few { length streams.now ≤ 2048 }
+    requires sound { All IsWanted all.now }
     requires within { wait < 2 ^ 31 }
-    ensures { HaveNoRoomFrom blocking streams.now wait result }
+    ensures { HaveNoRoomFrom (map as_demand all.now) blocking streams.now wait result }
 {
-    let parts = dense_parts(streams, step);
+    let stretch = stretch_of_all(all, streams, step, wait + 1);
+    let parts = stretch.line.part;
     if parts >= 4_294_967_296 {
-        return u128::MAX;
+        return stretch.until;
     }
-    let known = u64::from(blocking) + sparse_shares(streams, step, wait + 1);
+    let known = u64::from(blocking) + stretch.line.known;
     let bits = u128::from(known) * 4_294_967_296 + u128::from(parts);
-    bits.div_ceil(u128::from(4_294_967_296 - parts))
+    let allowed = bits.div_ceil(u128::from(4_294_967_296 - parts));
+    allowed.min(stretch.until)
 }
 
 /// The length of the busy window of a frame up to its start: the least wait, of at most `most` bits, that has room for `blocking` bits
 /// (the longest frame that may have begun before, and what else isn't a stream's) and for all that the streams, which may go before
-/// the frame, can queue meanwhile. A frame that is queued in the very bit in which the wait ends counts. None where no such wait has room.
-/// With the bits of the frame itself it is the worst-case response time (Davis and others 2007).
-pub fn least_wait(blocking: u32, streams: &[Stream], most: u32) -> Option<u32>
+/// the frame, can queue meanwhile, where this is wanted of some of them. A frame that is queued in the very bit in which the wait ends counts.
+/// None where no such wait has room. With the bits of the frame itself it is the worst-case response time (Davis and others 2007).
+pub fn least_wait(wanted: &[Wanted], blocking: u32, streams: &[Stream], most: u32) -> Option<u32>
     requires positive { All IsStream streams.now }
     requires few { length streams.now ≤ 2048 }
+    requires sound { All IsWanted wanted.now }
     requires within { most < 2 ^ 31 }
-    ensures found { IfSome result (λ w. (w ≤ most) × (need blocking streams.now w ≤ w) × HaveNoRoom blocking streams.now w) }
-    ensures none { result ≡ None → HaveNoRoom blocking streams.now (most + 1) }
+    ensures found { let demands = map as_demand wanted.now in
+        IfSome result (λ w. (w ≤ most) × (need demands blocking streams.now w ≤ w) × HaveNoRoom demands blocking streams.now w) }
+    ensures none { result ≡ None → HaveNoRoom (map as_demand wanted.now) blocking streams.now (most + 1) }
 {
     let mut wait: u32 = 0;
     while wait <= most {
-        let needed = u64::from(blocking) + demand(streams, wait + 1);
+        let needed = u64::from(blocking) + demand(wanted, streams, wait + 1);
         if needed <= u64::from(wait) {
             return Some(wait);
         }
-        // the loads count for streams that come in eight times what this wait lacks: others would count for less than they queue
+        // parts of the bus count for streams that come in eight times what this wait lacks: of others they are less than is queued
         let step = (needed - u64::from(wait)).saturating_mul(8);
-        let allowed = first_allowed(blocking, streams, wait, step);
+        let allowed = first_allowed(wanted, blocking, streams, wait, step);
         let next = u128::from(needed).max(allowed);
         if next > u128::from(most) {
             return None;

@@ -1,10 +1,10 @@
 -- Each frame that a step sends of a message goes from the holder of its source to the holder of its destination.
-use Rattle.std.proofs.Common.{◌≡◌, ◌≢◌, ◌⊎◌, ℕ, zero, suc, ◌+◌, ◌<◌, ◌==◌, true, false, List, [], ◌∷◌, ◌++◌, length, map, Option, Some, None}
+use Rattle.std.proofs.Common.{◌≡◌, ◌⊎◌, ℕ, ◌<◌, ◌==◌, true, false, List, [], ◌∷◌, ◌++◌, length, map, Option, Some, None}
 use Rattle.std.proofs.Common.{inl, inr, refl, sym, ap, subst, ◌∙◌, arith, append_assoc}
 use Rattle.std.specs.Bool.{MatchBool}
-use Rattle.std.specs.List.{AllByRecursion, Contains, slice_get}
+use Rattle.std.specs.List.{AllByRecursion, slice_get}
 use Rattle.std.specs.Option.{is_some}
-use Rattle.std.proofs.lemmas.Bool.{cases_Bool, cond_both, eq-eqb, ltb-true, ne_eqb, not-false, or_left, or_right, true≢false}
+use Rattle.std.proofs.lemmas.Bool.{cases_Bool, cond_both, eq-eqb, not-false, or_left, or_right, true≢false}
 use Rattle.std.proofs.lemmas.List.{append-nil, append_cancel_left}
 use Rattle.j39_id.specs.Addresses.{global_address}
 use Rattle.j39_id.specs.Ident.{identifier_of, pgn_of}
@@ -18,39 +18,41 @@ use Rattle.j39_tp.specs.declared.receiving.manner.Manner.TheVariants.{Answering}
 use Rattle.j39_claim.specs.declared.item.Item.{Item}
 use Rattle.j39_claim.specs.declared.item.Item.TheVariants.{Told}
 use Rattle.j39_claim.specs.declared.item.Say.{Say}
-use Rattle.j39_claim.specs.declared.item.Say.TheVariants.{Claim}
 use Rattle.j39_claim.specs.ClaimRule.{ClaimState, claim_of, said_by, started}
 use Rattle.j39_findings.specs.declared.plan.Plan.{Plan}
 use Rattle.j39_findings.specs.declared.plan.to.To.{To}
 use Rattle.j39_findings.specs.declared.plan.to.To.TheVariants.{All, One}
 use Rattle.j39_findings.specs.declared.steps.Step.{Step}
 use Rattle.j39_findings.specs.declared.steps.Step.TheVariants.{Up, Down, Give, Ask, Begin, Send, Emit, Take, Lose, LateSender, LateReceiver, Rest}
-use Rattle.j39_world.proofs.Refusals.{none_hold}
 use Rattle.j39_world.specs.declared.flow.Flow.{Flow}
 use Rattle.j39_world.specs.declared.step_error.StepError.{StepError}
 use Rattle.j39_world.specs.declared.wired.Wired.{Wired}
 use Rattle.j39_world.specs.declared.wired.Wired.TheVariants as wired
 use Rattle.j39_world.specs.ClaimSteps.{GivenFrom, answer_items, asking_items, first_items}
-use Rattle.j39_world.specs.Flows.{dest_of, flows_of, is_short, window_at, windows_of}
+use Rattle.j39_world.specs.Flows.{FlowGoes, dest_of, flows_of, is_short, window_at, windows_of}
 use Rattle.j39_world.specs.Opening.{AreNamesDistinct}
-use Rattle.j39_world.specs.PlannedUnits.{unit_at, units_of}
-use Rattle.j39_world.specs.Run.{StepsTo, begin_refusal, begin_refusals, send_refusal, send_refusals, count_of, refusal}
+use Rattle.j39_findings.specs.PlannedUnits.{unit_at, units_of}
+use Rattle.j39_world.specs.LiveEnds.{KeepsEnds}
+use Rattle.j39_world.specs.Run.{StepsTo, begin_refusal, send_refusal, count_of, refusal}
 use Rattle.j39_world.specs.Sent.{Sent, frame_of, sent_of, source_of}
 use Rattle.j39_world.specs.SentTransfers.{address_of, destination_of, group_of, packet_frame, short_frame}
 use Rattle.j39_world.specs.SoundPlan.{Always}
-use Rattle.j39_world.specs.Transfers.{Outgoing}
+use Rattle.j39_tp.specs.declared.sending.outcome.Outcome.{Outcome}
+use Rattle.j39_tp.specs.declared.sending.stage.Stage.{Stage}
+use Rattle.j39_tp.specs.declared.sending.stage.Stage.TheVariants.{Resting}
+use Rattle.j39_laws.proofs.Transfers.Naming.{HasEndedWithout}
+use Rattle.j39_world.specs.Transfers.{Outgoing, is_among}
 use Rattle.j39_world.specs.TransferSteps.{BeginsAt, SendsAt, LostFrom, TakenFrom, first_frame, hearing, packets_in, reaction_of, receiver_replies, sender_replies}
 use Rattle.j39_world.specs.World.{World, changed}
-use Rattle.j39_laws.proofs.Reports.Orderly.{DeliveredBefore, all_delivered}
 use Rattle.j39_laws.proofs.Runs.Changed.{changed_here}
 use Rattle.j39_laws.proofs.Runs.Conditions.{is_unit, none_refuses, units_known}
 use Rattle.j39_laws.proofs.Runs.Elements.{all_map}
 use Rattle.j39_laws.proofs.Runs.Units.{in_units}
 use Rattle.j39_laws.proofs.Addresses.CleanUnits.{names_in_range}
 use Rattle.j39_follow.specs.Holders.{HoldsByFrames}
-use Rattle.j39_traces.specs.Between.{GoesToHolder, IsKnownAt, FlowGoes, IsOfStep, IsSentBehind, IsSentBy, IsTransport, MessagesGoBetweenHolders, SendsTo, tells_of_addresses}
+use Rattle.j39_traces.specs.Between.{GoesToHolder, IsKnownAt, IsOfStep, IsSentBehind, IsSentBy, IsTransport, MessagesGoBetweenHolders, SendsTo, tells_of_addresses}
 use Rattle.j39_traces.specs.Telling.{HaveOwnNumbers}
-use Rattle.j39_traces.proofs.Ends.{HasEnds, IsForHolding, IsHolding, all_ends, begun_ends, sent_ends, ends_of}
+use Rattle.j39_traces.proofs.Ends.{HasEnds, IsEnd, IsFor, all_ends, begun_ends, sent_ends}
 use Rattle.j39_traces.proofs.Identifiers.{IsOther, carries_none, sent_as}
 use Rattle.j39_traces.proofs.Logs.{IsItemInRange, TellsNothing, silent_keep, split, tells_addresses, tells_nothing}
 use Rattle.j39_traces.proofs.Replies.{GoesOnTo, late_answers, takers_answer}
@@ -124,17 +126,12 @@ module _ (plan : Plan) (distinct : AreNamesDistinct (units_of plan)) (own : Have
   destination_below All = omega arith
   destination_below (One v) = below v
 
-  abbrev AllHeard : Type 0
-  AllHeard = (s t : ℕ) → w.claims s t ≡ []
-
-  nothing_there : (a : ℕ) → Contains [] (Told (Claim a)) → ⊥
-  nothing_there a (k, inside, at) = absurd (omega (arith, inside))
-
   -- by all frames up to one of a message
-  is_at : AllHeard → (u : ℕ) → IsHolding w.stations u → (log : List Frame) (f : Frame) (earlier : List Sent) → map sent_of log ≡ w.frames ++ earlier
+  is_at : (u : ℕ) → IsEnd w u → (log : List Frame) (f : Frame) (earlier : List Sent) → map sent_of log ≡ w.frames ++ earlier
       → ((more : List Frame) → map sent_of more ≡ earlier → AllByRecursion TellsNothing (more ++ f ∷ []))
       → IsKnownAt plan w (log ++ f ∷ []) u (address_of w.stations u)
-  is_at heard u (on, (a, address)) log f earlier e silent =
+  is_at u is_end log f earlier e silent =
+      let (on, (a, address)) = is_end.holding in
       let s = split sent_of log w.frames earlier e in
       let same : a ≡ address_of w.stations u = sym (ap source_of address) in
       let row : s.0 ++ (s.1 ++ f ∷ []) ≡ log ++ f ∷ [] =
@@ -142,7 +139,7 @@ module _ (plan : Plan) (distinct : AreNamesDistinct (units_of plan)) (own : Have
       let holds : (unit_at (units_of plan) u).claims ≡ true → HoldsByFrames s.0 (name u) a =
       λ claims. elim (told.tells s.0 s.3 u a claims on address) [
         | inl is ↦ is
-        | inr (v, claim) ↦ absurd (nothing_there a (subst (λ (xs : List Item). Contains xs (Told (Claim a))) (heard v u) claim))
+        | inr (v, claim) ↦ absurd (is_end.unclaimed v a address claim)
       ] in
       let then : (unit_at (units_of plan) u).claims ≡ true → HoldsByFrames (log ++ f ∷ []) (name u) a =
       λ claims. subst (λ (l : List Frame). HoldsByFrames l (name u) a) row (silent_keep s.0 (s.1 ++ f ∷ []) (name u) a (silent s.1 s.4) (holds claims)) in
@@ -152,11 +149,11 @@ module _ (plan : Plan) (distinct : AreNamesDistinct (units_of plan)) (own : Have
         told = λ claims. (name u, then claims, named plan distinct u (told.standing.0 u on));
       })
 
-  between : (IsGroup : ℕ → Type 0) → AllHeard → (u : ℕ) (to : To) → IsHolding w.stations u → IsForHolding w.stations to
+  between : (IsGroup : ℕ → Type 0) (u : ℕ) (to : To) → IsEnd w u → IsFor w to
       → (log : List Frame) (f : Frame) (earlier later : List Sent) → map sent_of log ≡ w.frames ++ earlier
       → AllByRecursion (IsMessageFrame IsGroup (destination_of w.stations to) (address_of w.stations u)) (earlier ++ sent_of f ∷ later)
       → IsGroup (pgn_of f.ident) × IsKnownAt plan w (log ++ f ∷ []) u f.ident.sa × GoesToHolder plan w (log ++ f ∷ []) to f.ident
-  between IsGroup heard u to holding for log f earlier later e all =
+  between IsGroup u to holding for log f earlier later e all =
       let d : ℕ = destination_of w.stations to in
       let s : ℕ = address_of w.stations u in
       let parts = all_parts (IsMessageFrame IsGroup d s) earlier (sent_of f) later all in
@@ -167,10 +164,10 @@ module _ (plan : Plan) (distinct : AreNamesDistinct (units_of plan)) (own : Have
       (silent_messages IsGroup d s (destination_below to) (below u) more (subst (AllByRecursion (IsMessageFrame IsGroup d s)) (sym is) parts.0))
       (silent_message IsGroup d s (destination_below to) (below u) f m) in
       let source : IsKnownAt plan w (log ++ f ∷ []) u f.ident.sa =
-      subst (IsKnownAt plan w (log ++ f ∷ []) u) (sym i.source_is) (is_at heard u holding log f earlier e silent) in
+      subst (IsKnownAt plan w (log ++ f ∷ []) u) (sym i.source_is) (is_at u holding log f earlier e silent) in
       (subst IsGroup (sym i.group_is) m.group, source, goes m.pgn i.undirected to for i.directed silent)
     where
-      goes : (pgn : ℕ) → (is_pdu2 pgn ≡ true → is_pdu2 (pgn_of f.ident) ≡ true) → (x : To) → IsForHolding w.stations x
+      goes : (pgn : ℕ) → (is_pdu2 pgn ≡ true → is_pdu2 (pgn_of f.ident) ≡ true) → (x : To) → IsFor w x
           → (is_pdu2 pgn ≡ false → f.ident.ps ≡ destination_of w.stations x)
           → ((more : List Frame) → map sent_of more ≡ earlier → AllByRecursion TellsNothing (more ++ f ∷ []))
           → GoesToHolder plan w (log ++ f ∷ []) x f.ident
@@ -180,7 +177,7 @@ module _ (plan : Plan) (distinct : AreNamesDistinct (units_of plan)) (own : Have
       ]
       goes pgn undirected (One v) held directed silent = (
         address_of w.stations v,
-        is_at heard v held log f earlier e silent,
+        is_at v held log f earlier e silent,
         elim (cases_Bool (is_pdu2 pgn)) [ inl two ↦ inl (undirected two) | inr one ↦ inr (directed one) ],
       )
 
@@ -200,11 +197,11 @@ module _ (plan : Plan) (distinct : AreNamesDistinct (units_of plan)) (own : Have
         (all_parts (λ (x : Sent). ⊥) sent.earlier (sent_of f) sent.later (all_of (λ (x : Sent). ⊥) (subst (AllByRecursion (λ (x : Sent). ⊥)) (sym none) tt))).1
 
     -- a message's
-    goes_between : (IsGroup : ℕ → Type 0) → AllHeard → (u : ℕ) (to : To) → IsHolding w.stations u → IsForHolding w.stations to
+    goes_between : (IsGroup : ℕ → Type 0) (u : ℕ) (to : To) → IsEnd w u → IsFor w to
         → AllByRecursion (IsMessageFrame IsGroup (destination_of w.stations to) (address_of w.stations u)) added
         → IsGroup (pgn_of f.ident) × IsKnownAt plan w (log ++ f ∷ []) u f.ident.sa × GoesToHolder plan w (log ++ f ∷ []) to f.ident
-    goes_between IsGroup heard u to holding for all =
-        between IsGroup heard u to holding for log f sent.earlier sent.later sent.log_is
+    goes_between IsGroup u to holding for all =
+        between IsGroup u to holding for log f sent.earlier sent.later sent.log_is
         (all_of (IsMessageFrame IsGroup (destination_of w.stations to) (address_of w.stations u)) all)
 
   -- a unit's that tells of addresses
@@ -233,17 +230,15 @@ module _ (plan : Plan) (distinct : AreNamesDistinct (units_of plan)) (own : Have
   same_frames : (step : Step) (after : World) → after.frames ≡ w.frames → Goes step after
   same_frames step after is log f sent other = absurd (none_sent after log f sent [] (is ∙ sym (append-nil w.frames)) refl)
 
-  heard_while : (u : ℕ) (s : Outgoing) → w.sessions u ≡ Some s → AllHeard
-  heard_while u s is = subst (DeliveredBefore w.claims) is (ends.kept.kept.transfers.order.delivered u)
-
   -- who is at the other end of a message to one
-  both_hold : (u v : ℕ) → GoesOnTo w u (One v) → AllHeard × IsHolding w.stations u × IsHolding w.stations v
-  both_hold u v (s, is, to) =
-      let e = ends_of plan w ends u s is in
-      (heard_while u s is, e.0, subst (IsForHolding w.stations) to e.1)
+  both_hold : (u v : ℕ) → GoesOnTo w u v → IsEnd w u × IsEnd w v
+  both_hold u v (s, is, to, among) = (ends.sender u s is, ends.receiver u v s is to (λ _. among))
 
-  of_flow : (u : ℕ) (to : To) → GoesOnTo w u to → SendsTo plan w u to
-  of_flow u to (s, is, same) = (s, is, subst (FlowGoes plan s.flow u) same (ends_of plan w ends u s is).2)
+  of_one : (u v : ℕ) → GoesOnTo w u v → SendsTo plan w u (One v)
+  of_one u v (s, is, same, among) = (s, is, subst (FlowGoes plan s.flow u) same (ends.flow u s is))
+
+  of_session : (u : ℕ) (s : Outgoing) → w.sessions u ≡ Some s → SendsTo plan w u s.to
+  of_session u s is = (s, is, ends.flow u s is)
 
   up : (u : ℕ) → refusal plan w (Up u) ≡ None → (after : World) → StepsTo plan w (Up u) after → Goes (Up u) after
   up u allowed after e log f sent other =
@@ -282,7 +277,7 @@ module _ (plan : Plan) (distinct : AreNamesDistinct (units_of plan)) (own : Have
       ] in
       absurd (true≢false (sym (tells v unit (now v).address source (answer_items says) range after log f sent (ap (λ (x : World). x.frames) e)) ∙ other))
 
-  begin : (k : ℕ) (bytes : List ℕ) (o : Option Flow) → slice_get (flows_of plan) k ≡ o → begin_refusal (count_of plan) w o bytes ≡ None
+  begin : (k : ℕ) (bytes : List ℕ) (o : Option Flow) → slice_get (flows_of plan) k ≡ o → begin_refusal plan.live (count_of plan) w o bytes ≡ None
       → (after : World) → BeginsAt (count_of plan) w k o bytes after → (log : List Frame) (f : Frame) → IsSentBehind w after log f
       → (flow : Flow) × (o ≡ Some flow) × IsFirst flow (pgn_of f.ident) × IsKnownAt plan w (log ++ f ∷ []) flow.sender f.ident.sa
       × GoesToHolder plan w (log ++ f ∷ []) flow.to f.ident
@@ -291,18 +286,16 @@ module _ (plan : Plan) (distinct : AreNamesDistinct (units_of plan)) (own : Have
       let d : ℕ = destination_of w.stations flow.to in
       let s : ℕ = address_of w.stations flow.sender in
       let other = flow_other plan own k flow is in
-      let (sendable, (on, (heard, rest))) = none_hold (begin_refusals (count_of plan) w (Some flow) bytes) allowed in
-      let order = ends.kept.kept.transfers.order in
-      let hold = begun_ends plan w flow bytes allowed in
+      let hold = begun_ends plan w ends k flow bytes is allowed in
       let of : IsMessageFrame (IsFirst flow) d s (first_frame w.stations flow bytes) =
       cond_both (is_short (length bytes)) (short_frame d s flow bytes) (packet_frame d s (sender.announcement (dest_of flow.to) flow.pgn (length bytes)))
       (IsMessageFrame (IsFirst flow) d s) (λ _. short_is d s flow bytes other) (λ _. announcement_is d s flow _) in
       let goes = goes_between after log f sent (first_frame w.stations flow bytes ∷ []) (ap (λ (x : World). x.frames) e) (IsFirst flow)
-      (all_delivered plan w.stations w.claims w.sessions order (not-false _ heard)) flow.sender flow.to hold.0 hold.1 (of, tt) in
+      flow.sender flow.to hold.0 hold.1 (of, tt) in
       (flow, refl, goes.0, goes.1, goes.2)
 
   -- a frame is sent alone
-  send : (k : ℕ) (bytes : List ℕ) (o : Option Flow) → slice_get (flows_of plan) k ≡ o → send_refusal (count_of plan) w o bytes ≡ None
+  send : (k : ℕ) (bytes : List ℕ) (o : Option Flow) → slice_get (flows_of plan) k ≡ o → send_refusal plan.live (count_of plan) w o bytes ≡ None
       → (after : World) → SendsAt (count_of plan) w k o bytes after → (log : List Frame) (f : Frame) → IsSentBehind w after log f
       → (flow : Flow) × (o ≡ Some flow) × (pgn_of f.ident ≡ flow.pgn) × IsKnownAt plan w (log ++ f ∷ []) flow.sender f.ident.sa
       × GoesToHolder plan w (log ++ f ∷ []) flow.to f.ident
@@ -311,34 +304,40 @@ module _ (plan : Plan) (distinct : AreNamesDistinct (units_of plan)) (own : Have
       let d : ℕ = destination_of w.stations flow.to in
       let s : ℕ = address_of w.stations flow.sender in
       let other = flow_other plan own k flow is in
-      let (sendable, (on, (heard, rest))) = none_hold (send_refusals (count_of plan) w (Some flow) bytes) allowed in
-      let order = ends.kept.kept.transfers.order in
-      let hold = sent_ends plan w flow bytes allowed in
+      let hold = sent_ends plan w ends k flow bytes is allowed in
       let IsGroup : ℕ → Type 0 = λ pgn. pgn ≡ flow.pgn in
       let of : IsMessageFrame IsGroup d s (short_frame d s flow bytes) =
       record { priority = flow.priority; pgn = flow.pgn; group = refl; other = other; number = refl } in
       let goes = goes_between after log f sent (short_frame d s flow bytes ∷ []) (ap (λ (x : World). x.frames) e) IsGroup
-      (all_delivered plan w.stations w.claims w.sessions order (not-false _ heard)) flow.sender flow.to hold.0 hold.1 (of, tt) in
+      flow.sender flow.to hold.0 hold.1 (of, tt) in
       (flow, refl, goes.0, goes.1, goes.2)
 
   -- a sender goes on
-  goes_on : (u : ℕ) (s : Outgoing) (p : Packet) → w.sessions u ≡ Some s → (after : World)
+  goes_on : (u : ℕ) (s : Outgoing) (p : Packet) → w.sessions u ≡ Some s → ((outcome : Outcome) → s.stage ≡ Resting outcome → ⊥) → (after : World)
       → after.frames ≡ w.frames ++ packet_frame (destination_of w.stations s.to) (address_of w.stations u) p ∷ []
       → (log : List Frame) (f : Frame) → IsSentBehind w after log f
       → IsTransport (pgn_of f.ident) × IsKnownAt plan w (log ++ f ∷ []) u f.ident.sa × GoesToHolder plan w (log ++ f ∷ []) s.to f.ident
-  goes_on u s p is after frames log f sent =
-      let e = ends_of plan w ends u s is in
+  goes_on u s p is going after frames log f sent =
       goes_between after log f sent (packet_frame (destination_of w.stations s.to) (address_of w.stations u) p ∷ []) frames IsTransport
-      (heard_while u s is) u s.to e.0 e.1 (packet_is _ _ p, tt)
+      u s.to (ends.sender u s is) (for_whom s.to refl) (packet_is _ _ p, tt)
+    where
+      -- one that goes on goes to its one unit still
+      for_whom : (to : To) → s.to ≡ to → IsFor w to
+      for_whom All e = tt
+      for_whom (One v) e = elim (cases_Bool (is_among s.targets v)) [
+        | inl among ↦ ends.receiver u v s is e (λ _. among)
+        | inr none ↦
+            let rests = subst HasEndedWithout is (ends.kept.named.ended u) v e none in absurd (going rests.0 rests.1)
+      ]
 
   -- v answers u
-  answers_go : (u v : ℕ) → AllHeard × IsHolding w.stations u × IsHolding w.stations v → (ps : List Packet) (after : World)
+  answers_go : (u v : ℕ) → IsEnd w u × IsEnd w v → (ps : List Packet) (after : World)
       → after.frames ≡ w.frames ++ map (packet_frame (address_of w.stations u) (address_of w.stations v)) ps
       → (log : List Frame) (f : Frame) → IsSentBehind w after log f
       → IsTransport (pgn_of f.ident) × IsKnownAt plan w (log ++ f ∷ []) v f.ident.sa × GoesToHolder plan w (log ++ f ∷ []) (One u) f.ident
   answers_go u v hold ps after frames log f sent =
       goes_between after log f sent (map (packet_frame (address_of w.stations u) (address_of w.stations v)) ps) frames IsTransport
-      hold.0 v (One u) hold.2 hold.1 (packets_are _ _ ps)
+      v (One u) hold.1 hold.0 (packets_are _ _ ps)
 
   take : (u v : ℕ) (list : List Wired) → w.wire u v ≡ list → (after : World) → TakenFrom (windows_of plan) w u v list after → Goes (Take u v) after
   take u v [] is after never log f sent other = absurd never
@@ -355,11 +354,11 @@ module _ (plan : Plan) (distinct : AreNamesDistinct (units_of plan)) (own : Have
             (ap (map (packet_frame (address_of w.stations u) (address_of w.stations v))) none))
         | inr (inl sends) ↦
             let goes = answers_go u v (both_hold u v sends) ps after frames log f sent in
-            (v, One u, (refl, refl, inl (of_flow u (One v) sends)), goes.0, goes.1, goes.2)
+            (v, One u, (refl, refl, inl (of_one u v sends)), goes.0, goes.1, goes.2)
         | inr (inr sends) ↦
             let b = both_hold v u sends in
-            let goes = answers_go u v (b.0, b.2, b.1) ps after frames log f sent in
-            (v, One u, (refl, refl, inr (of_flow v (One u) sends)), goes.0, goes.1, goes.2)
+            let goes = answers_go u v (b.1, b.0) ps after frames log f sent in
+            (v, One u, (refl, refl, inr (of_one v u sends)), goes.0, goes.1, goes.2)
       ]
 
   late_receiver : (u v : ℕ) (after : World) → StepsTo plan w (LateReceiver u v) after → Goes (LateReceiver u v) after
@@ -372,7 +371,7 @@ module _ (plan : Plan) (distinct : AreNamesDistinct (units_of plan)) (own : Have
             (ap (map (packet_frame (address_of w.stations u) (address_of w.stations v))) none))
         | inr sends ↦
             let goes = answers_go u v (both_hold u v sends) ps after frames log f sent in
-            (v, One u, (refl, refl, of_flow u (One v) sends), goes.0, goes.1, goes.2)
+            (v, One u, (refl, refl, of_one u v sends), goes.0, goes.1, goes.2)
       ]
 
   lose : (u v : ℕ) (list : List Wired) (after : World) → LostFrom w u v list after → Goes (Lose u v) after
@@ -393,13 +392,15 @@ module _ (plan : Plan) (distinct : AreNamesDistinct (units_of plan)) (own : Have
       let (flow, is, number, source, goes) = send k bytes.items (slice_get (flows_of plan) k) refl allowed after leads log f sent in
       (flow.sender, flow.to, (flow, is, refl, refl), (flow, is, number), source, goes)
   step_goes (Emit u) allowed after (s, p, session, next, e) = λ log f sent other.
-      let goes = goes_on u s p session after (ap (λ (x : World). x.frames) e) log f sent in
-      (u, s.to, (refl, of_flow u s.to (s, session, refl)), goes.0, goes.1, goes.2)
+      let goes = goes_on u s p session (λ outcome rests. cc (subst (λ (st : Stage). sender.data_next s.bytes st ≡ Some p) rests next))
+      after (ap (λ (x : World). x.frames) e) log f sent in
+      (u, s.to, (refl, of_session u s session), goes.0, goes.1, goes.2)
   step_goes (Take u v) allowed after leads = take u v (w.wire u v) refl after leads
   step_goes (Lose u v) allowed after leads = lose u v (w.wire u v) after leads
   step_goes (LateSender u) allowed after (s, p, session, packet, e) = λ log f sent other.
-      let goes = goes_on u s p session after (ap (λ (x : World). x.frames) e) log f sent in
-      (u, s.to, (refl, of_flow u s.to (s, session, refl)), goes.0, goes.1, goes.2)
+      let goes = goes_on u s p session (λ outcome rests. cc (subst (λ (st : Stage). sender.timeout_packet s.pgn st ≡ Some p) rests packet))
+      after (ap (λ (x : World). x.frames) e) log f sent in
+      (u, s.to, (refl, of_session u s session), goes.0, goes.1, goes.2)
   step_goes (LateReceiver u v) allowed after e = late_receiver u v after e
   step_goes (Rest u) allowed after e = same_frames (Rest u) after (ap (λ (x : World). x.frames) e)
 
@@ -414,6 +415,6 @@ module _ (plan : Plan) (distinct : AreNamesDistinct (units_of plan)) (own : Have
         | None ↦ λ allowed leads. step_goes step allowed after leads log f
       ] refl follows
 
-pub messages_go : (plan : Plan) → AreNamesDistinct (units_of plan) → HaveOwnNumbers plan → Always plan (MessagesGoBetweenHolders plan)
-messages_go plan distinct own steps w run =
-    goes_between_holders plan distinct own w (all_told plan distinct own steps w run) (all_ends plan steps w run)
+pub messages_go : (plan : Plan) → KeepsEnds plan → AreNamesDistinct (units_of plan) → HaveOwnNumbers plan → Always plan (MessagesGoBetweenHolders plan)
+messages_go plan keeps distinct own steps w run =
+    goes_between_holders plan distinct own w (all_told plan distinct own steps w run) (all_ends plan keeps steps w run)

@@ -4,9 +4,11 @@ pub mod FittingFlows
 pub mod Identifiers
 pub mod Logged
 pub mod Logs
+pub mod NamesTold
 pub mod Replies
 pub mod SentFrames
 pub mod Standing
 pub mod Telling
 pub mod ToldFlows
 pub mod UnitNames
+pub mod VehicleRuns

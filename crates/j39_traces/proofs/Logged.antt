@@ -14,21 +14,22 @@ use Rattle.j39_world.specs.declared.flow.Flow.{Flow}
 use Rattle.j39_world.specs.declared.wired.Wired.{Wired}
 use Rattle.j39_world.specs.declared.wired.Wired.TheVariants as wired
 use Rattle.j39_world.specs.ClaimSteps.{GivenFrom}
-use Rattle.j39_world.specs.Flows.{flows_of, windows_of}
+use Rattle.j39_world.specs.Flows.{FlowGoes, flows_of, windows_of}
 use Rattle.j39_world.specs.Opening.{AreNamesDistinct}
-use Rattle.j39_world.specs.PlannedUnits.{units_of}
-use Rattle.j39_world.specs.Run.{StepsTo, count_of}
+use Rattle.j39_findings.specs.PlannedUnits.{units_of}
+use Rattle.j39_world.specs.LiveEnds.{KeepsEnds}
+use Rattle.j39_world.specs.Run.{StepsTo, count_of, refusal}
 use Rattle.j39_world.specs.Sent.{Sent, sent_of}
 use Rattle.j39_world.specs.SoundPlan.{Always}
 use Rattle.j39_world.specs.TransferSteps.{BeginsAt, SendsAt, LostFrom, TakenFrom}
 use Rattle.j39_world.specs.World.{World, all_off}
-use Rattle.j39_laws.proofs.Runs.Always.{IsPreserved, always}
-use Rattle.j39_traces.specs.Between.{AreJoined, ComesTo, EachGoesBetweenUnits, GoesToHolder, FlowGoes, IsOfStep, IsSentBehind, IsSentBy, StandsBehind}
+use Rattle.j39_laws.proofs.Runs.Always.{always_with}
+use Rattle.j39_traces.specs.Between.{AreJoined, ComesTo, EachGoesBetweenUnits, GoesToHolder, IsOfStep, IsSentBehind, IsSentBy, StandsBehind}
 use Rattle.j39_traces.specs.Telling.{HaveOwnNumbers}
 use Rattle.j39_traces.proofs.Between.{step_goes}
-use Rattle.j39_traces.proofs.Ends.{HasEnds, all_ends, ends_keep}
+use Rattle.j39_traces.proofs.Ends.{HasEnds, all_ends}
 use Rattle.j39_traces.proofs.Logs.{split}
-use Rattle.j39_traces.proofs.Telling.{AreTold, all_told, told_keep}
+use Rattle.j39_traces.proofs.Telling.{AreTold, all_told}
 
 -- ---- where a frame of a log stands
 
@@ -97,11 +98,6 @@ module _ (plan : Plan) (w : World) where
 
 -- ---- each frame
 
-record IsLogged (plan : Plan) (w : World) : Type 0 where
-  told : AreTold plan w
-  ends : HasEnds plan w
-  each : EachGoesBetweenUnits plan w
-
 comes_to : (plan : Plan) (w : World) (log : List Frame) (to : To) (i : Ident) → GoesToHolder plan w log to i → ComesTo plan log to i
 comes_to plan w log All i goes = goes
 comes_to plan w log (One v) i (a, at, inl two) = inl two
@@ -126,36 +122,31 @@ joins plan w (LateReceiver x y) u to i (same, is, (s, session, flow)) group =
 joins plan w (Lose x y) u to i never group = absurd never
 joins plan w (Rest x) u to i never group = absurd never
 
-logged_keep : (plan : Plan) → AreNamesDistinct (units_of plan) → HaveOwnNumbers plan → IsPreserved plan (IsLogged plan)
-logged_keep plan distinct own w inv step allowed new leads = record {
-  told = told_keep plan distinct own w inv.told step allowed new leads;
-  ends = ends_keep plan w inv.ends step allowed new leads;
-  each = λ before f behind e other.
-      let (added, is) = grows plan w step new leads in
-      elim (place w.frames added before f behind (e ∙ is)) [
-        | inl (front, here) ↦ inv.each before f front here other
-        | inr (earlier, later, log_is, at) ↦
-            let sent : IsSentBehind w new before f =
-            record { earlier = earlier; later = later; log_is = log_is; sent = is ∙ ap (λ (x : List Sent). w.frames ++ x) at } in
-            let (u, to, by, group, source, goes) =
-            step_goes plan distinct own w inv.told inv.ends step allowed new leads before f sent other in
-            record {
-              sender = u;
-              to = to;
-              joined = joins plan w step u to f.ident by group;
-              comes = source.told;
-              goes = comes_to plan w (before ++ f ∷ []) to f.ident goes;
-            }
-      ];
-}
+-- by a step from a world of which this is known
+logged_keep : (plan : Plan) → AreNamesDistinct (units_of plan) → HaveOwnNumbers plan → (w : World) → AreTold plan w × HasEnds plan w
+    → EachGoesBetweenUnits plan w → (step : Step) → refusal plan w step ≡ None → (new : World) → StepsTo plan w step new → EachGoesBetweenUnits plan new
+logged_keep plan distinct own w known each step allowed new leads before f behind e other =
+    let (added, is) = grows plan w step new leads in
+    elim (place w.frames added before f behind (e ∙ is)) [
+      | inl (front, here) ↦ each before f front here other
+      | inr (earlier, later, log_is, at) ↦
+          let sent : IsSentBehind w new before f =
+          record { earlier = earlier; later = later; log_is = log_is; sent = is ∙ ap (λ (x : List Sent). w.frames ++ x) at } in
+          let (u, to, by, group, source, goes) =
+          step_goes plan distinct own w known.0 known.1 step allowed new leads before f sent other in
+          record {
+            sender = u;
+            to = to;
+            joined = joins plan w step u to f.ident by group;
+            comes = source.told;
+            goes = comes_to plan w (before ++ f ∷ []) to f.ident goes;
+          }
+    ]
 
-pub each_goes : (plan : Plan) → AreNamesDistinct (units_of plan) → HaveOwnNumbers plan → Always plan (EachGoesBetweenUnits plan)
-each_goes plan distinct own steps w run =
-    (always plan (IsLogged plan) (record {
-      told = all_told plan distinct own [] all_off refl;
-      ends = all_ends plan [] all_off refl;
-      each = none_at_first;
-    }) (logged_keep plan distinct own) steps w run).each
+pub each_goes : (plan : Plan) → KeepsEnds plan → AreNamesDistinct (units_of plan) → HaveOwnNumbers plan → Always plan (EachGoesBetweenUnits plan)
+each_goes plan keeps distinct own =
+    always_with plan (λ w. AreTold plan w × HasEnds plan w) (EachGoesBetweenUnits plan)
+    (λ steps w run. (all_told plan distinct own steps w run, all_ends plan keeps steps w run)) (logged_keep plan distinct own) none_at_first
   where
     none_at_first : EachGoesBetweenUnits plan all_off
     none_at_first [] f behind e other = absurd (cc e)

@@ -1,5 +1,5 @@
 -- Who answers a packet sends or hears a message of the two alone.
-use Rattle.std.proofs.Common.{◌≡◌, ◌⊎◌, ℕ, inl, inr, refl, sym, subst, List, [], ◌∷◌, ◌++◌, Option, Some, None}
+use Rattle.std.proofs.Common.{◌≡◌, ◌⊎◌, ℕ, true, inl, inr, refl, sym, subst, List, [], ◌∷◌, ◌++◌, Option, Some, None}
 use Rattle.std.specs.Prelude.{map}
 use Rattle.std.specs.List.{AllByRecursion}
 use Rattle.j39_tp.specs.Receiver as receiver
@@ -14,12 +14,11 @@ use Rattle.j39_tp.specs.declared.receiving.reception.Kind.TheVariants.{Broadcast
 use Rattle.j39_tp.specs.declared.receiving.reception.Reception.{Reception}
 use Rattle.j39_tp.proofs.Answering.{IsAside}
 use Rattle.j39_findings.specs.declared.plan.Plan.{Plan}
-use Rattle.j39_findings.specs.declared.plan.to.To.{To}
 use Rattle.j39_findings.specs.declared.plan.to.To.TheVariants.{One}
 use Rattle.j39_world.specs.declared.wired.Wired.{Wired}
 use Rattle.j39_world.specs.declared.wired.Wired.TheVariants as wired
 use Rattle.j39_world.specs.Flows.{window_at}
-use Rattle.j39_world.specs.Transfers.{Outgoing}
+use Rattle.j39_world.specs.Transfers.{Outgoing, is_among}
 use Rattle.j39_world.specs.TransferSteps.{hearing, packets_in, reaction_of, receiver_replies, sender_replies}
 use Rattle.j39_world.specs.World.{World}
 use Rattle.j39_laws.proofs.Reports.Hearings.{reaction_aside}
@@ -71,14 +70,14 @@ late_answering window (Complete done) = inl refl
 
 -- ---- in a world of a run
 
--- the unit sends a message to these
-abbrev pub GoesOnTo : World → ℕ → To → Type 0
-GoesOnTo w u to = (s : Outgoing) × (w.sessions u ≡ Some s) × (s.to ≡ to)
+-- the unit sends a message to that one alone, which is on still
+abbrev pub GoesOnTo : World → ℕ → ℕ → Type 0
+GoesOnTo w u v = (s : Outgoing) × (w.sessions u ≡ Some s) × (s.to ≡ One v) × (is_among s.targets v ≡ true)
 
 module _ (plan : Plan) (w : World) (kept : IsKeptNamed plan w) where
-  to_one : (o : Option Outgoing) (u v pgn : ℕ) → w.sessions u ≡ o → IsTo o v pgn → GoesOnTo w u (One v)
+  to_one : (o : Option Outgoing) (u v pgn : ℕ) → w.sessions u ≡ o → IsTo o v pgn → GoesOnTo w u v
   to_one None u v pgn is never = absurd never
-  to_one (Some s) u v pgn is to = (s, is, to.0)
+  to_one (Some s) u v pgn is to = (s, is, to.0, to.2)
 
   rts_to : (u v : ℕ) (p : Packet) → IsNamed w.sessions u v (wired.Packet p) → (pgn : ℕ) → IsRtsOf p pgn → IsTo (w.sessions u) v pgn
   rts_to u v (Rts size limit named) head pgn is = subst (IsTo (w.sessions u) v) is head
@@ -90,7 +89,7 @@ module _ (plan : Plan) (w : World) (kept : IsKeptNamed plan w) where
 
   -- a receiver answers the sender of a message to it alone
   receiver_answers : (windows : List ℕ) (u v : ℕ) (p : Packet) → IsNamed w.sessions u v (wired.Packet p)
-      → (receiver_replies (hearing windows w u v p).1 ≡ []) ⊎ GoesOnTo w u (One v)
+      → (receiver_replies (hearing windows w u v p).1 ≡ []) ⊎ GoesOnTo w u v
   receiver_answers windows u v p head = elim (answering (window_at windows v) (w.receivers v u) p) [
     | inl none ↦ inl none
     | inr (pgn, inl opened) ↦ inr (to_one (w.sessions u) u v pgn refl (kept.named.receivers v u pgn opened))
@@ -98,14 +97,14 @@ module _ (plan : Plan) (w : World) (kept : IsKeptNamed plan w) where
   ]
 
   pub late_answers : (windows : List ℕ) (u v : ℕ)
-      → (packets_in (receiver.timed_out (Answering (window_at windows v)) (w.receivers v u)).1 ≡ []) ⊎ GoesOnTo w u (One v)
+      → (packets_in (receiver.timed_out (Answering (window_at windows v)) (w.receivers v u)).1 ≡ []) ⊎ GoesOnTo w u v
   late_answers windows u v = elim (late_answering (window_at windows v) (w.receivers v u)) [
     | inl none ↦ inl none
     | inr (pgn, opened) ↦ inr (to_one (w.sessions u) u v pgn refl (kept.named.receivers v u pgn opened))
   ]
 
   -- a sender answers the receiver of its message to it alone
-  aside_to : (v u : ℕ) (p : Packet) → IsAside p → SaysTo (w.sessions v) u (wired.Packet p) → GoesOnTo w v (One u)
+  aside_to : (v u : ℕ) (p : Packet) → IsAside p → SaysTo (w.sessions v) u (wired.Packet p) → GoesOnTo w v u
   aside_to v u (Rts size limit pgn) aside says = absurd aside
   aside_to v u (Cts count first pgn) aside says = absurd says
   aside_to v u (EndAck size pgn) aside says = absurd aside
@@ -114,11 +113,11 @@ module _ (plan : Plan) (w : World) (kept : IsKeptNamed plan w) where
   aside_to v u (Dt number seven) aside says = absurd aside
 
   some_aside : (v u : ℕ) (ps : List Packet) → AllByRecursion IsAside ps → AllByRecursion (SaysTo (w.sessions v) u) (map wired.Packet ps)
-      → (ps ≡ []) ⊎ GoesOnTo w v (One u)
+      → (ps ≡ []) ⊎ GoesOnTo w v u
   some_aside v u [] asides says = inl refl
   some_aside v u (p ∷ ps) asides says = inr (aside_to v u p asides.0 says.0)
 
-  sender_answers : (u v : ℕ) (p : Packet) → (sender_replies (reaction_of (w.sessions v) u p) ≡ []) ⊎ GoesOnTo w v (One u)
+  sender_answers : (u v : ℕ) (p : Packet) → (sender_replies (reaction_of (w.sessions v) u p) ≡ []) ⊎ GoesOnTo w v u
   sender_answers u v p =
       some_aside v u (sender_replies (reaction_of (w.sessions v) u p)) (reaction_aside (w.sessions v) u p)
       (says_replies plan v (w.sessions v) (kept.kept.transfers.order.planned v) u p)
@@ -126,7 +125,7 @@ module _ (plan : Plan) (w : World) (kept : IsKeptNamed plan w) where
   -- who takes a packet answers none, or one of the two sends a message to the other alone
   pub takers_answer : (windows : List ℕ) (u v : ℕ) (p : Packet) (rest : List Wired) → w.wire u v ≡ wired.Packet p ∷ rest
       → (receiver_replies (hearing windows w u v p).1 ++ sender_replies (reaction_of (w.sessions v) u p) ≡ [])
-      ⊎ (GoesOnTo w u (One v) ⊎ GoesOnTo w v (One u))
+      ⊎ (GoesOnTo w u v ⊎ GoesOnTo w v u)
   takers_answer windows u v p rest is =
       elim (receiver_answers windows u v p (subst (AllByRecursion (IsNamed w.sessions u v)) is (kept.named.wire u v)).0) [
         | inr sends ↦ inr (inl sends)

@@ -92,22 +92,22 @@ module _ (plan : Plan) (w : World) (told : AreTold plan w) where
             absurd (other (subst IsTransport (sym i.group_is) (transports p)))
       ]
 
-  pub begun : (k : ℕ) (bytes : List ℕ) (o : Option Flow) → begin_refusal (count_of plan) w o bytes ≡ None → (after : World)
+  pub begun : (k : ℕ) (bytes : List ℕ) (o : Option Flow) → begin_refusal plan.live (count_of plan) w o bytes ≡ None → (after : World)
       → BeginsAt (count_of plan) w k o bytes after → (log : List Frame) (f : Frame) → IsSentBehind w after log f → ¬ IsTransport (pgn_of f.ident)
       → (flow : Flow) × (o ≡ Some flow) × IsInFrame flow bytes f
   begun k bytes None allowed after never log f sent other = absurd never
   begun k bytes (Some flow) allowed after e log f sent other =
-      let (sendable, (on, (heard, (address, (free, (long, (taken, rest))))))) = none_hold (begin_refusals (count_of plan) w (Some flow) bytes) allowed in
+      let (sendable, (on, (heard, (address, (free, (long, (taken, rest))))))) = none_hold (begin_refusals plan.live (count_of plan) w (Some flow) bytes) allowed in
       let frame = the_frame w after log f sent (first_frame w.stations flow bytes) (ap (λ (x : World). x.frames) e) in
       let whole = whole_message flow bytes f frame other in
       (flow, refl, record { payload = whole.0; allowed = not-false _ long; selected = not-false _ taken; short = whole.1 })
 
-  pub sent_alone : (k : ℕ) (bytes : List ℕ) (o : Option Flow) → send_refusal (count_of plan) w o bytes ≡ None → (after : World)
+  pub sent_alone : (k : ℕ) (bytes : List ℕ) (o : Option Flow) → send_refusal plan.live (count_of plan) w o bytes ≡ None → (after : World)
       → SendsAt (count_of plan) w k o bytes after → (log : List Frame) (f : Frame) → IsSentBehind w after log f
       → (flow : Flow) × (o ≡ Some flow) × IsInFrame flow bytes f
   sent_alone k bytes None allowed after never log f sent = absurd never
   sent_alone k bytes (Some flow) allowed after e log f sent =
-      let (sendable, (on, (heard, (address, (free, (long, (taken, rest))))))) = none_hold (send_refusals (count_of plan) w (Some flow) bytes) allowed in
+      let (sendable, (on, (heard, (address, (free, (long, (taken, rest))))))) = none_hold (send_refusals plan.live (count_of plan) w (Some flow) bytes) allowed in
       let d : ℕ = destination_of w.stations flow.to in
       let s : ℕ = address_of w.stations flow.sender in
       let frame = the_frame w after log f sent (short_frame d s flow bytes) (ap (λ (x : World). x.frames) e) in

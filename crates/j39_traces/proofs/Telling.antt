@@ -28,27 +28,31 @@ use Rattle.j39_findings.specs.declared.steps.Step.TheVariants.{Up, Down, Give, A
 use Rattle.j39_world.specs.declared.flow.Flow.{Flow}
 use Rattle.j39_world.specs.declared.wired.Wired.{Wired}
 use Rattle.j39_world.specs.declared.wired.Wired.TheVariants as wired
-use Rattle.j39_world.specs.ClaimSteps.{GivenFrom, answer_items, asked as asks, asking_items, first_items, heard_and_answered, switched_off, switched_on, told_to_others, without_lists_to}
+use Rattle.j39_world.specs.SwitchingOff.{switched_off}
+use Rattle.j39_world.specs.ClaimSteps.{GivenFrom, answer_items, asked as asks, asking_items, first_items, heard_and_answered, switched_on, told_to_others, without_lists_to}
 use Rattle.j39_world.specs.Flows.{dest_of, flow_of, flows_of, is_short, windows_of}
 use Rattle.j39_world.specs.Opening.{AreNamesDistinct}
-use Rattle.j39_world.specs.PlannedUnits.{unit_at, units_of}
+use Rattle.j39_findings.specs.PlannedUnits.{unit_at, units_of}
 use Rattle.j39_world.specs.Run.{StepsTo, count_of, refusal}
 use Rattle.j39_world.specs.Sent.{Sent, frame_of, sent_of, source_of}
 use Rattle.j39_world.specs.SentTransfers.{address_of, destination_of, group_of, packet_frame, short_frame}
 use Rattle.j39_world.specs.Sound.{IsQuiet}
 use Rattle.j39_world.specs.SoundPlan.{Always, IsSending}
+use Rattle.j39_findings.specs.Staying.{IsAloneThere}
+use Rattle.j39_findings.specs.Findings.{Clean}
 use Rattle.j39_world.specs.TransferSteps.{BeginsAt, SendsAt, LostFrom, TakenFrom, first_frame}
 use Rattle.j39_world.specs.World.{Stations, Undelivered, World, changed, changed_pair}
 use Rattle.j39_laws.proofs.Addresses.CleanUnits.{names_in_range}
 use Rattle.j39_laws.proofs.Addresses.Telling.{still, told}
-use Rattle.j39_laws.proofs.Reports.SoundReports.{reports_sound}
+use Rattle.j39_laws.proofs.Transfers.LiveEnds.{undisturbed_on}
+use Rattle.j39_laws.proofs.Transfers.SoundRuns.{delivered_while}
 use Rattle.j39_laws.proofs.Runs.Always.{IsPreserved, always}
 use Rattle.j39_laws.proofs.Runs.Changed.{changed_elsewhere, changed_here, pair_elsewhere}
 use Rattle.j39_laws.proofs.Runs.ClaimInvariants.{asking_said, claim_steps_keep, first_said}
 use Rattle.j39_laws.proofs.Runs.Conditions.{is_unit, none_refuses, units_known}
 use Rattle.j39_laws.proofs.Runs.Units.{in_units, names_differ}
 use Rattle.j39_follow.specs.Holders.{HoldsByFrames}
-use Rattle.j39_traces.specs.Telling.{EachIsTold, FramesTellHolders, HaveOwnNumbers, IsStillToHear}
+use Rattle.j39_traces.specs.Telling.{EachIsTold, FramesTellHolders, HaveOwnNumbers, IsStillToHear, IsHolderTold}
 use Rattle.j39_traces.proofs.Identifiers.{IsOther, carries_none, planned_other}
 use Rattle.j39_traces.proofs.Logs.{IsItemInRange, TellsNothing, asked, claimed, others, silent_keep, split, tells_nothing}
 use Rattle.j39_traces.proofs.Standing.{AreStanding, HoldsAddress, at_first, preferred_below, said_held, source_below, standing_keeps, turn, turned_any}
@@ -442,15 +446,28 @@ quiet_frames_tell plan distinct own steps w run quiet log is u a claims on addre
       | inr (v, claim) ↦ absurd ((quiet v u).0 a claim)
     ]
 
--- while a message is sent nothing is undelivered
-pub sent_frames_tell : (plan : Plan) → AreNamesDistinct (units_of plan) → HaveOwnNumbers plan → Always plan (λ w. IsSending w → EachIsTold plan w)
-sent_frames_tell plan distinct own steps w run (sender, o, is) log of u a claims on address =
+-- of a plan that isn't live nothing is undelivered while a message is sent
+pub sent_frames_tell : (plan : Plan) → plan.live ≡ false → AreNamesDistinct (units_of plan) → HaveOwnNumbers plan
+    → Always plan (λ w. IsSending w → EachIsTold plan w)
+sent_frames_tell plan quiet distinct own steps w run sends log of u a claims on address =
     elim (frames_tell plan distinct own steps w run log of u a claims on address) [
       | inl holds ↦ holds
       | inr (v, claim) ↦
-          let none : w.claims v u ≡ [] = (reports_sound plan steps w run).delivered sender o is v u in
+          let none : w.claims v u ≡ [] = delivered_while plan quiet steps w run sends v u in
           absurd (nothing_there (subst (λ (xs : List Item). Contains xs (Told (Claim a))) none claim))
     ]
   where
     nothing_there : Contains [] (Told (Claim a)) → ⊥
     nothing_there (k, inside, at) = absurd (omega (arith, inside))
+
+-- of a plan without findings no claim is undelivered of an address at which a unit is alone
+pub alone_frames_tell : (plan : Plan) → Clean plan → AreNamesDistinct (units_of plan) → HaveOwnNumbers plan
+    → Always plan (λ w. (u : ℕ) → IsAloneThere plan.keep_free (units_of plan) u → IsHolderTold plan w u)
+alone_frames_tell plan clean distinct own steps w run u alone log of a claims on address =
+    elim (frames_tell plan distinct own steps w run log of u a claims on address) [
+      | inl holds ↦ holds
+      | inr (v, claim) ↦
+          let is = undisturbed_on plan clean steps w run u alone on in
+          let same : a ≡ (unit_at (units_of plan) u).preferred = some_same a (unit_at (units_of plan) u).preferred (sym address ∙ is.held) in
+          absurd (is.unclaimed v (subst (λ (k : ℕ). Contains (w.claims v u) (Told (Claim k))) same claim))
+    ]

@@ -30,7 +30,7 @@ use Rattle.j39_findings.proofs.PrivateGroups.{not_both_taken}
 use Rattle.j39_signal.specs.Selectors.{is_selected}
 use Rattle.j39_world.specs.Flows.{flows_of, has_length, is_short}
 use Rattle.j39_world.specs.Opening.{AreNamesDistinct}
-use Rattle.j39_world.specs.PlannedUnits.{planned_unit, unit_at, units_of}
+use Rattle.j39_findings.specs.PlannedUnits.{planned_unit, unit_at, units_of}
 use Rattle.j39_world.specs.Run.{StepsTo, refusal}
 use Rattle.j39_world.specs.SoundPlan.{Always}
 use Rattle.j39_world.specs.World.{World}
@@ -412,4 +412,4 @@ pub told_as_begun : (plan : Plan) → Clean plan → EachClaims plan → Always 
 told_as_begun plan clean claims steps w run =
     let distinct = (clean_units plan clean).names in
     let own = own_numbers plan clean in
-    are_told plan clean distinct own claims w (all_told plan distinct own steps w run) (all_ends plan steps w run)
+    are_told plan clean distinct own claims w (all_told plan distinct own steps w run) (all_ends plan (inr clean) steps w run)

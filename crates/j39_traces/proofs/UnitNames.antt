@@ -1,5 +1,5 @@
 -- The unit of a planned NAME, where no two units have one.
-use Rattle.std.proofs.Common.{◌≡◌, ◌≢◌, ℕ, zero, suc, ◌+◌, ◌<◌, ◌==◌, ◌&&◌, ◌^◌, ◌%◌, ◌/◌, ◌*◌, Bool, true, false, not, List, [], ◌∷◌, length, map, Option, Some, None, inl, inr, refl, sym, ap, subst, ◌∙◌, arith, eqb-true}
+use Rattle.std.proofs.Common.{◌≡◌, ◌≢◌, ℕ, zero, suc, ◌+◌, ◌<◌, ◌==◌, ◌&&◌, ◌^◌, ◌%◌, ◌/◌, Bool, true, false, not, List, [], ◌∷◌, length, map, Option, Some, None, inl, inr, refl, sym, ap, ◌∙◌, arith, eqb-true}
 use Rattle.std.specs.FinSet.{FinSet}
 use Rattle.std.specs.List.{slice_get}
 use Rattle.std.specs.Option.{option_or}
@@ -13,7 +13,7 @@ use Rattle.j39_findings.specs.declared.plan.unit_plan.UnitPlan.{UnitPlan}
 use Rattle.j39_laws.proofs.Runs.Conditions.{is_unit}
 use Rattle.j39_laws.proofs.Runs.Units.{in_units, names_differ}
 use Rattle.j39_world.specs.Opening.{AreNamesDistinct}
-use Rattle.j39_world.specs.PlannedUnits.{planned_unit, unit_at, units_of}
+use Rattle.j39_findings.specs.PlannedUnits.{planned_unit, unit_at, units_of}
 use Rattle.j39_world.specs.Run.{count_of}
 use Rattle.j39_follow.specs.Who.{numbered_unit, unit_of_kind, unit_of_name}
 use Rattle.j39_follow.proofs.UnitNames.{both, none_some, position_at, position_none, second_false, some_same}

@@ -1,5 +1,5 @@
 -- Between whom the frames of messages go (SAE J1939-21, transport protocol functions), as a log of a world's frames is followed.
-use Rattle.std.specs.Prelude.{◌≡◌, ◌⊎◌, ℕ, true, false, ◌||◌, Bool, List, [], ◌∷◌, ◌++◌, map, Some}
+use Rattle.std.specs.Prelude.{◌≡◌, ◌≢◌, ◌⊎◌, ℕ, true, false, ◌||◌, Bool, List, [], ◌∷◌, ◌++◌, map, Some}
 use Rattle.std.specs.List.{slice_get}
 use Rattle.j39_id.specs.Ident.{pgn_of}
 use Rattle.j39_id.specs.Pgn.{is_pdu2}
@@ -10,15 +10,15 @@ use Rattle.j39_findings.specs.declared.plan.Plan.{Plan}
 use Rattle.j39_findings.specs.declared.plan.to.To.{To}
 use Rattle.j39_findings.specs.declared.plan.to.To.TheVariants.{All, One}
 use Rattle.j39_findings.specs.declared.steps.Step.{Step}
-use Rattle.j39_findings.specs.declared.steps.Step.TheVariants.{Begin, Send, Emit, Take, LateSender, LateReceiver}
+use Rattle.j39_findings.specs.declared.steps.Step.TheVariants.{Begin, Down, Send, Emit, Take, LateSender, LateReceiver}
 use Rattle.j39_id.specs.FrameMeaning.{carries_name, requests_group}
 use Rattle.j39_world.specs.declared.flow.Flow.{Flow}
-use Rattle.j39_world.specs.Flows.{flows_of}
-use Rattle.j39_world.specs.PlannedUnits.{unit_at, units_of}
+use Rattle.j39_world.specs.Flows.{FlowGoes, flows_of}
+use Rattle.j39_findings.specs.PlannedUnits.{unit_at, units_of}
 use Rattle.j39_world.specs.Run.{Follows}
 use Rattle.j39_world.specs.Sent.{Sent, sent_of}
 use Rattle.j39_world.specs.SoundPlan.{IsSending}
-use Rattle.j39_world.specs.Transfers.{Outgoing}
+use Rattle.j39_world.specs.Transfers.{Outgoing, is_among}
 use Rattle.j39_world.specs.World.{World}
 use Rattle.j39_follow.specs.FollowReports.{is_to_all}
 use Rattle.j39_follow.specs.Who.{IsWho}
@@ -26,10 +26,6 @@ use Rattle.j39_follow.specs.declared.who.Who.TheVariants.{Holder}
 use Rattle.j39_traces.specs.Telling.{IsLogOf}
 
 -- ---- who sends, and for whom
-
--- the flow at this place of the plan goes from the unit to these
-abbrev pub FlowGoes : Plan → ℕ → ℕ → To → Type 0
-FlowGoes plan f u to = (flow : Flow) × (slice_get (flows_of plan) f ≡ Some flow) × (flow.sender ≡ u) × (flow.to ≡ to)
 
 -- the unit is between the beginning of a message and its rest, and the message is of a flow from it to these
 abbrev pub SendsTo : Plan → World → ℕ → To → Type 0
@@ -72,13 +68,23 @@ IsOfStep plan _ i = IsTransport (pgn_of i)
 abbrev pub HasAddress : World → ℕ → Type 0
 HasAddress w u = ((w.stations u).on ≡ true) × ((a : ℕ) × ((w.stations u).address ≡ Some a))
 
+-- the unit sends a message, or one is for it alone and it hasn't gone off since
+abbrev pub IsAnEnd : World → ℕ → Type 0
+IsAnEnd w u =
+    ((s : Outgoing) × (w.sessions u ≡ Some s))
+    ⊎ ((x : ℕ) × (s : Outgoing) × (w.sessions x ≡ Some s) × (s.to ≡ One u) × (is_among s.targets u ≡ true))
+
 pub record EndsKeepAddresses (plan : Plan) (w : World) : Type 0 where
-  -- who sends a message is on and holds an address, and so is the unit that it is for, where it is for one; it is of a flow between them
+  -- who sends a message is on and holds an address, and so is the unit that it is for, where it is for one, of a live plan while this one hasn't
+  -- gone off since; it is of a flow between them
   pub sender : (u : ℕ) (s : Outgoing) → w.sessions u ≡ Some s → HasAddress w u
-  pub receiver : (u v : ℕ) (s : Outgoing) → w.sessions u ≡ Some s → s.to ≡ One v → HasAddress w v
+  pub receiver : (u v : ℕ) (s : Outgoing) → w.sessions u ≡ Some s → s.to ≡ One v → (plan.live ≡ true → is_among s.targets v ≡ true) → HasAddress w v
   pub flow : (u : ℕ) (s : Outgoing) → w.sessions u ≡ Some s → FlowGoes plan s.flow u s.to
-  -- while a message is sent, whoever sends it, no step changes the address of any unit, nor what else it is
-  pub still : IsSending w → (step : Step) (after : World) → Follows plan w step after → after.stations ≡ w.stations
+  -- of a plan that isn't live, while a message is sent, whoever sends it, no step changes the address of any unit, nor what else it is
+  pub still : plan.live ≡ false → IsSending w → (step : Step) (after : World) → Follows plan w step after → after.stations ≡ w.stations
+  -- of a live one no step but its own Down switches an end off or changes its address
+  pub stays : plan.live ≡ true → (u : ℕ) → IsAnEnd w u → (step : Step) (after : World) → step ≢ Down u → Follows plan w step after
+      → ((after.stations u).on ≡ true) × ((after.stations u).address ≡ (w.stations u).address)
 
 -- ---- their addresses
 

@@ -1,3 +1,4 @@
 pub mod Between
 pub mod Telling
 pub mod ToldFlows
+pub mod VehicleRuns

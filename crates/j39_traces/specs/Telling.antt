@@ -8,7 +8,7 @@ use Rattle.j39_claim.specs.declared.item.Say.TheVariants.{Claim}
 use Rattle.j39_claim.specs.declared.item.Item.TheVariants.{Told}
 use Rattle.j39_findings.specs.declared.plan.Plan.{Plan}
 use Rattle.j39_findings.specs.declared.plan.group_plan.GroupPlan.{GroupPlan}
-use Rattle.j39_world.specs.PlannedUnits.{units_of, unit_at}
+use Rattle.j39_findings.specs.PlannedUnits.{units_of, unit_at}
 use Rattle.j39_world.specs.Sent.{sent_of}
 use Rattle.j39_world.specs.World.{World, Undelivered}
 use Rattle.j39_follow.specs.Holders.{HoldsByFrames}
@@ -30,6 +30,12 @@ abbrev pub FramesTellHolders : Plan → World → Type 0
 FramesTellHolders plan w =
     (log : List Frame) → IsLogOf w log → (u a : ℕ) → (unit_at (units_of plan) u).claims ≡ true → (w.stations u).on ≡ true
     → (w.stations u).address ≡ Some a → HoldsByFrames log (unit_at (units_of plan) u).name a ⊎ IsStillToHear w.claims u a
+
+-- they tell it of this one
+abbrev pub IsHolderTold : Plan → World → ℕ → Type 0
+IsHolderTold plan w u =
+    (log : List Frame) → IsLogOf w log → (a : ℕ) → (unit_at (units_of plan) u).claims ≡ true → (w.stations u).on ≡ true
+    → (w.stations u).address ≡ Some a → HoldsByFrames log (unit_at (units_of plan) u).name a
 
 -- they tell it of each
 abbrev pub EachIsTold : Plan → World → Type 0

@@ -20,14 +20,15 @@ pub fn perform<P: Source, S: Source, W: Sink>(
         Command::Show => return show_text(alloc, plan, sink),
         Command::Addresses => return addresses_text(alloc, plan, sink),
         Command::Load => return load_text(alloc, plan, sink),
-        Command::Run | Command::Read | Command::Follow => {}
+        Command::Run | Command::Read | Command::Follow | Command::FollowAll => {}
     }
     let Some(plan) = plan_text(alloc, plan, sink)? else {
         return Ok(Verdict::Unreadable);
     };
     match command {
         Command::Run => run_planned(alloc, &plan, input, sink),
-        Command::Follow => follow_text(alloc, &plan, input, sink),
+        Command::Follow => follow_text(alloc, &plan, false, input, sink),
+        Command::FollowAll => follow_text(alloc, &plan, true, input, sink),
         _ => read_text(alloc, &plan, input, sink),
     }
 }

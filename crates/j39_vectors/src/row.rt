@@ -20,6 +20,8 @@ pub enum Command {
     Read,
     /// Who sent what in a log, the input.
     Follow,
+    /// Who sent which frames in a log, the input.
+    FollowAll,
 }
 
 /// A command with what it reads, the text that it writes then, and its verdict.

@@ -216,6 +216,7 @@ const VALUES_OF_A_PLAN: Row = Row {
     plan: TEMPERATURE,
     input: "",
     text: "top strangers 0
+top live false
 group 1 label ET1
 group 1 pgn 65262
 group 1 priority 6
@@ -465,8 +466,34 @@ frames 4 skipped 0 bad 0 elsewhere 0
     verdict: Verdict::Done,
 };
 
+const FOLLOWED_FRAMES: Row = Row {
+    name: "a log with unplanned frames, followed",
+    command: Command::FollowAll,
+    plan: ASKED,
+    input: "(1) can0 18EEFF80#0100000000000080
+(1.1) can0 18FEEF80#1111111111111111
+(1.2) can0 0CF00480#00FF
+(1.3) can0 18DA8005#01
+(1.4) can0 18EA8005#EFFE00
+",
+    text: "1 (1) claim A@128
+2 (1.1) group STATE from A@128 to all flow 1 bytes 1111111111111111
+3 (1.2) frame 61444 from A@128 to all priority 3 bytes 00FF
+4 (1.3) frame 55808 from C?@5 to A@128 priority 6 bytes 01
+5 (1.4) request 65263 from C?@5 to A@128 request 1
+flow 1 STATE from A to all sent 1
+group STATE no_flow 0 other 0
+unit A address 128
+unit B unclaimed
+unit C unclaimed
+request 1 STATE from C to A asked 1 answered 0 refused 0
+frames 5 skipped 0 bad 0 elsewhere 0
+",
+    verdict: Verdict::Done,
+};
+
 /// Each row.
-pub const ROWS: [Row; 17] = [
+pub const ROWS: [Row; 18] = [
     FRAME,
     CHECK_OF_NOTHING,
     CHECK_OF_A_PLAN,
@@ -484,4 +511,5 @@ pub const ROWS: [Row; 17] = [
     READ_OF_A_MESSAGE,
     FOLLOWED_REQUESTS,
     FOLLOWED_CONTEST,
+    FOLLOWED_FRAMES,
 ];

@@ -1,11 +1,16 @@
 -- The command line: a subcommand for each word, with the values that it takes.
-use Rattle.std.specs.Prelude.{true, codes}
+use Rattle.std.specs.Prelude.{true, codes, Some}
 use Rattle.clap.specs.Simple.{on_top}
+use Rattle.clap.specs.declared.builder.action.ArgAction.TheVariants.{SetTrue}
 use Rattle.clap.specs.Words.{App, Rule, Text, new_app, new_rule, with_rule, with_subcommand}
 
 -- a value that has to be given
 abbrev pub value_rule : Text → Rule
 value_rule name = record (new_rule name) { required = true }
+
+-- a flag that may be given, by two hyphens and its name
+abbrev pub flag_rule : Text → Rule
+flag_rule name = record (new_rule name) { long = Some name; action = Some SetTrue }
 
 -- a subcommand that takes one value
 abbrev pub one_value : Text → Text → App
@@ -14,6 +19,10 @@ one_value name value = with_rule (new_app name) (value_rule value)
 -- a subcommand that takes two values
 abbrev pub two_values : Text → Text → Text → App
 two_values name value other = with_rule (one_value name value) (value_rule other)
+
+-- one that takes two values, and may have a flag
+abbrev pub two_values_and_flag : Text → Text → Text → Text → App
+two_values_and_flag name value other flag = with_rule (two_values name value other) (flag_rule flag)
 
 -- the words after the program's name, of which the first is a subcommand
 abbrev pub program : App
@@ -35,4 +44,4 @@ commands =
     (one_value (codes "load") (codes "PLAN")).top)
     (two_values (codes "run") (codes "PLAN") (codes "SCHEDULE")).top)
     (two_values (codes "read") (codes "PLAN") (codes "LOG")).top)
-    (two_values (codes "follow") (codes "PLAN") (codes "LOG")).top
+    (two_values_and_flag (codes "follow") (codes "PLAN") (codes "LOG") (codes "all")).top

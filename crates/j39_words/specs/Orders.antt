@@ -1,6 +1,6 @@
 -- What a command line orders.
-use Rattle.std.specs.Prelude.{◌≡◌, ◌⊎◌, Bool, true, false, List, Option, Some, codes, string_bytes, [], ◌∷◌}
-use Rattle.clap.specs.Words.{IsAmong, Kinds, Row, Text, fault_of, first_of, subcommand_of}
+use Rattle.std.specs.Prelude.{◌≡◌, ◌⊎◌, Bool, true, false, List, None, Option, Some, codes, string_bytes, [], ◌∷◌}
+use Rattle.clap.specs.Words.{IsAmong, Kinds, Row, Text, fault_of, first_of, one_of, subcommand_of}
 use Rattle.j39_words.specs.Commands.{commands}
 use Rattle.clap.specs.declared.error.kind.ErrorKind.{ErrorKind}
 use Rattle.clap.specs.declared.error.kind.ErrorKind.TheVariants as kind
@@ -10,6 +10,12 @@ use Rattle.j39_words.specs.declared.orders.Order.TheVariants.{Input, Frame, Show
 -- the subcommand that was met has this name, and the value by this name is the text
 abbrev pub HasValue : Option (Text × List Row) → Text → Text → Text → Type 0
 HasValue met name value text = (rows : List Row) × (met ≡ Some (name, rows)) × (first_of value rows ≡ Some text)
+
+-- the subcommand that was met has this name, and of the flag by this name it says whether it is given
+abbrev pub HasFlag : Option (Text × List Row) → Text → Text → Bool → Type 0
+HasFlag met name flag given =
+    (rows : List Row) × (met ≡ Some (name, rows)) × (one_of flag rows ≡ Some (codes "true") → given ≡ true)
+    × (one_of flag rows ≡ Some (codes "false") → given ≡ false) × (one_of flag rows ≡ None → given ≡ false)
 
 -- the order is the subcommand that was met, with its values, or the words ask for a text of help
 abbrev pub Orders : Option (Text × List Row) → Order → Type 0
@@ -22,8 +28,9 @@ Orders met (Run plan schedule) =
     HasValue met (codes "run") (codes "PLAN") (string_bytes plan) × HasValue met (codes "run") (codes "SCHEDULE") (string_bytes schedule)
 Orders met (Read plan log) =
     HasValue met (codes "read") (codes "PLAN") (string_bytes plan) × HasValue met (codes "read") (codes "LOG") (string_bytes log)
-Orders met (Follow plan log) =
+Orders met (Follow plan log all_frames) =
     HasValue met (codes "follow") (codes "PLAN") (string_bytes plan) × HasValue met (codes "follow") (codes "LOG") (string_bytes log)
+    × HasFlag met (codes "follow") (codes "all") all_frames
 Orders met Input = ⊥
 Orders met (Help text) = Unit {0}
 
@@ -37,7 +44,7 @@ IsHelp (Addresses plan) = ⊥
 IsHelp (Load plan) = ⊥
 IsHelp (Run plan schedule) = ⊥
 IsHelp (Read plan log) = ⊥
-IsHelp (Follow plan log) = ⊥
+IsHelp (Follow plan log all_frames) = ⊥
 
 -- what the words order: the input where there are none, and else what they name
 abbrev pub IsOrdered : List Text → Order → Type 0

@@ -1,6 +1,6 @@
 //! The words of the command line, read.
 ghost use Rattle.std.specs.Prelude.{◌≡◌, ◌≢◌, Err, None, true, false, [], IfOk, Some, codes, map, string_bytes};
-ghost use Rattle.clap.specs.Words.{first_of, found_of, kind_of, rows_of, subcommand_of, subcommand_rows_of};
+ghost use Rattle.clap.specs.Words.{first_of, found_of, kind_of, one_of, rows_of, subcommand_of, subcommand_rows_of};
 ghost use Rattle.j39_words.specs.Commands.{commands};
 ghost use Rattle.j39_words.specs.Orders.{IsOrdered, AreRefused, AsksHelp, IsHelp, Orders, OrdersNothing, asks_for_text};
 ghost use Rattle.j39_words.specs.declared.orders.WordsFault.TheVariants.{Bad, Memory};
@@ -23,6 +23,15 @@ fn value(alloc: Global, values: &ArgMatches, name: &str) -> Result<String, Words
     }
 }
 
+// Whether a flag of a command is given.
+fn is_given(values: &ArgMatches, flag: &str) -> bool
+    ensures given { one_of flag.now (rows_of (found_of values.now)) ≡ Some (codes "true") → result ≡ true }
+    ensures not_given { one_of flag.now (rows_of (found_of values.now)) ≡ Some (codes "false") → result ≡ false }
+    ensures unsaid { one_of flag.now (rows_of (found_of values.now)) ≡ None → result ≡ false }
+{
+    values.get_flag(flag)
+}
+
 // What a command orders whose first value is a plan.
 fn of_plan(alloc: Global, name: &str, values: &ArgMatches) -> Result<Order, WordsFault>
     requires { name.now ≡ codes "frame" → ⊥ }
@@ -38,7 +47,7 @@ fn of_plan(alloc: Global, name: &str, values: &ArgMatches) -> Result<Order, Word
         "load" => Ok(Order::Load(plan)),
         "run" => Ok(Order::Run(plan, value(alloc, values, "SCHEDULE")?)),
         "read" => Ok(Order::Read(plan, value(alloc, values, "LOG")?)),
-        "follow" => Ok(Order::Follow(plan, value(alloc, values, "LOG")?)),
+        "follow" => Ok(Order::Follow(plan, value(alloc, values, "LOG")?, is_given(values, "all"))),
         _ => Err(WordsFault::Bad),
     }
 }

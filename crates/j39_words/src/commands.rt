@@ -2,9 +2,9 @@
 ghost use Rattle.std.specs.Prelude.{◌≡◌, false, IfOk, IsOkAnd, codes};
 ghost use Rattle.clap.specs.Words.{app_of, rule_of, with_subcommand};
 ghost use Rattle.clap.specs.declared.builder.command.Command.TheViews.{out-Command as fields_of};
-ghost use Rattle.j39_words.specs.Commands.{commands, one_value, program, two_values, value_rule};
+ghost use Rattle.j39_words.specs.Commands.{commands, flag_rule, one_value, program, two_values, two_values_and_flag, value_rule};
 
-use clap::{Arg, Command};
+use clap::{Arg, ArgAction, Command};
 use std::alloc::{AllocError, Global};
 
 const ABOUT: &str = "Checks a SAE J1939 network plan before its units meet on the bus";
@@ -41,6 +41,17 @@ fn value<'a>(alloc: Global, name: &'a str, help: &'a str) -> Arg<'a>
     Arg::new(alloc, name).required(true).help(help)
 }
 
+// A flag that may be given, by two hyphens and its name.
+fn flag<'a>(alloc: Global, name: &'a str, help: &'a str) -> Arg<'a>
+    ensures rule { rule_of result ≡ flag_rule name.entry.now }
+    ensures local { result.global ≡ false }
+{
+    Arg::new(alloc, name)
+        .long(name)
+        .action(ArgAction::SetTrue)
+        .help(help)
+}
+
 // A command that takes one value.
 fn one_value<'a>(
     alloc: Global,
@@ -71,6 +82,26 @@ fn two_values<'a>(
     ensures local { IfOk result (λ c. (fields_of c).has_globals ≡ false) }
 {
     one_value(alloc, name, about, first, first_help)?.arg(value(alloc, second, second_help))
+}
+
+fn follow<'a>(alloc: Global) -> Result<Command<'a>, AllocError>
+    ensures app { IfOk result (λ c. app_of c ≡ two_values_and_flag (codes "follow") (codes "PLAN") (codes "LOG") (codes "all")) }
+    ensures local { IfOk result (λ c. (fields_of c).has_globals ≡ false) }
+{
+    two_values(
+        alloc,
+        "follow",
+        "Shows who sent what in the log, by the claims of the log itself",
+        "PLAN",
+        "The name of a plan file",
+        "LOG",
+        "The name of a file as candump -L writes it, of one interface, with R or T behind the data or without",
+    )?
+    .arg(flag(
+        alloc,
+        "all",
+        "Shows each frame of the log of which there is no other line, too",
+    ))
 }
 
 // Adds a subcommand, if both could be made.
@@ -186,14 +217,5 @@ pub(super) fn commands<'a>(alloc: Global) -> Result<Command<'a>, AllocError>
         "The name of a file as candump -L writes it. If the last line counts bad lines, words behind the data, as R or T, \
         are the usual cause: sed -E 's/ [RT]\\r?$//' LOG takes them away",
     );
-    with_two(
-        reads,
-        alloc,
-        "follow",
-        "Shows who sent what in the log, by the claims of the log itself",
-        "PLAN",
-        "The name of a plan file",
-        "LOG",
-        "The name of a file as candump -L writes it, of one interface, with R or T behind the data or without",
-    )
+    with(reads, follow(alloc))
 }

@@ -24,8 +24,9 @@ pub enum Order {
     Run(String, String),
     /// `read PLAN LOG`: what the log says of the plan's groups, the files of these names.
     Read(String, String),
-    /// `follow PLAN LOG`: who sent what in the log, by its own claims, the files of these names.
-    Follow(String, String),
+    /// `follow PLAN LOG`: who sent what in the log, by its own claims, the files of these names; with `--all`, which is
+    /// true then, of all frames.
+    Follow(String, String, bool),
     /// The help of the program or of a command, or the program's version: this text.
     Help(String),
 }

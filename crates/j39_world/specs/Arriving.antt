@@ -8,7 +8,7 @@ use Rattle.j39_tp.specs.declared.sending.stage.Stage.TheVariants.{Resting}
 use Rattle.j39_findings.specs.declared.plan.Plan.{Plan}
 use Rattle.j39_findings.specs.declared.plan.to.To.TheVariants as tos
 use Rattle.j39_findings.specs.declared.steps.Step.{Step}
-use Rattle.j39_findings.specs.declared.steps.Step.TheVariants.{Begin, Emit, Take, Lose, LateSender, LateReceiver, Rest}
+use Rattle.j39_findings.specs.declared.steps.Step.TheVariants.{Begin, Down, Emit, Take, Lose, LateSender, LateReceiver, Rest}
 use Rattle.j39_world.specs.declared.flow.Flow.{Flow}
 use Rattle.j39_world.specs.declared.wired.Wired.{Wired}
 use Rattle.j39_world.specs.Flows.{flows_of, is_short}
@@ -19,11 +19,11 @@ use Rattle.j39_world.specs.Transfers.{Outgoing, is_among}
 use Rattle.j39_world.specs.TransferSteps.{outgoing, begins}
 use Rattle.j39_world.specs.World.{World}
 
--- its sender rests with this outcome, and each receiver has reported it once since the first of two worlds, and nothing else of this
--- sender
-pub record HasArrived (before after : World) (u : ℕ) (message : Outgoing) (outcome : Outcome) : Type 0 where
+-- its sender rests with this outcome, and each of these receivers has reported it once since the first of two worlds, and nothing else of
+-- this sender
+pub record HasArrived (before after : World) (u : ℕ) (message : Outgoing) (receivers : List ℕ) (outcome : Outcome) : Type 0 where
   pub rests : (s : Outgoing) × (after.sessions u ≡ Some s) × (s.stage ≡ Resting outcome)
-  pub reports : (v : ℕ) → is_among message.targets v ≡ true
+  pub reports : (v : ℕ) → is_among receivers v ≡ true
       → reported after.reports v u ≡ reported before.reports v u ++ record { flow = message.flow; bytes = message.bytes } ∷ []
 
 -- ---- a message that no receiver answers
@@ -37,59 +37,63 @@ abbrev pub oldest_passes : (Wired → Bool) → List Wired → Bool
 oldest_passes test [] = true
 oldest_passes test (item ∷ rest) = is_alone item || test item
 
--- by the step nothing of u's message to these units is lost, none of them hears nothing of u in time, and u isn't idle; what u answers them
--- may be lost, and what it sends alone
-abbrev pub Spares : World → ℕ → List ℕ → Step → Type 0
-Spares w u targets (Lose s t) = s ≡ u → is_among targets t ≡ true → oldest_passes is_of_receiver (w.wire u t) ≡ true
-Spares w u targets (LateReceiver s t) = s ≡ u → is_among targets t ≡ true → ⊥
-Spares w u targets (Rest s) = s ≢ u
-Spares w u targets _ = Unit {0}
+-- by the step nothing of u's message to these units is lost, none of them hears nothing of u in time, u isn't idle, and none of them all goes
+-- off; what u answers them may be lost, and what it sends alone
+abbrev pub Spares : Plan → World → ℕ → List ℕ → Step → Type 0
+Spares plan w u targets (Lose s t) = s ≡ u → is_among targets t ≡ true → oldest_passes is_of_receiver (w.wire u t) ≡ true
+Spares plan w u targets (LateReceiver s t) = s ≡ u → is_among targets t ≡ true → ⊥
+Spares plan w u targets (Rest s) = s ≢ u
+Spares plan w u targets (Down s) = refusal plan w (Down s) ≡ None → (s ≢ u) × (is_among targets s ≡ false)
+Spares plan w u targets _ = Unit {0}
 
 -- a run of steps that spare it
 abbrev pub RunSparing : Plan → ℕ → List ℕ → World → List Step → World → Type 0
 RunSparing plan u targets w [] new = new ≡ w
 RunSparing plan u targets w (step ∷ steps) new =
-    Spares w u targets step × ((mid : World) × Follows plan w step mid × RunSparing plan u targets mid steps new)
+    Spares plan w u targets step × ((mid : World) × Follows plan w step mid × RunSparing plan u targets mid steps new)
 
 -- u can't send more, and none of these units can take more of u
 pub record IsThrough (plan : Plan) (w : World) (u : ℕ) (targets : List ℕ) : Type 0 where
   pub sent : refusal plan w (Emit u) ≢ None
   pub taken : (v : ℕ) → is_among targets v ≡ true → refusal plan w (Take u v) ≢ None
 
--- a message that is begun here and that no receiver answers has arrived in each world to which steps lead that spare it, once its sender
--- can send no more and its receivers can take no more of its sender
+-- a message that is begun here and that no receiver answers has arrived at each of some of its receivers in each world to which steps lead
+-- that spare it to these, whatever becomes of it at the others, once its sender can send no more and these can take no more of its sender
 abbrev pub ArrivesUnanswered : Plan → World → Type 0
 ArrivesUnanswered plan w =
-    (f : ℕ) (flow : Flow) (bytes : List ℕ) (steps : List Step) (after : World)
-    → slice_get (flows_of plan) f ≡ Some flow → IsUnanswered flow bytes → begin_refusal (count_of plan) w (Some flow) bytes ≡ None
-    → RunSparing plan flow.sender (outgoing (count_of plan) w.stations f flow bytes).targets (begins (count_of plan) w f flow bytes) steps after
-    → IsThrough plan after flow.sender (outgoing (count_of plan) w.stations f flow bytes).targets
-    → HasArrived w after flow.sender (outgoing (count_of plan) w.stations f flow bytes) Sent
+    (f : ℕ) (flow : Flow) (bytes meant : List ℕ) (steps : List Step) (after : World)
+    → slice_get (flows_of plan) f ≡ Some flow → IsUnanswered flow bytes → begin_refusal plan.live (count_of plan) w (Some flow) bytes ≡ None
+    → ((v : ℕ) → is_among meant v ≡ true → is_among (outgoing (count_of plan) w.stations f flow bytes).targets v ≡ true)
+    → RunSparing plan flow.sender meant (begins (count_of plan) w f flow bytes) steps after
+    → IsThrough plan after flow.sender meant
+    → HasArrived w after flow.sender (outgoing (count_of plan) w.stations f flow bytes) meant Sent
 
 -- each such message that can be begun here can arrive: some run spares it, and all of it is taken
 abbrev pub CanArriveUnanswered : Plan → World → Type 0
 CanArriveUnanswered plan w =
     (f : ℕ) (flow : Flow) (bytes : List ℕ)
-    → slice_get (flows_of plan) f ≡ Some flow → IsUnanswered flow bytes → begin_refusal (count_of plan) w (Some flow) bytes ≡ None
+    → slice_get (flows_of plan) f ≡ Some flow → IsUnanswered flow bytes → begin_refusal plan.live (count_of plan) w (Some flow) bytes ≡ None
     → (steps : List Step) × (after : World)
     × RunSparing plan flow.sender (outgoing (count_of plan) w.stations f flow bytes).targets (begins (count_of plan) w f flow bytes) steps after
     × IsThrough plan after flow.sender (outgoing (count_of plan) w.stations f flow bytes).targets
 
 -- ---- a message of several frames to one unit
 
--- by the step nothing is lost of u's message to v nor of what answers it, neither of the two hears nothing of it in time, and u isn't idle
-abbrev pub SparesBetween : World → ℕ → ℕ → Step → Type 0
-SparesBetween w u v (Lose s t) =
+-- by the step nothing is lost of u's message to v nor of what answers it, neither of the two hears nothing of it in time nor goes off, and u
+-- isn't idle
+abbrev pub SparesBetween : Plan → World → ℕ → ℕ → Step → Type 0
+SparesBetween plan w u v (Lose s t) =
     (s ≡ u → t ≡ v → oldest_passes is_of_receiver (w.wire u v) ≡ true) × (s ≡ v → t ≡ u → oldest_passes is_of_sender (w.wire v u) ≡ true)
-SparesBetween w u v (LateSender s) = s ≢ u
-SparesBetween w u v (LateReceiver s t) = s ≡ u → t ≢ v
-SparesBetween w u v (Rest s) = s ≢ u
-SparesBetween w u v _ = Unit {0}
+SparesBetween plan w u v (LateSender s) = s ≢ u
+SparesBetween plan w u v (LateReceiver s t) = s ≡ u → t ≢ v
+SparesBetween plan w u v (Rest s) = s ≢ u
+SparesBetween plan w u v (Down s) = refusal plan w (Down s) ≡ None → (s ≢ u) × (s ≢ v)
+SparesBetween plan w u v _ = Unit {0}
 
 -- a run of steps that spare it
 abbrev pub SparingRun : Plan → ℕ → ℕ → World → List Step → World → Type 0
 SparingRun plan u v w [] new = new ≡ w
-SparingRun plan u v w (step ∷ steps) new = SparesBetween w u v step × ((mid : World) × Follows plan w step mid × SparingRun plan u v mid steps new)
+SparingRun plan u v w (step ∷ steps) new = SparesBetween plan w u v step × ((mid : World) × Follows plan w step mid × SparingRun plan u v mid steps new)
 
 -- u can't send more, and neither of the two can take more of the other
 pub record IsThroughBetween (plan : Plan) (w : World) (u v : ℕ) : Type 0 where
@@ -109,7 +113,7 @@ pub record Answered (plan : Plan) (w : World) : Type 0 where
   pub planned : slice_get (flows_of plan) place ≡ Some flow
   pub one : flow.to ≡ tos.One receiver
   pub several : is_short (length bytes) ≡ false
-  pub allowed : begin_refusal (count_of plan) w (Some flow) bytes ≡ None
+  pub allowed : begin_refusal plan.live (count_of plan) w (Some flow) bytes ≡ None
   pub runs : SparingRun plan flow.sender receiver (begins (count_of plan) w place flow bytes) steps after
   pub through : IsThroughBetween plan after flow.sender receiver
 
@@ -133,7 +137,8 @@ pub record IsAlone (plan : Plan) (w : World) (m : Answered plan w) : Type 0 wher
 
 -- its sender rests acknowledged, and its receiver has reported it once since
 abbrev pub HasArrivedAnswered : (plan : Plan) (w : World) → Answered plan w → Type 0
-HasArrivedAnswered plan w m = HasArrived w m.after m.flow.sender (outgoing (count_of plan) w.stations m.place m.flow m.bytes) Acked
+HasArrivedAnswered plan w m =
+    HasArrived w m.after m.flow.sender (outgoing (count_of plan) w.stations m.place m.flow m.bytes) (m.receiver ∷ []) Acked
 
 abbrev pub ArrivesAnswered : Plan → World → Type 0
 ArrivesAnswered plan w = (m : Answered plan w) → IsAlone plan w m → HasArrivedAnswered plan w m
@@ -144,5 +149,5 @@ abbrev pub CanArriveAnswered : Plan → World → Type 0
 CanArriveAnswered plan w =
     (f : ℕ) (flow : Flow) (v : ℕ) (bytes : List ℕ)
     → slice_get (flows_of plan) f ≡ Some flow → flow.to ≡ tos.One v → is_short (length bytes) ≡ false
-    → begin_refusal (count_of plan) w (Some flow) bytes ≡ None → SendsOther (w.sessions v) flow.sender flow.pgn
+    → begin_refusal plan.live (count_of plan) w (Some flow) bytes ≡ None → SendsOther (w.sessions v) flow.sender flow.pgn
     → (m : Answered plan w) × (m.place ≡ f) × (m.bytes ≡ bytes) × IsAlone plan w m

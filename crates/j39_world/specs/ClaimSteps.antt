@@ -5,8 +5,8 @@ use Rattle.j39_claim.specs.declared.item.Say.{Say}
 use Rattle.j39_claim.specs.declared.item.Say.TheVariants.{Claim}
 use Rattle.j39_claim.specs.declared.item.Item.{Item}
 use Rattle.j39_claim.specs.declared.item.Item.TheVariants.{Told, Request}
-use Rattle.j39_claim.specs.ClaimRule.{PlannedUnit, ClaimState, Reacts, claim_of, off, said_by, started}
-use Rattle.j39_world.specs.PlannedUnits.{unit_at}
+use Rattle.j39_claim.specs.ClaimRule.{PlannedUnit, ClaimState, Reacts, claim_of, said_by, started}
+use Rattle.j39_findings.specs.PlannedUnits.{unit_at}
 use Rattle.j39_world.specs.Sent.{frame_of}
 use Rattle.j39_world.specs.World.{World, Stations, Undelivered, changed, changed_pair, is_other_on}
 
@@ -45,16 +45,6 @@ switched_on units w u =
       wire = without_lists_to u w.wire;
     })
     u (first_items (unit_at units u))
-
--- u is switched off: what was undelivered to it is gone, what it sent is heard later. Nobody sends a message then, so it has no
--- session that could end
-abbrev pub switched_off : World → ℕ → World
-switched_off w u =
-    record w {
-      stations = changed w.stations u off;
-      claims = without_lists_to u w.claims;
-      wire = without_lists_to u w.wire;
-    }
 
 -- a request, and what the unit says of itself that asks, if it claims
 abbrev pub asking_items : Option Say → List Item

@@ -56,6 +56,10 @@ can_go_to flow (One v) = not (nat_eq v flow.sender) && not (is_pdu2 flow.pgn && 
 abbrev pub can_be_sent : Flow → Bool
 can_be_sent flow = can_go_to flow flow.to
 
+-- the flow at this place of the plan goes from the unit to these
+abbrev pub FlowGoes : Plan → ℕ → ℕ → To → Type 0
+FlowGoes plan f u to = (flow : Flow) × (slice_get (flows_of plan) f ≡ Some flow) × (flow.sender ≡ u) × (flow.to ≡ to)
+
 -- ---- plans whose groups have one length each
 
 -- the flow has messages of one length

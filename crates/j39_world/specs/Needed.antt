@@ -17,7 +17,7 @@ use Rattle.j39_world.specs.Arriving.{Answered, IsAlone, IsThrough, IsUnanswered,
 use Rattle.j39_world.specs.Flows.{flow_of, flows_of}
 use Rattle.j39_world.specs.Run.{begin_refusal, count_of, is_on}
 use Rattle.j39_world.specs.Sound.{reported}
-use Rattle.j39_world.specs.TransferSteps.{begins, outgoing}
+use Rattle.j39_world.specs.TransferSteps.{begins}
 use Rattle.j39_world.specs.World.{World}
 use Rattle.j39_world.specs.declared.flow.Flow.{Flow}
 
@@ -41,15 +41,14 @@ pub record NeededMessage (plan : Plan) : Type 0 where
 abbrev pub bytes_of : {plan : Plan} → NeededMessage plan → List ℕ
 bytes_of m = last_payload m.start m.writes
 
--- it is begun in the first of two worlds, and nothing of it is lost up to the second, where its sender can send no more and its receivers can
--- take no more of it: it is one that no receiver answers and steps that spare it lead there, or one that its receiver answers
+-- it is begun in the first of two worlds, and nothing of it is lost up to the second at the need's unit, where its sender can send no more and
+-- this unit can take no more of it: it is one that no receiver answers and steps that spare it lead there, or one that its receiver answers
 abbrev pub IsDelivered : (plan : Plan) → NeededMessage plan → World → World → Type 0
 IsDelivered plan m w after =
     ((flow : Flow) × (steps : List Step) × (slice_get (flows_of plan) m.place ≡ Some flow) × IsUnanswered flow (bytes_of m)
-    × (begin_refusal (count_of plan) w (Some flow) (bytes_of m) ≡ None)
-    × RunSparing plan flow.sender (outgoing (count_of plan) w.stations m.place flow (bytes_of m)).targets
-    (begins (count_of plan) w m.place flow (bytes_of m)) steps after
-    × IsThrough plan after flow.sender (outgoing (count_of plan) w.stations m.place flow (bytes_of m)).targets)
+    × (begin_refusal plan.live (count_of plan) w (Some flow) (bytes_of m) ≡ None)
+    × RunSparing plan flow.sender (m.need.unit ∷ []) (begins (count_of plan) w m.place flow (bytes_of m)) steps after
+    × IsThrough plan after flow.sender (m.need.unit ∷ []))
     ⊎ ((a : Answered plan w) × IsAlone plan w a × (a.place ≡ m.place) × (a.bytes ≡ bytes_of m) × (a.after ≡ after))
 
 -- such a message that is begun in this world, while the need's unit is on, and the world in which it has arrived

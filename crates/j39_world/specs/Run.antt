@@ -16,12 +16,13 @@ use Rattle.j39_world.specs.declared.step_error.StepError.{StepError}
 use Rattle.j39_world.specs.declared.step_error.StepError.TheVariants.{UnknownUnit, NoSuchFlow, NotStarted, AlreadyStarted, NothingUndelivered, TransferOpen}
 use Rattle.j39_world.specs.declared.step_error.StepError.TheVariants.{NotSettled, NoAddress}
 use Rattle.j39_world.specs.declared.step_error.StepError.TheVariants.{Busy, WrongLength, WrongSelector, NothingToSend, NoSession, CannotRest, Memory}
-use Rattle.j39_world.specs.PlannedUnits.{units_of}
+use Rattle.j39_findings.specs.PlannedUnits.{units_of}
 use Rattle.j39_world.specs.Flows.{flows_of, windows_of, can_be_sent, has_length, is_short}
 use Rattle.j39_world.specs.declared.flow.Flow.{Flow}
 use Rattle.j39_world.specs.Transfers.{Outgoing}
 use Rattle.j39_world.specs.World.{World, Stations}
-use Rattle.j39_world.specs.ClaimSteps.{switched_on, switched_off, asked, GivenFrom}
+use Rattle.j39_world.specs.ClaimSteps.{switched_on, asked, GivenFrom}
+use Rattle.j39_world.specs.SwitchingOff.{switched_off}
 use Rattle.j39_world.specs.Resting.{can_rest}
 use Rattle.j39_world.specs.TransferSteps.{BeginsAt, SendsAt, Emits, TakenFrom, LostFrom, SenderTimesOut, receiver_timed_out, rested}
 
@@ -91,7 +92,8 @@ abbrev pub is_waiting : Option Outgoing → Bool
 is_waiting None = false
 is_waiting (Some s) = is_waiting_at s.stage
 
--- ---- refusals, in their order, each with whether it holds
+-- ---- refusals, in their order, each with whether it holds. On a live bus units are switched and ask for claims while messages are sent,
+-- and they send while claims are undelivered
 
 -- of a unit that has to be on, and of two
 abbrev pub unit_refusals : ℕ → Stations → ℕ → List (StepError × Bool)
@@ -101,12 +103,12 @@ abbrev pub pair_refusals : ℕ → Stations → ℕ → ℕ → List (StepError 
 pair_refusals count stations u v = (UnknownUnit, either (is_unknown count) u v) ∷ (NotStarted, either (is_off stations) u v) ∷ []
 
 -- of a message of these bytes by a flow
-abbrev pub begin_refusals : ℕ → World → Option Flow → List ℕ → List (StepError × Bool)
-begin_refusals count w None bytes = (NoSuchFlow, true) ∷ []
-begin_refusals count w (Some flow) bytes =
+abbrev pub begin_refusals : Bool → ℕ → World → Option Flow → List ℕ → List (StepError × Bool)
+begin_refusals live count w None bytes = (NoSuchFlow, true) ∷ []
+begin_refusals live count w (Some flow) bytes =
     (NoSuchFlow, not (can_be_sent flow))
     ∷ (NotStarted, not (at_ends (is_on w.stations) flow.sender flow.to))
-    ∷ (NotSettled, not (is_nothing_undelivered count w.claims))
+    ∷ (NotSettled, not live && not (is_nothing_undelivered count w.claims))
     ∷ (NoAddress, not (at_ends (has_address w.stations) flow.sender flow.to))
     ∷ (Busy, is_some (w.sessions flow.sender))
     ∷ (WrongLength, not (has_length flow (length bytes)))
@@ -114,12 +116,12 @@ begin_refusals count w (Some flow) bytes =
     ∷ []
 
 -- of these bytes by a flow in a frame that is sent alone: its group's messages stay in their order
-abbrev pub send_refusals : ℕ → World → Option Flow → List ℕ → List (StepError × Bool)
-send_refusals count w None bytes = (NoSuchFlow, true) ∷ []
-send_refusals count w (Some flow) bytes =
+abbrev pub send_refusals : Bool → ℕ → World → Option Flow → List ℕ → List (StepError × Bool)
+send_refusals live count w None bytes = (NoSuchFlow, true) ∷ []
+send_refusals live count w (Some flow) bytes =
     (NoSuchFlow, not (can_be_sent flow))
     ∷ (NotStarted, not (at_ends (is_on w.stations) flow.sender flow.to))
-    ∷ (NotSettled, not (is_nothing_undelivered count w.claims))
+    ∷ (NotSettled, not live && not (is_nothing_undelivered count w.claims))
     ∷ (NoAddress, not (at_ends (has_address w.stations) flow.sender flow.to))
     ∷ (Busy, is_of_group (w.sessions flow.sender) flow.pgn)
     ∷ (WrongLength, not (has_length flow (length bytes) && is_short (length bytes)))
@@ -127,34 +129,34 @@ send_refusals count w (Some flow) bytes =
     ∷ []
 
 -- of a step among so many units with these flows; want of memory is none of the world's
-abbrev pub step_refusals : ℕ → List Flow → World → Step → List (StepError × Bool)
-step_refusals count flows w (Up u) =
-    (UnknownUnit, is_unknown count u) ∷ (AlreadyStarted, is_on w.stations u) ∷ (TransferOpen, is_a_transfer_open count w) ∷ []
-step_refusals count flows w (Down u) = unit_refusals count w.stations u ++ (TransferOpen, is_a_transfer_open count w) ∷ []
-step_refusals count flows w (Give u v) =
+abbrev pub step_refusals : Bool → ℕ → List Flow → World → Step → List (StepError × Bool)
+step_refusals live count flows w (Up u) =
+    (UnknownUnit, is_unknown count u) ∷ (AlreadyStarted, is_on w.stations u) ∷ (TransferOpen, not live && is_a_transfer_open count w) ∷ []
+step_refusals live count flows w (Down u) = unit_refusals count w.stations u ++ (TransferOpen, not live && is_a_transfer_open count w) ∷ []
+step_refusals live count flows w (Give u v) =
     (UnknownUnit, either (is_unknown count) u v) ∷ (NotStarted, is_off w.stations v) ∷ (NothingUndelivered, is_empty (w.claims u v)) ∷ []
-step_refusals count flows w (Ask u) = unit_refusals count w.stations u ++ (TransferOpen, is_a_transfer_open count w) ∷ []
-step_refusals count flows w (Begin f bytes) = begin_refusals count w (slice_get flows f) bytes.items
-step_refusals count flows w (Send f bytes) = send_refusals count w (slice_get flows f) bytes.items
-step_refusals count flows w (Emit u) = unit_refusals count w.stations u ++ (NothingToSend, not (can_emit (w.sessions u))) ∷ []
-step_refusals count flows w (Take u v) = pair_refusals count w.stations u v ++ (NothingUndelivered, is_empty (w.wire u v)) ∷ []
-step_refusals count flows w (Lose u v) = pair_refusals count w.stations u v ++ (NothingUndelivered, is_empty (w.wire u v)) ∷ []
-step_refusals count flows w (LateSender u) = unit_refusals count w.stations u ++ (NoSession, not (is_waiting (w.sessions u))) ∷ []
-step_refusals count flows w (LateReceiver u v) = pair_refusals count w.stations u v ++ (NoSession, not (is_open_at (w.receivers v u))) ∷ []
-step_refusals count flows w (Rest u) = unit_refusals count w.stations u ++ (CannotRest, not (can_rest count w u)) ∷ []
+step_refusals live count flows w (Ask u) = unit_refusals count w.stations u ++ (TransferOpen, not live && is_a_transfer_open count w) ∷ []
+step_refusals live count flows w (Begin f bytes) = begin_refusals live count w (slice_get flows f) bytes.items
+step_refusals live count flows w (Send f bytes) = send_refusals live count w (slice_get flows f) bytes.items
+step_refusals live count flows w (Emit u) = unit_refusals count w.stations u ++ (NothingToSend, not (can_emit (w.sessions u))) ∷ []
+step_refusals live count flows w (Take u v) = pair_refusals count w.stations u v ++ (NothingUndelivered, is_empty (w.wire u v)) ∷ []
+step_refusals live count flows w (Lose u v) = pair_refusals count w.stations u v ++ (NothingUndelivered, is_empty (w.wire u v)) ∷ []
+step_refusals live count flows w (LateSender u) = unit_refusals count w.stations u ++ (NoSession, not (is_waiting (w.sessions u))) ∷ []
+step_refusals live count flows w (LateReceiver u v) = pair_refusals count w.stations u v ++ (NoSession, not (is_open_at (w.receivers v u))) ∷ []
+step_refusals live count flows w (Rest u) = unit_refusals count w.stations u ++ (CannotRest, not (can_rest count w u)) ∷ []
 
 -- the first that holds
-abbrev pub begin_refusal : ℕ → World → Option Flow → List ℕ → Option StepError
-begin_refusal count w flow bytes = first_fault (begin_refusals count w flow bytes)
+abbrev pub begin_refusal : Bool → ℕ → World → Option Flow → List ℕ → Option StepError
+begin_refusal live count w flow bytes = first_fault (begin_refusals live count w flow bytes)
 
-abbrev pub send_refusal : ℕ → World → Option Flow → List ℕ → Option StepError
-send_refusal count w flow bytes = first_fault (send_refusals count w flow bytes)
+abbrev pub send_refusal : Bool → ℕ → World → Option Flow → List ℕ → Option StepError
+send_refusal live count w flow bytes = first_fault (send_refusals live count w flow bytes)
 
-abbrev pub refusal_among : ℕ → List Flow → World → Step → Option StepError
-refusal_among count flows w step = first_fault (step_refusals count flows w step)
+abbrev pub refusal_among : Bool → ℕ → List Flow → World → Step → Option StepError
+refusal_among live count flows w step = first_fault (step_refusals live count flows w step)
 
 abbrev pub refusal : Plan → World → Step → Option StepError
-refusal plan w step = refusal_among (count_of plan) (flows_of plan) w step
+refusal plan w step = refusal_among plan.live (count_of plan) (flows_of plan) w step
 
 -- what an answer to a step says of its refusal: none where it was done, and none where memory was wanted
 abbrev pub cause_of : StepError → Option StepError

@@ -3,7 +3,7 @@ use Rattle.std.specs.Prelude.{◌≡◌, ◌≢◌, ℕ, ◌+◌, Bool, true, fa
 use Rattle.std.specs.List.{slice_get}
 use Rattle.j39_findings.specs.declared.plan.Plan.{Plan}
 use Rattle.j39_findings.specs.declared.steps.Step.{Step}
-use Rattle.j39_findings.specs.declared.steps.Step.TheVariants.{Lose, Take}
+use Rattle.j39_findings.specs.declared.steps.Step.TheVariants.{Down, Lose, Take}
 use Rattle.j39_world.specs.declared.flow.Flow.{Flow}
 use Rattle.j39_world.specs.declared.wired.Wired.{Wired}
 use Rattle.j39_world.specs.declared.wired.Wired.TheVariants as wired
@@ -33,16 +33,17 @@ pub record IsNextAlone (w : World) (u v place : ℕ) : Type 0 where
   pub alone : is_oldest_alone (w.wire u v) ≡ true
   pub behind : length (w.sent_alone u v) ≡ place + length (lying_alone (w.wire u v))
 
--- by the step v doesn't lose the frame at this place of those that u sends it alone; others may be lost
-abbrev pub SparesAlone : World → ℕ → ℕ → ℕ → Step → Type 0
-SparesAlone w u v place (Lose s t) = s ≡ u → t ≡ v → ¬ IsNextAlone w u v place
-SparesAlone w u v place _ = Unit {0}
+-- by the step v doesn't lose the frame at this place of those that u sends it alone, and neither of the two goes off; others may be lost
+abbrev pub SparesAlone : Plan → World → ℕ → ℕ → ℕ → Step → Type 0
+SparesAlone plan w u v place (Lose s t) = s ≡ u → t ≡ v → ¬ IsNextAlone w u v place
+SparesAlone plan w u v place (Down s) = refusal plan w (Down s) ≡ None → (s ≢ u) × (s ≢ v)
+SparesAlone plan w u v place _ = Unit {0}
 
 -- a run of steps that spare it
 abbrev pub RunSparingAlone : Plan → ℕ → ℕ → ℕ → World → List Step → World → Type 0
 RunSparingAlone plan u v place w [] new = new ≡ w
 RunSparingAlone plan u v place w (step ∷ steps) new =
-    SparesAlone w u v place step × ((mid : World) × Follows plan w step mid × RunSparingAlone plan u v place mid steps new)
+    SparesAlone plan w u v place step × ((mid : World) × Follows plan w step mid × RunSparingAlone plan u v place mid steps new)
 
 -- a frame that is sent alone here, one of its receivers, and a run from there in which this one doesn't lose it, to a world in which this one
 -- can take no more of its sender
@@ -54,7 +55,7 @@ pub record SentAlone (plan : Plan) (w : World) : Type 0 where
   pub steps : List Step
   pub after : World
   pub planned : slice_get (flows_of plan) place ≡ Some flow
-  pub allowed : send_refusal (count_of plan) w (Some flow) bytes ≡ None
+  pub allowed : send_refusal plan.live (count_of plan) w (Some flow) bytes ≡ None
   pub among : is_among (targets_of (count_of plan) w.stations flow.sender flow.to) receiver ≡ true
   pub runs : RunSparingAlone plan flow.sender receiver (length (w.sent_alone flow.sender receiver))
       (sends_alone (count_of plan) w place flow bytes) steps after
@@ -79,7 +80,7 @@ SentFramesArrive plan w = (s : SentAlone plan w) → HasArrivedAlone w s.after s
 abbrev pub SentFramesCanArrive : Plan → World → Type 0
 SentFramesCanArrive plan w =
     (f : ℕ) (flow : Flow) (bytes : List ℕ) (v : ℕ)
-    → slice_get (flows_of plan) f ≡ Some flow → send_refusal (count_of plan) w (Some flow) bytes ≡ None
+    → slice_get (flows_of plan) f ≡ Some flow → send_refusal plan.live (count_of plan) w (Some flow) bytes ≡ None
     → is_among (targets_of (count_of plan) w.stations flow.sender flow.to) v ≡ true
     → (s : SentAlone plan w) × (s.place ≡ f) × (s.bytes ≡ bytes) × (s.receiver ≡ v)
 

@@ -12,7 +12,7 @@ use Rattle.j39_id.specs.Name.{is_arbitrary}
 use Rattle.j39_claim.specs.declared.item.Say.TheVariants.{Claim, Cannot}
 use Rattle.j39_claim.specs.declared.item.Item.TheVariants.{Told}
 use Rattle.j39_findings.specs.declared.plan.Plan.{Plan}
-use Rattle.j39_world.specs.PlannedUnits.{units_of, unit_at}
+use Rattle.j39_findings.specs.PlannedUnits.{units_of, unit_at}
 use Rattle.j39_world.specs.World.{World, Undelivered}
 
 -- a claim of this address is undelivered between the two
@@ -69,8 +69,10 @@ IsSubsequence (x ∷ xs) (y ∷ ys) = ((x ≡ y) × IsSubsequence xs ys) ⊎ IsS
 pub record AreReportsSound (w : World) : Type 0 where
   -- what a unit reports of another was begun by it, in this order, and nothing twice
   pub begun : (v u : ℕ) → IsSubsequence (reported w.reports v u) (w.begun u v)
-  -- while a unit sends a message nothing is undelivered that could move an address
-  pub delivered : (u : ℕ) (o : Outgoing) → w.sessions u ≡ Some o → (s t : ℕ) → w.claims s t ≡ []
+
+-- nothing is undelivered that could move an address
+abbrev pub AreAllDelivered : Undelivered → Type 0
+AreAllDelivered claims = (s t : ℕ) → claims s t ≡ []
 
 -- a frame that was sent alone is undelivered
 abbrev pub DoesOneLie : World → Type 0
@@ -79,8 +81,6 @@ DoesOneLie w = (u : ℕ) × (v : ℕ) × (f : ℕ) × (bytes : List ℕ) × Cont
 pub record AreSentFramesSound (w : World) : Type 0 where
   -- what a unit reports of frames that another sent alone was sent by it, with this flow and these bytes, in this order, and nothing twice
   pub sent : (v u : ℕ) → IsSubsequence (reported_alone w.reports v u) (w.sent_alone u v)
-  -- while one is undelivered nothing is undelivered that could move an address
-  pub delivered : DoesOneLie w → (s t : ℕ) → w.claims s t ≡ []
 
 -- a sender that rests acknowledged sends to one unit, and the last message that this one reported of it is the sender's
 abbrev pub IsAcknowledgedReported : World → Type 0

@@ -1,8 +1,9 @@
 -- What a plan without findings has: its addresses, its signals and its reports are sound, addresses also with strangers, planned ones that
 -- differ stay, what units have noted of one another is right where no claim is undelivered, what it keeps free stays free, its claims die
--- down, and its messages come to their end; one of which nothing is lost arrives; some flow of it answers each request, and some flow brings
--- each unit what it needs; and a message of such a flow of which nothing is lost reads there as it was written.
-use Rattle.std.specs.Prelude.{◌≡◌, ℕ, ◌<◌, false, List, length, Some}
+-- down, its messages come to their end, and on a live bus nobody disturbs their ends; one of which nothing is lost arrives; some flow of
+-- it answers each request, and some flow brings each unit what it needs; and a message of such a flow of which nothing is lost reads there
+-- as it was written.
+use Rattle.std.specs.Prelude.{◌≡◌, ℕ, ◌<◌, ◌⊎◌, false, true, List, length, Some}
 use Rattle.j39_findings.specs.Needs.{AreNeedsMet}
 use Rattle.j39_findings.specs.PlannedRequests.{AreAnsweredWell, AreRequestsServed}
 use Rattle.j39_findings.specs.SoundSignals.{SoundSignals}
@@ -13,14 +14,17 @@ use Rattle.j39_findings.specs.declared.steps.Step.{Step}
 use Rattle.j39_world.specs.Transfers.{Outgoing}
 use Rattle.j39_world.specs.World.{World, all_off}
 use Rattle.j39_world.specs.Run.{Run}
-use Rattle.j39_world.specs.PlannedUnits.{unit_at, units_of}
+use Rattle.j39_findings.specs.PlannedUnits.{unit_at, units_of}
 use Rattle.j39_world.specs.Settling.{Settles}
 use Rattle.j39_world.specs.Ending.{TransfersEnd}
+use Rattle.j39_world.specs.LiveEnds.{AreEndsUndisturbed}
 use Rattle.j39_world.specs.Arriving.{ArrivesUnanswered, ArrivesAnswered}
 use Rattle.j39_world.specs.Needed.{NeededValuesArrive}
 use Rattle.j39_world.specs.SentArriving.{SentFramesArrive, SentValuesArrive}
-use Rattle.j39_world.specs.Sound.{AreAddressesSound, AreAddressesDifferent, AreNotesRight, AreKeptFree, IsQuiet, AreReportsSound, AreSentFramesSound, IsAcknowledgedReported}
-use Rattle.j39_world.specs.Staying.{ArePlannedApart, HoldsAlone, HoldsPlanned, IsAloneThere}
+use Rattle.j39_world.specs.Sound.{AreAddressesSound, AreAddressesDifferent, AreAllDelivered, AreNotesRight, AreKeptFree, DoesOneLie, IsQuiet}
+use Rattle.j39_world.specs.Sound.{AreReportsSound, AreSentFramesSound, IsAcknowledgedReported}
+use Rattle.j39_findings.specs.Staying.{IsAloneThere}
+use Rattle.j39_world.specs.HeldAddresses.{ArePlannedApart, HoldsAlone, HoldsPlanned}
 use Rattle.j39_world.specs.Strangers.{HasStrangers}
 
 -- it holds in every world of every run of the plan, with all lawful choices and whatever is lost
@@ -38,9 +42,9 @@ IsSending w = (u : ℕ) × (o : Outgoing) × (w.sessions u ≡ Some o)
 pub record IsSound (plan : Plan) : Type 0 where
   -- each unit that is on holds an address, a fixed one its planned address; two hold one only while one is still to hear the other's claim
   pub addresses : Always plan (AreAddressesSound plan)
-  -- where no claim is undelivered, and while any message is sent, no two units hold one address
+  -- where no claim is undelivered no two units hold one address; nor, of a plan that isn't live, while any message is sent
   pub quiet : Always plan (λ w. IsQuiet w.claims → AreAddressesDifferent w)
-  pub sending : Always plan (λ w. IsSending w → AreAddressesDifferent w)
+  pub sending : plan.live ≡ false → Always plan (λ w. IsSending w → AreAddressesDifferent w)
   -- where no two units are planned with one address, each that is on holds its planned address
   pub planned : ArePlannedApart (units_of plan) → Always plan (λ w. (u : ℕ) → HoldsPlanned (units_of plan) w u)
   -- a unit that is alone at its planned address holds it while it is on, and no other one that is on does
@@ -60,10 +64,14 @@ pub record IsSound (plan : Plan) : Type 0 where
   pub signals : SoundSignals plan
   -- what a unit reports of another was begun by that one, in this order, and nothing twice
   pub reports : Always plan AreReportsSound
-  -- what it reports of frames that were sent alone was sent by that one, in this order, and nothing twice, and no address moves meanwhile
+  -- what it reports of frames that were sent alone was sent by that one, in this order, and nothing twice
   pub sent_frames : Always plan AreSentFramesSound
+  -- of a plan that isn't live no address moves while any message is sent, or while a frame is undelivered that was sent alone
+  pub delivered : plan.live ≡ false → Always plan (λ w. IsSending w ⊎ DoesOneLie w → AreAllDelivered w.claims)
   -- where a sender rests acknowledged, its receiver has reported the message
   pub acknowledged : Always plan IsAcknowledgedReported
+  -- of a live plan nobody disturbs the ends of messages: they hold their planned addresses, and nobody else does
+  pub undisturbed : plan.live ≡ true → Always plan (AreEndsUndisturbed plan)
   -- whoever goes on with messages comes to an end, where no unit is between its Begin and its Rest
   pub ends : Always plan (TransfersEnd plan)
   -- a message to all or of one frame of which nothing is lost is reported once by each receiver

@@ -17,10 +17,10 @@ pub enum StepError {
     AlreadyStarted,
     #[error("NothingUndelivered")]
     NothingUndelivered,
-    /// A unit is between its Begin and its Rest, or something of a message is undelivered.
+    /// A unit is between its Begin and its Rest, or something of a message is undelivered, and the bus isn't live.
     #[error("TransferOpen")]
     TransferOpen,
-    /// A claim or a request is undelivered.
+    /// A claim or a request is undelivered, and the bus isn't live.
     #[error("NotSettled")]
     NotSettled,
     /// The flow's sender or its one receiver holds no address.

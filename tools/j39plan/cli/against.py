@@ -7,6 +7,7 @@ are none.
 
 import argparse
 import json
+import math
 import sys
 from collections.abc import Iterator
 from typing import Any
@@ -15,7 +16,7 @@ from j39plan import program
 from j39plan.log.checks.comparison import Comparison, Settings
 from j39plan.log.checks.deviations import Deviation, Found, Place, lines_of, place_text, row_of, spelled_event
 from j39plan.log.checks.distances import SILENCE, Distances, Rule, Tolerance
-from j39plan.log.checks.marks import Feed
+from j39plan.log.checks.feed import Feed
 from j39plan.log.checks.meter import Meter
 from j39plan.log.checks.summary import requests_of, summary_tables, units_of
 from j39plan.log.checks.unplanned import bounds_of
@@ -140,13 +141,14 @@ def main(words: list[str] | None = None) -> int:
         output, meter = Output(given, log), Meter() if given.json else None
         found = Found(given.all, output.live if given.live else None)
         settings = Settings(given.jitter, Rule(given.silence, events_of(given.events, tables), given.table), others)
-        feed, comparison = Feed(tables.groups, tables.timing, meter), Comparison(tables, bounds_of(known, tables), settings, found)
+        feed, comparison = Feed(tables.timing, meter), Comparison(tables, bounds_of(known, tables), settings, found)
         with bare(known, tables) as (shorter, parts):
             for report in follow(shorter, log, parts, counts, feed.pieces, given.live):
-                line, mark = feed.place(report)
-                comparison.report(line, report, mark)
-    counts.elsewhere -= feed.unread
-    counts.frames -= feed.read
+                for noted in feed.unheard(report.line):
+                    comparison.unheard(noted)
+                comparison.report(report, feed.beside(report.line))
+        for noted in feed.unheard(math.inf):
+            comparison.unheard(noted)
     counts.bad -= comparison.damage.frames
     counts.refuse_without_frames(log)
     counts.refuse_a_guess(log)

@@ -125,6 +125,8 @@ class Writer:
             self.notes.say("request", f"a DBC has no requests: {len(requests)} of them are left out")
         if self.tables.strangers:
             self.notes.say("strangers", "a DBC has no unplanned units")
+        if self.tables.live:
+            self.notes.say("live", "a DBC doesn't say when messages may begin")
 
     def unit_attributes(self) -> Iterator[str]:
         """Addresses and NAMEs of the units; what a DBC can't say of them is noted."""

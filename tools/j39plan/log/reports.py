@@ -11,6 +11,7 @@ from threading import Thread
 from typing import IO, Any, NamedTuple
 
 from j39plan import program
+from j39plan.j1939 import GLOBAL_ADDRESS, identifier_of
 from j39plan.log.files import Log, OneInterface
 from j39plan.plan.tables import Tables
 
@@ -87,7 +88,25 @@ class Acknowledgement(NamedTuple):
     to: Who
 
 
-Report = Message | Claim | Request | Acknowledgement
+class Frame(NamedTuple):
+    """A frame of which `follow --all` alone tells: the number of its group, who sent it to whom, its priority and its bytes."""
+
+    line: int
+    time: str
+    pgn: int
+    sender: Who
+    to: Who
+    priority: int
+    data: bytes
+
+    @property
+    def identifier(self) -> int:
+        """The identifier of the frame."""
+        to = GLOBAL_ADDRESS if self.to.address is None else self.to.address
+        return identifier_of(self.priority, self.pgn, self.sender.address or 0, to)
+
+
+Report = Message | Claim | Request | Acknowledgement | Frame
 
 # What `follow` writes of the control bytes of an acknowledgement (SAE J1939-21), and of those that say no.
 ACKNOWLEDGEMENTS = ("acknowledged", "refused", "denied", "busy")
@@ -190,10 +209,18 @@ def identity_of(words: list[str]) -> int | None:
     return int(words[5]) if words[4:5] == ["identity"] else None
 
 
+def frame_of(words: list[str]) -> Frame:
+    """The frame of a line `N TIME frame PGN from WHO to WHO priority P bytes HEX`."""
+    data = bytes.fromhex(words[11]) if len(words) > 11 else b""
+    return Frame(int(words[LINE]), words[TIME], int(words[3]), who_of(words[FROM]), who_of(words[TO]), int(words[9]), data)
+
+
 def report_of(words: list[str], signals: list[str]) -> Report:
     """The report of what `follow` says."""
     if words[KIND] == "group":
         return message_of(words, signals)
+    if words[KIND] == "frame":
+        return frame_of(words)
     if words[KIND] == "request":
         number = int(words[9]) if words[8:9] == ["request"] else 0
         return Request(int(words[LINE]), words[TIME], int(words[3]), who_of(words[FROM]), who_of(words[TO]), number)
@@ -259,38 +286,37 @@ def as_it_comes(log: io.BufferedReader | OneInterface) -> Iterator[bytes]:
         yield piece
 
 
-def started(plan: str, log: IO[bytes] | int) -> subprocess.Popen[bytes]:
+def started(plan: str, log: IO[bytes] | int, options: Iterable[str]) -> subprocess.Popen[bytes]:
     """The program that follows a log."""
     try:
-        return subprocess.Popen([program.path(), "follow", "--", plan, "/dev/stdin"], stdin=log, stdout=subprocess.PIPE)
+        return subprocess.Popen([program.path(), "follow", *options, "--", plan, "/dev/stdin"], stdin=log, stdout=subprocess.PIPE)
     except OSError as fault:
         raise program.Refused(program.MISSING, f"j39plan can't be run: {program.path()}: {fault.strerror}") from None
 
 
-def started_for(plan: str, log: Log, is_piped: bool) -> subprocess.Popen[bytes]:
+def started_for(plan: str, log: Log, options: Iterable[str], is_piped: bool) -> subprocess.Popen[bytes]:
     """The program that follows a log, which an interrupt doesn't end where it is to end the log alone."""
     source: IO[bytes] | int = subprocess.PIPE if is_piped else log.files[0]
     if not log.is_live or signal.getsignal(signal.SIGINT) is signal.SIG_IGN:
-        return started(plan, source)
+        return started(plan, source, options)
     signal.signal(signal.SIGINT, signal.SIG_IGN)
     try:
-        return started(plan, source)
+        return started(plan, source, options)
     finally:
         signal.signal(signal.SIGINT, log.interrupt)
 
 
 def said_of(plan: str, log: Log, tables: Tables, counts: Counts,
-            changed: Callable[[Any], Iterable[bytes]] | None = None, at_once: bool = False) -> Iterator[Said]:
-    """What `follow` says of a log, as it is read; what is read is what `changed` makes of the log, if it is given, each piece at once where
-    that is asked for."""
-    is_piped = changed is not None or log.is_live or len(log.files) > 1 or log.interface is not None
-    reader = started_for(plan, log, is_piped)
+            fed: Callable[[Any], Iterable[bytes]] | None = None, at_once: bool = False) -> Iterator[Said]:
+    """What `follow` says of a log, as it is read; of all frames where `fed` hands on the log, each piece at once where that is asked for."""
+    is_piped = fed is not None or log.is_live or len(log.files) > 1 or log.interface is not None
+    reader = started_for(plan, log, ["--all"] if fed else [], is_piped)
     assert reader.stdout is not None
     writer = part = None
     if reader.stdin:
         whole = io.BufferedReader(log, 1 << 16)
         part = OneInterface(whole, log.interface) if log.interface is not None else None
-        writer = Writer((changed or as_it_comes)(part or whole), reader.stdin, log.is_live and (at_once or changed is None))
+        writer = Writer((fed or as_it_comes)(part or whole), reader.stdin, log.is_live and (at_once or fed is None))
     try:
         if writer:
             writer.start()
@@ -309,9 +335,9 @@ def said_of(plan: str, log: Log, tables: Tables, counts: Counts,
 
 
 def follow(plan: str, log: Log, tables: Tables, counts: Counts,
-           changed: Callable[[Any], Iterable[bytes]] | None = None, at_once: bool = False) -> Iterator[Report]:
+           fed: Callable[[Any], Iterable[bytes]] | None = None, at_once: bool = False) -> Iterator[Report]:
     """The reports of a log, as `said_of` has them."""
-    return starmap(report_of, said_of(plan, log, tables, counts, changed, at_once))
+    return starmap(report_of, said_of(plan, log, tables, counts, fed, at_once))
 
 
 def tables_of(plan: str) -> Tables:

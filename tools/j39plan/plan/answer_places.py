@@ -6,7 +6,7 @@ from typing import NamedTuple
 
 from j39plan.j1939 import FRAME_BYTES
 from j39plan.plan.answer_grammar import Line, line_of
-from j39plan.plan.hints import groups, needs, requests
+from j39plan.plan.hints import ends, groups, needs, requests
 from j39plan.plan.hints.refusals import refusal
 from j39plan.plan.hints.text_faults import Told
 from j39plan.plan.parts import Source
@@ -63,6 +63,13 @@ def of_flow(plan: Source, line: Line) -> Told:
     flow, (key, hint) = plan.tables.flows[line.number("flow") - 1], FLOW_KEYS[line.word("finding")]
     if line.word("finding") == "F18" and plan.tables.longest(flow.group) > FRAME_BYTES:
         key, hint = "deadline", "its long messages aren't shown to be whole within it"
+    return plan.line(flow.place + (key,)), f"{flow.what}: key {key}: {hint}"
+
+
+def of_ends(plan: Source, line: Line) -> Told:
+    """Line and hint of a finding about the ends of a flow: where the one stands that isn't alone, and why it isn't."""
+    flow = plan.tables.flows[line.number("flow") - 1]
+    key, hint = ends.contested(plan.tables, plan.kept, flow) or ("from", "")
     return plan.line(flow.place + (key,)), f"{flow.what}: key {key}: {hint}"
 
 
@@ -130,7 +137,7 @@ def of_plan(plan: Source, line: Line) -> Told:
 # What is to be said of a finding by its number.
 HINTS = {
     **dict.fromkeys(PAIR_KEYS, of_two), **dict.fromkeys(FLOW_KEYS, of_flow), **dict.fromkeys(KEYS, of_one), **dict.fromkeys(("F3", "F17"), of_plan),
-    **dict.fromkeys(("F4", "F6"), of_group), **dict.fromkeys(("F8", "F14"), of_signals), "F11": of_flows, **dict.fromkeys(("F19", "F20"), of_need),
+    **dict.fromkeys(("F4", "F6"), of_group), **dict.fromkeys(("F8", "F14"), of_signals), "F11": of_flows, "F28": of_ends, **dict.fromkeys(("F19", "F20"), of_need),
     **dict.fromkeys(("F21", "F22", "F23", "F25"), of_request),
 }
 

@@ -139,7 +139,8 @@ class Join:
         merged.origins.append(part)
 
     def _top(self, source: Source, number: int) -> None:
-        """Joins what stands before the first table: of versions the latest, of strangers the most; free is kept what any plan keeps free."""
+        """Joins what stands before the first table: of versions the latest, of strangers the most; free is kept what any plan keeps free,
+        and the plan is live where any is."""
         top, said = self.top, source.top.said
         if number == 0:
             return
@@ -150,8 +151,10 @@ class Join:
         strangers = max(whole(top.values.get("strangers")), whole(said.get("strangers")))
         if strangers:
             top.values["strangers"] = strangers
+        if said.get("live") is True:
+            top.values["live"] = True
         for key in said:
-            if key in ("version", "keep_free", "strangers"):
+            if key in ("version", "keep_free", "strangers", "live"):
                 continue
             if key not in top.values:
                 top.values[key], top.keys[key] = said[key], source.top

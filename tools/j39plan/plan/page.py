@@ -93,6 +93,8 @@ def unit_section(source: Source, tables: Tables, stands: dict[str, Stand]) -> st
     notes = [f"<p>Addresses that no unit may choose: {kept}.</p>"] if kept else []
     if tables.strangers:
         notes.append(f"<p>Units that may come and stand in no plan, and may choose their addresses: up to {tables.strangers}.</p>")
+    if tables.live:
+        notes.append("<p>The bus is live: messages begin while units claim, and units go off in the midst of one.</p>")
     return section("units", "Units", parts + notes)
 
 

@@ -338,6 +338,7 @@ class Tables:
     def __init__(self, shown: Mapping[str, Keys]) -> None:
         self._shown = shown
         self.strangers = self._shown["top"].number("strangers")
+        self.live = self._shown["top"].is_true("live")
         self.units = [self._unit(name) for name in self._elements("unit")]
         self.groups = [self._group(name) for name in self._elements("group")]
         self.requests = [self._request(name) for name in self._elements("request")]

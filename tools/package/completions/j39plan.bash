@@ -10,12 +10,15 @@ _j39plan_files() {
 }
 
 _j39plan() {
-  local word=${COMP_WORDS[COMP_CWORD]}
+  local word=${COMP_WORDS[COMP_CWORD]} place=$COMP_CWORD
   COMPREPLY=()
+  [ "${COMP_WORDS[1]} ${COMP_WORDS[2]}" = 'follow --all' ] && place=$((place - 1))
   if [ "$COMP_CWORD" -eq 1 ]; then
     mapfile -t COMPREPLY < <(compgen -W 'show check addresses load run read follow frame help --help --version' -- "$word")
+  elif [ "${COMP_WORDS[1]} $COMP_CWORD" = 'follow 2' ] && [[ $word == -* ]]; then
+    COMPREPLY=(--all)
   elif [[ ${COMP_WORDS[1]} =~ ^(show|check|addresses|load|run|read|follow)$ ]]; then
-    case "$COMP_CWORD ${COMP_WORDS[1]}" in
+    case "$place ${COMP_WORDS[1]}" in
       '3 run') _j39plan_files "$word" schedule ;;
       '3 read' | '3 follow') _j39plan_files "$word" log ;;
       *) _j39plan_files "$word" toml ;;

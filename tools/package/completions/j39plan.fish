@@ -13,6 +13,7 @@ complete -c j39plan -n __fish_use_subcommand -a help -d 'print the help of a com
 complete -c j39plan -n __fish_use_subcommand -l help -s h -d 'print the help'
 complete -c j39plan -n __fish_use_subcommand -l version -s V -d 'print the version'
 complete -c j39plan -n '__fish_seen_subcommand_from show check addresses load run read follow' -F
+complete -c j39plan -n '__fish_seen_subcommand_from follow' -l all -d 'show each frame of which there is no other line, too'
 complete -c j39plan -n '__fish_seen_subcommand_from help' -a 'show check addresses load run read follow frame'
 
 # The tools.

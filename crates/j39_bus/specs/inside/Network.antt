@@ -45,6 +45,7 @@ abbrev pub bus_state : Network → BusState
 bus_state net = record {
   units = net.claimers.items;
   claims = net.claims.lists;
+  live = net.live;
   flows = net.flows.items;
   sessions = net.sessions.items;
   wire = net.wire.lists;
@@ -78,13 +79,14 @@ pub record IsNetwork (net : Network) : Type 0 where
   pub claims : IsWellFormed net.claimers.items net.claims.lists
   pub traffic : IsTraffic (length net.claimers.items) net.flows.items net.sessions.items net.wire.lists net.receivers
 
--- the network has the units of the plan, its flows and its windows
+-- the network has the units of the plan, its flows and its windows, and is live where the plan is
 abbrev pub IsOfPlan : Plan → Network → Type 0
 IsOfPlan plan net = IsPlannedBy plan (bus_state net)
 
--- the units, the flows and the windows stay
+-- the units, the flows and the windows stay, and whether the bus is live
 pub record KeepsPlan (old new : Network) : Type 0 where
   pub planned_units : planned_units new.claimers.items ≡ planned_units old.claimers.items
+  pub live : new.live ≡ old.live
   pub flows : new.flows.items ≡ old.flows.items
   pub windows : new.receivers.windows ≡ old.receivers.windows
 
@@ -105,7 +107,7 @@ TakesOldest old u v new =
 
 -- the first cause for which a step of a network is refused
 abbrev pub refusal_in : Network → Histories → Step → Option StepError
-refusal_in net h step = refusal_among (length net.claimers.items) net.flows.items (world_in h net) step
+refusal_in net h step = refusal_among net.live (length net.claimers.items) net.flows.items (world_in h net) step
 
 -- this is the first cause, whatever histories the network has
 pub record IsRefusal (net : Network) (step : Step) (cause : Option StepError) : Type 0 where
@@ -145,6 +147,7 @@ HasAnswered cs v name item says new =
 pub record IsSameNetwork (old new : Network) : Type 0 where
   pub claimers : new.claimers.items ≡ old.claimers.items
   pub claims : new.claims.lists ≡ old.claims.lists
+  pub live : new.live ≡ old.live
   pub flows : new.flows.items ≡ old.flows.items
   pub sessions : new.sessions.items ≡ old.sessions.items
   pub wire : new.wire.lists ≡ old.wire.lists

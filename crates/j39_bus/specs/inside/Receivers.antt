@@ -1,5 +1,5 @@
 -- The table of receivers, and what it keeps true.
-use Rattle.std.specs.Prelude.{◌≡◌, ℕ, ◌<◌, ◌≤◌, true, List, [], map, length, Option, Some, None, slice_index_or, vec_capacity, IfSome}
+use Rattle.std.specs.Prelude.{◌≡◌, ℕ, ◌<◌, ◌≤◌, true, cond, List, [], map, length, Option, Some, None, slice_index_or, vec_capacity, IfSome}
 use Rattle.std.specs.declared.alloc.Global.{Global}
 use Rattle.std.specs.declared.boxed.Box.{Box}
 use Rattle.std.specs.declared.vec.Vec.{Vec}
@@ -11,6 +11,7 @@ use Rattle.j39_tp.specs.declared.receiving.manner.Manner.TheVariants.{Answering}
 use Rattle.j39_tp.specs.declared.receiving.progress.Progress.{Progress}
 use Rattle.j39_tp.specs.declared.receiving.progress.Progress.TheVariants.{Open}
 use Rattle.j39_world.specs.Flows.{window_at}
+use Rattle.j39_world.specs.SwitchingOff.{is_either}
 use Rattle.j39_bus.specs.BusState.{Holding, ReceiverTable, closed, holding_at}
 
 abbrev pub ReceiverSlot : Type 0
@@ -60,6 +61,10 @@ message_in r = message_of r.progress r.bytes
 -- the first unit's receiver for what the second sends
 abbrev pub receiver_at : ReceiverTable → ℕ → ℕ → Receiving
 receiver_at t v u = answering (window_at t.windows v) (holding_at t.holdings v u)
+
+-- once a unit is off: its receivers hold nothing, and those of others for what it sends
+abbrev pub without_holdings_of : ℕ → (ℕ → ℕ → Holding) → ℕ → ℕ → Holding
+without_holdings_of u holdings v s = cond (is_either u v s) closed (holdings v s)
 
 -- an announcement finds a receiver in the table
 abbrev pub IsReady : Packet → ReceiverSlot → Type 0

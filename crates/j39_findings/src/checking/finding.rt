@@ -57,6 +57,8 @@ pub enum Finding {
     /// F27: the unit never claims, and others may move to its address: it is one of 128 to 247, and isn't kept free, or strangers, which
     /// don't know what is, may come.
     SilentInPool(usize),
+    /// F28: the plan is live, and an end of the flow isn't alone at its address: its sender, or the one unit that it goes to.
+    FlowContested(usize),
 }
 
 impl Finding {
@@ -90,6 +92,7 @@ impl Finding {
             Finding::RequestRepeated(..) => 25,
             Finding::SilentAddress(..) => 26,
             Finding::SilentInPool(_) => 27,
+            Finding::FlowContested(_) => 28,
         }
     }
 }

@@ -9,7 +9,7 @@ use Rattle.j39_findings.specs.declared.plan.Plan.{Plan}
 use Rattle.j39_log.specs.inside.Listening.{AreAllInRange, IsInRange}
 use Rattle.j39_tp.specs.declared.packet.Packet.{Packet}
 use Rattle.j39_follow.specs.Contests.{frames_of}
-use Rattle.j39_follow.specs.FollowReports.{IsMessageReport, IsNotice, in_frame, stamp}
+use Rattle.j39_follow.specs.FollowReports.{IsBareText, IsMessageReport, IsNotice, in_frame, stamp}
 use Rattle.j39_follow.specs.FollowText.{IsFollowedAs, IsPacketReport, FollowedPast, FollowsLines, follow_counts_line, flow_ends, frames_seen, group_ends, lines_with, nothing_followed, need_ends, request_ends}
 use Rattle.j39_follow.specs.declared.message.Sort.{Sort}
 use Rattle.j39_follow.specs.declared.reading.Reading.{Reading}
@@ -47,8 +47,9 @@ pub record RecallsPast (plan : Plan) (reading : Reading) (past : FollowedPast) :
   pub bad_are : reading.bad ≡ past.bad
   pub elsewhere_are : reading.elsewhere ≡ past.elsewhere
 
--- the counts of lines and the interface stayed
+-- which frames are told, the counts of lines and the interface stayed
 pub record IsSameCounts (old new : Reading) : Type 0 where
+  pub all_frames : new.all_frames ≡ old.all_frames
   pub interface : new.interface ≡ old.interface
   pub number : new.number ≡ old.number
   pub frames : new.frames ≡ old.frames
@@ -66,6 +67,7 @@ pub record CountsWithin (reading : Reading) (most : ℕ) : Type 0 where
 
 -- a line was counted, whose number was noted
 pub record IsOneMore (old new : Reading) : Type 0 where
+  pub all_frames : new.all_frames ≡ old.all_frames
   pub number : new.number ≡ old.number
   pub frames : new.frames ≤ old.frames + 1
   pub skipped : new.skipped ≤ old.skipped + 1
@@ -83,7 +85,7 @@ pub record IsSameButWritten (old new : Reading) : Type 0 where
 pub record IsReported (plan : Plan) (old new : Reading) (past : FollowedPast) (time : List ℕ) (f : Frame) : Type 0 where
   pub sort : Sort
   pub ended : Option Sort
-  pub written : IsFrameWritten plan new.listeners past.seen (lines_with past f time) (stamp old.number time) f sort ended old.text new.text
+  pub written : IsFrameWritten plan old.all_frames new.listeners past.seen (lines_with past f time) (stamp old.number time) f sort ended old.text new.text
   pub tally : IsTally plan new.tally (past.sent ++ sort ∷ option_to_list ended)
   pub noted : AreNoted plan (lines_with past f time) f (sort ∷ option_to_list ended) past.told new.exchanges
 
@@ -94,13 +96,15 @@ pub record IsFollowed (plan : Plan) (old new : Reading) (past : FollowedPast) (t
   pub packet : Option Packet
   pub notice : List ℕ
   pub report : List ℕ
+  pub bare : List ℕ
   pub carried : List ℕ
   pub heard_as : IsFollowedAs plan (lines_with past f time) f packet
   pub range : IsInRange packet
   pub notice_is : IsNotice plan (lines_with past f time) (stamp old.number time) f notice
   pub report_is : IsMessageReport plan (lines_with past f time) (stamp old.number time) (in_frame f) sort report
+  pub bare_is : IsBareText plan old.all_frames (lines_with past f time) (stamp old.number time) f (notice ++ report) bare
   pub carried_is : IsPacketReport plan past.seen (lines_with past f time) (stamp old.number time) f packet (option_to_list ended) carried
-  pub text_is : new.text ≡ old.text ++ (notice ++ (report ++ carried))
+  pub text_is : new.text ≡ old.text ++ (notice ++ (report ++ (bare ++ carried)))
   pub knows : Knows plan new.directory (frames_with past.seen f)
   pub contests : AreContests plan new.contests (lines_with past f time)
   pub heard : HaveHeardSince plan new.listeners (past.seen ++ record { frame = f; packet = packet } ∷ [])
@@ -111,7 +115,7 @@ pub record IsFollowed (plan : Plan) (old new : Reading) (past : FollowedPast) (t
 pub record HasFollowedLines (plan : Plan) (told : List Line) (reading : Reading) (written : List ℕ) : Type 0 where
   pub past : FollowedPast
   pub reports : List ℕ
-  pub read : FollowsLines plan nothing_followed told past reports
+  pub read : FollowsLines plan reading.all_frames nothing_followed told past reports
   pub recalls : RecallsPast plan reading past
   pub text_is : reports ≡ written ++ reading.text
 

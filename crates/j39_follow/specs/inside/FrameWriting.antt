@@ -1,5 +1,5 @@
 -- What is written at a frame.
-use Rattle.std.specs.Prelude.{◌≡◌, ℕ, List, [], ◌∷◌, ◌++◌, Option}
+use Rattle.std.specs.Prelude.{◌≡◌, ℕ, Bool, List, [], ◌∷◌, ◌++◌, Option}
 use Rattle.std.specs.Option.{option_to_list}
 use Rattle.j39_id.specs.declared.frame.Frame.{Frame}
 use Rattle.j39_findings.specs.declared.plan.Plan.{Plan}
@@ -8,7 +8,7 @@ use Rattle.j39_log.specs.declared.listeners.Listeners.{Listeners}
 use Rattle.j39_log.specs.inside.Listening.{IsInRange}
 use Rattle.j39_tp.specs.declared.packet.Packet.{Packet}
 use Rattle.j39_follow.specs.Contests.{Timed}
-use Rattle.j39_follow.specs.FollowReports.{IsMessageReport, IsNotice, in_frame}
+use Rattle.j39_follow.specs.FollowReports.{IsBareText, IsMessageReport, IsNotice, in_frame}
 use Rattle.j39_follow.specs.FollowText.{IsFollowedAs, IsPacketReport, frames_seen}
 use Rattle.j39_follow.specs.declared.message.Sort.{Sort}
 use Rattle.j39_follow.specs.inside.Hearing.{HaveHeardOneMore}
@@ -17,17 +17,29 @@ use Rattle.j39_follow.specs.inside.Hearing.{HaveHeardOneMore}
 abbrev pub frames_with : List Seen → Frame → List Frame
 frames_with seen f = frames_seen seen ++ f ∷ []
 
--- what a frame tells, what it is, and what it ends
-pub record IsFrameWritten (plan : Plan) (listeners : Listeners) (seen : List Seen) (log : List Timed) (front : List ℕ) (f : Frame)
+-- what a frame tells, what it is, or a line of its own, and what that counts as
+pub record IsItselfWritten (plan : Plan) (all_frames : Bool) (log : List Timed) (front : List ℕ) (f : Frame) (sort : Sort) (old new : List ℕ) : Type 0 where
+  pub notice : List ℕ
+  pub report : List ℕ
+  pub bare : List ℕ
+  pub notice_is : IsNotice plan log front f notice
+  pub report_is : IsMessageReport plan log front (in_frame f) sort report
+  pub bare_is : IsBareText plan all_frames log front f (notice ++ report) bare
+  pub text_is : new ≡ old ++ (notice ++ (report ++ bare))
+
+-- and what it ends
+pub record IsFrameWritten (plan : Plan) (all_frames : Bool) (listeners : Listeners) (seen : List Seen) (log : List Timed) (front : List ℕ) (f : Frame)
     (sort : Sort) (ended : Option Sort) (old new : List ℕ) : Type 0 where
   pub packet : Option Packet
   pub notice : List ℕ
   pub report : List ℕ
+  pub bare : List ℕ
   pub carried : List ℕ
   pub heard_as : IsFollowedAs plan log f packet
   pub range : IsInRange packet
   pub notice_is : IsNotice plan log front f notice
   pub report_is : IsMessageReport plan log front (in_frame f) sort report
+  pub bare_is : IsBareText plan all_frames log front f (notice ++ report) bare
   pub carried_is : IsPacketReport plan seen log front f packet (option_to_list ended) carried
   pub heard : HaveHeardOneMore plan listeners seen (record { frame = f; packet = packet })
-  pub text_is : new ≡ old ++ (notice ++ (report ++ carried))
+  pub text_is : new ≡ old ++ (notice ++ (report ++ (bare ++ carried)))

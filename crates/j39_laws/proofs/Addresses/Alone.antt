@@ -2,15 +2,19 @@
 use Rattle.std.proofs.Common.{◌≡◌, ◌≢◌, ℕ, ◌<◌, inl, inr, arith, true, false, sym, ap, ◌∙◌, subst, Some}
 use Rattle.std.proofs.lemmas.Bool.{true≢false, cases_Bool}
 use Rattle.std.specs.FinSet.{contains}
+use Rattle.std.specs.List.{Contains}
+use Rattle.j39_claim.specs.declared.item.Say.TheVariants.{Claim}
+use Rattle.j39_claim.specs.declared.item.Item.TheVariants.{Told}
 use Rattle.j39_id.specs.Name.{is_arbitrary}
 use Rattle.j39_findings.specs.Findings.{Clean}
 use Rattle.j39_findings.specs.declared.plan.Plan.{Plan}
-use Rattle.j39_world.specs.PlannedUnits.{units_of, unit_at}
+use Rattle.j39_findings.specs.PlannedUnits.{units_of, unit_at}
 use Rattle.j39_world.specs.SoundPlan.{Always}
-use Rattle.j39_world.specs.Staying.{EachOther, HoldsAlone, HoldsPlanned, IsAloneThere, IsFirstThere}
+use Rattle.j39_findings.specs.Staying.{EachOther, IsAloneThere, IsFirstThere}
+use Rattle.j39_world.specs.HeldAddresses.{HoldsAlone, HoldsPlanned}
 use Rattle.j39_laws.proofs.Addresses.CleanUnits.{clean_units, unkept}
-use Rattle.j39_laws.proofs.Addresses.SoundAddresses.{addresses_sound, kept_free}
-use Rattle.j39_laws.proofs.Addresses.Staying.{stay, stand}
+use Rattle.j39_laws.proofs.Addresses.SoundAddresses.{addresses_sound, kept_free, kept_unclaimed}
+use Rattle.j39_laws.proofs.Addresses.Staying.{claimed, stay, stand}
 
 module _ (plan : Plan) (clean : Clean plan) (u : ℕ) (alone : IsAloneThere plan.keep_free (units_of plan) u) where
   another : (v : ℕ) → (unit_at (units_of plan) v).name < (unit_at (units_of plan) u).name → u ≢ v
@@ -54,6 +58,19 @@ module _ (plan : Plan) (clean : Clean plan) (u : ℕ) (alone : IsAloneThere plan
           | inl outside ↦ true≢false (sym pool ∙ outside)
           | inr (inl kept) ↦
               true≢false (sym kept ∙ kept_free plan (clean_units plan clean) steps w run v (unit_at (units_of plan) u).preferred on arbitrary is)
+          | inr (inr each) ↦ leaves (each v in_v other arbitrary)
+        ]
+      ]
+
+  -- nor does any claim it
+  pub unclaimed : Always plan (λ w. EachOther (units_of plan) u (λ v. ¬ Contains (w.claims v u) (Told (Claim (unit_at (units_of plan) u).preferred))))
+  unclaimed steps w run v in_v other claim =
+      elim (claimed plan steps w run v u (unit_at (units_of plan) u).preferred claim) [
+        | inl planned ↦ alone.planned v in_v other (sym planned)
+        | inr (pool, arbitrary, leaves) ↦ elim (alone.unreached) [
+          | inl outside ↦ true≢false (sym pool ∙ outside)
+          | inr (inl kept) ↦
+              true≢false (sym kept ∙ kept_unclaimed plan (clean_units plan clean) steps w run v u (unit_at (units_of plan) u).preferred claim arbitrary)
           | inr (inr each) ↦ leaves (each v in_v other arbitrary)
         ]
       ]

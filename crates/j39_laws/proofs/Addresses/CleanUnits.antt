@@ -17,7 +17,7 @@ use Rattle.j39_findings.specs.declared.checking.finding.Finding.TheVariants.{Sam
 use Rattle.j39_findings.specs.Kinds.{kind_of_name}
 use Rattle.j39_findings.specs.declared.plan.Plan.{Plan}
 use Rattle.j39_findings.specs.declared.plan.unit_plan.UnitPlan.{UnitPlan}
-use Rattle.j39_world.specs.PlannedUnits.{planned_unit, units_of, unit_at}
+use Rattle.j39_findings.specs.PlannedUnits.{planned_unit, units_of, unit_at}
 use Rattle.j39_world.specs.Opening.{AreNamesDistinct}
 
 -- it may hold an address of 128..247 that isn't kept free
@@ -56,6 +56,13 @@ pub placed : (kept : FinSet nat_cmp) (ps : List UnitPlan) (i : ℕ) → i < leng
 placed kept [] i inside = absurd (omega arith)
 placed kept (p ∷ ps) zero inside = (p, refl, refl)
 placed kept (p ∷ ps) (suc i) inside = placed kept ps i (omega arith)
+
+-- and a unit of a list stands at its place
+pub stands : (kept : FinSet nat_cmp) (ps : List UnitPlan) (i : ℕ) (p : UnitPlan) → slice_get ps i ≡ Some p
+    → (i < length ps) × (unit_at (map (planned_unit kept) ps) i ≡ planned_unit kept p)
+stands kept [] i p is = absurd (cc)
+stands kept (q ∷ ps) zero p is = let same : q ≡ p = cc in (omega arith, ap (planned_unit kept) same)
+stands kept (q ∷ ps) (suc i) p is = let rest = stands kept ps i p is in (omega (arith, rest.0), rest.1)
 
 pub count : (kept : FinSet nat_cmp) (ps : List UnitPlan) → count_by needs_pool (map (planned_unit kept) ps) ≡ count_by (needs_pool_address kept) ps
 count kept [] = refl

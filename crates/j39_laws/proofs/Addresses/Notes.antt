@@ -1,14 +1,15 @@
 -- What a unit has noted after it heard a claim, and what it does, case by case.
-use Rattle.std.proofs.Common.{◌≡◌, ◌≢◌, ℕ, ◌<◌, ◌≤◌, true, false, cond, ◌⊎◌, eqb, ltb, refl, sym, ap, ◌∙◌, Option, Some, None}
+use Rattle.std.proofs.Common.{◌≡◌, ◌≢◌, ℕ, ◌<◌, ◌≤◌, true, false, cond, ◌⊎◌, inl, inr, eqb, ltb, refl, sym, ap, ◌∙◌, Option, Some, None}
 use Rattle.std.proofs.lemmas.Bool.{eqb-true, eqb-false, eq-eqb, ne_eqb, ltb-true, ltb-false, cond-true, cond-false, true≢false}
 use Rattle.std.specs.Bool.{MatchBool}
 use Rattle.std.specs.Ordering.{nat_cmp}
 use Rattle.std.specs.Cmp.{nat_cmp_total, unsigned_tied}
 use Rattle.std.specs.FinMap.{FinMap, get, insert, remove, get-insert, get-remove}
 use Rattle.j39_claim.specs.declared.item.Say.{Say}
-use Rattle.j39_claim.specs.declared.item.Say.TheVariants.{Claim}
-use Rattle.j39_claim.specs.declared.item.Item.TheVariants.{Told}
-use Rattle.j39_claim.specs.ClaimRule.{PlannedUnit, ClaimState, Answers, Moves, GivesUp, holds_address}
+use Rattle.j39_claim.specs.declared.item.Say.TheVariants.{Claim, Cannot}
+use Rattle.j39_claim.specs.declared.item.Item.{Item}
+use Rattle.j39_claim.specs.declared.item.Item.TheVariants.{Told, Request}
+use Rattle.j39_claim.specs.ClaimRule.{PlannedUnit, ClaimState, Answers, Moves, GivesUp, Reacts, holds_address}
 
 module _ (notes : FinMap nat_cmp ℕ) (n : ℕ) where
   inserted_at : (a m : ℕ) → get (insert notes n a) m ≡ cond (eqb m n) (Some a) (get notes m)
@@ -64,3 +65,23 @@ module _ (c : PlannedUnit) (s : ClaimState) (n a : ℕ) (says : Option Say) (new
         ] refl
         | false ↦ λ not_held. ignores (holds_address-false s.address a not_held)
       ] refl answers
+
+-- ---- whatever a unit hears, it is on as it was
+
+answers_on : (c : PlannedUnit) (s : ClaimState) (n : ℕ) (item : Item) (says : Option Say) (new : ClaimState) → Answers c s n item says new → new.on ≡ s.on
+answers_on c s n (Told (Claim a)) says new answers = claim_cases c s n a says new (new.on ≡ s.on)
+    (λ held smaller lost. elim lost [
+      | inl moves ↦ ap (λ (x : ClaimState). x.on) moves.4
+      | inr gives_up ↦ ap (λ (x : ClaimState). x.on) gives_up.2
+    ])
+    (λ held least defends. ap (λ (x : ClaimState). x.on) defends.1)
+    (λ other ignores. ap (λ (x : ClaimState). x.on) ignores.1) answers
+answers_on c s n (Told Cannot) says new answers = ap (λ (x : ClaimState). x.on) answers.1
+answers_on c s n Request says new answers = ap (λ (x : ClaimState). x.on) answers.1
+
+pub reacts_on : (c : PlannedUnit) (s : ClaimState) (n : ℕ) (item : Item) (says : Option Say) (new : ClaimState) → Reacts c s n item says new → new.on ≡ s.on
+reacts_on c s n item says new reacts =
+    elim c.claims as (λ b. MatchBool b (Answers c s n item says new) ((says ≡ None) × (new ≡ s)) → new.on ≡ s.on) [
+      | true ↦ answers_on c s n item says new
+      | false ↦ λ nothing. ap (λ (x : ClaimState). x.on) nothing.1
+    ] reacts

@@ -5,18 +5,21 @@ use Rattle.std.proofs.lemmas.Option.{same_Some}
 use Rattle.std.specs.FinMap.{get-empty}
 use Rattle.std.specs.FinSet.{FinSet, contains}
 use Rattle.std.specs.Ordering.{nat_cmp}
-use Rattle.std.specs.List.{AllByRecursion}
+use Rattle.std.proofs.lemmas.List.Elements.{All-contains, All-from_recursion}
+use Rattle.std.specs.List.{AllByRecursion, Contains}
 use Rattle.j39_claim.specs.declared.item.Item.{Item}
+use Rattle.j39_claim.specs.declared.item.Item.TheVariants.{Told}
+use Rattle.j39_claim.specs.declared.item.Say.TheVariants.{Claim}
 use Rattle.j39_claim.specs.declared.item.Say.{Say}
 use Rattle.j39_claim.specs.ClaimRule.{PlannedUnit, ClaimState, Answers, started}
 use Rattle.j39_id.specs.Name.{is_arbitrary}
 use Rattle.j39_findings.specs.declared.plan.Plan.{Plan}
 use Rattle.j39_findings.specs.declared.plan.unit_plan.UnitPlan.{UnitPlan}
 use Rattle.j39_world.specs.ClaimSteps.{told_to_others, without_lists_to}
-use Rattle.j39_world.specs.PlannedUnits.{planned_unit, units_of, unit_at}
+use Rattle.j39_findings.specs.PlannedUnits.{planned_unit, units_of, unit_at}
 use Rattle.j39_world.specs.Sound.{AreAddressesSound, AreAddressesDifferent, AreKeptFree, IsQuiet}
 use Rattle.j39_world.specs.SoundPlan.{Always}
-use Rattle.j39_world.specs.Staying.{HoldsAlone}
+use Rattle.j39_world.specs.HeldAddresses.{HoldsAlone}
 use Rattle.j39_world.specs.World.{World, Stations, Undelivered, all_off, changed, changed_pair}
 use Rattle.j39_laws.proofs.Addresses.AddressInvariant.{AddressInvariant, IsOwn, IsSaid}
 use Rattle.j39_laws.proofs.Addresses.AddressSteps.{up_keeps, up_silently, down_keeps, ask_keeps, give_keeps}
@@ -118,6 +121,15 @@ kept_free plan clean steps w run u a on arbitrary is =
     let same : b ≡ a = same_Some _ _ (sym holds ∙ is) in
     sym (ap (λ k. contains k a) (kept_at plan.keep_free plan.units.items u arbitrary))
     ∙ (ap (contains (unit_at (units_of plan) u).kept) (sym same) ∙ own.unkept arbitrary)
+
+-- nor is any claimed
+pub kept_unclaimed : (plan : Plan) → IsClean (units_of plan) → Always plan (λ w. (u v a : ℕ) → Contains (w.claims u v) (Told (Claim a))
+    → is_arbitrary (unit_at (units_of plan) u).name ≡ true → contains plan.keep_free a ≡ false)
+kept_unclaimed plan clean steps w run u v a claim arbitrary =
+    let own : IsOwn (unit_at (units_of plan) u) a =
+    All-contains (IsSaid (unit_at (units_of plan) u)) (w.claims u v) (Told (Claim a))
+    (All-from_recursion (IsSaid (unit_at (units_of plan) u)) (w.claims u v) ((invariant plan clean steps w run).said u v)) claim in
+    sym (ap (λ k. contains k a) (kept_at plan.keep_free plan.units.items u arbitrary)) ∙ own.unkept arbitrary
 
 -- where no claim is undelivered, no two hold one address
 pub quiet_apart : (plan : Plan) (w : World) → AreAddressesSound plan w → IsQuiet w.claims → AreAddressesDifferent w

@@ -1,7 +1,8 @@
 -- A unit that stays holds its planned address while it is on, whatever the others do: no unit of smaller NAME ever claims that address.
 use Rattle.std.proofs.Common.{◌≡◌, ℕ, ◌<◌, ◌⊎◌, inl, inr, arith, true, List, [], ◌∷◌, length, refl, sym, ap, ◌∙◌, subst, Option, Some, None}
 use Rattle.std.proofs.lemmas.Bool.{true≢false}
-use Rattle.std.specs.List.{AllByRecursion}
+use Rattle.std.proofs.lemmas.List.Elements.{All-contains, All-from_recursion}
+use Rattle.std.specs.List.{AllByRecursion, Contains}
 use Rattle.j39_id.specs.Addresses.{in_pool}
 use Rattle.j39_id.specs.Name.{is_arbitrary}
 use Rattle.j39_claim.specs.declared.item.Say.{Say}
@@ -10,10 +11,11 @@ use Rattle.j39_claim.specs.declared.item.Item.{Item}
 use Rattle.j39_claim.specs.declared.item.Item.TheVariants.{Told, Request}
 use Rattle.j39_claim.specs.ClaimRule.{PlannedUnit, ClaimState, Answers, claim_of, off, started}
 use Rattle.j39_findings.specs.declared.plan.Plan.{Plan}
-use Rattle.j39_world.specs.PlannedUnits.{units_of, unit_at}
+use Rattle.j39_findings.specs.PlannedUnits.{units_of, unit_at}
 use Rattle.j39_world.specs.ClaimSteps.{without_lists_to, answer_items}
 use Rattle.j39_world.specs.SoundPlan.{Always}
-use Rattle.j39_world.specs.Staying.{HoldsPlanned, EachSmaller, IsFirstThere, Stays, StaysByOthers}
+use Rattle.j39_findings.specs.Staying.{EachSmaller, IsFirstThere, Stays}
+use Rattle.j39_world.specs.HeldAddresses.{HoldsPlanned, StaysByOthers}
 use Rattle.j39_world.specs.World.{Stations, Undelivered, all_off, changed}
 use Rattle.j39_laws.proofs.Addresses.Notes.{claim_cases}
 use Rattle.j39_laws.proofs.Addresses.Telling.{AllSaid, said_more, said_without, said_rest}
@@ -156,17 +158,23 @@ claim_steps plan =
 at_first : (units : List PlannedUnit) → AreSaid units all_off.stations all_off.claims
 at_first units = record { held = λ u on. absurd (true≢false (sym on)); said = λ u v. tt }
 
+invariant : (plan : Plan) → Always plan (λ w. AreSaid (units_of plan) w.stations w.claims)
+invariant plan = always plan (λ x. AreSaid (units_of plan) x.stations x.claims) (at_first (units_of plan))
+    (claim_steps_keep plan (AreSaid (units_of plan)) (claim_steps plan))
+
 pub stay : (plan : Plan) → Always plan (λ w. (u : ℕ) → Stays (units_of plan) u → HoldsPlanned (units_of plan) w u)
-stay plan steps w run u stays on =
-    let inv = always plan (λ x. AreSaid (units_of plan) x.stations x.claims) (at_first (units_of plan))
-    (claim_steps_keep plan (AreSaid (units_of plan)) (claim_steps plan)) steps w run in
-    planned_held (units_of plan) u stays (w.stations u).address (inv.held u on)
+stay plan steps w run u stays on = planned_held (units_of plan) u stays (w.stations u).address ((invariant plan steps w run).held u on)
 
 -- what a unit holds is its planned address, or one of the pool where it may choose and doesn't stay
 pub stand : (plan : Plan) → Always plan (λ w. (u a : ℕ) → (w.stations u).on ≡ true → (w.stations u).address ≡ Some a
     → (a ≡ (unit_at (units_of plan) u).preferred)
     ⊎ ((in_pool a ≡ true) × (is_arbitrary (unit_at (units_of plan) u).name ≡ true) × ¬ Stays (units_of plan) u))
-stand plan steps w run u a on is =
-    let inv = always plan (λ x. AreSaid (units_of plan) x.stations x.claims) (at_first (units_of plan))
-    (claim_steps_keep plan (AreSaid (units_of plan)) (claim_steps plan)) steps w run in
-    subst (IsHeld (units_of plan) u) is (inv.held u on)
+stand plan steps w run u a on is = subst (IsHeld (units_of plan) u) is ((invariant plan steps w run).held u on)
+
+-- and so is what it has claimed that is undelivered
+pub claimed : (plan : Plan) → Always plan (λ w. (u v a : ℕ) → Contains (w.claims u v) (Told (Claim a))
+    → (a ≡ (unit_at (units_of plan) u).preferred)
+    ⊎ ((in_pool a ≡ true) × (is_arbitrary (unit_at (units_of plan) u).name ≡ true) × ¬ Stays (units_of plan) u))
+claimed plan steps w run u v a claim =
+    All-contains (IsSaid (units_of plan) u) (w.claims u v) (Told (Claim a))
+    (All-from_recursion (IsSaid (units_of plan) u) (w.claims u v) ((invariant plan steps w run).said u v)) claim

@@ -19,10 +19,11 @@ use Rattle.j39_findings.specs.Found.{is_fixed, needs_pool_address}
 use Rattle.j39_findings.specs.declared.checking.finding.Finding.TheVariants.{SameFixedAddress, SilentAddress}
 use Rattle.j39_findings.specs.declared.plan.Plan.{Plan}
 use Rattle.j39_findings.specs.declared.plan.unit_plan.UnitPlan.{UnitPlan}
-use Rattle.j39_world.specs.PlannedUnits.{planned_unit, units_of, unit_at}
+use Rattle.j39_findings.specs.PlannedUnits.{planned_unit, units_of, unit_at}
 use Rattle.j39_world.specs.Sound.{AreAddressesDifferent, AreAddressesSound, IsQuiet}
 use Rattle.j39_world.specs.SoundPlan.{AlwaysBeside}
-use Rattle.j39_world.specs.Staying.{HoldsPlanned, Stays, StaysBeside}
+use Rattle.j39_findings.specs.Staying.{Stays, StaysBeside}
+use Rattle.j39_world.specs.HeldAddresses.{HoldsPlanned}
 use Rattle.j39_world.specs.Strangers.{HasStrangers}
 use Rattle.j39_laws.proofs.Addresses.AddressInvariant.{AllNoted, IsOwn}
 use Rattle.j39_laws.proofs.Addresses.CleanUnits.{IsClean, clean_units, count, names_in_range, needs_pool, placed, room_told, unreached}
@@ -165,15 +166,18 @@ module _ (plan : Plan) (clean : Clean plan) where
         related = (fixed first one, fixed second other, same, claims first (λ none. silent (inl none)), claims second (λ none. silent (inr none)));
       })
 
-  -- where nothing is kept free there is room for all of them, and for the strangers
-  room_for_all : (ss : List UnitPlan) → length ss ≤ plan.strangers → count_by (needs_pool_address empty) (plan.units.items ++ ss) ≤ free_count empty
-  room_for_all ss few =
+  -- where nothing is kept free there is room for all of them, and for so many others
+  pub room_for_few : (ss : List UnitPlan) → count_by (needs_pool_address empty) ss ≤ plan.strangers
+      → count_by (needs_pool_address empty) (plan.units.items ++ ss) ≤ free_count empty
+  room_for_few ss few =
       let kept = plan.keep_free in
       let both = sum_by-append (λ x. cond (needs_pool_address empty x) 1 0) plan.units.items ss in
-      let others = count_by-le-length (needs_pool_address empty) ss in
       let split = count_either (needs_pool_address empty) (needs_pool_address kept) (is_kept_there kept) (needs_or_kept kept) plan.units.items in
       let at_kept = count_kept kept plan.units.items fixed_apart in
-      omega (arith, both, others, split, at_kept, count_free kept, all_free, room_told plan clean)
+      omega (arith, both, few, split, at_kept, count_free kept, all_free, room_told plan clean)
+
+  room_for_all : (ss : List UnitPlan) → length ss ≤ plan.strangers → count_by (needs_pool_address empty) (plan.units.items ++ ss) ≤ free_count empty
+  room_for_all ss few = room_for_few ss (let others = count_by-le-length (needs_pool_address empty) ss in omega (arith, few, others))
 
 module _ (plan joined : Plan) (ss : List UnitPlan) (come : HasStrangers plan joined ss) where
   abbrev planned : List UnitPlan

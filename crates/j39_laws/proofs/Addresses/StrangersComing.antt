@@ -14,7 +14,7 @@ use Rattle.j39_findings.specs.declared.plan.queue.Queue.TheVariants.{Priority}
 use Rattle.j39_findings.specs.declared.plan.unit_plan.UnitPlan.{UnitPlan}
 use Rattle.j39_findings.specs.declared.plan.way.Way.TheVariants.{Lowest}
 use Rattle.j39_world.specs.Opening.{AreNamesDistinct}
-use Rattle.j39_world.specs.PlannedUnits.{planned_unit, unit_at, units_of}
+use Rattle.j39_findings.specs.PlannedUnits.{planned_unit, unit_at, units_of}
 use Rattle.j39_world.specs.Strangers.{HasStrangers}
 use Rattle.j39_laws.proofs.Addresses.FreeAddress.{has, passing, spare}
 use Rattle.j39_laws.proofs.Addresses.Strangers.{same_at, same_but_kept}
@@ -219,6 +219,7 @@ module _ (plan : Plan) (names : AreNamesDistinct (units_of plan)) where
   joined k few all = record {
     keep_free = kept;
     strangers = 0;
+    live = plan.live;
     timing = None;
     units = record plan.units {
       items = plan.units.items ++ all.strangers;

@@ -1,10 +1,8 @@
 -- The steps that show a conflict leave the unit with the larger NAME without an address.
 use Rattle.std.proofs.Common.{◌≡◌, ◌≢◌, ℕ, zero, suc, ◌+◌, ◌<◌, Bool, true, false, cond, not, ◌&&◌, ◌==◌, eqb, ltb, inl, inr, List, [], ◌∷◌, ◌++◌, length}
-use Rattle.std.proofs.Common.{map, refl, sym, ap, ◌∙◌, subst, arith, Option, Some, None}
+use Rattle.std.proofs.Common.{refl, sym, ap, ◌∙◌, subst, arith, Option, Some, None}
 use Rattle.std.proofs.lemmas.Bool.{MatchBool-at_true, cases_eq, and_from, and_left, and_right, cond_both, cond-true, cond-false, eq-eqb, ne_eqb}
 use Rattle.std.proofs.lemmas.Bool.{lt-ltb, not_from_true, true≢false}
-use Rattle.std.specs.FinSet.{FinSet}
-use Rattle.std.specs.Ordering.{nat_cmp}
 use Rattle.std.specs.List.{list_all, range_with_len, slice_get}
 use Rattle.std.specs.Option.{is_some}
 use Rattle.j39_id.specs.Name.{is_arbitrary}
@@ -22,11 +20,12 @@ use Rattle.j39_findings.specs.declared.checking.finding.Finding.{Finding}
 use Rattle.j39_findings.specs.declared.steps.Step.{Step}
 use Rattle.j39_findings.specs.declared.steps.Step.TheVariants.{Up, Give}
 use Rattle.j39_world.specs.declared.wired.Wired.{Wired}
-use Rattle.j39_world.specs.PlannedUnits.{planned_unit, units_of, unit_at}
+use Rattle.j39_findings.specs.PlannedUnits.{units_of, unit_at}
 use Rattle.j39_world.specs.ClaimSteps.{GivenFrom, switched_on, heard_and_answered, told_to_others, without_lists_to, answer_items, first_items}
 use Rattle.j39_world.specs.Conflict.{IsLeftWithoutAddress, LeavesWithoutAddress}
-use Rattle.j39_world.specs.Run.{count_of, is_on, is_none_sending, is_nothing_undelivered, is_no_transfer_open, refusal, Run, RunsThrough}
+use Rattle.j39_world.specs.Run.{count_of, is_a_transfer_open, is_on, is_none_sending, is_nothing_undelivered, is_no_transfer_open, refusal, Run, RunsThrough}
 use Rattle.j39_world.specs.World.{World, Stations, Undelivered, all_off, changed, changed_pair, is_other_on}
+use Rattle.j39_laws.proofs.Addresses.CleanUnits.{stands}
 use Rattle.j39_laws.proofs.Certified.{quiet_where_empty}
 use Rattle.j39_laws.proofs.Settling.SettlingRuns.{reacted}
 use Rattle.j39_laws.proofs.Runs.ClaimInvariants.{first_said}
@@ -133,7 +132,13 @@ module _ (plan : Plan) (l s : ℕ) (unit_l : is_unit plan l ≡ true) (unit_s : 
   nothing false xs is = is
 
   up_l : refusal plan all_off (Up l) ≡ None
-  up_l = not_refused plan all_off (Up l) (not_from_true _ unit_l, (refl, (not_from_true _ (none_open (count_of plan) all_off (λ u. refl) (λ u v. refl)), tt)))
+  up_l = not_refused plan all_off (Up l) (
+    not_from_true _ unit_l,
+    (
+      refl,
+      (and_right (not plan.live) (is_a_transfer_open (count_of plan) all_off) (not_from_true _ (none_open (count_of plan) all_off (λ u. refl) (λ u v. refl))), tt),
+    ),
+  )
 
   one_on : IsOneOn (switched_on (units_of plan) all_off l)
   one_on =
@@ -150,7 +155,13 @@ module _ (plan : Plan) (l s : ℕ) (unit_l : is_unit plan l ≡ true) (unit_s : 
       }
 
   up_s : (w : World) → IsOneOn w → refusal plan w (Up s) ≡ None
-  up_s w is = not_refused plan w (Up s) (not_from_true _ unit_s, (is.off s (λ e. apart (sym e)), (not_from_true _ (none_open (count_of plan) w is.silent is.untaken), tt)))
+  up_s w is = not_refused plan w (Up s) (
+    not_from_true _ unit_s,
+    (
+      is.off s (λ e. apart (sym e)),
+      (and_right (not plan.live) (is_a_transfer_open (count_of plan) w) (not_from_true _ (none_open (count_of plan) w is.silent is.untaken)), tt),
+    ),
+  )
 
   still_one : (w : World) → IsOneOn w → (switched_on (units_of plan) w s).stations l ≡ started loser
   still_one w is = changed_elsewhere w.stations s (started winner) l apart ∙ is.one
@@ -291,12 +302,6 @@ module _ (plan : Plan) (l s : ℕ) (unit_l : is_unit plan l ≡ true) (unit_s : 
 
 -- ---- the units of which a finding tells
 
-found : (kept : FinSet nat_cmp) (ps : List UnitPlan) (i : ℕ) (p : UnitPlan) → slice_get ps i ≡ Some p
-    → (i < length ps) × (unit_at (map (planned_unit kept) ps) i ≡ planned_unit kept p)
-found kept [] i p is = absurd (cc)
-found kept (q ∷ ps) zero p is = let same : q ≡ p = cc in (omega arith, ap (planned_unit kept) same)
-found kept (q ∷ ps) (suc i) p is = let rest = found kept ps i p is in (omega (arith, rest.0), rest.1)
-
 -- of two units that are in conflict, at these places in one order or the other
 pub record AreFixedAlike (plan : Plan) (l s : ℕ) : Type 0 where
   pub one : UnitPlan
@@ -346,8 +351,8 @@ pub leaves_without_address : (plan : Plan) (finding : Finding) (steps : List Ste
     → LeavesWithoutAddress plan steps c.larger
 leaves_without_address plan finding steps c =
     let a = alike plan finding steps c in
-    let (in_l, at_l) = found plan.keep_free plan.units.items c.larger a.one a.one_is in
-    let (in_s, at_s) = found plan.keep_free plan.units.items c.smaller a.other a.other_is in
+    let (in_l, at_l) = stands plan.keep_free plan.units.items c.larger a.one a.one_is in
+    let (in_s, at_s) = stands plan.keep_free plan.units.items c.smaller a.other a.other_is in
     let unit_l : is_unit plan c.larger ≡ true = lt-ltb c.larger (count_of plan) in_l in
     let unit_s : is_unit plan c.smaller ≡ true = lt-ltb c.smaller (count_of plan) in_s in
     let fixed : is_arbitrary (unit_at (units_of plan) c.larger).name ≡ false =

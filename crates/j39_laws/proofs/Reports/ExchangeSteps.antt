@@ -157,8 +157,3 @@ lost_keeps (Some m) pair item rest is (inr (inl e)) =
     inr (inl (record { wire = (subst (AllByRecursion (ComesAfter m)) is e.wire).1; gathers = e.gathers; back = e.back; unreported = e.unreported }))
 lost_keeps (Some m) pair item rest is (inr (inr e)) =
     inr (inr (record { wire = (subst (AllByRecursion (ComesAfter m)) is e.wire).1; closed = e.closed; back = e.back; part = e.part }))
-
--- all that is undelivered is dropped, while nothing is sent
-pub dropped_keeps : (pair : Pair) (wire back : List Wired) → AllByRecursion IsAnswering wire → AllByRecursion IsUnacknowledging back → Exchange None pair
-    → Exchange None (record pair { wire = wire; back = back })
-dropped_keeps pair wire back all none e = record { wire = all; closed = e.closed; back = none; part = e.part }

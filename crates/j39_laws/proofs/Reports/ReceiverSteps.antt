@@ -31,7 +31,6 @@ use Rattle.j39_laws.proofs.Reports.ExchangeTaken as taking
 use Rattle.j39_laws.proofs.Reports.ExchangeTaken.{ReportsShort, TakesOn, Completes, short_taken}
 use Rattle.j39_laws.proofs.Reports.Reporting.{reported_beside, reported_none, reported_here, reported_elsewhere, reported_message, same_messages, message_after}
 use Rattle.j39_laws.proofs.Reports.Reporting.{AckedAt, acked_now}
-use Rattle.j39_laws.proofs.Reports.SenderSteps.{among_one}
 use Rattle.j39_laws.proofs.Reports.TransferInvariant.{TransferInvariant, reports_beside, ExchangesBy, back_taken, answered}
 
 -- every pair
@@ -289,8 +288,7 @@ module _ (plan : Plan) (w : World) (inv : TransferInvariant plan w) where
         one = directed_to o.to now.directed;
         ends = λ to.
             let planned : PlannedAt plan v (Some o) = subst (PlannedAt plan v) open_is (inv.order.planned v) in
-            let alone : o.targets ≡ t ∷ [] = planned.one t to in
-            let same : u ≡ t = among_one t u (subst (λ (targets : List ℕ). is_among targets u ≡ true) alone now.among) in
+            let same : u ≡ t = planned.one t u to now.among in
             subst (λ x. EndsWith (reported w.reports x v) (begun_of o)) same (acked_by o open_is now.acknowledges now.among);
       }
     ]
@@ -311,7 +309,7 @@ module _ (plan : Plan) (w : World) (inv : TransferInvariant plan w) where
 
     order_then : IsOrderly plan w.stations w.claims (changed w.sessions v then)
     order_then = sessions_keep plan w.stations w.claims w.sessions inv.order v then (after_planned (w.sessions v) (inv.order.planned v))
-        (after_delivered (w.sessions v) (inv.order.delivered v))
+        (λ quiet. after_delivered (w.sessions v) (inv.order.delivered quiet v))
 
     taken_keeps : (reports : List Reported)
         → ((s t : ℕ) → Exchange (message s t) (record (base reports s t) { wire = more s t; back = more t s }))

@@ -30,7 +30,7 @@ use Rattle.j39_world.specs.TransferSteps.{targets_of, sent_to_receivers, begun_s
 use Rattle.j39_world.specs.World.{World, changed, is_other_on}
 use Rattle.j39_world.specs.Sound.{reported}
 use Rattle.j39_tp.specs.HonestPackets.{GoesOn}
-use Rattle.j39_laws.proofs.Reports.Orderly.{IsPlanned, PlannedAt, DeliveredBefore, all_delivered, sessions_keep}
+use Rattle.j39_laws.proofs.Reports.Orderly.{IsPlanned, PlannedAt, DeliveredBefore, delivered_at, sessions_keep}
 use Rattle.j39_laws.proofs.Runs.Changed.{changed_each}
 use Rattle.j39_laws.proofs.Runs.Conditions.{is_unit}
 use Rattle.j39_laws.proofs.Runs.Units.{units_all}
@@ -142,7 +142,7 @@ planned_to plan w units flow count All on can = record {
   others = λ v among. let hearing = and_parts (w.stations v).on (not (eqb v flow.sender))
       (among_filtered (is_other_on w.stations flow.sender) (range_with_len 0 count) v among) in
       (units v hearing.0, other_place v flow.sender hearing.1);
-  one = λ v e. absurd (cc e);
+  one = λ v x e. absurd (cc e);
 }
 planned_to plan w units flow count (One x) on can =
     let ends = and_parts (is_on w.stations flow.sender) (is_on w.stations x) on in
@@ -151,7 +151,7 @@ planned_to plan w units flow count (One x) on can =
       unit = units flow.sender ends.0;
       others = λ v among. let same : x ≡ v = sym (among_one x v among) in
           subst (λ k. (is_unit plan k ≡ true) × (k ≢ flow.sender)) same (units x ends.1, other_place x flow.sender other.0);
-      one = λ v e. ap (λ k. k ∷ []) (same_one x v e);
+      one = λ v y e among. among_one x y among ∙ same_one x v e;
     }
 
 pub no_session : (o : Option Outgoing) → is_some o ≡ false → o ≡ None
@@ -159,22 +159,22 @@ no_session None is = refl
 no_session (Some s) is = absurd (cc is)
 
 module _ (plan : Plan) (w : World) (inv : TransferInvariant plan w) where
-  begins_keep : (f : ℕ) (flow : Flow) (bytes : List ℕ) → begin_refusal (count_of plan) w (Some flow) bytes ≡ None
+  begins_keep : (f : ℕ) (flow : Flow) (bytes : List ℕ) → begin_refusal plan.live (count_of plan) w (Some flow) bytes ≡ None
       → TransferInvariant plan (begins (count_of plan) w f flow bytes)
   begins_keep f flow bytes allowed =
-      let (sendable, (on, (told, (addressed, (free, rest))))) = none_hold (begin_refusals (count_of plan) w (Some flow) bytes) allowed in
+      let (sendable, (on, (told, (addressed, (free, rest))))) = none_hold (begin_refusals plan.live (count_of plan) w (Some flow) bytes) allowed in
       let o : Outgoing = outgoing (count_of plan) w.stations f flow bytes in
       record {
         order = sessions_keep plan w.stations w.claims w.sessions inv.order flow.sender (Some o)
             (planned_to plan w inv.order.units flow (count_of plan) flow.to (not-false _ on) (not-false _ sendable))
-            (all_delivered plan w.stations w.claims w.sessions inv.order (not-false _ told));
+            (delivered_at plan w.stations w.claims w.sessions inv.order told);
         exchanges = begun_exchanges w inv.exchanges flow.sender o (first_item flow bytes) (no_session (w.sessions flow.sender) free)
             (first_begins flow bytes (message_of o) refl refl) (first_other flow bytes);
         acknowledged = changed_each (λ s (x : Option Outgoing). (t : ℕ) → AckedAt x t (reported w.reports t s)) w.sessions flow.sender (Some o)
             (λ t acked. absurd (stage_unacked flow bytes acked)) inv.acknowledged;
       }
 
-  pub begin_keeps : (f : ℕ) (flow : Option Flow) (bytes : List ℕ) → begin_refusal (count_of plan) w flow bytes ≡ None → (new : World)
+  pub begin_keeps : (f : ℕ) (flow : Option Flow) (bytes : List ℕ) → begin_refusal plan.live (count_of plan) w flow bytes ≡ None → (new : World)
       → BeginsAt (count_of plan) w f flow bytes new → TransferInvariant plan new
   begin_keeps f None bytes allowed new never = absurd never
   begin_keeps f (Some flow) bytes allowed new e = subst (TransferInvariant plan) (sym e) (begins_keep f flow bytes allowed)
@@ -239,7 +239,7 @@ module _ (plan : Plan) (w : World) (inv : TransferInvariant plan w) where
     sent_keeps : TransferInvariant plan (record (sent_to_receivers w u o p) { sessions = changed w.sessions u then })
     sent_keeps = record {
       order = sessions_keep plan w.stations w.claims w.sessions inv.order u then
-          (subst (PlannedAt plan u) is (inv.order.planned u)) (subst (DeliveredBefore w.claims) is (inv.order.delivered u));
+          (subst (PlannedAt plan u) is (inv.order.planned u)) (λ quiet. subst (DeliveredBefore w.claims) is (inv.order.delivered quiet u));
       exchanges = sent_exchanges;
       acknowledged = changed_each (λ s (x : Option Outgoing). (t : ℕ) → AckedAt x t (reported w.reports t s)) w.sessions u then
           (λ t acked. absurd (unacked acked)) inv.acknowledged;
@@ -306,7 +306,7 @@ module _ (plan : Plan) (w : World) (inv : TransferInvariant plan w) where
 
   pub rest_keeps : (u : ℕ) → can_rest (count_of plan) w u ≡ true → TransferInvariant plan (rested w u)
   rest_keeps u can = record {
-    order = sessions_keep plan w.stations w.claims w.sessions inv.order u None tt tt;
+    order = sessions_keep plan w.stations w.claims w.sessions inv.order u None tt (λ _. tt);
     exchanges = λ s t. changed_each (λ x (y : Option Outgoing). (z : ℕ) → Exchange (message_to y z) (pair_of w x z)) w.sessions u None
         (rested_here u can) inv.exchanges s t;
     acknowledged =

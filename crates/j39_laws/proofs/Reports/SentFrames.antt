@@ -1,7 +1,7 @@
 -- In each world of a run what a unit reports of frames that were sent alone, with what of them lies on its way, is part of what was sent.
-use Rattle.std.proofs.Common.{◌≡◌, ℕ, true, false, cond, ◌&&◌, eqb, List, [], ◌∷◌, ◌++◌, length, refl, sym, ap, ◌∙◌, subst, append-nil, Option, Some, None}
+use Rattle.std.proofs.Common.{◌≡◌, ℕ, inl, inr, true, false, cond, ◌&&◌, eqb, List, [], ◌∷◌, ◌++◌, length, refl, sym, ap, ◌∙◌, subst, append-nil, Option, Some, None}
 use Rattle.std.specs.Prelude.{map, slice_get}
-use Rattle.std.proofs.lemmas.Bool.{cond_both, eqb-true}
+use Rattle.std.proofs.lemmas.Bool.{cond_both, eqb-true, or_cases}
 use Rattle.std.proofs.lemmas.List.{append_assoc}
 use Rattle.j39_tp.specs.Sender as sender
 use Rattle.j39_tp.specs.Receiver as receiver
@@ -18,7 +18,7 @@ use Rattle.j39_world.specs.declared.wired.Wired.{Wired}
 use Rattle.j39_world.specs.declared.wired.Wired.TheVariants as wired
 use Rattle.j39_world.specs.ClaimSteps.{GivenFrom, without_lists_to}
 use Rattle.j39_world.specs.Flows.{flows_of, windows_of, window_at, dest_of, is_short}
-use Rattle.j39_world.specs.PlannedUnits.{units_of}
+use Rattle.j39_findings.specs.PlannedUnits.{units_of}
 use Rattle.j39_world.specs.Run.{StepsTo, count_of}
 use Rattle.j39_world.specs.SentArriving.{lying_alone}
 use Rattle.j39_world.specs.Sound.{IsSubsequence, reported_alone}
@@ -26,6 +26,7 @@ use Rattle.j39_world.specs.SoundPlan.{Always}
 use Rattle.j39_world.specs.Transfers.{Begun, Reported, is_among, added}
 use Rattle.j39_world.specs.TransferSteps.{targets_of, first_item, BeginsAt, SendsAt, Reports, ReportsOne, alone_report, report, hearing, flow_in}
 use Rattle.j39_world.specs.TransferSteps.{receiver_replies, sender_replies, reaction_of, packets_in, TakenFrom, LostFrom}
+use Rattle.j39_world.specs.SwitchingOff.{is_either, without_lists_of}
 use Rattle.j39_world.specs.World.{World, changed_pair}
 use Rattle.j39_laws.proofs.Reports.Reporting.{alone_none, alone_beside, alone_here, alone_elsewhere}
 use Rattle.j39_laws.proofs.Reports.Subsequences.{subsequence_both, subsequence_front, subsequence_without}
@@ -82,8 +83,11 @@ module _ (Part : ℕ → ℕ → List Begun → List Begun → List Begun → Ty
     abbrev pub AreDropped : World → Step → Type 0
     AreDropped w (Up x) = (u : ℕ) → IsPart u x (reported_alone w.reports x u) (w.wire u x) (w.sent_alone u x)
         → IsPart u x (reported_alone w.reports x u) [] (w.sent_alone u x)
-    AreDropped w (Down x) = (u : ℕ) → IsPart u x (reported_alone w.reports x u) (w.wire u x) (w.sent_alone u x)
-        → IsPart u x (reported_alone w.reports x u) [] (w.sent_alone u x)
+    AreDropped w (Down x) =
+        ((u : ℕ) → IsPart u x (reported_alone w.reports x u) (w.wire u x) (w.sent_alone u x)
+        → IsPart u x (reported_alone w.reports x u) [] (w.sent_alone u x))
+        × ((v : ℕ) → IsPart x v (reported_alone w.reports v x) (w.wire x v) (w.sent_alone x v)
+        → IsPart x v (reported_alone w.reports v x) [] (w.sent_alone x v))
     AreDropped w (Lose x y) = (item : Wired) (rest : List Wired) → w.wire x y ≡ item ∷ rest
         → IsPart x y (reported_alone w.reports y x) (item ∷ rest) (w.sent_alone x y)
         → IsPart x y (reported_alone w.reports y x) rest (w.sent_alone x y)
@@ -100,6 +104,16 @@ module _ (Part : ℕ → ℕ → List Begun → List Begun → List Begun → Ty
       dropped : (x : ℕ) → ((u : ℕ) → PartAt u x (w.wire u x) → PartAt u x []) → PartsOf (without_lists_to x w.wire)
       dropped x gone u v = cond_both (eqb v x) [] (w.wire u v) (PartAt u v)
           (λ is. subst (λ (y : ℕ). PartAt u y []) (sym (eqb-true v x is)) (gone u (old u x))) (λ _. old u v)
+
+      -- nothing is left to x nor from it
+      left : (x : ℕ) → ((u : ℕ) → PartAt u x (w.wire u x) → PartAt u x []) → ((v : ℕ) → PartAt x v (w.wire x v) → PartAt x v [])
+          → PartsOf (without_lists_of x w.wire)
+      left x to from u v = cond_both (is_either x u v) [] (w.wire u v) (PartAt u v)
+          (λ is. elim (or_cases (eqb u x) (eqb v x) is) [
+            | inl here ↦ subst (λ (y : ℕ). PartAt y v []) (sym (eqb-true u x here)) (from v (old x v))
+            | inr here ↦ subst (λ (y : ℕ). PartAt u y []) (sym (eqb-true v x here)) (to u (old u x))
+          ])
+          (λ _. old u v)
 
       sent_part : (s : ℕ) (targets : List ℕ) (item : Wired) → lying_alone (item ∷ []) ≡ [] → PartsOf (added w.wire s targets item)
       sent_part s targets item none u v = cond_both (eqb u s && is_among targets v) (w.wire u v ++ item ∷ []) (w.wire u v) (PartAt u v)
@@ -209,7 +223,7 @@ module _ (Part : ℕ → ℕ → List Begun → List Begun → List Begun → Ty
 
       pub step_parts : (step : Step) → AreDropped w step → (new : World) → StepsTo plan w step new → AreParts new
       step_parts (Up u) gone new e = subst AreParts (sym e) (dropped u gone)
-      step_parts (Down u) gone new e = subst AreParts (sym e) (dropped u gone)
+      step_parts (Down u) gone new e = subst AreParts (sym e) (left u gone.0 gone.1)
       step_parts (Give u v) gone new leads = give_parts u v (w.claims u v) new leads
       step_parts (Ask u) gone new e = subst AreParts (sym e) old
       step_parts (Begin f bytes) gone new leads = begin_parts f (slice_get (flows_of plan) f) bytes.items new leads
@@ -253,7 +267,10 @@ AreInOrder = AreParts InOrder sent_in_order_too reported_in_order
 
 dropped_in_order : (w : World) (step : Step) → AreDropped InOrder sent_in_order_too reported_in_order w step
 dropped_in_order w (Up x) = λ u part. none_in_order u x (reported_alone w.reports x u) (lying_alone (w.wire u x)) (w.sent_alone u x) part
-dropped_in_order w (Down x) = λ u part. none_in_order u x (reported_alone w.reports x u) (lying_alone (w.wire u x)) (w.sent_alone u x) part
+dropped_in_order w (Down x) = (
+  λ u part. none_in_order u x (reported_alone w.reports x u) (lying_alone (w.wire u x)) (w.sent_alone u x) part,
+  λ v part. none_in_order x v (reported_alone w.reports v x) (lying_alone (w.wire x v)) (w.sent_alone x v) part,
+)
 dropped_in_order w (Lose x y) = λ item rest is part. less_in_order x y (reported_alone w.reports y x) (w.sent_alone x y) item rest part
 dropped_in_order w (Give u v) = tt
 dropped_in_order w (Ask u) = tt

@@ -1,5 +1,5 @@
 -- What holds in every world of every run.
-use Rattle.std.proofs.Common.{◌≡◌, List, [], ◌∷◌, refl, sym, subst, Option, Some, None}
+use Rattle.std.proofs.Common.{◌≡◌, List, [], ◌∷◌, ◌++◌, refl, sym, subst, Option, Some, None}
 use Rattle.std.specs.Bool.{MatchBool}
 use Rattle.std.specs.Option.{is_some}
 use Rattle.j39_findings.specs.declared.plan.Plan.{Plan}
@@ -29,6 +29,34 @@ module _ (plan : Plan) (Holds : World → Type 0) (keeps : IsPreserved plan Hold
 -- what the first world has and each step keeps
 pub always : (plan : Plan) (Holds : World → Type 0) → Holds all_off → IsPreserved plan Holds → Always plan Holds
 always plan Holds at_first keeps steps w run = holds_behind plan Holds keeps steps all_off w at_first run
+
+-- ---- what is known in each world of a run
+
+-- a run, and a step behind it
+pub one_more : (plan : Plan) (w mid new : World) (steps : List Step) (step : Step) → Run plan w steps mid → Follows plan mid step new
+    → Run plan w (steps ++ step ∷ []) new
+one_more plan w mid new [] step same follows = (new, subst (λ (x : World). Follows plan x step new) same follows, refl)
+one_more plan w mid new (first ∷ steps) step (next, leads, more) follows = (next, leads, one_more plan next mid new steps step more follows)
+
+-- what the first world has, and each step keeps that leads on from a world of a run
+module _ (plan : Plan) (Known Holds : World → Type 0) (known : Always plan Known)
+    (keeps : (w : World) → Known w → Holds w → (step : Step) → refusal plan w step ≡ None → (new : World) → StepsTo plan w step new → Holds new) where
+  next_with : (w : World) → Known w → Holds w → (step : Step) (new : World) → Follows plan w step new → Holds new
+  next_with w is here step new =
+      elim (refusal plan w step)
+      as (λ (o : Option StepError). refusal plan w step ≡ o → MatchBool (is_some o) (new ≡ w) (StepsTo plan w step new) → Holds new) [
+        | Some e ↦ λ _ same. subst Holds (sym same) here
+        | None ↦ λ allowed leads. keeps w is here step allowed new leads
+      ] refl
+
+  after_with : (before more : List Step) (mid w : World) → Run plan all_off before mid → Holds mid → Run plan mid more w → Holds w
+  after_with before [] mid w past here same = subst Holds (sym same) here
+  after_with before (step ∷ more) mid w past here (next, follows, rest) =
+      after_with (before ++ step ∷ []) more next w (one_more plan all_off mid next before step past follows)
+      (next_with mid (known before mid past) here step next follows) rest
+
+  pub always_with : Holds all_off → Always plan Holds
+  always_with at_first steps w run = after_with [] steps all_off w refl at_first run
 
 -- ---- steps that are not refused
 

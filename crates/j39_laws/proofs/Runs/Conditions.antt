@@ -25,10 +25,10 @@ none_unknown plan u v unit_u unit_v =
 
 -- no refusal holds of a step that is not refused, and the other way round
 abbrev pub NoneHoldOf : Plan → World → Step → Type 0
-NoneHoldOf plan w step = NoneHold (step_refusals (count_of plan) (flows_of plan) w step)
+NoneHoldOf plan w step = NoneHold (step_refusals plan.live (count_of plan) (flows_of plan) w step)
 
 pub none_refuses : (plan : Plan) (w : World) (step : Step) → refusal plan w step ≡ None → NoneHoldOf plan w step
-none_refuses plan w step = none_hold (step_refusals (count_of plan) (flows_of plan) w step)
+none_refuses plan w step = none_hold (step_refusals plan.live (count_of plan) (flows_of plan) w step)
 
 pub not_refused : (plan : Plan) (w : World) (step : Step) → NoneHoldOf plan w step → refusal plan w step ≡ None
-not_refused plan w step = none_first (step_refusals (count_of plan) (flows_of plan) w step)
+not_refused plan w step = none_first (step_refusals plan.live (count_of plan) (flows_of plan) w step)

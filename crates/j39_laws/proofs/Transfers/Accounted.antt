@@ -1,5 +1,5 @@
 -- What is undelivered of messages is of one that is still sent, and who sends and receives it is on.
-use Rattle.std.proofs.Common.{◌≡◌, ℕ, ◌⊎◌, inl, inr, Bool, true, false, not, ◌&&◌, eqb, List, [], ◌∷◌, length, refl, sym, ◌∙◌, subst, Option, Some, None}
+use Rattle.std.proofs.Common.{◌≡◌, ◌≢◌, ℕ, ◌⊎◌, inl, inr, Bool, true, false, not, ◌&&◌, eqb, List, [], ◌∷◌, length, refl, sym, ap, ◌∙◌, subst, Option, Some, None}
 use Rattle.std.specs.Prelude.{map}
 use Rattle.std.specs.List.{AllByRecursion}
 use Rattle.std.proofs.lemmas.Bool.{cases_eq, cond_both, true≢false}
@@ -27,7 +27,13 @@ use Rattle.j39_world.specs.Resting.{is_alone, is_of_sender, is_of_receiver}
 use Rattle.j39_world.specs.Transfers.{Outgoing, Sessions, is_among}
 use Rattle.j39_world.specs.TransferSteps.{session_after, reaction_of, receiver_replies, sender_replies}
 use Rattle.j39_world.specs.Flows.{dest_of}
+use Rattle.j39_world.specs.ClaimSteps.{without_lists_to}
+use Rattle.j39_world.specs.SwitchingOff.{session_without, sessions_without}
 use Rattle.j39_world.specs.World.{World, Stations, Undelivered, changed}
+use Rattle.j39_claim.specs.ClaimRule.{ClaimState, off}
+use Rattle.j39_findings.specs.declared.plan.Plan.{Plan}
+use Rattle.j39_laws.proofs.Runs.SwitchedOff.{targets_less, targets_same}
+use Rattle.j39_laws.proofs.Runs.Units.{without_lists_empty}
 use Rattle.j39_laws.proofs.Runs.Changed.{changed_each, changed_elsewhere}
 use Rattle.j39_laws.proofs.Runs.Elements.{all_map, all_weaker}
 use Rattle.j39_laws.proofs.Reports.Exchanges.{Pair, message_for, message_to, Exchange}
@@ -52,19 +58,70 @@ abbrev pub AreEndsOn : Stations → ℕ → Option Outgoing → Type 0
 AreEndsOn stations u None = Unit {0}
 AreEndsOn stations u (Some s) = ((stations u).on ≡ true) × ((v : ℕ) → is_among s.targets v ≡ true → (stations v).on ≡ true)
 
--- between whom a frame lies that was sent alone: both are on, and no claim is undelivered
-abbrev pub IsSettledFor : Stations → Undelivered → ℕ → ℕ → Wired → Type 0
-IsSettledFor stations claims s t (wired.Alone f bytes) =
-    ((stations s).on ≡ true) × ((stations t).on ≡ true) × ((x y : ℕ) → claims x y ≡ [])
-IsSettledFor stations claims s t _ = Unit {0}
+-- between whom a frame lies that was sent alone: both are on, and of a plan that isn't live no claim is undelivered
+abbrev pub IsSettledFor : Bool → Stations → Undelivered → ℕ → ℕ → Wired → Type 0
+IsSettledFor live stations claims s t (wired.Alone f bytes) =
+    ((stations s).on ≡ true) × ((stations t).on ≡ true) × (live ≡ false → (x y : ℕ) → claims x y ≡ [])
+IsSettledFor live stations claims s t _ = Unit {0}
 
-abbrev pub AreSettledFor : Stations → Undelivered → (ℕ → ℕ → List Wired) → Type 0
-AreSettledFor stations claims wire = (s t : ℕ) → AllByRecursion (IsSettledFor stations claims s t) (wire s t)
+abbrev pub AreSettledFor : Bool → Stations → Undelivered → (ℕ → ℕ → List Wired) → Type 0
+AreSettledFor live stations claims wire = (s t : ℕ) → AllByRecursion (IsSettledFor live stations claims s t) (wire s t)
 
-pub record AllAccounted (w : World) : Type 0 where
+pub record AllAccounted (plan : Plan) (w : World) : Type 0 where
   pub wire : AreAccounted w.sessions w.wire
-  pub alone : AreSettledFor w.stations w.claims w.wire
+  pub alone : AreSettledFor plan.live w.stations w.claims w.wire
   pub ends : (u : ℕ) → AreEndsOn w.stations u (w.sessions u)
+
+-- ---- units that are on still
+
+abbrev pub AreOnStill : Stations → Stations → Type 0
+AreOnStill old new = (u : ℕ) → (old u).on ≡ true → (new u).on ≡ true
+
+pub on_still : (stations : Stations) (u : ℕ) (new : ClaimState) → ((stations u).on ≡ true → new.on ≡ true) → AreOnStill stations (changed stations u new)
+on_still stations u new here = changed_each (λ x (c : ClaimState). (stations x).on ≡ true → c.on ≡ true) stations u new here (λ x is. is)
+
+pub ends_still : (old new : Stations) → AreOnStill old new → (u : ℕ) (o : Option Outgoing) → AreEndsOn old u o → AreEndsOn new u o
+ends_still old new still u None on = tt
+ends_still old new still u (Some s) on = (still u on.0, λ v among. still v (on.1 v among))
+
+-- ---- what is left where u is switched off
+
+pub on_left : (stations : Stations) (u x : ℕ) → x ≢ u → (stations x).on ≡ true → (changed stations u off x).on ≡ true
+on_left stations u x other is = ap (λ (c : ClaimState). c.on) (changed_elsewhere stations u off x other) ∙ is
+
+pub ends_left : (stations : Stations) (u x : ℕ) (o : Option Outgoing) → x ≢ u → AreEndsOn stations x o → AreEndsOn (changed stations u off) x (session_without u o)
+ends_left stations u x None other on = tt
+ends_left stations u x (Some s) other on = (
+  on_left stations u x other on.0,
+  λ v among. let less = targets_less u s.targets v among in on_left stations u v less.1 (on.1 v less.0),
+)
+
+pub settled_left : (live : Bool) (stations : Stations) (claims : Undelivered) (u s t : ℕ) → s ≢ u → t ≢ u → (item : Wired)
+    → IsSettledFor live stations claims s t item → IsSettledFor live (changed stations u off) (without_lists_to u claims) s t item
+settled_left live stations claims u s t other_s other_t (wired.Alone f bytes) settled = (
+  on_left stations u s other_s settled.0,
+  on_left stations u t other_t settled.1,
+  λ quiet x y. without_lists_empty claims u x y (settled.2 quiet x y),
+)
+settled_left live stations claims u s t other_s other_t (wired.Short bytes) settled = tt
+settled_left live stations claims u s t other_s other_t (wired.Packet p) settled = tt
+
+pub accounted_left : (sessions : Sessions) (u s t : ℕ) → s ≢ u → t ≢ u → (item : Wired) → IsAccounted sessions s t item
+    → IsAccounted (sessions_without u sessions) s t item
+accounted_left sessions u s t other_s other_t item is = elim is [
+  | inl here ↦ inl (here.0, sends_still s t other_s other_t here.1)
+  | inr (inl there) ↦ inr (inl (there.0, sends_still t s other_t other_s there.1))
+  | inr (inr alone) ↦ inr (inr alone)
+]
+  where
+    sends_left : (o : Option Outgoing) (y : ℕ) → y ≢ u → SendsTo o y → SendsTo (session_without u o) y
+    sends_left None y other sends = sends
+    sends_left (Some m) y other sends = targets_same u m.targets y other ∙ sends
+
+    sends_still : (x y : ℕ) → x ≢ u → y ≢ u → SendsTo (sessions x) y → SendsTo (sessions_without u sessions x) y
+    sends_still x y other_x other_y sends =
+        subst (λ (o : Option Outgoing). SendsTo o y) (sym (changed_elsewhere (λ z. session_without u (sessions z)) u None x other_x))
+        (sends_left (sessions x) y other_y sends)
 
 -- ---- sessions that send to as many at least
 

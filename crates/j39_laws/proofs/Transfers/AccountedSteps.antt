@@ -1,9 +1,9 @@
 -- In every world of every run what is undelivered of messages is of one that is still sent, and who sends and receives it is on.
-use Rattle.std.proofs.Common.{◌≡◌, ℕ, inl, inr, true, false, not, ◌&&◌, eqb, ltb, List, [], ◌∷◌, ◌++◌, length, refl, sym, ap, ◌∙◌, subst, Option, Some, None}
+use Rattle.std.proofs.Common.{◌≡◌, ℕ, inl, inr, Bool, true, false, not, ◌&&◌, eqb, ltb, List, [], ◌∷◌, ◌++◌, length, refl, sym, ap, ◌∙◌, subst, Option, Some, None}
 use Rattle.std.specs.Prelude.{map, slice_get}
 use Rattle.std.specs.List.{AllByRecursion, list_all, range_with_len}
 use Rattle.std.specs.Option.{is_some}
-use Rattle.std.proofs.lemmas.Bool.{and_parts, cond_both, eqb-true, not-false, not-true}
+use Rattle.std.proofs.lemmas.Bool.{and_parts, cases_Bool, cond_both, eqb-true, not-false, not-true, true≢false}
 use Rattle.j39_tp.specs.Receiver as receiver
 use Rattle.j39_tp.specs.Receiver.{is_open_at}
 use Rattle.j39_tp.specs.Sender as sender
@@ -23,11 +23,12 @@ use Rattle.j39_world.specs.declared.flow.Flow.{Flow}
 use Rattle.j39_world.specs.declared.wired.Wired.{Wired}
 use Rattle.j39_world.specs.declared.wired.Wired.TheVariants as wired
 use Rattle.j39_world.specs.ClaimSteps.{GivenFrom, without_lists_to}
+use Rattle.j39_world.specs.SwitchingOff.{sessions_without}
 use Rattle.j39_world.specs.Flows.{flows_of, windows_of, window_at, dest_of, is_short}
-use Rattle.j39_world.specs.PlannedUnits.{units_of, unit_at}
-use Rattle.j39_world.specs.Resting.{is_alone, is_of_sender, is_of_receiver, is_over_with, can_rest}
+use Rattle.j39_findings.specs.PlannedUnits.{units_of, unit_at}
+use Rattle.j39_world.specs.Resting.{is_of_sender, is_of_receiver, is_over_with, can_rest}
 use Rattle.j39_world.specs.Run.{count_of, is_on, at_ends, begin_refusal, begin_refusals, send_refusal, send_refusals, refusal, StepsTo}
-use Rattle.j39_world.specs.Run.{is_none_sending, is_no_transfer_open, is_nothing_undelivered}
+use Rattle.j39_world.specs.Run.{is_a_transfer_open, is_none_sending, is_no_transfer_open, is_nothing_undelivered}
 use Rattle.j39_world.specs.SoundPlan.{Always}
 use Rattle.j39_world.specs.Transfers.{Outgoing, Reported, Sessions, Wire, is_among, added, outcome_in}
 use Rattle.j39_world.specs.TransferSteps.{targets_of, outgoing, first_item, begins, BeginsAt, SendsAt, sends_alone, sent_to_receivers, session_after, reaction_of}
@@ -37,16 +38,18 @@ use Rattle.j39_world.specs.World.{World, Stations, Undelivered, changed, changed
 use Rattle.j39_laws.proofs.Reports.Exchanges.{pair_of}
 use Rattle.j39_laws.proofs.Reports.ExchangeSteps.{asides_answer}
 use Rattle.j39_laws.proofs.Reports.Hearings.{packets_aside}
-use Rattle.j39_laws.proofs.Reports.Orderly.{PlannedAt, none_sends, none_sends_while, all_delivered, nothing_between}
+use Rattle.j39_laws.proofs.Reports.Orderly.{PlannedAt, delivered_at, none_sends, none_sends_while, nothing_between}
 use Rattle.j39_laws.proofs.Reports.SenderSteps.{among_filtered, among_one, no_session, begin_keeps, send_keeps}
-use Rattle.j39_laws.proofs.Reports.SoundReports.{at_first, steps_keep}
+use Rattle.j39_laws.proofs.Reports.SoundReports.{AreUntaken, at_first, steps_keep}
 use Rattle.j39_laws.proofs.Reports.TransferInvariant.{TransferInvariant}
 use Rattle.j39_laws.proofs.Runs.Always.{IsPreserved, always}
 use Rattle.j39_laws.proofs.Runs.Changed.{changed_here, changed_each, pair_each}
 use Rattle.j39_laws.proofs.Runs.Conditions.{is_unit, none_refuses}
 use Rattle.j39_laws.proofs.Runs.Elements.{all-append, all_tested, all_weaker}
+use Rattle.j39_laws.proofs.Runs.SwitchedOff.{lists_left, nothing_dropped, sessions_each, unless_live}
 use Rattle.j39_laws.proofs.Runs.Units.{units_all}
-use Rattle.j39_laws.proofs.Transfers.Accounted.{IsSettledFor, AreSettledFor}
+use Rattle.j39_laws.proofs.Addresses.Notes.{reacts_on}
+use Rattle.j39_laws.proofs.Transfers.Accounted.{AreOnStill, IsSettledFor, AreSettledFor, accounted_left, ends_left, ends_still, on_still, settled_left}
 use Rattle.j39_laws.proofs.Transfers.Accounted.{SendsTo, IsAccounted, AreAccounted, AreEndsOn, AllAccounted, SendMore, send_more, still_accounted, after_sends}
 use Rattle.j39_laws.proofs.Transfers.Accounted.{open_is_sent, replying, announced_to, answers_accounted, reacted_accounted, data_of_sender}
 use Rattle.j39_laws.proofs.Transfers.Accounted.{timeout_of_sender, announcement_of_sender, rested_accounted}
@@ -55,7 +58,7 @@ use Rattle.j39_laws.proofs.Transfers.FitSteps.{receiver_answers}
 -- what holds of messages, and that all is accounted for
 pub record IsKept (plan : Plan) (w : World) : Type 0 where
   pub transfers : TransferInvariant plan w
-  pub accounted : AllAccounted w
+  pub accounted : AllAccounted plan w
 
 first_item_of_sender : (flow : Flow) (bytes : List ℕ) → is_of_sender (first_item flow bytes) ≡ true
 first_item_of_sender flow bytes =
@@ -63,16 +66,16 @@ first_item_of_sender flow bytes =
     (λ (item : Wired). is_of_sender item ≡ true) (λ _. refl) (λ _. announcement_of_sender (dest_of flow.to) flow.pgn (length bytes))
 
 -- what a message begins with isn't sent alone
-first_item_settled : (stations : Stations) (claims : Undelivered) (s t : ℕ) (flow : Flow) (bytes : List ℕ)
-    → IsSettledFor stations claims s t (first_item flow bytes)
-first_item_settled stations claims s t flow bytes =
+first_item_settled : (live : Bool) (stations : Stations) (claims : Undelivered) (s t : ℕ) (flow : Flow) (bytes : List ℕ)
+    → IsSettledFor live stations claims s t (first_item flow bytes)
+first_item_settled live stations claims s t flow bytes =
     cond_both (is_short (length bytes)) (wired.Short bytes) (wired.Packet (sender.announcement (dest_of flow.to) flow.pgn (length bytes)))
-    (IsSettledFor stations claims s t) (λ _. tt) (λ _. tt)
+    (IsSettledFor live stations claims s t) (λ _. tt) (λ _. tt)
 
-packets_settled : (stations : Stations) (claims : Undelivered) (s t : ℕ) (ps : List Packet)
-    → AllByRecursion (IsSettledFor stations claims s t) (map wired.Packet ps)
-packets_settled stations claims s t [] = tt
-packets_settled stations claims s t (p ∷ ps) = (tt, packets_settled stations claims s t ps)
+packets_settled : (live : Bool) (stations : Stations) (claims : Undelivered) (s t : ℕ) (ps : List Packet)
+    → AllByRecursion (IsSettledFor live stations claims s t) (map wired.Packet ps)
+packets_settled live stations claims s t [] = tt
+packets_settled live stations claims s t (p ∷ ps) = (tt, packets_settled live stations claims s t ps)
 
 begin_ends : (stations : Stations) (count u : ℕ) (to : To) → at_ends (is_on stations) u to ≡ true
     → ((stations u).on ≡ true) × ((v : ℕ) → is_among (targets_of count stations u to) v ≡ true → (stations v).on ≡ true)
@@ -88,7 +91,7 @@ ends_after : (stations : Stations) (v u : ℕ) (p : Packet) (o : Option Outgoing
 ends_after stations v u p None on = on
 ends_after stations v u p (Some s) on = on
 
-module _ (plan : Plan) (w : World) (inv : TransferInvariant plan w) (old : AllAccounted w) where
+module _ (plan : Plan) (w : World) (inv : TransferInvariant plan w) (old : AllAccounted plan w) where
   -- ---- lists that change
 
   dropped : (u : ℕ) → AreAccounted w.sessions (without_lists_to u w.wire)
@@ -120,120 +123,161 @@ module _ (plan : Plan) (w : World) (inv : TransferInvariant plan w) (old : AllAc
   -- ---- lists that change, and what lies there that was sent alone
 
   abbrev HereSettled : Wire → Type 0
-  HereSettled wire = AreSettledFor w.stations w.claims wire
+  HereSettled wire = AreSettledFor plan.live w.stations w.claims wire
 
   less_settled : (u v : ℕ) (item : Wired) (rest : List Wired) → w.wire u v ≡ item ∷ rest → HereSettled (changed_pair w.wire u v rest)
-  less_settled u v item rest is = pair_each (λ s t (xs : List Wired). AllByRecursion (IsSettledFor w.stations w.claims s t) xs) w.wire u v rest
-      (subst (AllByRecursion (IsSettledFor w.stations w.claims u v)) is (old.alone u v)).1 old.alone
+  less_settled u v item rest is = pair_each (λ s t (xs : List Wired). AllByRecursion (IsSettledFor plan.live w.stations w.claims s t) xs) w.wire u v rest
+      (subst (AllByRecursion (IsSettledFor plan.live w.stations w.claims u v)) is (old.alone u v)).1 old.alone
 
   more_settled : (wire : Wire) → HereSettled wire → (v u : ℕ) (ps : List Packet) → HereSettled (changed_pair wire v u (wire v u ++ map wired.Packet ps))
   more_settled wire here v u ps =
-      pair_each (λ s t (xs : List Wired). AllByRecursion (IsSettledFor w.stations w.claims s t) xs) wire v u (wire v u ++ map wired.Packet ps)
-      (all-append (IsSettledFor w.stations w.claims v u) (wire v u) (map wired.Packet ps) (here v u) (packets_settled w.stations w.claims v u ps)) here
+      pair_each (λ s t (xs : List Wired). AllByRecursion (IsSettledFor plan.live w.stations w.claims s t) xs) wire v u (wire v u ++ map wired.Packet ps)
+      (all-append (IsSettledFor plan.live w.stations w.claims v u) (wire v u) (map wired.Packet ps) (here v u) (packets_settled plan.live w.stations w.claims v u ps)) here
 
-  sent_settled : (u : ℕ) (targets : List ℕ) (item : Wired) → ((t : ℕ) → is_among targets t ≡ true → IsSettledFor w.stations w.claims u t item)
+  sent_settled : (u : ℕ) (targets : List ℕ) (item : Wired) → ((t : ℕ) → is_among targets t ≡ true → IsSettledFor plan.live w.stations w.claims u t item)
       → HereSettled (added w.wire u targets item)
   sent_settled u targets item settled s t =
-      cond_both (eqb s u && is_among targets t) (w.wire s t ++ item ∷ []) (w.wire s t) (AllByRecursion (IsSettledFor w.stations w.claims s t))
+      cond_both (eqb s u && is_among targets t) (w.wire s t ++ item ∷ []) (w.wire s t) (AllByRecursion (IsSettledFor plan.live w.stations w.claims s t))
       (λ both. let parts = and_parts (eqb s u) (is_among targets t) both in
-      all-append (IsSettledFor w.stations w.claims s t) (w.wire s t) (item ∷ []) (old.alone s t)
-      (subst (λ k. IsSettledFor w.stations w.claims k t item) (sym (eqb-true s u parts.0)) (settled t parts.1), tt))
+      all-append (IsSettledFor plan.live w.stations w.claims s t) (w.wire s t) (item ∷ []) (old.alone s t)
+      (subst (λ k. IsSettledFor plan.live w.stations w.claims k t item) (sym (eqb-true s u parts.0)) (settled t parts.1), tt))
       (λ _. old.alone s t)
 
-  -- ---- units that are switched, or hear a claim, while no message is sent
+  -- ---- between whom something lies
 
-  none_ends : ((u : ℕ) → w.sessions u ≡ None) → (stations : Stations) (u : ℕ) → AreEndsOn stations u (w.sessions u)
-  none_ends none stations u = subst (AreEndsOn stations u) (sym (none u)) tt
-
-  none_open : is_no_transfer_open (count_of plan) w ≡ true → (u : ℕ) → w.sessions u ≡ None
-  none_open closed = none_sends plan w.stations w.claims w.sessions inv.order
-      (units_all plan (λ v. not (is_some (w.sessions v)))
-      (and_parts (is_none_sending (count_of plan) w) (is_nothing_undelivered (count_of plan) w.wire) closed).0)
-
-  -- then nothing of a message is undelivered either
-  pub none_lies : is_no_transfer_open (count_of plan) w ≡ true → (s t : ℕ) → w.wire s t ≡ []
-  none_lies closed s t = of_list (w.wire s t) refl
+  ends_on : (s t : ℕ) → SendsTo (w.sessions s) t → ((w.stations s).on ≡ true) × ((w.stations t).on ≡ true)
+  ends_on s t sends = of_session (w.sessions s) (old.ends s) sends
     where
-      idle : (x y : ℕ) → SendsTo (w.sessions x) y → ⊥
-      idle x y sends = subst (λ (o : Option Outgoing). SendsTo o y) (none_open closed x) sends
+      of_session : (o : Option Outgoing) → AreEndsOn w.stations s o → SendsTo o t → ((w.stations s).on ≡ true) × ((w.stations t).on ≡ true)
+      of_session None on to = absurd to
+      of_session (Some m) on to = (on.0, on.1 t to)
 
-      between : is_unit plan s ≡ true → is_unit plan t ≡ true → w.wire s t ≡ []
-      between unit_s unit_t =
-          nothing_between plan w.wire (and_parts (is_none_sending (count_of plan) w) (is_nothing_undelivered (count_of plan) w.wire) closed).1 s t unit_s unit_t
+  -- both are on
+  pub lies_on : (s t : ℕ) (item : Wired) → IsAccounted w.sessions s t item → IsSettledFor plan.live w.stations w.claims s t item
+      → ((w.stations s).on ≡ true) × ((w.stations t).on ≡ true)
+  lies_on s t item (inl here) settled = ends_on s t here.1
+  lies_on s t item (inr (inl there)) settled = let on = ends_on t s there.1 in (on.1, on.0)
+  lies_on s t (wired.Alone f bytes) (inr (inr alone)) settled = (settled.0, settled.1)
+  lies_on s t (wired.Short bytes) (inr (inr alone)) settled = absurd (cc alone)
+  lies_on s t (wired.Packet p) (inr (inr alone)) settled = absurd (cc alone)
 
-      by_ends : (item : Wired) → is_alone item ≡ true → IsSettledFor w.stations w.claims s t item → w.wire s t ≡ []
-      by_ends (wired.Alone f bytes) is settled = between (inv.order.units s settled.0) (inv.order.units t settled.1)
-      by_ends (wired.Short bytes) is settled = absurd (cc is)
-      by_ends (wired.Packet p) is settled = absurd (cc is)
+  pub untaken : AreUntaken w
+  untaken s t off_is = of_list (w.wire s t) refl
+    where
+      of_list : (list : List Wired) → w.wire s t ≡ list → w.wire s t ≡ []
+      of_list [] is = is
+      of_list (item ∷ rest) is =
+          let on = lies_on s t item (subst (AllByRecursion (IsAccounted w.sessions s t)) is (old.wire s t)).0
+          (subst (AllByRecursion (IsSettledFor plan.live w.stations w.claims s t)) is (old.alone s t)).0 in
+          absurd (true≢false (sym on.1 ∙ off_is))
+
+  -- so nothing is dropped where a unit is switched on
+  pub wire_same : (x : ℕ) → (w.stations x).on ≡ false → without_lists_to x w.wire ≡ w.wire
+  wire_same x off_is =
+      let same : w.wire ≡ without_lists_to x w.wire = λ i s t. nothing_dropped w.wire x (λ y. untaken y x off_is) s t i in sym same
+
+  -- ---- units that are switched on, tell or hear of addresses
+
+  none_open : (not plan.live && is_a_transfer_open (count_of plan) w) ≡ false → plan.live ≡ false → is_no_transfer_open (count_of plan) w ≡ true
+  none_open idle quiet = not-false _ (unless_live plan.live (is_a_transfer_open (count_of plan) w) quiet idle)
+
+  -- where a plan that isn't live refuses no step for what is open nothing of a message is undelivered
+  pub none_lies : (not plan.live && is_a_transfer_open (count_of plan) w) ≡ false → plan.live ≡ false → (s t : ℕ) → w.wire s t ≡ []
+  none_lies idle quiet s t = of_list (w.wire s t) refl
+    where
+      parts : (is_none_sending (count_of plan) w ≡ true) × (is_nothing_undelivered (count_of plan) w.wire ≡ true)
+      parts = and_parts (is_none_sending (count_of plan) w) (is_nothing_undelivered (count_of plan) w.wire) (none_open idle quiet)
 
       of_list : (list : List Wired) → w.wire s t ≡ list → w.wire s t ≡ []
       of_list [] is = is
       of_list (item ∷ rest) is =
-          let accounted : IsAccounted w.sessions s t item = (subst (AllByRecursion (IsAccounted w.sessions s t)) is (old.wire s t)).0 in
-          elim accounted [
-            | inl here ↦ absurd (idle s t here.1)
-            | inr (inl there) ↦ absurd (idle t s there.1)
-            | inr (inr alone) ↦ by_ends item alone (subst (AllByRecursion (IsSettledFor w.stations w.claims s t)) is (old.alone s t)).0
-          ]
+          let on = lies_on s t item (subst (AllByRecursion (IsAccounted w.sessions s t)) is (old.wire s t)).0
+          (subst (AllByRecursion (IsSettledFor plan.live w.stations w.claims s t)) is (old.alone s t)).0 in
+          nothing_between plan w.wire parts.1 s t (inv.order.units s on.0) (inv.order.units t on.1)
 
-  none_settled : is_no_transfer_open (count_of plan) w ≡ true → (stations : Stations) (claims : Undelivered) → AreSettledFor stations claims w.wire
-  none_settled closed stations claims s t = subst (AllByRecursion (IsSettledFor stations claims s t)) (sym (none_lies closed s t)) tt
+  -- what lies, where no unit goes off
+  module _ (stations : Stations) (still : AreOnStill w.stations stations) (claims : Undelivered) where
+    abbrev SettledThen : Type 0
+    SettledThen = AreSettledFor plan.live stations claims w.wire
 
-  dropped_settled : is_no_transfer_open (count_of plan) w ≡ true → (u : ℕ) (stations : Stations) (claims : Undelivered)
-      → AreSettledFor stations claims (without_lists_to u w.wire)
-  dropped_settled closed u stations claims s t =
-      cond_both (eqb t u) [] (w.wire s t) (AllByRecursion (IsSettledFor stations claims s t)) (λ _. tt) (λ _. none_settled closed stations claims s t)
+    settled_still : (plan.live ≡ false → SettledThen) → SettledThen
+    settled_still unless s t = elim (cases_Bool plan.live) [
+      | inl live ↦ all_weaker (IsSettledFor plan.live w.stations w.claims s t) (IsSettledFor plan.live stations claims s t) (of_item live) (w.wire s t) (old.alone s t)
+      | inr quiet ↦ unless quiet s t
+    ]
+      where
+        of_item : plan.live ≡ true → (item : Wired) → IsSettledFor plan.live w.stations w.claims s t item → IsSettledFor plan.live stations claims s t item
+        of_item live (wired.Alone f bytes) settled = (still s settled.0, still t settled.1, λ quiet. absurd (true≢false (sym live ∙ quiet)))
+        of_item live (wired.Short bytes) settled = tt
+        of_item live (wired.Packet p) settled = tt
 
-  -- none lies while a claim is undelivered
-  given_settled : (u v : ℕ) → ltb 0 (length (w.claims u v)) ≡ true → (stations : Stations) (claims : Undelivered) → AreSettledFor stations claims w.wire
-  given_settled u v some stations claims s t =
-      all_weaker (IsSettledFor w.stations w.claims s t) (IsSettledFor stations claims s t) of_item (w.wire s t) (old.alone s t)
-    where
-      never : w.claims u v ≡ [] → ⊥
-      never empty = (let none : ltb 0 (length {A = Item} []) ≡ true = subst (λ (items : List Item). ltb 0 (length items) ≡ true) empty some in cc none)
+    -- where a plan that isn't live refuses no step for what is open
+    idle_settled : (not plan.live && is_a_transfer_open (count_of plan) w) ≡ false → SettledThen
+    idle_settled idle = settled_still (λ quiet s t. subst (AllByRecursion (IsSettledFor plan.live stations claims s t)) (sym (none_lies idle quiet s t)) tt)
 
-      of_item : (item : Wired) → IsSettledFor w.stations w.claims s t item → IsSettledFor stations claims s t item
-      of_item (wired.Alone f bytes) settled = absurd (never (settled.2 u v))
-      of_item (wired.Short bytes) settled = tt
-      of_item (wired.Packet p) settled = tt
+    -- of such a plan none lies while a claim is undelivered
+    given_settled : (u v : ℕ) → ltb 0 (length (w.claims u v)) ≡ true → SettledThen
+    given_settled u v some = settled_still (λ quiet s t.
+        all_weaker (IsSettledFor plan.live w.stations w.claims s t) (IsSettledFor plan.live stations claims s t) (of_item quiet s t) (w.wire s t) (old.alone s t))
+      where
+        never : w.claims u v ≡ [] → ⊥
+        never empty = (let none : ltb 0 (length {A = Item} []) ≡ true = subst (λ (items : List Item). ltb 0 (length items) ≡ true) empty some in cc none)
+
+        of_item : plan.live ≡ false → (s t : ℕ) (item : Wired) → IsSettledFor plan.live w.stations w.claims s t item
+            → IsSettledFor plan.live stations claims s t item
+        of_item quiet s t (wired.Alone f bytes) settled = absurd (never (settled.2 quiet u v))
+        of_item quiet s t (wired.Short bytes) settled = tt
+        of_item quiet s t (wired.Packet p) settled = tt
+
+    ends_then : (u : ℕ) → AreEndsOn stations u (w.sessions u)
+    ends_then u = ends_still w.stations stations still u (w.sessions u) (old.ends u)
+
+  dropped_settled : (u : ℕ) (stations : Stations) (claims : Undelivered) → AreSettledFor plan.live stations claims w.wire
+      → AreSettledFor plan.live stations claims (without_lists_to u w.wire)
+  dropped_settled u stations claims here s t =
+      cond_both (eqb t u) [] (w.wire s t) (AllByRecursion (IsSettledFor plan.live stations claims s t)) (λ _. tt) (λ _. here s t)
 
   give_accounted : (u v : ℕ) → ltb 0 (length (w.claims u v)) ≡ true → (list : List Item) (new : World) → GivenFrom (units_of plan) w u v list new
-      → AllAccounted new
+      → AllAccounted plan new
   give_accounted u v some [] new never = absurd never
-  give_accounted u v some (item ∷ rest) new (says, s, answers, e) = subst AllAccounted (sym e) (record {
-    wire = old.wire;
-    alone = given_settled u v some (changed w.stations v s) _;
-    ends = none_ends (none_sends_while plan w.stations w.claims w.sessions inv.order u v some) (changed w.stations v s);
-  })
+  give_accounted u v some (item ∷ rest) new (says, s, reacts, e) =
+      let stations : Stations = changed w.stations v s in
+      let still : AreOnStill w.stations stations =
+      on_still w.stations v s (λ on. reacts_on (unit_at (units_of plan) v) (w.stations v) (unit_at (units_of plan) u).name item says s reacts ∙ on) in
+      subst (AllAccounted plan) (sym e) (record {
+        wire = old.wire;
+        alone = given_settled stations still _ u v some;
+        ends = ends_then stations still w.claims;
+      })
 
   -- ---- a sender begins, goes on, or hears nothing in time
 
-  begin_accounted : (f : ℕ) (o : Option Flow) (bytes : List ℕ) → begin_refusal (count_of plan) w o bytes ≡ None → (new : World)
-      → BeginsAt (count_of plan) w f o bytes new → AllAccounted new
+  begin_accounted : (f : ℕ) (o : Option Flow) (bytes : List ℕ) → begin_refusal plan.live (count_of plan) w o bytes ≡ None → (new : World)
+      → BeginsAt (count_of plan) w f o bytes new → AllAccounted plan new
   begin_accounted f None bytes allowed new never = absurd never
   begin_accounted f (Some flow) bytes allowed new e =
-      let (sendable, (on, (told, (addressed, (free, rest))))) = none_hold (begin_refusals (count_of plan) w (Some flow) bytes) allowed in
+      let (sendable, (on, (told, (addressed, (free, rest))))) = none_hold (begin_refusals plan.live (count_of plan) w (Some flow) bytes) allowed in
       let o : Outgoing = outgoing (count_of plan) w.stations f flow bytes in
       let idle : w.sessions flow.sender ≡ None = no_session (w.sessions flow.sender) free in
-      subst AllAccounted (sym e) (record {
+      subst (AllAccounted plan) (sym e) (record {
         wire = sent flow.sender o (first_item flow bytes) (λ y sends. absurd (subst (λ (x : Option Outgoing). SendsTo x y) idle sends))
             (first_item_of_sender flow bytes);
-        alone = sent_settled flow.sender o.targets (first_item flow bytes) (λ t _. first_item_settled w.stations w.claims flow.sender t flow bytes);
+        alone = sent_settled flow.sender o.targets (first_item flow bytes) (λ t _. first_item_settled plan.live w.stations w.claims flow.sender t flow bytes);
         ends = changed_each (AreEndsOn w.stations) w.sessions flow.sender (Some o)
             (begin_ends w.stations (count_of plan) flow.sender flow.to (not-false _ on)) old.ends;
       })
 
-  -- a frame is sent alone, while no claim is undelivered
-  send_accounted : (f : ℕ) (o : Option Flow) (bytes : List ℕ) → send_refusal (count_of plan) w o bytes ≡ None → (new : World)
-      → SendsAt (count_of plan) w f o bytes new → AllAccounted new
+  -- a frame is sent alone, of a plan that isn't live while no claim is undelivered
+  send_accounted : (f : ℕ) (o : Option Flow) (bytes : List ℕ) → send_refusal plan.live (count_of plan) w o bytes ≡ None → (new : World)
+      → SendsAt (count_of plan) w f o bytes new → AllAccounted plan new
   send_accounted f None bytes allowed new never = absurd never
   send_accounted f (Some flow) bytes allowed new e =
-      let (sendable, (on, (told, (addressed, (free, rest))))) = none_hold (send_refusals (count_of plan) w (Some flow) bytes) allowed in
+      let (sendable, (on, (told, (addressed, (free, rest))))) = none_hold (send_refusals plan.live (count_of plan) w (Some flow) bytes) allowed in
       let targets : List ℕ = targets_of (count_of plan) w.stations flow.sender flow.to in
       let item : Wired = wired.Alone f bytes in
       let ends = begin_ends w.stations (count_of plan) flow.sender flow.to (not-false _ on) in
-      let delivered = all_delivered plan w.stations w.claims w.sessions inv.order (not-false _ told) in
-      subst AllAccounted (sym e) (record {
+      let delivered = delivered_at plan w.stations w.claims w.sessions inv.order told in
+      subst (AllAccounted plan) (sym e) (record {
         wire = λ s t. cond_both (eqb s flow.sender && is_among targets t) (w.wire s t ++ item ∷ []) (w.wire s t) (AllByRecursion (IsAccounted w.sessions s t))
             (λ _. all-append (IsAccounted w.sessions s t) (w.wire s t) (item ∷ []) (old.wire s t) (inr (inr refl), tt)) (λ _. old.wire s t);
         alone = sent_settled flow.sender targets item (λ t among. (ends.0, ends.1 t among, delivered));
@@ -241,7 +285,7 @@ module _ (plan : Plan) (w : World) (inv : TransferInvariant plan w) (old : AllAc
       })
 
   sends_accounted : (u : ℕ) (s : Outgoing) (stage : Stage) (p : Packet) → w.sessions u ≡ Some s → is_of_sender (wired.Packet p) ≡ true
-      → AllAccounted (record (sent_to_receivers w u s p) { sessions = changed w.sessions u (Some (record s { stage = stage })) })
+      → AllAccounted plan (record (sent_to_receivers w u s p) { sessions = changed w.sessions u (Some (record s { stage = stage })) })
   sends_accounted u s stage p is of = record {
     wire = sent u (record s { stage = stage }) (wired.Packet p) (λ y sends. subst (λ (x : Option Outgoing). SendsTo x y) is sends) of;
     alone = sent_settled u s.targets (wired.Packet p) (λ t _. tt);
@@ -254,7 +298,7 @@ module _ (plan : Plan) (w : World) (inv : TransferInvariant plan w) (old : AllAc
   sent_where_open u v is = open_is_sent (w.sessions u) v (pair_of w u v) (inv.exchanges u v) is
 
   packet_accounted : (windows : List ℕ) (u v : ℕ) (p : Packet) (rest : List Wired) (reports : List Reported) → w.wire u v ≡ wired.Packet p ∷ rest
-      → AllAccounted (packet_taken windows w u v rest p reports)
+      → AllAccounted plan (packet_taken windows w u v rest p reports)
   packet_accounted windows u v p rest reports is =
       let then : Option Outgoing = session_after (w.sessions v) u p in
       let now : Sessions = changed w.sessions v then in
@@ -284,19 +328,19 @@ module _ (plan : Plan) (w : World) (inv : TransferInvariant plan w) (old : AllAc
       map-append [] ys = refl
       map-append (x ∷ xs) ys = ap (λ (zs : List Wired). wired.Packet x ∷ zs) (map-append xs ys)
 
-  take_accounted : (windows : List ℕ) (u v : ℕ) (list : List Wired) → w.wire u v ≡ list → (new : World) → TakenFrom windows w u v list new → AllAccounted new
+  take_accounted : (windows : List ℕ) (u v : ℕ) (list : List Wired) → w.wire u v ≡ list → (new : World) → TakenFrom windows w u v list new → AllAccounted plan new
   take_accounted windows u v [] is new never = absurd never
   take_accounted windows u v (wired.Short bytes ∷ rest) is new e =
-      subst AllAccounted (sym e) (record { wire = less u v (wired.Short bytes) rest is; alone = less_settled u v (wired.Short bytes) rest is; ends = old.ends })
-  take_accounted windows u v (wired.Packet p ∷ rest) is new (reports, reported, e) = subst AllAccounted (sym e) (packet_accounted windows u v p rest reports is)
+      subst (AllAccounted plan) (sym e) (record { wire = less u v (wired.Short bytes) rest is; alone = less_settled u v (wired.Short bytes) rest is; ends = old.ends })
+  take_accounted windows u v (wired.Packet p ∷ rest) is new (reports, reported, e) = subst (AllAccounted plan) (sym e) (packet_accounted windows u v p rest reports is)
   take_accounted windows u v (wired.Alone f bytes ∷ rest) is new e =
-      subst AllAccounted (sym e) (record { wire = less u v (wired.Alone f bytes) rest is; alone = less_settled u v (wired.Alone f bytes) rest is; ends = old.ends })
+      subst (AllAccounted plan) (sym e) (record { wire = less u v (wired.Alone f bytes) rest is; alone = less_settled u v (wired.Alone f bytes) rest is; ends = old.ends })
 
-  lose_accounted : (u v : ℕ) (list : List Wired) → w.wire u v ≡ list → (new : World) → LostFrom w u v list new → AllAccounted new
+  lose_accounted : (u v : ℕ) (list : List Wired) → w.wire u v ≡ list → (new : World) → LostFrom w u v list new → AllAccounted plan new
   lose_accounted u v [] is new never = absurd never
-  lose_accounted u v (item ∷ rest) is new e = subst AllAccounted (sym e) (record { wire = less u v item rest is; alone = less_settled u v item rest is; ends = old.ends })
+  lose_accounted u v (item ∷ rest) is new e = subst (AllAccounted plan) (sym e) (record { wire = less u v item rest is; alone = less_settled u v item rest is; ends = old.ends })
 
-  late_receiver_accounted : (windows : List ℕ) (u v : ℕ) → is_open_at (w.receivers v u) ≡ true → AllAccounted (receiver_timed_out windows w u v)
+  late_receiver_accounted : (windows : List ℕ) (u v : ℕ) → is_open_at (w.receivers v u) ≡ true → AllAccounted plan (receiver_timed_out windows w u v)
   late_receiver_accounted windows u v is =
       let sends : List Packet = packets_in (receiver.timed_out (Answering (window_at windows v)) (w.receivers v u)).1 in
       let answers : AllByRecursion IsAnswer sends =
@@ -331,7 +375,7 @@ module _ (plan : Plan) (w : World) (inv : TransferInvariant plan w) (old : AllAc
         not-true (is_open_at (w.receivers t u)) wires.0,
       )
 
-  rest_accounted : (u : ℕ) → can_rest (count_of plan) w u ≡ true → AllAccounted (rested w u)
+  rest_accounted : (u : ℕ) → can_rest (count_of plan) w u ≡ true → AllAccounted plan (rested w u)
   rest_accounted u can = record {
     wire = λ s t. rested_accounted w.sessions u s t (w.wire s t) (old.wire s t)
         (λ same sends. subst (λ k. AllByRecursion (λ item. not (is_of_sender item) ≡ true) (w.wire k t)) (sym same) (over_with u can t sends).0)
@@ -342,47 +386,53 @@ module _ (plan : Plan) (w : World) (inv : TransferInvariant plan w) (old : AllAc
 
   -- ---- each step
 
-  accounted_keeps : (step : Step) → refusal plan w step ≡ None → (new : World) → StepsTo plan w step new → AllAccounted new
+  accounted_keeps : (step : Step) → refusal plan w step ≡ None → (new : World) → StepsTo plan w step new → AllAccounted plan new
   accounted_keeps (Up u) allowed new e =
       let (known, (off_is, (idle, none))) = none_refuses plan w (Up u) allowed in
-      subst AllAccounted (sym e) (record {
+      let stations : Stations = changed w.stations u (started (unit_at (units_of plan) u)) in
+      let still : AreOnStill w.stations stations = on_still w.stations u (started (unit_at (units_of plan) u)) (λ _. refl) in
+      subst (AllAccounted plan) (sym e) (record {
         wire = dropped u;
-        alone = dropped_settled (not-false _ idle) u (changed w.stations u (started (unit_at (units_of plan) u))) _;
-        ends = none_ends (none_open (not-false _ idle)) (changed w.stations u (started (unit_at (units_of plan) u)));
+        alone = dropped_settled u stations _ (idle_settled stations still _ idle);
+        ends = ends_then stations still w.claims;
       })
   accounted_keeps (Down u) allowed new e =
-      let (known, (on, (idle, none))) = none_refuses plan w (Down u) allowed in
-      subst AllAccounted (sym e) (record {
-        wire = dropped u;
-        alone = dropped_settled (not-false _ idle) u (changed w.stations u off) _;
-        ends = none_ends (none_open (not-false _ idle)) (changed w.stations u off);
+      subst (AllAccounted plan) (sym e) (record {
+        wire = lists_left u (IsAccounted (sessions_without u w.sessions)) w.wire
+            (λ s t other_s other_t. all_weaker (IsAccounted w.sessions s t) (IsAccounted (sessions_without u w.sessions) s t)
+            (accounted_left w.sessions u s t other_s other_t) (w.wire s t) (old.wire s t));
+        alone = lists_left u (IsSettledFor plan.live (changed w.stations u off) (without_lists_to u w.claims)) w.wire
+            (λ s t other_s other_t. all_weaker (IsSettledFor plan.live w.stations w.claims s t)
+            (IsSettledFor plan.live (changed w.stations u off) (without_lists_to u w.claims) s t)
+            (settled_left plan.live w.stations w.claims u s t other_s other_t) (w.wire s t) (old.alone s t));
+        ends = sessions_each u (AreEndsOn (changed w.stations u off)) w.sessions tt (λ x other. ends_left w.stations u x (w.sessions x) other (old.ends x));
       })
   accounted_keeps (Give u v) allowed new leads =
       let (known, (on, (some, none))) = none_refuses plan w (Give u v) allowed in give_accounted u v (not-false _ some) (w.claims u v) new leads
   accounted_keeps (Ask u) allowed new e =
       let (known, (on, (idle, none))) = none_refuses plan w (Ask u) allowed in
-      subst AllAccounted (sym e) (record {
+      subst (AllAccounted plan) (sym e) (record {
         wire = old.wire;
-        alone = none_settled (not-false _ idle) w.stations _;
+        alone = idle_settled w.stations (λ x is. is) _ idle;
         ends = old.ends;
       })
   accounted_keeps (Begin f bytes) allowed new leads = begin_accounted f (slice_get (flows_of plan) f) bytes.items allowed new leads
   accounted_keeps (Send f bytes) allowed new leads = send_accounted f (slice_get (flows_of plan) f) bytes.items allowed new leads
   accounted_keeps (Emit u) allowed new (s, p, session, next, e) =
-      subst AllAccounted (sym e) (sends_accounted u s (sender.after_packet (dest_of s.to) s.stage) p session (data_of_sender s.bytes s.stage p next))
+      subst (AllAccounted plan) (sym e) (sends_accounted u s (sender.after_packet (dest_of s.to) s.stage) p session (data_of_sender s.bytes s.stage p next))
   accounted_keeps (Take u v) allowed new leads = take_accounted (windows_of plan) u v (w.wire u v) refl new leads
   accounted_keeps (Lose u v) allowed new leads = lose_accounted u v (w.wire u v) refl new leads
   accounted_keeps (LateSender u) allowed new (s, p, session, packet, e) =
-      subst AllAccounted (sym e) (sends_accounted u s (sender.after_timeout s.stage) p session (timeout_of_sender s.pgn s.stage p packet))
+      subst (AllAccounted plan) (sym e) (sends_accounted u s (sender.after_timeout s.stage) p session (timeout_of_sender s.pgn s.stage p packet))
   accounted_keeps (LateReceiver u v) allowed new e =
       let (known, (on, (hears, none))) = none_refuses plan w (LateReceiver u v) allowed in
-      subst AllAccounted (sym e) (late_receiver_accounted (windows_of plan) u v (not-false _ hears))
+      subst (AllAccounted plan) (sym e) (late_receiver_accounted (windows_of plan) u v (not-false _ hears))
   accounted_keeps (Rest u) allowed new e =
-      let (known, (on, (over, none))) = none_refuses plan w (Rest u) allowed in subst AllAccounted (sym e) (rest_accounted u (not-false _ over))
+      let (known, (on, (over, none))) = none_refuses plan w (Rest u) allowed in subst (AllAccounted plan) (sym e) (rest_accounted u (not-false _ over))
 
 pub keeps : (plan : Plan) → IsPreserved plan (IsKept plan)
 keeps plan w old step allowed new leads = record {
-  transfers = steps_keep plan w old.transfers step allowed new leads;
+  transfers = steps_keep plan w old.transfers (untaken plan w old.transfers old.accounted) step allowed new leads;
   accounted = accounted_keeps plan w old.transfers old.accounted step allowed new leads;
 }
 
@@ -390,7 +440,7 @@ pub all_kept : (plan : Plan) → Always plan (IsKept plan)
 all_kept plan = always plan (IsKept plan) (record { transfers = at_first plan; accounted = record { wire = λ s t. tt; alone = λ s t. tt; ends = λ u. tt } }) (keeps plan)
 
 -- a message that is begun
-pub begin_kept : (plan : Plan) (w : World) → IsKept plan w → (f : ℕ) (flow : Flow) (bytes : List ℕ) → begin_refusal (count_of plan) w (Some flow) bytes ≡ None
+pub begin_kept : (plan : Plan) (w : World) → IsKept plan w → (f : ℕ) (flow : Flow) (bytes : List ℕ) → begin_refusal plan.live (count_of plan) w (Some flow) bytes ≡ None
     → IsKept plan (begins (count_of plan) w f flow bytes)
 begin_kept plan w kept f flow bytes allowed = record {
   transfers = begin_keeps plan w kept.transfers f (Some flow) bytes allowed (begins (count_of plan) w f flow bytes) refl;
@@ -398,7 +448,7 @@ begin_kept plan w kept f flow bytes allowed = record {
 }
 
 -- a frame that is sent alone
-pub send_kept : (plan : Plan) (w : World) → IsKept plan w → (f : ℕ) (flow : Flow) (bytes : List ℕ) → send_refusal (count_of plan) w (Some flow) bytes ≡ None
+pub send_kept : (plan : Plan) (w : World) → IsKept plan w → (f : ℕ) (flow : Flow) (bytes : List ℕ) → send_refusal plan.live (count_of plan) w (Some flow) bytes ≡ None
     → IsKept plan (sends_alone (count_of plan) w f flow bytes)
 send_kept plan w kept f flow bytes allowed = record {
   transfers = send_keeps plan w kept.transfers f (Some flow) bytes (sends_alone (count_of plan) w f flow bytes) refl;
@@ -415,23 +465,26 @@ IsOfClaims (Give u v) = Unit {0}
 IsOfClaims (Ask u) = Unit {0}
 IsOfClaims _ = ⊥
 
--- none does
-pub claims_refused : (plan : Plan) (w : World) → IsKept plan w → (u : ℕ) (o : Outgoing) → w.sessions u ≡ Some o → (step : Step) → IsOfClaims step
-    → refusal plan w step ≡ None → ⊥
-claims_refused plan w kept u o session step of allowed = refused step of allowed
+-- none does, unless the plan is live
+pub claims_refused : (plan : Plan) (w : World) → IsKept plan w → plan.live ≡ false → (u : ℕ) (o : Outgoing) → w.sessions u ≡ Some o → (step : Step)
+    → IsOfClaims step → refusal plan w step ≡ None → ⊥
+claims_refused plan w kept quiet u o session step of allowed = refused step of allowed
   where
     open_still : ((x : ℕ) → w.sessions x ≡ None) → ⊥
     open_still none = (let idle = none u in cc (idle, session))
 
+    closed : (not plan.live && is_a_transfer_open (count_of plan) w) ≡ false → ⊥
+    closed idle = open_still (none_sends plan w.stations w.claims w.sessions kept.transfers.order
+        (units_all plan (λ v. not (is_some (w.sessions v)))
+        (and_parts (is_none_sending (count_of plan) w) (is_nothing_undelivered (count_of plan) w.wire)
+        (none_open plan w kept.transfers kept.accounted idle quiet)).0))
+
     refused : (s : Step) → IsOfClaims s → refusal plan w s ≡ None → ⊥
-    refused (Up v) is none = (let (known, (off_is, (idle, rest))) = none_refuses plan w (Up v) none in
-        open_still (none_open plan w kept.transfers kept.accounted (not-false _ idle)))
-    refused (Down v) is none = (let (known, (on, (idle, rest))) = none_refuses plan w (Down v) none in
-        open_still (none_open plan w kept.transfers kept.accounted (not-false _ idle)))
-    refused (Ask v) is none = (let (known, (on, (idle, rest))) = none_refuses plan w (Ask v) none in
-        open_still (none_open plan w kept.transfers kept.accounted (not-false _ idle)))
+    refused (Up v) is none = (let (known, (off_is, (idle, rest))) = none_refuses plan w (Up v) none in closed idle)
+    refused (Down v) is none = (let (known, (on, (idle, rest))) = none_refuses plan w (Down v) none in closed idle)
+    refused (Ask v) is none = (let (known, (on, (idle, rest))) = none_refuses plan w (Ask v) none in closed idle)
     refused (Give x y) is none = (let (known, (on, (some, rest))) = none_refuses plan w (Give x y) none in
-        open_still (none_sends_while plan w.stations w.claims w.sessions kept.transfers.order x y (not-false _ some)))
+        open_still (none_sends_while plan w.stations w.claims w.sessions kept.transfers.order quiet x y (not-false _ some)))
     refused (Begin f bytes) is none = is
     refused (Send f bytes) is none = is
     refused (Emit v) is none = is

@@ -2,13 +2,14 @@
 use Rattle.std.proofs.Common.{◌≡◌, ◌≢◌, ℕ, inl, inr, true, false, ◌&&◌, eqb, List, [], ◌∷◌, ◌++◌, refl, sym, ap, ◌∙◌, subst, append-nil, Option, Some, None}
 use Rattle.std.specs.Prelude.{map}
 use Rattle.std.specs.List.{AllByRecursion}
-use Rattle.std.proofs.lemmas.Bool.{and_from, and_parts, cases_eq, cond_both, cond-true, eq-eqb, eqb-true, ne_eqb, true≢false}
+use Rattle.std.proofs.lemmas.Bool.{and_from, and_parts, cases_eq, cond_both, cond-true, cond-false, eq-eqb, eqb-true, ne_eqb, or_from, true≢false}
 use Rattle.j39_tp.specs.Receiver as receiver
 use Rattle.j39_tp.specs.Sender as sender
 use Rattle.j39_tp.specs.declared.packet.Packet.{Packet}
 use Rattle.j39_tp.specs.declared.packet.Packet.TheVariants.{Rts, Cts, EndAck, Bam, Abort, Dt}
 use Rattle.j39_tp.specs.declared.receiving.manner.Manner.TheVariants.{Answering}
 use Rattle.j39_tp.specs.declared.receiving.progress.Progress.{Progress}
+use Rattle.j39_tp.specs.declared.receiving.progress.Progress.TheVariants.{Closed}
 use Rattle.j39_tp.specs.declared.sending.dest.Dest.{Dest}
 use Rattle.j39_tp.specs.declared.sending.dest.Dest.TheVariants as dests
 use Rattle.j39_tp.specs.declared.sending.stage.Stage.{Stage}
@@ -28,7 +29,9 @@ use Rattle.j39_world.specs.Transfers.{Outgoing, Begun, Reported, Sessions, Wire,
 use Rattle.j39_world.specs.TransferSteps.{outgoing, first_item, targets_of, begins, BeginsAt, SendsAt, sends_alone, sent_to_receivers, session_after}
 use Rattle.j39_world.specs.TransferSteps.{LostFrom}
 use Rattle.j39_world.specs.TransferSteps.{packets_in, receiver_timed_out, Emits, SenderTimesOut, rested}
+use Rattle.j39_world.specs.SwitchingOff.{is_either, session_without, switched_off, without_target}
 use Rattle.j39_world.specs.World.{World, changed, changed_pair}
+use Rattle.j39_laws.proofs.Runs.SwitchedOff.{stage_stays, targets_stay}
 use Rattle.j39_laws.proofs.Reports.Orderly.{IsPlanned, PlannedAt}
 use Rattle.j39_laws.proofs.Reports.SenderSteps.{no_session, begin_keeps}
 use Rattle.j39_laws.proofs.Reports.TransferInvariant.{TransferInvariant}
@@ -68,6 +71,9 @@ answers_beside pr own other (Dt number seven) is = is
 pub after_other : (o : Option Outgoing) (x : ℕ) (p : Packet) (t own : ℕ) → SendsOther o t own → SendsOther (session_after o x p) t own
 after_other None x p t own other = tt
 after_other (Some s) x p t own other = other
+
+one_same : (x y : ℕ) → tos.One x ≡ tos.One y → y ≡ x
+one_same x y e = cc e
 
 -- a list that is longer by such items
 abbrev pub GrownBy : (Wired → Type 0) → List Wired → List Wired → Type 0
@@ -148,6 +154,45 @@ module _ (plan : Plan) (u v : ℕ) (o : Outgoing) (before : List Begun) (apart :
     pub planned_v : PlannedAt plan v (w.sessions v)
     planned_v = kept.kept.transfers.order.planned v
 
+    -- ---- nothing of messages is changed, or another unit goes off
+
+    pub told_keeps : (new : World) → new.sessions ≡ w.sessions → new.wire ≡ w.wire → new.receivers ≡ w.receivers → new.reports ≡ w.reports
+        → IsAnswering new
+    told_keeps new sessions wire receivers reports = record {
+      stage = now.stage;
+      session = ap (λ (f : Sessions). f u) sessions ∙ now.session;
+      other = subst (λ (f : Sessions). SendsOther (f v) u o.pgn) (sym sessions) now.other;
+      way = grown_in new (not_grown (IsBesideForth o.pgn) (w.wire u v) (new.wire u v) (ap (λ (f : Wire). f u v) wire))
+          (not_grown (IsBesideBack o.pgn) (w.wire v u) (new.wire v u) (ap (λ (f : Wire). f v u) wire))
+          (ap (λ (f : ℕ → ℕ → Progress). f v u) receivers) (ap (λ (rs : List Reported). reported rs v u) reports);
+    }
+
+    other_left : (x : ℕ) (z : Option Outgoing) → SendsOther z u o.pgn → SendsOther (session_without x z) u o.pgn
+    other_left x None other = tt
+    other_left x (Some s) other = other
+
+    pub off_keeps : (x : ℕ) → x ≢ u → x ≢ v → IsAnswering (switched_off w x)
+    off_keeps x other_u other_v =
+        let then : World = switched_off w x in
+        let e : eqb u x ≡ false = ne_eqb u x (λ same. other_u (sym same)) in
+        let f : eqb v x ≡ false = ne_eqb v x (λ same. other_v (sym same)) in
+        let same : without_target x (at_stage now.stage) ≡ at_stage now.stage =
+        λ i. record o { targets = targets_stay x o.targets (among_elsewhere x other_v) i; stage = stage_stays x o.to now.stage goes i } in
+        record {
+          stage = now.stage;
+          session = changed_elsewhere (λ y. session_without x (w.sessions y)) x None u (λ is. other_u (sym is))
+              ∙ ap (session_without x) now.session ∙ ap (λ (s : Outgoing). Some s) same;
+          other = subst (λ (z : Option Outgoing). SendsOther z u o.pgn)
+              (sym (changed_elsewhere (λ y. session_without x (w.sessions y)) x None v (λ is. other_v (sym is)))) (other_left x (w.sessions v) now.other);
+          way = grown_in then
+              (not_grown (IsBesideForth o.pgn) (w.wire u v) (then.wire u v) (cond-false (is_either x u v) [] (w.wire u v) (or_from (eqb u x) (eqb v x) e f)))
+              (not_grown (IsBesideBack o.pgn) (w.wire v u) (then.wire v u) (cond-false (is_either x v u) [] (w.wire v u) (or_from (eqb v x) (eqb u x) f e)))
+              (cond-false (is_either x v u) Closed (w.receivers v u) (or_from (eqb v x) (eqb u x) f e)) refl;
+        }
+      where
+        goes : (y : ℕ) → o.to ≡ tos.One y → y ≢ x
+        goes y to same = other_v (sym (one_same y v (sym to ∙ one) ∙ same))
+
     -- ---- others send, or rest
 
     others_send : (s : ℕ) (x : Option Outgoing) (targets : List ℕ) (item : Wired) → s ≢ u → (s ≡ v → SendsOther x u o.pgn)
@@ -180,12 +225,12 @@ module _ (plan : Plan) (u v : ℕ) (o : Outgoing) (before : List Begun) (apart :
       way = now.way;
     }
 
-    pub begin_keeps_on : (f : ℕ) (flow : Option Flow) (bytes : List ℕ) → begin_refusal (count_of plan) w flow bytes ≡ None
+    pub begin_keeps_on : (f : ℕ) (flow : Option Flow) (bytes : List ℕ) → begin_refusal plan.live (count_of plan) w flow bytes ≡ None
         → ((g : Flow) → flow ≡ Some g → g.sender ≡ v → g.to ≡ tos.One u → g.pgn ≢ o.pgn) → (new : World)
         → BeginsAt (count_of plan) w f flow bytes new → IsAnswering new
     begin_keeps_on f None bytes allowed spares new never = absurd never
     begin_keeps_on f (Some flow) bytes allowed spares new e =
-        let (sendable, (on, (told, (addressed, (free, rest))))) = none_hold (begin_refusals (count_of plan) w (Some flow) bytes) allowed in
+        let (sendable, (on, (told, (addressed, (free, rest))))) = none_hold (begin_refusals plan.live (count_of plan) w (Some flow) bytes) allowed in
         let idle : w.sessions flow.sender ≡ None = no_session (w.sessions flow.sender) free in
         let other : flow.sender ≢ u =
         λ same. (let session = now.session in let at_u : w.sessions u ≡ None = ap w.sessions (sym same) ∙ idle in cc (session, at_u)) in
@@ -344,7 +389,7 @@ module _ (plan : Plan) (u v : ℕ) (o : Outgoing) (before : List Begun) (apart :
         }
 
     abbrev KeepsLost : ℕ → ℕ → Type 0
-    KeepsLost x y = (item : Wired) (rest : List Wired) (is : w.wire x y ≡ item ∷ rest) → SparesBetween w u v (Lose x y) → IsAnswering (lost x y item rest is)
+    KeepsLost x y = (item : Wired) (rest : List Wired) (is : w.wire x y ≡ item ∷ rest) → SparesBetween plan w u v (Lose x y) → IsAnswering (lost x y item rest is)
 
     lost_keeps : (x y : ℕ) → KeepsLost x y
     lost_keeps =
@@ -353,7 +398,7 @@ module _ (plan : Plan) (u v : ℕ) (o : Outgoing) (before : List Begun) (apart :
         (λ _ item rest is spares. lost_back item rest is (spares.1 refl refl))
         (λ s t elsewhere_back away item rest is spares. lost_elsewhere s t item rest is away elsewhere_back) x y elsewhere)
 
-    pub lose_keeps : (x y : ℕ) → SparesBetween w u v (Lose x y) → (list : List Wired) → w.wire x y ≡ list → (new : World) → LostFrom w x y list new
+    pub lose_keeps : (x y : ℕ) → SparesBetween plan w u v (Lose x y) → (list : List Wired) → w.wire x y ≡ list → (new : World) → LostFrom w x y list new
         → IsAnswering new
     lose_keeps x y spares [] is new never = absurd never
     lose_keeps x y spares (item ∷ rest) is new e = subst IsAnswering (sym e) (lost_keeps x y item rest is spares)

@@ -28,7 +28,7 @@ module _ (plan : Plan) (u v pgn : ℕ) where
 
   -- a step that goes on with it and isn't refused
   abbrev GoesOn : World → Type 0
-  GoesOn w = (step : Step) → IsOfTransfers step → SparesBetween w u v step → BeginsOther plan v u pgn step → refusal plan w step ≡ None → Comes w
+  GoesOn w = (step : Step) → IsOfTransfers step → SparesBetween plan w u v step → BeginsOther plan v u pgn step → refusal plan w step ≡ None → Comes w
 
   -- there is one, or all was sent and taken
   by_step : (w : World) → GoesOn w → Comes w

@@ -21,6 +21,9 @@ use Rattle.j39_world.specs.declared.step_error.StepError.{StepError}
 use Rattle.j39_world.specs.declared.wired.Wired.{Wired}
 use Rattle.j39_world.specs.declared.wired.Wired.TheVariants as wired
 use Rattle.j39_world.specs.Arriving.{IsUnanswered, Spares, RunSparing, IsThrough, HasArrived, ArrivesUnanswered}
+use Rattle.j39_claim.specs.declared.item.Item.{Item}
+use Rattle.j39_world.specs.ClaimSteps.{GivenFrom, asked, heard_and_answered, switched_on}
+use Rattle.j39_findings.specs.PlannedUnits.{units_of}
 use Rattle.j39_world.specs.Flows.{flows_of, windows_of, dest_of}
 use Rattle.j39_world.specs.Run.{count_of, begin_refusal, begin_refusals, refusal, StepsTo, Follows}
 use Rattle.j39_world.specs.Sound.{reported}
@@ -31,44 +34,58 @@ use Rattle.j39_world.specs.World.{World}
 use Rattle.j39_laws.proofs.Reports.Exchanges.{pair_of, message_to, IsIdle, Exchange}
 use Rattle.j39_laws.proofs.Reports.SenderSteps.{no_session}
 use Rattle.j39_laws.proofs.Runs.Changed.{changed_here}
-use Rattle.j39_laws.proofs.Runs.Conditions.{not_refused}
-use Rattle.j39_laws.proofs.Transfers.AccountedSteps.{IsKept, all_kept, keeps, begin_kept, IsOfClaims, claims_refused}
+use Rattle.j39_laws.proofs.Runs.Conditions.{none_refuses, not_refused}
+use Rattle.j39_laws.proofs.Transfers.AccountedSteps.{IsKept, all_kept, keeps, begin_kept, wire_same}
 use Rattle.j39_laws.proofs.Transfers.Coming as coming
 use Rattle.j39_laws.proofs.Transfers.Coming.{at_stage, IsComing}
 use Rattle.j39_laws.proofs.Transfers.ComingTaken as taken
 use Rattle.j39_laws.proofs.Transfers.Ending.{item_ready, emit_allowed}
 use Rattle.j39_laws.proofs.Transfers.Flights.{is_whole, packet_count, item_count, IsItem, InFlight, flight_begun, HasSent, HasTaken, IsUnderWay, all_reported}
 
-module _ (plan : Plan) (u : ℕ) (o : Outgoing) (before : ℕ → List Begun) (unanswered : (o.to ≡ tos.All) ⊎ (is_whole o ≡ true)) where
+module _ (plan : Plan) (u : ℕ) (o : Outgoing) (meant : List ℕ) (before : ℕ → List Begun) (unanswered : (o.to ≡ tos.All) ⊎ (is_whole o ≡ true)) where
   abbrev Coming : World → Type 0
-  Coming w = IsComing plan u o before unanswered w
+  Coming w = IsComing plan u o meant before unanswered w
 
   -- ---- steps that spare it
 
   module _ (w : World) (kept : IsKept plan w) (c : Coming w) where
-    none_claims : (step : Step) → IsOfClaims step → refusal plan w step ≡ None → ⊥
-    none_claims = claims_refused plan w kept u (at_stage plan u o before unanswered c.stage) c.session
+    -- a unit is switched on, or hears what another one told
+    up_keeps : (x : ℕ) → (w.stations x).on ≡ false → Coming (switched_on (units_of plan) w x)
+    up_keeps x off_is = coming.told_keeps plan u o meant before unanswered w kept.transfers kept.accounted c (switched_on (units_of plan) w x) refl
+        (wire_same plan w kept.transfers kept.accounted x off_is) refl refl
 
-    step_keeps : (step : Step) → Spares w u o.targets step → refusal plan w step ≡ None → (new : World) → StepsTo plan w step new → Coming new
-    step_keeps (Up v) spares allowed new leads = absurd (none_claims (Up v) tt allowed)
-    step_keeps (Down v) spares allowed new leads = absurd (none_claims (Down v) tt allowed)
-    step_keeps (Ask v) spares allowed new leads = absurd (none_claims (Ask v) tt allowed)
-    step_keeps (Give x y) spares allowed new leads = absurd (none_claims (Give x y) tt allowed)
+    give_keeps : (x y : ℕ) (list : List Item) (new : World) → GivenFrom (units_of plan) w x y list new → Coming new
+    give_keeps x y [] new never = absurd never
+    give_keeps x y (item ∷ rest) new (says, s, reacts, e) = subst Coming (sym e)
+        (coming.told_keeps plan u o meant before unanswered w kept.transfers kept.accounted c (heard_and_answered (units_of plan) w x y rest says s)
+        refl refl refl refl)
+
+    step_keeps : (step : Step) → Spares plan w u meant step → refusal plan w step ≡ None → (new : World) → StepsTo plan w step new → Coming new
+    step_keeps (Up v) spares allowed new e =
+        let (known, (off_is, more)) = none_refuses plan w (Up v) allowed in
+        subst Coming (sym e) (up_keeps v off_is)
+    step_keeps (Down v) spares allowed new e =
+        let apart = spares allowed in
+        subst Coming (sym e) (coming.off_keeps plan u o meant before unanswered w kept.transfers kept.accounted c v apart.0 apart.1)
+    step_keeps (Ask v) spares allowed new e =
+        subst Coming (sym e)
+        (coming.told_keeps plan u o meant before unanswered w kept.transfers kept.accounted c (asked (units_of plan) w v) refl refl refl refl)
+    step_keeps (Give x y) spares allowed new leads = give_keeps x y (w.claims x y) new leads
     step_keeps (Begin f bytes) spares allowed new leads =
-        coming.begin_keeps plan u o before unanswered w kept.transfers kept.accounted c f (slice_get (flows_of plan) f) bytes.items allowed new leads
+        coming.begin_keeps plan u o meant before unanswered w kept.transfers kept.accounted c f (slice_get (flows_of plan) f) bytes.items allowed new leads
     step_keeps (Send f bytes) spares allowed new leads =
-        coming.send_keeps plan u o before unanswered w kept.transfers kept.accounted c f (slice_get (flows_of plan) f) bytes.items new leads
-    step_keeps (Emit s) spares allowed new leads = coming.emit_keeps plan u o before unanswered w kept.transfers kept.accounted c s new leads
+        coming.send_keeps plan u o meant before unanswered w kept.transfers kept.accounted c f (slice_get (flows_of plan) f) bytes.items new leads
+    step_keeps (Emit s) spares allowed new leads = coming.emit_keeps plan u o meant before unanswered w kept.transfers kept.accounted c s new leads
     step_keeps (Take x y) spares allowed new leads =
-        taken.take_keeps plan u o before unanswered w kept.transfers c (windows_of plan) x y (w.wire x y) refl new leads
-    step_keeps (Lose x y) spares allowed new leads = taken.lose_keeps plan u o before unanswered w kept.transfers c x y spares (w.wire x y) refl new leads
-    step_keeps (LateSender s) spares allowed new leads = coming.late_keeps plan u o before unanswered w kept.transfers kept.accounted c s new leads
+        taken.take_keeps plan u o meant before unanswered w kept.transfers c (windows_of plan) x y (w.wire x y) refl new leads
+    step_keeps (Lose x y) spares allowed new leads = taken.lose_keeps plan u o meant before unanswered w kept.transfers c x y spares (w.wire x y) refl new leads
+    step_keeps (LateSender s) spares allowed new leads = coming.late_keeps plan u o meant before unanswered w kept.transfers kept.accounted c s new leads
     step_keeps (LateReceiver x y) spares allowed new e =
-        subst Coming (sym e) (taken.late_receiver_keeps plan u o before unanswered w kept.transfers c (windows_of plan) x y spares)
-    step_keeps (Rest s) spares allowed new e = subst Coming (sym e) (coming.rest_keeps plan u o before unanswered w kept.transfers kept.accounted c s spares)
+        subst Coming (sym e) (taken.late_receiver_keeps plan u o meant before unanswered w kept.transfers c (windows_of plan) x y spares)
+    step_keeps (Rest s) spares allowed new e = subst Coming (sym e) (coming.rest_keeps plan u o meant before unanswered w kept.transfers kept.accounted c s spares)
 
     -- a world that follows, by a step that is refused or not
-    next_keeps : (step : Step) → Spares w u o.targets step → (new : World) → Follows plan w step new → IsKept plan new × Coming new
+    next_keeps : (step : Step) → Spares plan w u meant step → (new : World) → Follows plan w step new → IsKept plan new × Coming new
     next_keeps step spares new =
         elim (refusal plan w step)
         as (λ (x : Option StepError). refusal plan w step ≡ x → MatchBool (is_some x) (new ≡ w) (StepsTo plan w step new) → IsKept plan new × Coming new) [
@@ -76,7 +93,7 @@ module _ (plan : Plan) (u : ℕ) (o : Outgoing) (before : ℕ → List Begun) (u
           | None ↦ λ allowed leads. (keeps plan w kept step allowed new leads, step_keeps step spares allowed new leads)
         ] refl
 
-  run_keeps : (steps : List Step) (w new : World) → IsKept plan w → Coming w → RunSparing plan u o.targets w steps new → IsKept plan new × Coming new
+  run_keeps : (steps : List Step) (w new : World) → IsKept plan w → Coming w → RunSparing plan u meant w steps new → IsKept plan new × Coming new
   run_keeps [] w new kept c same = (subst (IsKept plan) (sym same) kept, subst Coming (sym same) c)
   run_keeps (step ∷ steps) w new kept c (spares, (mid, follows, more)) =
       let next = next_keeps w kept c step spares mid follows in
@@ -84,12 +101,12 @@ module _ (plan : Plan) (u : ℕ) (o : Outgoing) (before : ℕ → List Begun) (u
 
   -- ---- nothing is left of it
 
-  module _ (w : World) (kept : IsKept plan w) (c : Coming w) (through : IsThrough plan w u o.targets) where
+  module _ (w : World) (kept : IsKept plan w) (c : Coming w) (through : IsThrough plan w u meant) where
     rests : (stage : Stage) → c.stage ≡ stage → stage ≡ Resting Sent
     rests (Sending next last) is =
-        let session : w.sessions u ≡ Some (at_stage plan u o before unanswered (Sending next last)) =
-        c.session ∙ ap (λ (st : Stage). Some (at_stage plan u o before unanswered st)) is in
-        absurd (through.sent (emit_allowed plan w kept u (at_stage plan u o before unanswered (Sending next last)) session next last refl))
+        let session : w.sessions u ≡ Some (at_stage plan u o meant before unanswered c.targets (Sending next last)) =
+        c.session ∙ ap (λ (st : Stage). Some (at_stage plan u o meant before unanswered c.targets st)) is in
+        absurd (through.sent (emit_allowed plan w kept u (at_stage plan u o meant before unanswered c.targets (Sending next last)) session next last refl))
     rests Waiting is = absurd (subst (λ (st : Stage). HasSent o st c.sent) is c.sends)
     rests (Resting outcome) is =
         let sends : HasSent o (Resting outcome) c.sent = subst (λ (st : Stage). HasSent o st c.sent) is c.sends in ap Resting sends.0
@@ -97,12 +114,12 @@ module _ (plan : Plan) (u : ℕ) (o : Outgoing) (before : ℕ → List Begun) (u
     rests_sent : c.stage ≡ Resting Sent
     rests_sent = rests c.stage refl
 
-    nothing_left : (v : ℕ) → is_among o.targets v ≡ true → (list : List Wired) → w.wire u v ≡ list → (taken : ℕ) → InFlight o list taken c.sent → taken ≡ c.sent
+    nothing_left : (v : ℕ) → is_among meant v ≡ true → (list : List Wired) → w.wire u v ≡ list → (taken : ℕ) → InFlight o list taken c.sent → taken ≡ c.sent
     nothing_left v among [] is taken flight = flight
     nothing_left v among (item ∷ rest) is taken flight =
         absurd (through.taken v among (not_refused plan w (Take u v) (item_ready plan w kept u v (record { item = item; rest = rest; is = is }))))
 
-    reported_once : (v : ℕ) → is_among o.targets v ≡ true → reported w.reports v u ≡ before v ++ record { flow = o.flow; bytes = o.bytes } ∷ []
+    reported_once : (v : ℕ) → is_among meant v ≡ true → reported w.reports v u ≡ before v ++ record { flow = o.flow; bytes = o.bytes } ∷ []
     reported_once v among =
         let way = c.ways v among in
         let all : way.taken ≡ c.sent = nothing_left v among (w.wire u v) refl way.taken way.flight in
@@ -112,7 +129,7 @@ module _ (plan : Plan) (u : ℕ) (o : Outgoing) (before : ℕ → List Begun) (u
 -- ---- it is begun
 
 module _ (plan : Plan) (w : World) (kept : IsKept plan w) (f : ℕ) (flow : Flow) (bytes : List ℕ) (unanswered : IsUnanswered flow bytes)
-    (allowed : begin_refusal (count_of plan) w (Some flow) bytes ≡ None) where
+    (allowed : begin_refusal plan.live (count_of plan) w (Some flow) bytes ≡ None) where
   abbrev message : Outgoing
   message = outgoing (count_of plan) w.stations f flow bytes
 
@@ -124,7 +141,7 @@ module _ (plan : Plan) (w : World) (kept : IsKept plan w) (f : ℕ) (flow : Flow
 
   idle : w.sessions flow.sender ≡ None
   idle =
-      let (sendable, (on, (told, (addressed, (free, rest))))) = none_hold (begin_refusals (count_of plan) w (Some flow) bytes) allowed in
+      let (sendable, (on, (told, (addressed, (free, rest))))) = none_hold (begin_refusals plan.live (count_of plan) w (Some flow) bytes) allowed in
       no_session (w.sessions flow.sender) free
 
   to_all : is_whole message ≡ false → flow.to ≡ tos.All
@@ -168,31 +185,35 @@ module _ (plan : Plan) (w : World) (kept : IsKept plan w) (f : ℕ) (flow : Flow
         receiver = inl (record { none = refl; closed = old.closed; same = refl });
       }
 
-  begun_comes : IsComing plan flow.sender message earlier unanswered begun
-  begun_comes = record {
-    stage = message.stage;
-    sent = 1;
-    session = changed_here w.sessions flow.sender (Some message);
-    sends = sent_first.0;
-    ways = way_begun;
-  }
+  -- of its receivers these are meant
+  module _ (meant : List ℕ) (some : (v : ℕ) → is_among meant v ≡ true → is_among message.targets v ≡ true) where
+    begun_comes : IsComing plan flow.sender message meant earlier unanswered begun
+    begun_comes = record {
+      targets = message.targets;
+      stage = message.stage;
+      sent = 1;
+      session = changed_here w.sessions flow.sender (Some message);
+      still = some;
+      sends = sent_first.0;
+      ways = λ v among. way_begun v (some v among);
+    }
 
-  begun_kept : IsKept plan begun
-  begun_kept = begin_kept plan w kept f flow bytes allowed
+    begun_kept : IsKept plan begun
+    begun_kept = begin_kept plan w kept f flow bytes allowed
 
-  has_arrived : (steps : List Step) (after : World) → RunSparing plan flow.sender message.targets begun steps after
-      → IsThrough plan after flow.sender message.targets → HasArrived w after flow.sender message Sent
-  has_arrived steps after run through =
-      let (here, c) = run_keeps plan flow.sender message earlier unanswered steps begun after begun_kept begun_comes run in
-      record {
-        rests = (
-          at_stage plan flow.sender message earlier unanswered c.stage,
-          c.session,
-          rests_sent plan flow.sender message earlier unanswered after here c through,
-        );
-        reports = reported_once plan flow.sender message earlier unanswered after here c through;
-      }
+    has_arrived : (steps : List Step) (after : World) → RunSparing plan flow.sender meant begun steps after
+        → IsThrough plan after flow.sender meant → HasArrived w after flow.sender message meant Sent
+    has_arrived steps after run through =
+        let (here, c) = run_keeps plan flow.sender message meant earlier unanswered steps begun after begun_kept begun_comes run in
+        record {
+          rests = (
+            at_stage plan flow.sender message meant earlier unanswered c.targets c.stage,
+            c.session,
+            rests_sent plan flow.sender message meant earlier unanswered after here c through,
+          );
+          reports = reported_once plan flow.sender message meant earlier unanswered after here c through;
+        }
 
 pub arrives_unanswered : (plan : Plan) → Always plan (ArrivesUnanswered plan)
-arrives_unanswered plan before w run f flow bytes steps after is unanswered allowed more through =
-    has_arrived plan w (all_kept plan before w run) f flow bytes unanswered allowed steps after more through
+arrives_unanswered plan before w run f flow bytes meant steps after is unanswered allowed some more through =
+    has_arrived plan w (all_kept plan before w run) f flow bytes unanswered allowed meant some steps after more through

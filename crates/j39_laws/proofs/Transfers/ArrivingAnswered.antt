@@ -1,6 +1,6 @@
 -- In each world of a run a message of several frames to one unit that is begun there arrives where nothing of it is lost, and its receiver
 -- sends its sender none of its group.
-use Rattle.std.proofs.Common.{◌≡◌, ◌≢◌, ℕ, zero, suc, ◌<◌, inl, inr, true, ◌&&◌, eqb, List, [], ◌∷◌, ◌++◌, length, refl, sym, ap, ◌∙◌, subst, arith}
+use Rattle.std.proofs.Common.{◌≡◌, ◌≢◌, ℕ, zero, suc, ◌<◌, inl, inr, true, false, ◌&&◌, eqb, List, [], ◌∷◌, ◌++◌, length, refl, sym, ap, ◌∙◌, subst, arith}
 use Rattle.std.proofs.Common.{Option, Some, None}
 use Rattle.std.specs.Bool.{MatchBool}
 use Rattle.std.specs.Prelude.{map, slice_get, slice_index_or}
@@ -23,6 +23,9 @@ use Rattle.j39_world.specs.declared.step_error.StepError.{StepError}
 use Rattle.j39_world.specs.declared.wired.Wired.{Wired}
 use Rattle.j39_world.specs.declared.wired.Wired.TheVariants as wired
 use Rattle.j39_world.specs.Arriving.{SparesBetween, SparingRun, IsThroughBetween, Answered, SendsOther, BeginsOther, IsAlone, HasArrivedAnswered, ArrivesAnswered}
+use Rattle.j39_claim.specs.declared.item.Item.{Item}
+use Rattle.j39_world.specs.ClaimSteps.{GivenFrom, asked, heard_and_answered, switched_on}
+use Rattle.j39_findings.specs.PlannedUnits.{units_of}
 use Rattle.j39_world.specs.Flows.{flows_of, windows_of, dest_of, is_short}
 use Rattle.j39_world.specs.Run.{count_of, begin_refusals, refusal, StepsTo, Follows}
 use Rattle.j39_world.specs.Sound.{reported}
@@ -35,10 +38,10 @@ use Rattle.j39_laws.proofs.Reports.Exchanges as exchanges
 use Rattle.j39_laws.proofs.Reports.Orderly.{IsPlanned, PlannedAt}
 use Rattle.j39_laws.proofs.Reports.SenderSteps.{among_one, no_session}
 use Rattle.j39_laws.proofs.Runs.Changed.{changed_here, changed_elsewhere}
-use Rattle.j39_laws.proofs.Runs.Conditions.{not_refused}
+use Rattle.j39_laws.proofs.Runs.Conditions.{none_refuses, not_refused}
 use Rattle.j39_laws.proofs.Runs.Elements.{all_both}
 use Rattle.j39_laws.proofs.Transfers.Accounted.{SendsTo, IsAccounted}
-use Rattle.j39_laws.proofs.Transfers.AccountedSteps.{begin_kept, IsOfClaims, claims_refused}
+use Rattle.j39_laws.proofs.Transfers.AccountedSteps.{begin_kept, wire_same}
 use Rattle.j39_laws.proofs.Transfers.Answered as answered
 use Rattle.j39_laws.proofs.Transfers.AnsweredTaken as taken
 use Rattle.j39_laws.proofs.Transfers.Answered.{to_other, at_stage, IsOnItsWay, IsAnswering}
@@ -111,15 +114,26 @@ module _ (plan : Plan) (u v : ℕ) (o : Outgoing) (before : List Begun) (apart :
     abbrev session_now : Outgoing
     session_now = at_stage plan u v o before apart one alone now.stage
 
-    none_claims : (step : Step) → IsOfClaims step → refusal plan w step ≡ None → ⊥
-    none_claims = claims_refused plan w kept.kept u session_now now.session
+    up_keeps : (x : ℕ) → (w.stations x).on ≡ false → OnWay (switched_on (units_of plan) w x)
+    up_keeps x off_is = answered.told_keeps plan u v o before apart one alone w kept now (switched_on (units_of plan) w x) refl
+        (wire_same plan w kept.kept.transfers kept.kept.accounted x off_is) refl refl
 
-    step_keeps : (step : Step) → SparesBetween w u v step → BeginsOther plan v u o.pgn step → refusal plan w step ≡ None → (new : World)
+    give_keeps : (x y : ℕ) (list : List Item) (new : World) → GivenFrom (units_of plan) w x y list new → OnWay new
+    give_keeps x y [] new never = absurd never
+    give_keeps x y (item ∷ rest) new (says, s, reacts, e) = subst OnWay (sym e)
+        (answered.told_keeps plan u v o before apart one alone w kept now (heard_and_answered (units_of plan) w x y rest says s) refl refl refl refl)
+
+    step_keeps : (step : Step) → SparesBetween plan w u v step → BeginsOther plan v u o.pgn step → refusal plan w step ≡ None → (new : World)
         → StepsTo plan w step new → OnWay new
-    step_keeps (Up x) spares begins_other allowed new leads = absurd (none_claims (Up x) tt allowed)
-    step_keeps (Down x) spares begins_other allowed new leads = absurd (none_claims (Down x) tt allowed)
-    step_keeps (Ask x) spares begins_other allowed new leads = absurd (none_claims (Ask x) tt allowed)
-    step_keeps (Give x y) spares begins_other allowed new leads = absurd (none_claims (Give x y) tt allowed)
+    step_keeps (Up x) spares begins_other allowed new e =
+        let (known, (off_is, more)) = none_refuses plan w (Up x) allowed in
+        subst OnWay (sym e) (up_keeps x off_is)
+    step_keeps (Down x) spares begins_other allowed new e =
+        let away = spares allowed in
+        subst OnWay (sym e) (answered.off_keeps plan u v o before apart one alone w kept now x away.0 away.1)
+    step_keeps (Ask x) spares begins_other allowed new e =
+        subst OnWay (sym e) (answered.told_keeps plan u v o before apart one alone w kept now (asked (units_of plan) w x) refl refl refl refl)
+    step_keeps (Give x y) spares begins_other allowed new leads = give_keeps x y (w.claims x y) new leads
     step_keeps (Begin f bytes) spares begins_other allowed new leads =
         answered.begin_keeps_on plan u v o before apart one alone w kept now f (slice_get (flows_of plan) f) bytes.items allowed begins_other new leads
     step_keeps (Send f bytes) spares begins_other allowed new leads =
@@ -135,7 +149,7 @@ module _ (plan : Plan) (u v : ℕ) (o : Outgoing) (before : List Begun) (apart :
     step_keeps (Rest s) spares begins_other allowed new e = subst OnWay (sym e) (answered.rest_keeps plan u v o before apart one alone w kept now s spares)
 
     -- a world that follows, by a step that is refused or not
-    next_keeps : (step : Step) → SparesBetween w u v step → BeginsOther plan v u o.pgn step → (new : World) → Follows plan w step new
+    next_keeps : (step : Step) → SparesBetween plan w u v step → BeginsOther plan v u o.pgn step → (new : World) → Follows plan w step new
         → IsKeptNamed plan new × OnWay new
     next_keeps step spares begins_other new =
         elim (refusal plan w step)
@@ -196,7 +210,7 @@ module _ (plan : Plan) (w : World) (kept : IsKeptNamed plan w) (m : Answered pla
 
   idle : w.sessions u ≡ None
   idle =
-      let (sendable, (on, (told, (addressed, (free, rest))))) = none_hold (begin_refusals (count_of plan) w (Some m.flow) m.bytes) m.allowed in
+      let (sendable, (on, (told, (addressed, (free, rest))))) = none_hold (begin_refusals plan.live (count_of plan) w (Some m.flow) m.bytes) m.allowed in
       no_session (w.sessions u) free
 
   long : 0 < packet_count message
@@ -273,7 +287,7 @@ module _ (plan : Plan) (w : World) (kept : IsKeptNamed plan w) (m : Answered pla
       record {
         rests = (at_stage plan u v message earlier apart m.one alone now.stage, now.session, end.0);
         reports = λ x among.
-            let same : x ≡ v = among_one v x (subst (λ (targets : List ℕ). is_among targets x ≡ true) alone among) in
+            let same : x ≡ v = among_one v x among in
             subst (λ k. reported m.after.reports k u ≡ reported w.reports k u ++ begun_of message ∷ []) (sym same) end.1;
       }
 

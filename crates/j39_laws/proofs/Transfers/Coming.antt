@@ -2,8 +2,8 @@
 use Rattle.std.proofs.Common.{◌≡◌, ◌≢◌, ℕ, zero, suc, ◌+◌, ◌<◌, ◌≤◌, ◌⊎◌, inl, inr, true, false, ◌&&◌, eqb, List, [], ◌∷◌, ◌++◌, length, refl, sym, ap, ◌∙◌, subst, arith}
 use Rattle.std.proofs.Common.{append-nil, Option, Some, None}
 use Rattle.std.specs.Prelude.{nat_lt}
-use Rattle.std.specs.List.{AllByRecursion}
-use Rattle.std.proofs.lemmas.Bool.{and_from, and_left, cases_eq, cond_both, cond-true, cond-false, eq-eqb, ltb-true, ltb-false, ne_eqb, true≢false}
+use Rattle.std.specs.List.{AllByRecursion, filter}
+use Rattle.std.proofs.lemmas.Bool.{and_from, and_left, cases_eq, cond_both, cond-true, cond-false, eq-eqb, ltb-true, ltb-false, ne_eqb, or_from, true≢false}
 use Rattle.j39_tp.specs.Chunks.{chunk}
 use Rattle.j39_tp.specs.Sender as sender
 use Rattle.j39_tp.specs.declared.packet.Packet.{Packet}
@@ -11,6 +11,7 @@ use Rattle.j39_tp.specs.declared.packet.Packet.TheVariants.{Rts, Cts, EndAck, Ba
 use Rattle.j39_tp.specs.declared.receiving.heard.Heard.{Heard}
 use Rattle.j39_tp.specs.declared.receiving.heard.Heard.TheVariants as heards
 use Rattle.j39_tp.specs.declared.receiving.progress.Progress.{Progress}
+use Rattle.j39_tp.specs.declared.receiving.progress.Progress.TheVariants.{Closed}
 use Rattle.j39_tp.specs.declared.sending.dest.Dest.{Dest}
 use Rattle.j39_tp.specs.declared.sending.dest.Dest.TheVariants as dests
 use Rattle.j39_tp.specs.declared.sending.outcome.Outcome.{Outcome}
@@ -33,6 +34,7 @@ use Rattle.j39_world.specs.Transfers.{Outgoing, Begun, Reported, Sessions, Wire,
 use Rattle.j39_world.specs.TransferSteps.{targets_of, outgoing, first_item, begins, BeginsAt, SendsAt, sent_to_receivers, outgoing_hears}
 use Rattle.j39_world.specs.TransferSteps.{flow_in, hearing, ReportsOne, Reports}
 use Rattle.j39_world.specs.TransferSteps.{Emits, SenderTimesOut, rested}
+use Rattle.j39_world.specs.SwitchingOff.{is_either, session_without, stage_without, switched_off, without_lists_of}
 use Rattle.j39_world.specs.World.{World, changed, changed_pair}
 use Rattle.j39_laws.proofs.Reports.ExchangeTaken as taking
 use Rattle.j39_laws.proofs.Reports.Exchanges.{Message, pair_of, message_for, message_to, begun_of, IsAnswering}
@@ -40,6 +42,7 @@ use Rattle.j39_laws.proofs.Reports.Reporting.{reported_none, reported_here, repo
 use Rattle.j39_laws.proofs.Reports.SenderSteps.{no_session}
 use Rattle.j39_laws.proofs.Reports.TransferInvariant.{TransferInvariant}
 use Rattle.j39_laws.proofs.Runs.Changed.{IsElsewhere, changed_here, changed_elsewhere, pair_each}
+use Rattle.j39_laws.proofs.Runs.SwitchedOff.{ended_stays, is_left, targets_same}
 use Rattle.j39_laws.proofs.Transfers.Accounted.{AllAccounted}
 use Rattle.j39_laws.proofs.Transfers.Flights.{is_whole, packet_count, item_count, IsItem, flight_next, Grown, HasSent}
 use Rattle.j39_laws.proofs.Transfers.Flights.{IsUnderWay, grown_under_way}
@@ -120,7 +123,7 @@ added_elsewhere wire s targets item x y other =
 
 -- ---- a sender that rests hears nothing
 
-resting_hears : (dest : Dest) (own size : ℕ) (outcome : Outcome) (p : Packet) → (sender.stage_hears dest own size (Resting outcome) p).0 ≡ Resting outcome
+pub resting_hears : (dest : Dest) (own size : ℕ) (outcome : Outcome) (p : Packet) → (sender.stage_hears dest own size (Resting outcome) p).0 ≡ Resting outcome
 resting_hears dests.All own size outcome p = refl
 resting_hears dests.One own size outcome (Cts count first pgn) = cond_both (eqb pgn own) _ _ (λ (x : Stage × Reaction). x.0 ≡ Resting outcome) (λ _. refl) (λ _. refl)
 resting_hears dests.One own size outcome (EndAck received pgn) =
@@ -130,29 +133,33 @@ resting_hears dests.One own size outcome (Rts announced limit pgn) = refl
 resting_hears dests.One own size outcome (Bam announced pgn) = refl
 resting_hears dests.One own size outcome (Dt number seven) = refl
 
--- ---- the message of u, with what each receiver had reported of u before it
+-- ---- the message of u to those of its receivers that are meant, with what each had reported of u before it
 
-module _ (plan : Plan) (u : ℕ) (o : Outgoing) (before : ℕ → List Begun) (unanswered : (o.to ≡ tos.All) ⊎ (is_whole o ≡ true)) where
-  abbrev pub at_stage : Stage → Outgoing
-  at_stage stage = record o { stage = stage }
+module _ (plan : Plan) (u : ℕ) (o : Outgoing) (meant : List ℕ) (before : ℕ → List Begun) (unanswered : (o.to ≡ tos.All) ⊎ (is_whole o ≡ true)) where
+  abbrev pub at_stage : List ℕ → Stage → Outgoing
+  at_stage targets stage = record o { targets = targets; stage = stage }
 
   abbrev pub IsOnItsWay : ℕ → World → ℕ → Type 0
   IsOnItsWay sent w v = IsUnderWay o sent (w.wire u v) (w.receivers v u) (reported w.reports v u) (before v)
 
   pub record IsComing (w : World) : Type 0 where
+    pub targets : List ℕ
     pub stage : Stage
     pub sent : ℕ
-    pub session : w.sessions u ≡ Some (at_stage stage)
+    pub session : w.sessions u ≡ Some (at_stage targets stage)
+    pub still : (v : ℕ) → is_among meant v ≡ true → is_among targets v ≡ true
     pub sends : HasSent o stage sent
-    pub ways : (v : ℕ) → is_among o.targets v ≡ true → IsOnItsWay sent w v
+    pub ways : (v : ℕ) → is_among meant v ≡ true → IsOnItsWay sent w v
 
   -- of reports it speaks of those of messages that were begun
   pub reports_beside : (w : World) (rs : List Reported) → ((t s : ℕ) → reported rs t s ≡ reported w.reports t s) → IsComing w
       → IsComing (record w { reports = rs })
   reports_beside w rs same coming = record {
+    targets = coming.targets;
     stage = coming.stage;
     sent = coming.sent;
     session = coming.session;
+    still = coming.still;
     sends = coming.sends;
     ways = λ v among. subst (λ (xs : List Begun). IsUnderWay o coming.sent (w.wire u v) (w.receivers v u) xs (before v)) (sym (same v u))
         (coming.ways v among);
@@ -162,9 +169,10 @@ module _ (plan : Plan) (u : ℕ) (o : Outgoing) (before : ℕ → List Begun) (u
   to_all long = elim unanswered [ inl all ↦ all | inr whole ↦ absurd (true≢false (sym whole ∙ long)) ]
 
   -- what it hears changes nothing of it
-  pub stage_kept : (stage : Stage) (sent x : ℕ) (p : Packet) → HasSent o stage sent → (outgoing_hears (at_stage stage) x p).0 ≡ stage
-  stage_kept stage sent x p sends =
-      cond_both (is_among o.targets x) _ _ (λ (z : Stage × Reaction). z.0 ≡ stage) (λ _. hears_nothing stage sends) (λ _. refl)
+  pub stage_kept : (targets : List ℕ) (stage : Stage) (sent x : ℕ) (p : Packet) → HasSent o stage sent
+      → (outgoing_hears (at_stage targets stage) x p).0 ≡ stage
+  stage_kept targets stage sent x p sends =
+      cond_both (is_among targets x) _ _ (λ (z : Stage × Reaction). z.0 ≡ stage) (λ _. hears_nothing stage sends) (λ _. refl)
     where
       long_hears : (st : Stage) → is_whole o ≡ false → (sender.stage_hears (dest_of o.to) o.pgn (length o.bytes) st p).0 ≡ st
       long_hears st long = subst (λ (to : To). (sender.stage_hears (dest_of to) o.pgn (length o.bytes) st p).0 ≡ st) (sym (to_all long)) refl
@@ -176,17 +184,19 @@ module _ (plan : Plan) (u : ℕ) (o : Outgoing) (before : ℕ → List Begun) (u
 
   -- ---- others send
 
-  module _ (w : World) (inv : TransferInvariant plan w) (old : AllAccounted w) (coming : IsComing w) where
-    pub session_elsewhere : (s : ℕ) (x : Option Outgoing) → s ≢ u → changed w.sessions s x u ≡ Some (at_stage coming.stage)
+  module _ (w : World) (inv : TransferInvariant plan w) (old : AllAccounted plan w) (coming : IsComing w) where
+    pub session_elsewhere : (s : ℕ) (x : Option Outgoing) → s ≢ u → changed w.sessions s x u ≡ Some (at_stage coming.targets coming.stage)
     session_elsewhere s x other = changed_elsewhere w.sessions s x u (λ e. other (sym e)) ∙ coming.session
 
     -- another unit sends, or rests
     others_send : (s : ℕ) (x : Option Outgoing) (targets : List ℕ) (item : Wired) → s ≢ u → (new : World) → new.sessions ≡ changed w.sessions s x
         → new.wire ≡ added w.wire s targets item → new.receivers ≡ w.receivers → new.reports ≡ w.reports → IsComing new
     others_send s x targets item other new sessions wire receivers reports = record {
+      targets = coming.targets;
       stage = coming.stage;
       sent = coming.sent;
       session = ap (λ (f : Sessions). f u) sessions ∙ session_elsewhere s x other;
+      still = coming.still;
       sends = coming.sends;
       ways =
           λ v among.
@@ -198,16 +208,66 @@ module _ (plan : Plan) (u : ℕ) (o : Outgoing) (before : ℕ → List Begun) (u
     }
 
     pub rest_keeps : (s : ℕ) → s ≢ u → IsComing (rested w s)
-    rest_keeps s other =
-        record { stage = coming.stage; sent = coming.sent; session = session_elsewhere s None other; sends = coming.sends; ways = coming.ways }
+    rest_keeps s other = record {
+      targets = coming.targets;
+      stage = coming.stage;
+      sent = coming.sent;
+      session = session_elsewhere s None other;
+      still = coming.still;
+      sends = coming.sends;
+      ways = coming.ways;
+    }
 
-    pub begin_keeps : (f : ℕ) (flow : Option Flow) (bytes : List ℕ) → begin_refusal (count_of plan) w flow bytes ≡ None → (new : World)
+    -- nothing of messages is changed
+    pub told_keeps : (new : World) → new.sessions ≡ w.sessions → new.wire ≡ w.wire → new.receivers ≡ w.receivers → new.reports ≡ w.reports → IsComing new
+    told_keeps new sessions wire receivers reports = record {
+      targets = coming.targets;
+      stage = coming.stage;
+      sent = coming.sent;
+      session = ap (λ (f : Sessions). f u) sessions ∙ coming.session;
+      still = coming.still;
+      sends = coming.sends;
+      ways = λ v among.
+          let e : IsOnItsWay coming.sent new v ≡ IsOnItsWay coming.sent w v =
+          λ i. IsUnderWay o coming.sent (wire i u v) (receivers i v u) (reported (reports i) v u) (before v) in
+          subst (λ (X : Type 0). X) (sym e) (coming.ways v among);
+    }
+
+    -- another unit is switched off, which is none of those that are meant
+    pub off_keeps : (x : ℕ) → x ≢ u → is_among meant x ≡ false → IsComing (switched_off w x)
+    off_keeps x other none = record {
+      targets = filter (is_left x) coming.targets;
+      stage = coming.stage;
+      sent = coming.sent;
+      session = changed_elsewhere (λ y. session_without x (w.sessions y)) x None u (λ e. other (sym e))
+          ∙ ap (session_without x) coming.session
+          ∙ ap (λ (st : Stage). Some (at_stage (filter (is_left x) coming.targets) st)) (stage_same coming.stage coming.sends);
+      still = λ v among. targets_same x coming.targets v (apart v among) ∙ coming.still v among;
+      sends = coming.sends;
+      ways = λ v among.
+          let e : eqb u x ≡ false = ne_eqb u x (λ same. other (sym same)) in
+          let f : eqb v x ≡ false = ne_eqb v x (apart v among) in
+          subst (λ (pr : Progress). IsUnderWay o coming.sent (without_lists_of x w.wire u v) pr (reported w.reports v u) (before v))
+          (sym (cond-false (is_either x v u) Closed (w.receivers v u) (or_from (eqb v x) (eqb u x) f e)))
+          (subst (λ (xs : List Wired). IsUnderWay o coming.sent xs (w.receivers v u) (reported w.reports v u) (before v))
+          (sym (cond-false (is_either x u v) [] (w.wire u v) (or_from (eqb u x) (eqb v x) e f))) (coming.ways v among));
+    }
+      where
+        apart : (v : ℕ) → is_among meant v ≡ true → v ≢ x
+        apart v among same = true≢false (sym among ∙ (ap (is_among meant) same ∙ none))
+
+        stage_same : (st : Stage) → HasSent o st coming.sent → stage_without x o.to st ≡ st
+        stage_same (Sending next last) sends = subst (λ (to : To). stage_without x to (Sending next last) ≡ Sending next last) (sym (to_all sends.0)) refl
+        stage_same Waiting never = absurd never
+        stage_same (Resting outcome) sends = ended_stays x o.to outcome
+
+    pub begin_keeps : (f : ℕ) (flow : Option Flow) (bytes : List ℕ) → begin_refusal plan.live (count_of plan) w flow bytes ≡ None → (new : World)
         → BeginsAt (count_of plan) w f flow bytes new → IsComing new
     begin_keeps f None bytes allowed new never = absurd never
     begin_keeps f (Some flow) bytes allowed new e =
-        let (sendable, (on, (told, (addressed, (free, rest))))) = none_hold (begin_refusals (count_of plan) w (Some flow) bytes) allowed in
+        let (sendable, (on, (told, (addressed, (free, rest))))) = none_hold (begin_refusals plan.live (count_of plan) w (Some flow) bytes) allowed in
         let idle : w.sessions flow.sender ≡ None = no_session (w.sessions flow.sender) free in
-        let other : flow.sender ≢ u = λ same. (let session : w.sessions flow.sender ≡ Some (at_stage coming.stage) =
+        let other : flow.sender ≢ u = λ same. (let session : w.sessions flow.sender ≡ Some (at_stage coming.targets coming.stage) =
         ap w.sessions same ∙ coming.session in cc (idle, session)) in
         let begun : Outgoing = outgoing (count_of plan) w.stations f flow bytes in
         subst IsComing (sym e)
@@ -223,9 +283,11 @@ module _ (plan : Plan) (u : ℕ) (o : Outgoing) (before : ℕ → List Begun) (u
         λ v. cond_both (eqb u flow.sender && is_among targets v) (w.wire u v ++ item ∷ []) (w.wire u v) (λ (list : List Wired). Grown (w.wire u v) list)
         (λ _. (item ∷ [], (tt, tt), refl)) (λ _. ([], tt, sym (append-nil (w.wire u v)))) in
         subst IsComing (sym e) (record {
+          targets = coming.targets;
           stage = coming.stage;
           sent = coming.sent;
           session = coming.session;
+          still = coming.still;
           sends = coming.sends;
           ways = λ v among. grown_under_way o coming.sent (w.wire u v) (added w.wire flow.sender targets item u v) (w.receivers v u)
               (reported w.reports v u) (before v) (more v) (coming.ways v among);
@@ -236,8 +298,9 @@ module _ (plan : Plan) (u : ℕ) (o : Outgoing) (before : ℕ → List Begun) (u
     abbrev sends_next : Outgoing → Packet → Stage → World
     sends_next s p stage = record (sent_to_receivers w u s p) { sessions = changed w.sessions u (Some (record s { stage = stage })) }
 
-    sent_here : (v : ℕ) (item : Wired) → is_among o.targets v ≡ true → added w.wire u o.targets item u v ≡ w.wire u v ++ item ∷ []
-    sent_here v item among = cond-true (eqb u u && is_among o.targets v) (w.wire u v ++ item ∷ []) (w.wire u v) (and_from (eqb u u) (is_among o.targets v) (eq-eqb u u refl) among)
+    sent_here : (v : ℕ) (item : Wired) → is_among meant v ≡ true → added w.wire u coming.targets item u v ≡ w.wire u v ++ item ∷ []
+    sent_here v item among = cond-true (eqb u u && is_among coming.targets v) (w.wire u v ++ item ∷ []) (w.wire u v)
+        (and_from (eqb u u) (is_among coming.targets v) (eq-eqb u u refl) (coming.still v among))
 
     emit_on : (next last : ℕ) (p : Packet) → HasSent o (Sending next last) coming.sent → p ≡ Dt next (chunk o.bytes next)
         → HasSent o (sender.after_packet (dest_of o.to) (Sending next last)) (suc coming.sent) × IsItem o coming.sent (wired.Packet p)
@@ -265,13 +328,15 @@ module _ (plan : Plan) (u : ℕ) (o : Outgoing) (before : ℕ → List Begun) (u
     emit_stage (Resting outcome) p sends is = absurd (cc is)
 
     emit_here : (p : Packet) → sender.data_next o.bytes coming.stage ≡ Some p
-        → IsComing (sends_next (at_stage coming.stage) p (sender.after_packet (dest_of o.to) coming.stage))
+        → IsComing (sends_next (at_stage coming.targets coming.stage) p (sender.after_packet (dest_of o.to) coming.stage))
     emit_here p next =
         let on = emit_stage coming.stage p coming.sends next in
         record {
+          targets = coming.targets;
           stage = sender.after_packet (dest_of o.to) coming.stage;
           sent = suc coming.sent;
-          session = changed_here w.sessions u (Some (at_stage (sender.after_packet (dest_of o.to) coming.stage)));
+          session = changed_here w.sessions u (Some (at_stage coming.targets (sender.after_packet (dest_of o.to) coming.stage)));
+          still = coming.still;
           sends = on.0;
           ways =
               λ v among.
@@ -285,7 +350,7 @@ module _ (plan : Plan) (u : ℕ) (o : Outgoing) (before : ℕ → List Begun) (u
     emit_keeps s new (sending, p, is, next, e) = subst IsComing (sym e) (elim (cases_eq s u) [
       | inl same ↦
           let at_u : w.sessions u ≡ Some sending = ap w.sessions (sym same) ∙ is in
-          let here : at_stage coming.stage ≡ sending = (let session = coming.session in cc (session, at_u)) in
+          let here : at_stage coming.targets coming.stage ≡ sending = (let session = coming.session in cc (session, at_u)) in
           subst (λ k. IsComing (record (sent_to_receivers w k sending p) {
             sessions = changed w.sessions k (Some (record sending { stage = sender.after_packet (dest_of sending.to) sending.stage }));
           })) (sym same)
@@ -303,7 +368,7 @@ module _ (plan : Plan) (u : ℕ) (o : Outgoing) (before : ℕ → List Begun) (u
     late_keeps s new (sending, p, is, late, e) = subst IsComing (sym e) (elim (cases_eq s u) [
       | inl same ↦
           let at_u : w.sessions u ≡ Some sending = ap w.sessions (sym same) ∙ is in
-          let here : sending ≡ at_stage coming.stage = (let session = coming.session in cc (session, at_u)) in
+          let here : sending ≡ at_stage coming.targets coming.stage = (let session = coming.session in cc (session, at_u)) in
           absurd (never_late coming.stage p coming.sends (subst (λ (x : Outgoing). sender.timeout_packet x.pgn x.stage ≡ Some p) here late))
       | inr other ↦ others_send s _ sending.targets (wired.Packet p) other _ refl refl refl refl
     ])

@@ -42,28 +42,36 @@ no_item_answers o zero item (inl whole) answers = true≢false (sym (subst IsBes
 no_item_answers o zero item (inr long) answers = true≢false (sym (subst IsBeside long.1 answers))
 no_item_answers o (suc k) item (seven, is) answers = true≢false (sym (subst IsBeside is answers))
 
-module _ (plan : Plan) (u : ℕ) (o : Outgoing) (before : ℕ → List Begun) (unanswered : (o.to ≡ tos.All) ⊎ (is_whole o ≡ true)) where
+module _ (plan : Plan) (u : ℕ) (o : Outgoing) (meant : List ℕ) (before : ℕ → List Begun) (unanswered : (o.to ≡ tos.All) ⊎ (is_whole o ≡ true)) where
   abbrev Coming : World → Type 0
-  Coming w = IsComing plan u o before unanswered w
+  Coming w = IsComing plan u o meant before unanswered w
 
   abbrev WayAt : ℕ → World → ℕ → ℕ → Type 0
   WayAt sent w s t = IsUnderWay o sent (w.wire s t) (w.receivers t s) (reported w.reports t s) (before t)
 
   module _ (w : World) (inv : TransferInvariant plan w) (coming : Coming w) where
-    session_at : (s : ℕ) → s ≡ u → w.sessions s ≡ Some (at_stage plan u o before unanswered coming.stage)
+    session_at : (s : ℕ) → s ≡ u → w.sessions s ≡ Some (at_stage plan u o meant before unanswered coming.targets coming.stage)
     session_at s same = ap w.sessions same ∙ coming.session
 
-    way_at : (s t : ℕ) → s ≡ u → is_among o.targets t ≡ true → WayAt coming.sent w s t
+    way_at : (s t : ℕ) → s ≡ u → is_among meant t ≡ true → WayAt coming.sent w s t
     way_at s t same among = subst (λ k. WayAt coming.sent w k t) (sym same) (coming.ways t among)
 
     -- all lists, receivers and reports of the message's pairs, in a world with its session
-    comes : (new : World) → new.sessions u ≡ Some (at_stage plan u o before unanswered coming.stage)
-        → ((s t : ℕ) → s ≡ u → is_among o.targets t ≡ true → WayAt coming.sent new s t) → Coming new
-    comes new session ways = record { stage = coming.stage; sent = coming.sent; session = session; sends = coming.sends; ways = λ v among. ways u v refl among }
+    comes : (new : World) → new.sessions u ≡ Some (at_stage plan u o meant before unanswered coming.targets coming.stage)
+        → ((s t : ℕ) → s ≡ u → is_among meant t ≡ true → WayAt coming.sent new s t) → Coming new
+    comes new session ways = record {
+      targets = coming.targets;
+      stage = coming.stage;
+      sent = coming.sent;
+      session = session;
+      still = coming.still;
+      sends = coming.sends;
+      ways = λ v among. ways u v refl among;
+    }
 
     -- a way of a pair of which nothing changes
     same_way : (new : World) (s t : ℕ) → new.wire s t ≡ w.wire s t → new.receivers t s ≡ w.receivers t s → reported new.reports t s ≡ reported w.reports t s
-        → s ≡ u → is_among o.targets t ≡ true → WayAt coming.sent new s t
+        → s ≡ u → is_among meant t ≡ true → WayAt coming.sent new s t
     same_way new s t wire receivers reports same among =
         let e : IsUnderWay o coming.sent (new.wire s t) (new.receivers t s) (reported new.reports t s) (before t)
         ≡ IsUnderWay o coming.sent (w.wire s t) (w.receivers t s) (reported w.reports t s) (before t) =
@@ -73,7 +81,7 @@ module _ (plan : Plan) (u : ℕ) (o : Outgoing) (before : ℕ → List Begun) (u
     -- ---- something is lost, or a receiver hears nothing in time, elsewhere
 
     -- an answer of u is lost
-    answer_lost : (x y : ℕ) (item : Wired) (rest : List Wired) → w.wire x y ≡ item ∷ rest → x ≡ u → is_among o.targets y ≡ true
+    answer_lost : (x y : ℕ) (item : Wired) (rest : List Wired) → w.wire x y ≡ item ∷ rest → x ≡ u → is_among meant y ≡ true
         → oldest_passes is_of_receiver (w.wire u y) ≡ true → WayAt coming.sent (record w { wire = changed_pair w.wire x y rest }) x y
     answer_lost x y item rest is same among passes =
         let way : WayAt coming.sent w x y = way_at x y same among in
@@ -88,27 +96,27 @@ module _ (plan : Plan) (u : ℕ) (o : Outgoing) (before : ℕ → List Begun) (u
         subst (λ (xs : List Wired). IsUnderWay o coming.sent xs (w.receivers y x) (reported w.reports y x) (before y))
         (sym (pair_here w.wire x y rest)) (record { taken = way.taken; flight = left; receiver = way.receiver })
 
-    pub lose_keeps : (x y : ℕ) → (x ≡ u → is_among o.targets y ≡ true → oldest_passes is_of_receiver (w.wire u y) ≡ true) → (list : List Wired)
+    pub lose_keeps : (x y : ℕ) → (x ≡ u → is_among meant y ≡ true → oldest_passes is_of_receiver (w.wire u y) ≡ true) → (list : List Wired)
         → w.wire x y ≡ list → (new : World) → LostFrom w x y list new → Coming new
     lose_keeps x y spares [] is new never = absurd never
     lose_keeps x y spares (item ∷ rest) is new e =
         let lost : World = record w { wire = changed_pair w.wire x y rest } in
-        let Way : ℕ → ℕ → Type 0 = λ s t. s ≡ u → is_among o.targets t ≡ true → WayAt coming.sent lost s t in
+        let Way : ℕ → ℕ → Type 0 = λ s t. s ≡ u → is_among meant t ≡ true → WayAt coming.sent lost s t in
         let here : Way x y = λ same among. answer_lost x y item rest is same among (spares same among) in
         let elsewhere : (s t : ℕ) → IsElsewhere x y s t → Way s t =
         λ s t apart. same_way lost s t (pair_elsewhere w.wire x y rest s t apart) refl refl in
         subst Coming (sym e) (comes lost coming.session (pair_here_or_elsewhere Way x y here elsewhere))
 
-    pub late_receiver_keeps : (windows : List ℕ) (x y : ℕ) → (x ≡ u → is_among o.targets y ≡ true → ⊥) → Coming (receiver_timed_out windows w x y)
+    pub late_receiver_keeps : (windows : List ℕ) (x y : ℕ) → (x ≡ u → is_among meant y ≡ true → ⊥) → Coming (receiver_timed_out windows w x y)
     late_receiver_keeps windows x y spares =
         let late : Progress × Option Packet = receiver.timed_out (Answering (window_at windows y)) (w.receivers y x) in
         let sends : List Packet = packets_in late.1 in
         let answers : AllByRecursion IsAnswering (map wired.Packet sends) =
         answers_answering sends (asides_answer sends (packets_aside late.1 (timed_out_aside (window_at windows y) (w.receivers y x)))) in
         let then : World = receiver_timed_out windows w x y in
-        let apart : (s t : ℕ) → s ≡ u → is_among o.targets t ≡ true → IsElsewhere y x t s =
-        λ s t same among to_y to_x. spares (sym to_x ∙ same) (subst (λ k. is_among o.targets k ≡ true) to_y among) in
-        let ways : (s t : ℕ) → s ≡ u → is_among o.targets t ≡ true → WayAt coming.sent then s t =
+        let apart : (s t : ℕ) → s ≡ u → is_among meant t ≡ true → IsElsewhere y x t s =
+        λ s t same among to_y to_x. spares (sym to_x ∙ same) (subst (λ k. is_among meant k ≡ true) to_y among) in
+        let ways : (s t : ℕ) → s ≡ u → is_among meant t ≡ true → WayAt coming.sent then s t =
         λ s t same among. grown_under_way o coming.sent (w.wire s t) (then.wire s t) (then.receivers t s) (reported w.reports t s) (before t)
         (answers_grow w.wire y x (map wired.Packet sends) answers s t)
         (subst (λ (pr : Progress). IsUnderWay o coming.sent (w.wire s t) pr (reported w.reports t s) (before t))
@@ -121,7 +129,7 @@ module _ (plan : Plan) (u : ℕ) (o : Outgoing) (before : ℕ → List Begun) (u
       abbrev short_then : World
       short_then = record w { wire = changed_pair w.wire x y rest; reports = w.reports ++ report w x y bytes ∷ [] }
 
-      short_here : x ≡ u → is_among o.targets y ≡ true → WayAt coming.sent short_then x y
+      short_here : x ≡ u → is_among meant y ≡ true → WayAt coming.sent short_then x y
       short_here same among =
           let way : WayAt coming.sent w x y = way_at x y same among in
           let one : bytes ≡ o.bytes → reported (w.reports ++ report w x y bytes ∷ []) y x ≡ reported w.reports y x ++ begun_of o ∷ [] =
@@ -134,7 +142,7 @@ module _ (plan : Plan) (u : ℕ) (o : Outgoing) (before : ℕ → List Begun) (u
 
       pub short_keeps : Coming short_then
       short_keeps =
-          let Way : ℕ → ℕ → Type 0 = λ s t. s ≡ u → is_among o.targets t ≡ true → WayAt coming.sent short_then s t in
+          let Way : ℕ → ℕ → Type 0 = λ s t. s ≡ u → is_among meant t ≡ true → WayAt coming.sent short_then s t in
           let elsewhere : (s t : ℕ) → IsElsewhere x y s t → Way s t =
           λ s t apart. same_way short_then s t (pair_elsewhere w.wire x y rest s t apart) refl
           (reported_elsewhere w.reports x y (flow_in (w.sessions x)) bytes s t apart) in
@@ -166,10 +174,11 @@ module _ (plan : Plan) (u : ℕ) (o : Outgoing) (before : ℕ → List Begun) (u
           (answers_grow less y x (map wired.Packet (receiver_replies heard.1 ++ sender_replies (reaction_of (w.sessions y) x p))) answers s t)
 
       -- what is complete is the message
-      one_report : x ≡ u → is_among o.targets y ≡ true → TellsMessage heard.1 → reported (w.reports ++ rs) y x ≡ reported w.reports y x ++ begun_of o ∷ []
-      one_report same among = message_reported plan w inv x y (at_stage plan u o before unanswered coming.stage) (session_at x same) among windows p rest is rs told
+      one_report : x ≡ u → is_among meant y ≡ true → TellsMessage heard.1 → reported (w.reports ++ rs) y x ≡ reported w.reports y x ++ begun_of o ∷ []
+      one_report same among = message_reported plan w inv x y (at_stage plan u o meant before unanswered coming.targets coming.stage) (session_at x same)
+          (coming.still y among) windows p rest is rs told
 
-      packet_here : x ≡ u → is_among o.targets y ≡ true → WayAt coming.sent then x y
+      packet_here : x ≡ u → is_among meant y ≡ true → WayAt coming.sent then x y
       packet_here same among =
           let way : WayAt coming.sent w x y = way_at x y same among in
           let hears : HearsOn o coming.sent rest heard (reported w.reports y x) (before y) =
@@ -186,26 +195,27 @@ module _ (plan : Plan) (u : ℕ) (o : Outgoing) (before : ℕ → List Begun) (u
           (subst (λ (pr : Progress). IsUnderWay o coming.sent rest pr (reported (w.reports ++ rs) y x) (before y))
           (sym (pair_here w.receivers y x (closed_if_complete heard.0))) (record { taken = hears.taken; flight = hears.flight; receiver = has })))
 
-      packet_elsewhere : (s t : ℕ) → IsElsewhere x y s t → s ≡ u → is_among o.targets t ≡ true → WayAt coming.sent then s t
+      packet_elsewhere : (s t : ℕ) → IsElsewhere x y s t → s ≡ u → is_among meant t ≡ true → WayAt coming.sent then s t
       packet_elsewhere s t apart same among =
           let mid : World = record w { wire = less; receivers = changed_pair w.receivers y x (closed_if_complete heard.0); reports = w.reports ++ rs } in
           way_then s t (same_way mid s t (pair_elsewhere w.wire x y rest s t apart)
           (pair_elsewhere w.receivers y x (closed_if_complete heard.0) t s (λ to_y to_x. apart to_x to_y))
           (reports_apart w x y p rs heard.1 s t apart told) same among)
 
-      session_then : changed w.sessions y (session_after (w.sessions y) x p) u ≡ Some (at_stage plan u o before unanswered coming.stage)
+      session_then : changed w.sessions y (session_after (w.sessions y) x p) u ≡ Some (at_stage plan u o meant before unanswered coming.targets coming.stage)
       session_then = elim (cases_eq u y) [
         | inl same ↦
-            let hears : session_after (w.sessions y) x p ≡ Some (at_stage plan u o before unanswered coming.stage) =
+            let hears : session_after (w.sessions y) x p ≡ Some (at_stage plan u o meant before unanswered coming.targets coming.stage) =
             ap (λ (z : Option Outgoing). session_after z x p) (session_at y (sym same))
-            ∙ ap (λ (st : Stage). Some (at_stage plan u o before unanswered st)) (stage_kept plan u o before unanswered coming.stage coming.sent x p coming.sends) in
+            ∙ ap (λ (st : Stage). Some (at_stage plan u o meant before unanswered coming.targets st))
+            (stage_kept plan u o meant before unanswered coming.targets coming.stage coming.sent x p coming.sends) in
             ap (changed w.sessions y (session_after (w.sessions y) x p)) same ∙ (changed_here w.sessions y (session_after (w.sessions y) x p) ∙ hears)
         | inr other ↦ changed_elsewhere w.sessions y (session_after (w.sessions y) x p) u other ∙ coming.session
       ]
 
       pub packet_keeps : Coming then
       packet_keeps = comes then session_then
-          (pair_here_or_elsewhere (λ s t. s ≡ u → is_among o.targets t ≡ true → WayAt coming.sent then s t) x y packet_here packet_elsewhere)
+          (pair_here_or_elsewhere (λ s t. s ≡ u → is_among meant t ≡ true → WayAt coming.sent then s t) x y packet_here packet_elsewhere)
 
     pub take_keeps : (windows : List ℕ) (x y : ℕ) (list : List Wired) → w.wire x y ≡ list → (new : World) → TakenFrom windows w x y list new → Coming new
     take_keeps windows x y [] is new never = absurd never
@@ -213,7 +223,7 @@ module _ (plan : Plan) (u : ℕ) (o : Outgoing) (before : ℕ → List Begun) (u
     take_keeps windows x y (wired.Packet p ∷ rest) is new (rs, told, e) = subst Coming (sym e) (packet_keeps windows x y p rest is rs told)
     take_keeps windows x y (wired.Alone f bytes ∷ rest) is new e =
         let less : World = record w { wire = changed_pair w.wire x y rest } in
-        let passes : x ≡ u → is_among o.targets y ≡ true → oldest_passes is_of_receiver (w.wire u y) ≡ true =
+        let passes : x ≡ u → is_among meant y ≡ true → oldest_passes is_of_receiver (w.wire u y) ≡ true =
         λ same _. subst (λ (list : List Wired). oldest_passes is_of_receiver list ≡ true) (sym is ∙ ap (λ k. w.wire k y) same) refl in
-        subst Coming (sym e) (reports_beside plan u o before unanswered less (w.reports ++ alone_report x y f bytes ∷ [])
+        subst Coming (sym e) (reports_beside plan u o meant before unanswered less (w.reports ++ alone_report x y f bytes ∷ [])
         (reported_beside w.reports x y f bytes) (lose_keeps x y passes (wired.Alone f bytes ∷ rest) is less refl))

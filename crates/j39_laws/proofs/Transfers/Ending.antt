@@ -12,9 +12,8 @@ use Rattle.j39_findings.specs.declared.plan.Plan.{Plan}
 use Rattle.j39_findings.specs.declared.steps.Step.{Step}
 use Rattle.j39_findings.specs.declared.steps.Step.TheVariants.{Emit, Lose, LateSender, LateReceiver, Rest}
 use Rattle.j39_world.specs.declared.wired.Wired.{Wired}
-use Rattle.j39_world.specs.declared.wired.Wired.TheVariants as wired
 use Rattle.j39_world.specs.Ending.{IsOfTransfers, TransfersEnd}
-use Rattle.j39_world.specs.Resting.{is_alone, is_of_sender, is_of_receiver, is_over_with, can_rest}
+use Rattle.j39_world.specs.Resting.{is_of_sender, is_of_receiver, is_over_with, can_rest}
 use Rattle.j39_world.specs.Run.{count_of, either, is_on, is_off, is_empty, can_emit, is_waiting, refusal, RunsThrough}
 use Rattle.j39_world.specs.SoundPlan.{Always}
 use Rattle.j39_world.specs.Transfers.{Outgoing, outcome_in}
@@ -22,7 +21,7 @@ use Rattle.j39_world.specs.World.{World}
 use Rattle.j39_laws.proofs.Reports.Orderly.{PlannedAt}
 use Rattle.j39_laws.proofs.Runs.Conditions.{is_unit, NoneHoldOf, none_unknown, not_refused}
 use Rattle.j39_laws.proofs.Transfers.Accounted.{SendsTo, IsAccounted, IsSettledFor, AreEndsOn}
-use Rattle.j39_laws.proofs.Transfers.AccountedSteps.{IsKept, all_kept, sent_unit, sent_where_open}
+use Rattle.j39_laws.proofs.Transfers.AccountedSteps.{IsKept, all_kept, lies_on, sent_unit, sent_where_open}
 use Rattle.j39_laws.proofs.Transfers.FitSteps.{IsWorldFit, steps_fit, worlds_fit}
 use Rattle.j39_laws.proofs.Transfers.Leading.{leads_on}
 use Rattle.j39_laws.proofs.Transfers.Lowering.{left_of, lowers}
@@ -77,16 +76,10 @@ module _ (plan : Plan) (w : World) (kept : IsKept plan w) where
       let (unit, on, on_too) = sender_ready s (w.sessions s) t (kept.transfers.order.planned s) (kept.accounted.ends s) sends in
       (unit, sent_unit plan w kept.transfers kept.accounted s t sends, on, on_too)
 
-  alone_ready : (s t : ℕ) (item : Wired) → is_alone item ≡ true → IsSettledFor w.stations w.claims s t item → AreReady s t
-  alone_ready s t (wired.Alone f bytes) is settled =
-      (kept.transfers.order.units s settled.0, kept.transfers.order.units t settled.1, settled.0, settled.1)
-  alone_ready s t (wired.Short bytes) is settled = absurd (cc is)
-  alone_ready s t (wired.Packet p) is settled = absurd (cc is)
-
-  accounted_ready : (s t : ℕ) (item : Wired) → IsAccounted w.sessions s t item → IsSettledFor w.stations w.claims s t item → AreReady s t
-  accounted_ready s t item (inl here) settled = ready s t here.1
-  accounted_ready s t item (inr (inl there)) settled = let (unit, unit_too, on, on_too) = ready t s there.1 in (unit_too, unit, on_too, on)
-  accounted_ready s t item (inr (inr alone)) settled = alone_ready s t item alone settled
+  accounted_ready : (s t : ℕ) (item : Wired) → IsAccounted w.sessions s t item → IsSettledFor plan.live w.stations w.claims s t item → AreReady s t
+  accounted_ready s t item accounted settled =
+      let on = lies_on plan w kept.transfers kept.accounted s t item accounted settled in
+      (kept.transfers.order.units s on.0, kept.transfers.order.units t on.1, on.0, on.1)
 
   none_off : (s t : ℕ) → AreReady s t → either (is_off w.stations) s t ≡ false
   none_off s t r = or_from (is_off w.stations s) (is_off w.stations t) (not_from_true (is_on w.stations s) r.2) (not_from_true (is_on w.stations t) r.3)
@@ -95,7 +88,7 @@ module _ (plan : Plan) (w : World) (kept : IsKept plan w) where
   pub item_ready : (s t : ℕ) → IsSome (w.wire s t) → NoneHoldOf plan w (Lose s t)
   item_ready s t some =
       let r = accounted_ready s t some.item (subst (AllByRecursion (IsAccounted w.sessions s t)) some.is (kept.accounted.wire s t)).0
-      (subst (AllByRecursion (IsSettledFor w.stations w.claims s t)) some.is (kept.accounted.alone s t)).0 in
+      (subst (AllByRecursion (IsSettledFor plan.live w.stations w.claims s t)) some.is (kept.accounted.alone s t)).0 in
       let long : 0 < length (w.wire s t) = (let e : length (w.wire s t) ≡ length (some.item ∷ some.rest) = ap length some.is in omega (arith, e)) in
       let full : is_empty (w.wire s t) ≡ false = not_from_true (ltb 0 (length (w.wire s t))) (lt-ltb 0 (length (w.wire s t)) long) in
       (none_unknown plan s t r.0 r.1, (none_off s t r, (full, tt)))

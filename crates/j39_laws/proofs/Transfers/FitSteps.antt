@@ -12,6 +12,7 @@ use Rattle.j39_tp.specs.declared.packet.Packet.{Packet}
 use Rattle.j39_tp.specs.declared.receiving.heard.Heard.{Heard}
 use Rattle.j39_tp.specs.declared.receiving.manner.Manner.TheVariants.{Answering}
 use Rattle.j39_tp.specs.declared.receiving.progress.Progress.{Progress}
+use Rattle.j39_tp.specs.declared.receiving.progress.Progress.TheVariants.{Closed}
 use Rattle.j39_tp.specs.declared.sending.stage.Stage.{Stage}
 use Rattle.j39_tp.proofs.Answering.{IsAnswer, hears_told, timed_out_aside}
 use Rattle.j39_findings.specs.declared.plan.Plan.{Plan}
@@ -23,18 +24,20 @@ use Rattle.j39_world.specs.declared.flow.Flow.{Flow}
 use Rattle.j39_world.specs.declared.wired.Wired.{Wired}
 use Rattle.j39_world.specs.declared.wired.Wired.TheVariants as wired
 use Rattle.j39_claim.specs.declared.item.Item.{Item}
-use Rattle.j39_world.specs.ClaimSteps.{GivenFrom, heard_and_answered, without_lists_to, switched_on, switched_off, asked}
+use Rattle.j39_world.specs.ClaimSteps.{GivenFrom, heard_and_answered, without_lists_to, switched_on, asked}
 use Rattle.j39_world.specs.Flows.{flows_of, flow_of, windows_of, window_at, dest_of, is_short}
-use Rattle.j39_world.specs.PlannedUnits.{units_of}
+use Rattle.j39_findings.specs.PlannedUnits.{units_of}
 use Rattle.j39_world.specs.Run.{count_of, begin_refusal, begin_refusals}
 use Rattle.j39_world.specs.SoundPlan.{Always}
 use Rattle.j39_world.specs.Transfers.{Outgoing, Reported, Sessions, Wire, Receivers, is_among, added, closed_if_complete}
 use Rattle.j39_world.specs.TransferSteps.{targets_of, outgoing, first_item, BeginsAt, SendsAt, session_after, reaction_of, receiver_replies, sender_replies, hearing}
 use Rattle.j39_world.specs.TransferSteps.{packet_taken, TakenFrom, LostFrom, packets_in, receiver_timed_out, sent_to_receivers}
+use Rattle.j39_world.specs.SwitchingOff.{is_either, session_without, switched_off}
 use Rattle.j39_world.specs.World.{World, all_off, changed, changed_pair}
 use Rattle.j39_laws.proofs.Runs.Always.{IsPreserved, always}
 use Rattle.j39_laws.proofs.Runs.Changed.{changed_each, pair_here, pair_elsewhere, pair_here_or_elsewhere, pair_each}
 use Rattle.j39_laws.proofs.Runs.Elements.{all-append, all_map}
+use Rattle.j39_laws.proofs.Runs.SwitchedOff.{lists_left, sessions_each}
 use Rattle.j39_laws.proofs.Reports.ExchangeSteps.{asides_answer}
 use Rattle.j39_laws.proofs.Reports.Hearings.{replies_aside, replies_answer, packets_aside, reaction_aside}
 use Rattle.j39_laws.proofs.Transfers.Fitting.{IsFit, answer_fit, announcement_fit, data_fit, timeout_fit, IsWithin, hears_within, timed_out_within, closed_within}
@@ -113,11 +116,11 @@ module _ (plan : Plan) (w : World) (inv : IsWorldFit w) where
   less_fits : (u v : ℕ) (item : Wired) (rest : List Wired) → w.wire u v ≡ item ∷ rest → IsWireFit (changed_pair w.wire u v rest)
   less_fits u v item rest is = pair_each (λ s t (xs : List Wired). AllByRecursion IsItemFit xs) w.wire u v rest (subst (AllByRecursion IsItemFit) is (inv.wire u v)).1 inv.wire
 
-  pub begin_fits : (f : ℕ) (bytes : List ℕ) (o : Option Flow) → slice_get (flows_of plan) f ≡ o → begin_refusal (count_of plan) w o bytes ≡ None → (new : World)
+  pub begin_fits : (f : ℕ) (bytes : List ℕ) (o : Option Flow) → slice_get (flows_of plan) f ≡ o → begin_refusal plan.live (count_of plan) w o bytes ≡ None → (new : World)
       → BeginsAt (count_of plan) w f o bytes new → IsWorldFit new
   begin_fits f bytes None is allowed new never = absurd never
   begin_fits f bytes (Some flow) is allowed new e =
-      let (sendable, (on, (told, (addressed, (free, (long, rest)))))) = none_hold (begin_refusals (count_of plan) w (Some flow) bytes) allowed in
+      let (sendable, (on, (told, (addressed, (free, (long, rest)))))) = none_hold (begin_refusals plan.live (count_of plan) w (Some flow) bytes) allowed in
       let same : length bytes ≤ flow.most = leb-true (length bytes) flow.most (and_parts (nat_le flow.length (length bytes)) _ (not-false _ long)).1 in
       let within : flow.most ≤ message_bytes = flow_fits plan.groups.items plan.flows.items f flow is in
       let most : length bytes ≤ message_bytes = omega arith in
@@ -220,6 +223,18 @@ module _ (plan : Plan) (w : World) (inv : IsWorldFit w) where
     gathered = λ v x. subst₂ (λ (h : ℕ → ℕ → List Packet) (r : Receivers). HasGathered (h v x) (r v x)) (sym taken) (sym receivers) (inv.gathered v x);
   }
 
+  message_left : (u : ℕ) (o : Option Outgoing) → IsMessageFit o → IsMessageFit (session_without u o)
+  message_left u None fit = tt
+  message_left u (Some s) fit = fit
+
+  off_fits : (u : ℕ) → IsWorldFit (switched_off w u)
+  off_fits u = record {
+    wire = lists_left u (λ _ _. IsItemFit) w.wire (λ s t _ _. inv.wire s t);
+    messages = sessions_each u (λ _ x. IsMessageFit x) w.sessions tt (λ x _. message_left u (w.sessions x) (inv.messages x));
+    within = λ v x. cond_both (is_either u v x) Closed (w.receivers v x) IsWithin (λ _. tt) (λ _. inv.within v x);
+    gathered = λ v x. cond_both (is_either u v x) Closed (w.receivers v x) (HasGathered (w.taken v x)) (λ _. ([], tt)) (λ _. inv.gathered v x);
+  }
+
   -- nothing of transfers is changed
   told_fits : (new : World) → new.wire ≡ w.wire → new.sessions ≡ w.sessions → new.receivers ≡ w.receivers → new.taken ≡ w.taken → IsWorldFit new
   told_fits new wire sessions receivers taken = record {
@@ -235,7 +250,7 @@ module _ (plan : Plan) (w : World) (inv : IsWorldFit w) where
 
 pub steps_fit : (plan : Plan) → IsPreserved plan IsWorldFit
 steps_fit plan w inv (Up u) allowed new e = subst IsWorldFit (sym e) (switched_fits plan w inv u (switched_on (units_of plan) w u) refl refl refl refl)
-steps_fit plan w inv (Down u) allowed new e = subst IsWorldFit (sym e) (switched_fits plan w inv u (switched_off w u) refl refl refl refl)
+steps_fit plan w inv (Down u) allowed new e = subst IsWorldFit (sym e) (off_fits plan w inv u)
 steps_fit plan w inv (Give u v) allowed new leads = give_fits plan w inv u v (w.claims u v) new leads
 steps_fit plan w inv (Ask u) allowed new e = subst IsWorldFit (sym e) (told_fits plan w inv (asked (units_of plan) w u) refl refl refl refl)
 steps_fit plan w inv (Begin f bytes) allowed new leads = begin_fits plan w inv f bytes.items (slice_get (flows_of plan) f) refl allowed new leads

@@ -22,7 +22,7 @@ use Rattle.j39_world.specs.declared.wired.Wired.TheVariants as wired
 use Rattle.j39_world.specs.ClaimSteps.{GivenFrom, heard_and_answered}
 use Rattle.j39_world.specs.Leading.{LeadsOn}
 use Rattle.j39_world.specs.Flows.{flows_of, windows_of, window_at}
-use Rattle.j39_world.specs.PlannedUnits.{units_of, unit_at}
+use Rattle.j39_findings.specs.PlannedUnits.{units_of, unit_at}
 use Rattle.j39_world.specs.Run.{count_of, begin_refusal, send_refusal, can_emit, is_waiting, is_waiting_at, is_empty}
 use Rattle.j39_world.specs.SoundPlan.{Always}
 use Rattle.j39_world.specs.Transfers.{Outgoing, Reported}
@@ -53,12 +53,12 @@ module _ (plan : Plan) (w : World) (inv : IsWorldFit w) where
       let (says, s, answers) = reacted (unit_at (units_of plan) v) (w.stations v) (unit_at (units_of plan) u).name item in
       (heard_and_answered (units_of plan) w u v rest says s, (says, s, answers, refl))
 
-  begun : (f : ℕ) (o : Option Flow) (bytes : List ℕ) → begin_refusal (count_of plan) w o bytes ≡ None
+  begun : (f : ℕ) (o : Option Flow) (bytes : List ℕ) → begin_refusal plan.live (count_of plan) w o bytes ≡ None
       → (new : World) × BeginsAt (count_of plan) w f o bytes new
   begun f None bytes allowed = absurd (cc allowed)
   begun f (Some flow) bytes allowed = (begins (count_of plan) w f flow bytes, refl)
 
-  sends : (f : ℕ) (o : Option Flow) (bytes : List ℕ) → send_refusal (count_of plan) w o bytes ≡ None
+  sends : (f : ℕ) (o : Option Flow) (bytes : List ℕ) → send_refusal plan.live (count_of plan) w o bytes ≡ None
       → (new : World) × SendsAt (count_of plan) w f o bytes new
   sends f None bytes allowed = absurd (cc allowed)
   sends f (Some flow) bytes allowed = (sends_alone (count_of plan) w f flow bytes, refl)

@@ -1,9 +1,9 @@
 -- In every world of every run each RTS and each Abort that is undelivered names the group of a message that is still sent to one unit,
 -- between the two, and so does each receiver that is open for such a message.
-use Rattle.std.proofs.Common.{◌≡◌, ℕ, ◌⊎◌, inl, inr, true, false, not, ◌&&◌, eqb, List, [], ◌∷◌, ◌++◌, length, refl, sym, ap, ◌∙◌, subst, Option, Some, None}
+use Rattle.std.proofs.Common.{◌≡◌, ◌≢◌, ℕ, ◌⊎◌, inl, inr, true, false, not, ◌&&◌, eqb, List, [], ◌∷◌, ◌++◌, length, refl, sym, ap, ◌∙◌, subst, Option, Some, None}
 use Rattle.std.specs.Prelude.{map, nat_lt, slice_get}
 use Rattle.std.specs.List.{AllByRecursion}
-use Rattle.std.proofs.lemmas.Bool.{and_parts, cases_eq, cond_both, eq-eqb, eqb-true, not-false, true≢false}
+use Rattle.std.proofs.lemmas.Bool.{and_parts, cases_eq, cond_both, eqb-false, eqb-true, not-false, or_parts, true≢false}
 use Rattle.j39_tp.specs.Receiver as receiver
 use Rattle.j39_tp.specs.Receiver.{is_open_at}
 use Rattle.j39_tp.specs.Sender as sender
@@ -12,7 +12,8 @@ use Rattle.j39_tp.specs.declared.packet.Packet.TheVariants.{Rts, Cts, EndAck, Ba
 use Rattle.j39_tp.specs.declared.receiving.manner.Manner.TheVariants.{Answering}
 use Rattle.j39_tp.specs.declared.receiving.progress.Progress.{Progress}
 use Rattle.j39_tp.specs.declared.receiving.progress.Progress.TheVariants.{Closed, Open, Complete}
-use Rattle.j39_tp.specs.declared.sending.outcome.Outcome.TheVariants.{Sent}
+use Rattle.j39_tp.specs.declared.sending.outcome.Outcome.TheVariants.{GaveUp, Sent}
+use Rattle.j39_tp.specs.declared.sending.outcome.Outcome.{Outcome}
 use Rattle.j39_tp.specs.declared.sending.reaction.Reaction.{Reaction}
 use Rattle.j39_tp.specs.declared.sending.stage.Stage.{Stage}
 use Rattle.j39_tp.specs.declared.sending.stage.Stage.TheVariants.{Sending, Waiting, Resting}
@@ -28,13 +29,14 @@ use Rattle.j39_world.specs.declared.wired.Wired.{Wired}
 use Rattle.j39_world.specs.declared.wired.Wired.TheVariants as wired
 use Rattle.j39_world.specs.ClaimSteps.{GivenFrom, without_lists_to}
 use Rattle.j39_world.specs.Flows.{flows_of, windows_of, window_at, dest_of, is_short}
-use Rattle.j39_world.specs.PlannedUnits.{units_of}
+use Rattle.j39_findings.specs.PlannedUnits.{units_of}
 use Rattle.j39_world.specs.Resting.{is_of_sender, is_of_receiver, can_rest}
 use Rattle.j39_world.specs.Run.{count_of, begin_refusal, begin_refusals, refusal, StepsTo}
 use Rattle.j39_world.specs.SoundPlan.{Always}
 use Rattle.j39_world.specs.Transfers.{Outgoing, Reported, Sessions, Wire, is_among, added, closed_if_complete}
 use Rattle.j39_world.specs.TransferSteps.{targets_of, begun_stage, outgoing, first_item, BeginsAt, SendsAt, sent_to_receivers, session_after, reaction_of}
 use Rattle.j39_world.specs.TransferSteps.{receiver_replies, sender_replies, hearing, packet_taken, TakenFrom, LostFrom, packets_in, receiver_timed_out, rested}
+use Rattle.j39_world.specs.SwitchingOff.{is_either, session_without, sessions_without}
 use Rattle.j39_world.specs.World.{World, all_off, changed, changed_pair}
 use Rattle.j39_laws.proofs.Reports.Orderly.{IsPlanned, PlannedAt}
 use Rattle.j39_laws.proofs.Reports.SenderSteps.{no_session, begin_keeps}
@@ -43,10 +45,12 @@ use Rattle.j39_laws.proofs.Runs.Always.{IsPreserved, always}
 use Rattle.j39_laws.proofs.Runs.Changed.{changed_here, changed_elsewhere, changed_each, pair_each}
 use Rattle.j39_laws.proofs.Runs.Conditions.{none_refuses}
 use Rattle.j39_laws.proofs.Runs.Elements.{all-append, all_map, all_weaker}
+use Rattle.j39_laws.proofs.Runs.SwitchedOff.{lists_left, sessions_each, stage_left, targets_same}
 use Rattle.j39_laws.proofs.Transfers.Accounted.{SendsTo}
+use Rattle.j39_laws.proofs.Transfers.EndedWithout.{begun_ended, ended_left, going_ended, heard_ended}
 use Rattle.j39_laws.proofs.Transfers.AccountedSteps.{IsKept, keeps, all_kept, over_with}
 use Rattle.j39_laws.proofs.Transfers.Naming.{IsOpenFor, AnswersAt, hears_answers, late_answers, IsRtsOf, hears_open, late_open, closed_open}
-use Rattle.j39_laws.proofs.Transfers.Naming.{IsTo, SaysTo, WaitsForOne, says_first, says_data, says_late, says_replies, KeepsTo, after_to}
+use Rattle.j39_laws.proofs.Transfers.Naming.{HasEndedWithout, IsTo, SaysTo, WaitsForOne, says_first, says_data, says_late, says_replies, KeepsTo, after_to}
 
 -- ---- what is named
 
@@ -62,6 +66,7 @@ pub record AllNamed (w : World) : Type 0 where
   pub wire : AreNamed w.sessions w.wire
   pub receivers : (t s pgn : ℕ) → IsOpenFor (w.receivers t s) pgn → IsTo (w.sessions s) t pgn
   pub waits : (u : ℕ) → WaitsForOne (w.sessions u)
+  pub ended : (u : ℕ) → HasEndedWithout (w.sessions u)
 
 -- ---- sessions that send to as many at least
 
@@ -192,11 +197,40 @@ open_at Closed pgn is = absurd is
 open_at (Complete done) pgn is = absurd is
 
 -- a message to one is sent to it
-to_sends : (plan : Plan) (u : ℕ) (o : Option Outgoing) → PlannedAt plan u o → (t pgn : ℕ) → IsTo o t pgn → SendsTo o t
-to_sends plan u None planned t pgn is = absurd is
-to_sends plan u (Some s) planned t pgn is =
-    let alone : s.targets ≡ t ∷ [] = planned.one t is.0 in
-    subst (λ (targets : List ℕ). is_among targets t ≡ true) (sym alone) (let e : eqb t t ≡ true = eq-eqb t t refl in rw e refl)
+to_sends : (o : Option Outgoing) (t pgn : ℕ) → IsTo o t pgn → SendsTo o t
+to_sends None t pgn is = absurd is
+to_sends (Some s) t pgn is = is.2
+
+-- ---- u is switched off
+
+to_left : (u : ℕ) (sessions : Sessions) (x y pgn : ℕ) → x ≢ u → y ≢ u → IsTo (sessions x) y pgn → IsTo (sessions_without u sessions x) y pgn
+to_left u sessions x y pgn other_x other_y is =
+    subst (λ (o : Option Outgoing). IsTo o y pgn) (sym (changed_elsewhere (λ z. session_without u (sessions z)) u None x other_x)) (of (sessions x) is)
+  where
+    of : (o : Option Outgoing) → IsTo o y pgn → IsTo (session_without u o) y pgn
+    of None to = to
+    of (Some s) to = (to.0, to.1, targets_same u s.targets y other_y ∙ to.2)
+
+named_left : (u : ℕ) (sessions : Sessions) (s t : ℕ) → s ≢ u → t ≢ u → (item : Wired) → IsNamed sessions s t item
+    → IsNamed (sessions_without u sessions) s t item
+named_left u sessions s t other_s other_t (wired.Short bytes) is = tt
+named_left u sessions s t other_s other_t (wired.Packet (Rts size limit pgn)) is = to_left u sessions s t pgn other_s other_t is
+named_left u sessions s t other_s other_t (wired.Packet (Cts count start pgn)) is = tt
+named_left u sessions s t other_s other_t (wired.Packet (EndAck size pgn)) is = tt
+named_left u sessions s t other_s other_t (wired.Packet (Bam size pgn)) is = tt
+named_left u sessions s t other_s other_t (wired.Packet (Abort reason pgn)) is = elim is [
+  | inl here ↦ inl (to_left u sessions s t pgn other_s other_t here)
+  | inr there ↦ inr (to_left u sessions t s pgn other_t other_s there)
+]
+named_left u sessions s t other_s other_t (wired.Packet (Dt number seven)) is = tt
+named_left u sessions s t other_s other_t (wired.Alone f bytes) is = tt
+
+waits_left : (u : ℕ) (o : Option Outgoing) → WaitsForOne o → WaitsForOne (session_without u o)
+waits_left u None was = tt
+waits_left u (Some s) was = λ waits. elim (stage_left u s.to s.stage) [
+  | inl same ↦ was (sym same ∙ waits)
+  | inr gave_up ↦ absurd (let e : Resting GaveUp ≡ Waiting = sym gave_up ∙ waits in cc e)
+]
 
 -- ---- each step
 
@@ -230,14 +264,16 @@ module _ (plan : Plan) (w : World) (kept : IsKept plan w) (old : AllNamed w) whe
   -- u sends, and is at another stage then
   sends_named : (u : ℕ) (s : Outgoing) (stage : Stage) (p : Packet) → w.sessions u ≡ Some s
       → ((t : ℕ) → is_among s.targets t ≡ true → SaysTo (Some s) t (wired.Packet p)) → WaitsAt s.to stage
+      → ((outcome : Outcome) → s.stage ≡ Resting outcome → ⊥)
       → AllNamed (record (sent_to_receivers w u s p) { sessions = changed w.sessions u (Some (record s { stage = stage })) })
-  sends_named u s stage p is says waits =
+  sends_named u s stage p is says waits goes =
       let then : Option Outgoing = Some (record s { stage = stage }) in
       let keep : KeepsTo (w.sessions u) then = λ t pgn to. subst (λ (x : Option Outgoing). IsTo x t pgn) is to in
       record {
         wire = sent u (record s { stage = stage }) (wired.Packet p) keep (λ t among. says_at s stage t (wired.Packet p) (says t among));
         receivers = λ t x pgn opened. keep_to w.sessions u then keep x t pgn (old.receivers t x pgn opened);
         waits = changed_each (λ _ x. WaitsForOne x) w.sessions u then waits old.waits;
+        ended = changed_each (λ _ x. HasEndedWithout x) w.sessions u then (going_ended s stage (subst HasEndedWithout is (old.ended u)) goes) old.ended;
       }
 
   planned_at : (u : ℕ) (s : Outgoing) → w.sessions u ≡ Some s → IsPlanned plan u s.to s.targets
@@ -248,18 +284,20 @@ module _ (plan : Plan) (w : World) (kept : IsKept plan w) (old : AllNamed w) whe
   emit_named u s p is next =
       sends_named u s (sender.after_packet (dest_of s.to) s.stage) p is (λ t among. says_data plan u s (planned_at u s is) t among p next)
       (emitted_waits s.to s.stage (subst WaitsForOne is (old.waits u)))
+      (λ outcome rests. cc (subst (λ (st : Stage). sender.data_next s.bytes st ≡ Some p) rests next))
 
   late_named : (u : ℕ) (s : Outgoing) (p : Packet) → w.sessions u ≡ Some s → sender.timeout_packet s.pgn s.stage ≡ Some p
       → AllNamed (record (sent_to_receivers w u s p) { sessions = changed w.sessions u (Some (record s { stage = sender.after_timeout s.stage })) })
   late_named u s p is late =
       sends_named u s (sender.after_timeout s.stage) p is
       (λ t among. says_late plan u s (planned_at u s is) t among (subst WaitsForOne is (old.waits u)) p late) (late_waits s.to s.stage)
+      (λ outcome rests. cc (subst (λ (st : Stage). sender.timeout_packet s.pgn st ≡ Some p) rests late))
 
-  pub begin_named : (f : ℕ) (o : Option Flow) (bytes : List ℕ) → begin_refusal (count_of plan) w o bytes ≡ None → (new : World)
+  pub begin_named : (f : ℕ) (o : Option Flow) (bytes : List ℕ) → begin_refusal plan.live (count_of plan) w o bytes ≡ None → (new : World)
       → BeginsAt (count_of plan) w f o bytes new → AllNamed new
   begin_named f None bytes allowed new never = absurd never
   begin_named f (Some flow) bytes allowed new e =
-      let (sendable, (on, (told, (addressed, (free, rest))))) = none_hold (begin_refusals (count_of plan) w (Some flow) bytes) allowed in
+      let (sendable, (on, (told, (addressed, (free, rest))))) = none_hold (begin_refusals plan.live (count_of plan) w (Some flow) bytes) allowed in
       let o : Outgoing = outgoing (count_of plan) w.stations f flow bytes in
       let idle : w.sessions flow.sender ≡ None = no_session (w.sessions flow.sender) free in
       let keep : KeepsTo (w.sessions flow.sender) (Some o) = λ t pgn to. absurd (subst (λ (x : Option Outgoing). IsTo x t pgn) idle to) in
@@ -270,13 +308,14 @@ module _ (plan : Plan) (w : World) (kept : IsKept plan w) (old : AllNamed w) whe
         wire = sent flow.sender o (first_item flow bytes) keep (λ t among. says_first plan flow.sender o planned t among flow bytes refl refl);
         receivers = λ t x pgn opened. keep_to w.sessions flow.sender (Some o) keep x t pgn (old.receivers t x pgn opened);
         waits = changed_each (λ _ x. WaitsForOne x) w.sessions flow.sender (Some o) (begun_waits flow bytes) old.waits;
+        ended = changed_each (λ _ x. HasEndedWithout x) w.sessions flow.sender (Some o) (begun_ended (count_of plan) f w.stations flow bytes) old.ended;
       })
 
   -- ---- something is taken or lost, or a receiver hears nothing in time
 
   lose_named : (u v : ℕ) (list : List Wired) → w.wire u v ≡ list → (new : World) → LostFrom w u v list new → AllNamed new
   lose_named u v [] is new never = absurd never
-  lose_named u v (item ∷ rest) is new e = subst AllNamed (sym e) (record { wire = less u v item rest is; receivers = old.receivers; waits = old.waits })
+  lose_named u v (item ∷ rest) is new e = subst AllNamed (sym e) (record { wire = less u v item rest is; receivers = old.receivers; waits = old.waits; ended = old.ended })
 
   rts_named : (u v : ℕ) (p : Packet) → IsNamed w.sessions u v (wired.Packet p) → (pgn : ℕ) → IsRtsOf p pgn → IsTo (w.sessions u) v pgn
   rts_named u v (Rts size limit named) head pgn is = subst (IsTo (w.sessions u) v) is head
@@ -320,6 +359,7 @@ module _ (plan : Plan) (w : World) (kept : IsKept plan w) (old : AllNamed w) whe
             (closed_if_complete (hearing windows w u v p).0) (λ pgn at. keep u v pgn (opened pgn at))
             (λ t s pgn at. keep s t pgn (old.receivers t s pgn at));
         waits = changed_each (λ _ x. WaitsForOne x) w.sessions v then (heard_waits (w.sessions v) u p (old.waits v)) old.waits;
+        ended = changed_each (λ _ x. HasEndedWithout x) w.sessions v then (heard_ended (w.sessions v) u p (old.ended v)) old.ended;
       }
     where
       map-append : (xs ys : List Packet) → map wired.Packet (xs ++ ys) ≡ map wired.Packet xs ++ map wired.Packet ys
@@ -329,10 +369,10 @@ module _ (plan : Plan) (w : World) (kept : IsKept plan w) (old : AllNamed w) whe
   take_named : (windows : List ℕ) (u v : ℕ) (list : List Wired) → w.wire u v ≡ list → (new : World) → TakenFrom windows w u v list new → AllNamed new
   take_named windows u v [] is new never = absurd never
   take_named windows u v (wired.Short bytes ∷ rest) is new e =
-      subst AllNamed (sym e) (record { wire = less u v (wired.Short bytes) rest is; receivers = old.receivers; waits = old.waits })
+      subst AllNamed (sym e) (record { wire = less u v (wired.Short bytes) rest is; receivers = old.receivers; waits = old.waits; ended = old.ended })
   take_named windows u v (wired.Packet p ∷ rest) is new (reports, reported, e) = subst AllNamed (sym e) (packet_named windows u v p rest reports is)
   take_named windows u v (wired.Alone f bytes ∷ rest) is new e =
-      subst AllNamed (sym e) (record { wire = less u v (wired.Alone f bytes) rest is; receivers = old.receivers; waits = old.waits })
+      subst AllNamed (sym e) (record { wire = less u v (wired.Alone f bytes) rest is; receivers = old.receivers; waits = old.waits; ended = old.ended })
 
   late_receiver_named : (windows : List ℕ) (u v : ℕ) → AllNamed (receiver_timed_out windows w u v)
   late_receiver_named windows u v =
@@ -347,6 +387,7 @@ module _ (plan : Plan) (w : World) (kept : IsKept plan w) (old : AllNamed w) whe
             (closed_if_complete (receiver.timed_out (Answering window) pr).0)
             (λ pgn at. old.receivers v u pgn (late_open window pr pgn (closed_open (receiver.timed_out (Answering window) pr).0 pgn at))) old.receivers;
         waits = old.waits;
+        ended = old.ended;
       }
 
   -- ---- a sender rests
@@ -354,7 +395,7 @@ module _ (plan : Plan) (w : World) (kept : IsKept plan w) (old : AllNamed w) whe
   rest_named : (u : ℕ) → can_rest (count_of plan) w u ≡ true → AllNamed (rested w u)
   rest_named u can =
       let over = over_with plan w kept.transfers kept.accounted u can in
-      let sends : (t pgn : ℕ) → IsTo (w.sessions u) t pgn → SendsTo (w.sessions u) t = to_sends plan u (w.sessions u) (kept.transfers.order.planned u) in
+      let sends : (t pgn : ℕ) → IsTo (w.sessions u) t pgn → SendsTo (w.sessions u) t = to_sends (w.sessions u) in
       record {
         wire = λ s t. rested_items w.sessions u s t (w.wire s t) (old.wire s t)
             (λ same pgn to. subst (λ k. AllByRecursion (λ item. not (is_of_sender item) ≡ true) (w.wire k t)) (sym same) (over t (sends t pgn to)).0)
@@ -363,11 +404,12 @@ module _ (plan : Plan) (w : World) (kept : IsKept plan w) (old : AllNamed w) whe
             (λ same to. true≢false (sym (open_at (w.receivers t s) pgn opened)
             ∙ subst (λ k. is_open_at (w.receivers t k) ≡ false) (sym same) (over t (sends t pgn to)).2));
         waits = changed_each (λ _ x. WaitsForOne x) w.sessions u None tt old.waits;
+        ended = changed_each (λ _ x. HasEndedWithout x) w.sessions u None tt old.ended;
       }
 
   give_named : (u v : ℕ) (list : List Item) (new : World) → GivenFrom (units_of plan) w u v list new → AllNamed new
   give_named u v [] new never = absurd never
-  give_named u v (item ∷ rest) new (says, s, answers, e) = subst AllNamed (sym e) (record { wire = old.wire; receivers = old.receivers; waits = old.waits })
+  give_named u v (item ∷ rest) new (says, s, answers, e) = subst AllNamed (sym e) (record { wire = old.wire; receivers = old.receivers; waits = old.waits; ended = old.ended })
 
   send_named : (f : ℕ) (o : Option Flow) (bytes : List ℕ) (new : World) → SendsAt (count_of plan) w f o bytes new → AllNamed new
   send_named f None bytes new never = absurd never
@@ -379,13 +421,24 @@ module _ (plan : Plan) (w : World) (kept : IsKept plan w) (old : AllNamed w) whe
             (λ _. all-append (IsNamed w.sessions s t) (w.wire s t) (item ∷ []) (old.wire s t) (tt, tt)) (λ _. old.wire s t);
         receivers = old.receivers;
         waits = old.waits;
+        ended = old.ended;
       })
 
   named_keeps : (step : Step) → refusal plan w step ≡ None → (new : World) → StepsTo plan w step new → AllNamed new
-  named_keeps (Up u) allowed new e = subst AllNamed (sym e) (record { wire = dropped u; receivers = old.receivers; waits = old.waits })
-  named_keeps (Down u) allowed new e = subst AllNamed (sym e) (record { wire = dropped u; receivers = old.receivers; waits = old.waits })
+  named_keeps (Up u) allowed new e = subst AllNamed (sym e) (record { wire = dropped u; receivers = old.receivers; waits = old.waits; ended = old.ended })
+  named_keeps (Down u) allowed new e = subst AllNamed (sym e) (record {
+    wire = lists_left u (IsNamed (sessions_without u w.sessions)) w.wire
+        (λ s t other_s other_t. all_weaker (IsNamed w.sessions s t) (IsNamed (sessions_without u w.sessions) s t)
+        (named_left u w.sessions s t other_s other_t) (w.wire s t) (old.wire s t));
+    receivers = λ t s pgn. cond_both (is_either u t s) Closed (w.receivers t s)
+        (λ (x : Progress). IsOpenFor x pgn → IsTo (sessions_without u w.sessions s) t pgn) (λ _ never. absurd never)
+        (λ none opened. let parts = or_parts (eqb t u) (eqb s u) none in
+        to_left u w.sessions s t pgn (eqb-false s u parts.1) (eqb-false t u parts.0) (old.receivers t s pgn opened));
+    waits = sessions_each u (λ _ x. WaitsForOne x) w.sessions tt (λ x _. waits_left u (w.sessions x) (old.waits x));
+    ended = sessions_each u (λ _ x. HasEndedWithout x) w.sessions tt (λ x _. ended_left u (w.sessions x) (old.ended x));
+  })
   named_keeps (Give u v) allowed new leads = give_named u v (w.claims u v) new leads
-  named_keeps (Ask u) allowed new e = subst AllNamed (sym e) (record { wire = old.wire; receivers = old.receivers; waits = old.waits })
+  named_keeps (Ask u) allowed new e = subst AllNamed (sym e) (record { wire = old.wire; receivers = old.receivers; waits = old.waits; ended = old.ended })
   named_keeps (Begin f bytes) allowed new leads = begin_named f (slice_get (flows_of plan) f) bytes.items allowed new leads
   named_keeps (Send f bytes) allowed new leads = send_named f (slice_get (flows_of plan) f) bytes.items new leads
   named_keeps (Emit u) allowed new (s, p, session, next, e) = subst AllNamed (sym e) (emit_named u s p session next)
@@ -410,5 +463,5 @@ keeps_named plan w old step allowed new leads = record {
 pub all_named : (plan : Plan) → Always plan (IsKeptNamed plan)
 all_named plan = always plan (IsKeptNamed plan) (record {
   kept = all_kept plan [] all_off refl;
-  named = record { wire = λ s t. tt; receivers = λ t s pgn never. absurd never; waits = λ u. tt };
+  named = record { wire = λ s t. tt; receivers = λ t s pgn never. absurd never; waits = λ u. tt; ended = λ u. tt };
 }) (keeps_named plan)

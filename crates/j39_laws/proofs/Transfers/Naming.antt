@@ -1,5 +1,5 @@
 -- Which group an RTS or an Abort names: that of a message to one unit, of its sender or of a receiver that is open for it.
-use Rattle.std.proofs.Common.{◌≡◌, ℕ, ◌⊎◌, inl, inr, ◌&&◌, true, eqb, List, [], ◌∷◌, length, refl, sym, ap, ◌∙◌, subst, Option, Some, None}
+use Rattle.std.proofs.Common.{◌≡◌, ℕ, ◌⊎◌, inl, inr, ◌&&◌, true, false, eqb, List, length, refl, sym, ap, ◌∙◌, subst, Option, Some, None}
 use Rattle.std.specs.Prelude.{map, nat_lt}
 use Rattle.std.specs.List.{AllByRecursion}
 use Rattle.std.proofs.lemmas.Bool.{cond_both}
@@ -35,7 +35,6 @@ use Rattle.j39_world.specs.TransferSteps.{first_item, session_after, reaction_of
 use Rattle.j39_laws.proofs.Runs.ReceiverRows.{hears_by}
 use Rattle.j39_laws.proofs.Reports.Hearings.{directed_to}
 use Rattle.j39_laws.proofs.Reports.Orderly.{IsPlanned, PlannedAt}
-use Rattle.j39_laws.proofs.Reports.SenderSteps.{among_one}
 
 -- ---- a receiver
 
@@ -131,10 +130,10 @@ closed_open (Complete done) pgn never = absurd never
 
 -- ---- a sender
 
--- it sends a message to t alone of this group
+-- it sends a message to t alone of this group, and t is on still
 abbrev pub IsTo : Option Outgoing → ℕ → ℕ → Type 0
 IsTo None t pgn = ⊥
-IsTo (Some s) t pgn = (s.to ≡ tos.One t) × (s.pgn ≡ pgn)
+IsTo (Some s) t pgn = (s.to ≡ tos.One t) × (s.pgn ≡ pgn) × (is_among s.targets t ≡ true)
 
 -- it sends t an item: an RTS and an Abort name the group of a message to t alone
 abbrev pub SaysTo : Option Outgoing → ℕ → Wired → Type 0
@@ -149,13 +148,16 @@ abbrev pub WaitsForOne : Option Outgoing → Type 0
 WaitsForOne None = Unit {0}
 WaitsForOne (Some s) = s.stage ≡ Waiting → (x : ℕ) × (s.to ≡ tos.One x)
 
+-- a message to one unit that goes to it no more has ended
+abbrev pub HasEndedWithout : Option Outgoing → Type 0
+HasEndedWithout None = Unit {0}
+HasEndedWithout (Some s) = (x : ℕ) → s.to ≡ tos.One x → is_among s.targets x ≡ false → (outcome : Outcome) × (s.stage ≡ Resting outcome)
+
 module _ (plan : Plan) (u : ℕ) (s : Outgoing) (planned : IsPlanned plan u s.to s.targets) (t : ℕ) (among : is_among s.targets t ≡ true) where
   -- where it sends to one, that is t
   to_it : (x : ℕ) → s.to ≡ tos.One x → IsTo (Some s) t s.pgn
   to_it x one =
-      let alone : s.targets ≡ x ∷ [] = planned.one x one in
-      let same : t ≡ x = among_one x t (subst (λ (targets : List ℕ). is_among targets t ≡ true) alone among) in
-      (one ∙ ap tos.One (sym same), refl)
+      let same : t ≡ x = planned.one x t one among in (one ∙ ap tos.One (sym same), refl, among)
 
   pub says_first : (flow : Flow) (bytes : List ℕ) → s.to ≡ flow.to → s.pgn ≡ flow.pgn → SaysTo (Some s) t (first_item flow bytes)
   says_first flow bytes to_is pgn_is =
@@ -164,7 +166,7 @@ module _ (plan : Plan) (u : ℕ) (s : Outgoing) (planned : IsPlanned plan u s.to
     where
       announced : (to : To) → s.to ≡ to → SaysTo (Some s) t (wired.Packet (sender.announcement (dest_of to) flow.pgn (length bytes)))
       announced tos.All is = tt
-      announced (tos.One x) is = let here = to_it x is in (here.0, pgn_is)
+      announced (tos.One x) is = let here = to_it x is in (here.0, pgn_is, among)
 
   pub says_data : (p : Packet) → sender.data_next s.bytes s.stage ≡ Some p → SaysTo (Some s) t (wired.Packet p)
   says_data p next = at_stage s.stage next

@@ -2,7 +2,7 @@
 use Rattle.std.proofs.Common.{◌≡◌, ◌≢◌, ℕ, zero, suc, ◌+◌, ◌≤◌, true, ◌&&◌, eqb, List, [], ◌∷◌, ◌++◌, length, inl, inr, ◌⊎◌, refl, sym, ap, ◌∙◌, subst, append-nil, arith, Option, Some, None}
 use Rattle.std.specs.Bool.{MatchBool}
 use Rattle.std.specs.Option.{is_some}
-use Rattle.std.proofs.lemmas.Bool.{and_from, cond-true, eq-eqb, not-false}
+use Rattle.std.proofs.lemmas.Bool.{and_from, cond-true, eq-eqb}
 use Rattle.std.proofs.lemmas.List.{append_assoc, length-append}
 use Rattle.j39_findings.specs.declared.plan.Plan.{Plan}
 use Rattle.j39_findings.specs.declared.steps.Step.{Step}
@@ -21,7 +21,7 @@ use Rattle.j39_laws.proofs.Reports.SentFrames.{AreDropped, AreParts, lying_more,
 use Rattle.j39_laws.proofs.Reports.Subsequences.{subsequence_both, subsequence_front, subsequence_same, subsequence_without}
 use Rattle.j39_laws.proofs.Runs.Always.{leads_to_follows}
 use Rattle.j39_laws.proofs.Runs.Conditions.{none_refuses, not_refused}
-use Rattle.j39_laws.proofs.Transfers.AccountedSteps.{IsKept, all_kept, keeps, none_lies, send_kept}
+use Rattle.j39_laws.proofs.Transfers.AccountedSteps.{IsKept, all_kept, keeps, send_kept, untaken}
 use Rattle.j39_laws.proofs.Transfers.Ending.{item_ready}
 use Rattle.j39_laws.proofs.Transfers.FitSteps.{IsWorldFit, send_fits, steps_fit, worlds_fit}
 use Rattle.j39_laws.proofs.Transfers.Leading.{leads_on}
@@ -194,18 +194,20 @@ module _ (plan : Plan) (u v : ℕ) (told lay passed : List Begun) (one : Begun) 
   followed_lost w other (wired.Packet p) rest is reports part = part
 
   module _ (w : World) (kept : IsKept plan w) where
-    -- where nobody sends nothing lies that is dropped
+    -- where nothing lies nothing is dropped
     none_dropped : (s x : ℕ) → w.wire s x ≡ [] → IsFollowed s x (reported_alone w.reports x s) (lying_alone (w.wire s x)) (w.sent_alone s x)
         → IsFollowed s x (reported_alone w.reports x s) [] (w.sent_alone s x)
     none_dropped s x none part = subst (λ (list : List Wired). IsFollowed s x (reported_alone w.reports x s) (lying_alone list) (w.sent_alone s x)) none part
 
-    dropped : (step : Step) → SparesAlone w u v (length passed) step → refusal plan w step ≡ None → AreDropped IsFollowed followed_sent followed_reported w step
+    dropped : (step : Step) → SparesAlone plan w u v (length passed) step → refusal plan w step ≡ None → AreDropped IsFollowed followed_sent followed_reported w step
     dropped (Up x) spares allowed =
-        let (known, (off_is, (idle, none))) = none_refuses plan w (Up x) allowed in
-        λ s part. none_dropped s x (none_lies plan w kept.transfers kept.accounted (not-false _ idle) s x) part
+        let (known, (off_is, more)) = none_refuses plan w (Up x) allowed in
+        λ s part. none_dropped s x (untaken plan w kept.transfers kept.accounted s x off_is) part
     dropped (Down x) spares allowed =
-        let (known, (on, (idle, none))) = none_refuses plan w (Down x) allowed in
-        λ s part. none_dropped s x (none_lies plan w kept.transfers kept.accounted (not-false _ idle) s x) part
+        let apart = spares allowed in (
+          λ s part is_u is_v. absurd (apart.1 is_v),
+          λ t part is_u is_v. absurd (apart.0 is_u),
+        )
     dropped (Lose x y) spares allowed = λ item rest is part is_u is_v.
         let same : w.wire u v ≡ item ∷ rest = sym (ap (λ (k : ℕ). w.wire k y) is_u ∙ ap (w.wire u) is_v) ∙ is in
         let sent_same : w.sent_alone x y ≡ w.sent_alone u v = ap (λ (k : ℕ). w.sent_alone k y) is_u ∙ ap (w.sent_alone u) is_v in
@@ -224,7 +226,7 @@ module _ (plan : Plan) (u v : ℕ) (told lay passed : List Begun) (one : Begun) 
     dropped (Rest x) spares allowed = tt
 
     -- a world that follows, by a step that is refused or not
-    next_followed : AllFollowed w → (step : Step) → SparesAlone w u v (length passed) step → (new : World) → Follows plan w step new
+    next_followed : AllFollowed w → (step : Step) → SparesAlone plan w u v (length passed) step → (new : World) → Follows plan w step new
         → IsKept plan new × AllFollowed new
     next_followed old step spares new =
         elim (refusal plan w step)

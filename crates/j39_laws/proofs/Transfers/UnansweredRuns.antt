@@ -27,7 +27,7 @@ module _ (plan : Plan) (u : ℕ) (targets : List ℕ) where
 
   -- a step that goes on with it and isn't refused
   abbrev GoesOn : World → Type 0
-  GoesOn w = (step : Step) → IsOfTransfers step → Spares w u targets step → refusal plan w step ≡ None → Comes w
+  GoesOn w = (step : Step) → IsOfTransfers step → Spares plan w u targets step → refusal plan w step ≡ None → Comes w
 
   -- some of these can take more of u, or none
   by_taking : (w : World) (list : List ℕ) → GoesOn w → (((v : ℕ) → is_among list v ≡ true → refusal plan w (Take u v) ≢ None) → Comes w) → Comes w

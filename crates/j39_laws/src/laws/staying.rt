@@ -9,9 +9,10 @@ ghost use Rattle.j39_findings.specs.VehiclePlans.{IsVehicleOf};
 ghost use Rattle.j39_findings.specs.declared.plan.Plan.{Plan as Plans};
 ghost use Rattle.j39_findings.specs.declared.checking.finding.Finding.TheVariants.{SameFixedAddress, SilentAddress};
 ghost use Rattle.j39_findings.specs.declared.steps.Step.{Step as Steps};
-ghost use Rattle.j39_world.specs.PlannedUnits.{units_of, unit_at};
+ghost use Rattle.j39_findings.specs.PlannedUnits.{units_of, unit_at};
 ghost use Rattle.j39_world.specs.Run.{Run};
-ghost use Rattle.j39_world.specs.Staying.{ArePlannedApart, ArePlannedApartTo, HoldsAlone, HoldsPlanned, IsAloneThere, StayAlike, Stays, StaysByOthers};
+ghost use Rattle.j39_findings.specs.Staying.{IsAloneThere, StayAlike, Stays};
+ghost use Rattle.j39_world.specs.HeldAddresses.{ArePlannedApart, ArePlannedApartTo, HoldsAlone, HoldsPlanned, StaysByOthers};
 ghost use Rattle.j39_world.specs.World.{World, all_off};
 
 /// In every world of every run of each plan, with all lawful choices, a unit that stays holds its planned address while it is on. Whether

@@ -8,11 +8,12 @@ ghost use Rattle.j39_findings.specs.Findings.{Clean};
 ghost use Rattle.j39_findings.specs.declared.plan.Plan.{Plan as Plans};
 ghost use Rattle.j39_findings.specs.declared.plan.unit_plan.UnitPlan.{UnitPlan as PlannedUnits};
 ghost use Rattle.j39_world.specs.Opening.{AreNamesDistinct};
-ghost use Rattle.j39_world.specs.PlannedUnits.{units_of, unit_at};
+ghost use Rattle.j39_findings.specs.PlannedUnits.{units_of, unit_at};
 ghost use Rattle.j39_world.specs.Sound.{AreAddressesDifferent, AreAddressesSound, IsQuiet};
 ghost use Rattle.j39_world.specs.SoundPlan.{AlwaysBeside};
-ghost use Rattle.j39_world.specs.Staying.{HoldsPlanned, StaysBeside};
-ghost use Rattle.j39_world.specs.Strangers.{HasStrangers};
+ghost use Rattle.j39_findings.specs.Staying.{StaysBeside};
+ghost use Rattle.j39_world.specs.HeldAddresses.{HoldsPlanned};
+ghost use Rattle.j39_world.specs.Strangers.{ComeBesideLive, HasStrangers};
 
 /// Units that stand in no plan may come beside those of a plan without findings, at most so many as it tells, each of which may choose and
 /// has a NAME of its own: in every world of every run of all of them, with all lawful choices, whatever the strangers know of what is kept
@@ -37,10 +38,19 @@ pub fn who_stays_with_strangers()
         ⊎ ((in_pool a ≡ true) × (is_arbitrary (unit_at (units_of plan) u).name ≡ true) × ¬ StaysBeside plan.strangers (units_of plan) u)) }
 {}
 
-/// And they can come: beside units whose NAMEs differ, of a plan that tells of strangers, as many of them as it tells, while there are no more
-/// units in all than a plan may have.
+/// And they can come: beside units whose NAMEs differ, of a plan that tells of strangers, as many of them as it tells, while there are no
+/// more units in all than a plan may have.
 pub fn strangers_can_come()
     ensures { (plan : Plans) → AreNamesDistinct (units_of plan) → (k : ℕ) → 0 < plan.strangers → k ≤ plan.strangers
         → length plan.units.items + k ≤ unit_limit
         → (joined : Plans) × (strangers : List PlannedUnits) × (length strangers ≡ k) × HasStrangers plan joined strangers }
+{}
+
+/// Units may come beside those of a live plan without findings that need no more addresses of 128 to 247 than it tells of strangers, such
+/// as a service tool: those that claim, at no address of an end of a flow or of a unit that never claims, and where they may not choose, at
+/// none of another unit that may not; and those that never claim, each at an address of its own outside 128 to 247. Then the plan of all of
+/// them, which keeps nothing free, is without findings too, so that each law of such a plan holds in every run of all of them: they disturb
+/// no message. What they send themselves is none of its flows.
+pub fn strangers_disturb_no_message()
+    ensures { (plan joined : Plans) (strangers : List PlannedUnits) → Clean plan → ComeBesideLive plan joined strangers → Clean joined }
 {}

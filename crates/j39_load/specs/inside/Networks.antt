@@ -4,7 +4,7 @@ use Rattle.j39_findings.specs.declared.plan.unit_plan.UnitPlan.{UnitPlan}
 use Rattle.j39_load.specs.declared.extreme.Extreme.{Extreme}
 use Rattle.j39_load.specs.declared.network.Network.{Network}
 use Rattle.j39_load.specs.Loads.{of_unit}
-use Rattle.j39_load.specs.Standing.{stays_of}
+use Rattle.j39_findings.specs.Standing.{stays_of}
 use Rattle.j39_load.specs.inside.Extremes.{extreme_address}
 
 abbrev pub units_in : Network → List UnitPlan

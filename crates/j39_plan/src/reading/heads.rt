@@ -1,4 +1,4 @@
-//! The head of a plan file: its version, the addresses that it keeps free, and how many strangers may come.
+//! The head of a plan file: its version, the addresses that it keeps free, how many strangers may come, and whether the bus is live.
 ghost use Rattle.std.specs.Prelude.{◌≡◌, ◌≤◌, ◌∷◌, ◌++◌, ℕ, true, None, Some, map, false, IfOk, IfErr};
 ghost use Rattle.std.specs.FinSet.{empty, from_list, contains};
 ghost use Rattle.toml.specs.View.{view, table_view, items_view};
@@ -6,12 +6,12 @@ ghost use Rattle.j39_id.specs.Addresses.{in_pool, pool_size};
 ghost use Rattle.j39_plan.specs.declared.reading.place.Table.TheVariants as at;
 ghost use Rattle.j39_plan.specs.Schema.{addresses_of, number_in, numbers_in};
 ghost use Rattle.j39_plan.specs.TableFaults.{address_cause, addresses_cause, key_faults, keys_faults, unknown_faults};
-ghost use Rattle.j39_plan.specs.PlanFaults.{may_keep, knows_third, knows_fourth, version_rule, keep_free_rule, strangers_rules, strangers_of, array_rules, head_faults};
+ghost use Rattle.j39_plan.specs.PlanFaults.{may_keep, knows_third, knows_fourth, version_rule, keep_free_rule, strangers_rules, strangers_of, live_rules, live_of, array_rules, head_faults};
 ghost use Rattle.j39_plan.specs.Described.{keep_free_of};
 ghost use Rattle.j39_plan.specs.Outcome.{Gives};
 
 use super::tables::only;
-use super::values::{number, refused, value_at};
+use super::values::{flag, number, refused, value_at};
 use super::{Cause, Key, PlanError, Table};
 use j39_claim::AddressSet;
 use j39_id::Address;
@@ -37,10 +37,11 @@ const THIRD_KEYS: [Key; 6] = [
     Key::Flow,
 ];
 
-const FOURTH_KEYS: [Key; 9] = [
+const FOURTH_KEYS: [Key; 10] = [
     Key::Version,
     Key::KeepFree,
     Key::Strangers,
+    Key::Live,
     Key::Timing,
     Key::Unit,
     Key::Group,
@@ -211,4 +212,15 @@ pub fn strangers(members: &toml::Table, fourth: bool) -> Result<u8, PlanError>
     }
     let strangers = number(members, Table::Top, Key::Strangers, 0, 120, Some(0))?;
     Ok(strangers as u8)
+}
+
+/// Whether the bus is live, where the version knows of it.
+pub fn live(members: &toml::Table, fourth: bool) -> Result<bool, PlanError>
+    ensures { Gives result (keys_faults at.Top (table_view members.now) (live_rules fourth))
+        (λ b. b ≡ live_of fourth (table_view members.now)) }
+{
+    if !fourth {
+        return Ok(false);
+    }
+    flag(members, Table::Top, Key::Live, false)
 }

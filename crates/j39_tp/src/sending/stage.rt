@@ -16,6 +16,7 @@ pub enum Stage {
 
 impl Stage {
     ghost use Rattle.std.specs.Prelude.{◌≡◌};
+    ghost use Rattle.j39_tp.specs.declared.sending.outcome.Outcome.TheVariants.{GaveUp};
     ghost use Rattle.j39_tp.specs.Sender.{begun, after_packet, cleared, ended, stage_hears, after_timeout, timeout_packet, phase_of, outcome_of};
 
     /// Where a session stands once its message was announced.
@@ -119,6 +120,16 @@ impl Stage {
                 }),
             ),
             _ => (self, None),
+        }
+    }
+
+    /// Where a session stands that is given up without a packet, unless it has ended.
+    pub(crate) fn give_up(self) -> Self
+        ensures { result ≡ (ended GaveUp self).0 }
+    {
+        match self {
+            Stage::Resting(_) => self,
+            _ => Stage::Resting(Outcome::GaveUp),
         }
     }
 

@@ -1,6 +1,7 @@
 //! Transfers of messages.
 ghost use Rattle.std.specs.Prelude.{◌≡◌, length};
-ghost use Rattle.j39_tp.specs.Sender.{after_packet, after_timeout, announced, announcement, data_next, outcome_of, phase_of, timeout_packet, transfer_hears};
+ghost use Rattle.j39_tp.specs.declared.sending.outcome.Outcome.TheVariants.{GaveUp};
+ghost use Rattle.j39_tp.specs.Sender.{after_packet, after_timeout, announced, announcement, data_next, ended, outcome_of, phase_of, timeout_packet, transfer_hears};
 
 use super::stage::Stage;
 use crate::packet::NO_LIMIT;
@@ -90,6 +91,13 @@ impl Transfer {
         let (stage, packet) = self.stage.time_out(self.message.pgn());
         self.stage = stage;
         packet
+    }
+
+    /// Gives its message up without a packet, unless it has ended: its receiver is off.
+    pub fn give_up(&mut self)
+        ensures { self.new ≡ record self.old { stage = (ended GaveUp self.old.stage).0 } }
+    {
+        self.stage = self.stage.give_up();
     }
 
     /// How it ended, if it did.

@@ -5,25 +5,32 @@ from dataclasses import dataclass
 from typing import NamedTuple
 
 from j39plan.j1939 import (
-    ACKNOWLEDGEMENT, ADDRESS_CLAIMED, FRAME_BYTES, NAME_FIELDS, NULL_ADDRESS, OTHER_SERVICES, PROPRIETARY, REQUEST, SERVICES, identifier_of,
+    ACKNOWLEDGEMENT, ADDRESS_CLAIMED, DATA_TRANSFER, CONNECTION_MANAGEMENT, FRAME_BYTES, GLOBAL_ADDRESS, NAME_FIELDS, NULL_ADDRESS, OTHER_SERVICES,
+    PROPRIETARY, REQUEST, SERVICES, destination_in, identifier_of,
 )
 from j39plan.log.checks.damage import Damage
 from j39plan.log.checks.deviations import Found
 from j39plan.log.checks.distances import Distances, Rule, Tolerance
+from j39plan.log.checks.feed import Noted
 from j39plan.log.checks.hands import Hands
-from j39plan.log.checks.marks import Kind, Mark
 from j39plan.log.checks.numbers import Numbers
 from j39plan.log.checks.other_requests import OtherRequests
 from j39plan.log.checks.requests import Asked
-from j39plan.log.checks.transfers import WHOLE, Cause, Pair, Route, Transfers, pair_of
+from j39plan.log.checks.transfers import WHOLE, Announcement, Cause, Pair, Route, Transfers, announcement_in, is_managing, pair_of, pgn_of
 from j39plan.log.checks.unplanned import Bounds, Unplanned
 from j39plan.log.clock import MILLISECOND, SECOND, Clock
-from j39plan.log.reports import Acknowledgement, Claim, Message, Report, Request, Who
+from j39plan.log.reports import Acknowledgement, Claim, Frame, Message, Report, Request, Who
 from j39plan.log.serial_numbers import Renumbered
 from j39plan.plan.tables import Group, Tables
 
 # Groups that nobody plans.
 UNPLANNED = SERVICES | OTHER_SERVICES | PROPRIETARY
+
+# The greatest number of a group of J1939: an identifier with the extended data page has a greater one.
+LAST_GROUP = (1 << 17) - 1
+
+# What a request for claims asks for.
+CLAIMS = ADDRESS_CLAIMED.to_bytes(3, "little")
 
 # So many of the shortest period without any report, a second at least, are a silence of all.
 PERIODS = 5
@@ -86,7 +93,6 @@ class Comparison:
         self.others = OtherRequests(labels, found, self.hands.is_on)
         self._begun: dict[Pair, Begun] = {}
         self._strange: set[str] = set()  # who was told as nobody's
-        self._reported = 0  # the line of the last message that came without an announcement
         self._at: int | None = None  # the time of the last report
         periods = [flow.period for flow in tables.flows if flow.period and not flow.on_request]
         self._gap = max(SECOND, PERIODS * min(periods) * MILLISECOND) if len(periods) > 1 else math.inf
@@ -135,7 +141,6 @@ class Comparison:
         if begun:
             self.transfers.reported(line, at, begun.pair)
         else:
-            self._reported = line
             self.hands.sends(line, at, sender)
             if sender.label is None:
                 self.unknown(line, at, sender, group)
@@ -172,47 +177,52 @@ class Comparison:
                 limit = f"by 'load' what no flow has is of {self.timing.unplanned_priority} or more"
                 self.found.tell("urgent", f"{what} from {sender.shown} has priority {identifier >> 26}: {limit}", line, at, unit=sender.label)
 
-    def group_of(self, mark: Mark, sender: Who, to: Who) -> Group | None:
+    def group_of(self, pgn: int, length: int, sender: Who, to: Who) -> Group | None:
         """The group of a message: of those of its number one of its length, else the first; a private one only where a flow sends it
         so."""
-        groups = [group for group in self.groups.get(mark.pgn, [])
+        groups = [group for group in self.groups.get(pgn, [])
                   if not group.private or (group.label, sender.label, to.shown) in self.sent]
-        return next((group for group in groups if group.length <= mark.length <= group.most), groups[0] if groups else None)
+        return next((group for group in groups if group.length <= length <= group.most), groups[0] if groups else None)
 
-    def marked(self, line: int, at: int | None, request: Request, mark: Mark) -> None:
-        """A frame that isn't surely reported, or of a long message; the request says who sent it."""
-        sender, to = request.sender, request.to
-        if mark.kind is Kind.SHORT:
-            self.found.tell("short-identifier", "a frame with an 11-bit identifier, which may go before each planned one", line, at)
-            self.unplanned.came(line, at, mark.identifier)
-        elif mark.kind is Kind.ERROR:
-            self.damaged(line, at, mark)
-        elif mark.kind is Kind.OTHER:
-            self.passes(line, at, mark.identifier, f"PGN {mark.pgn}", sender)
-        elif mark.kind in (Kind.CONTROL, Kind.PACKET):
-            self.carried(line, at, request, mark)
-        elif mark.is_announcement:
-            self.announced(line, at, mark, sender, to)
-        elif line != self._reported:
-            self.single(line, at, request, mark)
+    def unheard(self, noted: Noted) -> None:
+        """A frame of which `follow` says nothing: one with an 11-bit identifier, or an error frame."""
+        line, at = noted.line, self.clock.see(noted.line, noted.time)
+        if noted.is_error:
+            self.damaged(line, at, noted)
+            return
+        if at is not None:
+            self.looks_at_time(line, at)
+        self.found.tell("short-identifier", "a frame with an 11-bit identifier, which may go before each planned one", line, at)
+        self.unplanned.came(line, at, noted.identifier)
 
-    def damaged(self, line: int, at: int | None, mark: Mark) -> None:
+    def frame(self, line: int, at: int | None, frame: Frame) -> None:
+        """A frame of no planned group."""
+        if frame.pgn > LAST_GROUP or frame.pgn == ADDRESS_CLAIMED:
+            self.passes(line, at, frame.identifier, f"PGN {frame.pgn}", frame.sender)
+        elif frame.pgn not in (CONNECTION_MANAGEMENT, DATA_TRANSFER):
+            self.single(line, at, frame)
+        elif is_managing(frame) and (announcement := announcement_in(frame)):
+            self.announced(line, at, frame, announcement)
+        elif frame.pgn == DATA_TRANSFER or is_managing(frame):
+            self.carried(line, at, frame)
+
+    def damaged(self, line: int, at: int | None, frame: Noted) -> None:
         """An error frame. Where frames may be missing, distances begin anew, and requests of before are asked no more."""
-        if self.damage.came(line, at, mark) and at is not None:
+        if self.damage.came(line, at, frame) and at is not None:
             self.anew(line, at)
 
-    def carried(self, line: int, at: int | None, request: Request, mark: Mark) -> None:
+    def carried(self, line: int, at: int | None, frame: Frame) -> None:
         """A packet, or a frame that manages a connection. Who isn't planned is told once by these."""
-        sender, to = request.sender, request.to
+        sender = frame.sender
         if sender.label is None and sender.spelled not in self._strange:
             self.sender(line, at, sender)
         else:
             self.hands.sends(line, at, sender)
-        is_planned = self.transfers.came(line, at, mark, sender, to)
-        if mark.kind is Kind.CONTROL and mark.data[0] == WHOLE:
-            self.acknowledged(pair_of(to, sender))
+        is_planned = self.transfers.came(line, at, frame)
+        if frame.pgn == CONNECTION_MANAGEMENT and frame.data[0] == WHOLE:
+            self.acknowledged(pair_of(frame.to, sender))
         if not is_planned:
-            self.passes(line, at, mark.identifier, f"PGN {mark.pgn}", sender)
+            self.passes(line, at, frame.identifier, f"PGN {frame.pgn if frame.pgn == DATA_TRANSFER else pgn_of(frame)}", sender)
 
     def acknowledged(self, pair: Pair) -> None:
         """The receiver may have said that it has a message which isn't reported, as where a packet was asked for once more: it was carried whole."""
@@ -227,77 +237,77 @@ class Comparison:
         """The number of the first flow of a way, 0 where there is none."""
         return next((number for number, flow in enumerate(self.flows, 1) if (flow.group, flow.sender, flow.to) == way), 0)
 
-    def single(self, line: int, at: int | None, request: Request, mark: Mark) -> None:
-        """A frame that may be none of a planned group."""
-        sender, to = request.sender, request.to
-        self.asks(line, at, request)
-        group = self.group_of(mark, sender, to)
-        self.passes(line, at, mark.identifier, f"PGN {mark.pgn}", sender)
-        if mark.pgn == ACKNOWLEDGEMENT:
-            self.others.acknowledged(at, sender, to, mark.data)
+    def single(self, line: int, at: int | None, frame: Frame) -> None:
+        """A frame that is none of a planned group, and carries no part of a long message. A unit without an address may ask for claims."""
+        sender, to = frame.sender, frame.to
+        if (sender.address, frame.pgn, frame.data[:3]) != (NULL_ADDRESS, REQUEST, CLAIMS):
+            self.sender(line, at, sender)
+        group = self.group_of(frame.pgn, len(frame.data), sender, to)
+        self.passes(line, at, frame.identifier, f"PGN {frame.pgn}", sender)
+        if frame.pgn == ACKNOWLEDGEMENT:
+            self.others.acknowledged(at, sender, to, frame.data)
         if group is None:
-            self.nobody(line, at, mark, sender)
-            self.answers(line, at, sender, to, mark.pgn)
-        elif not group.length <= mark.length <= group.most or group.when is not None:
-            self.another_layout(line, at, group, mark, sender)
-            self.answers(line, at, sender, to, mark.pgn)
+            self.nobody(line, at, frame.pgn, sender)
+            self.answers(line, at, sender, to, frame.pgn)
+        elif not group.length <= len(frame.data) <= group.most or group.when is not None:
+            self.another_layout(line, at, group, frame)
+            self.answers(line, at, sender, to, frame.pgn)
             way = group.label, sender.label or "", to.shown
             if way in self.sent:
                 self.sent[way] += 1
 
-    def nobody(self, line: int, at: int | None, mark: Mark, sender: Who) -> None:
+    def nobody(self, line: int, at: int | None, pgn: int, sender: Who) -> None:
         """A message of no group."""
-        if mark.pgn not in UNPLANNED:
-            self.found.tell("no-group", f"PGN {mark.pgn} from {sender.shown}: no group has it", line, at, unit=sender.label)
+        if pgn not in UNPLANNED:
+            self.found.tell("no-group", f"PGN {pgn} from {sender.shown}: no group has it", line, at, unit=sender.label)
 
-    def another_layout(self, line: int, at: int | None, group: Group, mark: Mark, sender: Who) -> None:
+    def another_layout(self, line: int, at: int | None, group: Group, frame: Frame) -> None:
         """A frame of a number that has groups which are told by their data, or are as long: it is none of them."""
-        if group.length <= mark.length <= group.most:
-            text = f"PGN {mark.pgn} from {sender.shown}: its bits are those of no group's 'when'"
+        sender = frame.sender
+        if group.length <= len(frame.data) <= group.most:
+            text = f"PGN {frame.pgn} from {sender.shown}: its bits are those of no group's 'when'"
             self.found.tell("layout", text, line, at, unit=sender.label)
         else:
-            self.another_length(line, at, group, mark, sender)
+            self.another_length(line, at, group, len(frame.data), sender)
 
-    def another_length(self, line: int, at: int | None, group: Group, mark: Mark, sender: Who) -> None:
+    def another_length(self, line: int, at: int | None, group: Group, length: int, sender: Who) -> None:
         """A message of a group that isn't as long as it may be."""
-        text = f"{group.label} from {sender.shown} has {mark.length} bytes, planned are {lengths_of(group)}"
+        text = f"{group.label} from {sender.shown} has {length} bytes, planned are {lengths_of(group)}"
         self.found.tell("length", text, line, at, unit=sender.label)
 
-    def announced(self, line: int, at: int | None, mark: Mark, sender: Who, to: Who) -> None:
+    def announced(self, line: int, at: int | None, frame: Frame, announced: Announcement) -> None:
         """A long message is announced."""
+        sender, to = frame.sender, frame.to
         pair = pair_of(sender, to)
-        if mark.is_sound:
+        if announced.is_sound:
             self.end(self._begun.pop(pair, None))
-        group = self.group_of(mark, sender, to)
+        group = self.group_of(announced.pgn, announced.length, sender, to)
         way = (group.label if group else "", sender.label or "", to.shown)
         is_planned = way in self.sent
         self.sender(line, at, sender, group.label if group else "")
-        if mark.is_sound:
-            self.answers(line, at, sender, to, mark.pgn)
-        route = Route(f"{group.label if group else f'PGN {mark.pgn}'} from {sender.shown} to {to.shown}", is_planned, sender.label, to.label)
-        if mark.is_sound:
-            self.transfers.announced(line, at, route, mark, sender, to)
+        if announced.is_sound:
+            self.answers(line, at, sender, to, announced.pgn)
+            self.hands.announces(line, at, sender)
+        route = Route(f"{group.label if group else f'PGN {announced.pgn}'} from {sender.shown} to {to.shown}", is_planned, sender.label, to.label)
+        if announced.is_sound:
+            self.transfers.announced(line, at, route, frame)
         if not is_planned:
-            self.passes(line, at, mark.identifier, f"PGN {mark.pgn}", sender)
+            self.passes(line, at, frame.identifier, f"PGN {announced.pgn}", sender)
         if group is None:
-            self.nobody(line, at, mark, sender)
-        elif not group.length <= mark.length <= group.most:
-            self.another_length(line, at, group, mark, sender)
-        elif mark.is_sound:
+            self.nobody(line, at, announced.pgn, sender)
+        elif not group.length <= announced.length <= group.most:
+            self.another_length(line, at, group, announced.length, sender)
+        elif announced.is_sound:
             self._begun[pair] = Begun(line, at, route.text, pair, way, sender.label)
         else:
             self.broken(Begun(line, at, route.text, pair, way, sender.label), Cause("its announcement breaks the rules"))
-
-    def asks(self, line: int, at: int | None, request: Request) -> None:
-        """Somebody sends what may be a request: of claims one may be from a unit without an address."""
-        if (request.sender.address, request.pgn) != (NULL_ADDRESS, ADDRESS_CLAIMED):
-            self.sender(line, at, request.sender)
 
     def request(self, line: int, at: int | None, request: Request) -> None:
         """A request."""
         if request.pgn == ADDRESS_CLAIMED:
             self.hands.asked(at)
-        self.asks(line, at, request)
+        if (request.sender.address, request.pgn) != (NULL_ADDRESS, ADDRESS_CLAIMED):  # a unit without an address may ask for claims
+            self.sender(line, at, request.sender)
         if request.request:
             self.asked.asks(line, at, request)
         else:
@@ -343,10 +353,11 @@ class Comparison:
         if self.transfers.waits:
             self.transfers.goes_by(at)
 
-    def report(self, line: int, report: Report, mark: Mark | None) -> None:
-        """A report, of a frame of this line of the log or of its mark."""
+    def report(self, report: Report, noted: Noted | None) -> None:
+        """A report, and what was noted of its frame beside it."""
+        line = report.line
         at = self.clock.see(line, report.time)
-        if at is not None and (mark is None or mark.kind is not Kind.ERROR):
+        if at is not None:
             self.looks_at_time(line, at)
         if isinstance(report, Message):
             self.message(line, at, report)
@@ -354,10 +365,23 @@ class Comparison:
             self.claim(line, at, report.who, report.identity)
         elif isinstance(report, Acknowledgement):
             self.asked.acknowledged(line, at, report)
-        elif mark:
-            self.marked(line, at, report, mark)
+        elif isinstance(report, Frame):
+            self.frame(line, at, report)
         else:
             self.request(line, at, report)
+        if noted:
+            self.beside(line, at, report, noted)
+
+    def beside(self, line: int, at: int | None, report: Report, noted: Noted) -> None:
+        """What was noted of a frame that is reported as something else: the priority of a claim or a request, the bytes of an acknowledgement."""
+        if isinstance(report, Acknowledgement):
+            to = destination_in(noted.identifier)
+            whole = Who(None, None, None if to == GLOBAL_ADDRESS else to)
+            self.single(line, at, Frame(line, report.time, ACKNOWLEDGEMENT, report.sender, whole, noted.priority, noted.data))
+        elif isinstance(report, Claim):
+            self.passes(line, at, noted.identifier, f"PGN {ADDRESS_CLAIMED}", report.who)
+        elif isinstance(report, Request):
+            self.passes(line, at, noted.identifier, f"PGN {REQUEST}", report.sender)
 
     def ends(self, last: int | None, has_frames: bool) -> None:
         """Tells what is known at the end, where the last time of the log is this one."""

@@ -3,7 +3,7 @@
 from collections import deque
 
 from j39plan.log.checks.deviations import Found
-from j39plan.log.checks.marks import Mark
+from j39plan.log.checks.feed import Noted
 from j39plan.log.clock import MILLISECOND, milliseconds
 from j39plan.plan.tables import Timing
 
@@ -31,33 +31,33 @@ class Damage:
         self._came: deque[int] = deque()  # the times of the last ones
         self._most: tuple[int, int, int] | None = None  # the most within the time, from the first to the last of them, and the line
 
-    def came(self, line: int, at: int | None, mark: Mark) -> bool:
+    def came(self, line: int, at: int | None, frame: Noted) -> bool:
         """An error frame; whether frames may be missing there, so that what isn't in the log is no unit's fault."""
         self.frames += 1
-        is_missing = self._of_the_interface(line, at, mark)
+        is_missing = self._of_the_interface(line, at, frame)
         if self._timing is None:
             return is_missing
-        if mark.identifier & VIOLATION and mark.data[2] & OVERLOAD:
+        if frame.identifier & VIOLATION and frame.data[2] & OVERLOAD:
             self._found.tell("overload", "an overload frame, for which 'load' has no room", line, at)
-        elif mark.identifier & DAMAGE and self._timing.errors is None:
+        elif frame.identifier & DAMAGE and self._timing.errors is None:
             self._found.tell("damaged", "a damaged frame: by 'load' none is, since `timing` has no `errors`", line, at)
-        elif mark.identifier & DAMAGE and at is not None and self._timing.errors:
+        elif frame.identifier & DAMAGE and at is not None and self._timing.errors:
             self._count(line, at, self._timing.errors.count, self._timing.errors.every * MILLISECOND)
         return is_missing
 
-    def _of_the_interface(self, line: int, at: int | None, mark: Mark) -> bool:
+    def _of_the_interface(self, line: int, at: int | None, frame: Noted) -> bool:
         """What the interface that records the log says of itself; whether frames may be missing."""
-        state = mark.data[1] if mark.identifier & CONTROLLER else 0
-        if mark.identifier & BUS_OFF:
+        state = frame.data[1] if frame.identifier & CONTROLLER else 0
+        if frame.identifier & BUS_OFF:
             self.is_off = True
             self._found.tell("bus-off", "the interface of the log is bus-off: it hears nothing until it is restarted", line, at)
         if state & OVERFLOW:
             self._found.tell("lost-frames", "the interface lost frames, since nobody took them: the log lacks these", line, at)
         if state & PASSIVE:
             self._found.tell("error-passive", "the interface of the log is error passive: many frames were damaged", line, at)
-        if mark.identifier & RESTARTED:
+        if frame.identifier & RESTARTED:
             self._found.tell("restarted", "the interface of the log was restarted after bus-off", line, at)
-        return bool(mark.identifier & (BUS_OFF | RESTARTED) or state & OVERFLOW)
+        return bool(frame.identifier & (BUS_OFF | RESTARTED) or state & OVERFLOW)
 
     def _count(self, line: int, at: int, count: int, every: int) -> None:
         """How many came within the time."""

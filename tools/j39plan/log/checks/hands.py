@@ -17,6 +17,9 @@ ANSWER = 1250 * MILLISECOND
 # Who sent something within this time is on, or within so many of its shortest periods.
 HEARD, PERIODS = SECOND, 2
 
+# So long others may hold a session with who went off: they answer within 200 ms, wait 1,250 ms (T2) and send an Abort within 200 ms.
+HELD = 1650 * MILLISECOND
+
 # An address that changes hands this often is told.
 HANDS = 3
 
@@ -63,6 +66,13 @@ class Contest(NamedTuple):
 
     defender: Key
     at: int
+
+
+class Restart(NamedTuple):
+    """When a unit claimed the address that it holds and nobody had asked, and when it was heard last before."""
+
+    at: int
+    before: int
 
 
 class Changes(NamedTuple):
@@ -132,6 +142,8 @@ class Hands:
         self._left: dict[int, Left] = {}
         self._taken: dict[Box, Taken] = {}
         self._changes: dict[int, Changes] = {}
+        self._is_live = tables.live
+        self._restarts: dict[Key, Restart] = {}  # of whom no message of more than 8 bytes began since
         self._asked: int | None = None
 
     def asked(self, at: int | None) -> None:
@@ -144,6 +156,7 @@ class Hands:
         self._claimed.clear()
         self._contests.clear()
         self._fresh.clear()
+        self._restarts.clear()
 
     def claim(self, line: int, at: int | None, who: Who, identity: int | None = None) -> tuple[int, ...]:
         """A claim, or that there was no address to claim, by a box of this serial number where its unit is of any: the addresses that another
@@ -252,6 +265,16 @@ class Hands:
             return
         text = f"{named(who)} claims address {who.address}, which it holds, and nobody asked: has it restarted?"
         self._found.tell("restart", text, line, at, unit=who.label)
+        before = self._time_of(self._heard.get(box_of(who)))
+        if self._is_live and before is not None:
+            self._restarts[key_of(who)] = Restart(at, before)
+
+    def announces(self, line: int, at: int | None, who: Who) -> None:
+        """Somebody begins a message of more than 8 bytes. On a live bus that waits, from its going off on, until nobody holds a session with it."""
+        restart = self._restarts.pop(key_of(who), None)
+        if restart is not None and at is not None and 0 <= at - restart.before < HELD:
+            text = f"{named(who)} announces a long message {{}} ms after it restarted: others may hold a session with it for 1650 ms after it went off"
+            self._found.tell("early-message", text, line, at, at - restart.at, unit=who.label)
 
     def _is_displaced(self, box: Box, who: Who) -> None:
         """A unit claims something: where somebody who isn't planned took its address, this one instead, or the same again."""

@@ -3,14 +3,16 @@
 from dataclasses import dataclass
 from typing import NamedTuple
 
+from j39plan.j1939 import CONNECTION_MANAGEMENT, DATA_TRANSFER, FRAME_BYTES, PACKET_BYTES, pgn_in
 from j39plan.log.checks.deviations import Found
-from j39plan.log.checks.marks import ABORT, Kind, Mark
 from j39plan.log.clock import MILLISECOND
-from j39plan.log.reports import Who
+from j39plan.log.reports import Frame, Who
 from j39plan.plan.tables import Timing
 
-# The first bytes of a clear to send and of an acknowledgement of the whole.
-CLEAR, WHOLE = 17, 19
+# The first bytes of announcements, RTS and BAM, of a clear to send, of an acknowledgement of the whole, and of an Abort; and how many bytes a
+# long message has.
+RTS, BAM, CLEAR, WHOLE, ABORT = 16, 32, 17, 19, 255
+SIZES = range(9, 1786)
 
 # So long an answer may take (Tr), and so long who sends waits for one (T3).
 ANSWER, WAITED = 200 * MILLISECOND, 1250 * MILLISECOND
@@ -21,6 +23,33 @@ REASONS = {1: "too many sessions", 2: "no resources", 3: "timeout", 4: "packets 
 
 # Who sends and who gets a long message, without whether that is sure.
 Pair = tuple[tuple[str | None, str | None, int | None], tuple[str | None, str | None, int | None]]
+
+
+class Announcement(NamedTuple):
+    """What a frame announces: the number of the message's group and how many bytes it has; and whether it keeps the rules."""
+
+    pgn: int
+    length: int
+    is_sound: bool
+
+
+def announcement_in(frame: Frame) -> Announcement | None:
+    """What a frame that manages connections announces, None where that is nothing."""
+    if frame.data[0] not in (RTS, BAM):
+        return None
+    pgn, size = pgn_of(frame), int.from_bytes(frame.data[1:3], "little")
+    is_right = size in SIZES and frame.data[3] == -(-size // PACKET_BYTES) and pgn == pgn_in(pgn << 8)
+    return Announcement(pgn, size, is_right and (frame.data[0] == BAM) == (frame.to.address is None))
+
+
+def pgn_of(frame: Frame) -> int:
+    """The number of the group that a frame that manages connections speaks of."""
+    return int.from_bytes(frame.data[5:], "little")
+
+
+def is_managing(frame: Frame) -> bool:
+    """Whether a frame manages connections."""
+    return frame.pgn == CONNECTION_MANAGEMENT and len(frame.data) == FRAME_BYTES
 
 
 class Route(NamedTuple):
@@ -74,31 +103,31 @@ class Transfers:
         self._given_up: set[Pair] = set()
         self.waits: dict[Pair, tuple[int, int | None]] = {}  # what came whole, by the line and time of its last packet, and isn't acknowledged yet
 
-    def announced(self, line: int, at: int | None, route: Route, mark: Mark, sender: Who, to: Who) -> None:
+    def announced(self, line: int, at: int | None, route: Route, frame: Frame) -> None:
         """A long message is announced by the rules."""
-        is_broadcast, pair = to.address is None, pair_of(sender, to)
+        is_broadcast, pair = frame.to.address is None, pair_of(frame.sender, frame.to)
         self._is_unanswered(pair)
         self._given_up.discard(pair)
-        self._open[pair] = Transfer(route, mark.pgn, mark.data[3], at, is_broadcast, "" if is_broadcast else "answer")
-        self._look_at_priority(line, at, route, mark)
+        self._open[pair] = Transfer(route, pgn_of(frame), frame.data[3], at, is_broadcast, "" if is_broadcast else "answer")
+        self._look_at_priority(line, at, route, frame)
 
-    def came(self, line: int, at: int | None, mark: Mark, sender: Who, to: Who) -> bool:
+    def came(self, line: int, at: int | None, frame: Frame) -> bool:
         """A packet, or a frame that manages a connection; whether the plan has the message."""
-        there, back = self._open.get(pair_of(sender, to)), self._open.get(pair_of(to, sender))
-        if mark.kind is Kind.PACKET:
+        there, back = self._open.get(pair_of(frame.sender, frame.to)), self._open.get(pair_of(frame.to, frame.sender))
+        if frame.pgn == DATA_TRANSFER:
             transfer = there
             if there:
-                self._packet(line, at, there, mark)
-        elif mark.data[0] == ABORT:
-            self._abort(line, at, mark, sender, to)
+                self._packet(line, at, there, frame)
+        elif frame.data[0] == ABORT:
+            self._abort(line, at, frame)
             transfer = there or back
         else:
             transfer = back
             if back:
-                self._answer(line, at, back, mark, pair_of(to, sender))
+                self._answer(line, at, back, frame)
         if transfer is None:
             return False
-        self._look_at_priority(line, at, transfer.route, mark)
+        self._look_at_priority(line, at, transfer.route, frame)
         return transfer.route.is_planned
 
     def reported(self, line: int, at: int | None, pair: Pair) -> None:
@@ -134,10 +163,10 @@ class Transfers:
         if waiting and transfer:
             self._found.tell("not-acknowledged", f"{transfer.route.text}: carried whole, and not acknowledged", *waiting, unit=transfer.route.to)
 
-    def _packet(self, line: int, at: int | None, transfer: Transfer, mark: Mark) -> None:
+    def _packet(self, line: int, at: int | None, transfer: Transfer, frame: Frame) -> None:
         """A packet of a message."""
         before, transfer.at = transfer.at, at
-        transfer.came |= 1 << (mark.data[0] if mark.data else 0)
+        transfer.came |= 1 << (frame.data[0] if frame.data else 0)
         if self._timing is None or at is None or before is None or at < before:
             return
         if not transfer.is_broadcast:
@@ -154,18 +183,18 @@ class Transfers:
         text = f"{transfer.route.text}: frames {{}} ms apart, {limit} ms are between two"
         self._found.tell(kind, text, line, at, distance, unit=transfer.route.sender)
 
-    def _answer(self, line: int, at: int | None, transfer: Transfer, mark: Mark, pair: Pair) -> None:
+    def _answer(self, line: int, at: int | None, transfer: Transfer, frame: Frame) -> None:
         """The receiver answers."""
         before, is_waited_for = transfer.at, transfer.waits_for == "answer"
-        if mark.data[0] not in (CLEAR, WHOLE):
+        if frame.data[0] not in (CLEAR, WHOLE):
             return
-        transfer.at, transfer.waits_for = at, "packet" if mark.data[0] == CLEAR and mark.data[1] else ""
-        if mark.data[0] == WHOLE and mark.pgn == transfer.pgn:
+        transfer.at, transfer.waits_for = at, "packet" if frame.data[0] == CLEAR and frame.data[1] else ""
+        if frame.data[0] == WHOLE and pgn_of(frame) == transfer.pgn:
             transfer.is_acknowledged = True
-            self.waits.pop(pair, None)
-        elif mark.data[1]:
+            self.waits.pop(pair_of(frame.to, frame.sender), None)
+        elif frame.data[1]:
             transfer.is_cleared = True
-            transfer.came &= ~((1 << mark.data[1]) - 1 << mark.data[2])  # what is asked for again hasn't come
+            transfer.came &= ~((1 << frame.data[1]) - 1 << frame.data[2])  # what is asked for again hasn't come
         if self._timing and is_waited_for and at is not None and before is not None:
             self._late(line, at, at - before, transfer, transfer.route.to)
 
@@ -174,22 +203,22 @@ class Transfers:
         if duration > ANSWER:
             self._found.tell("late-answer", f"{transfer.route.text}: an answer after {{}} ms, by the standard within 200", line, at, duration, unit=unit)
 
-    def _abort(self, line: int, at: int | None, mark: Mark, sender: Who, to: Who) -> None:
+    def _abort(self, line: int, at: int | None, frame: Frame) -> None:
         """An Abort: of a message that goes either way between the two."""
-        for pair in (pair_of(sender, to), pair_of(to, sender)):
+        for pair in (pair_of(frame.sender, frame.to), pair_of(frame.to, frame.sender)):
             transfer = self._open.pop(pair, None)
             self.waits.pop(pair, None)
             if transfer:
                 self._given_up.add(pair)
-                reason = REASONS.get(mark.data[1], "of its own")
-                text = f"{transfer.route.text}: given up by {sender.shown}, reason {mark.data[1]} ({reason})"
-                self._found.tell("given-up", text, line, at, unit=sender.label)
+                reason = REASONS.get(frame.data[1], "of its own")
+                text = f"{transfer.route.text}: given up by {frame.sender.shown}, reason {frame.data[1]} ({reason})"
+                self._found.tell("given-up", text, line, at, unit=frame.sender.label)
                 return
 
-    def _look_at_priority(self, line: int, at: int | None, route: Route, mark: Mark) -> None:
+    def _look_at_priority(self, line: int, at: int | None, route: Route, frame: Frame) -> None:
         """The priority of a transport frame of a planned message."""
-        if self._timing and route.is_planned and mark.priority < self._timing.transport_priority:
-            behind = f"priority {mark.priority}, by 'load' {self._timing.transport_priority}"
+        if self._timing and route.is_planned and frame.priority < self._timing.transport_priority:
+            behind = f"priority {frame.priority}, by 'load' {self._timing.transport_priority}"
             self._found.tell("transport-priority", f"{route.text}: frames of the transport protocol have {behind}", line, at, unit=route.sender)
 
     def end(self, last: int | None) -> None:

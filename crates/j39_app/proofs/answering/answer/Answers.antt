@@ -5,7 +5,7 @@ pub returns-in-Input-clause-ends : goal.returns-in-Input-clause-ends
 returns-in-Input-clause-ends g c =
     rw c.in-Input.is
     (whole_ends (g.S.Source.state c.args.input.now).left _ _ (λ all is. is) (λ bytes text of part. (part.0, (bytes, of, part.1))) (λ failed. failed)
-    c.input_text.result c.input_text.ensures)
+    c.input_by.result c.input_by.ensures)
 
 pub returns-in-Frame-clause-ends : goal.returns-in-Frame-clause-ends
 returns-in-Frame-clause-ends g c =

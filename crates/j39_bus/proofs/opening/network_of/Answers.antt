@@ -1,4 +1,4 @@
-use Rattle.std.proofs.Common.{◌≡◌, List, [], length, map, ap, sym, ◌∙◌, subst, None, replicate}
+use Rattle.std.proofs.Common.{◌≡◌, List, [], length, map, refl, ap, sym, ◌∙◌, subst, None, replicate}
 use Rattle.std.proofs.lemmas.List.{length-map}
 use Rattle.j39_claim.specs.ClaimerValue.{ClaimerValue}
 use Rattle.j39_findings.specs.declared.plan.unit_plan.UnitPlan.{UnitPlan}
@@ -38,6 +38,7 @@ returns-clause-planned c =
     let value = c.as_slice-units.ensures.value in
     record {
       units = ap planned_units (c.in_ok-claimers.ensures ∙ ap (map (unstarted plan.keep_free)) value) ∙ planned_units-unstarted plan.keep_free plan.units.items;
+      live = refl;
       flows = c.in_ok-flows.ensures.flows;
       windows = c.in_ok-receivers.ensures.windows ∙ ap (map (λ (p : UnitPlan). p.window)) value;
     }

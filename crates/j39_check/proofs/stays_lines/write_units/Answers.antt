@@ -1,7 +1,7 @@
 use Rattle.std.proofs.Common.{append_assoc}
 use Rattle.std.proofs.lemmas.List.{append-nil, drop_all}
 use Rattle.j39_check.specs.AddressesText.{staying_lines}
-use Rattle.j39_load.specs.Standing.{stays_of}
+use Rattle.j39_findings.specs.Standing.{stays_of}
 use Rattle.j39_check.proofs.UnitLists.{lines_from}
 use Rattle.j39_check.proofs.stays_lines.write_units.Goals as goal
 

@@ -1,6 +1,6 @@
 use Rattle.std.proofs.Common.{◌≡◌, ◌++◌, drop}
 use Rattle.j39_check.specs.AddressesText.{staying_lines}
-use Rattle.j39_load.specs.Standing.{stays_of}
+use Rattle.j39_findings.specs.Standing.{stays_of}
 use Rattle.j39_check.proofs.stays_lines.write_units.Given as goal
 
 abbrev pub invariant-loop-unit : goal.invariant-loop-unit

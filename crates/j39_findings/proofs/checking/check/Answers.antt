@@ -4,13 +4,13 @@ use Rattle.j39_findings.specs.Findings.{AreFindings}
 use Rattle.j39_findings.specs.Found.{unit_findings}
 use Rattle.j39_findings.proofs.FoundLaws.{are_findings}
 use Rattle.j39_findings.proofs.AddingLemmas.{WantsMemory, wants_memory, units_some, groups_some, signals_some, flows_some, kept_some, unsent_some, records_some, texts_some, needs_some, requests_some, whole_list}
-use Rattle.j39_findings.proofs.AddingLemmas.{silent_some}
+use Rattle.j39_findings.proofs.AddingLemmas.{silent_some, contested_some}
 use Rattle.j39_findings.proofs.checking.check.Goals as goal
 use Rattle.j39_findings.proofs.checking.check.Goals.{After-drop-findings, After-drop-findings-in_err-find_in_groups}
 use Rattle.j39_findings.proofs.checking.check.Goals.{After-drop-findings-in_err-find_in_signals}
 use Rattle.j39_findings.proofs.checking.check.Goals.{After-drop-findings-in_err-find_in_flows, After-drop-findings-in_err-find_kept}
 use Rattle.j39_findings.proofs.checking.check.Goals.{After-drop-findings-in_err-find_unsent, After-drop-findings-in_err-find_in_records, After-drop-findings-in_err-find_in_texts, After-drop-findings-in_err-find_in_needs, After-drop-findings-in_err-find_in_requests}
-use Rattle.j39_findings.proofs.checking.check.Goals.{After-drop-findings-in_err-find_silent}
+use Rattle.j39_findings.proofs.checking.check.Goals.{After-drop-findings-in_err-find_silent, After-drop-findings-in_err-find_contested}
 
 units_want : (c : After-drop-findings) → WantsMemory c.args.plan.now c.from_residual.result
 units_want c =
@@ -134,10 +134,21 @@ returns-in_err-find_silent-clause-memory c = (silent_want c).0
 pub returns-in_err-find_silent-clause-clean : goal.returns-in_err-find_silent-clause-clean
 returns-in_err-find_silent-clause-clean c = (silent_want c).1
 
+contested_want : (c : After-drop-findings-in_err-find_contested) → WantsMemory c.args.plan.now c.from_residual-in_err-find_contested.result
+contested_want c =
+    wants_memory c.args.plan.now _ _ c.from_residual-in_err-find_contested.ensures.1
+    (contested_some c.args.plan.now c.in_err-find_contested.ensures)
+
+pub returns-in_err-find_contested-clause-memory : goal.returns-in_err-find_contested-clause-memory
+returns-in_err-find_contested-clause-memory c = (contested_want c).0
+
+pub returns-in_err-find_contested-clause-clean : goal.returns-in_err-find_contested-clause-clean
+returns-in_err-find_contested-clause-clean c = (contested_want c).1
+
 pub returns-clause-list : goal.returns-clause-list
 returns-clause-list c =
     let units : c.find_in_units.new.findings.items ≡ unit_findings c.args.plan.now.keep_free c.args.plan.now.strangers c.args.plan.now.units.items = search rules in
-    whole_list c.args.plan.now _ _ _ _ _ _ _ _ _ _ _ units
+    whole_list c.args.plan.now _ _ _ _ _ _ _ _ _ _ _ _ units
     (rw (c.deref-2.ensures.value, c.deref-3.ensures.value) at c.in_ok-find_in_groups.ensures)
     (rw (c.deref-4.ensures.value) at c.in_ok-find_in_signals.ensures)
     (rw (c.deref-5.ensures.value, c.deref-6.ensures.value) at c.in_ok-find_in_flows.ensures)
@@ -148,6 +159,7 @@ returns-clause-list c =
     (rw (c.deref-12.ensures.value, c.deref-13.ensures.value, c.deref-14.ensures.value) at c.in_ok-find_in_needs.ensures)
     (rw (c.deref-15.ensures.value, c.deref-16.ensures.value, c.deref-17.ensures.value) at c.in_ok-find_in_requests.ensures)
     (rw (c.deref-18.ensures.value) at c.in_ok-find_silent.ensures)
+    c.in_ok-find_contested.ensures
 
 pub returns-clause-exact : goal.returns-clause-exact
 returns-clause-exact c =

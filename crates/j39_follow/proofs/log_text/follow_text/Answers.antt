@@ -1,4 +1,4 @@
-use Rattle.std.proofs.Common.{[], refl, sym, subst}
+use Rattle.std.proofs.Common.{Bool, [], refl, sym, subst}
 use Rattle.j39_findings.specs.declared.plan.Plan.{Plan}
 use Rattle.j39_stream.proofs.Answering.{not_begun, put_unread, said_of}
 use Rattle.j39_follow.specs.FollowText.{IsFollowedLog, nothing_followed}
@@ -15,7 +15,11 @@ read_lines-requires-clause-begins g c =
 pub returns-in-Ok : goal.returns-in-Ok
 returns-in-Ok g c =
     said_of c.read_lines.result
-    (λ log text verdict is. rw is.1 (c.in-Ok.ensures.readable, subst (λ (p : Plan). IsFollowedLog p log text) c.in-Ok.ensures.plan is.0))
+    (λ log text verdict is. rw is.1 (
+      c.in-Ok.ensures.readable,
+      subst (λ (p : Plan). IsFollowedLog p c.args.all_frames log text) c.in-Ok.ensures.plan
+          (subst (λ (b : Bool). IsFollowedLog c.in-Ok.groups b log text) c.new-reading.ensures.told is.0),
+    ))
     c.read_lines.ensures.answers
 
 pub returns-in-Err-Memory : goal.returns-in-Err-Memory

@@ -11,7 +11,7 @@ returns c =
     sound_by_laws plan clean (search rules) (search rules) (search rules) (search rules) (search rules) (search rules)
     (search rules) (search rules) (search rules) (search rules) (search rules) (search rules) (search rules) (search rules) (search rules)
     (search rules) (search rules) (search rules) (search rules) (search rules) (search rules) (search rules) (search rules) (search rules)
-    (search rules) in
+    (search rules) (search rules) (search rules) (search rules) in
     let clean : Clean c.args.checked.now = search rules in
     record {
       sound = each c.args.checked.now clean;

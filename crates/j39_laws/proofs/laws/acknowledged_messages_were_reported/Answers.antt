@@ -1,4 +1,4 @@
-use Rattle.j39_laws.proofs.Reports.SoundReports.{acknowledged_reported}
+use Rattle.j39_laws.proofs.Transfers.SoundRuns.{acknowledged_reported}
 use Rattle.j39_laws.proofs.laws.acknowledged_messages_were_reported.Goals as goal
 
 pub returns : goal.returns

@@ -2,7 +2,7 @@ use Rattle.std.proofs.Common.{◌≡◌, map, length, All}
 use Rattle.std.specs.List.{range_with_len}
 use Rattle.j39_load.specs.Broadcasts.{broadcasts_by, known_unit_load}
 use Rattle.j39_load.specs.SoundLoads.{IsSoundIfSent}
-use Rattle.j39_load.specs.Standing.{stays_of}
+use Rattle.j39_findings.specs.Standing.{stays_of}
 use Rattle.j39_load.proofs.broadcasts.each_unit_load.Given as goal
 
 abbrev pub invariant-loop-unit : goal.invariant-loop-unit

@@ -1,6 +1,6 @@
 use Rattle.std.proofs.Common.{◌≡◌, ◌≤◌, map, take, length, All, vec_len, vec_capacity}
 use Rattle.j39_load.specs.RequestLoads.{load_of_request}
-use Rattle.j39_load.specs.Standing.{stays_of}
+use Rattle.j39_findings.specs.Standing.{stays_of}
 use Rattle.j39_load.specs.SoundLoads.{IsSoundIfAsked}
 use Rattle.j39_load.proofs.requests.request_loads_of.Given as goal
 

@@ -31,6 +31,7 @@ returns-in_err-flows c =
     let no_units = rw (c.in_ok-unit_values.ensures.1, c.knows_fourth-fourth.ensures) at c.in_ok-units.ensures.0 in
     let no_groups = rw (c.in_ok-group_values.ensures.1, c.knows_third-third.ensures, c.knows_fourth-fourth.ensures) at c.in_ok-groups.ensures.0 in
     let no_strangers_key = rw c.knows_fourth-fourth.ensures at c.in_ok-strangers.ensures.gives.0 in
+    let no_live_key = rw c.knows_fourth-fourth.ensures at c.in_ok-live.ensures.0 in
     let no_later_key = rw c.knows_fourth-fourth.ensures at c.in_ok-later.ensures.0 in
     let ds = items_view c.in_ok-flow_values.flow_values.now in
     let told :
@@ -46,7 +47,7 @@ returns-in_err-flows c =
       c.knows_third-third.ensures,
       c.knows_fourth-fourth.ensures,
     ) at told in
-    rw (p.1, p.2, c.in_ok-keep_free.ensures.gives.0, no_strangers_key, c.in_ok-timing.ensures.0, c.in_ok-unit_values.ensures.0, c.in_ok-group_values.ensures.0)
+    rw (p.1, p.2, c.in_ok-keep_free.ensures.gives.0, no_strangers_key, no_live_key, c.in_ok-timing.ensures.0, c.in_ok-unit_values.ensures.0, c.in_ok-group_values.ensures.0)
     (rw (c.in_ok-flow_values.ensures.0, no_later_key, no_units, no_groups)
     (fails_on _ _ c.in_err-flows.field-0.0 _ _ (λ grows. (refl, inr (refl, inr (refl, inl grows)))) (λ f is. first-append _ _ f is) fails))
 
@@ -54,9 +55,10 @@ pub returns-in_err-units : goal.returns-in_err-units
 returns-in_err-units c =
     let p = err_from_is_err_and c.from_residual-in_err-units.result c.from_residual-in_err-units.ensures.1 in
     let no_strangers_key = rw c.knows_fourth-fourth.ensures at c.in_ok-strangers.ensures.gives.0 in
+    let no_live_key = rw c.knows_fourth-fourth.ensures at c.in_ok-live.ensures.0 in
     let no_later_key = rw c.knows_fourth-fourth.ensures at c.in_ok-later.ensures.0 in
     let fails = rw (c.in_ok-unit_values.ensures.1, c.knows_fourth-fourth.ensures) at c.in_err-units.ensures in
-    rw (p.1, p.2, c.in_ok-keep_free.ensures.gives.0, no_strangers_key, c.in_ok-timing.ensures.0, c.in_ok-unit_values.ensures.0, c.in_ok-group_values.ensures.0)
+    rw (p.1, p.2, c.in_ok-keep_free.ensures.gives.0, no_strangers_key, no_live_key, c.in_ok-timing.ensures.0, c.in_ok-unit_values.ensures.0, c.in_ok-group_values.ensures.0)
     (rw (c.in_ok-flow_values.ensures.0, no_later_key)
     (fails_on _ _ c.in_err-units.field-0.0 _ _ (λ grows. (refl, inl grows)) (λ f is. first-append _ _ f is) fails))
 
@@ -65,9 +67,10 @@ returns-in_err-groups c =
     let p = err_from_is_err_and c.from_residual-in_err-groups.result c.from_residual-in_err-groups.ensures.1 in
     let no_units = rw (c.in_ok-unit_values.ensures.1, c.knows_fourth-fourth.ensures) at c.in_ok-units.ensures.0 in
     let no_strangers_key = rw c.knows_fourth-fourth.ensures at c.in_ok-strangers.ensures.gives.0 in
+    let no_live_key = rw c.knows_fourth-fourth.ensures at c.in_ok-live.ensures.0 in
     let no_later_key = rw c.knows_fourth-fourth.ensures at c.in_ok-later.ensures.0 in
     let fails = rw (c.in_ok-group_values.ensures.1, c.knows_third-third.ensures, c.knows_fourth-fourth.ensures) at c.in_err-groups.ensures in
-    rw (p.1, p.2, c.in_ok-keep_free.ensures.gives.0, no_strangers_key, c.in_ok-timing.ensures.0, c.in_ok-unit_values.ensures.0, c.in_ok-group_values.ensures.0)
+    rw (p.1, p.2, c.in_ok-keep_free.ensures.gives.0, no_strangers_key, no_live_key, c.in_ok-timing.ensures.0, c.in_ok-unit_values.ensures.0, c.in_ok-group_values.ensures.0)
     (rw (c.in_ok-flow_values.ensures.0, no_later_key, no_units)
     (fails_on _ _ c.in_err-groups.field-0.0 _ _ (λ grows. (refl, inr (refl, inl grows))) (λ f is. first-append _ _ f is) fails))
 
@@ -84,6 +87,7 @@ returns-in_err-needs c =
     let no_units = rw (c.in_ok-unit_values.ensures.1, c.knows_fourth-fourth.ensures) at c.in_ok-units.ensures.0 in
     let no_groups = rw (c.in_ok-group_values.ensures.1, c.knows_third-third.ensures, c.knows_fourth-fourth.ensures) at c.in_ok-groups.ensures.0 in
     let no_strangers_key = rw c.knows_fourth-fourth.ensures at c.in_ok-strangers.ensures.gives.0 in
+    let no_live_key = rw c.knows_fourth-fourth.ensures at c.in_ok-live.ensures.0 in
     let no_later_key = rw c.knows_fourth-fourth.ensures at c.in_ok-later.ensures.0 in
     let fs = items_view c.in_ok-flow_values.flow_values.now in
     let flows_told :
@@ -112,7 +116,7 @@ returns-in_err-needs c =
       c.in_ok-later.ensures.1.0,
       c.knows_fourth-fourth.ensures,
     ) at told in
-    rw (p.1, p.2, c.in_ok-keep_free.ensures.gives.0, no_strangers_key, c.in_ok-timing.ensures.0, c.in_ok-unit_values.ensures.0, c.in_ok-group_values.ensures.0)
+    rw (p.1, p.2, c.in_ok-keep_free.ensures.gives.0, no_strangers_key, no_live_key, c.in_ok-timing.ensures.0, c.in_ok-unit_values.ensures.0, c.in_ok-group_values.ensures.0)
     (rw (c.in_ok-flow_values.ensures.0, no_later_key, no_units, no_groups, no_flows)
     (fails_on _ _ c.in_err-needs.field-0.0 _ _ (λ grows. (refl, inr (refl, inr (refl, inr (refl, inl grows))))) (λ f is. first-append _ _ f is) fails))
 
@@ -129,6 +133,7 @@ returns-in_err-requests c =
     let no_units = rw (c.in_ok-unit_values.ensures.1, c.knows_fourth-fourth.ensures) at c.in_ok-units.ensures.0 in
     let no_groups = rw (c.in_ok-group_values.ensures.1, c.knows_third-third.ensures, c.knows_fourth-fourth.ensures) at c.in_ok-groups.ensures.0 in
     let no_strangers_key = rw c.knows_fourth-fourth.ensures at c.in_ok-strangers.ensures.gives.0 in
+    let no_live_key = rw c.knows_fourth-fourth.ensures at c.in_ok-live.ensures.0 in
     let no_later_key = rw c.knows_fourth-fourth.ensures at c.in_ok-later.ensures.0 in
     let fs = items_view c.in_ok-flow_values.flow_values.now in
     let flows_told :
@@ -169,7 +174,7 @@ returns-in_err-requests c =
       c.in_ok-later.ensures.1.1,
       c.knows_fourth-fourth.ensures,
     ) at told in
-    rw (p.1, p.2, c.in_ok-keep_free.ensures.gives.0, no_strangers_key, c.in_ok-timing.ensures.0, c.in_ok-unit_values.ensures.0, c.in_ok-group_values.ensures.0)
+    rw (p.1, p.2, c.in_ok-keep_free.ensures.gives.0, no_strangers_key, no_live_key, c.in_ok-timing.ensures.0, c.in_ok-unit_values.ensures.0, c.in_ok-group_values.ensures.0)
     (rw (c.in_ok-flow_values.ensures.0, no_later_key, no_units, no_groups, no_flows, no_needs)
     (fails_on _ _ c.in_err-requests.field-0.0 _ _ (λ grows. (refl, inr (refl, inr (refl, inr (refl, inr (refl, grows)))))) (λ f is. is) fails))
 
@@ -238,6 +243,7 @@ returns c =
     let no_units = rw (c.in_ok-unit_values.ensures.1, c.knows_fourth-fourth.ensures) at c.in_ok-units.ensures.0 in
     let no_groups = rw (c.in_ok-group_values.ensures.1, c.knows_third-third.ensures, c.knows_fourth-fourth.ensures) at c.in_ok-groups.ensures.0 in
     let no_strangers_key = rw c.knows_fourth-fourth.ensures at c.in_ok-strangers.ensures.gives.0 in
+    let no_live_key = rw c.knows_fourth-fourth.ensures at c.in_ok-live.ensures.0 in
     let no_later_key = rw c.knows_fourth-fourth.ensures at c.in_ok-later.ensures.0 in
     let fs = items_view c.in_ok-flow_values.flow_values.now in
     let flows_told :
@@ -280,11 +286,12 @@ returns c =
       c.in_ok-later.ensures.1.1,
       c.knows_fourth-fourth.ensures,
     ) at requests_told in (
-      rw (c.in_ok-keep_free.ensures.gives.0, no_strangers_key, c.in_ok-timing.ensures.0, c.in_ok-unit_values.ensures.0, c.in_ok-group_values.ensures.0)
+      rw (c.in_ok-keep_free.ensures.gives.0, no_strangers_key, no_live_key, c.in_ok-timing.ensures.0, c.in_ok-unit_values.ensures.0, c.in_ok-group_values.ensures.0)
           (rw (c.in_ok-flow_values.ensures.0, no_later_key, no_units, no_groups, flows.0, needs.0) requests.0),
       record {
         has_keep_free = c.in_ok-keep_free.ensures.gives.1;
         has_strangers = rw c.knows_fourth-fourth.ensures at c.in_ok-strangers.ensures.gives.1;
+        has_live = rw c.knows_fourth-fourth.ensures at c.in_ok-live.ensures.1;
         has_timing = c.in_ok-timing.ensures.1;
         has_units = rw (c.in_ok-unit_values.ensures.1, c.knows_fourth-fourth.ensures) at c.in_ok-units.ensures.1;
         has_groups = rw (c.in_ok-group_values.ensures.1, c.knows_third-third.ensures, c.knows_fourth-fourth.ensures) at c.in_ok-groups.ensures.1;

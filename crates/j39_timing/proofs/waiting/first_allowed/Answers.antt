@@ -1,23 +1,21 @@
-use Rattle.std.proofs.Common.{arith, ℕ, ◌≡◌, ◌+◌, ◌*◌, ◌-◌, ◌^◌, ◌≤◌, ◌<◌, sum_by, ap, ◌∙◌}
+use Rattle.std.proofs.Common.{arith, map, min, ◌≡◌, ◌+◌, ◌*◌, ◌-◌, ◌^◌, ap, ℕ, ◌∙◌}
 use Rattle.std.specs.Int.{div_ceil}
-use Rattle.j39_timing.specs.LeastShares.{dense_part, sparse_share}
+use Rattle.j39_timing.specs.Waits.{as_demand}
 use Rattle.j39_timing.proofs.LeastShares.{allowed, never}
 use Rattle.j39_timing.proofs.waiting.first_allowed.Goals as goal
 
 pub returns-then-parts-ge4294967296 : goal.returns-then-parts-ge4294967296
 returns-then-parts-ge4294967296 c =
-    let full : 2 ^ 32 ≤ sum_by (dense_part c.args.step) c.args.streams.now =
-    omega (arith, c.dense_parts-parts.ensures, c.if-parts-ge4294967296.true) in
-    never c.args.blocking c.args.step c.args.wait c.args.streams.now c.requires.positive full _
+    never (map as_demand c.args.all.now) c.args.blocking c.args.wait c.args.streams.now c.stretch_of_all-stretch.result c.stretch_of_all-stretch.ensures.below
+    c.if-parts-ge4294967296.true
 
 pub returns : goal.returns
 returns c =
-    let parts : c.dense_parts-parts.result ≡ sum_by (dense_part c.args.step) c.args.streams.now = c.dense_parts-parts.ensures in
-    let left : c.dense_parts-parts.result < 2 ^ 32 = omega (arith, c.if-parts-ge4294967296.false) in
-    let bits : c.from-2.result * 2 ^ 32 + c.from-3.result
-    ≡ (c.args.blocking + sum_by (sparse_share c.args.step (c.args.wait + 1)) c.args.streams.now) * 2 ^ 32 + c.dense_parts-parts.result =
-    omega (arith, c.from.ensures, c.from-2.ensures, c.from-3.ensures, c.sparse_shares.ensures.sum) in
-    let first : c.div_ceil.result ≡ div_ceil (c.from-2.result * 2 ^ 32 + c.from-3.result) (2 ^ 32 - c.dense_parts-parts.result) =
-    c.div_ceil.ensures ∙ ap (λ (n : ℕ). div_ceil (c.from-2.result * 2 ^ 32 + c.from-3.result) n) c.from-4.ensures in
-    rw first (allowed c.args.blocking c.args.step c.args.wait c.args.streams.now c.requires.positive c.dense_parts-parts.result
-    (c.from-2.result * 2 ^ 32 + c.from-3.result) parts left bits)
+    let parts : ℕ = c.stretch_of_all-stretch.result.line.part in
+    let bits : ℕ = c.from-2.result * 2 ^ 32 + c.from-3.result in
+    let bits_are : bits ≡ (c.args.blocking + c.stretch_of_all-stretch.result.line.known) * 2 ^ 32 + parts =
+    omega (arith, c.from.ensures, c.from-2.ensures, c.from-3.ensures) in
+    let first : c.min.result ≡ min (div_ceil bits (2 ^ 32 - parts)) c.stretch_of_all-stretch.result.until =
+    c.min.ensures ∙ ap (λ (n : ℕ). min n c.stretch_of_all-stretch.result.until) (c.div_ceil-allowed.ensures ∙ ap (λ (n : ℕ). div_ceil bits n) c.from-4.ensures) in
+    rw first (allowed (map as_demand c.args.all.now) c.args.blocking c.args.wait c.args.streams.now c.stretch_of_all-stretch.result c.stretch_of_all-stretch.ensures.below
+    bits (omega (arith, c.if-parts-ge4294967296.false)) bits_are)

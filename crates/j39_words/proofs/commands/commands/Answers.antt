@@ -1,7 +1,7 @@
 use Rattle.std.proofs.Common.{codes}
 use Rattle.clap.specs.Words.{App, with_subcommand}
-use Rattle.j39_words.specs.Commands.{commands, one_value, program, two_values}
-use Rattle.j39_words.proofs.CommandLaws.{known}
+use Rattle.j39_words.specs.Commands.{commands, one_value, program, two_values, two_values_and_flag}
+use Rattle.j39_words.proofs.CommandLaws.{added, known}
 use Rattle.j39_words.proofs.commands.commands.Goals as goal
 
 pub returns : goal.returns
@@ -21,4 +21,6 @@ returns c =
     let with_runs : App = with_subcommand with_loads (two_values (codes "run") (codes "PLAN") (codes "SCHEDULE")).top in
     let reads_is = known c.with_two-runs.result c.with_two-reads.result with_runs (two_values (codes "read") (codes "PLAN") (codes "LOG")) runs_is c.with_two-reads.ensures in
     let with_reads : App = with_subcommand with_runs (two_values (codes "read") (codes "PLAN") (codes "LOG")).top in
-    known c.with_two-reads.result c.with_two.result with_reads (two_values (codes "follow") (codes "PLAN") (codes "LOG")) reads_is c.with_two.ensures
+    let follows : App = two_values_and_flag (codes "follow") (codes "PLAN") (codes "LOG") (codes "all") in
+    known c.with_two-reads.result c.with.result with_reads follows reads_is
+    (added c.with_two-reads.result c.with.result c.follow.result follows c.follow.ensures.app c.with.ensures)

@@ -53,6 +53,7 @@ returns-in-Some-answer-clause-plan g c = record {
       ap (λ v. planned_units v.items) c.tell.ensures.claimers
       ∙ planned_units_heard c.args.self.now.claimers.items c.args.to c.name-name.result c.in-Some.item
       (Some c.in-Some-answer.say) c.hear-answer.new.claimers.items c.in-Some-answer.ensures.rule;
+  live = ap (λ (m : Network). m.live) c.tell.ensures.rest;
   flows = ap (λ (m : Network). m.flows.items) c.tell.ensures.rest;
   windows = ap (λ (m : Network). m.receivers.windows) c.tell.ensures.rest;
 }
@@ -88,6 +89,7 @@ pub returns-in-None-clause-plan : goal.returns-in-None-clause-plan
 returns-in-None-clause-plan g c = record {
   planned_units = planned_units_heard c.args.self.now.claimers.items c.args.to c.name-name.result c.in-Some.item None c.hear-answer.new.claimers.items
       c.in-None.ensures.rule;
+  live = refl;
   flows = refl;
   windows = refl;
 }

@@ -16,7 +16,7 @@ returns-in-Some c =
     let at = c.in-Some.ensures.lookup.1 ∙ ap (λ fs. get_or fs c.in-Begin.place c.in-Some.flow.now) flows_are in
     refusal_as _ _ _ _ c.in-Begin.is (record {
       is = λ h. sym (c.refusal_of_flow.ensures h
-          ∙ (λ i. begin_refusal n (world_in h net) (sym (got net.flows.items c.in-Begin.place c.in-Some.flow.now inside at) i) (c.as_slice.ensures.value i)));
+          ∙ (λ i. begin_refusal net.live n (world_in h net) (sym (got net.flows.items c.in-Begin.place c.in-Some.flow.now inside at) i) (c.as_slice.ensures.value i)));
     })
 
 pub returns-in-None : goal.returns-in-None
@@ -25,7 +25,7 @@ returns-in-None c =
     let past : length net.flows.items ≤ c.in-Begin.place = omega (arith, ltb-false _ _ (sym c.in-None.ensures.lookup.0), ap length c.deref.ensures.value) in
     refusal_as _ _ _ _ c.in-Begin.is (record {
       is = λ h.
-          ap (λ f. begin_refusal (length net.claimers.items) (world_in h net) f c.in-Begin.bytes.items) (slice_get_past net.flows.items c.in-Begin.place past);
+          ap (λ f. begin_refusal net.live (length net.claimers.items) (world_in h net) f c.in-Begin.bytes.items) (slice_get_past net.flows.items c.in-Begin.place past);
     })
 
 pub returns-in-Lose : goal.returns-in-Lose

@@ -15,7 +15,7 @@ returns-in-Some c =
     let at = c.in-Some.ensures.lookup.1 ∙ ap (λ fs. get_or fs c.args.place c.in-Some.flow.now) flows_are in
     record {
       is = λ h. sym (c.refusal_of_frame.ensures h
-          ∙ (λ i. send_refusal n (world_in h net) (sym (got net.flows.items c.args.place c.in-Some.flow.now inside at) i) (c.as_slice.ensures.value i)));
+          ∙ (λ i. send_refusal net.live n (world_in h net) (sym (got net.flows.items c.args.place c.in-Some.flow.now inside at) i) (c.as_slice.ensures.value i)));
     }
 
 pub returns-in-None : goal.returns-in-None
@@ -24,5 +24,5 @@ returns-in-None c =
     let past : length net.flows.items ≤ c.args.place = omega (arith, ltb-false _ _ (sym c.in-None.ensures.lookup.0), ap length c.deref.ensures.value) in
     record {
       is = λ h.
-          ap (λ f. send_refusal (length net.claimers.items) (world_in h net) f c.args.bytes.now.items) (slice_get_past net.flows.items c.args.place past);
+          ap (λ f. send_refusal net.live (length net.claimers.items) (world_in h net) f c.args.bytes.now.items) (slice_get_past net.flows.items c.args.place past);
     }

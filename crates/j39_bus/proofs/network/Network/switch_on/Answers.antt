@@ -37,6 +37,7 @@ returns-in-Some-clause-plan c = record {
       let cs : List ClaimerValue = c.args.self.now.claimers.items in
       ap (λ v. map (λ (k : ClaimerValue). k.planned) v.items) c.tell.ensures.claimers
       ∙ planned_units_on cs c.args.unit c.requires.place c.index_mut.result.now c.start-first.new.self c.index_mut.ensures.value c.start-first.ensures.started;
+  live = ap (λ (m : Network). m.live) c.tell.ensures.rest;
   flows = ap (λ (m : Network). m.flows.items) c.tell.ensures.rest;
   windows = ap (λ (m : Network). m.receivers.windows) c.tell.ensures.rest;
 }
@@ -70,6 +71,7 @@ returns-in-None-clause-plan c = record {
   planned_units =
       let cs : List ClaimerValue = c.args.self.now.claimers.items in
       planned_units_on cs c.args.unit c.requires.place c.index_mut.result.now c.start-first.new.self c.index_mut.ensures.value c.start-first.ensures.started;
+  live = refl;
   flows = refl;
   windows = refl;
 }

@@ -31,6 +31,7 @@ returns-in_default c = record {
       (one_more_bad plan c.args.self.now past recalls);
   text = refl;
   count = record {
+    all_frames = refl;
     number = refl;
     frames = omega arith;
     skipped = omega arith;

@@ -14,7 +14,7 @@ returns-in-Line-clause-lines c =
     let told = read (one_line_more past) (numbered c.args.groups.now c.args.self.now past recalls) in (
       told.0,
       told.1,
-      subst (λ (cut : Cut). FollowsLines c.args.groups.now past (tells cut c.args.line.now) told.0 told.1) (sym c.in-Line.is)
+      subst (λ (cut : Cut). FollowsLines c.args.groups.now c.args.self.now.all_frames past (tells cut c.args.line.now) told.0 told.1) (sym c.in-Line.is)
           (told.0, told.1, [], told.2, (refl, refl), sym (append-nil told.1)),
       told.3,
       told.4,
@@ -38,7 +38,7 @@ returns-in-Long-clause-lines c = λ past recalls.
     let next : FollowedPast = with_bad_line (one_line_more past) in (
       next,
       [],
-      subst (λ (cut : Cut). FollowsLines c.args.groups.now past (tells cut c.args.line.now) next []) (sym c.in-Long.is)
+      subst (λ (cut : Cut). FollowsLines c.args.groups.now c.args.self.now.all_frames past (tells cut c.args.line.now) next []) (sym c.in-Long.is)
           (next, [], [], (refl, refl), (refl, refl), refl),
       one_more_bad c.args.groups.now _ (one_line_more past) (numbered c.args.groups.now c.args.self.now past recalls),
       sym (append-nil c.args.self.now.text),

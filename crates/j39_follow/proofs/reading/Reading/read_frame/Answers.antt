@@ -5,7 +5,7 @@ use Rattle.std.proofs.lemmas.List.Elements.{All-push}
 use Rattle.j39_id.specs.declared.frame.Frame.{Frame}
 use Rattle.j39_log.specs.LogPairs.{Seen}
 use Rattle.j39_log.specs.inside.Listening.{IsInRange}
-use Rattle.j39_follow.specs.FollowReports.{IsMessageReport, IsNotice, in_frame, stamp}
+use Rattle.j39_follow.specs.FollowReports.{IsBareText, IsMessageReport, IsNotice, in_frame, stamp}
 use Rattle.j39_follow.specs.FollowText.{IsPacketReport, FollowedPast, lines_with}
 use Rattle.j39_follow.specs.LogLines.{interface_behind}
 use Rattle.j39_follow.specs.declared.message.Sort.{Sort}
@@ -51,7 +51,7 @@ returns-clause-frame c = λ past recalls.
     let three = few_events plan (lines_with past f time) f done.sort done.ended noted.more noted.are_told in
     let few_told = m.few_told in (
       next,
-      done.notice ++ (done.report ++ done.carried),
+      done.notice ++ (done.report ++ (done.bare ++ done.carried)),
       record {
         packet = done.packet;
         sort = done.sort;
@@ -59,11 +59,14 @@ returns-clause-frame c = λ past recalls.
         events = noted.more;
         notice = done.notice;
         report = done.report;
+        bare = done.bare;
         carried = done.carried;
         heard_as = done.heard_as;
         notice_is = subst (λ (n : ℕ). IsNotice plan (lines_with past f time) (stamp n time) f done.notice) number done.notice_is;
         report_is = subst (λ (n : ℕ). IsMessageReport plan (lines_with past f time) (stamp n time) (in_frame f) done.sort done.report) number
             done.report_is;
+        bare_is = subst (λ (n : ℕ). IsBareText plan c.args.self.now.all_frames (lines_with past f time) (stamp n time) f (done.notice ++ done.report) done.bare)
+            number done.bare_is;
         carried_is = subst (λ (n : ℕ). IsPacketReport plan past.seen (lines_with past f time) (stamp n time) f done.packet sorts done.carried) number done.carried_is;
         events_are = noted.are_told;
         text_is = refl;

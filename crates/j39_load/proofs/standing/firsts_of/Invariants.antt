@@ -1,5 +1,0 @@
-use Rattle.j39_load.specs.Standing.{AreFirsts}
-use Rattle.j39_load.proofs.standing.firsts_of.Given as goal
-
-abbrev pub invariant-loop-unit : goal.invariant-loop-unit
-invariant-loop-unit l = AreFirsts l.units l.unit-index l.firsts

@@ -1,0 +1,123 @@
+"""What of the lines of a log `follow` doesn't say: error frames, and in a plan with `timing` those with an 11-bit identifier; the priority of claims and
+requests where it is higher than that of what isn't planned; and the bytes of acknowledgements."""
+
+from __future__ import annotations
+
+import re
+from collections import deque
+from collections.abc import Iterator
+from typing import BinaryIO, NamedTuple
+
+from j39plan.j1939 import ACKNOWLEDGEMENT, ADDRESS_CLAIMED, REQUEST, pgn_in
+from j39plan.log.checks.meter import Meter
+from j39plan.log.files import LINE_MOST, interface_of
+from j39plan.plan.tables import Timing
+
+# A line with a frame at its end, or before a direction; and one with an 11-bit identifier.
+FRAME = re.compile(rb"(?:^|[ \t\r])([01][0-9A-Fa-f]{7})#((?:[0-9A-Fa-f]{2}){0,8})(?:[ \t\r]+[RT])?[ \t\r]*\n?$")
+SHORT = re.compile(rb"(?:^|[ \t\r])([0-9A-Fa-f]{3})#([^ \t\r]*)(?:[ \t\r]+[RT])?[ \t\r]*\n?$")
+
+# An error frame as Linux has it: its classes in place of an identifier, behind the flag of 2^29.
+ERROR = re.compile(rb"(?:^|[ \t\r])(2[0-9A-Fa-f]{7})#((?:[0-9A-Fa-f]{2}){8})(?:[ \t\r]+[RT])?[ \t\r]*\n?$")
+ERROR_FLAG = 1 << 29
+
+# What parts words, and words that may stand behind a frame.
+BLANKS, DIRECTIONS = b" \t\r\n", (b"R", b"T")
+
+
+class Noted(NamedTuple):
+    """A frame of a line: its identifier and its bytes; of an 11-bit identifier the one of 29 bits that goes before as many frames, and no bytes; of an
+    error frame its classes. And the first word of the line, and its interface."""
+
+    line: int
+    identifier: int
+    data: bytes
+    time: str
+    interface: bytes | None
+    is_error: bool = False
+
+    @property
+    def priority(self) -> int:
+        """The priority of the frame."""
+        return self.identifier >> 26
+
+
+def first_word(line: bytes) -> str:
+    """The first word of a line, where its time stands."""
+    return (line.split(maxsplit=1) or [b""])[0].decode(errors="replace")
+
+
+class Feed:
+    """A log, whose lines are looked at as they are handed on. A meter takes all of them, if there is one."""
+
+    def __init__(self, timing: Timing | None = None, meter: Meter | None = None) -> None:
+        self._timing, self._meter = timing, meter
+        self._plain: set[bytes] = set()  # identifiers of frames of which nothing is noted
+        self._unheard: deque[Noted] = deque()  # of which `follow` says nothing
+        self._beside: deque[Noted] = deque()  # of which it says something else
+        self._interface: bytes | None = None
+        self._last = b""
+
+    @property
+    def last_time(self) -> str:
+        """The first word of the last line that has a frame."""
+        return first_word(self._last)
+
+    def pieces(self, log: BinaryIO) -> Iterator[bytes]:
+        """The lines of a log; one that is too long in pieces."""
+        number, is_begun = 1, False
+        while piece := log.readline(LINE_MOST):
+            was_begun, is_begun = is_begun, len(piece) == LINE_MOST and not piece.endswith(b"\n")
+            if not is_begun:
+                if not was_begun:
+                    self._take(number, piece)
+                number += 1
+            yield piece
+
+    def unheard(self, line: float) -> Iterator[Noted]:
+        """The frames of the lines before this one of which `follow` says nothing, on the interface that it reads."""
+        while self._unheard and self._unheard[0].line < line:
+            noted = self._unheard.popleft()
+            if noted.interface in (None, self._interface) or self._interface is None:
+                yield noted
+
+    def beside(self, line: int) -> Noted | None:
+        """What was noted of the frame of this line, of which `follow` says something else."""
+        while self._beside and self._beside[0].line < line:
+            self._beside.popleft()
+        return self._beside[0] if self._beside and self._beside[0].line == line else None
+
+    def _take(self, number: int, line: bytes) -> None:
+        """A line comes."""
+        end = line.rstrip(BLANKS)
+        at = end.rfind(b"#")
+        spelled = end[at - 8:at]
+        if self._meter:
+            is_last = end[-1:] not in DIRECTIONS
+            self._meter.take(line, at - 8, len(end) - at if is_last else len(end[at:].split(maxsplit=1)[0]))
+        if spelled in self._plain and self._interface:
+            self._last = line
+        elif found := FRAME.search(line):
+            self._last = line
+            self._interface = self._interface or interface_of(line)
+            if self._is_noted(int(found.group(1), 16)):
+                self._beside.append(noted_of(number, line, found))
+            else:
+                self._plain.add(spelled)
+        elif found := ERROR.search(line) or (SHORT.search(line) if self._timing else None):
+            self._unheard.append(noted_of(number, line, found))
+
+    def _is_noted(self, identifier: int) -> bool:
+        """Whether a frame of which `follow` says who sent it, and no more, is to be looked at."""
+        pgn = pgn_in(identifier)
+        is_urgent = self._timing is not None and identifier >> 26 < self._timing.unplanned_priority
+        return pgn == ACKNOWLEDGEMENT or is_urgent and pgn in (ADDRESS_CLAIMED, REQUEST)
+
+
+def noted_of(number: int, line: bytes, found: re.Match[bytes]) -> Noted:
+    """The frame that was found in a line."""
+    identifier, time, interface = int(found.group(1), 16), first_word(line), interface_of(line)
+    if found.re is SHORT:
+        return Noted(number, identifier << 18, b"", time, interface)
+    data, is_error = bytes.fromhex(found.group(2).decode()), found.re is ERROR
+    return Noted(number, identifier & ~ERROR_FLAG if is_error else identifier, data, time, interface, is_error)
