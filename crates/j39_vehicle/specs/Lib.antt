@@ -1,0 +1,2 @@
+pub mod VehicleLimits
+pub mod VehiclePlaces
