@@ -1,2 +1,16 @@
+pub mod BusTables
+pub mod Described
+pub mod Elements
+pub mod ForwardTables
+pub mod GatewayTables
+pub mod Growing
+pub mod NeedTables
+pub mod Outcome
+pub mod Schema
+pub mod SignalTables
+pub mod TableFaults
+pub mod TextKinds
+pub mod VehicleFaults
 pub mod VehicleLimits
 pub mod VehiclePlaces
+pub mod Words

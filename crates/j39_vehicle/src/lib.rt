@@ -1,9 +1,15 @@
 //! Vehicles of several buses: what a vehicle file says, and the vehicle that it and the plans of its buses describe.
 #![tactic(auto)]
 
+mod file;
 pub mod limits;
+mod reading;
 mod vehicle;
 
+pub use file::{
+    BusTable, ForwardTable, GatewayTable, NameOnBus, NeedTable, SignalTable, VehicleFile,
+};
+pub use reading::{Fault, Key, Place, Table, VehicleError};
 pub use vehicle::{
     BusPlan, Forward, ForwardedSignal, Gateway, GroupAt, Mode, UnitAt, Vehicle, VehicleNeed,
 };

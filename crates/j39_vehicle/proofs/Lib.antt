@@ -1,0 +1,5 @@
+mod EachElement
+pub mod FirstFaults
+pub mod Names
+pub mod Tables
+pub mod Units
