@@ -3,3 +3,4 @@ pub mod FirstFaults
 pub mod Names
 pub mod Tables
 pub mod Units
+pub mod UnitsOf

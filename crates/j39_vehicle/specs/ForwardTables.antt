@@ -1,10 +1,10 @@
 -- The tables of forwards.
 use Rattle.std.specs.Prelude.{◌≡◌, ℕ, List, [], ◌∷◌, ◌++◌, Bool, true, false, ◌&&◌, if◌then◌else◌, codes}
-use Rattle.std.specs.Prelude.{Option, Some, None, option_map, option_and_then, position, string_bytes}
+use Rattle.std.specs.Prelude.{Option, Some, None, option_map, option_and_then, position, unwrap_or, string_bytes}
 use Rattle.std.specs.List.{list_any, slice_get}
 use Rattle.std.specs.Str.{bytes_eq}
 use Rattle.std.specs.Option.{option_map_or}
-use Rattle.toml.specs.Data.{Data, Items, Members, as_table}
+use Rattle.toml.specs.Data.{Data, Items, no_items, Members, as_table}
 use Rattle.j39_findings.specs.PlanLimits.{signal_limit}
 use Rattle.j39_plan.specs.Elements.{inside, Each}
 use Rattle.j39_vehicle.specs.declared.reading.key.Key.TheVariants as key
@@ -87,6 +87,10 @@ abbrev pub TellsSignals : Option Items → Option (List SignalTable) → Type 0
 TellsSignals None None = Unit {0}
 TellsSignals (Some ds) (Some signals) = Each IsSignalOf ds signals
 TellsSignals _ _ = ⊥
+
+-- the elements of an array, and none without one
+abbrev pub items_or_none : Option Items → Items
+items_or_none found = unwrap_or found no_items
 
 -- the forward that a table tells
 pub record TellsForward (ms : Members) (f : ForwardTable) : Type 0 where

@@ -1,7 +1,7 @@
 -- Places in a vehicle that are there: of units, groups and signals in the plans of its buses.
-use Rattle.std.specs.Prelude.{◌≡◌, ℕ, ◌<◌, ◌≤◌, List, All, length, Some, None, Option, IfSome}
+use Rattle.std.specs.Prelude.{◌≡◌, ℕ, ◌<◌, List, All, length, Some}
 use Rattle.std.specs.List.{slice_get}
-use Rattle.std.specs.Option.{option_map_or}
+use Rattle.std.specs.Option.{ForSome, option_map_or}
 use Rattle.j39_findings.specs.declared.plan.to.To.TheVariants.{One}
 use Rattle.j39_findings.specs.declared.plan.group_plan.GroupPlan.{GroupPlan}
 use Rattle.j39_findings.specs.NeedPlaces.{signal_count}
@@ -38,8 +38,8 @@ pub record HasForward (buses : List BusPlan) (gateways : List Gateway) (f : Forw
   pub output : HasGroup buses f.output
   pub sender : f.sender < unit_count buses f.output.bus
   pub to : (u : ℕ) → f.to ≡ Some (One u) → u < unit_count buses f.output.bus
-  pub read : IfSome f.signals (λ listed. All (λ s. s.read < signals_at buses f.input) listed.items)
-  pub written : IfSome f.signals (λ listed. All (λ s. s.written < signals_at buses f.output) listed.items)
+  pub read : ForSome f.signals (λ listed. All (λ s. s.read < signals_at buses f.input) listed.items)
+  pub written : ForSome f.signals (λ listed. All (λ s. s.written < signals_at buses f.output) listed.items)
 
 -- the places of a need are there
 pub record HasNeed (buses : List BusPlan) (d : VehicleNeed) : Type 0 where

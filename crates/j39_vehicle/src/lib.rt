@@ -9,7 +9,7 @@ mod vehicle;
 pub use file::{
     BusTable, ForwardTable, GatewayTable, NameOnBus, NeedTable, SignalTable, VehicleFile,
 };
-pub use reading::{Fault, Key, Place, Table, VehicleError};
+pub use reading::{Fault, Key, Place, Table, VehicleError, read_vehicle};
 pub use vehicle::{
     BusPlan, Forward, ForwardedSignal, Gateway, GroupAt, Mode, UnitAt, Vehicle, VehicleNeed,
 };

@@ -1,5 +1,5 @@
 //! The table of a forward.
-ghost use Rattle.std.specs.Prelude.{◌≤◌, length, IfSome};
+ghost use Rattle.std.specs.Prelude.{◌≤◌, length};
 ghost use Rattle.std.specs.Option.{ForSome};
 ghost use Rattle.j39_findings.specs.PlanLimits.{signal_limit};
 
@@ -27,5 +27,5 @@ pub struct ForwardTable {
     pub within: Option<u16>,
     pub signals: Option<Vec<SignalTable>>,
     pub ghost within_positive: { ForSome within (λ n. 1 ≤ n) },
-    pub ghost signal_count: { IfSome signals (λ listed. length listed.items ≤ signal_limit) },
+    pub ghost signal_count: { ForSome signals (λ listed. length listed.items ≤ signal_limit) },
 }

@@ -1,5 +1,5 @@
 //! What a gateway sends on.
-ghost use Rattle.std.specs.Prelude.{◌≤◌, length, IfSome};
+ghost use Rattle.std.specs.Prelude.{◌≤◌, length};
 ghost use Rattle.std.specs.Option.{ForSome};
 ghost use Rattle.j39_findings.specs.PlanLimits.{signal_limit};
 
@@ -49,5 +49,5 @@ pub struct Forward {
     /// Which signals go into which. Without them the message goes on as it is, and with an empty list nothing of it does.
     pub signals: Option<Vec<ForwardedSignal>>,
     pub ghost within_positive: { ForSome within (λ n. 1 ≤ n) },
-    pub ghost signal_count: { IfSome signals (λ listed. length listed.items ≤ signal_limit) },
+    pub ghost signal_count: { ForSome signals (λ listed. length listed.items ≤ signal_limit) },
 }
