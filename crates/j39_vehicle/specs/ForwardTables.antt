@@ -22,19 +22,25 @@ use Rattle.j39_vehicle.specs.TableFaults.{table_faults, table_only_faults, label
 use Rattle.j39_vehicle.specs.Elements.{Named, each_faults, is_label_among}
 use Rattle.j39_vehicle.specs.SignalTables.{IsSignalOf, signal_name, signal_faults}
 
-abbrev pub forward_rules : List Rule
-forward_rules =
-    needed key.Gateway (text_of texts.Any)
-    ∷ needed key.Group (text_of texts.OnBus)
-    ∷ optional key.From (text_of texts.Any)
-    ∷ optional key.At (text_of texts.Any)
-    ∷ needed key.As (text_of texts.OnBus)
+-- what is sent, by whom to whom, when, and which signals of it are written
+abbrev pub sent_rules : List Rule
+sent_rules =
+    needed key.As (text_of texts.OnBus)
     ∷ optional key.By (text_of texts.Any)
     ∷ optional key.To (text_of texts.Any)
     ∷ optional key.Mode (text_of texts.ModeWord)
     ∷ optional key.Within (number 1 65535)
     ∷ optional key.Signal (array_up_to signal_limit)
     ∷ []
+
+-- the gateway, what it hears, from whom and by which of its units, and then what it sends
+abbrev pub forward_rules : List Rule
+forward_rules =
+    needed key.Gateway (text_of texts.Any)
+    ∷ needed key.Group (text_of texts.OnBus)
+    ∷ optional key.From (text_of texts.Any)
+    ∷ optional key.At (text_of texts.Any)
+    ∷ sent_rules
 
 -- ---- labels of the same file
 

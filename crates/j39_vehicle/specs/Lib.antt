@@ -2,10 +2,12 @@ pub mod BusTables
 pub mod Described
 pub mod Elements
 pub mod ForwardTables
+pub mod Found
 pub mod GatewayTables
 pub mod Growing
 pub mod NeedTables
 pub mod Outcome
+pub mod Resolved
 pub mod Schema
 pub mod SignalTables
 pub mod TableFaults

@@ -4,12 +4,14 @@
 mod file;
 pub mod limits;
 mod reading;
+mod resolving;
 mod vehicle;
 
 pub use file::{
     BusTable, ForwardTable, GatewayTable, NameOnBus, NeedTable, SignalTable, VehicleFile,
 };
 pub use reading::{Fault, Key, Place, Table, VehicleError, read_vehicle};
+pub use resolving::resolve;
 pub use vehicle::{
     BusPlan, Forward, ForwardedSignal, Gateway, GroupAt, Mode, UnitAt, Vehicle, VehicleNeed,
 };

@@ -1,10 +1,13 @@
 //! Reading a vehicle file.
-ghost use Rattle.std.specs.Prelude.{IsErrOf};
-ghost use Rattle.toml.specs.View.{table_view};
+ghost use Rattle.std.specs.Prelude.{◌≡◌, ◌≤◌, length, IsErrOf};
+ghost use Rattle.toml.specs.View.{items_view, table_view};
+ghost use Rattle.j39_findings.specs.PlanLimits.{need_limit};
 ghost use Rattle.j39_plan.specs.Described.{tree_of, MayAskForRoom};
-ghost use Rattle.j39_vehicle.specs.Outcome.{GivesGrowing};
+ghost use Rattle.j39_vehicle.specs.Outcome.{Gives, GivesGrowing};
+ghost use Rattle.j39_vehicle.specs.VehicleLimits.{bus_limit, forward_limit, gateway_limit};
+ghost use Rattle.j39_vehicle.specs.Schema.{elements_at};
 ghost use Rattle.j39_vehicle.specs.Growing.{FileGrows};
-ghost use Rattle.j39_vehicle.specs.VehicleFaults.{faults};
+ghost use Rattle.j39_vehicle.specs.VehicleFaults.{faults, top_faults};
 ghost use Rattle.j39_vehicle.specs.Described.{Reads, TellsFile};
 
 mod buses;
@@ -38,7 +41,9 @@ pub use place::{Place, Table};
 use std::alloc::Global;
 use std::str;
 use tables::{elements, only};
+use toml::Value;
 use values::number;
+pub use values::refused;
 pub use vehicle_error::VehicleError;
 
 const TOP_KEYS: [Key; 5] = [
@@ -49,26 +54,54 @@ const TOP_KEYS: [Key; 5] = [
     Key::Need,
 ];
 
+// The tables of the top table's arrays.
+#[derive(Clone, Copy)]
+struct Arrays<'a> {
+    buses: &'a [Value],
+    gateways: &'a [Value],
+    forwards: &'a [Value],
+    needs: &'a [Value],
+    ghost bus_count: { length buses.now ≤ bus_limit },
+    ghost gateway_count: { length gateways.now ≤ gateway_limit },
+    ghost forward_count: { length forwards.now ≤ forward_limit },
+    ghost need_count: { length needs.now ≤ need_limit },
+}
+
+#[tactic(auto, using(crate::proofs::FirstFaults::faults_after))]
+fn top_arrays(members: &toml::Table) -> Result<Arrays<'_>, VehicleError>
+    ensures { Gives result (top_faults (table_view members.now)) (λ a. let ms = table_view members.now in
+        (items_view a.buses.now ≡ elements_at Key.Bus ms) × (items_view a.gateways.now ≡ elements_at Key.Gateway ms)
+        × (items_view a.forwards.now ≡ elements_at Key.Forward ms) × (items_view a.needs.now ≡ elements_at Key.Need ms)) }
+{
+    only(members, Table::Top, &TOP_KEYS)?;
+    number(members, Table::Top, Key::Version, 1, 1, true)?;
+    let buses = elements(members, Table::Top, Key::Bus, BUS_LIMIT, false)?;
+    let gateways = elements(members, Table::Top, Key::Gateway, GATEWAY_LIMIT, false)?;
+    let forwards = elements(members, Table::Top, Key::Forward, FORWARD_LIMIT, false)?;
+    let needs = elements(members, Table::Top, Key::Need, VEHICLE_NEED_LIMIT, false)?;
+    Ok(Arrays {
+        buses,
+        gateways,
+        forwards,
+        needs,
+    })
+}
+
 #[tactic(auto, using(crate::proofs::FirstFaults::faults_after))]
 fn read_top(alloc: Global, members: &toml::Table) -> Result<VehicleFile, VehicleError>
     ensures { GivesGrowing (FileGrows (table_view members.now)) result (faults (table_view members.now)) (TellsFile (table_view members.now)) }
 {
-    only(members, Table::Top, &TOP_KEYS)?;
-    number(members, Table::Top, Key::Version, 1, 1, true)?;
-    let bus_values = elements(members, Table::Top, Key::Bus, BUS_LIMIT, false)?;
-    let gateway_values = elements(members, Table::Top, Key::Gateway, GATEWAY_LIMIT, false)?;
-    let forward_values = elements(members, Table::Top, Key::Forward, FORWARD_LIMIT, false)?;
-    let need_values = elements(members, Table::Top, Key::Need, VEHICLE_NEED_LIMIT, false)?;
-    let buses = read_each(alloc, &Buses, bus_values)?;
-    let gateways = read_each(alloc, &Gateways { buses: &buses }, gateway_values)?;
+    let arrays = top_arrays(members)?;
+    let buses = read_each(alloc, &Buses, arrays.buses)?;
+    let gateways = read_each(alloc, &Gateways { buses: &buses }, arrays.gateways)?;
     let forwards = read_each(
         alloc,
         &Forwards {
             gateways: &gateways,
         },
-        forward_values,
+        arrays.forwards,
     )?;
-    let needs = read_each(alloc, &Needs { buses: &buses }, need_values)?;
+    let needs = read_each(alloc, &Needs { buses: &buses }, arrays.needs)?;
     Ok(VehicleFile {
         buses,
         gateways,

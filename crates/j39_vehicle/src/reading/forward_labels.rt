@@ -1,6 +1,6 @@
 //! What a forward names in its own file: its gateway, its buses, and units of the gateway on these.
-ghost use Rattle.std.specs.Prelude.{◌≡◌, ◌&&◌, map, option_map, Some, string_bytes};
-ghost use Rattle.std.specs.List.{list_any};
+ghost use Rattle.std.specs.Prelude.{◌≡◌, ◌&&◌, map, option_and_then, option_map, position, Some, string_bytes};
+ghost use Rattle.std.specs.List.{list_any, slice_get};
 ghost use Rattle.std.specs.Str.{bytes_eq};
 ghost use Rattle.j39_vehicle.specs.TextKinds.{name_of};
 ghost use Rattle.j39_vehicle.specs.Outcome.{Gives};
@@ -11,13 +11,24 @@ use super::named::{first_place, has_label, known};
 use super::{Key, Table, VehicleError};
 use crate::file::{GatewayTable, NameOnBus, before_point};
 
-// The units of the gateway of this label: none where there is none.
+// The gateway of this label.
+fn gateway_of<'a>(gateways: &'a [GatewayTable], label: &str) -> Option<&'a GatewayTable>
+    ensures { option_map (λ g. g.now) result
+        ≡ option_and_then (slice_get gateways.now) (position (λ g. bytes_eq g.label.bytes label.now) gateways.now) }
+{
+    match first_place(gateways, label) {
+        Some(place) => gateways.get(place),
+        None => None,
+    }
+}
+
+// Its units: none where there is none.
 #[tactic(auto, using(crate::proofs::UnitsOf::units_found))]
 fn units_of<'a>(gateways: &'a [GatewayTable], label: &str) -> &'a [NameOnBus]
     ensures { map (λ n. string_bytes n.text) result.now ≡ spec.units_of (map named_gateway gateways.now) (Some label.now) }
 {
-    match first_place(gateways, label) {
-        Some(place) => gateways[place].units.as_slice(),
+    match gateway_of(gateways, label) {
+        Some(gateway) => gateway.units.as_slice(),
         None => &[],
     }
 }
@@ -43,14 +54,21 @@ fn any_there(units: &[NameOnBus], bus: &str, label: &str) -> bool
     units.iter().any(|unit| unit.bus() == bus && unit.label() == label)
 }
 
-// Whether one of the units is on the bus of a group and has the label, where one is asked for.
+// Whether one of the units is on this bus and has the label.
 #[tactic(auto, using(crate::proofs::UnitsOf::there_view))]
+fn has_unit(units: &[NameOnBus], bus: &str, label: &str) -> bool
+    ensures { result ≡ spec.has_unit (map (λ n. string_bytes n.text) units.now) bus.now label.now }
+{
+    any_there(units, bus, label)
+}
+
+// Whether one of the units is on the bus of a group and has the label, where one is asked for.
 fn is_unit_beside(units: &[NameOnBus], group: &str, label: Option<&str>) -> bool
     ensures { result ≡ spec.is_unit_beside (map (λ n. string_bytes n.text) units.now) (Some group.now) (option_map (λ t. t.now) label.entry) }
 {
     match label {
         None => true,
-        Some(label) => any_there(units, before_point(group), label),
+        Some(label) => has_unit(units, before_point(group), label),
     }
 }
 

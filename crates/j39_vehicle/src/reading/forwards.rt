@@ -1,16 +1,12 @@
 //! The forwards of a vehicle file.
 ghost use Rattle.std.specs.Prelude.{◌≡◌, ◌≤◌, [], map, length, option_map, Some, string_bytes, IfOk, IfErr, IfSome};
 ghost use Rattle.std.specs.Option.{ForSome};
-ghost use Rattle.std.specs.List.{list_any};
-ghost use Rattle.std.specs.Str.{bytes_eq};
 ghost use Rattle.toml.specs.View.{items_view, table_view};
 ghost use Rattle.j39_findings.specs.PlanLimits.{signal_limit};
-ghost use Rattle.j39_vehicle.specs.declared.reading.place.Table.TheVariants as at;
 ghost use Rattle.j39_vehicle.specs.declared.reading.vehicle_error.VehicleError.TheVariants.{Memory};
 ghost use Rattle.j39_vehicle.specs.Schema.{array_at, number_at, text_at};
-ghost use Rattle.j39_vehicle.specs.TextKinds.{name_of};
 ghost use Rattle.j39_vehicle.specs.Outcome.{Gives, GivesGrowing};
-ghost use Rattle.j39_vehicle.specs.TableFaults.{key_faults, table_faults};
+ghost use Rattle.j39_vehicle.specs.TableFaults.{keys_faults, table_faults};
 ghost use Rattle.j39_vehicle.specs.Elements.{each_faults};
 ghost use Rattle.j39_vehicle.specs.Growing.{EachGrows, ForwardTableGrows, SignalGrows};
 ghost use Rattle.j39_vehicle.specs.GatewayTables.{named_gateway};
@@ -44,13 +40,9 @@ const FORWARD_KEYS: [Key; 10] = [
     Key::Signal,
 ];
 
-// What stands at the keys of a forward.
+// What stands at the keys of what is sent.
 #[derive(Clone, Copy)]
-struct ForwardKeys<'a> {
-    gateway: &'a str,
-    input: &'a str,
-    from: Option<&'a str>,
-    at: Option<&'a str>,
+struct SentKeys<'a> {
     output: &'a str,
     by: Option<&'a str>,
     to: Option<&'a str>,
@@ -59,6 +51,16 @@ struct ForwardKeys<'a> {
     signals: Option<&'a [Value]>,
     ghost within_positive: { ForSome within (λ n. 1 ≤ n) },
     ghost signal_count: { ForSome signals (λ vs. length vs.now ≤ signal_limit) },
+}
+
+// What stands at the keys of a forward.
+#[derive(Clone, Copy)]
+struct ForwardKeys<'a> {
+    gateway: &'a str,
+    input: &'a str,
+    from: Option<&'a str>,
+    at: Option<&'a str>,
+    sent: SentKeys<'a>,
 }
 
 fn mode(word: Option<&str>) -> Mode
@@ -77,30 +79,19 @@ fn mode(word: Option<&str>) -> Mode
 }
 
 #[tactic(auto, using(crate::proofs::FirstFaults::faults_after))]
-fn keys(members: &toml::Table, table: Table) -> Result<ForwardKeys<'_>, VehicleError>
-    ensures { Gives result (table_faults table spec.forward_rules (table_view members.now)) (λ k. let ms = table_view members.now in
-        (text_at Key.Gateway ms ≡ Some k.gateway.now) × (text_at Key.Group ms ≡ Some k.input.now)
-        × (text_at Key.From ms ≡ option_map (λ t. t.now) k.from) × (text_at Key.At ms ≡ option_map (λ t. t.now) k.at)
-        × (text_at Key.As ms ≡ Some k.output.now) × (text_at Key.By ms ≡ option_map (λ t. t.now) k.by)
+fn sent_keys(members: &toml::Table, table: Table) -> Result<SentKeys<'_>, VehicleError>
+    ensures { Gives result (keys_faults table (table_view members.now) spec.sent_rules) (λ k. let ms = table_view members.now in
+        (text_at Key.As ms ≡ Some k.output.now) × (text_at Key.By ms ≡ option_map (λ t. t.now) k.by)
         × (text_at Key.To ms ≡ option_map (λ t. t.now) k.to) × (k.mode ≡ spec.mode_of (text_at Key.Mode ms))
         × (k.within ≡ number_at Key.Within ms) × (array_at Key.Signal ms ≡ option_map (λ vs. items_view vs.now) k.signals)) }
 {
-    only(members, table, &FORWARD_KEYS)?;
-    let gateway = text(members, table, Key::Gateway, TextKind::Any)?;
-    let input = text(members, table, Key::Group, TextKind::OnBus)?;
-    let from = optional_text(members, table, Key::From, TextKind::Any)?;
-    let at = optional_text(members, table, Key::At, TextKind::Any)?;
     let output = text(members, table, Key::As, TextKind::OnBus)?;
     let by = optional_text(members, table, Key::By, TextKind::Any)?;
     let to = optional_text(members, table, Key::To, TextKind::Any)?;
     let word = optional_text(members, table, Key::Mode, TextKind::ModeWord)?;
     let within = number(members, table, Key::Within, 1, 65_535, false)?;
     let signals = array(members, table, Key::Signal, FORWARD_SIGNAL_LIMIT, false)?;
-    Ok(ForwardKeys {
-        gateway,
-        input,
-        from,
-        at,
+    Ok(SentKeys {
         output,
         by,
         to,
@@ -110,7 +101,32 @@ fn keys(members: &toml::Table, table: Table) -> Result<ForwardKeys<'_>, VehicleE
     })
 }
 
+#[tactic(auto, using(crate::proofs::FirstFaults::faults_after))]
+fn keys(members: &toml::Table, table: Table) -> Result<ForwardKeys<'_>, VehicleError>
+    ensures { Gives result (table_faults table spec.forward_rules (table_view members.now)) (λ k. let ms = table_view members.now in
+        (text_at Key.Gateway ms ≡ Some k.gateway.now) × (text_at Key.Group ms ≡ Some k.input.now)
+        × (text_at Key.From ms ≡ option_map (λ t. t.now) k.from) × (text_at Key.At ms ≡ option_map (λ t. t.now) k.at)
+        × (text_at Key.As ms ≡ Some k.sent.output.now) × (text_at Key.By ms ≡ option_map (λ t. t.now) k.sent.by)
+        × (text_at Key.To ms ≡ option_map (λ t. t.now) k.sent.to) × (k.sent.mode ≡ spec.mode_of (text_at Key.Mode ms))
+        × (k.sent.within ≡ number_at Key.Within ms) × (array_at Key.Signal ms ≡ option_map (λ vs. items_view vs.now) k.sent.signals)) }
+{
+    only(members, table, &FORWARD_KEYS)?;
+    let gateway = text(members, table, Key::Gateway, TextKind::Any)?;
+    let input = text(members, table, Key::Group, TextKind::OnBus)?;
+    let from = optional_text(members, table, Key::From, TextKind::Any)?;
+    let at = optional_text(members, table, Key::At, TextKind::Any)?;
+    let sent = sent_keys(members, table)?;
+    Ok(ForwardKeys {
+        gateway,
+        input,
+        from,
+        at,
+        sent,
+    })
+}
+
 // The signals that an array tells, where there is one.
+#[tactic(auto, unfolding(crate::specs::Elements::each_faults))]
 fn signals(
     alloc: Global,
     forward: usize,
@@ -138,9 +154,9 @@ fn told(
     requires { IfSome signals (λ v. length v.items ≤ signal_limit) }
     ensures told { IfOk result (λ f. (string_bytes f.gateway ≡ keys.now.gateway.now)
         × (string_bytes f.input.text ≡ keys.now.input.now) × (option_map string_bytes f.from ≡ option_map (λ t. t.now) keys.now.from)
-        × (option_map string_bytes f.at ≡ option_map (λ t. t.now) keys.now.at) × (string_bytes f.output.text ≡ keys.now.output.now)
-        × (option_map string_bytes f.by ≡ option_map (λ t. t.now) keys.now.by) × (option_map string_bytes f.to ≡ option_map (λ t. t.now) keys.now.to)
-        × (f.mode ≡ keys.now.mode) × (f.within ≡ keys.now.within) × (f.signals ≡ signals)) }
+        × (option_map string_bytes f.at ≡ option_map (λ t. t.now) keys.now.at) × (string_bytes f.output.text ≡ keys.now.sent.output.now)
+        × (option_map string_bytes f.by ≡ option_map (λ t. t.now) keys.now.sent.by) × (option_map string_bytes f.to ≡ option_map (λ t. t.now) keys.now.sent.to)
+        × (f.mode ≡ keys.now.sent.mode) × (f.within ≡ keys.now.sent.within) × (f.signals ≡ signals)) }
     ensures memory { IfErr result (λ e. e ≡ Memory) }
 {
     Ok(ForwardTable {
@@ -148,11 +164,11 @@ fn told(
         input: name(alloc, keys.input)?,
         from: optional_owned(alloc, keys.from)?,
         at: optional_owned(alloc, keys.at)?,
-        output: name(alloc, keys.output)?,
-        by: optional_owned(alloc, keys.by)?,
-        to: optional_owned(alloc, keys.to)?,
-        mode: keys.mode,
-        within: keys.within,
+        output: name(alloc, keys.sent.output)?,
+        by: optional_owned(alloc, keys.sent.by)?,
+        to: optional_owned(alloc, keys.sent.to)?,
+        mode: keys.sent.mode,
+        within: keys.sent.within,
         signals,
     })
 }
@@ -170,8 +186,8 @@ fn forward(
 {
     let table = Table::Forward(index);
     let keys = keys(members, table)?;
-    let signals = signals(alloc, index, keys.signals)?;
-    known_labels(gateways, table, keys.gateway, keys.input, keys.at, keys.output, keys.by)?;
+    let signals = signals(alloc, index, keys.sent.signals)?;
+    known_labels(gateways, table, keys.gateway, keys.input, keys.at, keys.sent.output, keys.sent.by)?;
     told(alloc, &keys, signals)
 }
 

@@ -73,6 +73,7 @@ fn unit_cause(seen: &[GatewayTable], before: &[Value], value: &Value) -> Option<
 }
 
 /// The first cause for which one of the elements is refused, behind earlier gateways.
+#[tactic(auto, using(crate::proofs::Units::one_more))]
 pub fn units_cause(seen: &[GatewayTable], values: &[Value]) -> Option<Cause>
     ensures { result ≡ units_cause (all_units (map named_gateway seen.now)) (items_view values.now) }
 {
@@ -101,6 +102,7 @@ pub fn are_on(buses: &[BusTable], values: &[Value]) -> bool
 }
 
 /// The elements as names on buses.
+#[tactic(auto, using(crate::proofs::Units::texts_map))]
 pub fn units(alloc: Global, values: &[Value]) -> Result<Vec<NameOnBus>, VehicleError>
     ensures same { IfOk result (λ units. map (λ n. string_bytes n.text) units.items ≡ texts_in (items_view values.now)) }
     ensures count { IfOk result (λ units. length units.items ≡ length values.now) }

@@ -3,7 +3,7 @@ use Rattle.std.proofs.lemmas.Result.{err_from_is_err_and}
 use Rattle.std.proofs.lemmas.List.{drop_all}
 use Rattle.toml.proofs.Views.{items_view-drop}
 use Rattle.j39_vehicle.proofs.FirstFaults.{fails_on}
-use Rattle.j39_vehicle.proofs.EachElement.{grows_inside, goes_on, stops_at, ends}
+use Rattle.j39_vehicle.proofs.EachElement.{grows_inside, goes_on, stops_at, ends, names_told}
 use Rattle.j39_vehicle.proofs.reading.elements.read_each.Goals as goal
 
 pub returns-in_err-item-clause-gives : goal.returns-in_err-item-clause-gives
@@ -28,3 +28,8 @@ returns-clause-gives g c =
 
 pub returns-clause-count : goal.returns-clause-count
 returns-clause-count g c = omega arith
+
+pub returns-clause-names : goal.returns-clause-names
+returns-clause-names g c =
+    let none : drop c.loop-index.index c.args.values.now ≡ [] = drop_all c.loop-index.index c.args.values.now (omega arith) in
+    names_told _ _ _ _ (rw none at c.loop-index.invariant)
