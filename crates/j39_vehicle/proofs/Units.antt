@@ -61,10 +61,12 @@ one_more seen i vs d tried inside none =
     let texts = texts_in (items_view (take i vs)) in
     let text = text_in (view (get_or vs i d)) in
     let now : texts_in (items_view (take (i + 1) vs)) ≡ texts ++ text ∷ [] =
-        texts_map (take (i + 1) vs) ∙ (map_more (λ v. text_in (view v)) vs i d inside ∙ ap (λ ts. ts ++ text ∷ []) (sym (texts_map (take i vs)))) in
-    record { same = tried.same ∙ (ap (units_cause (seen ++ texts)) (items_view-drop vs i d inside)
-        ∙ (ap (λ (o : Option Cause). option_or o (units_cause ((seen ++ texts) ++ text ∷ []) (items_view (drop (i + 1) vs)))) none
-        ∙ rw (now, append_assoc seen texts (text ∷ [])) refl)) }
+    texts_map (take (i + 1) vs) ∙ (map_more (λ v. text_in (view v)) vs i d inside ∙ ap (λ ts. ts ++ text ∷ []) (sym (texts_map (take i vs)))) in
+    record {
+      same = tried.same ∙ (ap (units_cause (seen ++ texts)) (items_view-drop vs i d inside)
+          ∙ (ap (λ (o : Option Cause). option_or o (units_cause ((seen ++ texts) ++ text ∷ []) (items_view (drop (i + 1) vs)))) none
+          ∙ rw (now, append_assoc seen texts (text ∷ [])) refl));
+    }
 
 pub stops_here : (seen : List (List ℕ)) (i : ℕ) (vs : List Value) (d : Value) (cause : Cause) → IsTried seen i vs → i < length vs
     → unit_cause (seen ++ texts_in (items_view (take i vs))) (view (get_or vs i d)) ≡ Some cause → units_cause seen (items_view vs) ≡ Some cause

@@ -1,12 +1,7 @@
 //! Vehicle files as they are read, and what their labels stand for in the plans of the buses.
-use j39_id::Label;
-use j39_plan::{Plan, To, read_plan};
-use j39_vehicle::{
-    BusPlan, ForwardedSignal, GroupAt, Mode, Table, UnitAt, Vehicle, VehicleError, VehicleFile,
-    read_vehicle, resolve,
-};
+use j39_plan::{To, read_plan};
+use j39_vehicle::{BusPlan, Mode, Table, Vehicle, VehicleError, read_vehicle, resolve};
 use std::alloc::Global;
-use std::process::Abort;
 use std::test::Fail;
 
 // A vehicle file of version 1 with what follows, and what refuses it.
@@ -382,19 +377,17 @@ fn refusal(alloc: Global, text: &str) -> Result<String, Fail> {
 }
 
 #[test]
-fn each_refusal_is_told_with_its_place(rt: &impl Abort) -> Result<(), Fail> {
-    let alloc = Global;
+fn each_refusal_is_told_with_its_place(rt: HostRuntime) -> Result<(), Fail> {
     for (tables, wanted) in REFUSED {
-        let text = format!(in alloc; "version = 1\n{tables}\n")?;
-        let told = refusal(alloc, text.as_str())?;
+        let text = format!(in rt.alloc(); "version = 1\n{tables}\n")?;
+        let told = refusal(rt.alloc(), text.as_str())?;
         assert_eq!(rt; told.as_str(), wanted);
     }
     Ok(())
 }
 
 #[test]
-fn the_version_is_1(rt: &impl Abort) -> Result<(), Fail> {
-    let alloc = Global;
+fn the_version_is_1(rt: HostRuntime) -> Result<(), Fail> {
     let rows = [
         ("", "Missing top key version"),
         ("version = 2", "Range top key version"),
@@ -403,20 +396,26 @@ fn the_version_is_1(rt: &impl Abort) -> Result<(), Fail> {
         ("version = 1", "read"),
     ];
     for (text, wanted) in rows {
-        let told = refusal(alloc, text)?;
+        let told = refusal(rt.alloc(), text)?;
         assert_eq!(rt; told.as_str(), wanted);
     }
     Ok(())
 }
 
 #[test]
-fn other_bytes_are_no_text(rt: &impl Abort) {
-    let refused = read_vehicle(Global, b"version = 1 # \xff").err();
+fn other_bytes_are_no_text(rt: HostRuntime) {
+    let refused = read_vehicle(rt.alloc(), b"version = 1 # \xff").err();
     assert_eq!(rt; refused, Some(VehicleError::Text));
 }
 
 // A file with so many elements at a key.
-fn many(alloc: Global, before: &str, element: &str, count: usize, behind: &str) -> Result<String, Fail> {
+fn many(
+    alloc: Global,
+    before: &str,
+    element: &str,
+    count: usize,
+    behind: &str,
+) -> Result<String, Fail> {
     let mut text = format!(in alloc; "version = 1\n{before} = [")?;
     for _ in 0..count {
         text.push_str(element)?;
@@ -492,7 +491,10 @@ fn no_more_elements_than_a_limit_are_read(rt: HostRuntime) -> Result<(), Fail> {
 #[test]
 fn a_file_name_has_255_bytes_at_most(rt: HostRuntime) -> Result<(), Fail> {
     for (count, wanted) in [(255, "read"), (256, "Range bus 1 key plan")] {
-        let mut text = String::from_str(rt.alloc(), "version = 1\nbus = [{ label = \"P\", plan = \"")?;
+        let mut text = String::from_str(
+            rt.alloc(),
+            "version = 1\nbus = [{ label = \"P\", plan = \"",
+        )?;
         for _ in 0..count {
             text.push_str("~")?;
         }
@@ -558,10 +560,15 @@ fn vehicle(alloc: Global, tables: &str) -> Result<Result<Vehicle, VehicleError>,
     let [powertrain, body] = file.buses.as_slice() else {
         return Err("not two buses").map_err(Fail::from);
     };
-    let buses = vec![
-        in alloc;
-        BusPlan { label: powertrain.label, plan: read_plan(alloc, POWERTRAIN)? },
-        BusPlan { label: body.label, plan: read_plan(alloc, BODY)? },
+    let buses = vec![in alloc;
+        BusPlan {
+            label: powertrain.label,
+            plan: read_plan(alloc, POWERTRAIN)?
+        },
+        BusPlan {
+            label: body.label,
+            plan: read_plan(alloc, BODY)?
+        },
     ]?;
     Ok(resolve(alloc, &file, buses))
 }
@@ -696,7 +703,10 @@ forward = [{ gateway = "CGW", group = "P.X", as = "B.X" }]"#;
     match vehicle(rt.alloc(), tables)? {
         Ok(_) => assert!(rt; false),
         Err(error) => {
-            assert_eq!(rt; line(rt.alloc(), error)?.as_str(), "UnknownLabel gateway 1 key unit")
+            assert_eq!(rt;
+                line(rt.alloc(), error)?.as_str(),
+                "UnknownLabel gateway 1 key unit"
+            )
         }
     }
     Ok(())
@@ -743,25 +753,46 @@ fn names_stand_for_places(rt: HostRuntime) -> Result<(), Fail> {
     let [copied, written] = vehicle.forwards.as_slice() else {
         return Err("not two forwards").map_err(Fail::from);
     };
-    assert_eq!(rt; (copied.gateway, copied.input.bus, copied.input.group), (0, 0, 0));
-    assert_eq!(rt; (copied.from, copied.hearer, copied.sender), (Some(0), 1, 1));
+    assert_eq!(rt;
+        (copied.gateway, copied.input.bus, copied.input.group),
+        (0, 0, 0)
+    );
+    assert_eq!(rt;
+        (copied.from, copied.hearer, copied.sender),
+        (Some(0), 1, 1)
+    );
     assert_eq!(rt; (copied.output.bus, copied.output.group), (1, 1));
-    assert_eq!(rt; (copied.to, copied.mode, copied.within), (Some(To::One(0)), Mode::Direct, Some(5)));
+    assert_eq!(rt;
+        (copied.to, copied.mode, copied.within),
+        (Some(To::One(0)), Mode::Direct, Some(5))
+    );
     assert!(rt; copied.signals.is_none());
-    assert_eq!(rt; (written.from, written.hearer, written.sender), (None, 1, 2));
-    assert_eq!(rt; (written.to, written.mode, written.within), (Some(To::All), Mode::Periodic, None));
+    assert_eq!(rt;
+        (written.from, written.hearer, written.sender),
+        (None, 1, 2)
+    );
+    assert_eq!(rt;
+        (written.to, written.mode, written.within),
+        (Some(To::All), Mode::Periodic, None)
+    );
     let Some(signals) = &written.signals else {
         return Err("no signals").map_err(Fail::from);
     };
     let wanted = [(1, 1, false), (1, 0, true)];
     assert_eq!(rt; signals.len(), wanted.len());
     for (signal, (read, into, exact)) in signals.iter().zip(wanted) {
-        assert_eq!(rt; (signal.read, signal.written, signal.exact), (read, into, exact));
+        assert_eq!(rt;
+            (signal.read, signal.written, signal.exact),
+            (read, into, exact)
+        );
     }
     let [need] = vehicle.needs.as_slice() else {
         return Err("not one need").map_err(Fail::from);
     };
     assert_eq!(rt; (need.unit.bus, need.unit.unit, need.group), (1, 0, 1));
-    assert_eq!(rt; (need.signal, need.from.bus, need.from.unit, need.within), (Some(1), 0, 0, Some(30)));
+    assert_eq!(rt;
+        (need.signal, need.from.bus, need.from.unit, need.within),
+        (Some(1), 0, 0, Some(30))
+    );
     Ok(())
 }

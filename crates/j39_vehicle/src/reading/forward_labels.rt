@@ -51,7 +51,9 @@ fn any_there(units: &[NameOnBus], bus: &str, label: &str) -> bool
     ensures { result ≡ list_any (λ n. bytes_eq (name_of (string_bytes n.text)).bus bus.now
         && bytes_eq (name_of (string_bytes n.text)).label label.now) units.now }
 {
-    units.iter().any(|unit| unit.bus() == bus && unit.label() == label)
+    units
+        .iter()
+        .any(|unit| unit.bus() == bus && unit.label() == label)
 }
 
 // Whether one of the units is on this bus and has the label.

@@ -187,7 +187,15 @@ fn forward(
     let table = Table::Forward(index);
     let keys = keys(members, table)?;
     let signals = signals(alloc, index, keys.sent.signals)?;
-    known_labels(gateways, table, keys.gateway, keys.input, keys.at, keys.sent.output, keys.sent.by)?;
+    known_labels(
+        gateways,
+        table,
+        keys.gateway,
+        keys.input,
+        keys.at,
+        keys.sent.output,
+        keys.sent.by,
+    )?;
     told(alloc, &keys, signals)
 }
 
@@ -221,6 +229,11 @@ impl ReadElement<ForwardTable> for Forwards<'_> {
         _seen: &[ForwardTable],
         value: &Value,
     ) -> Result<ForwardTable, VehicleError> {
-        forward(alloc, self.gateways, index, table_of(value, Table::Forward(index))?)
+        forward(
+            alloc,
+            self.gateways,
+            index,
+            table_of(value, Table::Forward(index))?,
+        )
     }
 }

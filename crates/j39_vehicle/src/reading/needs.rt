@@ -127,6 +127,11 @@ impl ReadElement<NeedTable> for Needs<'_> {
         _seen: &[NeedTable],
         value: &Value,
     ) -> Result<NeedTable, VehicleError> {
-        need(alloc, self.buses, index, table_of(value, Table::Need(index))?)
+        need(
+            alloc,
+            self.buses,
+            index,
+            table_of(value, Table::Need(index))?,
+        )
     }
 }

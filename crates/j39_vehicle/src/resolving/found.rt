@@ -54,15 +54,15 @@ fn first_unit(units: &[UnitPlan], label: &str) -> Option<usize>
 fn first_group(groups: &[GroupPlan], label: &str) -> Option<usize>
     ensures { result ≡ position (λ g. bytes_eq g.label.bytes label.now) groups.now }
 {
-    groups.iter().position(|group| group.label.as_str() == label)
+    groups
+        .iter()
+        .position(|group| group.label.as_str() == label)
 }
 
 fn first_signal(signals: &[Signal], label: &str) -> Option<usize>
     ensures { result ≡ position (λ s. bytes_eq s.label.bytes label.now && not s.repeated) signals.now }
 {
-    signals
-        .iter()
-        .position(|signal| signal.label().as_str() == label && !signal.is_repeated())
+    signals.iter().position(|signal| signal.label().as_str() == label && !signal.is_repeated())
 }
 
 /// The place of the unit of a label on the bus at a place.

@@ -32,11 +32,7 @@ impl Resolve<NameOnBus, UnitAt> for Units<'_> {
     ) -> Result<UnitAt, VehicleError> {
         match unit_named(self.buses, name.text.as_str()) {
             Some(unit) => Ok(unit),
-            None => Err(refused(
-                Cause::UnknownLabel,
-                Table::Gateway(self.gateway),
-                Key::Unit,
-            )),
+            None => Err(refused(Cause::UnknownLabel, Table::Gateway(self.gateway), Key::Unit)),
         }
     }
 }

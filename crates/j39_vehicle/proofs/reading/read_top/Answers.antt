@@ -22,7 +22,7 @@ returns-in_err-gateways c =
     let bs = map named_bus c.in_ok-buses.buses.items in
     let ds = items_view c.in_ok-arrays.arrays.gateways.now in
     let told : FailsGrowing (EachGrows (gateway_faults bs) (GatewayGrows bs) ds) c.in_err-gateways.field-0.0 (each_faults (gateway_faults bs) gateway_name 0 [] ds) =
-        rw c.deref.ensures.value at c.in_err-gateways.ensures.gives in
+    rw c.deref.ensures.value at c.in_err-gateways.ensures.gives in
     let fails = rw (bus_names, a.1) at told in
     rw (p.1, p.2, c.in_ok-arrays.ensures.0, no_buses)
     (fails_on _ _ c.in_err-gateways.field-0.0 _ _ (λ grows. (refl, inr (refl, inl grows))) (λ f is. first-append _ _ f is) fails)
@@ -41,7 +41,7 @@ returns-in_err-forwards c =
     let gs = map named_gateway c.in_ok-gateways.gateways.items in
     let fs = items_view c.in_ok-arrays.arrays.forwards.now in
     let told : FailsGrowing (EachGrows (λ i seen. forward_faults gs i) (ForwardGrows gs) fs) c.in_err-forwards.field-0.0 (each_faults (λ i seen. forward_faults gs i) no_name 0 [] fs) =
-        rw c.deref-2.ensures.value at c.in_err-forwards.ensures.gives in
+    rw c.deref-2.ensures.value at c.in_err-forwards.ensures.gives in
     let fails = rw (gateway_names, a.2) at told in
     rw (p.1, p.2, c.in_ok-arrays.ensures.0, no_buses, no_gateways)
     (fails_on _ _ c.in_err-forwards.field-0.0 _ _ (λ grows. (refl, inr (refl, inr (refl, inl grows)))) (λ f is. first-append _ _ f is) fails)
@@ -63,7 +63,7 @@ returns-in_err-needs c =
     let no_forwards = rw (gateway_names, a.2) at none_more in
     let ns = items_view c.in_ok-arrays.arrays.needs.now in
     let told : FailsGrowing (EachGrows (λ i seen. need_faults bs i) (NeedGrows bs) ns) c.in_err-needs.field-0.0 (each_faults (λ i seen. need_faults bs i) no_name 0 [] ns) =
-        rw c.deref-3.ensures.value at c.in_err-needs.ensures.gives in
+    rw c.deref-3.ensures.value at c.in_err-needs.ensures.gives in
     let fails = rw (bus_names, a.3) at told in
     rw (p.1, p.2, c.in_ok-arrays.ensures.0, no_buses, no_gateways, no_forwards)
     (fails_on _ _ c.in_err-needs.field-0.0 _ _ (λ grows. (refl, inr (refl, inr (refl, inr (refl, grows))))) (λ f is. is) fails)
