@@ -47,7 +47,6 @@ use requests::Requests;
 use std::alloc::Global;
 use std::str;
 use tables::array;
-pub use text_kind::TextKind;
 use timing::timing;
 use units::Units;
 

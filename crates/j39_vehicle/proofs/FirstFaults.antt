@@ -19,6 +19,15 @@ fails_on Inner Outer errors.Text part whole grows leads fails = fails
 fails_on Inner Outer (errors.Fault f) part whole grows leads fails = leads f fails
 fails_on Inner Outer errors.Memory part whole grows leads fails = grows fails
 
+-- What a reader refuses it refuses behind parts without a fault, and before others.
+pub fails_behind : (Grows : Type 0) (e : VehicleError) (xs ys : List Fault) → xs ≡ [] → FailsGrowing Grows e ys → FailsGrowing Grows e (xs ++ ys)
+fails_behind Grows e xs ys none fails = rw none fails
+
+pub fails_before : (Grows : Type 0) (e : VehicleError) (xs ys : List Fault) → FailsGrowing Grows e xs → FailsGrowing Grows e (xs ++ ys)
+fails_before Grows errors.Text xs ys fails = fails
+fails_before Grows (errors.Fault f) xs ys fails = first-append xs ys f fails
+fails_before Grows errors.Memory xs ys fails = fails
+
 -- What a part refuses the whole refuses, where their faults are the same.
 pub refused_alike : (X : Type 0) (given : Result X VehicleError) (e : VehicleError) (faults : List Fault) (Is : X → Type 0)
     → given ≡ Err e → FailsGrowing ⊥ e faults → Gives given faults Is

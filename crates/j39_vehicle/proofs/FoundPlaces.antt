@@ -1,6 +1,6 @@
 -- What is found is there.
 use Rattle.std.proofs.Common.{◌≡◌, ℕ, ◌<◌, List, [], ◌∷◌, length, Bool, true, false, not, ◌&&◌, if◌then◌else◌, codes, Option, Some, None, option_map, All}
-use Rattle.std.proofs.Common.{refl, sym, subst, ◌∙◌, arith, Global, Vec}
+use Rattle.std.proofs.Common.{refl, sym, subst, ◌∙◌, arith, Global, Vec, String, string_bytes}
 use Rattle.std.proofs.lemmas.List.Elements.{All-cons}
 use Rattle.std.proofs.lemmas.List.Quantifiers.{position-Some}
 use Rattle.std.proofs.lemmas.Option.{same_Some}
@@ -12,6 +12,7 @@ use Rattle.j39_findings.specs.declared.plan.to.To.{To}
 use Rattle.j39_findings.specs.declared.plan.to.To.TheVariants.{All as ToAll, One}
 use Rattle.j39_findings.specs.declared.plan.group_plan.GroupPlan.{GroupPlan}
 use Rattle.j39_findings.specs.NeedPlaces.{signal_count}
+use Rattle.j39_vehicle.specs.declared.file.name_on_bus.NameOnBus.{NameOnBus}
 use Rattle.j39_vehicle.specs.declared.file.gateway_table.GatewayTable.{GatewayTable}
 use Rattle.j39_vehicle.specs.declared.file.signal_table.SignalTable.{SignalTable}
 use Rattle.j39_vehicle.specs.declared.file.forward_table.ForwardTable.{ForwardTable}
@@ -20,13 +21,13 @@ use Rattle.j39_vehicle.specs.declared.vehicle.gateway.Gateway.{Gateway}
 use Rattle.j39_vehicle.specs.declared.vehicle.forward.Forward.{Forward}
 use Rattle.j39_vehicle.specs.declared.vehicle.forward.ForwardedSignal.{ForwardedSignal}
 use Rattle.j39_vehicle.specs.declared.vehicle.vehicle_need.VehicleNeed.{VehicleNeed}
-use Rattle.j39_vehicle.specs.Resolved.{StandsForGateway, StandsForName, StandsForForward, StandsForSignal, StandForSignals, StandsForNeed}
+use Rattle.j39_vehicle.specs.Resolved.{StandsForGateway, StandsForName, StandsForForward, StandsForSignal, StandForSignals, StandsForNeed, group_beside}
 use Rattle.j39_vehicle.specs.declared.vehicle.bus_plan.BusPlan.{BusPlan}
 use Rattle.j39_vehicle.specs.declared.vehicle.places.UnitAt.{UnitAt}
 use Rattle.j39_vehicle.specs.declared.vehicle.places.GroupAt.{GroupAt}
 use Rattle.j39_vehicle.specs.VehiclePlaces.{HasUnit, HasGroup, HasForward, HasNeed, unit_count, group_count, signals_at}
 use Rattle.j39_vehicle.specs.TextKinds.{name_of}
-use Rattle.j39_vehicle.specs.Found.{bus_place, units_on, groups_on, signals_of, unit_place, group_place, signal_place, unit_named, group_named, receivers_on}
+use Rattle.j39_vehicle.specs.Found.{bus_place, units_on, groups_on, signals_of, unit_place, group_place, signal_place, unit_named, group_named, receivers_on, own_label, units_by}
 
 pub place_below : {X : Type 0} (p : X → Bool) (xs : List X) (i : ℕ) → position p xs ≡ Some i → i < length xs
 place_below p [] i is = cc
@@ -125,14 +126,14 @@ All-from_AllZip R P holds (x ∷ xs) (y ∷ ys) each = All-cons P y ys (holds x 
 pub gateway_units : (buses : List BusPlan) (gs : List GatewayTable) (hs : List Gateway) → AllZip (StandsForGateway buses) gs hs
     → All (λ h. All (HasUnit buses) h.units.items) hs
 gateway_units buses = All-from_AllZip (StandsForGateway buses) (λ h. All (HasUnit buses) h.units.items)
-    (λ g h stands. All-from_AllZip (StandsForName buses) (HasUnit buses) (λ n u found. unit_found buses _ u found) g.units.items h.units.items stands.units)
+    (λ g h stands. All-from_AllZip (StandsForName buses) (HasUnit buses) (λ n u found. unit_found buses (string_bytes n.text) u found) g.units.items h.units.items stands.units)
 
 pub need_places : (buses : List BusPlan) (ds : List NeedTable) (rs : List VehicleNeed) → AllZip (StandsForNeed buses) ds rs → All (HasNeed buses) rs
 need_places buses = All-from_AllZip (StandsForNeed buses) (HasNeed buses) (λ d r stands. record {
-  unit = unit_found buses _ r.unit stands.unit;
-  group = group_there buses r.unit.bus _ r.group stands.group;
-  signal = λ s is. given_signal_there buses _ _ s (sym stands.signal ∙ is);
-  from = unit_found buses _ r.from stands.from;
+  unit = unit_found buses (string_bytes d.unit.text) r.unit stands.unit;
+  group = group_there buses r.unit.bus (string_bytes d.group) r.group stands.group;
+  signal = λ s is. given_signal_there buses (group_beside r.unit.bus r.group) (option_map string_bytes d.signal) s (sym stands.signal ∙ is);
+  from = unit_found buses (string_bytes d.from.text) r.from stands.from;
 })
 
 read_there : (buses : List BusPlan) (heard sent : GroupAt) (listed : Option (List SignalTable)) (found : Option (Vec ForwardedSignal Global))
@@ -142,7 +143,7 @@ read_there buses heard sent listed None stand = λ v is. cc
 read_there buses heard sent None (Some v) stand = absurd stand
 read_there buses heard sent (Some signals) (Some v) stand = λ w is.
     subst (λ x. All (λ s. s.read < signals_at buses heard) x.items) (same_Some _ _ is)
-    (All-from_AllZip (StandsForSignal buses heard sent) (λ s. s.read < signals_at buses heard) (λ t s stands. signal_there buses heard _ s.read stands.read) signals v.items stand)
+    (All-from_AllZip (StandsForSignal buses heard sent) (λ s. s.read < signals_at buses heard) (λ t s stands. signal_there buses heard (string_bytes t.read) s.read stands.read) signals v.items stand)
 
 written_there : (buses : List BusPlan) (heard sent : GroupAt) (listed : Option (List SignalTable)) (found : Option (Vec ForwardedSignal Global))
     → StandForSignals buses heard sent listed (option_map (λ v. v.items) found)
@@ -151,18 +152,22 @@ written_there buses heard sent listed None stand = λ v is. cc
 written_there buses heard sent None (Some v) stand = absurd stand
 written_there buses heard sent (Some signals) (Some v) stand = λ w is.
     subst (λ x. All (λ s. s.written < signals_at buses sent) x.items) (same_Some _ _ is)
-    (All-from_AllZip (StandsForSignal buses heard sent) (λ s. s.written < signals_at buses sent) (λ t s stands. signal_there buses sent _ s.written stands.written) signals v.items stand)
+    (All-from_AllZip (StandsForSignal buses heard sent) (λ s. s.written < signals_at buses sent) (λ t s stands. signal_there buses sent (string_bytes t.written) s.written stands.written) signals v.items stand)
+
+-- the label of the gateway's unit beside a group
+abbrev own_of : List GatewayTable → ForwardTable → NameOnBus → Option (String Global) → Option (List ℕ)
+own_of gs f group given = own_label (units_by gs (string_bytes f.gateway)) (name_of (string_bytes group.text)).bus (option_map string_bytes given)
 
 pub forward_places : (buses : List BusPlan) (gs : List GatewayTable) (hs : List Gateway) (fs : List ForwardTable) (rs : List Forward)
     → length hs ≡ length gs → AllZip (StandsForForward buses gs) fs rs → All (HasForward buses hs) rs
 forward_places buses gs hs fs rs same = All-from_AllZip (StandsForForward buses gs) (HasForward buses hs) (λ f r stands. record {
-  gateway = rw same (place_below _ gs r.gateway stands.gateway);
-  input = group_found buses _ r.input stands.input;
-  from = λ u is. given_there buses r.input.bus _ u (sym stands.from ∙ is);
-  hearer = given_there buses r.input.bus _ r.hearer stands.hearer;
-  output = group_found buses _ r.output stands.output;
-  sender = given_there buses r.output.bus _ r.sender stands.sender;
-  to = λ u is. receiver_there buses r.output.bus _ u (sym stands.to ∙ is);
-  read = read_there buses r.input r.output _ r.signals stands.signals;
-  written = written_there buses r.input r.output _ r.signals stands.signals;
+  gateway = rw same (place_below (λ g. bytes_eq g.label.bytes (string_bytes f.gateway)) gs r.gateway stands.gateway);
+  input = group_found buses (string_bytes f.input.text) r.input stands.input;
+  from = λ u is. given_there buses r.input.bus (option_map string_bytes f.from) u (sym stands.from ∙ is);
+  hearer = given_there buses r.input.bus (own_of gs f f.input f.at) r.hearer stands.hearer;
+  output = group_found buses (string_bytes f.output.text) r.output stands.output;
+  sender = given_there buses r.output.bus (own_of gs f f.output f.by) r.sender stands.sender;
+  to = λ u is. receiver_there buses r.output.bus (option_map string_bytes f.to) u (sym stands.to ∙ is);
+  read = read_there buses r.input r.output (option_map (λ v. v.items) f.signals) r.signals stands.signals;
+  written = written_there buses r.input r.output (option_map (λ v. v.items) f.signals) r.signals stands.signals;
 }) fs rs

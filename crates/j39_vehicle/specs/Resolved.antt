@@ -138,10 +138,10 @@ found_faults buses file = each_found (gateway_found buses) 0 file.gateways.items
 
 -- the vehicle has these buses, and its gateways, forwards and needs are those of the file
 pub record StandsForFile (buses : List BusPlan) (file : VehicleFile) (v : Vehicle) : Type 0 where
-  pub buses : v.buses.items ≡ buses
-  pub gateways : AllZip (StandsForGateway buses) file.gateways.items v.gateways.items
-  pub forwards : AllZip (StandsForForward buses file.gateways.items) file.forwards.items v.forwards.items
-  pub needs : AllZip (StandsForNeed buses) file.needs.items v.needs.items
+  pub has_buses : v.buses.items ≡ buses
+  pub has_gateways : AllZip (StandsForGateway buses) file.gateways.items v.gateways.items
+  pub has_forwards : AllZip (StandsForForward buses file.gateways.items) file.forwards.items v.forwards.items
+  pub has_needs : AllZip (StandsForNeed buses) file.needs.items v.needs.items
 
 -- ---- where room is asked for: behind a table without a fault, or in one
 

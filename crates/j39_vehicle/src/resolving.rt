@@ -25,7 +25,7 @@ use std::alloc::Global;
 ///
 /// Refuses the first label that names nothing in these: a unit of a gateway; of a forward a group, a unit, or a signal; of a need a unit, a
 /// group, or a signal. A repeated signal is none that can be named.
-#[tactic(auto, using(crate::proofs::FirstFaults::faults_after, crate::proofs::FoundPlaces::gateway_units, crate::proofs::FoundPlaces::forward_places, crate::proofs::FoundPlaces::need_places))]
+#[tactic(auto, using(crate::proofs::FirstFaults::faults_after))]
 pub fn resolve(
     alloc: Global,
     file: &VehicleFile,

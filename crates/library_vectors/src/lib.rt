@@ -21,3 +21,7 @@ mod timing;
 mod transfers;
 #[cfg(test)]
 mod vehicle_files;
+#[cfg(test)]
+mod vehicle_forwards;
+#[cfg(test)]
+mod vehicles;
