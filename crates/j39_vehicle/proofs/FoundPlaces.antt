@@ -8,7 +8,6 @@ use Rattle.std.specs.Prelude.{position, option_and_then}
 use Rattle.std.specs.List.{AllZip, slice_get}
 use Rattle.std.specs.Option.{ForSome, option_map_or}
 use Rattle.std.specs.Str.{bytes_eq}
-use Rattle.j39_findings.specs.declared.plan.to.To.{To}
 use Rattle.j39_findings.specs.declared.plan.to.To.TheVariants.{All as ToAll, One}
 use Rattle.j39_findings.specs.declared.plan.group_plan.GroupPlan.{GroupPlan}
 use Rattle.j39_findings.specs.NeedPlaces.{signal_count}

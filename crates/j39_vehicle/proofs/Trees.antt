@@ -1,6 +1,6 @@
 -- From the tree of a text to what reading it answers.
 use Rattle.std.proofs.Common.{◌≢◌, [], suc, length, sym, ◌∙◌, subst, IsErrOf, ◌≡◌, ℕ}
-use Rattle.std.proofs.Common.{List, Option, Some, None, Result, Ok, Err}
+use Rattle.std.proofs.Common.{List, Option, Some, Result, Ok, Err}
 use Rattle.std.specs.Prelude.{IsUtf8}
 use Rattle.std.proofs.lemmas.Str.{is_utf8-from_IsUtf8}
 use Rattle.std.proofs.lemmas.Option.{same_Some}

@@ -7,6 +7,7 @@ pub mod GatewayTables
 pub mod Growing
 pub mod NeedTables
 pub mod Outcome
+pub mod PlanNames
 pub mod Resolved
 pub mod Schema
 pub mod SignalTables

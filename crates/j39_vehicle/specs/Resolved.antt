@@ -1,5 +1,5 @@
 -- The vehicle that a file and the plans of its buses describe, and the labels of the file that name nothing in these.
-use Rattle.std.specs.Prelude.{◌≡◌, ℕ, suc, List, [], ◌∷◌, ◌++◌, ◌⊎◌, map, Option, Some, None, is_some}
+use Rattle.std.specs.Prelude.{◌≡◌, ℕ, suc, List, [], ◌∷◌, ◌++◌, ◌⊎◌, Option, Some, None, is_some}
 use Rattle.std.specs.Prelude.{option_map, option_and_then, string_bytes}
 use Rattle.std.specs.List.{AllZip}
 use Rattle.j39_plan.specs.declared.reading.cause.Cause.TheVariants.{UnknownLabel}

@@ -1,5 +1,5 @@
 -- Every fault of a vehicle file's tree, in the order in which they are looked for.
-use Rattle.std.specs.Prelude.{ℕ, List, [], ◌∷◌, ◌++◌}
+use Rattle.std.specs.Prelude.{List, [], ◌∷◌, ◌++◌}
 use Rattle.toml.specs.Data.{Data, Members}
 use Rattle.j39_findings.specs.PlanLimits.{need_limit}
 use Rattle.j39_vehicle.specs.declared.reading.key.Key.TheVariants as key

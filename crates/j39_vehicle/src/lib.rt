@@ -3,6 +3,7 @@
 
 mod file;
 pub mod limits;
+mod plan_names;
 mod reading;
 mod resolving;
 mod vehicle;
@@ -10,6 +11,7 @@ mod vehicle;
 pub use file::{
     BusTable, ForwardTable, GatewayTable, NameOnBus, NeedTable, SignalTable, VehicleFile,
 };
+pub use plan_names::plan_file;
 pub use reading::{Fault, Key, Place, Table, VehicleError, read_vehicle};
 pub use resolving::resolve;
 pub use vehicle::{

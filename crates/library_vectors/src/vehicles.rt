@@ -1,7 +1,7 @@
 //! What the labels of vehicle files stand for in the plans of the buses.
 use crate::vehicle_files::line;
 use j39_plan::{To, read_plan};
-use j39_vehicle::{BusPlan, Mode, Vehicle, VehicleError, read_vehicle, resolve};
+use j39_vehicle::{BusPlan, Mode, Vehicle, VehicleError, plan_file, read_vehicle, resolve};
 use std::alloc::Global;
 use std::test::Fail;
 
@@ -295,5 +295,27 @@ fn names_stand_for_places(rt: HostRuntime) -> Result<(), Fail> {
         (need.signal, need.from.bus, need.from.unit, need.within),
         (Some(1), 0, 0, Some(30))
     );
+    Ok(())
+}
+
+#[test]
+fn plans_stand_beside_the_vehicle_file(rt: HostRuntime) -> Result<(), Fail> {
+    let rows = [
+        ("truck.toml", "body.toml", "body.toml"),
+        ("fleet/truck.toml", "body.toml", "fleet/body.toml"),
+        (
+            "fleet/truck.toml",
+            "plans/body.toml",
+            "fleet/plans/body.toml",
+        ),
+        ("/fleet/truck.toml", "body.toml", "/fleet/body.toml"),
+        ("/truck.toml", "body.toml", "/body.toml"),
+        ("fleet/truck.toml", "/body.toml", "/body.toml"),
+        ("fleet/", "body.toml", "fleet/body.toml"),
+        ("fleet/truck.toml", "../body.toml", "fleet/../body.toml"),
+    ];
+    for (vehicle, plan, wanted) in rows {
+        assert_eq!(rt; plan_file(rt.alloc(), vehicle, plan)?.as_str(), wanted);
+    }
     Ok(())
 }

@@ -1,6 +1,5 @@
 //! Names on buses.
 ghost use Rattle.std.specs.Prelude.{◌≡◌, string_bytes, Some};
-ghost use Rattle.std.specs.List.{after_first, before_first};
 ghost use Rattle.j39_vehicle.specs.TextKinds.{name_of};
 
 /// The part of a text before its first point: the whole, where there is none.

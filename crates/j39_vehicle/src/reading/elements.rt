@@ -1,5 +1,5 @@
 //! The elements of an array of tables.
-ghost use Rattle.std.specs.Prelude.{◌≡◌, ◌≤◌, ℕ, List, [], map, IfOk, length};
+ghost use Rattle.std.specs.Prelude.{◌≡◌, ℕ, List, [], map, IfOk, length};
 ghost use Rattle.toml.specs.View.{view, items_view};
 ghost use Rattle.j39_plan.specs.Elements.{Each};
 ghost use Rattle.j39_vehicle.specs.Elements.{each_faults, names_of};

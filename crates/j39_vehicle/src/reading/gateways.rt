@@ -1,13 +1,9 @@
 //! The gateways of a vehicle file.
-ghost use Rattle.std.specs.Prelude.{◌≡◌, ◌≤◌, [], map, length, IfOk};
+ghost use Rattle.std.specs.Prelude.{◌≡◌, [], map};
 ghost use Rattle.toml.specs.View.{items_view, table_view};
-ghost use Rattle.j39_vehicle.specs.declared.reading.place.Table.TheVariants as at;
-ghost use Rattle.j39_vehicle.specs.VehicleLimits.{gateway_unit_limit};
-ghost use Rattle.j39_vehicle.specs.Schema.{elements_at};
 ghost use Rattle.j39_vehicle.specs.Outcome.{Gives, GivesGrowing};
-ghost use Rattle.j39_vehicle.specs.TableFaults.{key_faults};
 ghost use Rattle.j39_vehicle.specs.BusTables.{named_bus};
-ghost use Rattle.j39_vehicle.specs.GatewayTables.{gateway_table_faults, named_gateway, units_faults, units_rule, TellsGateway};
+ghost use Rattle.j39_vehicle.specs.GatewayTables.{gateway_table_faults, named_gateway, units_faults, TellsGateway};
 
 use super::elements::ReadElement;
 use super::gateway_units::{are_on, units, units_cause};

@@ -1,5 +1,5 @@
 //! What tables name, and what names them.
-ghost use Rattle.std.specs.Prelude.{◌≡◌, map, ℕ, List, position};
+ghost use Rattle.std.specs.Prelude.{◌≡◌, map, position};
 ghost use Rattle.std.specs.List.{list_any};
 ghost use Rattle.std.specs.Str.{bytes_eq};
 ghost use Rattle.j39_vehicle.specs.TableFaults.{label_faults};

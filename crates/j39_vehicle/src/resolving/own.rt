@@ -1,6 +1,5 @@
 //! A gateway's units, and what a table may give or leave out.
 ghost use Rattle.std.specs.Prelude.{◌≡◌, option_and_then, option_map, position, string_bytes};
-ghost use Rattle.std.specs.List.{slice_get};
 ghost use Rattle.std.specs.Str.{bytes_eq};
 ghost use Rattle.j39_vehicle.specs.TextKinds.{name_of};
 ghost use Rattle.j39_vehicle.specs.TableFaults.{label_faults};

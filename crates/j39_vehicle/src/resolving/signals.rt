@@ -1,7 +1,4 @@
 //! The signals of forwards.
-ghost use Rattle.std.specs.Prelude.{◌≤◌, length, option_map, IfOk, IfSome};
-ghost use Rattle.j39_findings.specs.PlanLimits.{signal_limit};
-ghost use Rattle.j39_vehicle.specs.Outcome.{GivesGrowing};
 ghost use Rattle.j39_vehicle.specs.Resolved as spec;
 
 use super::each::{Resolve, resolve_each};

@@ -1,14 +1,13 @@
 use Rattle.std.proofs.Common.{◌≡◌, [], map, refl, inl, inr}
 use Rattle.std.proofs.lemmas.Result.{err_from_is_err_and}
 use Rattle.toml.specs.View.{items_view}
-use Rattle.j39_plan.specs.Elements.{Each}
 use Rattle.j39_vehicle.specs.Elements.{each_faults}
 use Rattle.j39_vehicle.specs.Growing.{EachGrows, GatewayGrows, ForwardGrows, NeedGrows}
 use Rattle.j39_vehicle.specs.Outcome.{FailsGrowing}
 use Rattle.j39_vehicle.specs.BusTables.{named_bus}
-use Rattle.j39_vehicle.specs.GatewayTables.{gateway_faults, gateway_name, named_gateway, IsGatewayOf}
-use Rattle.j39_vehicle.specs.ForwardTables.{forward_faults, IsForwardOf}
-use Rattle.j39_vehicle.specs.NeedTables.{need_faults, IsNeedOf}
+use Rattle.j39_vehicle.specs.GatewayTables.{gateway_faults, gateway_name, named_gateway}
+use Rattle.j39_vehicle.specs.ForwardTables.{forward_faults}
+use Rattle.j39_vehicle.specs.NeedTables.{need_faults}
 use Rattle.j39_vehicle.specs.VehicleFaults.{no_name}
 use Rattle.j39_vehicle.proofs.FirstFaults.{fails_on, first-append}
 use Rattle.j39_vehicle.proofs.reading.read_top.Goals as goal
