@@ -1,6 +1,7 @@
 //! Vehicle files as they are read: what refuses the top table, buses and gateways, and limits.
 use j39_vehicle::{Table, VehicleError, read_vehicle};
 use std::alloc::Global;
+use std::process::Abort;
 use std::test::Fail;
 
 // A vehicle file of version 1 with what follows, and what refuses it.
@@ -170,10 +171,10 @@ pub fn refusal(alloc: Global, text: &str) -> Result<String, Fail> {
 }
 
 /// Whether each file of version 1 with such tables is refused as wanted.
-pub fn are_refused(rt: HostRuntime, rows: &[(&str, &str)]) -> Result<(), Fail> {
+pub fn are_refused(rt: &impl Abort, alloc: Global, rows: &[(&str, &str)]) -> Result<(), Fail> {
     for (tables, wanted) in rows {
-        let text = format!(in rt.alloc(); "version = 1\n{tables}\n")?;
-        let told = refusal(rt.alloc(), text.as_str())?;
+        let text = format!(in alloc; "version = 1\n{tables}\n")?;
+        let told = refusal(alloc, text.as_str())?;
         assert_eq!(rt; told.as_str(), *wanted);
     }
     Ok(())
@@ -181,7 +182,7 @@ pub fn are_refused(rt: HostRuntime, rows: &[(&str, &str)]) -> Result<(), Fail> {
 
 #[test]
 fn each_refusal_is_told_with_its_place(rt: HostRuntime) -> Result<(), Fail> {
-    are_refused(rt, &REFUSED)
+    are_refused(&rt, rt.alloc(), &REFUSED)
 }
 
 #[test]

@@ -214,5 +214,5 @@ need = [{ unit = "P.U", group = "X", from = "Q.V" }]"#,
 
 #[test]
 fn each_refusal_of_a_forward_and_a_need_is_told(rt: HostRuntime) -> Result<(), Fail> {
-    are_refused(rt, &REFUSED)
+    are_refused(&rt, rt.alloc(), &REFUSED)
 }
