@@ -1,7 +1,7 @@
 -- Each test of what forwards hear, send and carry decides its statement.
-use Rattle.std.proofs.Common.{◌≡◌, ◌≢◌, ℕ, suc, zero, ◌+◌, ◌<◌, ◌≤◌, ◌==◌, ◌⊎◌, ◌↔◌, List, [], ◌∷◌, Bool, true, false, not, ◌||◌, ◌&&◌, length}
+use Rattle.std.proofs.Common.{◌≡◌, ℕ, suc, zero, ◌+◌, ◌<◌, ◌==◌, ◌⊎◌, ◌↔◌, List, [], ◌∷◌, Bool, true, false, not, length}
 use Rattle.std.proofs.Common.{nat_lt, Option, Some, None, Decides, refl, sym, ◌∙◌, ap, inl, inr, subst, arith}
-use Rattle.std.specs.List.{count_by, slice_get, list_any, position}
+use Rattle.std.specs.List.{count_by, slice_get, list_any}
 use Rattle.std.specs.Option.{MatchOption, option_map_or}
 use Rattle.std.proofs.lemmas.Bool.{false≢true, eqb-true}
 use Rattle.std.proofs.lemmas.Bool.Decides.{Decides-eqb, Decides-and, Decides-or, Decides-not, Decides-like, Decides-ltb, Decides-int_eq}
@@ -34,12 +34,12 @@ use Rattle.j39_vehicle.specs.declared.vehicle.places.UnitAt.{UnitAt}
 use Rattle.j39_vehicle.specs.declared.vehicle.vehicle_need.VehicleNeed.{VehicleNeed}
 use Rattle.j39_paths.specs.Buses.{group_at, requests_on, spn_at}
 use Rattle.j39_paths.specs.Forwards.{Copies, IsAmong, IsDirect, IsFollowed, IsInput, IsOutput, WriteOneSignal, Writes, heard, input_flows, listed, output_flows, units_of_gateway}
-use Rattle.j39_paths.specs.ForwardTests.{copies, goes_to, is_among, is_between, is_direct, is_direct_mode, is_followed, is_input, is_output, write_one_signal, writes}
-use Rattle.j39_paths.specs.Matching.{Agree, AreAlike, AreBothCodes, AreSameNumbers, AreSameUnits, Has, IsAlwaysValue, MayBeUnset, has_values_of}
-use Rattle.j39_paths.specs.MatchTests.{agree, are_alike, are_same_numbers, are_same_units, has, is_always_value, is_code, kind_number, may_be_unset, same_flag, same_scale, signal_width_fits}
+use Rattle.j39_paths.specs.ForwardTests.{copies, goes_to, is_among, is_direct, is_direct_mode, is_followed, is_input, is_output, write_one_signal, writes}
+use Rattle.j39_paths.specs.Matching.{Agree, AreAlike, AreSameNumbers, AreSameUnits, Has, IsAlwaysValue, has_values_of}
+use Rattle.j39_paths.specs.MatchTests.{agree, are_alike, are_same_numbers, are_same_units, has, is_always_value, is_code, kind_number, same_flag, signal_width_fits}
 use Rattle.j39_paths.specs.Traces.{IsNeedFlow, first_agreeing, flows_of_need, is_from_origin, needed}
-use Rattle.j39_paths.specs.VehicleFindings.{AreAtOdds, AreTwoForwards, AreUnlike, CopiesOtherLayout, DiffersFrom, FeedOneFlow, GroupsMeet, HasAnyQueue, HasManyInputs, HasManyOutputs, HasNoInput, HasNoOutput, HasTwoUnits, HaveOtherLayouts, IsCopiedOtherwise, IsInSelector, IsNeedUnmet, IsOtherSignal, IsSelector, IsWrittenOtherwise, MayShareQueue}
-use Rattle.j39_paths.specs.FoundPaths.{are_at_odds, are_two_forwards, are_unlike, copies_other_layout, differs_from, feed_one_flow, groups_pass, has_any_queue, has_many_inputs, has_many_outputs, has_no_input, has_no_output, has_other_records, has_other_selector, has_timing, have_other_layouts, is_any, is_copied_otherwise, is_in_selector, is_need_flow, is_need_unmet, is_other_signal, is_other_source, is_selector, is_written_otherwise, may_share_queue, same_byte, some_at}
+use Rattle.j39_paths.specs.VehicleFindings.{AreTwoForwards, AreUnlike, CopiesOtherLayout, DiffersFrom, GroupsMeet, HasAnyQueue, HasManyInputs, HasManyOutputs, HasNoInput, HasNoOutput, HaveOtherLayouts, IsCopiedOtherwise, IsNeedUnmet, IsOtherSignal, IsSelector, IsWrittenOtherwise, MayShareQueue}
+use Rattle.j39_paths.specs.FoundPaths.{are_two_forwards, are_unlike, copies_other_layout, differs_from, has_any_queue, has_many_inputs, has_many_outputs, has_no_input, has_no_output, have_other_layouts, is_any, is_copied_otherwise, is_in_selector, is_need_flow, is_need_unmet, is_other_signal, is_selector, is_written_otherwise, may_share_queue, same_byte, some_at}
 
 it_is : (b : Bool) → Decides b (b ≡ true)
 it_is b = (λ e. e, λ e. e)

@@ -1,23 +1,20 @@
 -- What each part of the list of findings has: what holds, in order.
-use Rattle.std.proofs.Common.{◌≡◌, ℕ, ◌+◌, ◌<◌, ◌≤◌, List, [], ◌∷◌, ◌++◌, Bool, true, false, Option, None}
-use Rattle.std.proofs.Common.{Some, Contains, Decides, length, refl, sym, ◌∙◌, ap, subst, inl, inr, arith}
+use Rattle.std.proofs.Common.{◌≡◌, ℕ, ◌+◌, ◌<◌, ◌≤◌, List, [], ◌∷◌, ◌++◌, Bool, Option, None}
+use Rattle.std.proofs.Common.{Some, Contains, Decides, refl, sym, ◌∙◌, ap, subst, inl, inr, arith}
 use Rattle.std.specs.List.{slice_get}
 use Rattle.std.specs.Option.{option_map_or}
-use Rattle.std.proofs.lemmas.Option.{none-some, same_Some}
 use Rattle.std.proofs.lemmas.List.Elements.{Contains-append_cases}
-use Rattle.j39_signal.specs.Parts.{SignalParts}
 use Rattle.j39_findings.specs.ListPlaces.{found_if, in_each, each, pairs, ValueAt, PairAt}
 use Rattle.j39_findings.specs.Findings.{IsBelow}
 use Rattle.j39_findings.specs.declared.plan.group_plan.GroupPlan.{GroupPlan}
-use Rattle.j39_findings.proofs.Members.{of_in_each, in_each_of, of_found_if, found_if_of, of_each, each_of, of_pairs, pairs_of}
+use Rattle.j39_findings.proofs.Members.{of_in_each, in_each_of, of_found_if, found_if_of, of_each, of_pairs}
 use Rattle.j39_findings.proofs.Rising.{Rises, Rises-append, Rises-found_if, Rises-in_each, Rises-each, Rises-pairs}
 use Rattle.j39_vehicle.specs.declared.vehicle.Vehicle.{Vehicle}
-use Rattle.j39_vehicle.specs.declared.vehicle.bus_plan.BusPlan.{BusPlan}
 use Rattle.j39_vehicle.specs.declared.vehicle.forward.Forward.{Forward}
 use Rattle.j39_vehicle.specs.declared.vehicle.gateway.Gateway.{Gateway}
 use Rattle.j39_paths.specs.Buses.{group_at}
-use Rattle.j39_paths.specs.VehicleFindings.{AreTwoForwards, CopiesOtherLayout, GroupsMeet, HasManyInputs, HasManyOutputs, HasNoInput, HasNoOutput, Holds, IsBefore, IsNeedUnmet, IsOtherSignal, MayShareQueue, SignalIsOther, finding_number, places_of}
-use Rattle.j39_paths.specs.FoundPaths.{are_two_forwards, content_findings, copies_other_layout, differences, end_findings, has_many_inputs, has_many_outputs, has_no_input, has_no_output, is_need_unmet, is_other_signal, may_share_queue, need_findings, queue_findings, shared_queues, signals_that_differ}
+use Rattle.j39_paths.specs.VehicleFindings.{AreTwoForwards, CopiesOtherLayout, HasManyInputs, HasManyOutputs, HasNoInput, HasNoOutput, Holds, IsBefore, IsNeedUnmet, IsOtherSignal, MayShareQueue, SignalIsOther, finding_number, places_of}
+use Rattle.j39_paths.specs.FoundPaths.{content_findings, differences, end_findings, is_other_signal, may_share_queue, need_findings, queue_findings, shared_queues, signals_that_differ}
 use Rattle.j39_paths.specs.declared.finding.VehicleFinding.{VehicleFinding}
 use Rattle.j39_paths.specs.declared.finding.VehicleFinding.TheVariants.{NoInput, ManyInputs, NoOutput, ManyOutputs, LayoutDiffers, SignalDiffers, TwoForwards, NeedUnmet, SharedQueue}
 use Rattle.j39_paths.proofs.Deciding.{Decides-are_two_forwards, Decides-copies_other_layout, Decides-has_many_inputs, Decides-has_many_outputs, Decides-has_no_input, Decides-has_no_output, Decides-is_need_unmet, Decides-is_other_signal, Decides-may_share_queue}

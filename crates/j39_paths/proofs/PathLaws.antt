@@ -1,19 +1,18 @@
 -- The list of findings has exactly what holds, in order.
-use Rattle.std.proofs.Common.{◌≡◌, ℕ, zero, suc, ◌+◌, ◌<◌, ◌≤◌, ◌⊎◌, List, [], ◌∷◌, ◌++◌, Bool, true, false, Some, Contains, Decides, length, refl, sym, ap, ◌∙◌, subst, inl, inr, arith}
+use Rattle.std.proofs.Common.{◌≡◌, ℕ, zero, suc, ◌+◌, ◌<◌, ◌⊎◌, List, [], ◌∷◌, ◌++◌, Bool, true, false, Some, Contains, Decides, length, refl, sym, ap, ◌∙◌, subst, inl, inr, arith}
 use Rattle.std.specs.List.{slice_get, slice_index_or}
 use Rattle.std.proofs.Math.ListN.{get_or-eq_default}
 use Rattle.std.proofs.lemmas.Bool.{false≢true, cases_lt}
-use Rattle.std.proofs.lemmas.Option.{slice_get-get_or, slice_get_within}
+use Rattle.std.proofs.lemmas.Option.{slice_get_within}
 use Rattle.std.proofs.lemmas.List.Elements.{Contains-append_left, Contains-append_right}
-use Rattle.j39_findings.specs.ListPlaces.{found_if, in_each, each, pairs, ValueAt}
+use Rattle.j39_findings.specs.ListPlaces.{found_if, in_each, each, pairs}
 use Rattle.j39_findings.proofs.Members.{of_in_each, in_each_of, of_found_if, found_if_of, each_of, pairs_of}
 use Rattle.j39_findings.proofs.Rising.{AllPairs-from_Rises, Rises-found_if, Rises-in_each}
 use Rattle.j39_vehicle.specs.declared.vehicle.Vehicle.{Vehicle}
 use Rattle.j39_vehicle.specs.declared.vehicle.forward.Forward.{Forward}
-use Rattle.j39_vehicle.specs.declared.vehicle.gateway.Gateway.{Gateway}
-use Rattle.j39_paths.specs.Forwards.{ComesAfter, Follows, at_once, later}
+use Rattle.j39_paths.specs.Forwards.{ComesAfter, at_once, later}
 use Rattle.j39_paths.specs.Loops.{TellLoops}
-use Rattle.j39_paths.specs.VehicleFindings.{AreFindings, AreTwoForwards, CopiesOtherLayout, HasManyInputs, HasManyOutputs, HasNoInput, HasNoOutput, Holds, IsBefore, IsNeedUnmet, MayShareQueue, finding_number}
+use Rattle.j39_paths.specs.VehicleFindings.{AreFindings, AreTwoForwards, CopiesOtherLayout, HasManyInputs, HasManyOutputs, HasNoInput, HasNoOutput, Holds, IsBefore, IsNeedUnmet, finding_number}
 use Rattle.j39_paths.specs.FoundPaths.{are_two_forwards, content_findings, copies_other_layout, differences, end_findings, has_many_inputs, has_many_outputs, has_no_input, has_no_output, is_need_unmet, loop_findings, need_findings, path_findings, queue_findings, shared_queues, vehicle_findings}
 use Rattle.j39_paths.specs.declared.finding.VehicleFinding.{VehicleFinding}
 use Rattle.j39_paths.specs.declared.finding.VehicleFinding.TheVariants.{NoInput, ManyInputs, NoOutput, ManyOutputs, LayoutDiffers, SignalDiffers, TwoForwards, ForwardLoop, NeedUnmet, SharedQueue}

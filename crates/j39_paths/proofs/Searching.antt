@@ -1,5 +1,5 @@
 -- Searches of a list, one value at a time.
-use Rattle.std.proofs.Common.{◌≡◌, ℕ, ◌+◌, ◌<◌, ◌≤◌, List, Bool, true, false, length, get_or, drop, refl, sym}
+use Rattle.std.proofs.Common.{◌≡◌, ℕ, ◌+◌, ◌<◌, ◌≤◌, List, Bool, true, false, length, get_or, drop, refl}
 use Rattle.std.proofs.lemmas.List.{drop_more, drop_all}
 use Rattle.j39_paths.specs.FoundPaths.{some_at}
 

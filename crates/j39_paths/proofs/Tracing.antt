@@ -1,5 +1,5 @@
 -- Traces, one forward at a time.
-use Rattle.std.proofs.Common.{◌≡◌, ℕ, zero, suc, ◌+◌, ◌-◌, ◌<◌, Option, Some, None, length, refl, sym, ◌∙◌, ap, arith}
+use Rattle.std.proofs.Common.{◌≡◌, ℕ, zero, suc, ◌+◌, ◌-◌, ◌<◌, Some, None, sym, ◌∙◌, ap, arith}
 use Rattle.std.specs.Option.{option_and_then, option_map_or}
 use Rattle.j39_vehicle.specs.declared.vehicle.Vehicle.{Vehicle}
 use Rattle.j39_paths.specs.declared.point.Point.{Point}

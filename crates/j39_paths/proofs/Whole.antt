@@ -1,5 +1,5 @@
 -- The parts of the list of findings one after another, and where each of them needs memory.
-use Rattle.std.proofs.Common.{◌≡◌, ◌≢◌, ℕ, List, [], ◌++◌, Bool, false, append_assoc, refl, ap, IsErrAnd, OnErr, Result, Ok, Err}
+use Rattle.std.proofs.Common.{◌≡◌, ◌≢◌, List, [], ◌++◌, Bool, false, append_assoc, ap, IsErrAnd, OnErr, Result, Ok, Err}
 use Rattle.std.specs.declared.alloc.AllocError.{AllocError}
 use Rattle.std.specs.List.{slice_index_or}
 use Rattle.j39_findings.specs.ListPlaces.{each, found_if, in_each, pairs}

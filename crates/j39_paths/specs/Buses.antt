@@ -1,8 +1,7 @@
 -- What the plan of a bus has, by the place of the bus: nothing where there is none.
-use Rattle.std.specs.Prelude.{ℕ, List, [], Option, None}
+use Rattle.std.specs.Prelude.{ℕ, List, [], Option}
 use Rattle.std.specs.List.{slice_get}
 use Rattle.std.specs.Option.{option_and_then, option_map_or}
-use Rattle.j39_signal.specs.Parts.{SignalParts}
 use Rattle.j39_findings.specs.declared.plan.flow_plan.FlowPlan.{FlowPlan}
 use Rattle.j39_findings.specs.declared.plan.group_plan.GroupPlan.{GroupPlan}
 use Rattle.j39_findings.specs.declared.plan.meaning.Meaning.{Meaning}

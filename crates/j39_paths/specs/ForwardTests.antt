@@ -1,19 +1,18 @@
 -- Tests of what a forward hears, sends and carries.
-use Rattle.std.specs.Prelude.{ℕ, List, Bool, true, false, not, ◌&&◌, ◌||◌, ◌==◌, Option, Some, None}
-use Rattle.std.specs.List.{slice_get, list_any, position}
+use Rattle.std.specs.Prelude.{ℕ, List, Bool, true, false, not, ◌&&◌, ◌==◌, Option, Some, None}
+use Rattle.std.specs.List.{slice_get, list_any}
 use Rattle.std.specs.Option.{option_map_or}
 use Rattle.j39_findings.specs.Found.{have_same_receiver, meets}
 use Rattle.j39_findings.specs.declared.plan.flow_plan.FlowPlan.{FlowPlan}
 use Rattle.j39_findings.specs.declared.plan.to.To.{To}
 use Rattle.j39_vehicle.specs.declared.vehicle.Vehicle.{Vehicle}
 use Rattle.j39_vehicle.specs.declared.vehicle.forward.Forward.{Forward}
-use Rattle.j39_vehicle.specs.declared.vehicle.forward.ForwardedSignal.{ForwardedSignal}
 use Rattle.j39_vehicle.specs.declared.vehicle.forward.Mode.{Mode}
 use Rattle.j39_vehicle.specs.declared.vehicle.forward.Mode.TheVariants.{Direct, Periodic}
 use Rattle.j39_vehicle.specs.declared.vehicle.places.UnitAt.{UnitAt}
 use Rattle.j39_paths.specs.Buses.{requests_on}
 use Rattle.j39_paths.specs.declared.point.FlowAt.{FlowAt}
-use Rattle.j39_paths.specs.Forwards.{heard, input_flows, listed, output_flows, units_of_gateway}
+use Rattle.j39_paths.specs.Forwards.{heard, listed, output_flows, units_of_gateway}
 
 abbrev pub is_among : List UnitAt → ℕ → ℕ → Bool
 is_among units bus unit = list_any (λ w. w.bus == bus && w.unit == unit) units

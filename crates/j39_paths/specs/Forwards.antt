@@ -1,5 +1,5 @@
 -- What a gateway hears and what it sends on: the inputs and the outputs of a forward, and what of the one goes into the other (SAE J1939-31).
-use Rattle.std.specs.Prelude.{◌≡◌, ℕ, List, [], Option, Some, None}
+use Rattle.std.specs.Prelude.{◌≡◌, ℕ, List, [], Some, None}
 use Rattle.std.specs.List.{slice_get}
 use Rattle.std.proofs.lemmas.Option.{none-some}
 use Rattle.std.specs.Option.{option_map_or}

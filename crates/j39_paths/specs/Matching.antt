@@ -4,7 +4,7 @@ use Rattle.j39_signal.specs.Parts.{SignalParts}
 use Rattle.j39_signal.specs.Places.{WidthFits}
 use Rattle.j39_signal.specs.State.{ranges_of}
 use Rattle.j39_signal.specs.declared.kind.Kind.{Kind}
-use Rattle.j39_signal.specs.declared.kind.Kind.TheVariants.{Measured, Discrete, Raw, States, Signed, Dtc}
+use Rattle.j39_signal.specs.declared.kind.Kind.TheVariants.{Raw, Signed, Dtc}
 
 -- the same bits, read the same way
 pub record Agree (s t : SignalParts) : Type 0 where

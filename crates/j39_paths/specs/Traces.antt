@@ -1,5 +1,5 @@
 -- Where what a flow brings comes from: from forward to forward, back to the unit that sent it first.
-use Rattle.std.specs.Prelude.{◌≡◌, ℕ, zero, suc, List, [], length, Bool, true, false, ◌&&◌, ◌||◌, ◌==◌, if◌then◌else◌, Option, Some, None}
+use Rattle.std.specs.Prelude.{◌≡◌, ℕ, zero, suc, List, length, Bool, true, false, ◌&&◌, ◌||◌, ◌==◌, if◌then◌else◌, Option, Some, None}
 use Rattle.std.specs.List.{slice_get, position}
 use Rattle.std.proofs.lemmas.Option.{none-some}
 use Rattle.std.specs.Option.{option_and_then, option_map, option_map_or}
@@ -14,7 +14,6 @@ use Rattle.j39_vehicle.specs.declared.vehicle.forward.ForwardedSignal.{Forwarded
 use Rattle.j39_vehicle.specs.declared.vehicle.places.UnitAt.{UnitAt}
 use Rattle.j39_vehicle.specs.declared.vehicle.vehicle_need.VehicleNeed.{VehicleNeed}
 use Rattle.j39_paths.specs.Buses.{flows_on, group_at, requests_on}
-use Rattle.j39_paths.specs.declared.point.FlowAt.{FlowAt}
 use Rattle.j39_paths.specs.declared.point.Point.{Point}
 use Rattle.j39_paths.specs.Forwards.{input_flows, listed}
 use Rattle.j39_paths.specs.ForwardTests.{copies, feeds, is_input, writes}

@@ -6,7 +6,6 @@ use Rattle.j39_signal.specs.Parts.{SignalParts}
 use Rattle.j39_signal.specs.Places.{SharesBit}
 use Rattle.j39_signal.specs.declared.selector.Selector.{Selector}
 use Rattle.j39_findings.specs.ListPlaces.{ValueAt, PairAt, SomeMeets, SoManyMeet}
-use Rattle.j39_findings.specs.declared.plan.flow_plan.FlowPlan.{FlowPlan}
 use Rattle.j39_findings.specs.declared.plan.group_plan.GroupPlan.{GroupPlan}
 use Rattle.j39_findings.specs.declared.plan.queue.Queue.TheVariants.{Any}
 use Rattle.j39_findings.specs.declared.plan.unit_plan.UnitPlan.{UnitPlan}
@@ -16,7 +15,6 @@ use Rattle.j39_vehicle.specs.declared.vehicle.bus_plan.BusPlan.{BusPlan}
 use Rattle.j39_vehicle.specs.declared.vehicle.forward.Forward.{Forward}
 use Rattle.j39_vehicle.specs.declared.vehicle.forward.ForwardedSignal.{ForwardedSignal}
 use Rattle.j39_vehicle.specs.declared.vehicle.gateway.Gateway.{Gateway}
-use Rattle.j39_vehicle.specs.declared.vehicle.places.UnitAt.{UnitAt}
 use Rattle.j39_vehicle.specs.declared.vehicle.vehicle_need.VehicleNeed.{VehicleNeed}
 use Rattle.j39_paths.specs.Buses.{group_at, spn_at}
 use Rattle.j39_paths.specs.Forwards.{ComesAfter, Copies, IsDirect, IsInput, IsOutput, WriteOneSignal, input_flows, listed, output_flows}

@@ -1,4 +1,4 @@
-use Rattle.std.proofs.Common.{◌≡◌, inl, inr}
+use Rattle.std.proofs.Common.{inl, inr}
 use Rattle.j39_paths.proofs.Whole.{contents_want, ends_want, loops_want, needs_want, on_err, whole_paths}
 use Rattle.j39_paths.proofs.checking.find_in_paths.Goals as goal
 

@@ -1,4 +1,4 @@
-use Rattle.std.proofs.Common.{◌≡◌, ◌<◌, false, ap, sym, ◌∙◌, Some, arith}
+use Rattle.std.proofs.Common.{◌≡◌, false, ap, sym, ◌∙◌, Some}
 use Rattle.std.specs.List.{slice_get, slice_index_or}
 use Rattle.std.proofs.lemmas.Option.{slice_get-get_or}
 use Rattle.j39_paths.proofs.Spreading.{news_decides}

@@ -1,5 +1,4 @@
-use Rattle.std.proofs.Common.{◌≡◌, length, arith}
-use Rattle.j39_paths.proofs.Spreading.{next_spread, none_waits, waiting_within}
+use Rattle.j39_paths.proofs.Spreading.{next_spread, waiting_within}
 use Rattle.j39_paths.proofs.loops.reach_all.Goals as goal
 
 pub reach-requires-clause-place : goal.reach-requires-clause-place

@@ -1,4 +1,4 @@
-use Rattle.std.proofs.Common.{◌≡◌, ℕ, ◌+◌, ◌-◌, ◌<◌, ◌≤◌, Some, None, length, sym, ◌∙◌, ap, arith}
+use Rattle.std.proofs.Common.{◌≡◌, ◌-◌, ◌<◌, Some, None, length, sym, ◌∙◌, ap, arith}
 use Rattle.j39_paths.specs.Traces.{goes_on, next_forward, trace_end}
 use Rattle.j39_paths.proofs.Tracing.{breaks_off, ends_here, goes_further, goes_on_too_often}
 use Rattle.j39_paths.proofs.traces.origin.Goals as goal
