@@ -6,5 +6,6 @@ pub mod inside
 pub mod Loops
 pub mod Matching
 pub mod MatchTests
+pub mod Times
 pub mod Traces
 pub mod VehicleFindings

@@ -9,6 +9,7 @@ mod laws;
 mod loops;
 mod matching;
 mod point;
+mod times;
 mod traces;
 
 pub use checking::{VehicleFindings, find_in_paths, find_in_queues};
@@ -16,4 +17,8 @@ pub use finding::VehicleFinding;
 pub use forwards::{first_input, is_input, is_output};
 pub use laws::vehicle_findings_are_exact;
 pub use point::{FlowAt, Point};
+pub use times::{
+    bit_time, bits_within, direct_feeder, flow_at, jitter_of, pause_of, source_at, sum_known,
+    timing_on,
+};
 pub use traces::{next_forward, origin};
