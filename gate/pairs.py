@@ -44,8 +44,10 @@ class Pair:
 KEPT = "laws::frames_that_keep_a_plan"
 PAIRS = (
     Pair("jitter of single frames is left out", "streams::single_stream", KEPT, (
-        Turn("specs/Loads.antt", "bits = longest_frame (most_bytes group);\n  late = bits_of_ms timing pace.jitter;", "bits = longest_frame (most_bytes group);\n  late = 0;"),
-        Turn("src/streams.rt", "bits: frame_bits(most_bytes(group)),\n        late: bits_of_ms(timing, pace.jitter),", "bits: frame_bits(most_bytes(group)),\n        late: 0,"),
+        Turn("specs/Loads.antt", "bits = longest_frame (most_bytes group);\n  late = bits_of_ms timing pace.jitter;",
+             "bits = longest_frame (most_bytes group);\n  late = 0;"),
+        Turn("src/streams.rt", "bits: frame_bits(most_bytes(group)),\n        late: bits_of_ms(timing, pace.jitter),",
+             "bits: frame_bits(most_bytes(group)),\n        late: 0,"),
     )),
     Pair("a period is a bit longer", "streams::single_stream", KEPT, (
         Turn("specs/Loads.antt", "period = bits_of_ms timing pace.period;\n  bits = longest_frame (most_bytes group);",
@@ -67,7 +69,8 @@ PAIRS = (
         Turn("src/damage.rt", "frames: rate.count,", "frames: 1,"),
     )),
     Pair("unplanned frames of the very priority go before none", "delays::blocking", KEPT, (
-        Turn("specs/Delays.antt", "unplanned_idents timing = timing.unplanned_priority * 2 ^ 26", "unplanned_idents timing = (timing.unplanned_priority + 1) * 2 ^ 26"),
+        Turn("specs/Delays.antt", "unplanned_idents timing = timing.unplanned_priority * 2 ^ 26",
+             "unplanned_idents timing = (timing.unplanned_priority + 1) * 2 ^ 26"),
         Turn("src/delays.rt", "u64::from(timing.unplanned_priority) * 67_108_864", "(u64::from(timing.unplanned_priority) + 1) * 67_108_864"),
     )),
     Pair("units that keep no order are taken for others", "identifiers::any_unit", KEPT, (
@@ -138,8 +141,8 @@ def main(asked: list[str]) -> int:
         for pair in chosen:
             before = apply(f"{top}/crates/{CRATE}", pair.turns)
             told = proved(top, words, (pair.function, pair.law))
-            print(f"{pair.name}: {pair.function} is {'proved' if told[pair.function] else 'refused'}, {pair.law} is {'proved' if told[pair.law] else 'refused'}",
-                  flush=True)
+            words_told = {name: "proved" if is_proved else "refused" for name, is_proved in told.items()}
+            print(f"{pair.name}: {pair.function} is {words_told[pair.function]}, {pair.law} is {words_told[pair.law]}", flush=True)
             refused, passed, unproved = refused + (not told[pair.law]), passed + told[pair.law], unproved + (not told[pair.function])
             for name, text in before.items():
                 with open(name, "w", encoding="utf-8") as file:
