@@ -1,0 +1,10 @@
+pub mod Buses
+pub mod Forwards
+pub mod ForwardTests
+pub mod FoundPaths
+pub mod inside
+pub mod Loops
+pub mod Matching
+pub mod MatchTests
+pub mod Traces
+pub mod VehicleFindings
