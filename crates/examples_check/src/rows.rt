@@ -2,12 +2,14 @@
 //!
 //! `PLAN.toml` is checked, and where `PLAN.addresses`, `PLAN.load` or `PLAN.show` stands beside it also answered as to its
 //! addresses, its load or its values; `PLAN.NAME.schedule` is run and `PLAN.NAME.log` is read by the plan beside it and,
-//! where `PLAN.NAME.follow` stands there, also followed, or `PLAN.NAME.all`, all frames of it; `NAME.line` is a frame line.
+//! where `PLAN.NAME.follow` stands there, also followed, or `PLAN.NAME.all`, all frames of it; `NAME.line` is a frame line;
+//! `NAME.vehicle` has the files of a vehicle, and what is written of them.
 //! Standard error stays empty, and the status is one of the program's output.
 
 use crate::outcome::perform;
 use crate::pieces::are_as_shown;
 use crate::stage::Stage;
+use crate::vehicles::run_vehicle;
 use std::fs;
 use std::rt::Files;
 
@@ -158,6 +160,11 @@ pub fn run_rows<R: Files + Print + AllocGlobal>(
             if let Some(name) = file.strip_suffix(kind.ending) {
                 run_row(rt, folder, kind, name)?;
             }
+        }
+    }
+    for file in files {
+        if file.ends_with(".vehicle") {
+            run_vehicle(rt, folder, file)?;
         }
     }
     Ok(())
