@@ -15,11 +15,13 @@ ghost use Rattle.j39_stream.specs.Streams.{HasFailed, log_limits, plan_limits};
 ghost use Rattle.j39_text.specs.FrameText.{IsInputText};
 
 use crate::{
-    Fault, Folder, Order, Sink, Source, Verdict, addresses_text, check_text, follow_text,
+    Fault, Folder, Order, Sink, Source, Verdict, addresses_text, bus_plan, check_text, follow_text,
     frame_text, input_text, load_text, plan_text, put_all, read_text, run_planned, show_text,
+    vehicle_file, vehicle_text,
 };
 use j39_findings::Plan;
-use std::alloc::Global;
+use j39_vehicle::{BusPlan, BusTable, VehicleFile, plan_file};
+use std::alloc::{AllocError, Global};
 
 // Each command holds its buffers and tables in a frame of its own, since that of `answer` lies on the stack below all of them.
 #[inline(never)]
@@ -194,6 +196,80 @@ fn follow_files<F: Folder, W: Sink>(
     }
 }
 
+// What a vehicle file says. Where it is refused, writes why, and gives nothing.
+fn vehicle_of<F: Folder, W: Sink>(
+    alloc: Global,
+    files: &F,
+    name: &str,
+    sink: &mut W,
+) -> Result<Option<VehicleFile>, Fault> {
+    vehicle_file(alloc, &mut files.open(name)?, sink)
+}
+
+// The plan of a bus of a vehicle. Where its file describes none, writes why, and gives none.
+fn plan_of_bus<F: Folder, W: Sink>(
+    alloc: Global,
+    files: &F,
+    vehicle: &str,
+    bus: &BusTable,
+    sink: &mut W,
+) -> Result<Option<Plan>, Fault> {
+    let name = plan_file(alloc, vehicle, bus.plan.as_str())?;
+    bus_plan(alloc, &bus.label, &mut files.open(name.as_str())?, sink)
+}
+
+fn add_bus(buses: &mut Vec<BusPlan>, table: &BusTable, plan: Plan) -> Result<(), AllocError> {
+    let label = table.label;
+    buses.push(BusPlan { label, plan })?;
+    Ok(())
+}
+
+// The plans of the buses of a vehicle, each of whose files is opened once the one before was read. Where one describes none, writes why,
+// and gives none.
+fn plans_of<F: Folder, W: Sink>(
+    alloc: Global,
+    files: &F,
+    vehicle: &str,
+    tables: &[BusTable],
+    sink: &mut W,
+) -> Result<Option<Vec<BusPlan>>, Fault> {
+    let mut buses = Vec::new(alloc);
+    for table in tables {
+        let Some(plan) = plan_of_bus(alloc, files, vehicle, table, sink)? else {
+            return Ok(None);
+        };
+        add_bus(&mut buses, table, plan)?;
+    }
+    Ok(Some(buses))
+}
+
+#[inline(never)]
+fn vehicle_by<W: Sink>(
+    alloc: Global,
+    file: &VehicleFile,
+    buses: Vec<BusPlan>,
+    sink: &mut W,
+) -> Result<Verdict, Fault> {
+    vehicle_text(alloc, file, buses, sink)
+}
+
+// Writes what is wrong with a vehicle; the files of the plans of its buses are opened once its own was read.
+#[inline(never)]
+fn vehicle_files<F: Folder, W: Sink>(
+    alloc: Global,
+    files: &F,
+    vehicle: &str,
+    sink: &mut W,
+) -> Result<Verdict, Fault> {
+    let Some(file) = vehicle_of(alloc, files, vehicle, sink)? else {
+        return Ok(Verdict::Unreadable);
+    };
+    match plans_of(alloc, files, vehicle, &file.buses, sink)? {
+        Some(buses) => vehicle_by(alloc, &file, buses, sink),
+        None => Ok(Verdict::Unreadable),
+    }
+}
+
 /// Writes what is asked for by an order: of the bytes of the files that it names, of its own line, or of the first line of the
 /// input. A file is opened once what comes before it was read.
 pub fn answer<F: Folder, S: Source, W: Sink>(
@@ -225,6 +301,7 @@ pub fn answer<F: Folder, S: Source, W: Sink>(
         Order::Follow(plan, log, all_frames) => {
             follow_files(alloc, files, plan, log, *all_frames, sink)
         }
+        Order::Vehicle(vehicle) => vehicle_files(alloc, files, vehicle, sink),
         Order::Help(text) => {
             put_all(sink, text.as_bytes())?;
             Ok(Verdict::Done)

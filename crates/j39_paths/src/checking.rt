@@ -18,6 +18,7 @@ use crate::loops::loops_of;
 use contents::find_in_contents;
 use ends::find_in_ends;
 use j39_vehicle::Vehicle;
+pub use needs::is_need_flow;
 use needs::find_in_needs;
 use queues::find_queues;
 use std::alloc::{AllocError, Global};

@@ -11,9 +11,10 @@ mod matching;
 mod point;
 mod traces;
 
-pub use checking::{VehicleFindings, find_in_paths, find_in_queues};
+pub use buses::{flows_on, group_at};
+pub use checking::{VehicleFindings, find_in_paths, find_in_queues, is_need_flow};
 pub use finding::VehicleFinding;
-pub use forwards::{first_input, is_input, is_output};
+pub use forwards::{feeds, first_input, is_direct, is_input, is_output, output_flows};
 pub use laws::vehicle_findings_are_exact;
 pub use point::{FlowAt, Point};
-pub use traces::{next_forward, origin};
+pub use traces::{goes_on, next_forward, origin};

@@ -59,6 +59,7 @@ fn command(alloc: Global, name: &str, values: &ArgMatches) -> Result<Order, Word
 {
     match name {
         "frame" => Ok(Order::Frame(value(alloc, values, "LINE")?)),
+        "vehicle" => Ok(Order::Vehicle(value(alloc, values, "VEHICLE")?)),
         _ => of_plan(alloc, name, values),
     }
 }

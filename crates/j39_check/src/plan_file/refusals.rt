@@ -64,15 +64,20 @@ fn write_fault(text: &mut TextBuffer, fault: &Fault) -> Result<(), AllocError>
     text.end_line()
 }
 
-/// The line of a refusal. Where the plan could not be read for want of memory there is none.
+/// Writes the line of a refusal. Where the plan could not be read for want of memory there is none.
+pub fn write_refusal(text: &mut TextBuffer, error: &PlanError) -> Result<(), AllocError> {
+    match error {
+        PlanError::Text => text.word("refused Text\n"),
+        PlanError::Fault(fault) => write_fault(text, fault),
+        PlanError::Memory => Err(AllocError),
+    }
+}
+
+/// The line of a refusal.
 pub(super) fn refusal(alloc: Global, error: &PlanError) -> Result<TextBuffer, AllocError>
     ensures { IfOk result (IsRefusalLine error.now) }
 {
     let mut text = TextBuffer::new(alloc);
-    match error {
-        PlanError::Text => text.word("refused Text\n")?,
-        PlanError::Fault(fault) => write_fault(&mut text, fault)?,
-        PlanError::Memory => return Err(AllocError),
-    }
+    write_refusal(&mut text, error)?;
     Ok(text)
 }

@@ -3,7 +3,7 @@ use Rattle.j39_findings.specs.Findings.{Clean}
 use Rattle.j39_findings.specs.declared.plan.Plan.{Plan}
 use Rattle.j39_world.specs.SoundPlan.{IsSound}
 use Rattle.j39_laws.proofs.Certified.{sound_by_laws}
-use Rattle.j39_laws.proofs.certificate.certify.Goals as goal
+use Rattle.j39_laws.proofs.certificate.clean_plans_are_sound.Goals as goal
 
 pub returns : goal.returns
 returns c =
@@ -12,8 +12,7 @@ returns c =
     (search rules) (search rules) (search rules) (search rules) (search rules) (search rules) (search rules) (search rules) (search rules)
     (search rules) (search rules) (search rules) (search rules) (search rules) (search rules) (search rules) (search rules) (search rules)
     (search rules) (search rules) (search rules) (search rules) in
-    let clean : Clean c.args.checked.now = search rules in
     record {
-      sound = each c.args.checked.now clean;
-      vehicles = λ vehicle is. each vehicle (c.serial_numbers_change_nothing.ensures.clean c.args.checked.now vehicle is clean);
+      sound = each;
+      vehicles = λ plan clean vehicle is. each vehicle (c.serial_numbers_change_nothing.ensures.clean plan vehicle is clean);
     }

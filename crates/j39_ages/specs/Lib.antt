@@ -1,0 +1,4 @@
+pub mod BusDelays
+pub mod FoundTimes
+pub mod TimeFindings
+pub mod Times

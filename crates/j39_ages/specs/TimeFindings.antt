@@ -1,0 +1,124 @@
+-- What can be wrong with the times of what a vehicle's gateways send on: each finding as a plain statement on its forwards and needs, by their
+-- places from 0.
+use Rattle.std.specs.Prelude.{◌≡◌, ℕ, ◌<◌, ◌≤◌, ◌⊎◌, List, [], ◌∷◌, Option, Some, None, true, false, Contains, AllPairs, IfSome}
+use Rattle.std.specs.List.{slice_get, position}
+use Rattle.std.specs.Option.{option_and_then, option_map}
+use Rattle.j39_findings.specs.Findings.{IsBelow}
+use Rattle.j39_findings.specs.ListPlaces.{ValueAt}
+use Rattle.j39_findings.specs.declared.plan.flow_plan.FlowPlan.{FlowPlan}
+use Rattle.j39_findings.specs.declared.plan.group_plan.GroupPlan.{GroupPlan}
+use Rattle.j39_findings.specs.declared.plan.pace.Pace.{Pace}
+use Rattle.j39_findings.specs.declared.plan.to.To.TheVariants.{All}
+use Rattle.j39_vehicle.specs.declared.vehicle.Vehicle.{Vehicle}
+use Rattle.j39_vehicle.specs.declared.vehicle.forward.Forward.{Forward}
+use Rattle.j39_vehicle.specs.declared.vehicle.vehicle_need.VehicleNeed.{VehicleNeed}
+use Rattle.j39_paths.specs.Buses.{groups_on}
+use Rattle.j39_paths.specs.Forwards.{IsDirect, output_flows}
+use Rattle.j39_paths.specs.ForwardTests.{is_output}
+use Rattle.j39_paths.specs.Traces.{IsNeedFlow, flows_of_need, point_on}
+use Rattle.j39_paths.specs.declared.point.FlowAt.{FlowAt}
+use Rattle.j39_ages.specs.declared.bus_delays.Delays.{Delays}
+use Rattle.j39_ages.specs.declared.finding.TimeFinding.{TimeFinding}
+use Rattle.j39_ages.specs.declared.finding.TimeFinding.TheVariants.{TooOften, TooLate, TooRare, NeedTooOld}
+use Rattle.j39_ages.specs.Times.{age, flow_at, input_at, jitter_of, queued_of, silent, timing_on, us_of_ms}
+
+-- a number is known, and at most so large
+abbrev pub IsWithin : ℕ → Option ℕ → Type 0
+IsWithin most number = (n : ℕ) × (number ≡ Some n) × (n ≤ most)
+
+-- ---- direct forwards
+
+abbrev pub first_output : Vehicle → Forward → Option FlowPlan
+first_output v n = option_and_then (slice_get (output_flows v n)) (position (is_output n) (output_flows v n))
+
+-- a direct forward to a bus of whose timing something is known: its first input, by its place, and its first output
+pub record IsDirectBetween (v : Vehicle) (n : Forward) (R : FlowAt → FlowPlan → FlowPlan → Type 0) : Type 0 where
+  pub direct : IsDirect n
+  pub timing : ¬ (timing_on v.buses.items n.output.bus ≡ None)
+  pub at : FlowAt
+  pub at_is : input_at v n ≡ Some at
+  pub input : FlowPlan
+  pub input_is : flow_at v.buses.items at ≡ Some input
+  pub output : FlowPlan
+  pub output_is : first_output v n ≡ Some output
+  pub related : R at input output
+
+abbrev pub period_of : FlowPlan → Option ℕ
+period_of flow = option_map (λ (pace : Pace). pace.period) flow.pace
+
+-- the input's messages needn't be as far apart as those of the output have to be; or these are sent only where they are asked for, and those
+-- aren't
+abbrev pub IsMoreOften : FlowPlan → FlowPlan → Type 0
+IsMoreOften i f = ((p : ℕ) × (period_of f ≡ Some p) × (¬ ((q : ℕ) × (period_of i ≡ Some q) × (p ≤ q))))
+    ⊎ ((f.on_request ≡ true) × (i.on_request ≡ false))
+
+abbrev pub IsTooOften : Vehicle → Forward → Type 0
+IsTooOften v n = IsDirectBetween v n (λ at i f. IsMoreOften i f)
+
+-- a flow to all that has no written deadline, and each of whose messages goes in packets (SAE J1939-21): nothing is asked of its jitter
+pub record IsUnlimited (groups : List GroupPlan) (f : FlowPlan) : Type 0 where
+  pub to : f.to ≡ All
+  pub limit : option_and_then (λ (pace : Pace). pace.deadline) f.pace ≡ None
+  pub long : ValueAt (λ (group : GroupPlan). 8 < group.length) groups f.group
+
+-- it is asked of the forward that it queues each message within the jitter of its output
+abbrev pub IsLateAsked : Vehicle → Forward → Type 0
+IsLateAsked v n = IsDirectBetween v n (λ at i f. ¬ IsUnlimited (groups_on v.buses.items n.output.bus) f)
+
+abbrev pub IsTooLate : Vehicle → Delays → Forward → Type 0
+IsTooLate v delays n = IsDirectBetween v n (λ at i f.
+    (¬ IsUnlimited (groups_on v.buses.items n.output.bus) f) × (¬ IsWithin (us_of_ms (jitter_of f)) (queued_of v delays n)))
+
+-- a message of the output has its moment in each of its pauses, and none of the input need have
+abbrev pub IsTooRare : Vehicle → Forward → Type 0
+IsTooRare v n = IsDirectBetween v n (λ at i f. (ms : ℕ) × (f.pause ≡ Some ms) × (¬ IsWithin (us_of_ms ms) (silent v at)))
+
+-- ---- needs
+
+-- the flow at a place is one of the need's, and what it brings is at most so old
+pub record IsYoungFlow (v : Vehicle) (delays : Delays) (d : VehicleNeed) (most f : ℕ) : Type 0 where
+  pub flow : ValueAt (IsNeedFlow v d f) (flows_of_need v d) f
+  pub age : IsWithin most (age v delays (point_on d.unit.bus f d.signal))
+
+-- it has flows, and none that is as young as it asks
+pub record IsNeedTooOld (v : Vehicle) (delays : Delays) (d : VehicleNeed) : Type 0 where
+  pub within : ℕ
+  pub within_is : d.within ≡ Some within
+  pub met : (f : ℕ) × ValueAt (IsNeedFlow v d f) (flows_of_need v d) f
+  pub old : (f : ℕ) → ¬ IsYoungFlow v delays d (us_of_ms within) f
+
+-- ---- the findings
+
+-- what a finding says of a vehicle, where its buses have these delays
+abbrev pub TimeHolds : Vehicle → Delays → TimeFinding → Type 0
+TimeHolds v delays (TooOften n) = ValueAt (IsTooOften v) v.forwards.items n
+TimeHolds v delays (TooLate n) = ValueAt (IsTooLate v delays) v.forwards.items n
+TimeHolds v delays (TooRare n) = ValueAt (IsTooRare v) v.forwards.items n
+TimeHolds v delays (NeedTooOld d) = ValueAt (IsNeedTooOld v delays) v.needs.items d
+
+-- ---- their order
+
+-- the number under which a finding is known
+abbrev pub time_finding_number : TimeFinding → ℕ
+time_finding_number (TooOften n) = 10
+time_finding_number (TooLate n) = 11
+time_finding_number (TooRare n) = 12
+time_finding_number (NeedTooOld d) = 13
+
+-- the place that it names
+abbrev pub time_finding_place : TimeFinding → ℕ
+time_finding_place (TooOften n) = n
+time_finding_place (TooLate n) = n
+time_finding_place (TooRare n) = n
+time_finding_place (NeedTooOld d) = d
+
+-- by the number, then by the place
+abbrev pub ComesBefore : TimeFinding → TimeFinding → Type 0
+ComesBefore f g = (time_finding_number f < time_finding_number g)
+    ⊎ ((time_finding_number f ≡ time_finding_number g) × (time_finding_place f < time_finding_place g))
+
+-- all that is wrong with the times of the vehicle and nothing else, in order
+pub record AreTimeFindings (v : Vehicle) (delays : Delays) (findings : List TimeFinding) : Type 0 where
+  pub sound : (finding : TimeFinding) → Contains findings finding → TimeHolds v delays finding
+  pub complete : (finding : TimeFinding) → TimeHolds v delays finding → Contains findings finding
+  pub in_order : AllPairs ComesBefore findings

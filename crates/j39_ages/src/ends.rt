@@ -1,0 +1,195 @@
+//! What is asked of a direct forward, between its first input and its first output.
+ghost use Rattle.std.specs.Prelude.{◌≡◌, ◌&&◌, not};
+ghost use Rattle.std.specs.List.{position};
+ghost use Rattle.std.specs.Option.{option_copied};
+ghost use Rattle.j39_paths.specs.ForwardTests.{is_output};
+ghost use Rattle.j39_paths.specs.Forwards.{output_flows};
+ghost use Rattle.j39_ages.specs.TimeFindings.{first_output, period_of};
+ghost use Rattle.j39_ages.specs.FoundTimes.{has_deadline, has_such_a_period, is_asked, is_late_asked, is_late_asked_of, is_long, is_more_often, is_timed_bus, is_to_all, is_too_late, is_too_often, is_too_rare, is_unlimited, is_within};
+ghost use Rattle.j39_ages.specs.Times.{silent, us_of_ms};
+
+use crate::bus_delays::Delays;
+use crate::chains::{queued_of, silent};
+use crate::flows::{flow_at, input_at, jitter_of, timing_on, us_of_ms};
+use j39_findings::{FlowPlan, To};
+use j39_paths::{FlowAt, group_at, is_direct, is_output, output_flows};
+use j39_vehicle::{Forward, GroupAt, Vehicle};
+
+/// Whether a number is known, and at most so large.
+pub fn is_within(most: u64, number: Option<u64>) -> bool
+    ensures { result ≡ is_within most number }
+{
+    match number {
+        Some(number) => number <= most,
+        None => false,
+    }
+}
+
+fn output_place(vehicle: &Vehicle, forward: &Forward) -> Option<usize>
+    ensures { result ≡ position (is_output forward.now) (output_flows vehicle.now forward.now) }
+{
+    output_flows(vehicle, forward)
+        .iter()
+        .position(|flow| is_output(forward, flow))
+}
+
+fn first_output<'a>(vehicle: &'a Vehicle, forward: &Forward) -> Option<&'a FlowPlan>
+    ensures { option_copied result ≡ first_output vehicle.now forward.now }
+{
+    match output_place(vehicle, forward) {
+        Some(place) => output_flows(vehicle, forward).get(place),
+        None => None,
+    }
+}
+
+
+fn is_timed_bus(vehicle: &Vehicle, bus: usize) -> bool
+    ensures { result ≡ is_timed_bus vehicle.now bus }
+{
+    timing_on(&vehicle.buses, bus).is_some()
+}
+
+// The first input of the forward by its place, and the plans of this and of the first output, if it is direct and something is known of
+// the bus where it sends.
+fn direct_ends<'a>(
+    vehicle: &'a Vehicle,
+    forward: &Forward,
+) -> Option<(FlowAt, &'a FlowPlan, &'a FlowPlan)> {
+    if !is_direct(forward) || !is_timed_bus(vehicle, forward.output.bus) {
+        return None;
+    }
+    let Some(at) = input_at(vehicle, forward) else {
+        return None;
+    };
+    let Some(input) = flow_at(&vehicle.buses, at) else {
+        return None;
+    };
+    match first_output(vehicle, forward) {
+        Some(output) => Some((at, input, output)),
+        None => None,
+    }
+}
+
+fn period_of(flow: &FlowPlan) -> Option<u16>
+    ensures { result ≡ period_of flow.now }
+{
+    match flow.pace {
+        Some(pace) => Some(pace.period),
+        None => None,
+    }
+}
+
+fn has_such_a_period(input: &FlowPlan, period: u16) -> bool
+    ensures { result ≡ has_such_a_period input.now period }
+{
+    match period_of(input) {
+        Some(own) => period <= own,
+        None => false,
+    }
+}
+
+// Whether the input's messages may come more often than those of the output may be sent.
+fn is_more_often(input: &FlowPlan, output: &FlowPlan) -> bool
+    ensures { result ≡ is_more_often input.now output.now }
+{
+    let is_nearer = match period_of(output) {
+        Some(period) => !has_such_a_period(input, period),
+        None => false,
+    };
+    is_nearer || output.on_request && !input.on_request
+}
+
+/// Whether what the forward hears may come more often than its output may be sent.
+pub fn is_too_often(vehicle: &Vehicle, forward: &Forward) -> bool
+    ensures { result ≡ is_too_often vehicle.now forward.now }
+{
+    match direct_ends(vehicle, forward) {
+        Some((_at, input, output)) => is_more_often(input, output),
+        None => false,
+    }
+}
+
+fn has_deadline(flow: &FlowPlan) -> bool
+    ensures { result ≡ has_deadline flow.now }
+{
+    match flow.pace {
+        Some(pace) => pace.deadline.is_some(),
+        None => false,
+    }
+}
+
+// Whether each message of the group is longer than a frame.
+fn is_long(vehicle: &Vehicle, place: GroupAt) -> bool {
+    match group_at(&vehicle.buses, place) {
+        Some(group) => 8 < group.length,
+        None => false,
+    }
+}
+
+// Whether it is asked that messages of the flow, one of the bus where the forward sends, are queued within its jitter: not of a broadcast
+// without a written deadline all of whose messages go in packets.
+fn is_asked(vehicle: &Vehicle, forward: &Forward, output: &FlowPlan) -> bool
+    ensures { result ≡ is_asked vehicle.now forward.now output.now }
+{
+    let group = GroupAt {
+        bus: forward.output.bus,
+        group: output.group,
+    };
+    match output.to {
+        To::All => has_deadline(output) || !is_long(vehicle, group),
+        To::One(_) => true,
+    }
+}
+
+fn is_late_asked_of(vehicle: &Vehicle, forward: &Forward) -> bool
+    ensures { result ≡ is_late_asked_of vehicle.now forward.now }
+{
+    match direct_ends(vehicle, forward) {
+        Some((_at, _input, output)) => is_asked(vehicle, forward, output),
+        None => false,
+    }
+}
+
+/// Whether it is asked that the forward at a place queues each message within the jitter of its output.
+pub fn is_late_asked(vehicle: &Vehicle, forward: usize) -> bool
+    ensures { result ≡ is_late_asked vehicle.now forward }
+{
+    match vehicle.forwards.get(forward) {
+        Some(forward) => is_late_asked_of(vehicle, forward),
+        None => false,
+    }
+}
+
+/// Whether it is, and isn't shown that it does.
+pub fn is_too_late(vehicle: &Vehicle, delays: &Delays, forward: &Forward) -> bool
+    ensures { result ≡ is_too_late vehicle.now delays.now forward.now }
+{
+    match direct_ends(vehicle, forward) {
+        Some((_at, _input, output)) => {
+            is_asked(vehicle, forward, output)
+                && !is_within(
+                    us_of_ms(jitter_of(output)),
+                    queued_of(vehicle, delays, forward),
+                )
+        }
+        None => false,
+    }
+}
+
+// Whether messages of the input may stay away for longer than those of the output.
+fn is_rarer(vehicle: &Vehicle, at: FlowAt, output: &FlowPlan) -> bool {
+    match output.pause {
+        Some(ms) => !is_within(us_of_ms(ms), silent(vehicle, at)),
+        None => false,
+    }
+}
+
+/// Whether what the forward hears may stay away for longer than its output may.
+pub fn is_too_rare(vehicle: &Vehicle, forward: &Forward) -> bool
+    ensures { result ≡ is_too_rare vehicle.now forward.now }
+{
+    match direct_ends(vehicle, forward) {
+        Some((at, _input, output)) => is_rarer(vehicle, at, output),
+        None => false,
+    }
+}

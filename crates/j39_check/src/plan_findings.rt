@@ -1,0 +1,40 @@
+//! Everything that is wrong with a plan.
+
+use j39_findings::{Findings, Plan, check};
+use j39_load::{LoadFinding, check_load};
+use std::alloc::{AllocError, Global};
+
+/// Everything that is wrong with a plan: with what it says, and with what it asks of its bus.
+#[derive(Drop)]
+pub struct PlanFindings {
+    pub findings: Findings,
+    pub others: Vec<LoadFinding>,
+}
+
+// Whether a finding is one of a bus that is too full, of a late flow, or of an old need: F17, F18 or F20.
+fn is_of_times(number: u8) -> bool {
+    matches!(number, 17 | 18 | 20)
+}
+
+impl PlanFindings {
+    /// What is wrong with the plan.
+    pub fn new(alloc: Global, plan: &Plan) -> Result<Self, AllocError> {
+        let others = check_load(alloc, plan)?;
+        let findings = check(alloc, plan)?;
+        Ok(PlanFindings { findings, others })
+    }
+
+    /// How many findings there are.
+    pub fn count(&self) -> usize {
+        self.findings.len() + self.others.len()
+    }
+
+    /// Whether each of them is F17, F18 or F20: what is told of times stands all the same.
+    pub fn are_of_times(&self) -> bool {
+        self.findings.is_empty()
+            && self
+                .others
+                .iter()
+                .all(|finding| is_of_times(finding.number()))
+    }
+}
