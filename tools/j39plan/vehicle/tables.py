@@ -190,3 +190,9 @@ class VehicleTables:
         self.gateways = [Gateway(table.text("label"), [OnBus.of(text) for text in table.texts("unit")], table.place) for table in gateways]
         self.forwards = [forward_of(table) for table in forwards]
         self.needs = [need_of(table) for table in needs]
+
+    def units_on(self, bus: str) -> set[str]:
+        """The labels of the units of a bus that gateways have, or that needs are of."""
+        of_gateways = (unit for gateway in self.gateways for unit in gateway.units)
+        of_needs = (unit for need in self.needs for unit in (need.unit, need.sender))
+        return {unit.label for some in (of_gateways, of_needs) for unit in some if unit.bus == bus}
