@@ -1,0 +1,3 @@
+pub mod Multiples
+pub mod Indexes
+pub mod Values

@@ -1,0 +1,19 @@
+//! Laws of vehicles: what gateways send on from bus to bus arrives unaltered.
+#![tactic(auto)]
+
+ghost use Rattle.std.specs.Prelude.{[]};
+ghost use Rattle.j39_vehicle.specs.declared.vehicle.Vehicle.{Vehicle};
+ghost use Rattle.j39_paths.specs.VehicleFindings.{AreFindings};
+ghost use Rattle.j39_vehicle_laws.specs.Unaltered.{IsUnaltered};
+ghost use Rattle.j39_vehicle_laws.specs.Values.{HavingIsOfValues, OneValueIsPassedOn};
+
+/// Of a vehicle without findings nothing is altered.
+pub fn nothing_is_altered()
+    ensures { (v : Vehicle) → AreFindings v [] → IsUnaltered v }
+{}
+
+/// Values.
+pub fn values_are_passed_on()
+    ensures has { HavingIsOfValues }
+    ensures passed { OneValueIsPassedOn }
+{}
