@@ -1,3 +1,7 @@
-pub mod Multiples
+pub mod Bringing
+pub mod Forwarding
+pub mod Hops
 pub mod Indexes
+pub mod Multiples
+pub mod Places
 pub mod Values

@@ -1,5 +1,5 @@
 -- What a message carries, forward by forward along its trace, back to the unit that sent it first.
-use Rattle.std.specs.Prelude.{◌≡◌, ℕ, ◌==◌, Bool, true, Option, Some, None}
+use Rattle.std.specs.Prelude.{◌≡◌, ℕ, ◌⊎◌, ◌==◌, Bool, true, Option, Some, None}
 use Rattle.std.specs.List.{slice_get, position}
 use Rattle.std.specs.Option.{option_and_then, option_map_or}
 use Rattle.j39_signal.specs.Parts.{SignalParts}
@@ -13,7 +13,7 @@ use Rattle.j39_paths.specs.Forwards.{Copies, listed}
 use Rattle.j39_paths.specs.Traces.{behind_forward, next_forward}
 use Rattle.j39_paths.specs.declared.point.Point.{Point}
 use Rattle.j39_vehicle_laws.specs.Faithful.{IsFaithful, signal_of}
-use Rattle.j39_vehicle_laws.specs.Reading.{IsTaken, reading}
+use Rattle.j39_vehicle_laws.specs.Reading.{IsUnset, ReadsOver, reading}
 use Rattle.j39_vehicle_laws.specs.VehicleRuns.{IsBegun, IsReported, Message, flow_at}
 
 -- ---- the signal of a trace
@@ -36,11 +36,11 @@ is_exact_into n t = option_map_or (λ (f : ForwardedSignal). f.exact) (listed_fo
 abbrev pub is_exact : Forward → Option ℕ → Bool
 is_exact n signal = option_map_or (is_exact_into n) signal true
 
--- what the signal of the trace reads in a message, where it is s in the one that this carries, or in none
+-- what the signal of the trace reads in a message that carries this one, or none
 abbrev pub IsTakenOver : Vehicle → Forward → Option Message → Message → Type 0
-IsTakenOver v n (Some k) m = (s t : SignalParts) → signal_at v k.point ≡ Some s → signal_at v m.point ≡ Some t
-    → IsTaken s (Some k.bytes) t (is_exact n m.point.signal) (reading t m.bytes)
-IsTakenOver v n None m = (s t : SignalParts) → signal_at v m.point ≡ Some t → IsTaken s None t (is_exact n m.point.signal) (reading t m.bytes)
+IsTakenOver v n (Some k) m = (t : SignalParts) → signal_at v m.point ≡ Some t → IsUnset t (is_exact n m.point.signal) (reading t m.bytes)
+    ⊎ ((s : SignalParts) × (signal_at v k.point ≡ Some s) × ReadsOver s k.bytes t (is_exact n m.point.signal) (reading t m.bytes))
+IsTakenOver v n None m = (t : SignalParts) → signal_at v m.point ≡ Some t → IsUnset t (is_exact n m.point.signal) (reading t m.bytes)
 
 -- ---- forward by forward
 

@@ -1,5 +1,5 @@
 -- What signals read in messages, and when one of them reads what another read (SAE J1939-71, transmitted signal ranges).
-use Rattle.std.specs.Prelude.{◌≡◌, ℕ, ◌*◌, ◌<◌, ◌⊎◌, ℤ, pos, ◌-ℤ◌, ◌*ℤ◌, ◌<ℤ◌, unsigned_abs, Bool, false, if◌then◌else◌, List, length, Option, Some, None}
+use Rattle.std.specs.Prelude.{◌≡◌, ℕ, ◌*◌, ◌<◌, ◌⊎◌, ℤ, pos, ◌-ℤ◌, ◌*ℤ◌, ◌<ℤ◌, unsigned_abs, Bool, false, if◌then◌else◌, List, length}
 use Rattle.j39_signal.specs.Bits.{raw_of}
 use Rattle.j39_signal.specs.Parts.{SignalParts}
 use Rattle.j39_signal.specs.Places.{is_inside}
@@ -45,11 +45,11 @@ abbrev pub ReadsValueOf : SignalParts → List ℕ → SignalParts → State →
 ReadsValueOf s before t to =
     (a : ℤ) × (b : ℤ) × (reading s before ≡ Value a) × (to ≡ Value b) × (AreOneValue s a t b ⊎ StandsFor s a t b)
 
--- or t reads no value, or, where it needn't be exact, what it reads when it is given up
+-- it reads it, or where it needn't be exact one that stands for it
+abbrev pub ReadsOver : SignalParts → List ℕ → SignalParts → Bool → State → Type 0
+ReadsOver s before t exact to =
+    (a : ℤ) × (b : ℤ) × (reading s before ≡ Value a) × (to ≡ Value b) × (AreOneValue s a t b ⊎ ((exact ≡ false) × StandsFor s a t b))
+
+-- t reads no value, or, where it needn't be exact, what it reads when it is given up
 abbrev pub IsUnset : SignalParts → Bool → State → Type 0
 IsUnset t exact to = HasNoValue to ⊎ ((exact ≡ false) × (to ≡ unset_state t))
-
--- what t reads where s goes into it, and the bytes are those of the message that is carried, if any is
-abbrev pub IsTaken : SignalParts → Option (List ℕ) → SignalParts → Bool → State → Type 0
-IsTaken s None t exact to = IsUnset t exact to
-IsTaken s (Some before) t exact to = ReadsValueOf s before t to ⊎ IsUnset t exact to

@@ -7,10 +7,15 @@ ghost use Rattle.j39_paths.specs.VehicleFindings.{AreFindings};
 ghost use Rattle.j39_vehicle_laws.specs.Unaltered.{IsUnaltered};
 ghost use Rattle.j39_vehicle_laws.specs.Values.{HavingIsOfValues, OneValueIsPassedOn};
 
+use j39_laws::{reports_are_sound, sent_frames_are_sound};
+
 /// Of a vehicle without findings nothing is altered.
 pub fn nothing_is_altered()
     ensures { (v : Vehicle) → AreFindings v [] → IsUnaltered v }
-{}
+{
+    reports_are_sound();
+    sent_frames_are_sound();
+}
 
 /// Values.
 pub fn values_are_passed_on()
