@@ -4,3 +4,4 @@ pub mod Faithful
 pub mod VehicleRuns
 pub mod Carrying
 pub mod Unaltered
+pub mod Passing
