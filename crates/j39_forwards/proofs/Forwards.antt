@@ -14,7 +14,7 @@ use Rattle.j39_world.specs.World.{World}
 use Rattle.j39_forwards.specs.Forwards.{HasMessage, Among, Gateway, IsFaithful, IsFromOrigin, Forwarded, forwarded_bytes, ReadsAsBefore, Link, AreLinks, last_link, carried_over, IsFromFirst}
 
 -- what is one of a part is one of the whole
-among_whole : (m : Begun) (xs ys : List Begun) → IsSubsequence xs ys → (earlier later : List Begun) → xs ≡ earlier ++ m ∷ later → Among ys m
+pub among_whole : (m : Begun) (xs ys : List Begun) → IsSubsequence xs ys → (earlier later : List Begun) → xs ≡ earlier ++ m ∷ later → Among ys m
 among_whole m [] ys part [] later at = absurd cc
 among_whole m [] ys part (e ∷ earlier) later at = absurd cc
 among_whole m (x ∷ xs) [] part earlier later at = absurd part
