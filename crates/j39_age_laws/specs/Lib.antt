@@ -1,0 +1,4 @@
+pub mod KeptBuses
+pub mod Prompt
+pub mod Seen
+pub mod YoungValues
