@@ -1,6 +1,7 @@
 -- How long behind its moment a message ends, from one direct forward to the next.
-use Rattle.std.proofs.Common.{◌≡◌, ℕ, zero, suc, ◌+◌, ◌*◌, ◌<◌, ◌≤◌, true, Option, Some, None, refl, sym, ap, ◌∙◌, subst, arith}
+use Rattle.std.proofs.Common.{◌≡◌, ℕ, zero, suc, ◌+◌, ◌*◌, ◌<◌, ◌≤◌, true, Option, Some, None, refl, sym, ap, ◌∙◌, subst, inl, inr, arith}
 use Rattle.std.proofs.Math.Nat.{mul-le-mul_left, lt_of_mul-lt-mul_left}
+use Rattle.std.proofs.lemmas.Bool.{cases_lt}
 use Rattle.std.proofs.lemmas.Option.{none-some, same_Some}
 use Rattle.std.specs.Option.{option_and_then, option_map_or}
 use Rattle.j39_vehicle.specs.declared.vehicle.Vehicle.{Vehicle}
@@ -10,9 +11,9 @@ use Rattle.j39_paths.specs.declared.point.FlowAt.{FlowAt}
 use Rattle.j39_timing.specs.Gateways.{HasBegun, IsIts, end_time, queue_time, time_of}
 use Rattle.j39_timing.specs.Traffic.{delay_of}
 use Rattle.j39_ages.specs.declared.bus_delays.Delays.{Delays}
-use Rattle.j39_ages.specs.Times.{behind_by, behind_moment, direct_feeder, forward_at, input_at, jitter_of, own, queued_behind, sum_known, timed, us_of_ms, within_of}
+use Rattle.j39_ages.specs.Times.{behind_by, behind_moment, delay_at, direct_feeder, forward_at, input_at, jitter_of, own, queued_behind, sum_known, timed, us_of_ms, within_of}
 use Rattle.j39_ages.specs.BusDelays.{AreDelays}
-use Rattle.j39_age_laws.specs.Prompt.{IsSentDirectly, SendsOn}
+use Rattle.j39_age_laws.specs.Prompt.{IsSentDirectly, IsSentOn, SendsOn}
 use Rattle.j39_age_laws.specs.Seen.{SeenBuses, clock_on, frames_at, unit_on}
 use Rattle.j39_age_laws.specs.YoungValues.{IsSeenVehicle}
 use Rattle.j39_age_laws.proofs.Feeders.{IsFeederAt, feeder_is}
@@ -69,6 +70,13 @@ fed_parts v delays steps at time n feeder is =
       sum = omega (arith, sum, more);
     }
 
+-- what no direct forward feeds isn't sent on
+pub not_sent_on : (v : Vehicle) (delays : Delays) (at : FlowAt) → direct_feeder v at ≡ None → ¬ IsSentOn v delays at
+not_sent_on v delays at none (from, is) =
+    let (bits, told, rest) = and_then_some (λ (bits : ℕ). option_and_then (input_at v) (direct_feeder v at)) (delay_at delays at) from is in
+    let (n, feeder, input) = and_then_some (input_at v) (direct_feeder v at) from rest in
+    none-some n (sym none ∙ feeder)
+
 -- ---- messages of one flow
 
 pub record IsBehind (v : Vehicle) (delays : Delays) (seen : SeenBuses) (by : ℕ) (at : FlowAt) (time : ℕ) : Type 0 where
@@ -78,9 +86,16 @@ pub record IsBehind (v : Vehicle) (delays : Delays) (seen : SeenBuses) (by : ℕ
   pub first : (q : ℕ) → IsIts (frames_at v seen at) q → (seen at.bus).moment q ≤ queue_time (frames_at v seen at) q
   pub low : (q : ℕ) → IsIts (frames_at v seen at) q → time_of (clock_on v seen at.bus) ((seen at.bus).of.since q) ≤ (seen at.bus).moment q
   pub high : (q : ℕ) → IsIts (frames_at v seen at) q → (seen at.bus).moment q < time_of (clock_on v seen at.bus) ((seen at.bus).of.since q + 1)
-  -- and ends in time
-  pub begun : (q : ℕ) → IsIts (frames_at v seen at) q → (seen at.bus).moment q ≤ by → HasBegun (frames_at v seen at) q
-  pub ended : (q : ℕ) → IsIts (frames_at v seen at) q → (seen at.bus).moment q ≤ by → end_time (frames_at v seen at) q ≤ (seen at.bus).moment q + time
+  -- it begins where there is time for it, and ends in time
+  pub begun : (q : ℕ) → IsIts (frames_at v seen at) q → (seen at.bus).moment q + time ≤ by → HasBegun (frames_at v seen at) q
+  pub ended : (q : ℕ) → HasBegun (frames_at v seen at) q → end_time (frames_at v seen at) q ≤ (seen at.bus).moment q + time
+
+-- sums over a gateway: the message x of the input ends, the one of the output is queued, and ends
+in_all : (queue end x y before within own by : ℕ) → queue ≤ end + within → end ≤ x + before → y ≡ x → y + (before + (within + own)) ≤ by → queue + own ≤ by
+in_all queue end x y before within own by soon timely moment early = omega arith
+
+in_sum : (last queue end x y before within own : ℕ) → last ≤ queue + own → queue ≤ end + within → end ≤ x + before → y ≡ x → last ≤ y + (before + (within + own))
+in_sum last queue end x y before within own ends soon timely moment = omega arith
 
 module _ (v : Vehicle) (delays : Delays) (told : AreDelays v delays) (seen : SeenBuses) (by : ℕ) (is : IsSeenVehicle v delays seen by) where
   module _ (at : FlowAt) (time : ℕ) (one : IsOneFlow v delays seen at time) where
@@ -96,31 +111,33 @@ module _ (v : Vehicle) (delays : Delays) (told : AreDelays v delays) (seen : See
         let order : u * ((seen at.bus).schedule.queued q + 1) ≤ u * ((seen at.bus).schedule.start q + (seen at.bus).schedule.bits q) = mul-le-mul_left u (omega arith) in
         omega arith
 
-    -- the bus is seen until it has ended
-    in_view : (q : ℕ) → IsIts (frames_at v seen at) q → time_of (clock_on v seen at.bus) ((seen at.bus).of.since q) ≤ by
-        → (seen at.bus).of.since q + (one.stream.late + one.wait) < (seen at.bus).schedule.now
-    in_view q its early =
-        let until : by + u * one.bits ≤ time_of (clock_on v seen at.bus) (seen at.bus).schedule.now = is.until at one.bits one.delayed in
-        let less : (seen at.bus).of.since q + one.bits < (seen at.bus).schedule.now + 1 =
-        lt_of_mul-lt-mul_left u (let unit : 1 ≤ u = one.some_unit in omega arith) in
+    -- a frame that has begun has waited no longer than it may
+    pub ends_from : (q : ℕ) → HasBegun (frames_at v seen at) q → end_time (frames_at v seen at) q ≤ queue_time (frames_at v seen at) q + time
+    ends_from q (its, begun) =
+        let few : (seen at.bus).schedule.bits q ≤ one.stream.bits = one.few_bits q its in
+        let start : (seen at.bus).schedule.start q ≤ (seen at.bus).schedule.queued q + one.wait =
+        elim (cases_lt ((seen at.bus).schedule.queued q + one.wait) (seen at.bus).schedule.now) [
+          | inl soon ↦ one.starts q its.0 its.1 its.2 soon
+          | inr late ↦ omega (arith, late, begun)
+        ] in
+        let end : u * ((seen at.bus).schedule.start q + (seen at.bus).schedule.bits q) ≤ u * ((seen at.bus).schedule.queued q + (one.wait + one.stream.bits)) =
+        mul-le-mul_left u (omega (arith, start, few)) in
+        let sum : time ≡ u * (one.wait + one.stream.bits) = one.own_time in
+        omega (arith, end, sum)
+
+    -- and one that is queued so long before the end of what is seen begins
+    pub begins_in_view : (q : ℕ) → IsIts (frames_at v seen at) q → queue_time (frames_at v seen at) q + time ≤ by → HasBegun (frames_at v seen at) q
+    begins_in_view q its early =
+        let until : by ≤ time_of (clock_on v seen at.bus) (seen at.bus).schedule.now = is.until at.bus one.timing one.timed in
+        let sum : time ≡ u * (one.wait + one.stream.bits) = one.own_time in
+        let unit : 1 ≤ u = one.some_unit in
+        let less : (seen at.bus).schedule.queued q + (one.wait + one.stream.bits) < (seen at.bus).schedule.now + 1 =
+        lt_of_mul-lt-mul_left u (omega (arith, early, until, sum, unit)) in
         let some : 1 ≤ (seen at.bus).schedule.bits q = one.some_bits q its.0 in
         let few : (seen at.bus).schedule.bits q ≤ one.stream.bits = one.few_bits q its in
-        let sum : one.bits ≡ delay_of one.stream one.wait = one.sum in
-        omega arith
-
-    starts : (q : ℕ) → IsIts (frames_at v seen at) q → time_of (clock_on v seen at.bus) ((seen at.bus).of.since q) ≤ by
-        → HasBegun (frames_at v seen at) q × ((seen at.bus).schedule.start q ≤ (seen at.bus).schedule.queued q + one.wait)
-        × (end_time (frames_at v seen at) q ≤ queue_time (frames_at v seen at) q + time)
-    starts q its early =
-        let view = in_view q its early in
-        let timely = one.in_time q its.0 its.1 its.2 view in
-        let late : (seen at.bus).schedule.queued q ≤ (seen at.bus).of.since q + one.stream.late = one.late q its in
-        let few : (seen at.bus).schedule.bits q ≤ one.stream.bits = one.few_bits q its in
-        let begun : (seen at.bus).schedule.start q ≤ (seen at.bus).schedule.queued q + one.wait = timely.0 in
-        let end : u * ((seen at.bus).schedule.start q + (seen at.bus).schedule.bits q) ≤ u * ((seen at.bus).schedule.queued q + (one.wait + one.stream.bits)) =
-        mul-le-mul_left u (omega arith) in
-        let sum : time ≡ u * (one.wait + one.stream.bits) = one.own_time in
-        ((its, omega arith), begun, omega arith)
+        let soon : (seen at.bus).schedule.queued q + one.wait < (seen at.bus).schedule.now = omega (arith, less, some, few) in
+        let start = one.starts q its.0 its.1 its.2 soon in
+        (its, omega (arith, start, soon))
 
     -- of a flow of the bus itself
     by_itself : direct_feeder v at ≡ None → (behind : ℕ) → behind_moment v delays at ≡ Some behind → IsBehind v delays seen by at behind
@@ -131,22 +148,24 @@ module _ (v : Vehicle) (delays : Delays) (told : AreDelays v delays) (seen : See
           own_time = time;
           one = one;
           first = λ q its.
-              let moment : (seen at.bus).moment q ≡ time_of (clock_on v seen at.bus) ((seen at.bus).of.since q) = is.own_moments at none q its in
+              let moment : (seen at.bus).moment q ≡ time_of (clock_on v seen at.bus) ((seen at.bus).of.since q) = is.own_moments at (not_sent_on v delays at none) q its in
               let order : u * (seen at.bus).of.since q ≤ u * (seen at.bus).schedule.queued q = mul-le-mul_left u (one.moment_first q its) in
               omega arith;
           low = λ q its.
-              let moment : (seen at.bus).moment q ≡ time_of (clock_on v seen at.bus) ((seen at.bus).of.since q) = is.own_moments at none q its in
+              let moment : (seen at.bus).moment q ≡ time_of (clock_on v seen at.bus) ((seen at.bus).of.since q) = is.own_moments at (not_sent_on v delays at none) q its in
               omega arith;
           high = λ q its.
-              let moment : (seen at.bus).moment q ≡ time_of (clock_on v seen at.bus) ((seen at.bus).of.since q) = is.own_moments at none q its in
+              let moment : (seen at.bus).moment q ≡ time_of (clock_on v seen at.bus) ((seen at.bus).of.since q) = is.own_moments at (not_sent_on v delays at none) q its in
               omega arith;
           begun = λ q its early.
-              let moment : (seen at.bus).moment q ≡ time_of (clock_on v seen at.bus) ((seen at.bus).of.since q) = is.own_moments at none q its in
-              (starts q its (omega arith)).0;
-          ended = λ q its early.
-              let moment : (seen at.bus).moment q ≡ time_of (clock_on v seen at.bus) ((seen at.bus).of.since q) = is.own_moments at none q its in
-              let timely = (starts q its (omega arith)).2 in
+              let moment : (seen at.bus).moment q ≡ time_of (clock_on v seen at.bus) ((seen at.bus).of.since q) = is.own_moments at (not_sent_on v delays at none) q its in
               let late : u * (seen at.bus).schedule.queued q ≤ u * ((seen at.bus).of.since q + one.stream.late) = mul-le-mul_left u (one.late q its) in
+              let sum : time ≡ u * (one.wait + one.stream.bits) = one.own_time in
+              begins_in_view q its (omega arith);
+          ended = λ q begun.
+              let moment : (seen at.bus).moment q ≡ time_of (clock_on v seen at.bus) ((seen at.bus).of.since q) = is.own_moments at (not_sent_on v delays at none) q begun.0 in
+              let timely = ends_from q begun in
+              let late : u * (seen at.bus).schedule.queued q ≤ u * ((seen at.bus).of.since q + one.stream.late) = mul-le-mul_left u (one.late q begun.0) in
               let sum : time ≡ u * (one.wait + one.stream.bits) = one.own_time in
               omega arith;
         }
@@ -166,17 +185,13 @@ module _ (v : Vehicle) (delays : Delays) (told : AreDelays v delays) (seen : See
           omega arith;
       low = λ q its. sent.handed.first_bit q its;
       high = λ q its. sent.handed.last_bit q its;
-      begun = λ q its early. let low : time_of (clock_on v seen at.bus) ((seen at.bus).of.since q) ≤ (seen at.bus).moment q = sent.handed.first_bit q its in
-          (starts q its (omega arith)).0;
-      ended = λ q its early.
-          let low : time_of (clock_on v seen at.bus) ((seen at.bus).of.since q) ≤ (seen at.bus).moment q = sent.handed.first_bit q its in
-          let moment : (seen at.bus).moment q ≡ (seen x.bus).moment (sent.handed.what q) = sent.handed.moments q its in
-          let begun : HasBegun (frames_at v seen x) (sent.handed.what q) = sent.handed.begun q its in
-          let end : end_time (frames_at v seen x) (sent.handed.what q) ≤ (seen x.bus).moment (sent.handed.what q) + before =
-          input.ended (sent.handed.what q) begun.0 (omega arith) in
-          let soon : queue_time (frames_at v seen at) q ≤ end_time (frames_at v seen x) (sent.handed.what q) + within = sent.handed.within_time q its in
-          let timely = (starts q its (omega arith)).2 in
-          omega arith;
+      begun = λ q its early. begins_in_view q its
+          (in_all (queue_time (frames_at v seen at) q) (end_time (frames_at v seen x) (sent.handed.what q)) ((seen x.bus).moment (sent.handed.what q)) ((seen at.bus).moment q)
+          before within time by (sent.handed.within_time q its) (input.ended (sent.handed.what q) (sent.handed.begun q its)) (sent.handed.moments q its) early);
+      ended = λ q begun.
+          in_sum (end_time (frames_at v seen at) q) (queue_time (frames_at v seen at) q) (end_time (frames_at v seen x) (sent.handed.what q))
+          ((seen x.bus).moment (sent.handed.what q)) ((seen at.bus).moment q) before within time (ends_from q begun) (sent.handed.within_time q begun.0)
+          (input.ended (sent.handed.what q) (sent.handed.begun q begun.0)) (sent.handed.moments q begun.0);
     }
       where
         queued_before_of : (y : FlowAt) → IsBehind v delays seen by y before → (q : ℕ) → IsIts (frames_at v seen y) q
@@ -190,7 +205,7 @@ module _ (v : Vehicle) (delays : Delays) (told : AreDelays v delays) (seen : See
             omega arith
 
   flow_of : (at : FlowAt) (time : ℕ) → own v delays at ≡ Some time → IsOneFlow v delays seen at time
-  flow_of at time known = one_flow v delays told seen is.kept at time (own_parts v delays at time known) known
+  flow_of at time known = one_flow v delays told at time (own_parts v delays at time known) seen is.kept known
 
   own_of_moment : (at : FlowAt) (time : ℕ) → behind_moment v delays at ≡ Some time → (n : ℕ) × (own v delays at ≡ Some n)
   own_of_moment at time known =

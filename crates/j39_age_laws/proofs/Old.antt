@@ -110,20 +110,17 @@ periodic_old v delays at known forward periodic total is =
 
 -- ---- sums, where a message of the output has its moment m, one of the input r, and what is carried c
 
-trans2 : (a b c : ℕ) → a ≤ b → b ≤ c → a ≤ c
-trans2 a b c one two = omega arith
-
 trans3 : (a b c d : ℕ) → a ≤ b → b ≤ c → c ≤ d → a ≤ d
 trans3 a b c d one two three = omega arith
-
-less_trans : (a b c : ℕ) → a < b → b ≤ c → a ≤ c
-less_trans a b c one two = omega arith
 
 into_reach : (from old pause before within m : ℕ) → from + (old + (pause + before) + within) ≤ m → from ≤ m - (before + within)
 into_reach from old pause before within m late = omega arith
 
-within_reach : (by before within m : ℕ) → m ≤ by → m - (before + within) ≤ by
-within_reach by before within m early = omega arith
+within_reach : (from old pause by before within m : ℕ) → from + (old + (pause + before) + within) ≤ m → m ≤ by → m - (before + within) + before ≤ by
+within_reach from old pause by before within m late early = omega arith
+
+begun_reach : (from old pause by before within m r : ℕ) → from + (old + (pause + before) + within) ≤ m → m ≤ by → r ≤ m - (before + within) → r + before ≤ by
+begun_reach from old pause by before within m r late early order = omega arith
 
 had_ended : (from old pause before within m r end : ℕ) → from + (old + (pause + before) + within) ≤ m → r ≤ m - (before + within) → end ≤ r + before
     → end + within ≤ m
@@ -194,21 +191,19 @@ module _ (v : Vehicle) (delays : Delays) (none : AreFindings v []) (told : AreDe
       (record { its = its; output = next_feeds v p n forward next its; input = goes_on_input v p x n forward its on; promised = promised }) periodic pauses_x behind_x in
       let of_x = is_behind v delays told seen by is (length v.forwards.items) x.at before behind_x in
       let of_p = is_behind v delays told seen by is steps p.at time known in
-      let keeps : KeepsOn v seen x.at pause from by = keeps_on v delays told seen by is start from pauses x way (length v.forwards.items) pause pauses_x
+      let keeps : KeepsOn v seen x.at pause before from by = keeps_on v delays told seen by is start from pauses x way (length v.forwards.items) pause pauses_x
       (length v.forwards.items) before behind_x in
       λ q it ended late.
           let early : (seen p.at.bus).moment q ≤ by = trans3 _ _ _ _ (of_p.first q it) (queued_till_end v delays seen by is p.at time of_p q it) ended in
           let (r, rits, earlier, near) = keeps ((seen p.at.bus).moment q - (before + within))
-          (into_reach from old pause before within ((seen p.at.bus).moment q) late) (within_reach by before within ((seen p.at.bus).moment q) early) in
-          let seen_r : (seen x.at.bus).moment r ≤ by = trans2 _ _ _ earlier (within_reach by before within ((seen p.at.bus).moment q) early) in
-          let begun = of_x.begun r rits seen_r in
+          (into_reach from old pause before within ((seen p.at.bus).moment q) late) (within_reach from old pause by before within ((seen p.at.bus).moment q) late early) in
+          let begun = of_x.begun r rits (begun_reach from old pause by before within ((seen p.at.bus).moment q) ((seen x.at.bus).moment r) late early earlier) in
           let later = ends_behind v delays seen by is x.at before of_x r rits in
           let (c, carried, newer, over, says) = sent.newest x.signal p.signal (record { by = next; on = on }) r q begun it
-          (had_ended from old pause before within ((seen p.at.bus).moment q) ((seen x.at.bus).moment r) _ late earlier (of_x.ended r rits seen_r))
+          (had_ended from old pause before within ((seen p.at.bus).moment q) ((seen x.at.bus).moment r) _ late earlier (of_x.ended r begun))
           (not_too_old from old pause before within ((seen p.at.bus).moment q) ((seen x.at.bus).moment r) _ late near later) in
           let over_by = trans3 _ _ _ _ over (queued_till_end v delays seen by is p.at time of_p q it) ended in
-          let seen_c : (seen x.at.bus).moment c ≤ by = less_trans _ _ _ (ends_behind v delays seen by is x.at before of_x c carried.0) over_by in
-          let order = in_order v delays seen by is x.at before of_x r c rits carried.0 seen_c newer in
+          let order = in_order v delays seen by is x.at before of_x r c rits carried newer in
           let (born, tells, so) = input c carried.0 over_by
           (still_late from old pause before within ((seen p.at.bus).moment q) ((seen x.at.bus).moment r) ((seen x.at.bus).moment c) late near order) in
           (born, says ∙ tells, old_there from old pause before within ((seen p.at.bus).moment q) ((seen x.at.bus).moment r) ((seen x.at.bus).moment c) born late near order so)

@@ -24,19 +24,21 @@ use Rattle.j39_load.specs.PlannedFrames.{AreFramesInAnyOrder, IsBounded, planned
 use Rattle.j39_load.proofs.BoundedFlows.{bounded}
 use Rattle.j39_load.proofs.PositivePeriods.{ArePaced, of_loads}
 use Rattle.j39_load.proofs.StreamsBefore.{own_read, with_damage}
-use Rattle.j39_timing.specs.FrameStreams.{KeepsStream}
+use Rattle.j39_timing.specs.AnyOrder.{AreBegunWithin}
 use Rattle.j39_timing.specs.Gateways.{Carrier, IsIts}
-use Rattle.j39_timing.specs.Traffic.{IsSingle, IsStreamInTime, delay_of}
+use Rattle.j39_timing.specs.Traffic.{IsSingle, delay_of}
 use Rattle.j39_timing.specs.declared.stream.Stream.{Stream}
 use Rattle.j39_vehicle.specs.declared.vehicle.Vehicle.{Vehicle}
 use Rattle.j39_vehicle.specs.declared.vehicle.bus_plan.BusPlan.{BusPlan}
 use Rattle.j39_paths.specs.Buses.{flows_on}
 use Rattle.j39_paths.specs.declared.point.FlowAt.{FlowAt}
 use Rattle.j39_ages.specs.declared.bus_delays.Delays.{Delays}
+use Rattle.j39_ages.specs.TimeFindings.{period_of}
 use Rattle.j39_ages.specs.Times.{behind_moment, bit_time, bits_within, delay_at, flow_at, jitter_of, own, own_of, sum_known, timing_on, us_of_ms}
 use Rattle.j39_ages.specs.BusDelays.{AreDelays, AreDelaysOn, delays_on}
 use Rattle.j39_age_laws.specs.KeptBuses.{AreKeptBuses, IsKeptBus, IsToldBus, asked_on}
 use Rattle.j39_age_laws.specs.Seen.{SeenBuses, frames_at, unit_on}
+use Rattle.j39_age_laws.proofs.Starts.{starts_within}
 use Rattle.j39_age_laws.proofs.Parts.{and_then_some, map_some, some_unit, unit_of_ms, within_some}
 
 -- ---- what its own time has for parts
@@ -71,6 +73,9 @@ pub record HasStream (timing : Timing) (flow : FlowPlan) (frames : FlowFrames) (
   pub single : IsSingle frames.stream
   pub limited : limit ≤ frames.stream.period
   pub late : frames.stream.late ≡ bits_of_ms timing (jitter_of flow)
+  pub period : ℕ
+  pub period_is : period_of flow ≡ Some period
+  pub apart : frames.stream.period ≡ bits_of_ms timing period
 
 short_is : (a b : FlowFrames) → Short a ≡ Short b → a ≡ b
 short_is a b is = cc
@@ -104,6 +109,9 @@ stream_of timing plan stays place flow its load at frames short =
       single = paces.1;
       limited = paces.2;
       late = ap (λ (f : FlowFrames). f.stream.late) (sym same) ∙ ap (λ (p : Option Pace). bits_of_ms timing (option_map_or (λ (x : Pace). x.jitter) p 0)) (sym paced);
+      period = pace.period;
+      period_is = ap (option_map (λ (x : Pace). x.period)) paced;
+      apart = ap (λ (f : FlowFrames). f.stream.period) (sym same);
     }
 
 -- ---- its frames
@@ -111,6 +119,8 @@ stream_of timing plan stays place flow its load at frames short =
 pub record IsOneFlow (v : Vehicle) (delays : Delays) (seen : SeenBuses) (at : FlowAt) (time : ℕ) : Type 0 where
   pub stream : Stream
   pub wait : ℕ
+  pub timing : Timing
+  pub timed : timing_on v.buses.items at.bus ≡ Some timing
   pub bits : ℕ
   pub delayed : delay_at delays at ≡ Some bits
   pub sum : bits ≡ delay_of stream wait
@@ -123,22 +133,21 @@ pub record IsOneFlow (v : Vehicle) (delays : Delays) (seen : SeenBuses) (at : Fl
   pub few_bits : (p : ℕ) → IsIts (frames_at v seen at) p → (seen at.bus).schedule.bits p ≤ stream.bits
   pub moment_first : (p : ℕ) → IsIts (frames_at v seen at) p → (seen at.bus).of.since p ≤ (seen at.bus).schedule.queued p
   pub late : (p : ℕ) → IsIts (frames_at v seen at) p → (seen at.bus).schedule.queued p ≤ (seen at.bus).of.since p + stream.late
-  pub in_time : IsStreamInTime (seen at.bus).schedule (seen at.bus).planned (seen at.bus).of at.flow stream wait
+  pub starts : AreBegunWithin (seen at.bus).schedule (seen at.bus).planned (seen at.bus).of at.flow wait
   pub spaced : (p q : ℕ) → IsIts (frames_at v seen at) p → IsIts (frames_at v seen at) q → p ≢ q
       → ((seen at.bus).of.since p + stream.period ≤ (seen at.bus).of.since q) ⊎ ((seen at.bus).of.since q + stream.period ≤ (seen at.bus).of.since p)
 
-module _ (v : Vehicle) (delays : Delays) (told : AreDelays v delays) (seen : SeenBuses) (kept : AreKeptBuses v delays seen)
-    (at : FlowAt) (time : ℕ) (has : HasOwn v delays at time) where
-  abbrev timing : Timing
+module _ (v : Vehicle) (delays : Delays) (told : AreDelays v delays) (at : FlowAt) (time : ℕ) (has : HasOwn v delays at time) where
+  abbrev pub timing : Timing
   timing = has.timing
 
-  abbrev of_bus : IsToldBus v delays at.bus has.timing
+  abbrev pub of_bus : IsToldBus v delays at.bus has.timing
   of_bus = told_bus v delays told at.bus has.timing has.timed
 
-  abbrev asked : Asked
+  abbrev pub asked : Asked
   asked = asked_on of_bus
 
-  delay_here : slice_get (delays_on delays at.bus) at.flow ≡ Some (Some (Within has.bits))
+  pub delay_here : slice_get (delays_on delays at.bus) at.flow ≡ Some (Some (Within has.bits))
   delay_here =
       let (d, here, within) = and_then_some bits_within (slice_get (delays_on delays at.bus) at.flow) has.bits has.delayed in
       here ∙ ap (λ (x : Option Delay). Some x) (within_some d has.bits within)
@@ -146,66 +155,31 @@ module _ (v : Vehicle) (delays : Delays) (told : AreDelays v delays) (seen : See
   flow_here : slice_get of_bus.bus.plan.flows.items at.flow ≡ Some has.flow
   flow_here = subst (λ (o : Option BusPlan). slice_get (option_map_or (λ (bus : BusPlan). bus.plan.flows.items) o []) at.flow ≡ Some has.flow) of_bus.its has.its
 
-  bound : IsBounded has.timing asked at.flow has.bits
+  abbrev pub bound : IsBounded has.timing asked at.flow has.bits
   bound = bounded of_bus.bus.plan has.timing of_bus.stays (delays_on delays at.bus) of_bus.asks at.flow has.bits delay_here
 
-  its_stream : HasStream has.timing has.flow bound.frames bound.load.limit
+  pub its_stream : HasStream has.timing has.flow bound.frames bound.load.limit
   its_stream = stream_of has.timing of_bus.bus.plan of_bus.stays at.flow has.flow flow_here bound.load bound.its bound.frames bound.short
 
-  unit_here : unit_on v at.bus ≡ bit_time has.timing.bitrate
+  pub unit_here : unit_on v at.bus ≡ bit_time has.timing.bitrate
   unit_here = ap (λ (o : Option Timing). option_map_or (λ (t : Timing). bit_time t.bitrate) o 1) has.timed
 
-  keeps_bus : IsKeptBus has.timing asked (delays_on delays at.bus) (seen at.bus)
-  keeps_bus = kept at.bus has.timing of_bus
-
-  frames_here : AreFramesInAnyOrder has.timing (frames_asked asked) (seen at.bus).schedule (seen at.bus).controllers (seen at.bus).planned (seen at.bus).of at.flow
-  frames_here = keeps_bus.frames at.flow has.bits delay_here
-
-  placed : planned_at (frames_asked asked ++ damage_frames has.timing) at.flow ≡ bound.frames
+  pub placed : planned_at (frames_asked asked ++ damage_frames has.timing) at.flow ≡ bound.frames
   placed = with_damage has.timing (frames_asked asked) at.flow bound.frames
       (own_read asked.flows asked.units asked.requests at.flow bound.load bound.frames bound.its bound.short)
 
-  keeps : (p : ℕ) → IsIts (frames_at v seen at) p
-      → ((seen at.bus).schedule.bits p ≤ bound.frames.stream.bits) × ((seen at.bus).of.since p ≤ (seen at.bus).schedule.queued p)
-      × ((seen at.bus).schedule.queued p ≤ (seen at.bus).of.since p + bound.frames.stream.late)
-  keeps p (in_p, is, source) =
-      let one = frames_here.known.of_streams.keeps p in_p is in
-      let here : planned_at (frames_asked asked ++ damage_frames has.timing) ((seen at.bus).of.source p) ≡ bound.frames =
-      subst (λ (j : ℕ). planned_at (frames_asked asked ++ damage_frames has.timing) j ≡ bound.frames) (sym source) placed in (
-        subst (λ (f : FlowFrames). (seen at.bus).schedule.bits p ≤ f.stream.bits) here one.bits_at_most,
-        one.moment_first,
-        subst (λ (f : FlowFrames). (seen at.bus).schedule.queued p ≤ (seen at.bus).of.since p + f.stream.late) here one.late_at_most,
-      )
-
-  one_turn : (p : ℕ) → IsIts (frames_at v seen at) p → (seen at.bus).of.turn p ≡ 0
-  one_turn p (in_p, is, source) =
-      let one = frames_here.known.of_streams.keeps p in_p is in
-      let here : planned_at (frames_asked asked ++ damage_frames has.timing) ((seen at.bus).of.source p) ≡ bound.frames =
-      subst (λ (j : ℕ). planned_at (frames_asked asked ++ damage_frames has.timing) j ≡ bound.frames) (sym source) placed in
-      let turn : (seen at.bus).of.turn p < bound.frames.stream.frames = subst (λ (f : FlowFrames). (seen at.bus).of.turn p < f.stream.frames) here one.turns in
-      let single : bound.frames.stream.frames ≡ 1 = its_stream.single in
-      omega (arith, turn, single)
-
-  apart : (p q : ℕ) → IsIts (frames_at v seen at) p → IsIts (frames_at v seen at) q → p ≢ q
-      → ((seen at.bus).of.since p + bound.frames.stream.period ≤ (seen at.bus).of.since q) ⊎ ((seen at.bus).of.since q + bound.frames.stream.period ≤ (seen at.bus).of.since p)
-  apart p q its other differ =
-      let here : planned_at (frames_asked asked ++ damage_frames has.timing) ((seen at.bus).of.source p) ≡ bound.frames =
-      subst (λ (j : ℕ). planned_at (frames_asked asked ++ damage_frames has.timing) j ≡ bound.frames) (sym its.2) placed in
-      subst (λ (f : FlowFrames). ((seen at.bus).of.since p + f.stream.period ≤ (seen at.bus).of.since q) ⊎ ((seen at.bus).of.since q + f.stream.period ≤ (seen at.bus).of.since p)) here
-      (frames_here.known.of_streams.spaced p q its.0 other.0 differ its.1 other.1 (its.2 ∙ sym other.2) (one_turn p its ∙ sym (one_turn q other)))
-
-  jitter_bits : unit_on v at.bus * bound.frames.stream.late ≡ 1000 * jitter_of has.flow
+  pub jitter_bits : unit_on v at.bus * bound.frames.stream.late ≡ 1000 * jitter_of has.flow
   jitter_bits = ap (λ (n : ℕ). unit_on v at.bus * n) its_stream.late ∙ (ap (λ (u : ℕ). u * bits_of_ms has.timing (jitter_of has.flow)) unit_here
       ∙ unit_of_ms has.timing.bitrate (jitter_of has.flow))
 
-  own_is : time ≡ unit_on v at.bus * (bound.wait + bound.frames.stream.bits)
+  pub own_is : time ≡ unit_on v at.bus * (bound.wait + bound.frames.stream.bits)
   own_is =
       let total = bound.sum in
       let late = its_stream.late in
       let rest : has.bits - bits_of_ms has.timing (jitter_of has.flow) ≡ bound.wait + bound.frames.stream.bits = omega (arith, total, late) in
       has.sum ∙ (ap (λ (n : ℕ). bit_time has.timing.bitrate * n) rest ∙ ap (λ (u : ℕ). u * (bound.wait + bound.frames.stream.bits)) (sym unit_here))
 
-  moment_is : own v delays at ≡ Some time → behind_moment v delays at ≡ Some (unit_on v at.bus * delay_of bound.frames.stream bound.wait)
+  pub moment_is : own v delays at ≡ Some time → behind_moment v delays at ≡ Some (unit_on v at.bus * delay_of bound.frames.stream bound.wait)
   moment_is is =
       let jitter : (Rattle.j39_ages.specs.Times.timed v at (λ timing flow. Some (us_of_ms (jitter_of flow)))) ≡ Some (us_of_ms (jitter_of has.flow)) =
       ap (λ (o : Option Timing). Rattle.std.specs.Option.option_and_then (λ (t : Timing). Rattle.std.specs.Option.option_and_then (λ (f : FlowPlan). Some (us_of_ms (jitter_of f))) (flow_at v.buses.items at)) o) has.timed
@@ -215,22 +189,61 @@ module _ (v : Vehicle) (delays : Delays) (told : AreDelays v delays) (seen : See
       ap (λ (o : Option ℕ). sum_known o (Rattle.j39_ages.specs.Times.timed v at (λ timing flow. Some (us_of_ms (jitter_of flow))))) is
       ∙ (ap (λ (o : Option ℕ). sum_known (Some time) o) jitter ∙ ap (λ (n : ℕ). Some n) (omega (arith, bits, late)))
 
-  pub one_flow : own v delays at ≡ Some time → IsOneFlow v delays seen at time
-  one_flow is = record {
-    stream = bound.frames.stream;
-    wait = bound.wait;
-    bits = has.bits;
-    delayed = has.delayed;
-    sum = bound.sum;
-    fits = let inside = bound.inside in let limited = its_stream.limited in omega (arith, inside, limited);
-    some_unit = let some = some_unit has.timing.bitrate in let same = unit_here in omega (arith, some, same);
-    own_time = own_is;
-    moment_time = moment_is is;
-    some_bits = keeps_bus.legal.positive;
-    queued_first = keeps_bus.legal.queued_first;
-    few_bits = λ p its. (keeps p its).0;
-    moment_first = λ p its. (keeps p its).1;
-    late = λ p its. (keeps p its).2;
-    in_time = bound.in_any_order (seen at.bus).schedule (seen at.bus).controllers (seen at.bus).planned (seen at.bus).of keeps_bus.legal frames_here;
-    spaced = apart;
-  }
+  module _ (seen : SeenBuses) (kept : AreKeptBuses v delays seen) where
+    keeps_bus : IsKeptBus has.timing asked (delays_on delays at.bus) (seen at.bus)
+    keeps_bus = kept at.bus has.timing of_bus
+
+    frames_here : AreFramesInAnyOrder has.timing (frames_asked asked) (seen at.bus).schedule (seen at.bus).controllers (seen at.bus).planned (seen at.bus).of at.flow
+    frames_here = keeps_bus.frames at.flow has.bits delay_here
+
+    keeps : (p : ℕ) → IsIts (frames_at v seen at) p
+        → ((seen at.bus).schedule.bits p ≤ bound.frames.stream.bits) × ((seen at.bus).of.since p ≤ (seen at.bus).schedule.queued p)
+        × ((seen at.bus).schedule.queued p ≤ (seen at.bus).of.since p + bound.frames.stream.late)
+    keeps p (in_p, is, source) =
+        let one = frames_here.known.of_streams.keeps p in_p is in
+        let here : planned_at (frames_asked asked ++ damage_frames has.timing) ((seen at.bus).of.source p) ≡ bound.frames =
+        subst (λ (j : ℕ). planned_at (frames_asked asked ++ damage_frames has.timing) j ≡ bound.frames) (sym source) placed in (
+          subst (λ (f : FlowFrames). (seen at.bus).schedule.bits p ≤ f.stream.bits) here one.bits_at_most,
+          one.moment_first,
+          subst (λ (f : FlowFrames). (seen at.bus).schedule.queued p ≤ (seen at.bus).of.since p + f.stream.late) here one.late_at_most,
+        )
+
+    one_turn : (p : ℕ) → IsIts (frames_at v seen at) p → (seen at.bus).of.turn p ≡ 0
+    one_turn p (in_p, is, source) =
+        let one = frames_here.known.of_streams.keeps p in_p is in
+        let here : planned_at (frames_asked asked ++ damage_frames has.timing) ((seen at.bus).of.source p) ≡ bound.frames =
+        subst (λ (j : ℕ). planned_at (frames_asked asked ++ damage_frames has.timing) j ≡ bound.frames) (sym source) placed in
+        let turn : (seen at.bus).of.turn p < bound.frames.stream.frames = subst (λ (f : FlowFrames). (seen at.bus).of.turn p < f.stream.frames) here one.turns in
+        let single : bound.frames.stream.frames ≡ 1 = its_stream.single in
+        omega (arith, turn, single)
+
+    apart : (p q : ℕ) → IsIts (frames_at v seen at) p → IsIts (frames_at v seen at) q → p ≢ q
+        → ((seen at.bus).of.since p + bound.frames.stream.period ≤ (seen at.bus).of.since q) ⊎ ((seen at.bus).of.since q + bound.frames.stream.period ≤ (seen at.bus).of.since p)
+    apart p q its other differ =
+        let here : planned_at (frames_asked asked ++ damage_frames has.timing) ((seen at.bus).of.source p) ≡ bound.frames =
+        subst (λ (j : ℕ). planned_at (frames_asked asked ++ damage_frames has.timing) j ≡ bound.frames) (sym its.2) placed in
+        subst (λ (f : FlowFrames). ((seen at.bus).of.since p + f.stream.period ≤ (seen at.bus).of.since q) ⊎ ((seen at.bus).of.since q + f.stream.period ≤ (seen at.bus).of.since p)) here
+        (frames_here.known.of_streams.spaced p q its.0 other.0 differ its.1 other.1 (its.2 ∙ sym other.2) (one_turn p its ∙ sym (one_turn q other)))
+
+    pub one_flow : own v delays at ≡ Some time → IsOneFlow v delays seen at time
+    one_flow is = record {
+      stream = bound.frames.stream;
+      wait = bound.wait;
+      timing = has.timing;
+      timed = has.timed;
+      bits = has.bits;
+      delayed = has.delayed;
+      sum = bound.sum;
+      fits = let inside = bound.inside in let limited = its_stream.limited in omega (arith, inside, limited);
+      some_unit = let some = some_unit has.timing.bitrate in let same = unit_here in omega (arith, some, same);
+      own_time = own_is;
+      moment_time = moment_is is;
+      some_bits = keeps_bus.legal.positive;
+      queued_first = keeps_bus.legal.queued_first;
+      few_bits = λ p its. (keeps p its).0;
+      moment_first = λ p its. (keeps p its).1;
+      late = λ p its. (keeps p its).2;
+      starts = starts_within of_bus.bus.plan has.timing of_bus.stays (delays_on delays at.bus) of_bus.asks at.flow has.bits delay_here (seen at.bus).schedule (seen at.bus).controllers
+          (seen at.bus).planned (seen at.bus).of keeps_bus.legal frames_here;
+      spaced = apart;
+    }

@@ -34,35 +34,34 @@ module _ (v : Vehicle) (delays : Delays) (seen : SeenBuses) (by : ℕ) (is : IsS
       omega arith
 
   -- its end is a period behind the bit of its moment at most
-  ends_by : (r : ℕ) → IsIts (frames_at v seen at) r → (seen at.bus).moment r ≤ by
-      → (seen at.bus).schedule.start r + (seen at.bus).schedule.bits r ≤ (seen at.bus).of.since r + known.one.stream.period
-  ends_by r its early =
-      let low = known.low r its in
-      let until : by + u * known.one.bits ≤ time_of (clock_on v seen at.bus) (seen at.bus).schedule.now = is.until at known.one.bits known.one.delayed in
-      let less : (seen at.bus).of.since r + known.one.bits < (seen at.bus).schedule.now + 1 =
-      lt_of_mul-lt-mul_left u (let unit : 1 ≤ u = known.one.some_unit in omega arith) in
-      let some : 1 ≤ (seen at.bus).schedule.bits r = known.one.some_bits r its.0 in
+  ends_by : (r : ℕ) → HasBegun (frames_at v seen at) r → (seen at.bus).schedule.start r + (seen at.bus).schedule.bits r ≤ (seen at.bus).of.since r + known.one.stream.period
+  ends_by r (its, begun) =
       let few : (seen at.bus).schedule.bits r ≤ known.one.stream.bits = known.one.few_bits r its in
+      let start : (seen at.bus).schedule.start r ≤ (seen at.bus).schedule.queued r + known.one.wait =
+      elim (cases_lt ((seen at.bus).schedule.queued r + known.one.wait) (seen at.bus).schedule.now) [
+        | inl soon ↦ known.one.starts r its.0 its.1 its.2 soon
+        | inr late ↦ omega (arith, late, begun)
+      ] in
+      let late : (seen at.bus).schedule.queued r ≤ (seen at.bus).of.since r + known.one.stream.late = known.one.late r its in
       let sum : known.one.bits ≡ delay_of known.one.stream known.one.wait = known.one.sum in
-      let timely = (known.one.in_time r its.0 its.1 its.2 (omega arith)).1 in
       let fits : known.one.bits ≤ known.one.stream.period = known.one.fits in
-      omega arith
+      omega (arith, few, start, late, sum, fits)
 
-  pub in_order : (q r : ℕ) → IsIts (frames_at v seen at) q → IsIts (frames_at v seen at) r → (seen at.bus).moment r ≤ by
+  pub in_order : (q r : ℕ) → IsIts (frames_at v seen at) q → HasBegun (frames_at v seen at) r
       → end_time (frames_at v seen at) q ≤ end_time (frames_at v seen at) r → (seen at.bus).moment q ≤ (seen at.bus).moment r
-  in_order q r its other early order = elim (cases_lt ((seen at.bus).moment r) ((seen at.bus).moment q)) [
+  in_order q r its begun order = elim (cases_lt ((seen at.bus).moment r) ((seen at.bus).moment q)) [
     | inr not_less ↦ omega arith
     | inl less ↦
         let differ : r ≢ q = λ same. let equal : (seen at.bus).moment r ≡ (seen at.bus).moment q = ap (λ (n : ℕ). (seen at.bus).moment n) same in omega arith in
-        let low_r = known.low r other in
+        let low_r = known.low r begun.0 in
         let high_q = known.high q its in
         let some : 1 ≤ (seen at.bus).schedule.bits q = known.one.some_bits q its.0 in
         let few : (seen at.bus).schedule.bits q ≤ known.one.stream.bits = known.one.few_bits q its in
         let sum : known.one.bits ≡ delay_of known.one.stream known.one.wait = known.one.sum in
         let fits : known.one.bits ≤ known.one.stream.period = known.one.fits in
-        elim (known.one.spaced r q other its differ) [
+        elim (known.one.spaced r q begun.0 its differ) [
           | inl before ↦
-              let end = ends_by r other early in
+              let end = ends_by r begun in
               let first : (seen at.bus).of.since q ≤ (seen at.bus).schedule.queued q = known.one.moment_first q its in
               let start : (seen at.bus).schedule.queued q ≤ (seen at.bus).schedule.start q = known.one.queued_first q its.0 in
               let unit : 1 ≤ u = known.one.some_unit in

@@ -16,6 +16,7 @@ use Rattle.j39_load.specs.Ages.{least, smaller_known}
 use Rattle.j39_load.specs.AnyQueues.{IsOffer, Offer, are_of_unit, held_at, keep_order, may_be_passed, offered, unheld_at}
 use Rattle.j39_load.specs.Asked.{Asked, asked_of, frames_asked}
 use Rattle.j39_load.specs.Damage.{damage_frames}
+use Rattle.j39_load.specs.Demands.{demands_of}
 use Rattle.j39_load.specs.Delays.{IsShortDelay, any_delay, blocking, need_of, streams_before}
 use Rattle.j39_load.specs.LineLists.{lines_of_each}
 use Rattle.j39_load.specs.LoadFindings.{AsksOfBus}
@@ -104,18 +105,15 @@ module _ (timing : Timing) (asked : List (Option FlowFrames)) (paced : All HasPe
     room =
         let placed_need : need_of timing (offered offer.waits asked) i frames wait ≤ wait =
         subst (λ (xs : List (Option FlowFrames)). need_of timing xs i frames wait ≤ wait) offers.frames enough in
-        let needed : need (demands_of_all) (blocking timing frames.greatest_ident) (streams_before timing i frames (offered offer.waits asked)) wait ≤ wait =
+        let needed : need (demands_of all) (blocking timing frames.greatest_ident) (streams_before timing i frames (offered offer.waits asked)) wait ≤ wait =
         subst (λ (ds : List Demand). need ds (blocking timing frames.greatest_ident) (streams_before timing i frames (offered offer.waits asked)) wait ≤ wait)
         (demands_where_offered offer.waits asked ∙ sym (demands_with_damage timing asked)) placed_need in
-        let most = all_before (demands_of_all) i frames (wait + 1) timing (offered offer.waits asked) in
+        let most = all_before (demands_of all) i frames (wait + 1) timing (offered offer.waits asked) in
         let parts = offered_parts timing asked paced sent offer.waits offers.held.count i frames (wait + 1) in
         subst (λ (own : FlowFrames). longest_frame 8 * (1 + others_before (others_of timing) own.greatest_ident)
         + total (length all) (λ j. cond (not (eqb j i) && may_precede own (planned_at all j))
-        (lesser_share (demands_of_all) (wait + 1) (later_by (held_at offer.waits j) (planned_at all j).stream)) 0) ≤ wait) (sym placed)
+        (lesser_share (demands_of all) (wait + 1) (later_by (held_at offer.waits j) (planned_at all j).stream)) 0) ≤ wait) (sym placed)
         (omega (arith, needed, most, parts))
-      where
-        abbrev demands_of_all : List Demand
-        demands_of_all = Rattle.j39_load.specs.Demands.demands_of all
 
     -- each stream that may go before has a wait
     known_wait : (j : ℕ) (x : FlowFrames) → get_or asked j None ≡ Some x → x.least_ident < frames.greatest_ident

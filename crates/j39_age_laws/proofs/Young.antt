@@ -17,16 +17,16 @@ pub brought_young : (v : Vehicle) (delays : Delays) → AreAgesBounds v delays
 brought_young v delays none told seen p most from t known room is pauses =
     let (old_p, rest, of_old, of_rest, sum) = sum_some (old v delays p) (sum_known (silent v p.at) (behind v delays p.at)) most known in
     let (pause, time, of_pause, of_time, more) = sum_some (silent v p.at) (behind v delays p.at) rest of_rest in
-    let all : ℕ = length v.forwards.items in
     let keeps = keeps_on v delays told seen t is p from pauses p itself (length v.forwards.items) pause of_pause (length v.forwards.items) time of_time in
     let ends = is_behind v delays told seen t is (length v.forwards.items) p.at time of_time in
     let (q, its, before, near) = keeps (t - time) (omega arith) (omega arith) in
-    let ended = ends.ended q its (omega arith) in
+    let begun = ends.begun q its (omega arith) in
+    let ended = ends.ended q begun in
     let (born, says, so) = old_at_most v delays none told seen t is p from pauses (length v.forwards.items) p old_p itself of_old (length v.forwards.items) time of_time
     q its (omega arith) (omega arith) in
     record {
       frame = q;
-      begun = ends.begun q its (omega arith);
+      begun = begun;
       ended = omega arith;
       born = born;
       says = says;

@@ -12,11 +12,10 @@ use Rattle.j39_timing.specs.AnyOrder.{IsLegalInAnyOrder}
 use Rattle.j39_timing.specs.Gateways.{time_of}
 use Rattle.j39_vehicle.specs.declared.vehicle.Vehicle.{Vehicle}
 use Rattle.j39_vehicle.specs.declared.vehicle.bus_plan.BusPlan.{BusPlan}
-use Rattle.j39_paths.specs.declared.point.FlowAt.{FlowAt}
 use Rattle.j39_ages.specs.declared.bus_delays.Delays.{Delays}
 use Rattle.j39_ages.specs.BusDelays.{delays_on}
-use Rattle.j39_ages.specs.Times.{delay_at}
-use Rattle.j39_age_laws.specs.Seen.{SeenBus, SeenBuses, clock_on, unit_on}
+use Rattle.j39_ages.specs.Times.{timing_on}
+use Rattle.j39_age_laws.specs.Seen.{SeenBus, SeenBuses, clock_on}
 
 -- what is told of a bus of the vehicle that has timing: by who stays, the delay of each of its flows
 pub record IsToldBus (v : Vehicle) (delays : Delays) (b : ℕ) (timing : Timing) : Type 0 where
@@ -41,7 +40,7 @@ abbrev pub AreKeptBuses : Vehicle → Delays → SeenBuses → Type 0
 AreKeptBuses v delays seen = (b : ℕ) (timing : Timing) (of_bus : IsToldBus v delays b timing)
     → IsKeptBus timing (asked_on of_bus) (delays_on delays b) (seen b)
 
--- each bus is seen until messages whose moments are by this time have ended
-abbrev pub AreSeenUntil : Vehicle → Delays → SeenBuses → ℕ → Type 0
-AreSeenUntil v delays seen by = (at : FlowAt) (bits : ℕ) → delay_at delays at ≡ Some bits
-    → by + unit_on v at.bus * bits ≤ time_of (clock_on v seen at.bus) (seen at.bus).schedule.now
+-- and is seen until this time
+abbrev pub AreSeenUntil : Vehicle → SeenBuses → ℕ → Type 0
+AreSeenUntil v seen by = (b : ℕ) (timing : Timing) → timing_on v.buses.items b ≡ Some timing
+    → by ≤ time_of (clock_on v seen b) (seen b).schedule.now

@@ -1,3 +1,4 @@
+pub mod ForwardedStreams
 pub mod KeptBuses
 pub mod Prompt
 pub mod Seen

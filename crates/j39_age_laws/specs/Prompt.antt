@@ -1,6 +1,7 @@
 -- Gateways that send on in time: directly, for each message that ends one of their own; or at their own moments, the newest that they have.
 use Rattle.std.specs.Prelude.{◌≡◌, ℕ, ◌+◌, ◌<◌, ◌≤◌, true, false, Option, Some, None}
 use Rattle.std.specs.List.{slice_get}
+use Rattle.std.specs.Option.{option_and_then}
 use Rattle.j39_vehicle.specs.declared.vehicle.Vehicle.{Vehicle}
 use Rattle.j39_vehicle.specs.declared.vehicle.forward.Forward.{Forward}
 use Rattle.j39_paths.specs.ForwardTests.{feeds, is_direct}
@@ -51,9 +52,16 @@ pub record ArePrompt (v : Vehicle) (delays : Delays) (seen : SeenBuses) : Type 0
   pub periodic : (n : ℕ) (forward : Forward) (x y : FlowAt) (within pause time : ℕ) → SendsOn v n forward x y within → is_direct forward ≡ false
       → silent v x ≡ Some pause → behind v delays x ≡ Some time → IsSentAtItsBeat v seen n x y within (pause + (time + within))
 
--- what no gateway sends on has moments of its own bus
-abbrev pub HaveOwnMoments : Vehicle → SeenBuses → Type 0
-HaveOwnMoments v seen = (at : FlowAt) → direct_feeder v at ≡ None → HasOwnMoments (frames_at v seen at)
+-- the flow that a direct forward takes for its input, for a flow of which a delay is told: each of its messages goes in one frame
+abbrev pub sent_from : Vehicle → Delays → FlowAt → Option FlowAt
+sent_from v delays at = option_and_then (λ (bits : ℕ). option_and_then (input_at v) (direct_feeder v at)) (delay_at delays at)
+
+abbrev pub IsSentOn : Vehicle → Delays → FlowAt → Type 0
+IsSentOn v delays at = (from : FlowAt) × (sent_from v delays at ≡ Some from)
+
+-- all others have moments of their own bus
+abbrev pub HaveOwnMoments : Vehicle → Delays → SeenBuses → Type 0
+HaveOwnMoments v delays seen = (at : FlowAt) → ¬ IsSentOn v delays at → HasOwnMoments (frames_at v seen at)
 
 -- at its origin a message says what is so at its moment or later
 abbrev pub SayWhatIsSo : Vehicle → SeenBuses → Type 0

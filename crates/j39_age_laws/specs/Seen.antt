@@ -47,7 +47,3 @@ frames_at v seen at = record {
   moment = (seen at.bus).moment;
   born = (seen at.bus).moment;
 }
-
--- what the frame says of the signal was so at its origin then, or says its message
-abbrev pub SaysOf : SeenBuses → FlowAt → Option ℕ → ℕ → ℕ → Type 0
-SaysOf seen at signal p time = (seen at.bus).born p signal ≡ Some time

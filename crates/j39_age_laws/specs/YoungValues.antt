@@ -51,9 +51,9 @@ pub record IsBroughtYoung (v : Vehicle) (seen : SeenBuses) (p : Point) (age t : 
 -- what is asked of what is seen of a vehicle up to a time: its buses keep to their plans, and its gateways are prompt
 pub record IsSeenVehicle (v : Vehicle) (delays : Delays) (seen : SeenBuses) (by : ℕ) : Type 0 where
   pub kept : AreKeptBuses v delays seen
-  pub until : AreSeenUntil v delays seen by
+  pub until : AreSeenUntil v seen by
   pub prompt : ArePrompt v delays seen
-  pub own_moments : HaveOwnMoments v seen
+  pub own_moments : HaveOwnMoments v delays seen
   pub origins : SayWhatIsSo v seen
 
 -- each age that is known bounds how old what the flow brings is: at each time before which pauses were kept for as long

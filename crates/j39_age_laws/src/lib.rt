@@ -3,4 +3,4 @@
 
 mod laws;
 
-pub use laws::ages_are_bounds;
+pub use laws::{ages_are_bounds, gateways_keep_to_plans};
