@@ -1,0 +1,12 @@
+mod Behind
+mod Circle
+mod Feeders
+mod Kept
+mod Old
+mod OneFlow
+mod Order
+mod Parts
+mod Silent
+mod Starts
+mod Until
+mod Young

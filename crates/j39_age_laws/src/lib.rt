@@ -1,0 +1,6 @@
+//! Laws of what gateways of a vehicle send on, and how old it is where it is received.
+#![tactic(auto)]
+
+mod laws;
+
+pub use laws::{ages_are_bounds, gateways_keep_to_plans};
