@@ -42,7 +42,6 @@ Covers-append order Holds a b c d xs ys less low high left right = record {
       inl below);
 }
 
-
 -- a family of one number, from what each of its findings is
 pub family : {F : Type 0} (order : Order F) (Holds : F → Type 0) (n : ℕ) (findings : List F)
     → ((f : F) → Contains findings f → Holds f × (order.number f ≡ n)) → Rises (IsBefore order) findings → Covers order Holds n n findings

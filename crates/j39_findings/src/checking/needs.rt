@@ -7,8 +7,8 @@ ghost use Rattle.j39_findings.specs.Found.{is_from, is_unmet, meets, need_findin
 
 use crate::checking::finding::Finding;
 use crate::checking::requests::{is_asked_for, reaches};
-use j39_rules::{Rule, find_each, push_if};
 use crate::plan::{FlowPlan, NeedPlan, RequestPlan};
+use j39_rules::{Rule, find_each, push_if};
 use std::alloc::AllocError;
 
 // Whether the need takes what this unit sends.

@@ -7,8 +7,8 @@ ghost use Rattle.j39_findings.specs.Found.{ask_the_same, ask_for_one_number, is_
 use crate::checking::finding::Finding;
 use crate::checking::flows::is_one_frame_to_all;
 use crate::checking::groups::WhenOutside;
-use j39_rules::{PairRule, Rule, find_each, find_pairs, push_if};
 use crate::plan::{FlowPlan, GroupPlan, RequestPlan, To};
+use j39_rules::{PairRule, Rule, find_each, find_pairs, push_if};
 use std::alloc::AllocError;
 
 /// Whether what goes there reaches the unit.

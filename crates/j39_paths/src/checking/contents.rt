@@ -5,9 +5,9 @@ ghost use Rattle.j39_paths.specs.FoundPaths.{content_findings};
 
 use crate::checking::layouts::LayoutDiffers;
 use crate::checking::odds::TwoForwards;
-use j39_rules::{find_each, find_pairs};
 use crate::checking::signals::Differences;
 use crate::finding::VehicleFinding;
+use j39_rules::{find_each, find_pairs};
 use j39_vehicle::Vehicle;
 use std::alloc::AllocError;
 

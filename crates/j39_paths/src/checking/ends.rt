@@ -7,9 +7,9 @@ ghost use Rattle.j39_paths.specs.ForwardTests.{is_input, is_output};
 ghost use Rattle.j39_paths.specs.Forwards.{input_flows, output_flows};
 ghost use Rattle.j39_paths.specs.FoundPaths.{end_findings, has_many_inputs, has_many_outputs, has_no_input, has_no_output};
 
-use j39_rules::{Rule, find_each, push_if};
 use crate::finding::VehicleFinding;
 use crate::forwards::{input_flows, is_input, is_output, output_flows};
+use j39_rules::{Rule, find_each, push_if};
 use j39_vehicle::{Forward, Vehicle};
 use std::alloc::AllocError;
 

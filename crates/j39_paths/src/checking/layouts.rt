@@ -6,10 +6,10 @@ ghost use Rattle.j39_rules.specs.ListPlaces.{found_if};
 ghost use Rattle.j39_paths.specs.FoundPaths.{copies_other_layout, has_other_records, has_other_selector, have_other_layouts, is_selector, same_byte};
 
 use crate::buses::group_at;
-use j39_rules::{Rule, push_if};
 use crate::finding::VehicleFinding;
 use crate::forwards::copies;
 use j39_findings::GroupPlan;
+use j39_rules::{Rule, push_if};
 use j39_signal::Selector;
 use j39_vehicle::{Forward, Vehicle};
 use std::alloc::AllocError;

@@ -7,10 +7,10 @@ ghost use Rattle.j39_paths.specs.FoundPaths.{is_need_flow, is_need_unmet, need_f
 ghost use Rattle.j39_paths.specs.Traces.{flows_of_need, is_from_origin, needed};
 
 use crate::buses::{flows_on, requests_on};
-use j39_rules::{Rule, find_each, push_if};
 use crate::finding::VehicleFinding;
 use crate::traces::is_from_origin;
 use j39_findings::{FlowPlan, NeedPlan, RequestPlan, meets};
+use j39_rules::{Rule, find_each, push_if};
 use j39_vehicle::{Vehicle, VehicleNeed};
 use std::alloc::AllocError;
 

@@ -7,9 +7,9 @@ ghost use Rattle.j39_rules.specs.Adding.{Adds};
 ghost use Rattle.j39_rules.specs.ListPlaces.{found_if, in_each};
 ghost use Rattle.j39_paths.specs.FoundPaths.{has_any_queue, has_timing, is_any, may_share_queue, queue_findings, shared_queues};
 
-use j39_rules::{Rule, find_each, push_if};
 use crate::finding::VehicleFinding;
 use j39_findings::{Queue, UnitPlan};
+use j39_rules::{Rule, find_each, push_if};
 use j39_vehicle::{BusPlan, Gateway, UnitAt, Vehicle};
 use std::alloc::AllocError;
 

@@ -6,12 +6,12 @@ ghost use Rattle.j39_rules.specs.ListPlaces.{found_if, in_each};
 ghost use Rattle.j39_paths.specs.FoundPaths.{are_unlike, differences, differs_from, is_copied_otherwise, is_in_selector, is_other_signal, is_other_source, is_written_otherwise, signals_that_differ};
 
 use crate::buses::{group_at, spn_at};
-use j39_rules::{Rule, find_each, push_if};
 use crate::finding::VehicleFinding;
 use crate::forwards::{copies, listed};
 use crate::matching::{are_alike, has};
 use crate::traces::first_agreeing;
 use j39_findings::GroupPlan;
+use j39_rules::{Rule, find_each, push_if};
 use j39_signal::{Selector, Signal};
 use j39_vehicle::{Forward, ForwardedSignal, Vehicle};
 use std::alloc::AllocError;
