@@ -4,7 +4,7 @@ use Rattle.std.specs.Prelude.{◌≡◌, ℕ, ◌<◌, ◌≤◌, ◌⊎◌, Lis
 use Rattle.std.specs.List.{slice_get, position}
 use Rattle.std.specs.Option.{option_and_then, option_map}
 use Rattle.j39_findings.specs.Findings.{IsBelow}
-use Rattle.j39_findings.specs.ListPlaces.{ValueAt}
+use Rattle.j39_rules.specs.ListPlaces.{ValueAt}
 use Rattle.j39_findings.specs.declared.plan.flow_plan.FlowPlan.{FlowPlan}
 use Rattle.j39_findings.specs.declared.plan.group_plan.GroupPlan.{GroupPlan}
 use Rattle.j39_findings.specs.declared.plan.pace.Pace.{Pace}

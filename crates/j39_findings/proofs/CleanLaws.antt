@@ -17,7 +17,7 @@ use Rattle.j39_findings.specs.declared.checking.finding.Finding.TheVariants.{Sam
 use Rattle.j39_findings.specs.declared.checking.finding.Finding.TheVariants.{SignalOutside, SignalOverlap, FlowToOne, FlowToSelf, FlowRepeated, KeptAddress, PrivateUnsent, RecordOverlap, TextOutside, NeedUnmet}
 use Rattle.j39_findings.specs.declared.checking.finding.Finding.TheVariants.{RequestUnanswered, RequestUnheard, AnswerAstray, WhenOutside, RequestRepeated}
 use Rattle.j39_findings.specs.Kinds.{MayBeOne}
-use Rattle.j39_findings.specs.ListPlaces.{ValueAt, PairAt}
+use Rattle.j39_rules.specs.ListPlaces.{ValueAt, PairAt}
 use Rattle.j39_findings.specs.Findings.{EndsOutside, IsSelectorInside, IsProprietary, HasBadPgn, IsOutside, Clean}
 use Rattle.j39_findings.specs.SignalPlaces.{room_of_signal}
 use Rattle.j39_signal.specs.Selectors.{selector_end}

@@ -19,7 +19,7 @@ use Rattle.j39_id.specs.Services.{service_groups}
 use Rattle.j39_signal.specs.Parts.{SignalParts}
 use Rattle.j39_signal.specs.Places.{WidthFits, IsInside, SharesBit, shares_bit}
 use Rattle.j39_signal.proofs.Sharing.{shared_by_test}
-use Rattle.j39_findings.specs.ListPlaces.{SomeMeets, SoManyMeet, ValueAt}
+use Rattle.j39_rules.specs.ListPlaces.{SomeMeets, SoManyMeet, ValueAt}
 use Rattle.j39_findings.specs.declared.plan.unit_plan.UnitPlan.{UnitPlan}
 use Rattle.j39_findings.specs.declared.plan.group_plan.GroupPlan.{GroupPlan}
 use Rattle.j39_findings.specs.declared.plan.flow_plan.FlowPlan.{FlowPlan}

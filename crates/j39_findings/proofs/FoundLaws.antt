@@ -11,7 +11,7 @@ use Rattle.j39_findings.specs.declared.checking.finding.Finding.TheVariants.{Sam
 use Rattle.j39_findings.specs.declared.checking.finding.Finding.TheVariants.{SignalOutside, SignalOverlap, FlowToOne, FlowToSelf, FlowRepeated, KeptAddress, PrivateUnsent, RecordOverlap, TextOutside, NeedUnmet}
 use Rattle.j39_findings.specs.declared.checking.finding.Finding.TheVariants.{RequestUnanswered, RequestUnheard, AnswerAstray, WhenOutside, RequestRepeated}
 use Rattle.j39_findings.specs.declared.checking.finding.Finding.TheVariants.{SilentAddress, SilentInPool, FlowContested}
-use Rattle.j39_findings.specs.ListPlaces.{in_each, each, pairs}
+use Rattle.j39_rules.specs.ListPlaces.{in_each, each, pairs}
 use Rattle.j39_claim.specs.AddressSets.{free_count}
 use Rattle.j39_findings.specs.Kinds.{MayBeOne, may_be_one}
 use Rattle.j39_findings.specs.Findings.{HaveSameFixedAddress, HasBadPgn, HaveSamePgn, CannotGoToOne}
@@ -25,30 +25,31 @@ use Rattle.j39_findings.specs.Found.{goes_to_its_sender, are_one_flow, flow_find
 use Rattle.j39_findings.specs.Findings.{HaveSilentAddress, IsSilentInPool, IsFlowContested}
 use Rattle.j39_findings.specs.Found.{have_silent_address, is_silent_in_pool, silent_findings, contested_findings, is_unit_alone, is_contested}
 use Rattle.j39_findings.proofs.Meeting.{group_overlaps_of}
-use Rattle.j39_findings.proofs.Members.{in_each_of, found_if_of, each_of, pairs_of}
-use Rattle.j39_findings.proofs.Rising.{AllPairs-from_Rises}
+use Rattle.j39_rules.proofs.Members.{in_each_of, found_if_of, each_of, pairs_of}
+use Rattle.j39_rules.proofs.Rising.{AllPairs-from_Rises}
 use Rattle.j39_findings.proofs.Deciding.{Decides-may_be_one, Decides-have_same_fixed_address, Decides-needs_pool_address, Decides-has_bad_pgn, meeting_pass}
 use Rattle.j39_findings.proofs.Deciding.{Decides-have_silent_address, Decides-is_silent_in_pool}
 use Rattle.j39_findings.proofs.Deciding.{Decides-have_same_pgn, Decides-has_other_width, Decides-ends_outside, Decides-shares_bit}
 use Rattle.j39_findings.proofs.Deciding.{Decides-cannot_go_to_one, Decides-goes_to_its_sender, Decides-are_one_flow, Decides-prefers_kept, Decides-is_private_unsent, Decides-lies_outside, Decides-is_unmet}
 use Rattle.j39_findings.proofs.Deciding.{Decides-goes_unanswered, Decides-goes_unheard, Decides-is_answered_astray, Decides-ask_the_same, Decides-is_selector_outside}
-use Rattle.j39_findings.proofs.Families.{Covers, Covers-append, units_covered, groups_covered, signals_covered, flows_covered, kept_covered, unsent_covered, records_covered, texts_covered, needs_covered, requests_covered, silent_covered, contested_covered}
+use Rattle.j39_rules.proofs.Families.{Covers-append}
+use Rattle.j39_findings.proofs.Families.{Covers, in_order, units_covered, groups_covered, signals_covered, flows_covered, kept_covered, unsent_covered, records_covered, texts_covered, needs_covered, requests_covered, silent_covered, contested_covered}
 use Rattle.j39_findings.proofs.WhoIsAlone.{alone_by_list, Decides-contested}
 
 found_covered : (plan : Plan) → Covers plan 1 28 (found plan)
 unfolding found
 found_covered plan =
-    Covers-append plan 1 3 4 28 _ _ (omega arith) (omega arith) (omega arith) (units_covered plan)
-    (Covers-append plan 4 5 6 28 _ _ (omega arith) (omega arith) (omega arith) (groups_covered plan)
-    (Covers-append plan 6 8 9 28 _ _ (omega arith) (omega arith) (omega arith) (signals_covered plan)
-    (Covers-append plan 9 11 12 28 _ _ (omega arith) (omega arith) (omega arith) (flows_covered plan)
-    (Covers-append plan 12 12 13 28 _ _ (omega arith) (omega arith) (omega arith) (kept_covered plan)
-    (Covers-append plan 13 13 14 28 _ _ (omega arith) (omega arith) (omega arith) (unsent_covered plan)
-    (Covers-append plan 14 14 15 28 _ _ (omega arith) (omega arith) (omega arith) (records_covered plan)
-    (Covers-append plan 15 15 19 28 _ _ (omega arith) (omega arith) (omega arith) (texts_covered plan)
-    (Covers-append plan 19 19 21 28 _ _ (omega arith) (omega arith) (omega arith) (needs_covered plan)
-    (Covers-append plan 21 25 26 28 _ _ (omega arith) (omega arith) (omega arith) (requests_covered plan)
-    (Covers-append plan 26 27 28 28 _ _ (omega arith) (omega arith) (omega arith) (silent_covered plan) (contested_covered plan)))))))))))
+    Covers-append in_order (Holds plan) 1 3 4 28 _ _ (omega arith) (omega arith) (omega arith) (units_covered plan)
+    (Covers-append in_order (Holds plan) 4 5 6 28 _ _ (omega arith) (omega arith) (omega arith) (groups_covered plan)
+    (Covers-append in_order (Holds plan) 6 8 9 28 _ _ (omega arith) (omega arith) (omega arith) (signals_covered plan)
+    (Covers-append in_order (Holds plan) 9 11 12 28 _ _ (omega arith) (omega arith) (omega arith) (flows_covered plan)
+    (Covers-append in_order (Holds plan) 12 12 13 28 _ _ (omega arith) (omega arith) (omega arith) (kept_covered plan)
+    (Covers-append in_order (Holds plan) 13 13 14 28 _ _ (omega arith) (omega arith) (omega arith) (unsent_covered plan)
+    (Covers-append in_order (Holds plan) 14 14 15 28 _ _ (omega arith) (omega arith) (omega arith) (records_covered plan)
+    (Covers-append in_order (Holds plan) 15 15 19 28 _ _ (omega arith) (omega arith) (omega arith) (texts_covered plan)
+    (Covers-append in_order (Holds plan) 19 19 21 28 _ _ (omega arith) (omega arith) (omega arith) (needs_covered plan)
+    (Covers-append in_order (Holds plan) 21 25 26 28 _ _ (omega arith) (omega arith) (omega arith) (requests_covered plan)
+    (Covers-append in_order (Holds plan) 26 27 28 28 _ _ (omega arith) (omega arith) (omega arith) (silent_covered plan) (contested_covered plan)))))))))))
 
 in_units : (plan : Plan) (f : Finding) → Contains (unit_findings plan.keep_free plan.strangers plan.units.items) f → Contains (found plan) f
 unfolding found

@@ -4,14 +4,14 @@ use Rattle.std.proofs.lemmas.Bool.{and_from, and_parts, cases_Bool, eq-eqb, eqb-
 use Rattle.std.specs.List.{slice_get}
 use Rattle.j39_id.specs.Limits.{frame_bytes}
 use Rattle.j39_id.specs.Pgn.{pdu2_first, pf_of}
-use Rattle.j39_findings.specs.ListPlaces.{ValueAt}
+use Rattle.j39_rules.specs.ListPlaces.{ValueAt}
 use Rattle.j39_findings.specs.Findings.{IsOneFrameToAll, IsOutside}
 use Rattle.j39_findings.specs.Lengths.{HasOneLengthEach, IsFoundByLengths}
 use Rattle.j39_findings.specs.TextPlaces.{last_byte}
 use Rattle.j39_findings.specs.declared.plan.Plan.{Plan}
 use Rattle.j39_findings.specs.declared.plan.group_plan.GroupPlan.{GroupPlan}
 use Rattle.j39_findings.specs.declared.plan.text_plan.TextPlan.{TextPlan}
-use Rattle.j39_findings.proofs.Members.{all_at}
+use Rattle.j39_rules.proofs.Members.{all_at}
 
 -- of a value that meets one statement, another one that follows from it there
 at_value : {A : Type 0} (P Q : A → Type 0) (xs : List A) (i : ℕ) → (v : ValueAt P xs i) → (P v.value → Q v.value) → ValueAt Q xs i

@@ -14,7 +14,7 @@ use Rattle.j39_findings.specs.declared.plan.group_plan.GroupPlan.{GroupPlan}
 use Rattle.j39_findings.specs.Records.{single_signals, repeated_signals, record_signals, records_signals, last_end, first_bytes, count_inside}
 use Rattle.j39_findings.specs.Records.{record_count, signals_in, RecordsAreCounted}
 use Rattle.j39_findings.specs.WithoutRecords.{HasNoRecords, IsWithoutRecords}
-use Rattle.j39_findings.proofs.Members.{all_at}
+use Rattle.j39_rules.proofs.Members.{all_at}
 
 -- ---- where a record ends
 

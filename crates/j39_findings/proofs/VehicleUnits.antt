@@ -10,7 +10,7 @@ use Rattle.std.proofs.lemmas.List.Sums.{sum_by-cons}
 use Rattle.j39_id.specs.Name.{is_arbitrary}
 use Rattle.j39_findings.specs.declared.plan.Plan.{Plan}
 use Rattle.j39_findings.specs.declared.plan.unit_plan.UnitPlan.{UnitPlan}
-use Rattle.j39_findings.specs.ListPlaces.{found_if, in_each, each, pairs}
+use Rattle.j39_rules.specs.ListPlaces.{found_if, in_each, each, pairs}
 use Rattle.j39_findings.specs.Kinds.{AreToldApart}
 use Rattle.j39_findings.specs.Found.{have_same_fixed_address, needs_pool_address, prefers_kept}
 use Rattle.j39_findings.specs.Found.{have_silent_address, is_silent_in_pool}

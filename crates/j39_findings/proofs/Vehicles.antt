@@ -15,7 +15,7 @@ use Rattle.j39_findings.specs.declared.checking.finding.Finding.TheVariants.{Too
 use Rattle.j39_findings.specs.declared.checking.finding.Finding.TheVariants.{SignalOutside, SignalOverlap, FlowToOne, FlowToSelf, FlowRepeated, PrivateUnsent, RecordOverlap, TextOutside, NeedUnmet}
 use Rattle.j39_findings.specs.declared.checking.finding.Finding.TheVariants.{RequestUnanswered, RequestUnheard, AnswerAstray, WhenOutside, RequestRepeated}
 use Rattle.j39_findings.specs.declared.steps.Step.{Step}
-use Rattle.j39_findings.specs.ListPlaces.{pairs, PairAt}
+use Rattle.j39_rules.specs.ListPlaces.{pairs, PairAt}
 use Rattle.j39_findings.specs.Kinds.{MayBeOne, AreToldApart, may_be_one}
 use Rattle.j39_findings.specs.Findings.{Clean, IsAloneInPlan, IsFlowContested}
 use Rattle.j39_findings.specs.PlannedUnits.{units_of}
@@ -27,9 +27,9 @@ use Rattle.j39_findings.specs.VehiclePlans.{IsBoxOf, IsVehicleOf, AreFoundAlike}
 use Rattle.j39_findings.proofs.Boxes.{apart_at}
 use Rattle.j39_findings.proofs.Deciding.{Decides-may_be_one}
 use Rattle.j39_findings.proofs.FoundLaws.{clean_from_none, none_from_clean}
-use Rattle.j39_findings.proofs.Members.{of_pairs}
+use Rattle.j39_rules.proofs.Members.{of_pairs}
 use Rattle.j39_findings.proofs.VehicleUnits.{AreBoth, both_at, boxes_apart, boxes_fixed, boxes_silent, box_needs, box_prefers, box_silent, count_alike, each_alike, ordered, pairs_alike}
-use Rattle.j39_findings.proofs.PlaceLemmas.{each_same}
+use Rattle.j39_rules.proofs.PlaceLemmas.{each_same}
 use Rattle.j39_findings.proofs.StayingBoxes.{outside_alike, outside_back, stay_alike}
 use Rattle.j39_findings.proofs.WhoIsAlone.{alone_by_list, Decides-both, Decides-contested}
 

@@ -9,7 +9,7 @@ use Rattle.j39_id.specs.Services.{service_groups}
 use Rattle.j39_signal.specs.Places.{Covers, LaysOutFrom, further}
 use Rattle.j39_signal.specs.Selectors.{DifferInValue}
 use Rattle.j39_findings.specs.Kinds.{MayBeOne}
-use Rattle.j39_findings.specs.ListPlaces.{ValueAt, SomeMeets}
+use Rattle.j39_rules.specs.ListPlaces.{ValueAt, SomeMeets}
 use Rattle.j39_findings.specs.Records.{record_count}
 use Rattle.j39_findings.specs.TextPlaces.{last_byte}
 use Rattle.j39_findings.specs.Findings.{IsFixed, IsSelectorInside, AreNeeded, IsProprietary, IsToOne, IsOneFrameToAll, AreOneFlow, Sends, AreSentTogether, Meets}

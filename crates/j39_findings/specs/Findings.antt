@@ -18,7 +18,8 @@ use Rattle.j39_signal.specs.Places.{Covers, WidthFits, IsInside, SharesBit, furt
 use Rattle.j39_findings.specs.Kinds.{MayBeOne}
 use Rattle.j39_findings.specs.PlannedUnits.{units_of}
 use Rattle.j39_findings.specs.Staying.{IsAloneBeside}
-use Rattle.j39_findings.specs.ListPlaces.{ValueAt, PairAt, SomeMeets, SoManyMeet}
+use Rattle.j39_rules.specs.ListPlaces.{ValueAt, PairAt, SomeMeets, SoManyMeet}
+use Rattle.j39_rules.specs.Order.{ComesBefore}
 use Rattle.j39_findings.specs.Records.{record_count}
 use Rattle.j39_findings.specs.SignalPlaces.{room_of_signal}
 use Rattle.j39_findings.specs.TextPlaces.{last_byte}
@@ -347,15 +348,9 @@ places_of (SilentAddress u v) = u ∷ v ∷ []
 places_of (SilentInPool u) = u ∷ []
 places_of (FlowContested f) = f ∷ []
 
--- the first place in which two lists differ is smaller in the first list
-abbrev pub IsBelow : List ℕ → List ℕ → Type 0
-IsBelow [] ys = ⊥
-IsBelow (x ∷ xs) [] = ⊥
-IsBelow (x ∷ xs) (y ∷ ys) = (x < y) ⊎ ((x ≡ y) × IsBelow xs ys)
-
 -- by the number, then by the places
 abbrev pub IsBefore : Finding → Finding → Type 0
-IsBefore f g = (finding_number f < finding_number g) ⊎ ((finding_number f ≡ finding_number g) × IsBelow (places_of f) (places_of g))
+IsBefore = ComesBefore finding_number places_of
 
 -- all that is wrong with the plan and nothing else, in order
 pub record AreFindings (plan : Plan) (findings : List Finding) : Type 0 where

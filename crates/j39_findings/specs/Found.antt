@@ -16,7 +16,7 @@ use Rattle.j39_signal.specs.Selectors.{differ_in_value, selector_end}
 use Rattle.j39_signal.specs.Parts.{SignalParts}
 use Rattle.j39_signal.specs.Places.{width_fits, is_inside, shares_bit, end_of, further}
 use Rattle.j39_findings.specs.Kinds.{may_be_one}
-use Rattle.j39_findings.specs.ListPlaces.{found_if, each, pairs, in_each}
+use Rattle.j39_rules.specs.ListPlaces.{found_if, each, pairs, in_each}
 use Rattle.j39_findings.specs.Records.{record_count}
 use Rattle.j39_findings.specs.SignalPlaces.{room_of_signal}
 use Rattle.j39_findings.specs.TextPlaces.{last_byte}

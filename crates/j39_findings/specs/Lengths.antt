@@ -2,7 +2,7 @@
 use Rattle.std.specs.Prelude.{◌≡◌, ◌↔◌, ◌⊎◌, ℕ, ◌+◌, ◌<◌, ◌≤◌, All}
 use Rattle.j39_id.specs.Limits.{frame_bytes}
 use Rattle.j39_id.specs.Pgn.{pdu2_first, pf_of}
-use Rattle.j39_findings.specs.ListPlaces.{ValueAt}
+use Rattle.j39_rules.specs.ListPlaces.{ValueAt}
 use Rattle.j39_findings.specs.Findings.{IsToOne, Holds}
 use Rattle.j39_findings.specs.TextPlaces.{last_byte}
 use Rattle.j39_findings.specs.declared.plan.Plan.{Plan}

@@ -1,4 +1,3 @@
-pub mod Adding
 pub mod CleanParts
 pub mod ConflictRuns
 pub mod Findings
@@ -6,7 +5,6 @@ pub mod Found
 pub mod Kinds
 pub mod LabelForm
 pub mod Lengths
-pub mod ListPlaces
 pub mod NeedPlaces
 pub mod Needs
 pub mod PlanLimits

@@ -1,6 +1,6 @@
 -- What the needs of a plan have.
 use Rattle.std.specs.Prelude.{◌≡◌, ℕ, [], All}
-use Rattle.j39_findings.specs.ListPlaces.{SomeMeets}
+use Rattle.j39_rules.specs.ListPlaces.{SomeMeets}
 use Rattle.j39_findings.specs.Findings.{Holds, Meets}
 use Rattle.j39_findings.specs.declared.plan.Plan.{Plan}
 use Rattle.j39_findings.specs.declared.checking.finding.Finding.TheVariants.{NeedUnmet}

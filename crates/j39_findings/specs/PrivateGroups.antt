@@ -1,7 +1,7 @@
 -- Private groups: whose a message is, and that a plan without them is found as it was before there were any.
 use Rattle.std.specs.Prelude.{◌≡◌, ◌↔◌, ◌⊎◌, ℕ, true, false, List, All as AllOf}
 use Rattle.j39_signal.specs.Selectors.{DifferInValue, is_selected}
-use Rattle.j39_findings.specs.ListPlaces.{ValueAt, PairAt, SomeMeets}
+use Rattle.j39_rules.specs.ListPlaces.{ValueAt, PairAt, SomeMeets}
 use Rattle.j39_findings.specs.Findings.{IsForNoPlan, IsProprietary, MayBeOneFrameToAll, IsToOne, Sends, Holds}
 use Rattle.j39_findings.specs.declared.plan.Plan.{Plan}
 use Rattle.j39_findings.specs.declared.plan.group_plan.GroupPlan.{GroupPlan}

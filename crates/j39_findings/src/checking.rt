@@ -14,7 +14,6 @@ mod private;
 mod records;
 mod refused;
 mod requests;
-mod rules;
 mod signals;
 mod silent;
 mod texts;

@@ -3,7 +3,7 @@ use Rattle.std.proofs.Common.{◌≡◌, ◌<◌, ◌≤◌, ℕ, List, Some, No
 use Rattle.std.specs.List.{slice_get}
 use Rattle.std.proofs.lemmas.Bool.{cases_Bool, cases_order}
 use Rattle.j39_id.specs.declared.frame.Frame.{Frame}
-use Rattle.j39_findings.specs.ListPlaces.{ValueAt}
+use Rattle.j39_rules.specs.ListPlaces.{ValueAt}
 use Rattle.j39_findings.specs.declared.plan.Plan.{Plan}
 use Rattle.j39_findings.specs.declared.plan.unit_plan.UnitPlan.{UnitPlan}
 use Rattle.j39_follow.specs.Holders.{IsHolder}

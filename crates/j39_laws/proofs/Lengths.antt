@@ -3,7 +3,7 @@ use Rattle.std.proofs.Common.{◌≡◌, ℕ, zero, suc, ◌&&◌, nat_le, List,
 use Rattle.std.specs.List.{slice_get}
 use Rattle.std.specs.Option.{option_map_or}
 use Rattle.j39_findings.proofs.Lengths.{same_length}
-use Rattle.j39_findings.proofs.Members.{all_at}
+use Rattle.j39_rules.proofs.Members.{all_at}
 use Rattle.j39_findings.specs.Lengths.{HasOneLengthEach}
 use Rattle.j39_findings.specs.declared.plan.Plan.{Plan}
 use Rattle.j39_findings.specs.declared.plan.flow_plan.FlowPlan.{FlowPlan}

@@ -23,7 +23,7 @@ use Rattle.j39_findings.specs.declared.plan.timing.Timing.{Timing}
 use Rattle.j39_findings.specs.declared.plan.to.To.{To}
 use Rattle.j39_findings.specs.declared.plan.to.To.TheVariants.{All, One}
 use Rattle.j39_findings.specs.declared.plan.unit_plan.UnitPlan.{UnitPlan}
-use Rattle.j39_findings.proofs.Members.{all_at}
+use Rattle.j39_rules.proofs.Members.{all_at}
 use Rattle.j39_load.specs.KeepsErrors.{KeepsErrors, begins_within, planned_with}
 use Rattle.j39_load.specs.KeepsPlan.{CanBeKept, Held, IsFrameOf, IsMsBehind, KeepsQueues, KeepsToPlan, FrameFlows, bit_time, goes_to}
 use Rattle.j39_load.specs.KeptTogether.{CanBeKeptTogether}

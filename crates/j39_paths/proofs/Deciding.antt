@@ -12,7 +12,7 @@ use Rattle.j39_signal.specs.Places.{SharesBit}
 use Rattle.j39_signal.specs.declared.kind.Kind.{Kind}
 use Rattle.j39_signal.specs.declared.kind.Kind.TheVariants.{Measured, Discrete, Raw, States, Signed, Dtc}
 use Rattle.j39_signal.specs.declared.selector.Selector.{Selector}
-use Rattle.j39_findings.specs.ListPlaces.{SomeMeets, SoManyMeet, ValueAt}
+use Rattle.j39_rules.specs.ListPlaces.{SomeMeets, SoManyMeet, ValueAt}
 use Rattle.j39_findings.specs.Found.{have_same_receiver, is_to}
 use Rattle.j39_findings.specs.declared.plan.flow_plan.FlowPlan.{FlowPlan}
 use Rattle.j39_findings.specs.declared.plan.group_plan.GroupPlan.{GroupPlan}

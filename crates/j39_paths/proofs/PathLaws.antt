@@ -5,9 +5,9 @@ use Rattle.std.proofs.Math.ListN.{get_or-eq_default}
 use Rattle.std.proofs.lemmas.Bool.{false≢true, cases_lt}
 use Rattle.std.proofs.lemmas.Option.{slice_get_within}
 use Rattle.std.proofs.lemmas.List.Elements.{Contains-append_left, Contains-append_right}
-use Rattle.j39_findings.specs.ListPlaces.{found_if, in_each, each, pairs}
-use Rattle.j39_findings.proofs.Members.{of_in_each, in_each_of, of_found_if, found_if_of, each_of, pairs_of}
-use Rattle.j39_findings.proofs.Rising.{AllPairs-from_Rises, Rises-found_if, Rises-in_each}
+use Rattle.j39_rules.specs.ListPlaces.{found_if, in_each, each, pairs}
+use Rattle.j39_rules.proofs.Members.{of_in_each, in_each_of, of_found_if, found_if_of, each_of, pairs_of}
+use Rattle.j39_rules.proofs.Rising.{AllPairs-from_Rises, Rises-found_if, Rises-in_each}
 use Rattle.j39_vehicle.specs.declared.vehicle.Vehicle.{Vehicle}
 use Rattle.j39_vehicle.specs.declared.vehicle.forward.Forward.{Forward}
 use Rattle.j39_paths.specs.Forwards.{ComesAfter, at_once, later}
@@ -17,7 +17,8 @@ use Rattle.j39_paths.specs.FoundPaths.{are_two_forwards, content_findings, copie
 use Rattle.j39_paths.specs.declared.finding.VehicleFinding.{VehicleFinding}
 use Rattle.j39_paths.specs.declared.finding.VehicleFinding.TheVariants.{NoInput, ManyInputs, NoOutput, ManyOutputs, LayoutDiffers, SignalDiffers, TwoForwards, ForwardLoop, NeedUnmet, SharedQueue}
 use Rattle.j39_paths.proofs.Deciding.{Decides-are_two_forwards, Decides-copies_other_layout, Decides-has_many_inputs, Decides-has_many_outputs, Decides-has_no_input, Decides-has_no_output, Decides-is_need_unmet}
-use Rattle.j39_paths.proofs.Families.{Covers, Covers-append, contents_covered, differences_of, ends_covered, needs_covered, queues_covered, shared_of}
+use Rattle.j39_rules.proofs.Families.{Covers-append}
+use Rattle.j39_paths.proofs.Families.{Covers, in_order, contents_covered, differences_of, ends_covered, needs_covered, queues_covered, shared_of}
 
 -- ---- loops
 
@@ -82,10 +83,10 @@ loop_of v loops tell n h =
 found_covered : (v : Vehicle) (loops : List Bool) → TellLoops v loops → Covers v 1 14 (vehicle_findings loops v)
 unfolding vehicle_findings path_findings
 found_covered v loops tell =
-    Covers-append v 1 9 14 14 _ _ (omega arith) (omega arith) (omega arith)
-    (Covers-append v 1 4 5 9 _ _ (omega arith) (omega arith) (omega arith) (ends_covered v)
-    (Covers-append v 5 7 8 9 _ _ (omega arith) (omega arith) (omega arith) (contents_covered v)
-    (Covers-append v 8 8 9 9 _ _ (omega arith) (omega arith) (omega arith) (loops_covered v loops tell) (needs_covered v)))) (queues_covered v)
+    Covers-append in_order (Holds v) 1 9 14 14 _ _ (omega arith) (omega arith) (omega arith)
+    (Covers-append in_order (Holds v) 1 4 5 9 _ _ (omega arith) (omega arith) (omega arith) (ends_covered v)
+    (Covers-append in_order (Holds v) 5 7 8 9 _ _ (omega arith) (omega arith) (omega arith) (contents_covered v)
+    (Covers-append in_order (Holds v) 8 8 9 9 _ _ (omega arith) (omega arith) (omega arith) (loops_covered v loops tell) (needs_covered v)))) (queues_covered v)
 
 -- in one of the parts of a list
 of_three : (xs ys zs : List VehicleFinding) (f : VehicleFinding) → Contains xs f ⊎ (Contains ys f ⊎ Contains zs f) → Contains (xs ++ (ys ++ zs)) f

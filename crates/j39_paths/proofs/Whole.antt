@@ -2,7 +2,7 @@
 use Rattle.std.proofs.Common.{◌≡◌, ◌≢◌, List, [], ◌++◌, Bool, false, append_assoc, ap, IsErrAnd, OnErr, Result, Ok, Err}
 use Rattle.std.specs.declared.alloc.AllocError.{AllocError}
 use Rattle.std.specs.List.{slice_index_or}
-use Rattle.j39_findings.specs.ListPlaces.{each, found_if, in_each, pairs}
+use Rattle.j39_rules.specs.ListPlaces.{each, found_if, in_each, pairs}
 use Rattle.j39_vehicle.specs.declared.vehicle.Vehicle.{Vehicle}
 use Rattle.j39_paths.specs.FoundPaths.{are_two_forwards, content_findings, copies_other_layout, differences, end_findings, has_many_inputs, has_many_outputs, has_no_input, has_no_output, is_need_unmet, loop_findings, need_findings, path_findings}
 use Rattle.j39_paths.specs.declared.finding.VehicleFinding.{VehicleFinding}

@@ -6,7 +6,7 @@ use Rattle.j39_signal.specs.Parts.{SignalParts}
 use Rattle.j39_signal.specs.Places.{shares_bit}
 use Rattle.j39_signal.specs.declared.selector.Selector.{Selector}
 use Rattle.j39_findings.specs.Found.{meets}
-use Rattle.j39_findings.specs.ListPlaces.{found_if, each, in_each, pairs}
+use Rattle.j39_rules.specs.ListPlaces.{found_if, each, in_each, pairs}
 use Rattle.j39_findings.specs.declared.plan.flow_plan.FlowPlan.{FlowPlan}
 use Rattle.j39_findings.specs.declared.plan.group_plan.GroupPlan.{GroupPlan}
 use Rattle.j39_findings.specs.declared.plan.queue.Queue.{Queue}

@@ -5,11 +5,11 @@ use Rattle.std.specs.Option.{MatchOption}
 use Rattle.j39_signal.specs.Parts.{SignalParts}
 use Rattle.j39_signal.specs.Places.{SharesBit}
 use Rattle.j39_signal.specs.declared.selector.Selector.{Selector}
-use Rattle.j39_findings.specs.ListPlaces.{ValueAt, PairAt, SomeMeets, SoManyMeet}
+use Rattle.j39_rules.specs.ListPlaces.{ValueAt, PairAt, SomeMeets, SoManyMeet}
 use Rattle.j39_findings.specs.declared.plan.group_plan.GroupPlan.{GroupPlan}
 use Rattle.j39_findings.specs.declared.plan.queue.Queue.TheVariants.{Any}
 use Rattle.j39_findings.specs.declared.plan.unit_plan.UnitPlan.{UnitPlan}
-use Rattle.j39_findings.specs.Findings.{IsBelow}
+use Rattle.j39_rules.specs.Order.{ComesBefore}
 use Rattle.j39_vehicle.specs.declared.vehicle.Vehicle.{Vehicle}
 use Rattle.j39_vehicle.specs.declared.vehicle.bus_plan.BusPlan.{BusPlan}
 use Rattle.j39_vehicle.specs.declared.vehicle.forward.Forward.{Forward}
@@ -168,7 +168,7 @@ places_of (SharedQueue k b) = k ∷ b ∷ []
 
 -- by the number, then by the places
 abbrev pub IsBefore : VehicleFinding → VehicleFinding → Type 0
-IsBefore f g = (finding_number f < finding_number g) ⊎ ((finding_number f ≡ finding_number g) × IsBelow (places_of f) (places_of g))
+IsBefore = ComesBefore finding_number places_of
 
 -- all that is wrong with the vehicle and nothing else, in order
 pub record AreFindings (v : Vehicle) (findings : List VehicleFinding) : Type 0 where

@@ -9,7 +9,6 @@ mod layouts;
 mod needs;
 mod odds;
 mod queues;
-mod rules;
 mod signals;
 mod turns;
 

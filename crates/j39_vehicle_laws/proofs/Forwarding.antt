@@ -6,7 +6,7 @@ use Rattle.std.proofs.lemmas.Bool.{and_parts, cases_Bool, false≢true}
 use Rattle.std.proofs.lemmas.Bool.Decides.{Decides-eqb}
 use Rattle.std.proofs.lemmas.Option.{none-some, same_Some}
 use Rattle.j39_signal.specs.Parts.{SignalParts}
-use Rattle.j39_findings.specs.ListPlaces.{SomeMeets, SoManyMeet, ValueAt}
+use Rattle.j39_rules.specs.ListPlaces.{SomeMeets, SoManyMeet, ValueAt}
 use Rattle.j39_findings.specs.declared.plan.flow_plan.FlowPlan.{FlowPlan}
 use Rattle.j39_findings.specs.declared.plan.group_plan.GroupPlan.{GroupPlan}
 use Rattle.j39_findings.proofs.Deciding.{passing_meet}

@@ -6,7 +6,7 @@ use Rattle.j39_id.specs.Addresses.{in_pool}
 use Rattle.j39_id.specs.Name.{is_arbitrary}
 use Rattle.j39_findings.specs.Findings.{NeedsPoolAddress}
 use Rattle.j39_findings.specs.Kinds.{AreToldApart}
-use Rattle.j39_findings.specs.ListPlaces.{SoManyMeet}
+use Rattle.j39_rules.specs.ListPlaces.{SoManyMeet}
 use Rattle.j39_findings.specs.declared.plan.Plan.{Plan}
 use Rattle.j39_findings.specs.declared.plan.flow_plan.FlowPlan.{FlowPlan}
 use Rattle.j39_findings.specs.declared.plan.to.To.TheVariants.{One}

@@ -1,14 +1,14 @@
 //! Which needs no flow meets.
 ghost use Rattle.std.specs.Prelude.{◌≡◌};
 ghost use Rattle.std.specs.List.{list_any};
-ghost use Rattle.j39_findings.specs.Adding.{Adds};
-ghost use Rattle.j39_findings.specs.ListPlaces.{found_if};
+ghost use Rattle.j39_rules.specs.Adding.{Adds};
+ghost use Rattle.j39_rules.specs.ListPlaces.{found_if};
 ghost use Rattle.j39_findings.specs.Found.{is_from, is_unmet, meets, need_findings};
 
 use crate::checking::finding::Finding;
 use crate::checking::requests::{is_asked_for, reaches};
-use crate::checking::rules::{Rule, find_each, push_if};
 use crate::plan::{FlowPlan, NeedPlan, RequestPlan};
+use j39_rules::{Rule, find_each, push_if};
 use std::alloc::AllocError;
 
 // Whether the need takes what this unit sends.
@@ -45,7 +45,7 @@ struct NeedUnmet<'a> {
     flows: &'a [FlowPlan],
 }
 
-impl Rule<NeedPlan> for NeedUnmet<'_> {
+impl Rule<NeedPlan, Finding> for NeedUnmet<'_> {
     ghost use Rattle.j39_findings.specs.declared.checking.finding.Finding.TheVariants.{NeedUnmet as NeedsUnmet};
 
     ghost gives = { λ rule n need. found_if (is_unmet rule.requests.now rule.flows.now need) (NeedsUnmet n) };

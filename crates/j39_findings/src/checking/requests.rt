@@ -1,14 +1,14 @@
 //! Which requests are answered, and how.
 ghost use Rattle.std.specs.Prelude.{◌≡◌};
-ghost use Rattle.j39_findings.specs.Adding.{Adds};
-ghost use Rattle.j39_findings.specs.ListPlaces.{found_if};
+ghost use Rattle.j39_rules.specs.Adding.{Adds};
+ghost use Rattle.j39_rules.specs.ListPlaces.{found_if};
 ghost use Rattle.j39_findings.specs.Found.{ask_the_same, ask_for_one_number, is_all_astray, is_answered_astray, is_asked_for, is_one_astray, is_reached, is_served, is_served_to_all, is_served_to_one, goes_unanswered, goes_unheard, may_name_receiver, request_findings, serves, serves_all, serves_one, serves_some};
 
 use crate::checking::finding::Finding;
 use crate::checking::flows::is_one_frame_to_all;
 use crate::checking::groups::WhenOutside;
-use crate::checking::rules::{PairRule, Rule, find_each, find_pairs, push_if};
 use crate::plan::{FlowPlan, GroupPlan, RequestPlan, To};
+use j39_rules::{PairRule, Rule, find_each, find_pairs, push_if};
 use std::alloc::AllocError;
 
 /// Whether what goes there reaches the unit.
@@ -109,7 +109,7 @@ struct RequestUnanswered<'a> {
     flows: &'a [FlowPlan],
 }
 
-impl Rule<RequestPlan> for RequestUnanswered<'_> {
+impl Rule<RequestPlan, Finding> for RequestUnanswered<'_> {
     ghost use Rattle.j39_findings.specs.declared.checking.finding.Finding.TheVariants.{RequestUnanswered as RequestsUnanswered};
 
     ghost gives = { λ rule r request. found_if (goes_unanswered rule.flows.now request) (RequestsUnanswered r) };
@@ -133,7 +133,7 @@ struct RequestUnheard<'a> {
     flows: &'a [FlowPlan],
 }
 
-impl Rule<RequestPlan> for RequestUnheard<'_> {
+impl Rule<RequestPlan, Finding> for RequestUnheard<'_> {
     ghost use Rattle.j39_findings.specs.declared.checking.finding.Finding.TheVariants.{RequestUnheard as RequestsUnheard};
 
     ghost gives = { λ rule r request. found_if (goes_unheard rule.flows.now request) (RequestsUnheard r) };
@@ -158,7 +158,7 @@ struct AnswerAstray<'a> {
     flows: &'a [FlowPlan],
 }
 
-impl Rule<RequestPlan> for AnswerAstray<'_> {
+impl Rule<RequestPlan, Finding> for AnswerAstray<'_> {
     ghost use Rattle.j39_findings.specs.declared.checking.finding.Finding.TheVariants.{AnswerAstray as AnswersAstray};
 
     ghost gives = { λ rule r request. found_if (is_answered_astray rule.groups.now rule.flows.now request) (AnswersAstray r) };
@@ -191,7 +191,7 @@ struct RequestRepeated<'a> {
     groups: &'a [GroupPlan],
 }
 
-impl PairRule<RequestPlan> for RequestRepeated<'_> {
+impl PairRule<RequestPlan, Finding> for RequestRepeated<'_> {
     ghost use Rattle.j39_findings.specs.declared.checking.finding.Finding.TheVariants.{RequestRepeated as RequestsRepeated};
 
     ghost test = { λ rule. ask_the_same rule.groups.now };

@@ -16,7 +16,7 @@ use Rattle.j39_findings.specs.Findings.{AreNeeded, AreOneFlow, AskTheSame, Canno
 use Rattle.j39_findings.specs.Findings.{HasRecordsOver, HaveSamePgn, HaveSameFixedAddress, HaveSilentAddress, IsAloneInPlan, IsAnsweredAstray, IsFlowContested, IsOutside}
 use Rattle.j39_findings.specs.Findings.{IsPrivateUnsent, IsSelectorInside, IsSilentInPool, IsUnmet, PrefersKept}
 use Rattle.j39_findings.specs.Found.{needs_pool_address}
-use Rattle.j39_findings.specs.ListPlaces.{PairAt, ValueAt}
+use Rattle.j39_rules.specs.ListPlaces.{PairAt, ValueAt}
 use Rattle.j39_findings.specs.declared.checking.finding.Finding.TheVariants as found
 use Rattle.j39_findings.specs.declared.plan.Plan.{Plan}
 use Rattle.j39_findings.specs.declared.plan.flow_plan.FlowPlan.{FlowPlan}

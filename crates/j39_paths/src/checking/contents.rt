@@ -1,13 +1,13 @@
 //! What is wrong with what goes into what.
 ghost use Rattle.std.specs.Prelude.{◌≡◌};
-ghost use Rattle.j39_findings.specs.Adding.{Adds};
+ghost use Rattle.j39_rules.specs.Adding.{Adds};
 ghost use Rattle.j39_paths.specs.FoundPaths.{content_findings};
 
 use crate::checking::layouts::LayoutDiffers;
 use crate::checking::odds::TwoForwards;
-use crate::checking::rules::{find_each, find_pairs};
 use crate::checking::signals::Differences;
 use crate::finding::VehicleFinding;
+use j39_rules::{find_each, find_pairs};
 use j39_vehicle::Vehicle;
 use std::alloc::AllocError;
 

@@ -1,15 +1,15 @@
 //! Which forwards have no input or output, or several.
 ghost use Rattle.std.specs.Prelude.{◌≡◌, nat_lt, count_by};
 ghost use Rattle.std.specs.List.{list_any};
-ghost use Rattle.j39_findings.specs.Adding.{Adds};
-ghost use Rattle.j39_findings.specs.ListPlaces.{found_if};
+ghost use Rattle.j39_rules.specs.Adding.{Adds};
+ghost use Rattle.j39_rules.specs.ListPlaces.{found_if};
 ghost use Rattle.j39_paths.specs.ForwardTests.{is_input, is_output};
 ghost use Rattle.j39_paths.specs.Forwards.{input_flows, output_flows};
 ghost use Rattle.j39_paths.specs.FoundPaths.{end_findings, has_many_inputs, has_many_outputs, has_no_input, has_no_output};
 
-use crate::checking::rules::{Rule, find_each, push_if};
 use crate::finding::VehicleFinding;
 use crate::forwards::{input_flows, is_input, is_output, output_flows};
+use j39_rules::{Rule, find_each, push_if};
 use j39_vehicle::{Forward, Vehicle};
 use std::alloc::AllocError;
 
@@ -66,7 +66,7 @@ struct NoInput<'a> {
     vehicle: &'a Vehicle,
 }
 
-impl Rule<Forward> for NoInput<'_> {
+impl Rule<Forward, VehicleFinding> for NoInput<'_> {
     ghost use Rattle.j39_paths.specs.declared.finding.VehicleFinding.TheVariants.{NoInput as NoInputs};
 
     ghost gives = { λ rule n forward. found_if (has_no_input rule.vehicle.now forward) (NoInputs n) };
@@ -90,7 +90,7 @@ struct ManyInputs<'a> {
     vehicle: &'a Vehicle,
 }
 
-impl Rule<Forward> for ManyInputs<'_> {
+impl Rule<Forward, VehicleFinding> for ManyInputs<'_> {
     ghost use Rattle.j39_paths.specs.declared.finding.VehicleFinding.TheVariants.{ManyInputs as SeveralInputs};
 
     ghost gives = { λ rule n forward. found_if (has_many_inputs rule.vehicle.now forward) (SeveralInputs n) };
@@ -114,7 +114,7 @@ struct NoOutput<'a> {
     vehicle: &'a Vehicle,
 }
 
-impl Rule<Forward> for NoOutput<'_> {
+impl Rule<Forward, VehicleFinding> for NoOutput<'_> {
     ghost use Rattle.j39_paths.specs.declared.finding.VehicleFinding.TheVariants.{NoOutput as NoOutputs};
 
     ghost gives = { λ rule n forward. found_if (has_no_output rule.vehicle.now forward) (NoOutputs n) };
@@ -138,7 +138,7 @@ struct ManyOutputs<'a> {
     vehicle: &'a Vehicle,
 }
 
-impl Rule<Forward> for ManyOutputs<'_> {
+impl Rule<Forward, VehicleFinding> for ManyOutputs<'_> {
     ghost use Rattle.j39_paths.specs.declared.finding.VehicleFinding.TheVariants.{ManyOutputs as SeveralOutputs};
 
     ghost gives = { λ rule n forward. found_if (has_many_outputs rule.vehicle.now forward) (SeveralOutputs n) };

@@ -1,15 +1,15 @@
 //! Which copies go into other layouts.
 ghost use Rattle.std.specs.Prelude.{◌≡◌};
 ghost use Rattle.std.specs.List.{list_any};
-ghost use Rattle.j39_findings.specs.Adding.{Adds};
-ghost use Rattle.j39_findings.specs.ListPlaces.{found_if};
+ghost use Rattle.j39_rules.specs.Adding.{Adds};
+ghost use Rattle.j39_rules.specs.ListPlaces.{found_if};
 ghost use Rattle.j39_paths.specs.FoundPaths.{copies_other_layout, has_other_records, has_other_selector, have_other_layouts, is_selector, same_byte};
 
 use crate::buses::group_at;
-use crate::checking::rules::{Rule, push_if};
 use crate::finding::VehicleFinding;
 use crate::forwards::copies;
 use j39_findings::GroupPlan;
+use j39_rules::{Rule, push_if};
 use j39_signal::Selector;
 use j39_vehicle::{Forward, Vehicle};
 use std::alloc::AllocError;
@@ -93,7 +93,7 @@ pub struct LayoutDiffers<'a> {
     pub vehicle: &'a Vehicle,
 }
 
-impl Rule<Forward> for LayoutDiffers<'_> {
+impl Rule<Forward, VehicleFinding> for LayoutDiffers<'_> {
     ghost use Rattle.j39_paths.specs.declared.finding.VehicleFinding.TheVariants.{LayoutDiffers as LayoutsDiffer};
 
     ghost gives = { λ rule n forward. found_if (copies_other_layout rule.vehicle.now forward) (LayoutsDiffer n) };

@@ -1,16 +1,16 @@
 //! Which needs no flow meets.
 ghost use Rattle.std.specs.Prelude.{◌≡◌};
-ghost use Rattle.j39_findings.specs.Adding.{Adds};
+ghost use Rattle.j39_rules.specs.Adding.{Adds};
 ghost use Rattle.j39_findings.specs.Found.{meets};
-ghost use Rattle.j39_findings.specs.ListPlaces.{found_if, each};
+ghost use Rattle.j39_rules.specs.ListPlaces.{found_if, each};
 ghost use Rattle.j39_paths.specs.FoundPaths.{is_need_flow, is_need_unmet, need_findings, some_at};
 ghost use Rattle.j39_paths.specs.Traces.{flows_of_need, is_from_origin, needed};
 
 use crate::buses::{flows_on, requests_on};
-use crate::checking::rules::{Rule, find_each, push_if};
 use crate::finding::VehicleFinding;
 use crate::traces::is_from_origin;
 use j39_findings::{FlowPlan, NeedPlan, RequestPlan, meets};
+use j39_rules::{Rule, find_each, push_if};
 use j39_vehicle::{Vehicle, VehicleNeed};
 use std::alloc::AllocError;
 
@@ -59,7 +59,7 @@ struct NeedUnmet<'a> {
     vehicle: &'a Vehicle,
 }
 
-impl Rule<VehicleNeed> for NeedUnmet<'_> {
+impl Rule<VehicleNeed, VehicleFinding> for NeedUnmet<'_> {
     ghost use Rattle.j39_paths.specs.declared.finding.VehicleFinding.TheVariants.{NeedUnmet as NeedsUnmet};
 
     ghost gives = { λ rule d need. found_if (is_need_unmet rule.vehicle.now need) (NeedsUnmet d) };

@@ -4,10 +4,10 @@ ghost use Rattle.std.specs.List.{list_any};
 ghost use Rattle.j39_paths.specs.Forwards.{output_flows};
 ghost use Rattle.j39_paths.specs.FoundPaths.{are_at_odds, are_two_forwards, feed_one_flow, is_of_both};
 
-use crate::checking::rules::PairRule;
 use crate::finding::VehicleFinding;
 use crate::forwards::{copies, is_direct, is_output, output_flows, write_one_signal};
 use j39_findings::FlowPlan;
+use j39_rules::PairRule;
 use j39_vehicle::{Forward, Vehicle};
 
 // Whether the flow is an output of both.
@@ -48,7 +48,7 @@ pub struct TwoForwards<'a> {
     pub vehicle: &'a Vehicle,
 }
 
-impl PairRule<Forward> for TwoForwards<'_> {
+impl PairRule<Forward, VehicleFinding> for TwoForwards<'_> {
     ghost use Rattle.j39_paths.specs.declared.finding.VehicleFinding.TheVariants.{TwoForwards as Pairs};
 
     ghost test = { λ rule. are_two_forwards rule.vehicle.now };

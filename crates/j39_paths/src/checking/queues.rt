@@ -3,13 +3,13 @@ ghost use Rattle.std.specs.Prelude.{◌≡◌, ◌==◌, count_by, nat_lt, false
 ghost use Rattle.std.specs.List.{list_any, slice_get};
 ghost use Rattle.std.specs.Option.{option_map_or};
 ghost use Rattle.j39_findings.specs.declared.plan.unit_plan.UnitPlan.{UnitPlan as APlannedUnit};
-ghost use Rattle.j39_findings.specs.Adding.{Adds};
-ghost use Rattle.j39_findings.specs.ListPlaces.{found_if, in_each};
+ghost use Rattle.j39_rules.specs.Adding.{Adds};
+ghost use Rattle.j39_rules.specs.ListPlaces.{found_if, in_each};
 ghost use Rattle.j39_paths.specs.FoundPaths.{has_any_queue, has_timing, is_any, may_share_queue, queue_findings, shared_queues};
 
-use crate::checking::rules::{Rule, find_each, push_if};
 use crate::finding::VehicleFinding;
 use j39_findings::{Queue, UnitPlan};
+use j39_rules::{Rule, find_each, push_if};
 use j39_vehicle::{BusPlan, Gateway, UnitAt, Vehicle};
 use std::alloc::AllocError;
 
@@ -57,7 +57,7 @@ struct SharedQueue<'a> {
     place: usize,
 }
 
-impl Rule<BusPlan> for SharedQueue<'_> {
+impl Rule<BusPlan, VehicleFinding> for SharedQueue<'_> {
     ghost use Rattle.j39_paths.specs.declared.finding.VehicleFinding.TheVariants.{SharedQueue as SharedQueues};
 
     ghost gives = { λ rule b bus. found_if (may_share_queue rule.gateway.now b bus) (SharedQueues rule.place b) };
@@ -81,7 +81,7 @@ struct QueuesOf<'a> {
     buses: &'a [BusPlan],
 }
 
-impl Rule<Gateway> for QueuesOf<'_> {
+impl Rule<Gateway, VehicleFinding> for QueuesOf<'_> {
     ghost gives = { λ rule k gateway. shared_queues rule.buses.now k gateway };
 
     fn find(

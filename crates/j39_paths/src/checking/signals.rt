@@ -1,17 +1,17 @@
 //! Which signals of a group that is sent don't say what goes into them.
 ghost use Rattle.std.specs.Prelude.{◌≡◌, false};
 ghost use Rattle.std.specs.Option.{option_map_or};
-ghost use Rattle.j39_findings.specs.Adding.{Adds};
-ghost use Rattle.j39_findings.specs.ListPlaces.{found_if, in_each};
+ghost use Rattle.j39_rules.specs.Adding.{Adds};
+ghost use Rattle.j39_rules.specs.ListPlaces.{found_if, in_each};
 ghost use Rattle.j39_paths.specs.FoundPaths.{are_unlike, differences, differs_from, is_copied_otherwise, is_in_selector, is_other_signal, is_other_source, is_written_otherwise, signals_that_differ};
 
 use crate::buses::{group_at, spn_at};
-use crate::checking::rules::{Rule, find_each, push_if};
 use crate::finding::VehicleFinding;
 use crate::forwards::{copies, listed};
 use crate::matching::{are_alike, has};
 use crate::traces::first_agreeing;
 use j39_findings::GroupPlan;
+use j39_rules::{Rule, find_each, push_if};
 use j39_signal::{Selector, Signal};
 use j39_vehicle::{Forward, ForwardedSignal, Vehicle};
 use std::alloc::AllocError;
@@ -128,7 +128,7 @@ struct SignalDiffers<'a> {
     sent: &'a GroupPlan,
 }
 
-impl Rule<Signal> for SignalDiffers<'_> {
+impl Rule<Signal, VehicleFinding> for SignalDiffers<'_> {
     ghost use Rattle.j39_paths.specs.declared.finding.VehicleFinding.TheVariants.{SignalDiffers as SignalsDiffer};
 
     ghost gives = { λ rule j t. found_if (is_other_signal rule.forward.now rule.heard.now rule.sent.now j t) (SignalsDiffer rule.place j) };
@@ -153,7 +153,7 @@ pub struct Differences<'a> {
     pub vehicle: &'a Vehicle,
 }
 
-impl Rule<Forward> for Differences<'_> {
+impl Rule<Forward, VehicleFinding> for Differences<'_> {
     ghost gives = { λ rule n forward. differences rule.vehicle.now n forward };
 
     fn find(

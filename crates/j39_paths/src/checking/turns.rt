@@ -1,13 +1,13 @@
 //! Which forwards come after themselves.
 ghost use Rattle.std.specs.Prelude.{◌≡◌, false};
 ghost use Rattle.std.specs.List.{slice_index_or};
-ghost use Rattle.j39_findings.specs.Adding.{Adds};
-ghost use Rattle.j39_findings.specs.ListPlaces.{found_if, in_each};
+ghost use Rattle.j39_rules.specs.Adding.{Adds};
+ghost use Rattle.j39_rules.specs.ListPlaces.{found_if, in_each};
 ghost use Rattle.j39_paths.specs.FoundPaths.{loop_findings};
 
-use crate::checking::rules::{Rule, find_each, push_if};
 use crate::finding::VehicleFinding;
 use crate::loops::flag_at;
+use j39_rules::{Rule, find_each, push_if};
 use j39_vehicle::{Forward, Vehicle};
 use std::alloc::AllocError;
 
@@ -16,7 +16,7 @@ struct ForwardLoop<'a> {
     loops: &'a [bool],
 }
 
-impl Rule<Forward> for ForwardLoop<'_> {
+impl Rule<Forward, VehicleFinding> for ForwardLoop<'_> {
     ghost use Rattle.j39_paths.specs.declared.finding.VehicleFinding.TheVariants.{ForwardLoop as Loops};
 
     ghost gives = { λ rule n _. found_if (slice_index_or rule.loops.now n false) (Loops n) };

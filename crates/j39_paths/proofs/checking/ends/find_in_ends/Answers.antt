@@ -1,5 +1,5 @@
-use Rattle.j39_findings.specs.ListPlaces.{each}
-use Rattle.j39_findings.proofs.AddingLemmas.{refuses, adds_behind, some_left, some_right}
+use Rattle.j39_rules.specs.ListPlaces.{each}
+use Rattle.j39_rules.proofs.AddingLemmas.{refuses, adds_behind, some_left, some_right}
 use Rattle.j39_paths.specs.FoundPaths.{end_findings}
 use Rattle.j39_paths.proofs.checking.ends.find_in_ends.Goals as goal
 

@@ -1,4 +1,4 @@
-use Rattle.j39_findings.specs.ListPlaces.{each}
+use Rattle.j39_rules.specs.ListPlaces.{each}
 use Rattle.j39_paths.specs.FoundPaths.{need_findings}
 use Rattle.j39_paths.proofs.checking.needs.find_in_needs.Goals as goal
 

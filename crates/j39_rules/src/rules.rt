@@ -1,39 +1,35 @@
 //! What is found of the values of a list, one after another, and of the pairs of them.
 ghost use Rattle.std.specs.Prelude.{◌≡◌, ◌+◌, ◌<◌, ℕ, Bool, List, length, drop};
-ghost use Rattle.j39_findings.specs.ListPlaces.{found_if, each, pairs, in_each};
-ghost use Rattle.j39_findings.specs.Adding.{Adds};
+ghost use Rattle.j39_rules.specs.ListPlaces.{found_if, each, pairs, in_each};
+ghost use Rattle.j39_rules.specs.Adding.{Adds};
 
-use crate::checking::finding::Finding;
 use std::alloc::AllocError;
 
 /// What is found of one value.
-pub trait Rule<T> {
-    ghost use Rattle.j39_findings.specs.Adding.{Adds};
-    ghost use Rattle.j39_findings.specs.declared.checking.finding.Finding.{Finding as Found};
+pub trait Rule<T, F> {
+    ghost use Rattle.j39_rules.specs.Adding.{Adds};
 
-    ghost gives: { Self → ℕ → T → List Found };
+    ghost gives: { Self → ℕ → T → List F };
 
-    fn find(&self, findings: &mut Vec<Finding>, place: usize, value: &T) -> Result<(), AllocError>
+    fn find(&self, findings: &mut Vec<F>, place: usize, value: &T) -> Result<(), AllocError>
         ensures { Adds result findings.old.items findings.new.items (gives self.now place value.now) };
 }
 
 /// What is found of two values that stand in a relation.
-pub trait PairRule<T> {
-    ghost use Rattle.j39_findings.specs.declared.checking.finding.Finding.{Finding as Found};
-
+pub trait PairRule<T, F> {
     ghost test: { Self → T → T → Bool };
 
-    ghost make: { Self → ℕ → ℕ → Found };
+    ghost make: { Self → ℕ → ℕ → F };
 
     fn holds(&self, first: &T, second: &T) -> bool
         ensures { result ≡ test self.now first.now second.now };
 
-    fn finding(&self, first: usize, second: usize) -> Finding
+    fn finding(&self, first: usize, second: usize) -> F
         ensures { result ≡ make self.now first second };
 }
 
 /// Adds the finding where the test holds.
-pub fn push_if(findings: &mut Vec<Finding>, holds: bool, finding: Finding) -> Result<(), AllocError>
+pub fn push_if<F: Drop>(findings: &mut Vec<F>, holds: bool, finding: F) -> Result<(), AllocError>
     ensures { Adds result findings.old.items findings.new.items (found_if holds finding) }
 {
     if holds {
@@ -43,8 +39,8 @@ pub fn push_if(findings: &mut Vec<Finding>, holds: bool, finding: Finding) -> Re
 }
 
 /// Adds what is found of each value, in the order of the values.
-pub fn find_each<T, R: Rule<T>>(
-    findings: &mut Vec<Finding>,
+pub fn find_each<T, F, R: Rule<T, F>>(
+    findings: &mut Vec<F>,
     rule: &R,
     values: &[T],
 ) -> Result<(), AllocError>
@@ -56,8 +52,8 @@ pub fn find_each<T, R: Rule<T>>(
     Ok(())
 }
 
-fn find_against<T, R: PairRule<T>>(
-    findings: &mut Vec<Finding>,
+fn find_against<T, F: Drop, R: PairRule<T, F>>(
+    findings: &mut Vec<F>,
     rule: &R,
     i: usize,
     value: &T,
@@ -74,8 +70,8 @@ fn find_against<T, R: PairRule<T>>(
 }
 
 /// Adds a finding for each pair that stands in the relation, in rising order of the places.
-pub fn find_pairs<T, R: PairRule<T>>(
-    findings: &mut Vec<Finding>,
+pub fn find_pairs<T, F: Drop, R: PairRule<T, F>>(
+    findings: &mut Vec<F>,
     rule: &R,
     values: &[T],
 ) -> Result<(), AllocError>

@@ -1,7 +1,7 @@
 use Rattle.std.proofs.Common.{◌≤◌, length, sym, ◌∙◌, arith}
-use Rattle.j39_findings.proofs.AddingLemmas.{refuses, some_against}
-use Rattle.j39_findings.proofs.PlaceLemmas.{each_more, each_all}
-use Rattle.j39_paths.proofs.checking.rules.find_against.Goals as goal
+use Rattle.j39_rules.proofs.AddingLemmas.{refuses, some_against}
+use Rattle.j39_rules.proofs.PlaceLemmas.{each_more, each_all}
+use Rattle.j39_rules.proofs.rules.find_against.Goals as goal
 
 pub returns-in_err-push_if : goal.returns-in_err-push_if
 returns-in_err-push_if g c =

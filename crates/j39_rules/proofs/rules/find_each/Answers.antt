@@ -1,7 +1,7 @@
 use Rattle.std.proofs.Common.{◌≤◌, length, sym, ◌∙◌, arith}
-use Rattle.j39_findings.proofs.AddingLemmas.{refuses, some_in_each}
-use Rattle.j39_findings.proofs.PlaceLemmas.{in_each_more, in_each_all}
-use Rattle.j39_findings.proofs.checking.rules.find_each.Goals as goal
+use Rattle.j39_rules.proofs.AddingLemmas.{refuses, some_in_each}
+use Rattle.j39_rules.proofs.PlaceLemmas.{in_each_more, in_each_all}
+use Rattle.j39_rules.proofs.rules.find_each.Goals as goal
 
 pub returns-in_err-find : goal.returns-in_err-find
 returns-in_err-find g c =

@@ -3,9 +3,9 @@ use Rattle.std.proofs.Common.{◌≡◌, ℕ, suc, ◌+◌, ◌<◌, List, [], �
 use Rattle.std.proofs.Common.{false, drop, Contains, AllPairs, All, refl, sym, subst, inl, inr, arith}
 use Rattle.std.proofs.lemmas.List.Elements.{Contains-append_cases, All-nil, All-cons}
 use Rattle.std.proofs.lemmas.List.Kept.{AllPairs-cons}
-use Rattle.j39_findings.specs.ListPlaces.{found_if, in_each, each, pairs}
-use Rattle.j39_findings.proofs.PlaceLemmas.{after}
-use Rattle.j39_findings.proofs.Members.{of_in_each, of_found_if}
+use Rattle.j39_rules.specs.ListPlaces.{found_if, in_each, each, pairs}
+use Rattle.j39_rules.proofs.PlaceLemmas.{after}
+use Rattle.j39_rules.proofs.Members.{of_in_each, of_found_if}
 
 -- each element stands in the relation to each later one
 abbrev pub Rises : {B : Type 0} → (B → B → Type 0) → List B → Type 0

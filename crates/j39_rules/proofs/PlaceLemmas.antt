@@ -1,7 +1,7 @@
 -- Findings of a list, one value at a time.
 use Rattle.std.proofs.Common.{◌≡◌, ℕ, ◌+◌, ◌<◌, ◌≤◌, List, [], ◌∷◌, ◌++◌, Bool, length, get_or, drop, append_assoc, refl, ap, ◌∙◌}
 use Rattle.std.proofs.lemmas.List.{append-nil, drop_more, drop_all}
-use Rattle.j39_findings.specs.ListPlaces.{in_each, each, pairs, found_if}
+use Rattle.j39_rules.specs.ListPlaces.{in_each, each, pairs, found_if}
 
 pub in_each_more : {A B : Type 0} (find : ℕ → A → List B) (x : A) (i : ℕ) (xs : List A) (old : List B)
     → i < length xs → x ≡ get_or xs i x

@@ -5,8 +5,8 @@ use Rattle.std.specs.List.{slice_get}
 use Rattle.std.proofs.lemmas.Bool.{false≢true}
 use Rattle.std.proofs.lemmas.Option.{none-some, same_Some, slice_get_within, get_or_from_slice_get}
 use Rattle.std.proofs.lemmas.List.Elements.{Contains-append_cases, Contains-append_left, Contains-append_right}
-use Rattle.j39_findings.specs.ListPlaces.{found_if, in_each, each, pairs, ValueAt, PairAt}
-use Rattle.j39_findings.proofs.PlaceLemmas.{after}
+use Rattle.j39_rules.specs.ListPlaces.{found_if, in_each, each, pairs, ValueAt, PairAt}
+use Rattle.j39_rules.proofs.PlaceLemmas.{after}
 
 -- f is found of the value at index k, whose place is i + k
 pub record FoundOf {A B : Type 0} (find : ℕ → A → List B) (i : ℕ) (xs : List A) (f : B) : Type 0 where

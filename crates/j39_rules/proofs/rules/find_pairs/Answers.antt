@@ -1,7 +1,7 @@
 use Rattle.std.proofs.Common.{◌≤◌, length, sym, ◌∙◌, arith}
-use Rattle.j39_findings.proofs.AddingLemmas.{refuses, some_pair}
-use Rattle.j39_findings.proofs.PlaceLemmas.{in_each_more, in_each_all, after, pairs_is}
-use Rattle.j39_findings.proofs.checking.rules.find_pairs.Goals as goal
+use Rattle.j39_rules.proofs.AddingLemmas.{refuses, some_pair}
+use Rattle.j39_rules.proofs.PlaceLemmas.{in_each_more, in_each_all, after, pairs_is}
+use Rattle.j39_rules.proofs.rules.find_pairs.Goals as goal
 
 pub returns-in_err-find_against : goal.returns-in_err-find_against
 returns-in_err-find_against g c =
