@@ -31,7 +31,7 @@ type Row = (
     &'static str,
 );
 
-const ROWS: [Row; 31] = [
+const ROWS: [Row; 32] = [
     // 1280 + 5000 us until it is queued on B, 1280 us there, and 20 ms in which none comes.
     (
         SHORT,
@@ -257,14 +257,23 @@ const ROWS: [Row; 31] = [
         "within = 30",
         "F 8280 N 1 29560 G11 1",
     ),
-    // A jitter of 9 ms has room for it.
+    // A jitter of 9 ms has room for it, where there is a frame each 20 ms.
     (
         SHORT,
-        (K250, "period = 10, pause = 20, jitter = 2"),
-        (K250, "period = 10, jitter = 9"),
+        (K250, "period = 20, pause = 20, jitter = 2"),
+        (K250, "period = 20, jitter = 9"),
         "within = 5",
         "within = 30",
         "F 8280 N 1 29560",
+    ),
+    // Each 10 ms it is late, since the jitter counts.
+    (
+        SHORT,
+        (K250, "period = 10, pause = 20"),
+        (K250, "period = 10, jitter = 9"),
+        "within = 5",
+        "within = 30",
+        "F 6280 N 1 ? G13 1",
     ),
     // 27 ms are less than its age.
     (
