@@ -1,13 +1,14 @@
 """The tables of a vehicle's file, and the lines of what the program answers of it."""
 
+import os
 import unittest
 
-from j39plan.plan.answer_grammar import Unknown
+from j39plan.plan.answer_grammar import Unknown, lines_of
 from j39plan.plan.parts import Source
 from j39plan.vehicle.answer_grammar import FINDINGS, answer_of, line_of
 from j39plan.vehicle.files import Vehicle, is_vehicle, plan_file
 from j39plan.vehicle.tables import Bus, Carried, Forward, Gateway, Need, OnBus, VehicleTables
-from tests.support import examples
+from tests.support import examples, text_of, vehicles
 from tests.vehicles import ANSWER, B, P, SIGNAL, V, OfVehicles
 
 NEED = "need 1 B.C EEC1 SPN190 from P.E"
@@ -121,12 +122,20 @@ class Grammar(unittest.TestCase):
 
 
 class Examples(unittest.TestCase):
-    def test_a_plan_of_the_examples_is_none_of_a_vehicle(self) -> None:
-        """Each file of the examples is one or the other, by its tables."""
+    def test_each_is_a_plan_or_a_vehicle(self) -> None:
+        self.assertGreaterEqual(len(vehicles()), 3)
         for name in examples(".toml"):
             with open(name, "rb") as file:
-                data = file.read()
-            self.assertEqual(is_vehicle(data), b"\n[[bus]]" in data, name)
+                self.assertEqual(is_vehicle(file.read()), name in vehicles(), name)
+
+    def test_each_answer_is_read(self) -> None:
+        """Each line of what the program answers of the vehicles is in the grammar."""
+        for name in vehicles():
+            found = answer_of(text_of(os.path.splitext(name)[0] + ".answer"))
+            kinds = [line_of(text).kind for text in found.rest]
+            self.assertEqual((len(found.blocks) > 1, kinds[0], kinds[-1] in ("ok", "findings")), (True, "forward", True), name)
+            for block in found.blocks:
+                self.assertEqual([line.kind for line in lines_of(block.answer)], ["ok", "load"])
 
 
 if __name__ == "__main__":
