@@ -43,7 +43,7 @@ class Page(OfVehicles):
 
     def test_forwards(self) -> None:
         row = ('<tr><th scope="row">1</th><td>CGW</td><td>P.EEC1</td><td>E</td><td>B.EEC1</td><td>all</td><td>{}</td><td>{}</td><td>{}</td><td>{}</td><td>{}</td></tr>')
-        copied = "all bytes are copied"
+        copied = "copied"
         signals = SIGNAL.format("SPN190", "SPN190")
         for cells, v in (
             (("direct", "5 ms", "6.28 ms", "7 ms", copied), V), (("direct", "–", "<strong>not shown</strong>", "7 ms", copied), swapped(V, ("within = 5\n", ""))),
@@ -57,7 +57,7 @@ class Page(OfVehicles):
     def test_needs_and_their_ways(self) -> None:
         page = self.page()
         way = "P.E EEC1 SPN190 → CGW by forward 1, direct → B.G EEC1 SPN190 → B.C"
-        self.assertIn(f'<tr><th scope="row">1</th><td>B.C</td><td>EEC1 SPN190</td><td>P.E</td><td>27.56 ms</td><td>30 ms</td><td>{way}</td></tr>', page)
+        self.assertIn('<tr><th scope="row">1</th><td>B.C</td><td>EEC1 SPN190</td><td>P.E</td><td>27.56 ms</td><td>30 ms</td><td>P.E EEC1 SPN190 → CGW (1, direct) → B.C</td></tr>', page)
         self.assertIn("<figcaption>Need 1: EEC1 SPN190 by B.C from P.E, age: 27.56 ms of 30 ms</figcaption>", page)
         self.assertIn(f'role="img" aria-label="{way}"', page)
         self.assertEqual((page.count('<line class="hop"'), page.count("<circle")), (1, 2))

@@ -46,7 +46,7 @@ def time_of(text: str) -> int:
 def words_of(words: list[str] | None) -> argparse.Namespace:
     """The words of the command line."""
     parser = program.parser(__doc__)
-    parser.epilog = "example: %(prog)s P=powertrain.toml B=body.toml CGW --within 5 >> truck.toml"
+    parser.epilog = "example: %(prog)s P=powertrain.toml B=body.toml CGW --within 5"
     parser.add_argument("heard", metavar="[BUS=]PLAN", type=plan_of, help="the bus on which the gateway hears, and the file of its plan; without BUS it is "
                         "called as the file")
     parser.add_argument("sent", metavar="[BUS=]PLAN", type=plan_of, help="the bus on which it sends")

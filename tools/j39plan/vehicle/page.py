@@ -11,7 +11,7 @@ from j39plan.vehicle.answer_grammar import line_of
 from j39plan.vehicle.answer_places import InFile
 from j39plan.vehicle.files import Vehicle
 from j39plan.vehicle.page_style import VEHICLE_STYLE
-from j39plan.vehicle.picture import picture, words
+from j39plan.vehicle.picture import picture, short
 from j39plan.vehicle.tables import Bus, Forward, Need
 from j39plan.vehicle.ways import Way, Ways
 
@@ -84,7 +84,7 @@ class Page:
         time = line.number_if_any("within") if line else None
         shown = in_milliseconds(time) if time is not None else "<strong>not shown</strong>" if limit is not None else "–"
         if forward.signals is None:
-            signals = "all bytes are copied"
+            signals = "copied"
         else:
             signals = "<br>".join(f"{carried.label} → {carried.into}" + (", nearest" if not carried.exact else "") for carried in forward.signals) or "none"
         return row(str(forward.number), [
@@ -103,7 +103,7 @@ class Page:
             way = self._way(need, line)
             rows.append(row(str(need.number), [
                 escape(str(need.unit)), escape(f"{need.group} {need.signal}".strip()), escape(str(need.sender)), age_of(line),
-                f"{need.within} ms" if need.within else "–", escape(words(way, need)) if way else "–"]))
+                f"{need.within} ms" if need.within else "–", escape(short(way, need)) if way else "–"]))
             if way:
                 caption = f"Need {need.number}: {escape(need.what)}, age: {age_of(line)}" + (f" of {need.within} ms" if need.within else "")
                 labels = [bus.label for bus in self.vehicle.tables.buses]

@@ -3,11 +3,11 @@
 from j39plan.plan.page_style import STYLE
 
 VEHICLE_STYLE = STYLE + """.buses { display: flex; flex-wrap: wrap; gap: 1rem; align-items: flex-start; }
-.buses article { flex: 1 1 15rem; border: 1px solid var(--line); padding: 0 0.75rem; }
+.buses article { flex: 1 1 12rem; border: 1px solid var(--line); padding: 0 0.75rem; }
 .buses h3 { margin-top: 0.5rem; }
 figure { margin: 1.5rem 0; break-inside: avoid; }
 svg { display: block; max-width: none; font: 12px sans-serif; }
-svg text { fill: var(--ink); stroke: var(--paper); stroke-width: 4px; paint-order: stroke; text-anchor: middle; }
+svg text { fill: var(--ink); stroke: var(--paper); stroke-width: 4px; paint-order: stroke; }
 svg line { stroke: var(--line); stroke-width: 3px; }
 svg .hop { stroke: var(--ink); stroke-width: 1.5px; }
 svg circle, svg path { fill: var(--ink); }
