@@ -28,11 +28,11 @@ use Rattle.j39_paths.specs.declared.point.FlowAt.{FlowAt}
 use Rattle.j39_paths.specs.declared.point.Point.{Point}
 use Rattle.j39_forwards.specs.Forwards.{AreOneValue}
 use Rattle.j39_forwards.proofs.Forwards.{among_whole}
-use Rattle.j39_vehicle_laws.specs.Carrying.{AreAllCopies, AreAllExact, Brings, CarriesMessage, CarriesNone, EachForward, GoesBy, another, group_on, is_exact, itself, more, none, nothing, signal_at}
-use Rattle.j39_vehicle_laws.specs.Faithful.{IsFaithful, signal_of}
+use Rattle.j39_vehicle_laws.specs.Carrying.{AreAllCopies, AreAllExact, Brings, BringsAnother, BringsNothing, EachForward, GoesBy, another, group_on, is_exact, itself, more, none, nothing, signal_at}
+use Rattle.j39_vehicle_laws.specs.Faithful.{KeepsContents, signal_of}
 use Rattle.j39_vehicle_laws.specs.Reading.{HasNoValue, IsUnset, reading}
-use Rattle.j39_vehicle_laws.specs.Unaltered.{ComesFrom, HasDivisors, IsBegunBy, IsUnaltered, ReadsAsOrigin}
-use Rattle.j39_vehicle_laws.specs.VehicleRuns.{Carries, CarriesOne, IsBegun, IsHeard, IsReported, IsSent, Message, VehicleRun, flow_at}
+use Rattle.j39_vehicle_laws.specs.Unaltered.{ComesFrom, HasDivisors, WasBegunBy, IsUnaltered, ReadsAsOrigin}
+use Rattle.j39_vehicle_laws.specs.BusRuns.{Carries, CarriesOne, WasBegun, WasHeard, WasReported, WasSent, BusMessage, VehicleRun, flow_at}
 use Rattle.j39_vehicle_laws.proofs.Forwarding.{first_is_input, next_feeds, one_input}
 use Rattle.j39_vehicle_laws.proofs.Hops.{behind_at, flow_place, none_over, taken_over, value_or_none}
 use Rattle.j39_vehicle_laws.proofs.Places.{one_of_all, parts_of, passed_of}
@@ -44,7 +44,7 @@ use Rattle.j39_vehicle_laws.proofs.Values.{one_value_passes}
 abbrev pub AreRunsSound : Type 0
 AreRunsSound = (plan : Plan) (steps : List Step) (w : World) → Run plan all_off steps w → AreReportsSound w × AreSentFramesSound w
 
-sent_if_heard : (w : World) → AreReportsSound w → AreSentFramesSound w → (u v flow : ℕ) (bytes : List ℕ) → IsHeard w u v flow bytes → IsSent w u v flow bytes
+sent_if_heard : (w : World) → AreReportsSound w → AreSentFramesSound w → (u v flow : ℕ) (bytes : List ℕ) → WasHeard w u v flow bytes → WasSent w u v flow bytes
 sent_if_heard w sound frames u v flow bytes (inl m) =
     inl (among_whole _ (reported w.reports v u) (w.begun u v) (sound.begun v u) m.earlier m.later m.at)
 sent_if_heard w sound frames u v flow bytes (inr m) =
@@ -57,7 +57,7 @@ bus_of buses b f None flow is its =
     absurd (none-some _ (sym (ap (λ o. slice_get (option_map_or (λ (bus : BusPlan). bus.plan.flows.items) o []) f) is) ∙ its))
 bus_of buses b f (Some bus) flow is its = (bus, is)
 
-pub begun_if_reported : (v : Vehicle) → AreRunsSound → (run : VehicleRun v) (m : Message) → IsReported v run.worlds m → IsBegun v run.worlds m
+pub begun_if_reported : (v : Vehicle) → AreRunsSound → (run : VehicleRun v) (m : BusMessage) → WasReported v run.worlds m → WasBegun v run.worlds m
 begun_if_reported v sound run m reported =
     let b = m.point.at.bus in
     let (bus, bus_is) = bus_of v.buses.items b m.point.at.flow (slice_get v.buses.items b) reported.flow refl reported.flow_is in
@@ -72,12 +72,12 @@ begun_if_reported v sound run m reported =
 -- ---- along the trace
 
 -- the message that a message of an output carries is one of the flow by which the trace goes on
-abbrev carried : Point → Forward → List ℕ → Message
+abbrev carried : Point → Forward → List ℕ → BusMessage
 carried q n bytes = record { point = q; hearer = n.hearer; bytes = bytes }
 
 carried_reported : (v : Vehicle) → AreFindings v [] → (worlds : ℕ → World) (place : ℕ) (n : Forward) → slice_get v.forwards.items place ≡ Some n
     → (signal : Option ℕ) (q : Point) (bytes : List ℕ) → behind_forward v signal n ≡ Some q → (c : CarriesOne v worlds n bytes)
-    → IsReported v worlds (carried q n c.before)
+    → WasReported v worlds (carried q n c.before)
 carried_reported v clean worlds place n its signal q bytes behind c =
     let (i, first, at) = behind_at v n signal q behind in
     let (flow, flow_is, input) = first_is_input v n i first in
@@ -86,40 +86,40 @@ carried_reported v clean worlds place n its signal q bytes behind c =
     record {
       flow = c.flow;
       flow_is = subst (λ a. flow_at v a ≡ Some c.flow) there c.flow_is;
-      so = subst (λ (a : FlowAt). IsHeard (worlds a.bus) c.flow.sender n.hearer a.flow c.before) there c.heard;
+      so = subst (λ (a : FlowAt). WasHeard (worlds a.bus) c.flow.sender n.hearer a.flow c.before) there c.heard;
     }
 
 -- what the message brings, where its trace has this end
-abbrev BringsFrom : (v : Vehicle) → (ℕ → World) → Message → Point → Type 0
+abbrev BringsFrom : (v : Vehicle) → (ℕ → World) → BusMessage → Point → Type 0
 BringsFrom v worlds m e =
-    (o : Option Message) × Brings v worlds m o × ((x : Message) → o ≡ Some x → (x.point ≡ e) × IsBegun v worlds x)
+    (o : Option BusMessage) × Brings v worlds m o × ((x : BusMessage) → o ≡ Some x → (x.point ≡ e) × WasBegun v worlds x)
 
-brings_itself : (v : Vehicle) (worlds : ℕ → World) (m : Message) (e : Point) → next_forward v m.point ≡ None → m.point ≡ e → IsBegun v worlds m
+brings_itself : (v : Vehicle) (worlds : ℕ → World) (m : BusMessage) (e : Point) → next_forward v m.point ≡ None → m.point ≡ e → WasBegun v worlds m
     → BringsFrom v worlds m e
 brings_itself v worlds m e ends at begun =
-    (Some m, itself m ends begun, λ x is. let same = same_Some _ _ is in (ap (λ y. y.point) (sym same) ∙ at, subst (IsBegun v worlds) same begun))
+    (Some m, itself m ends begun, λ x is. let same = same_Some _ _ is in (ap (λ y. y.point) (sym same) ∙ at, subst (WasBegun v worlds) same begun))
 
 goes_by : (v : Vehicle) (p q : Point) (place : ℕ) (n : Forward) → slice_get v.forwards.items place ≡ Some n → goes_on v p place ≡ Some q
     → behind_forward v p.signal n ≡ Some q
 goes_by v p q place n its is = sym (ap (option_and_then (behind_forward v p.signal)) its) ∙ is
 
-brings_none : (v : Vehicle) (worlds : ℕ → World) (m : Message) (n : Forward) (q e : Point) → GoesBy v worlds m n → Feeds v n m.point.at
-    → behind_forward v m.point.signal n ≡ Some q → IsFaithful v n None m.bytes → BringsFrom v worlds m e
+brings_none : (v : Vehicle) (worlds : ℕ → World) (m : BusMessage) (n : Forward) (q e : Point) → GoesBy v worlds m n → Feeds v n m.point.at
+    → behind_forward v m.point.signal n ≡ Some q → KeepsContents v n None m.bytes → BringsFrom v worlds m e
 brings_none v worlds m n q e by feeds behind faithful =
     (None, nothing m n by (record { faithful = faithful; signal = none_over v n m q feeds behind faithful }), λ x is. absurd (none-some _ is))
 
 -- where the trace goes on no more
-brings_end : (v : Vehicle) (worlds : ℕ → World) (m : Message) (e : Point) (next : Option ℕ) → next_forward v m.point ≡ next
-    → option_map_or (λ n. None) next (Some m.point) ≡ Some e → IsBegun v worlds m → BringsFrom v worlds m e
+brings_end : (v : Vehicle) (worlds : ℕ → World) (m : BusMessage) (e : Point) (next : Option ℕ) → next_forward v m.point ≡ next
+    → option_map_or (λ n. None) next (Some m.point) ≡ Some e → WasBegun v worlds m → BringsFrom v worlds m e
 brings_end v worlds m e None next ends begun = brings_itself v worlds m e next (same_Some _ _ ends) begun
 brings_end v worlds m e (Some place) next ends begun = absurd (none-some _ ends)
 
 -- where it goes on by a forward, and what comes from there is known
-brings_next : (v : Vehicle) → AreFindings v [] → AreRunsSound → (run : VehicleRun v) (steps : ℕ) (m : Message) (e : Point)
-    → ((k : Message) → trace_end v steps k.point ≡ Some e → IsBegun v run.worlds k → BringsFrom v run.worlds k e)
+brings_next : (v : Vehicle) → AreFindings v [] → AreRunsSound → (run : VehicleRun v) (steps : ℕ) (m : BusMessage) (e : Point)
+    → ((k : BusMessage) → trace_end v steps k.point ≡ Some e → WasBegun v run.worlds k → BringsFrom v run.worlds k e)
     → (next : Option ℕ) → next_forward v m.point ≡ next
     → option_map_or (λ n. option_and_then (trace_end v steps) (goes_on v m.point n)) next (Some m.point) ≡ Some e
-    → IsBegun v run.worlds m → BringsFrom v run.worlds m e
+    → WasBegun v run.worlds m → BringsFrom v run.worlds m e
 brings_next v clean sound run steps m e known None next ends begun = brings_itself v run.worlds m e next (same_Some _ _ ends) begun
 brings_next v clean sound run steps m e known (Some place) next ends begun =
     let (q, on, rest) = parts_of (trace_end v steps) (goes_on v m.point place) e ends in
@@ -131,7 +131,7 @@ brings_next v clean sound run steps m e known (Some place) next ends begun =
           let k = carried q n c.before in
           let reported = carried_reported v clean run.worlds place n its m.point.signal q m.bytes behind c in
           let (o, from, ends_there) = known k rest (begun_if_reported v sound run k reported) in
-          let carries : CarriesMessage v run.worlds m n k = record {
+          let carries : BringsAnother v run.worlds m n k = record {
             goes_on = behind;
             hearer = refl;
             reported = reported;
@@ -142,8 +142,8 @@ brings_next v clean sound run steps m e known (Some place) next ends begun =
       | inr faithful ↦ brings_none v run.worlds m n q e by feeds behind faithful
     ]
 
-pub brings : (v : Vehicle) → AreFindings v [] → AreRunsSound → (run : VehicleRun v) (steps : ℕ) (m : Message) (e : Point)
-    → trace_end v steps m.point ≡ Some e → IsBegun v run.worlds m → BringsFrom v run.worlds m e
+pub brings : (v : Vehicle) → AreFindings v [] → AreRunsSound → (run : VehicleRun v) (steps : ℕ) (m : BusMessage) (e : Point)
+    → trace_end v steps m.point ≡ Some e → WasBegun v run.worlds m → BringsFrom v run.worlds m e
 unfolding trace_end
 brings v clean sound run zero m e ends begun = brings_end v run.worlds m e (next_forward v m.point) refl ends begun
 brings v clean sound run (suc steps) m e ends begun =
@@ -170,8 +170,8 @@ each_behind v P p q place n next its behind (more here q_there place_there n_the
 
 -- ---- bytes
 
-pub same_bytes : (v : Vehicle) (worlds : ℕ → World) {m : Message} {o : Option Message} → Brings v worlds m o → AreAllCopies v m.point
-    → (x : Message) → o ≡ Some x → m.bytes ≡ x.bytes
+pub same_bytes : (v : Vehicle) (worlds : ℕ → World) {m : BusMessage} {o : Option BusMessage} → Brings v worlds m o → AreAllCopies v m.point
+    → (x : BusMessage) → o ≡ Some x → m.bytes ≡ x.bytes
 same_bytes v worlds (itself m ends begun) all x is = ap (λ y. y.bytes) (same_Some _ _ is)
 same_bytes v worlds (nothing m n by carries) all x is = absurd (none-some _ is)
 same_bytes v worlds (another m k n o by carries rest) all x is =
@@ -202,7 +202,7 @@ same_value : (a b : ℤ) → Value a ≡ Value b → a ≡ b
 same_value a b is = cc
 
 -- what the signal of a message reads whose value is this one, where that of the message that it carries reads as that of the origin
-reads_on : (v : Vehicle) (m k : Message) (s t : SignalParts) (origin : Option Message) (a b : ℤ) → 1 ≤ s.per
+reads_on : (v : Vehicle) (m k : BusMessage) (s t : SignalParts) (origin : Option BusMessage) (a b : ℤ) → 1 ≤ s.per
     → reading s k.bytes ≡ Value a → reading t m.bytes ≡ Value b → AreOneValue s a t b → ReadsAsOrigin v k s origin → ReadsAsOrigin v m t origin
 reads_on v m k s t origin a b some from is one (inl no_value) = absurd (no_value a from)
 reads_on v m k s t origin a b some from is one (inr (o, u, c, d, o_is, u_is, first, last, same)) =
@@ -210,7 +210,7 @@ reads_on v m k s t origin a b some from is one (inr (o, u, c, d, o_is, u_is, fir
     let one_before : AreOneValue u c s a = subst (AreOneValue u c s) d_is same in
     inr (o, u, c, b, o_is, u_is, first, is, one_value_passes u s t c a b some one_before one)
 
-pub reads_as_origin : (v : Vehicle) (worlds : ℕ → World) {m : Message} {o : Option Message} → HasDivisors v → Brings v worlds m o
+pub reads_as_origin : (v : Vehicle) (worlds : ℕ → World) {m : BusMessage} {o : Option BusMessage} → HasDivisors v → Brings v worlds m o
     → AreAllExact v m.point → (t : SignalParts) → signal_at v m.point ≡ Some t → ReadsAsOrigin v m t o
 reads_as_origin v worlds divisors (itself m ends begun) all t t_is =
     elim (value_or_none (reading t m.bytes)) [
@@ -233,8 +233,8 @@ reads_as_origin v worlds divisors (another m k n o by carries rest) all t t_is =
 -- ---- the need
 
 -- the end of a trace is sent by the unit
-begun_by : (v : Vehicle) (worlds : ℕ → World) (u : UnitAt) (e : Point) (x : Message) → is_sent_by v u e ≡ true → x.point ≡ e → IsBegun v worlds x
-    → IsBegunBy v worlds u x
+begun_by : (v : Vehicle) (worlds : ℕ → World) (u : UnitAt) (e : Point) (x : BusMessage) → is_sent_by v u e ≡ true → x.point ≡ e → WasBegun v worlds x
+    → WasBegunBy v worlds u x
 begun_by v worlds u e x sent at begun =
     let there : is_sent_by v u x.point ≡ true = ap (is_sent_by v u) at ∙ sent in
     let parts = and_parts _ _ there in
@@ -247,7 +247,7 @@ begun_by v worlds u e x sent at begun =
 
 pub unaltered : (v : Vehicle) → AreFindings v [] → AreRunsSound → IsUnaltered v
 unaltered v clean sound run d place f flow bytes d_is flow_is needed reported =
-    let m : Message = record { point = point_on d.unit.bus f d.signal; hearer = d.unit.unit; bytes = bytes } in
+    let m : BusMessage = record { point = point_on d.unit.bus f d.signal; hearer = d.unit.unit; bytes = bytes } in
     let (e, e_is, sent) = passed_of (is_sent_by v d.from) (origin v m.point) needed.from in
     let (o, from, ends) = brings v clean sound run (length v.forwards.items) m e e_is (begun_if_reported v sound run m reported) in
     record {

@@ -23,9 +23,9 @@ use Rattle.j39_paths.specs.declared.point.FlowAt.{FlowAt}
 use Rattle.j39_paths.specs.declared.point.Point.{Point}
 use Rattle.j39_paths.proofs.Deciding.{Decides-copies}
 use Rattle.j39_vehicle_laws.specs.Carrying.{IsTakenOver, group_on, is_exact, listed_for, signal_at}
-use Rattle.j39_vehicle_laws.specs.Faithful.{IsFaithful, signal_of}
+use Rattle.j39_vehicle_laws.specs.Faithful.{KeepsContents, signal_of}
 use Rattle.j39_vehicle_laws.specs.Reading.{HasNoValue, IsUnset, ReadsOver, ReadsValueOf, reading}
-use Rattle.j39_vehicle_laws.specs.VehicleRuns.{Message, flow_at}
+use Rattle.j39_vehicle_laws.specs.BusRuns.{BusMessage, flow_at}
 use Rattle.j39_vehicle_laws.proofs.Forwarding.{copied_agrees, exact_has, first_is_input, put_is_listed}
 use Rattle.j39_vehicle_laws.proofs.Places.{mapped_of, parts_of}
 use Rattle.j39_vehicle_laws.proofs.Values.{each_value}
@@ -149,7 +149,7 @@ over v clean place n its k f s t before to f_is s_is t_is (a, b, from, is, inr s
 
 -- in another one it reads what is listed for it
 listed_over : (v : Vehicle) → AreFindings v [] → (place : ℕ) (n : Forward) → slice_get v.forwards.items place ≡ Some n
-    → (i j jj : ℕ) (t : SignalParts) (before bytes : List ℕ) → copies n ≡ false → IsFaithful v n (Some before) bytes
+    → (i j jj : ℕ) (t : SignalParts) (before bytes : List ℕ) → copies n ≡ false → KeepsContents v n (Some before) bytes
     → first_input v n ≡ Some i → goes_into v n j ≡ Some jj → signal_of v n.output j ≡ Some t
     → IsUnset t (is_exact n (Some j)) (reading t bytes)
     ⊎ ((s : SignalParts) × (signal_at v (point_on n.input.bus i (Some jj)) ≡ Some s) × ReadsOver s before t (is_exact n (Some j)) (reading t bytes))
@@ -165,8 +165,8 @@ listed_over v clean place n its i j jj t before bytes other faithful first into 
           inr (s, heard_signal v n i jj s first s_there, subst (λ e. ReadsOver s before t e (reading t bytes)) (sym exact) reads_over)
     ]
 
-pub taken_over : (v : Vehicle) → AreFindings v [] → (place : ℕ) (n : Forward) → slice_get v.forwards.items place ≡ Some n → (m k : Message)
-    → Feeds v n m.point.at → behind_forward v m.point.signal n ≡ Some k.point → IsFaithful v n (Some k.bytes) m.bytes → IsTakenOver v n (Some k) m
+pub taken_over : (v : Vehicle) → AreFindings v [] → (place : ℕ) (n : Forward) → slice_get v.forwards.items place ≡ Some n → (m k : BusMessage)
+    → Feeds v n m.point.at → behind_forward v m.point.signal n ≡ Some k.point → KeepsContents v n (Some k.bytes) m.bytes → IsTakenOver v n (Some k) m
 taken_over v clean place n its m k feeds behind faithful t is =
     let (j, signal, t_is) = sent_signal v n m.point t feeds is in
     let (i, jj, first, into, at) = behind_signal v n j k.point (ap (λ o. behind_forward v o n) (sym signal) ∙ behind) in
@@ -185,8 +185,8 @@ taken_over v clean place n its m k feeds behind faithful t is =
 
 -- ---- messages that carry none
 
-pub none_over : (v : Vehicle) (n : Forward) (m : Message) (q : Point) → Feeds v n m.point.at → behind_forward v m.point.signal n ≡ Some q
-    → IsFaithful v n None m.bytes → IsTakenOver v n None m
+pub none_over : (v : Vehicle) (n : Forward) (m : BusMessage) (q : Point) → Feeds v n m.point.at → behind_forward v m.point.signal n ≡ Some q
+    → KeepsContents v n None m.bytes → IsTakenOver v n None m
 none_over v n m q feeds behind faithful t is =
     let (j, signal, t_is) = sent_signal v n m.point t feeds is in
     let (i, jj, first, into, at) = behind_signal v n j q (ap (λ o. behind_forward v o n) (sym signal) ∙ behind) in

@@ -1,4 +1,6 @@
 pub mod Bringing
+pub mod Example
+pub mod ExampleRun
 pub mod Forwarding
 pub mod Hops
 pub mod Indexes

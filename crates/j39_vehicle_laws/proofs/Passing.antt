@@ -20,8 +20,8 @@ use Rattle.j39_laws.proofs.Reports.SenderSteps.{among_one}
 use Rattle.j39_vehicle.specs.declared.vehicle.Vehicle.{Vehicle}
 use Rattle.j39_vehicle.specs.declared.vehicle.bus_plan.BusPlan.{BusPlan}
 use Rattle.j39_forwards.specs.Forwards.{Among, HasMessage}
-use Rattle.j39_vehicle_laws.specs.Passing.{IsDelivered, IsPassedOn, IsReportedIn, IsSpared, IsSparedAlone, IsSparedAnswered, at_first, by_gateway}
-use Rattle.j39_vehicle_laws.specs.VehicleRuns.{IsHeard, Message, flow_at}
+use Rattle.j39_vehicle_laws.specs.Passing.{CrossesBus, IsPassedOn, WasReportedIn, IsSpared, IsSparedAlone, IsSparedAnswered, at_first, by_gateway}
+use Rattle.j39_vehicle_laws.specs.BusRuns.{WasHeard, BusMessage, flow_at}
 
 -- what holds in each world of each run of each plan of the messages of which nothing is lost
 pub record MessagesArrive : Type 0 where
@@ -51,13 +51,13 @@ flow_there : (plan : Plan) (f : ℕ) (flow : FlowPlan) → slice_get plan.flows.
 flow_there plan f flow is = mapped_at (flow_of plan.groups.items) plan.flows.items f flow is
 
 -- the same world, units, flow and bytes
-moved : (w x : World) (u t v s f g : ℕ) (bytes same : List ℕ) → w ≡ x → u ≡ t → v ≡ s → f ≡ g → bytes ≡ same → IsHeard w u v f bytes → IsHeard x t s g same
+moved : (w x : World) (u t v s f g : ℕ) (bytes same : List ℕ) → w ≡ x → u ≡ t → v ≡ s → f ≡ g → bytes ≡ same → WasHeard w u v f bytes → WasHeard x t s g same
 moved w x u t v s f g bytes same w_is u_is v_is f_is bytes_are heard =
-    subst (λ b. IsHeard x t s g b) bytes_are (subst (λ n. IsHeard x t s n bytes) f_is (subst (λ n. IsHeard x t n f bytes) v_is
-    (subst (λ n. IsHeard x n v f bytes) u_is (subst (λ y. IsHeard y u v f bytes) w_is heard))))
+    subst (λ b. WasHeard x t s g b) bytes_are (subst (λ n. WasHeard x t s n bytes) f_is (subst (λ n. WasHeard x t n f bytes) v_is
+    (subst (λ n. WasHeard x n v f bytes) u_is (subst (λ y. WasHeard y u v f bytes) w_is heard))))
 
 heard_unanswered : (plan : Plan) (w after : World) → ArrivesUnanswered plan w → (f : ℕ) (flow : FlowPlan) (v : ℕ) (bytes : List ℕ)
-    → slice_get plan.flows.items f ≡ Some flow → IsSpared plan f (flow_of plan.groups.items flow) v bytes w after → IsHeard after flow.sender v f bytes
+    → slice_get plan.flows.items f ≡ Some flow → IsSpared plan f (flow_of plan.groups.items flow) v bytes w after → WasHeard after flow.sender v f bytes
 heard_unanswered plan w after arrives f flow v bytes is s =
     let planned = flow_of plan.groups.items flow in
     let meant : (x : ℕ) → is_among (v ∷ []) x ≡ true → is_among (outgoing (count_of plan) w.stations f planned bytes).targets x ≡ true =
@@ -67,34 +67,34 @@ heard_unanswered plan w after arrives f flow v bytes is s =
 
 heard_answered : (plan : Plan) (w after : World) → ((m : Answered plan w) → IsAlone plan w m → HasArrivedAnswered plan w m)
     → (f : ℕ) (flow : FlowPlan) (v : ℕ) (bytes : List ℕ) → slice_get plan.flows.items f ≡ Some flow → IsSparedAnswered plan f v bytes w after
-    → IsHeard after flow.sender v f bytes
+    → WasHeard after flow.sender v f bytes
 heard_answered plan w after arrives f flow v bytes is s =
     let m = s.message in
     let arrived = arrives m s.alone in
     let sender : m.flow.sender ≡ flow.sender =
     ap (λ x. x.sender) (same_Some _ _ (sym m.planned ∙ ap (slice_get (flows_of plan)) s.place_is ∙ flow_there plan f flow is)) in
-    let heard : IsHeard m.after m.flow.sender m.receiver m.place m.bytes =
+    let heard : WasHeard m.after m.flow.sender m.receiver m.place m.bytes =
     inl (last_heard (reported m.after.reports m.receiver m.flow.sender) (reported w.reports m.receiver m.flow.sender) m.place m.bytes
     (arrived.reports m.receiver (itself_among m.receiver))) in
     moved m.after after m.flow.sender flow.sender m.receiver v m.place f m.bytes bytes s.after_is sender s.receiver_is s.place_is s.bytes_are heard
 
 heard_alone : (plan : Plan) (w after : World) → SentFramesArrive plan w → (f : ℕ) (flow : FlowPlan) (v : ℕ) (bytes : List ℕ)
-    → slice_get plan.flows.items f ≡ Some flow → IsSparedAlone plan f v bytes w after → IsHeard after flow.sender v f bytes
+    → slice_get plan.flows.items f ≡ Some flow → IsSparedAlone plan f v bytes w after → WasHeard after flow.sender v f bytes
 heard_alone plan w after arrives f flow v bytes is s =
     let m = s.frame in
     let arrived = arrives m in
     let sender : m.flow.sender ≡ flow.sender =
     ap (λ x. x.sender) (same_Some _ _ (sym m.planned ∙ ap (slice_get (flows_of plan)) s.place_is ∙ flow_there plan f flow is)) in
-    let heard : IsHeard m.after m.flow.sender m.receiver m.place m.bytes =
+    let heard : WasHeard m.after m.flow.sender m.receiver m.place m.bytes =
     inr (record { earlier = reported_alone w.reports m.receiver m.flow.sender ++ arrived.earlier; later = arrived.later; at = arrived.reports }) in
     moved m.after after m.flow.sender flow.sender m.receiver v m.place f m.bytes bytes s.after_is sender s.receiver_is s.place_is s.bytes_are heard
 
-delivered : (v : Vehicle) → MessagesArrive → (m : Message) (after : World) → IsDelivered v m after → IsReportedIn v m after
+delivered : (v : Vehicle) → MessagesArrive → (m : BusMessage) (after : World) → CrossesBus v m after → WasReportedIn v m after
 delivered v arrive m after d =
     let plan = d.bus.plan in
     let there : flow_at v m.point.at ≡ Some d.flow =
     ap (λ o. slice_get (option_map_or (λ (bus : BusPlan). bus.plan.flows.items) o []) m.point.at.flow) d.bus_is ∙ d.flow_is in
-    let heard : IsHeard after d.flow.sender m.hearer m.point.at.flow m.bytes =
+    let heard : WasHeard after d.flow.sender m.hearer m.point.at.flow m.bytes =
     elim d.spared [
       | inl s ↦ heard_unanswered plan d.world after (arrive.unanswered plan d.steps d.world d.runs) m.point.at.flow d.flow m.hearer m.bytes d.flow_is s
       | inr (inl s) ↦ heard_answered plan d.world after (arrive.answered plan d.steps d.world d.runs) m.point.at.flow d.flow m.hearer m.bytes d.flow_is s
@@ -104,7 +104,7 @@ delivered v arrive m after d =
 
 -- ---- from bus to bus
 
-pub passed : (v : Vehicle) → MessagesArrive → (m : Message) (after : World) → IsPassedOn v m after → IsReportedIn v m after
+pub passed : (v : Vehicle) → MessagesArrive → (m : BusMessage) (after : World) → IsPassedOn v m after → WasReportedIn v m after
 passed v arrive m after (at_first x w ends d) = delivered v arrive x w d
 passed v arrive m after (by_gateway x k place n before w next its behind hearer came begins) =
     delivered v arrive x w (begins (passed v arrive k before came))

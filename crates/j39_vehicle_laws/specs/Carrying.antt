@@ -12,9 +12,9 @@ use Rattle.j39_vehicle.specs.declared.vehicle.places.GroupAt.{GroupAt}
 use Rattle.j39_paths.specs.Forwards.{Copies, listed}
 use Rattle.j39_paths.specs.Traces.{behind_forward, next_forward}
 use Rattle.j39_paths.specs.declared.point.Point.{Point}
-use Rattle.j39_vehicle_laws.specs.Faithful.{IsFaithful, signal_of}
+use Rattle.j39_vehicle_laws.specs.Faithful.{KeepsContents, signal_of}
 use Rattle.j39_vehicle_laws.specs.Reading.{IsUnset, ReadsOver, reading}
-use Rattle.j39_vehicle_laws.specs.VehicleRuns.{IsBegun, IsReported, Message, flow_at}
+use Rattle.j39_vehicle_laws.specs.BusRuns.{BusMessage, WasBegun, WasReported, flow_at}
 
 -- ---- the signal of a trace
 
@@ -37,7 +37,7 @@ abbrev pub is_exact : Forward → Option ℕ → Bool
 is_exact n signal = option_map_or (is_exact_into n) signal true
 
 -- what the signal of the trace reads in a message that carries this one, or none
-abbrev pub IsTakenOver : Vehicle → Forward → Option Message → Message → Type 0
+abbrev pub IsTakenOver : Vehicle → Forward → Option BusMessage → BusMessage → Type 0
 IsTakenOver v n (Some k) m = (t : SignalParts) → signal_at v m.point ≡ Some t → IsUnset t (is_exact n m.point.signal) (reading t m.bytes)
     ⊎ ((s : SignalParts) × (signal_at v k.point ≡ Some s) × ReadsOver s k.bytes t (is_exact n m.point.signal) (reading t m.bytes))
 IsTakenOver v n None m = (t : SignalParts) → signal_at v m.point ≡ Some t → IsUnset t (is_exact n m.point.signal) (reading t m.bytes)
@@ -45,30 +45,30 @@ IsTakenOver v n None m = (t : SignalParts) → signal_at v m.point ≡ Some t �
 -- ---- forward by forward
 
 -- the message was begun, and the trace goes on from its point by this forward
-pub record GoesBy (v : Vehicle) (worlds : ℕ → World) (m : Message) (n : Forward) : Type 0 where
+pub record GoesBy (v : Vehicle) (worlds : ℕ → World) (m : BusMessage) (n : Forward) : Type 0 where
   pub place : ℕ
   pub next : next_forward v m.point ≡ Some place
   pub its : slice_get v.forwards.items place ≡ Some n
-  pub begun : IsBegun v worlds m
+  pub begun : WasBegun v worlds m
 
 -- it carries this one, of the flow by which the trace goes on, which the gateway's unit reported
-pub record CarriesMessage (v : Vehicle) (worlds : ℕ → World) (m : Message) (n : Forward) (k : Message) : Type 0 where
+pub record BringsAnother (v : Vehicle) (worlds : ℕ → World) (m : BusMessage) (n : Forward) (k : BusMessage) : Type 0 where
   pub goes_on : behind_forward v m.point.signal n ≡ Some k.point
   pub hearer : k.hearer ≡ n.hearer
-  pub reported : IsReported v worlds k
-  pub faithful : IsFaithful v n (Some k.bytes) m.bytes
+  pub reported : WasReported v worlds k
+  pub faithful : KeepsContents v n (Some k.bytes) m.bytes
   pub signal : IsTakenOver v n (Some k) m
 
 -- it carries none
-pub record CarriesNone (v : Vehicle) (m : Message) (n : Forward) : Type 0 where
-  pub faithful : IsFaithful v n None m.bytes
+pub record BringsNothing (v : Vehicle) (m : BusMessage) (n : Forward) : Type 0 where
+  pub faithful : KeepsContents v n None m.bytes
   pub signal : IsTakenOver v n None m
 
 -- forward by forward the message carries the other one, which was begun where the trace ends, or none
-pub data Brings (v : Vehicle) (worlds : ℕ → World) : Message → Option Message → Type 0 where
-  itself : (m : Message) → next_forward v m.point ≡ None → IsBegun v worlds m → Brings v worlds m (Some m)
-  nothing : (m : Message) (n : Forward) → GoesBy v worlds m n → CarriesNone v m n → Brings v worlds m None
-  another : (m k : Message) (n : Forward) (o : Option Message) → GoesBy v worlds m n → CarriesMessage v worlds m n k
+pub data Brings (v : Vehicle) (worlds : ℕ → World) : BusMessage → Option BusMessage → Type 0 where
+  itself : (m : BusMessage) → next_forward v m.point ≡ None → WasBegun v worlds m → Brings v worlds m (Some m)
+  nothing : (m : BusMessage) (n : Forward) → GoesBy v worlds m n → BringsNothing v m n → Brings v worlds m None
+  another : (m k : BusMessage) (n : Forward) (o : Option BusMessage) → GoesBy v worlds m n → BringsAnother v worlds m n k
       → Brings v worlds k o → Brings v worlds m o
 
 -- ---- all forwards of a trace

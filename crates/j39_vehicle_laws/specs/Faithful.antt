@@ -29,7 +29,7 @@ IsTakenFrom v n f None t to = IsUnset t f.exact to
 
 -- what a message of an output keeps of the one of the input that it carries, or of none: in a copy the bytes, else what is read by each signal
 -- that one of the input's goes into
-pub record IsFaithful (v : Vehicle) (n : Forward) (carried : Option (List ℕ)) (bytes : List ℕ) : Type 0 where
+pub record KeepsContents (v : Vehicle) (n : Forward) (carried : Option (List ℕ)) (bytes : List ℕ) : Type 0 where
   pub copied : Copies n → IsCopy v n carried bytes
   pub taken : (k : ℕ) (f : ForwardedSignal) (t : SignalParts) → slice_get (listed n) k ≡ Some f → signal_of v n.output f.written ≡ Some t
       → IsTakenFrom v n f carried t (reading t bytes)

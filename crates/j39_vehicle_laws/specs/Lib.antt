@@ -1,7 +1,8 @@
 pub mod Reading
 pub mod Values
 pub mod Faithful
-pub mod VehicleRuns
+pub mod BusRuns
 pub mod Carrying
 pub mod Unaltered
 pub mod Passing
+pub mod Forwarding

@@ -16,7 +16,7 @@ use Rattle.j39_vehicle.specs.declared.vehicle.Vehicle.{Vehicle}
 use Rattle.j39_vehicle.specs.declared.vehicle.bus_plan.BusPlan.{BusPlan}
 use Rattle.j39_vehicle.specs.declared.vehicle.forward.Forward.{Forward}
 use Rattle.j39_paths.specs.Traces.{behind_forward, next_forward}
-use Rattle.j39_vehicle_laws.specs.VehicleRuns.{IsReported, Message}
+use Rattle.j39_vehicle_laws.specs.BusRuns.{WasReported, BusMessage}
 
 -- ---- on one bus
 
@@ -48,7 +48,7 @@ pub record IsSparedAlone (plan : Plan) (place v : ℕ) (bytes : List ℕ) (w aft
   pub after_is : frame.after ≡ after
 
 -- in a world of a run of its bus's plan the message is begun, and nothing of it is lost to its hearer up to this other world
-pub record IsDelivered (v : Vehicle) (m : Message) (after : World) : Type 0 where
+pub record CrossesBus (v : Vehicle) (m : BusMessage) (after : World) : Type 0 where
   pub bus : BusPlan
   pub bus_is : slice_get v.buses.items m.point.at.bus ≡ Some bus
   pub flow : FlowPlan
@@ -61,17 +61,17 @@ pub record IsDelivered (v : Vehicle) (m : Message) (after : World) : Type 0 wher
 
 -- ---- along a trace
 
-abbrev pub IsReportedIn : Vehicle → Message → World → Type 0
-IsReportedIn v m w = IsReported v (λ b. w) m
+abbrev pub WasReportedIn : Vehicle → BusMessage → World → Type 0
+WasReportedIn v m w = WasReported v (λ b. w) m
 
 -- from the origin of its trace the message is delivered bus by bus: each gateway begins it once its unit has reported the one before, and it is
 -- delivered from there on
-pub data IsPassedOn (v : Vehicle) : Message → World → Type 0 where
-  at_first : (m : Message) (after : World) → next_forward v m.point ≡ None → IsDelivered v m after → IsPassedOn v m after
-  by_gateway : (m k : Message) (place : ℕ) (n : Forward) (before after : World) → next_forward v m.point ≡ Some place
+pub data IsPassedOn (v : Vehicle) : BusMessage → World → Type 0 where
+  at_first : (m : BusMessage) (after : World) → next_forward v m.point ≡ None → CrossesBus v m after → IsPassedOn v m after
+  by_gateway : (m k : BusMessage) (place : ℕ) (n : Forward) (before after : World) → next_forward v m.point ≡ Some place
       → slice_get v.forwards.items place ≡ Some n → behind_forward v m.point.signal n ≡ Some k.point → k.hearer ≡ n.hearer
-      → IsPassedOn v k before → (IsReportedIn v k before → IsDelivered v m after) → IsPassedOn v m after
+      → IsPassedOn v k before → (WasReportedIn v k before → CrossesBus v m after) → IsPassedOn v m after
 
 -- whoever it is for has reported it then
 abbrev pub PassedMessagesArrive : Vehicle → Type 0
-PassedMessagesArrive v = (m : Message) (after : World) → IsPassedOn v m after → IsReportedIn v m after
+PassedMessagesArrive v = (m : BusMessage) (after : World) → IsPassedOn v m after → WasReportedIn v m after
