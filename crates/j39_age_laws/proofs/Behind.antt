@@ -1,19 +1,18 @@
 -- How long behind its moment a message ends, from one direct forward to the next.
-use Rattle.std.proofs.Common.{◌≡◌, ℕ, zero, suc, ◌+◌, ◌*◌, ◌<◌, ◌≤◌, true, Option, Some, None, refl, sym, ap, ◌∙◌, subst, inl, inr, arith}
+use Rattle.std.proofs.Common.{◌≡◌, ℕ, zero, suc, ◌+◌, ◌*◌, ◌<◌, ◌≤◌, Option, Some, None, sym, ◌∙◌, subst, inl, inr, arith}
 use Rattle.std.proofs.Math.Nat.{mul-le-mul_left, lt_of_mul-lt-mul_left}
 use Rattle.std.proofs.lemmas.Bool.{cases_lt}
 use Rattle.std.proofs.lemmas.Option.{none-some, same_Some}
 use Rattle.std.specs.Option.{option_and_then, option_map_or}
 use Rattle.j39_vehicle.specs.declared.vehicle.Vehicle.{Vehicle}
 use Rattle.j39_vehicle.specs.declared.vehicle.forward.Forward.{Forward}
-use Rattle.j39_paths.specs.ForwardTests.{is_direct}
 use Rattle.j39_paths.specs.declared.point.FlowAt.{FlowAt}
 use Rattle.j39_timing.specs.Gateways.{HasBegun, IsIts, end_time, queue_time, time_of}
 use Rattle.j39_timing.specs.Traffic.{delay_of}
 use Rattle.j39_ages.specs.declared.bus_delays.Delays.{Delays}
-use Rattle.j39_ages.specs.Times.{behind_by, behind_moment, delay_at, direct_feeder, forward_at, input_at, jitter_of, own, queued_behind, sum_known, timed, us_of_ms, within_of}
+use Rattle.j39_ages.specs.Times.{behind_by, behind_moment, delay_at, direct_feeder, input_at, jitter_of, own, queued_behind, sum_known, timed, us_of_ms, within_of}
 use Rattle.j39_ages.specs.BusDelays.{AreDelays}
-use Rattle.j39_age_laws.specs.Prompt.{IsSentDirectly, IsSentOn, SendsOn}
+use Rattle.j39_age_laws.specs.Prompt.{IsSentDirectly, IsSentOn}
 use Rattle.j39_age_laws.specs.Seen.{SeenBuses, clock_on, frames_at, unit_on}
 use Rattle.j39_age_laws.specs.YoungValues.{IsSeenVehicle}
 use Rattle.j39_age_laws.proofs.Feeders.{IsFeederAt, feeder_is}
@@ -43,12 +42,14 @@ unfed_moment v delays (suc steps) at time none is =
     subst (λ (o : Option Forward). option_map_or (λ n. sum_known (queued_behind v n (behind_by v delays steps)) (own v delays at)) o
     (behind_moment v delays at) ≡ Some time) none is
 
-pub fed_never : (v : Vehicle) (delays : Delays) (at : FlowAt) (time : ℕ) (n : Forward) → direct_feeder v at ≡ Some n → behind_by v delays zero at ≡ Some time → ⊥
+pub fed_never : (v : Vehicle) (delays : Delays) (at : FlowAt) (time : ℕ) (n : Forward) → direct_feeder v at ≡ Some n → behind_by v delays zero at ≡ Some time
+    → ⊥
 unfolding behind_by
 fed_never v delays at time n feeder is =
     none-some time (subst (λ (o : Option Forward). option_map_or (λ n. None) o (behind_moment v delays at) ≡ Some time) feeder is)
 
-pub fed_parts : (v : Vehicle) (delays : Delays) (steps : ℕ) (at : FlowAt) (time : ℕ) (n : Forward) → direct_feeder v at ≡ Some n → behind_by v delays (suc steps) at ≡ Some time
+pub fed_parts : (v : Vehicle) (delays : Delays) (steps : ℕ) (at : FlowAt) (time : ℕ) (n : Forward) → direct_feeder v at ≡ Some n
+    → behind_by v delays (suc steps) at ≡ Some time
     → IsFed v delays steps n at time
 unfolding behind_by
 fed_parts v delays steps at time n feeder is =
@@ -94,7 +95,8 @@ pub record IsBehind (v : Vehicle) (delays : Delays) (seen : SeenBuses) (by : ℕ
 in_all : (queue end x y before within own by : ℕ) → queue ≤ end + within → end ≤ x + before → y ≡ x → y + (before + (within + own)) ≤ by → queue + own ≤ by
 in_all queue end x y before within own by soon timely moment early = omega arith
 
-in_sum : (last queue end x y before within own : ℕ) → last ≤ queue + own → queue ≤ end + within → end ≤ x + before → y ≡ x → last ≤ y + (before + (within + own))
+in_sum : (last queue end x y before within own : ℕ) → last ≤ queue + own → queue ≤ end + within → end ≤ x + before → y ≡ x
+    → last ≤ y + (before + (within + own))
 in_sum last queue end x y before within own ends soon timely moment = omega arith
 
 module _ (v : Vehicle) (delays : Delays) (told : AreDelays v delays) (seen : SeenBuses) (by : ℕ) (is : IsSeenVehicle v delays seen by) where
@@ -108,7 +110,8 @@ module _ (v : Vehicle) (delays : Delays) (told : AreDelays v delays) (seen : See
         let first : (seen at.bus).schedule.queued q ≤ (seen at.bus).schedule.start q = one.queued_first q its.0 in
         let some : 1 ≤ (seen at.bus).schedule.bits q = one.some_bits q its.0 in
         let unit : 1 ≤ u = one.some_unit in
-        let order : u * ((seen at.bus).schedule.queued q + 1) ≤ u * ((seen at.bus).schedule.start q + (seen at.bus).schedule.bits q) = mul-le-mul_left u (omega arith) in
+        let order : u * ((seen at.bus).schedule.queued q + 1) ≤ u * ((seen at.bus).schedule.start q + (seen at.bus).schedule.bits q) = mul-le-mul_left u
+        (omega arith) in
         omega arith
 
     -- a frame that has begun has waited no longer than it may
@@ -148,22 +151,27 @@ module _ (v : Vehicle) (delays : Delays) (told : AreDelays v delays) (seen : See
           own_time = time;
           one = one;
           first = λ q its.
-              let moment : (seen at.bus).moment q ≡ time_of (clock_on v seen at.bus) ((seen at.bus).of.since q) = is.own_moments at (not_sent_on v delays at none) q its in
+              let moment : (seen at.bus).moment q ≡ time_of (clock_on v seen at.bus) ((seen at.bus).of.since q) = is.own_moments at
+              (not_sent_on v delays at none) q its in
               let order : u * (seen at.bus).of.since q ≤ u * (seen at.bus).schedule.queued q = mul-le-mul_left u (one.moment_first q its) in
               omega arith;
           low = λ q its.
-              let moment : (seen at.bus).moment q ≡ time_of (clock_on v seen at.bus) ((seen at.bus).of.since q) = is.own_moments at (not_sent_on v delays at none) q its in
+              let moment : (seen at.bus).moment q ≡ time_of (clock_on v seen at.bus) ((seen at.bus).of.since q) = is.own_moments at
+              (not_sent_on v delays at none) q its in
               omega arith;
           high = λ q its.
-              let moment : (seen at.bus).moment q ≡ time_of (clock_on v seen at.bus) ((seen at.bus).of.since q) = is.own_moments at (not_sent_on v delays at none) q its in
+              let moment : (seen at.bus).moment q ≡ time_of (clock_on v seen at.bus) ((seen at.bus).of.since q) = is.own_moments at
+              (not_sent_on v delays at none) q its in
               omega arith;
           begun = λ q its early.
-              let moment : (seen at.bus).moment q ≡ time_of (clock_on v seen at.bus) ((seen at.bus).of.since q) = is.own_moments at (not_sent_on v delays at none) q its in
+              let moment : (seen at.bus).moment q ≡ time_of (clock_on v seen at.bus) ((seen at.bus).of.since q) = is.own_moments at
+              (not_sent_on v delays at none) q its in
               let late : u * (seen at.bus).schedule.queued q ≤ u * ((seen at.bus).of.since q + one.stream.late) = mul-le-mul_left u (one.late q its) in
               let sum : time ≡ u * (one.wait + one.stream.bits) = one.own_time in
               begins_in_view q its (omega arith);
           ended = λ q begun.
-              let moment : (seen at.bus).moment q ≡ time_of (clock_on v seen at.bus) ((seen at.bus).of.since q) = is.own_moments at (not_sent_on v delays at none) q begun.0 in
+              let moment : (seen at.bus).moment q ≡ time_of (clock_on v seen at.bus) ((seen at.bus).of.since q) = is.own_moments at
+              (not_sent_on v delays at none) q begun.0 in
               let timely = ends_from q begun in
               let late : u * (seen at.bus).schedule.queued q ≤ u * ((seen at.bus).of.since q + one.stream.late) = mul-le-mul_left u (one.late q begun.0) in
               let sum : time ≡ u * (one.wait + one.stream.bits) = one.own_time in
@@ -186,7 +194,8 @@ module _ (v : Vehicle) (delays : Delays) (told : AreDelays v delays) (seen : See
       low = λ q its. sent.handed.first_bit q its;
       high = λ q its. sent.handed.last_bit q its;
       begun = λ q its early. begins_in_view q its
-          (in_all (queue_time (frames_at v seen at) q) (end_time (frames_at v seen x) (sent.handed.what q)) ((seen x.bus).moment (sent.handed.what q)) ((seen at.bus).moment q)
+          (in_all (queue_time (frames_at v seen at) q) (end_time (frames_at v seen x) (sent.handed.what q)) ((seen x.bus).moment (sent.handed.what q))
+          ((seen at.bus).moment q)
           before within time by (sent.handed.within_time q its) (input.ended (sent.handed.what q) (sent.handed.begun q its)) (sent.handed.moments q its) early);
       ended = λ q begun.
           in_sum (end_time (frames_at v seen at) q) (queue_time (frames_at v seen at) q) (end_time (frames_at v seen x) (sent.handed.what q))
@@ -200,7 +209,8 @@ module _ (v : Vehicle) (delays : Delays) (told : AreDelays v delays) (seen : See
             let first : (seen y.bus).schedule.queued q ≤ (seen y.bus).schedule.start q = known.one.queued_first q its.0 in
             let some : 1 ≤ (seen y.bus).schedule.bits q = known.one.some_bits q its.0 in
             let unit : 1 ≤ unit_on v y.bus = known.one.some_unit in
-            let order : unit_on v y.bus * ((seen y.bus).schedule.queued q + 1) ≤ unit_on v y.bus * ((seen y.bus).schedule.start q + (seen y.bus).schedule.bits q) =
+            let order : unit_on v y.bus * ((seen y.bus).schedule.queued q + 1) ≤ unit_on v y.bus * ((seen y.bus).schedule.start q +
+            (seen y.bus).schedule.bits q) =
             mul-le-mul_left (unit_on v y.bus) (omega arith) in
             omega arith
 
@@ -220,25 +230,26 @@ module _ (v : Vehicle) (delays : Delays) (told : AreDelays v delays) (seen : See
       let (place, feeding) = feeder_is v at n feeder in (
         place,
         feeding,
-        is.prompt.direct place n source at within (record { its = feeding.its; output = feeding.feeding; input = source_is; promised = promised }) feeding.direct
-        (input.one.bits, input.one.delayed) (one.bits, one.delayed),
+        is.prompt.direct place n source at within (record
+            { its = feeding.its; output = feeding.feeding; input = source_is; promised = promised }) feeding.direct
+            (input.one.bits, input.one.delayed) (one.bits, one.delayed),
       )
 
   pub is_behind : (steps : ℕ) (at : FlowAt) (time : ℕ) → behind_by v delays steps at ≡ Some time → IsBehind v delays seen by at time
   is_behind zero at time known = some_cases (direct_feeder v at) (IsBehind v delays seen by at time)
       (λ none.
-          let moment = unfed_moment v delays zero at time none known in
-          let (n, owns) = own_of_moment at time moment in
-          by_itself at n (flow_of at n owns) none time moment)
+      let moment = unfed_moment v delays zero at time none known in
+      let (n, owns) = own_of_moment at time moment in
+      by_itself at n (flow_of at n owns) none time moment)
       (λ n feeder. absurd (fed_never v delays at time n feeder known))
   is_behind (suc steps) at time known = some_cases (direct_feeder v at) (IsBehind v delays seen by at time)
       (λ none.
-          let moment = unfed_moment v delays (suc steps) at time none known in
-          let (n, owns) = own_of_moment at time moment in
-          by_itself at n (flow_of at n owns) none time moment)
+      let moment = unfed_moment v delays (suc steps) at time none known in
+      let (n, owns) = own_of_moment at time moment in
+      by_itself at n (flow_of at n owns) none time moment)
       (λ n feeder.
-          let fed = fed_parts v delays steps at time n feeder known in
-          let input = is_behind steps fed.source fed.before fed.before_is in
-          let one = flow_of at fed.own_time fed.own_is in
-          let (place, feeding, sent) = sends_directly at n fed.source fed.within fed.before fed.own_time feeder fed.source_is fed.promised one input in
-          subst (IsBehind v delays seen by at) (sym fed.sum) (sent_on at fed.own_time one fed.source fed.before place fed.within input sent))
+      let fed = fed_parts v delays steps at time n feeder known in
+      let input = is_behind steps fed.source fed.before fed.before_is in
+      let one = flow_of at fed.own_time fed.own_is in
+      let (place, feeding, sent) = sends_directly at n fed.source fed.within fed.before fed.own_time feeder fed.source_is fed.promised one input in
+      subst (IsBehind v delays seen by at) (sym fed.sum) (sent_on at fed.own_time one fed.source fed.before place fed.within input sent))

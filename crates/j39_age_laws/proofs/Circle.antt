@@ -1,9 +1,7 @@
 -- The buses of a vehicle as the law of vehicles knows them: what gateways send on directly keeps to its streams.
-use Rattle.std.proofs.Common.{◌≡◌, ◌≢◌, ℕ, zero, suc, ◌+◌, ◌*◌, ◌-◌, ◌<◌, ◌≤◌, ◌⊎◌, Bool, true, false, cond, List, [], ◌++◌, length, is_some, unwrap_or, Option, Some, None, refl, sym, ap, ◌∙◌, subst, inl, inr, arith}
-use Rattle.std.proofs.lemmas.Bool.{cases_Bool, false≢true, true≢false}
+use Rattle.std.proofs.Common.{◌≡◌, ◌≢◌, ℕ, zero, suc, ◌+◌, ◌*◌, ◌-◌, ◌<◌, Bool, true, false, cond, List, [], ◌++◌, length, is_some, unwrap_or, Option, Some, None, refl, sym, ap, ◌∙◌, subst, arith}
+use Rattle.std.proofs.lemmas.Bool.{false≢true, true≢false}
 use Rattle.std.proofs.lemmas.Option.{none-some, same_Some}
-use Rattle.std.proofs.Math.Nat.{mul-le-mul_left}
-use Rattle.std.specs.List.{slice_get}
 use Rattle.std.specs.Option.{option_and_then, option_map, option_map_or}
 use Rattle.j39_findings.specs.declared.plan.flow_plan.FlowPlan.{FlowPlan}
 use Rattle.j39_findings.specs.declared.plan.timing.Timing.{Timing}
@@ -12,29 +10,22 @@ use Rattle.j39_load.specs.Asked.{frames_asked}
 use Rattle.j39_load.specs.Loads.{bits_of_ms}
 use Rattle.j39_load.specs.PlannedFrames.{IsBounded, no_frames, others_of, planned_at}
 use Rattle.j39_timing.specs.FrameBits.{longest_frame}
-use Rattle.j39_timing.specs.FrameStreams.{AreOfStreams, KeepsStream}
-use Rattle.j39_timing.specs.Gateways.{Carrier, IsHandedOn, time_of}
-use Rattle.j39_timing.specs.Prefixes.{AreBegunUntil, planned_until, seen_until}
 use Rattle.j39_timing.specs.Traffic.{IsSingle, Traffic, delay_of, no_twins}
-use Rattle.j39_timing.specs.Vehicles.{Bus, IsPlannedOn, KeepsItsStreams, KeepsItsStreamsUntil}
+use Rattle.j39_timing.specs.Vehicles.{Bus}
 use Rattle.j39_timing.specs.declared.stream.Stream.{Stream}
-use Rattle.j39_timing.proofs.Prefixes.{then_is_planned}
 use Rattle.j39_vehicle.specs.declared.vehicle.Vehicle.{Vehicle}
 use Rattle.j39_vehicle.specs.declared.vehicle.forward.Forward.{Forward}
 use Rattle.j39_paths.specs.declared.point.FlowAt.{FlowAt}
-use Rattle.j39_ages.specs.BusDelays.{AreDelays, delays_on}
+use Rattle.j39_ages.specs.BusDelays.{AreDelays}
 use Rattle.j39_ages.specs.declared.bus_delays.Delays.{Delays}
 use Rattle.j39_ages.specs.Times.{behind, behind_by, behind_moment, bit_time, delay_at, direct_feeder, flow_at, input_at, jitter_of, own, own_of, queued_behind, queued_of, sum_known, timing_on, us_of_ms, within_of}
-use Rattle.j39_age_laws.specs.ForwardedStreams.{AreForwardsTimely, AreOtherwiseKept, IsForwardTimely, IsOtherwiseKept, streams_of}
+use Rattle.j39_age_laws.specs.ForwardedStreams.{streams_of}
 use Rattle.j39_age_laws.specs.KeptBuses.{IsToldBus, asked_on}
-use Rattle.j39_age_laws.specs.Prompt.{ArePrompt, HaveOwnMoments, IsSentDirectly, IsSentOn, sent_from}
-use Rattle.j39_age_laws.specs.Seen.{SeenBuses, clock_on, frames_at, unit_on}
+use Rattle.j39_age_laws.specs.Prompt.{sent_from}
+use Rattle.j39_age_laws.specs.Seen.{SeenBuses, clock_on, unit_on}
 use Rattle.j39_age_laws.proofs.Behind.{fed_never, fed_parts, unfed_moment}
-use Rattle.j39_age_laws.proofs.Feeders.{feeder_is}
 use Rattle.j39_age_laws.proofs.OneFlow.{HasOwn, HasStream, bound, its_stream, jitter_bits, moment_is, own_is, placed, told_bus, unit_here}
 use Rattle.j39_age_laws.proofs.Parts.{some_cases, some_unit, unit_of_ms}
-use Rattle.j39_age_laws.proofs.Starts.{starts_within}
-use Rattle.j39_age_laws.proofs.Until.{frames_then}
 
 -- ---- numbers
 
@@ -55,37 +46,43 @@ is_some_false (Some y) is (x, at) = true≢false is
 
 -- ---- what is known for so many steps is known for one more
 
-pub fed_make : (v : Vehicle) (delays : Delays) (steps : ℕ) (at : FlowAt) (n : Forward) (source : FlowAt) (before within own_time : ℕ) → direct_feeder v at ≡ Some n
+pub fed_make : (v : Vehicle) (delays : Delays) (steps : ℕ) (at : FlowAt) (n : Forward) (source : FlowAt) (before within own_time : ℕ)
+    → direct_feeder v at ≡ Some n
     → input_at v n ≡ Some source → behind_by v delays steps source ≡ Some before → within_of n ≡ Some within → own v delays at ≡ Some own_time
     → behind_by v delays (suc steps) at ≡ Some (before + within + own_time)
 unfolding behind_by
 fed_make v delays steps at n source before within own_time feeder input known promised owns =
-    ap (λ (o : Option Forward). option_map_or (λ m. sum_known (queued_behind v m (behind_by v delays steps)) (own v delays at)) o (behind_moment v delays at)) feeder
+    ap (λ (o : Option Forward). option_map_or (λ m. sum_known (queued_behind v m (behind_by v delays steps)) (own v delays at)) o
+    (behind_moment v delays at)) feeder
     ∙ (ap (λ (o : Option ℕ). sum_known (sum_known o (within_of n)) (own v delays at)) (ap (option_and_then (behind_by v delays steps)) input ∙ known)
     ∙ (ap (λ (o : Option ℕ). sum_known (sum_known (Some before) o) (own v delays at)) promised
     ∙ ap (λ (o : Option ℕ). sum_known (Some (before + within)) o) owns))
 
-unfed_make : (v : Vehicle) (delays : Delays) (steps : ℕ) (at : FlowAt) → direct_feeder v at ≡ None → behind_by v delays (suc steps) at ≡ behind_moment v delays at
+unfed_make : (v : Vehicle) (delays : Delays) (steps : ℕ) (at : FlowAt) → direct_feeder v at ≡ None
+    → behind_by v delays (suc steps) at ≡ behind_moment v delays at
 unfolding behind_by
 unfed_make v delays steps at none =
-    ap (λ (o : Option Forward). option_map_or (λ m. sum_known (queued_behind v m (behind_by v delays steps)) (own v delays at)) o (behind_moment v delays at)) none
+    ap (λ (o : Option Forward). option_map_or (λ m. sum_known (queued_behind v m (behind_by v delays steps)) (own v delays at)) o
+    (behind_moment v delays at)) none
 
-pub known_on : (v : Vehicle) (delays : Delays) (steps : ℕ) (at : FlowAt) (time : ℕ) → behind_by v delays steps at ≡ Some time → behind_by v delays (suc steps) at ≡ Some time
+pub known_on : (v : Vehicle) (delays : Delays) (steps : ℕ) (at : FlowAt) (time : ℕ) → behind_by v delays steps at ≡ Some time
+    → behind_by v delays (suc steps) at ≡ Some time
 known_on v delays zero at time known = some_cases (direct_feeder v at) (behind_by v delays (suc zero) at ≡ Some time)
     (λ none. unfed_make v delays zero at none ∙ unfed_moment v delays zero at time none known)
     (λ n feeder. absurd (fed_never v delays at time n feeder known))
 known_on v delays (suc steps) at time known = some_cases (direct_feeder v at) (behind_by v delays (suc (suc steps)) at ≡ Some time)
     (λ none. unfed_make v delays (suc steps) at none ∙ unfed_moment v delays (suc steps) at time none known)
     (λ n feeder.
-        let fed = fed_parts v delays steps at time n feeder known in
-        let more = known_on v delays steps fed.source fed.before fed.before_is in
-        fed_make v delays (suc steps) at n fed.source fed.before fed.within fed.own_time feeder fed.source_is more fed.promised fed.own_is
-        ∙ ap (λ (m : ℕ). Some m) (let sum = fed.sum in omega (arith, sum)))
+    let fed = fed_parts v delays steps at time n feeder known in
+    let more = known_on v delays steps fed.source fed.before fed.before_is in
+    fed_make v delays (suc steps) at n fed.source fed.before fed.within fed.own_time feeder fed.source_is more fed.promised fed.own_is
+    ∙ ap (λ (m : ℕ). Some m) (let sum = fed.sum in omega (arith, sum)))
 
 pub own_from : (v : Vehicle) (delays : Delays) (at : FlowAt) (timing : Timing) (flow : FlowPlan) (bits : ℕ) → timing_on v.buses.items at.bus ≡ Some timing
     → flow_at v.buses.items at ≡ Some flow → delay_at delays at ≡ Some bits → own v delays at ≡ Some (own_of timing flow bits)
 own_from v delays at timing flow bits timed its delayed =
-    ap (λ (o : Option Timing). option_and_then (λ (t : Timing). option_and_then (λ (f : FlowPlan). option_map (own_of t f) (delay_at delays at)) (flow_at v.buses.items at)) o) timed
+    ap (λ (o : Option Timing). option_and_then (λ (t : Timing). option_and_then (λ (f : FlowPlan). option_map (own_of t f) (delay_at delays at))
+    (flow_at v.buses.items at)) o) timed
     ∙ (ap (λ (o : Option FlowPlan). option_and_then (λ (f : FlowPlan). option_map (own_of timing f) (delay_at delays at)) o) its
     ∙ ap (option_map (own_of timing flow)) delayed)
 
@@ -237,15 +234,17 @@ module _ (v : Vehicle) (delays : Delays) (told : AreDelays v delays) (seen : See
   pub behind_value : (b i : ℕ) (t : TimedBus v b) (is : IsTold b i t) (total : ℕ) → behind v delays (at_of b i) ≡ Some total → behind_with b i (Some t) ≡ total
   behind_value b i t is total known = some_cases (direct_feeder v (at_of b i)) (behind_with b i (Some t) ≡ total)
       (λ none.
-          let moment = unfed_moment v delays (length v.forwards.items) (at_of b i) total none known in
-          let nothing : sent_from v delays (at_of b i) ≡ None = ap (λ (o : Option ℕ). option_and_then (λ (bits : ℕ). option_and_then (input_at v) (direct_feeder v (at_of b i))) o) is.delayed
-          ∙ ap (option_and_then (input_at v)) none in
-          ap (λ (o : Option FlowAt). cond (is_some o) (queued_value b i + unit_on v b * (wait_with b i (Some t) + (stream_of t i).bits))
-          (unit_on v b * delay_of (stream_of t i) (wait_with b i (Some t)))) nothing
-          ∙ same_Some _ _ (sym (moment_value b i t is) ∙ moment))
+      let moment = unfed_moment v delays (length v.forwards.items) (at_of b i) total none known in
+      let nothing : sent_from v delays (at_of b i) ≡ None = ap (λ (o : Option ℕ). option_and_then (λ (bits : ℕ). option_and_then (input_at v) (direct_feeder v
+      (at_of b i))) o) is.delayed
+      ∙ ap (option_and_then (input_at v)) none in
+      ap (λ (o : Option FlowAt). cond (is_some o) (queued_value b i + unit_on v b * (wait_with b i (Some t) + (stream_of t i).bits))
+      (unit_on v b * delay_of (stream_of t i) (wait_with b i (Some t)))) nothing
+      ∙ same_Some _ _ (sym (moment_value b i t is) ∙ moment))
       (λ n feeder. by_feeder n feeder (length v.forwards.items) refl known)
     where
-      by_feeder : (n : Forward) → direct_feeder v (at_of b i) ≡ Some n → (steps : ℕ) → steps ≡ length v.forwards.items → behind_by v delays steps (at_of b i) ≡ Some total
+      by_feeder : (n : Forward) → direct_feeder v (at_of b i) ≡ Some n → (steps : ℕ) → steps ≡ length v.forwards.items
+          → behind_by v delays steps (at_of b i) ≡ Some total
           → behind_with b i (Some t) ≡ total
       by_feeder n feeder zero all known = absurd (fed_never v delays (at_of b i) total n feeder known)
       by_feeder n feeder (suc steps) all known =

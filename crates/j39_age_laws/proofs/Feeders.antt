@@ -1,5 +1,5 @@
 -- Which forward feeds a flow, and what it takes for its first input.
-use Rattle.std.proofs.Common.{◌≡◌, ℕ, ◌<◌, ◌≤◌, ◌&&◌, ◌==◌, Bool, true, false, List, [], cond, length, get_or, Option, Some, None, refl, sym, ap, ◌∙◌, subst, inl, inr, arith}
+use Rattle.std.proofs.Common.{◌≡◌, ℕ, ◌<◌, ◌&&◌, ◌==◌, Bool, true, false, List, [], cond, length, get_or, Option, Some, None, refl, sym, ap, ◌∙◌, subst, inl, inr, arith}
 use Rattle.std.proofs.lemmas.Bool.{and_parts, and_from, cases_lt, eqb-true, false≢true, lt-ltb, true≢false}
 use Rattle.std.proofs.lemmas.List.Quantifiers.{position-Some}
 use Rattle.std.proofs.lemmas.List.Sums.{fails_before_first}
@@ -57,7 +57,8 @@ pub record IsOutputAt (v : Vehicle) (at : FlowAt) (forward : Forward) : Type 0 w
   pub its : slice_get (flows_on v.buses.items at.bus) at.flow ≡ Some flow
   pub passes : is_output forward flow ≡ true
 
-passes_some : (forward : Forward) (o : Option FlowPlan) → option_map_or (is_output forward) o false ≡ true → (f : FlowPlan) × (o ≡ Some f) × (is_output forward f ≡ true)
+passes_some : (forward : Forward) (o : Option FlowPlan) → option_map_or (is_output forward) o false ≡ true → (f : FlowPlan) × (o ≡ Some f)
+    × (is_output forward f ≡ true)
 passes_some forward None is = absurd (false≢true is)
 passes_some forward (Some f) is = (f, refl, is)
 
@@ -121,14 +122,14 @@ one_feeder v none p n m forward feeder next there direct found =
     ]
 
 -- where the list has no value that passes, none passes at any place
-none_passes : (test : Forward → Bool) (xs : List Forward) (n : ℕ) (x : Forward) → slice_get xs n ≡ Some x → position test xs ≡ None → test x ≡ false
+pub none_passes : {A : Type 0} (test : A → Bool) (xs : List A) (n : ℕ) (x : A) → slice_get xs n ≡ Some x → position test xs ≡ None → test x ≡ false
 none_passes test xs n x is none = elim (cases_lt (position_or_len test xs) (length xs)) [
   | inl inside ↦
       absurd (none-some (position_or_len test xs) (sym (subst (λ (b : Bool). cond b (Some (position_or_len test xs)) None ≡ None)
       (lt-ltb (position_or_len test xs) (length xs) inside) none)))
   | inr past ↦
       let below = slice_get_within xs n x is in
-      subst (λ (y : Forward). test y ≡ false) (get_or_from_slice_get xs n x x is) (fails_before_first test xs n x (omega (arith, past, below)))
+      subst (λ y. test y ≡ false) (get_or_from_slice_get xs n x x is) (fails_before_first test xs n x (omega (arith, past, below)))
 ]
 
 -- a direct forward by which a trace goes on has the flow among those that it feeds
@@ -140,9 +141,9 @@ some_feeder v p n forward next there direct none =
     some_cases (position (is_direct_feeder v p.at) v.forwards.items) ⊥
     (λ nowhere. true≢false (sym passes ∙ none_passes (is_direct_feeder v p.at) v.forwards.items n forward there nowhere))
     (λ m found.
-        let inside = (position-Some (is_direct_feeder v p.at) v.forwards.items m forward found).0 in
-        let its = slice_get-get_or v.forwards.items m forward inside in
-        none-some (get_or v.forwards.items m forward) (sym none ∙ (ap (option_and_then (forward_at v)) found ∙ its)))
+    let inside = (position-Some (is_direct_feeder v p.at) v.forwards.items m forward found).0 in
+    let its = slice_get-get_or v.forwards.items m forward inside in
+    none-some (get_or v.forwards.items m forward) (sym none ∙ (ap (option_and_then (forward_at v)) found ∙ its)))
 
 -- ---- the first input
 
@@ -151,11 +152,13 @@ put_on v forward None q is =
     let (i, first, made) = map_some (λ (f : ℕ). point_on forward.input.bus f None) (first_input v forward) q is in
     ap (option_map (λ (f : ℕ). record { bus = forward.input.bus; flow = f })) first ∙ ap (λ (p : Point). Some p.at) made
 put_on v forward (Some t) q is =
-    let (i, first, rest) = and_then_some (λ (f : ℕ). option_map (λ (s : ℕ). point_on forward.input.bus f (Some s)) (goes_into v forward t)) (first_input v forward) q is in
+    let (i, first, rest) = and_then_some (λ (f : ℕ). option_map (λ (s : ℕ). point_on forward.input.bus f (Some s)) (goes_into v forward t))
+    (first_input v forward) q is in
     let (s, into, made) = map_some (λ (s : ℕ). point_on forward.input.bus i (Some s)) (goes_into v forward t) q rest in
     ap (option_map (λ (f : ℕ). record { bus = forward.input.bus; flow = f })) first ∙ ap (λ (p : Point). Some p.at) made
 
-pub goes_on_input : (v : Vehicle) (p q : Point) (n : ℕ) (forward : Forward) → forward_at v n ≡ Some forward → goes_on v p n ≡ Some q → input_at v forward ≡ Some q.at
+pub goes_on_input : (v : Vehicle) (p q : Point) (n : ℕ) (forward : Forward) → forward_at v n ≡ Some forward → goes_on v p n ≡ Some q
+    → input_at v forward ≡ Some q.at
 goes_on_input v p q n forward there is =
     let (one, its, behind) = and_then_some (behind_forward v p.signal) (slice_get v.forwards.items n) q is in
     let same : one ≡ forward = same_Some _ _ (sym its ∙ there) in

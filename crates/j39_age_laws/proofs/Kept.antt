@@ -1,9 +1,8 @@
 -- Where gateways are prompt, what they send on directly keeps to the streams that are planned for it, on buses that keep to their plans otherwise.
-use Rattle.std.proofs.Common.{◌≡◌, ◌≢◌, ℕ, zero, suc, ◌+◌, ◌*◌, ◌-◌, ◌<◌, ◌≤◌, ◌⊎◌, Bool, true, false, List, [], ◌++◌, length, is_some, unwrap_or, Option, Some, None, refl, sym, ap, ◌∙◌, subst, inl, inr, arith}
-use Rattle.std.proofs.Math.Nat.{mul-le-mul_left}
+use Rattle.std.proofs.Common.{◌≡◌, ◌≢◌, ℕ, zero, suc, ◌+◌, ◌*◌, ◌<◌, ◌≤◌, ◌⊎◌, Bool, true, false, length, is_some, unwrap_or, Option, Some, None, refl, sym, ap, ◌∙◌, subst, inl, inr, arith}
 use Rattle.std.proofs.lemmas.Bool.{cases_Bool, false≢true}
-use Rattle.std.proofs.lemmas.Option.{none-some, same_Some}
-use Rattle.std.specs.Option.{option_and_then, option_map, option_map_or}
+use Rattle.std.proofs.lemmas.Option.{same_Some}
+use Rattle.std.specs.Option.{option_and_then, option_map_or}
 use Rattle.j39_findings.specs.declared.plan.flow_plan.FlowPlan.{FlowPlan}
 use Rattle.j39_findings.specs.declared.plan.timing.Timing.{Timing}
 use Rattle.j39_load.specs.Asked.{Asked, asked_of, frames_asked}
@@ -14,7 +13,6 @@ use Rattle.j39_timing.specs.Gateways.{Carrier, IsHandedOn}
 use Rattle.j39_timing.specs.Prefixes.{AreBegunUntil}
 use Rattle.j39_timing.specs.Traffic.{IsSingle, Traffic, delay_of}
 use Rattle.j39_timing.specs.Vehicles.{Bus, IsKnown, IsPlannedOn, KeepsItsStreams, KeepsItsStreamsUntil}
-use Rattle.j39_timing.specs.declared.stream.Stream.{Stream}
 use Rattle.j39_timing.proofs.Prefixes.{then_is_planned}
 use Rattle.j39_timing.proofs.Vehicles.{keep_their_streams}
 use Rattle.j39_vehicle.specs.declared.vehicle.Vehicle.{Vehicle}
@@ -24,13 +22,13 @@ use Rattle.j39_paths.specs.declared.point.FlowAt.{FlowAt}
 use Rattle.j39_ages.specs.BusDelays.{AreDelays, delays_on}
 use Rattle.j39_ages.specs.declared.bus_delays.Delays.{Delays}
 use Rattle.j39_ages.specs.TimeFindings.{period_of}
-use Rattle.j39_ages.specs.Times.{behind, behind_by, behind_moment, delay_at, direct_feeder, flow_at, input_at, jitter_of, own, queued_of, sum_known, timed, timing_on, us_of_ms, within_of}
-use Rattle.j39_age_laws.specs.ForwardedStreams.{AreForwardsTimely, AreOtherwiseKept, AreStreamsKept, IsForwardTimely, IsOtherwiseKept, streams_of}
+use Rattle.j39_ages.specs.Times.{behind, behind_by, delay_at, direct_feeder, flow_at, input_at, jitter_of, own, queued_of, sum_known, timed, timing_on, us_of_ms, within_of}
+use Rattle.j39_age_laws.specs.ForwardedStreams.{AreForwardsTimely, AreOtherwiseKept, AreStreamsKept, IsOtherwiseKept, streams_of}
 use Rattle.j39_age_laws.specs.KeptBuses.{AreKeptBuses, IsToldBus, asked_on}
-use Rattle.j39_age_laws.specs.Prompt.{ArePrompt, HaveOwnMoments, IsSentDirectly, IsSentOn, sent_from}
-use Rattle.j39_age_laws.specs.Seen.{SeenBuses, clock_on, frames_at, unit_on}
+use Rattle.j39_age_laws.specs.Prompt.{ArePrompt, HaveOwnMoments, IsSentDirectly, sent_from}
+use Rattle.j39_age_laws.specs.Seen.{SeenBuses, frames_at, unit_on}
 use Rattle.j39_age_laws.proofs.Behind.{fed_never, fed_parts, unfed_moment}
-use Rattle.j39_age_laws.proofs.Circle.{IsTold, TimedBus, all_of, at_of, behind_value, behind_with, bounded_here, bus_with, direct_with, is_some_false, is_some_true, late_value, of_bus, own_value, owns, period_value, queued_value, single_here, stream_is, stream_of, streamed, unit_positive, view, viewed, wait_is, wait_with, within_value}
+use Rattle.j39_age_laws.proofs.Circle.{IsTold, TimedBus, all_of, at_of, behind_value, behind_with, bounded_here, bus_with, direct_with, is_some_false, is_some_true, late_value, of_bus, owns, period_value, queued_value, single_here, stream_of, streamed, unit_positive, view, viewed, wait_is, wait_with, within_value}
 use Rattle.j39_age_laws.proofs.Feeders.{feeder_is}
 use Rattle.j39_age_laws.proofs.OneFlow.{delay_here, own_parts}
 use Rattle.j39_age_laws.proofs.Parts.{and_then_some, some_cases, sum_some}
@@ -38,12 +36,13 @@ use Rattle.j39_age_laws.proofs.Starts.{starts_within}
 use Rattle.j39_age_laws.proofs.Until.{frames_then, with_streams}
 
 -- what comes so long behind its moment has a time of its own
-behind_own : (v : Vehicle) (delays : Delays) (steps : ℕ) (at : FlowAt) (total : ℕ) → behind_by v delays steps at ≡ Some total → (n : ℕ) × (own v delays at ≡ Some n)
+behind_own : (v : Vehicle) (delays : Delays) (steps : ℕ) (at : FlowAt) (total : ℕ) → behind_by v delays steps at ≡ Some total → (n : ℕ)
+    × (own v delays at ≡ Some n)
 behind_own v delays steps at total known = some_cases (direct_feeder v at) ((n : ℕ) × (own v delays at ≡ Some n))
     (λ none.
-        let (n, late, owns, jitter, sum) = sum_some (own v delays at) (timed v at (λ timing flow. Some (us_of_ms (jitter_of flow)))) total
-        (unfed_moment v delays steps at total none known) in
-        (n, owns))
+    let (n, late, owns, jitter, sum) = sum_some (own v delays at) (timed v at (λ timing flow. Some (us_of_ms (jitter_of flow)))) total
+    (unfed_moment v delays steps at total none known) in
+    (n, owns))
     (λ n feeder. by_steps n feeder steps known)
   where
     by_steps : (n : Forward) → direct_feeder v at ≡ Some n → (k : ℕ) → behind_by v delays k at ≡ Some total → (m : ℕ) × (own v delays at ≡ Some m)
@@ -57,7 +56,8 @@ one_traffic v delays b timing other one two =
     let bus : one.bus ≡ two.bus = same_Some _ _ (sym one.its ∙ two.its) in
     let time : timing ≡ other = same_Some _ _ (sym one.timed ∙ (ap (λ (x : BusPlan). x.plan.timing) bus ∙ two.timed)) in
     let asks : AsksOfBus two.bus.plan other one.stays (delays_on delays b) =
-    subst (λ (x : BusPlan). AsksOfBus x.plan other one.stays (delays_on delays b)) bus (subst (λ (x : Timing). AsksOfBus one.bus.plan x one.stays (delays_on delays b)) time one.asks) in
+    subst (λ (x : BusPlan). AsksOfBus x.plan other one.stays (delays_on delays b)) bus (subst (λ (x : Timing). AsksOfBus one.bus.plan x one.stays
+    (delays_on delays b)) time one.asks) in
     let asked : asked_of timing one.bus.plan one.stays ≡ asked_of other two.bus.plan two.stays =
     ap (λ (x : Timing). asked_of x one.bus.plan one.stays) time ∙ (ap (λ (x : BusPlan). asked_of other x.plan one.stays) bus
     ∙ (one_asked two.bus.plan other one.stays two.stays (delays_on delays b) (delays_on delays b) asks two.asks).0) in
@@ -119,7 +119,8 @@ module _ (v : Vehicle) (delays : Delays) (told : AreDelays v delays) (seen : See
 
   link_of : (b i : ℕ) (t : TimedBus v b) → view v b ≡ Some t → (x : FlowAt) → sent_from v delays (at_of b i) ≡ Some x → Link b i
   link_of b i t view_is x from =
-      let (bits, delayed, rest) = and_then_some (λ (bits : ℕ). option_and_then (input_at v) (direct_feeder v (at_of b i))) (delay_at delays (at_of b i)) x from in
+      let (bits, delayed, rest) = and_then_some (λ (bits : ℕ). option_and_then (input_at v) (direct_feeder v (at_of b i))) (delay_at delays
+      (at_of b i)) x from in
       let (n, feeder, input) = and_then_some (input_at v) (direct_feeder v (at_of b i)) x rest in
       let tm = timely (at_of b i) bits n delayed feeder in
       let (before, within, of_source, promised, sum) = sum_some (option_and_then (behind v delays) (input_at v n)) (within_of n) tm.queued tm.queued_is in
@@ -130,7 +131,8 @@ module _ (v : Vehicle) (delays : Delays) (told : AreDelays v delays) (seen : See
       let (own_x, owns_x) = behind_own v delays (length v.forwards.items) x before known_x in
       let parts = own_parts v delays x own_x owns_x in
       let (tx, view_x) = viewed v x.bus parts.timing parts.timed in
-      let other : tm.other ≡ parts.flow = same_Some _ _ (sym (subst (λ (f : FlowAt). flow_at v.buses.items f ≡ Some tm.other) same_input tm.other_is) ∙ parts.its) in
+      let other : tm.other ≡ parts.flow = same_Some _ _ (sym (subst (λ (f : FlowAt). flow_at v.buses.items f ≡ Some tm.other) same_input tm.other_is)
+      ∙ parts.its) in
       record {
         t = t;
         view_is = view_is;
@@ -155,8 +157,9 @@ module _ (v : Vehicle) (delays : Delays) (told : AreDelays v delays) (seen : See
   link b i direct = some_cases (view v b) (Link b i)
       (λ none. absurd (false≢true (subst (λ (o : Option (TimedBus v b)). direct_with v delays told seen b i o ≡ true) none direct)))
       (λ t view_is.
-          let (x, from) = is_some_true (sent_from v delays (at_of b i)) (subst (λ (o : Option (TimedBus v b)). direct_with v delays told seen b i o ≡ true) view_is direct) in
-          link_of b i t view_is x from)
+      let (x, from) = is_some_true (sent_from v delays (at_of b i)) (subst (λ (o : Option
+      (TimedBus v b)). direct_with v delays told seen b i o ≡ true) view_is direct) in
+      link_of b i t view_is x from)
 
   module _ (b i : ℕ) (l : Link b i) where
     -- a statement on the bus itself, and on the flow that is heard and its bus
@@ -175,15 +178,17 @@ module _ (v : Vehicle) (delays : Delays) (told : AreDelays v delays) (seen : See
     queued_is : queued_value v delays told seen b i ≡ l.before + l.within
     queued_is =
         ap (λ (o : Option Forward). option_map_or (λ n. unwrap_or (queued_of v delays n) 0) o 0) l.feeder
-        ∙ ap (λ (o : Option ℕ). unwrap_or o 0) (ap (λ (o : Option ℕ). sum_known o (within_of l.n)) (ap (option_and_then (behind v delays)) l.input ∙ l.before_is)
+        ∙ ap (λ (o : Option ℕ). unwrap_or o 0) (ap (λ (o : Option ℕ). sum_known o (within_of l.n)) (ap (option_and_then (behind v delays)) l.input
+        ∙ l.before_is)
         ∙ ap (λ (o : Option ℕ). sum_known (Some l.before) o) l.promised)
 
     sent : (place : ℕ) × IsSentDirectly v seen place l.x (at_of b i) l.within
     sent =
         let (place, feeding) = feeder_is v (at_of b i) l.n l.feeder in (
           place,
-          prompt.direct place l.n l.x (at_of b i) l.within (record { its = feeding.its; output = feeding.feeding; input = l.input; promised = l.promised }) feeding.direct
-          (l.there.bits, l.there.delayed) (l.here.bits, l.here.delayed),
+          prompt.direct place l.n l.x (at_of b i) l.within (record
+              { its = feeding.its; output = feeding.feeding; input = l.input; promised = l.promised }) feeding.direct
+              (l.there.bits, l.there.delayed) (l.here.bits, l.here.delayed),
         )
 
     handed_on : IsHandedOn (carrier_of (with_bus (bus_value (sent_from v delays (at_of b i))) (view v (bus_value (sent_from v delays (at_of b i)))))
@@ -210,12 +215,14 @@ module _ (v : Vehicle) (delays : Delays) (told : AreDelays v delays) (seen : See
         let at_place = delay_here v delays told l.x _ (Rattle.j39_age_laws.proofs.Circle.has v delays told seen l.x.bus l.x.flow l.tx l.there) in
         let same : wait_with v delays told seen l.x.bus l.x.flow (Some l.tx) ≡ (bounded_here v delays told seen l.x.bus l.x.flow l.tx l.there).wait =
         wait_is v delays told seen l.x.bus l.x.flow l.tx l.there in
-        let frames = frames_then l.tx.timing (all_of v delays told seen l.tx) (seen l.x.bus).schedule (seen l.x.bus).controllers (seen l.x.bus).planned (seen l.x.bus).of l.x.flow
+        let frames = frames_then l.tx.timing (all_of v delays told seen l.tx) (seen l.x.bus).schedule (seen l.x.bus).controllers (seen l.x.bus).planned
+        (seen l.x.bus).of l.x.flow
         ((keeps l.tx).frames l.x.flow l.there.bits at_place) by now streams in
         let legal = Rattle.j39_timing.proofs.AnyPrefixes.still_legal_in_any_order (seen l.x.bus).schedule (seen l.x.bus).controllers by
         (Rattle.j39_load.specs.PlannedFrames.others_of l.tx.timing).least (keeps l.tx).legal now in
         let started = starts_within ofb.bus.plan l.tx.timing ofb.stays (delays_on delays l.x.bus) ofb.asks l.x.flow l.there.bits at_place
-        (Rattle.j39_timing.specs.Prefixes.seen_until (seen l.x.bus).schedule by (Rattle.j39_load.specs.PlannedFrames.others_of l.tx.timing).least) (seen l.x.bus).controllers
+        (Rattle.j39_timing.specs.Prefixes.seen_until (seen l.x.bus).schedule by (Rattle.j39_load.specs.PlannedFrames.others_of l.tx.timing).least)
+        (seen l.x.bus).controllers
         (Rattle.j39_timing.specs.Prefixes.planned_until (seen l.x.bus).schedule (seen l.x.bus).planned by) (seen l.x.bus).of legal frames in
         let soon : (seen l.x.bus).schedule.queued p + (bounded_here v delays told seen l.x.bus l.x.flow l.tx l.there).wait < by = omega (arith, early, same) in
         let start = started p in_p (then_is_planned (seen l.x.bus).schedule (seen l.x.bus).planned by p is (omega (arith, soon))) source soon in
@@ -230,9 +237,11 @@ module _ (v : Vehicle) (delays : Delays) (told : AreDelays v delays) (seen : See
         (wait_with v delays told seen (bus_value (sent_from v delays (at_of b i))) (flow_value (sent_from v delays (at_of b i)))
         (view v (bus_value (sent_from v delays (at_of b i))))) by
     input_begun by = at_source (λ a k. by ≤ (with_bus a (view v a)).schedule.now → KeepsItsStreamsUntil (with_bus a (view v a)) by
-        → AreBegunUntil (with_bus a (view v a)).schedule (with_bus a (view v a)).planned (with_bus a (view v a)).of k (wait_with v delays told seen a k (view v a)) by)
+        → AreBegunUntil (with_bus a (view v a)).schedule (with_bus a (view v a)).planned (with_bus a (view v a)).of k (wait_with v delays told seen a k
+        (view v a)) by)
         (at_source_bus (λ o. by ≤ (with_bus l.x.bus o).schedule.now → KeepsItsStreamsUntil (with_bus l.x.bus o) by
-        → AreBegunUntil (with_bus l.x.bus o).schedule (with_bus l.x.bus o).planned (with_bus l.x.bus o).of l.x.flow (wait_with v delays told seen l.x.bus l.x.flow o) by)
+        → AreBegunUntil (with_bus l.x.bus o).schedule (with_bus l.x.bus o).planned (with_bus l.x.bus o).of l.x.flow
+        (wait_with v delays told seen l.x.bus l.x.flow o) by)
         (begun_there by))
 
     -- ---- numbers
@@ -264,7 +273,8 @@ module _ (v : Vehicle) (delays : Delays) (told : AreDelays v delays) (seen : See
 
     behind_enough : behind_with v delays told seen (bus_value (sent_from v delays (at_of b i))) (flow_value (sent_from v delays (at_of b i)))
         (view v (bus_value (sent_from v delays (at_of b i)))) + within_value v delays told seen b i
-        + unit_on v b * (wait_with v delays told seen b i (view v b) + ((with_bus b (view v b)).traffic.stream i).bits) ≤ behind_with v delays told seen b i (view v b)
+        + unit_on v b * (wait_with v delays told seen b i (view v b) + ((with_bus b (view v b)).traffic.stream i).bits) ≤ behind_with v delays told seen b i
+        (view v b)
     behind_enough =
         let one = source_behind in
         let two = within_is in
@@ -286,7 +296,8 @@ module _ (v : Vehicle) (delays : Delays) (told : AreDelays v delays) (seen : See
         let one : unit_on v b * ((with_bus b (view v b)).traffic.stream i).period ≡ us_of_ms own.period =
         at_bus (λ o. unit_on v b * ((with_bus b o).traffic.stream i).period ≡ us_of_ms own.period) (period_value v delays told seen b i l.t l.here) in
         at_source (λ a k. unit_on v b * ((with_bus b (view v b)).traffic.stream i).period ≤ unit_on v a * ((with_bus a (view v a)).traffic.stream k).period)
-        (at_source_bus (λ o. unit_on v b * ((with_bus b (view v b)).traffic.stream i).period ≤ unit_on v l.x.bus * ((with_bus l.x.bus o).traffic.stream l.x.flow).period)
+        (at_source_bus (λ o. unit_on v b * ((with_bus b (view v b)).traffic.stream i).period ≤ unit_on v l.x.bus *
+        ((with_bus l.x.bus o).traffic.stream l.x.flow).period)
         (let two = period_value v delays told seen l.x.bus l.x.flow l.tx l.there in omega (arith, one, two, far, same)))
 
   -- ---- frames of a bus
@@ -294,7 +305,8 @@ module _ (v : Vehicle) (delays : Delays) (told : AreDelays v delays) (seen : See
   -- of a flow that is sent on directly, and of any other
   module _ (b : ℕ) (t : TimedBus v b) (p : ℕ) (in_p : p < (seen b).schedule.count) (is : (seen b).planned p ≡ true) where
     own_frame : is_some (sent_from v delays (at_of b ((seen b).of.source p))) ≡ false
-        → KeepsStream (seen b).schedule (streams_of t.timing (all_of v delays told seen t)).count (streams_of t.timing (all_of v delays told seen t)).stream (seen b).of p
+        → KeepsStream (seen b).schedule (streams_of t.timing (all_of v delays told seen t)).count (streams_of t.timing (all_of v delays told seen t)).stream
+        (seen b).of p
     own_frame own = (keeps t).own p in_p is (is_some_false (sent_from v delays (at_of b ((seen b).of.source p))) own)
 
     any_frame : ((seen b).of.source p < (streams_of t.timing (all_of v delays told seen t)).count)
@@ -331,7 +343,8 @@ module _ (v : Vehicle) (delays : Delays) (told : AreDelays v delays) (seen : See
     own_moment = λ b. case_view v b (λ o. (p : ℕ) → IsPlannedOn (with_bus b o) p → direct_with v delays told seen b ((with_bus b o).of.source p) o ≡ false
         → (with_bus b o).moment p ≡ Rattle.j39_timing.specs.Gateways.time_of (with_bus b o).clock ((with_bus b o).of.since p))
         (λ p its. absurd (omega (arith, its.0)))
-        (λ t p its own. own_moments (at_of b ((seen b).of.source p)) (is_some_false (sent_from v delays (at_of b ((seen b).of.source p))) own) p (its.0, its.1, refl)) (view v b);
+        (λ t p its own. own_moments (at_of b ((seen b).of.source p)) (is_some_false (sent_from v delays (at_of b ((seen b).of.source p))) own) p
+        (its.0, its.1, refl)) (view v b);
     own_spaced = λ b. case_view v b (λ o. (p q : ℕ) → IsPlannedOn (with_bus b o) p → IsPlannedOn (with_bus b o) q → p ≢ q
         → direct_with v delays told seen b ((with_bus b o).of.source p) o ≡ false
         → (with_bus b o).of.source p ≡ (with_bus b o).of.source q → (with_bus b o).of.turn p ≡ (with_bus b o).of.turn q
@@ -370,7 +383,8 @@ module _ (v : Vehicle) (delays : Delays) (told : AreDelays v delays) (seen : See
       own_behind : (b i : ℕ) (t : TimedBus v b) → is_some (sent_from v delays (at_of b i)) ≡ false
           → unit_on v b * delay_of (stream_of v delays told seen t i) (wait_with v delays told seen b i (Some t)) ≤ behind_with v delays told seen b i (Some t)
       own_behind b i t own =
-          let same : behind_with v delays told seen b i (Some t) ≡ unit_on v b * delay_of (stream_of v delays told seen t i) (wait_with v delays told seen b i (Some t)) =
+          let same : behind_with v delays told seen b i (Some t) ≡ unit_on v b * delay_of (stream_of v delays told seen t i) (wait_with v delays told seen b i
+          (Some t)) =
           ap (λ (c : Bool). Rattle.std.proofs.Common.cond c
           (queued_value v delays told seen b i + unit_on v b * (wait_with v delays told seen b i (Some t) + (stream_of v delays told seen t i).bits))
           (unit_on v b * delay_of (stream_of v delays told seen t i) (wait_with v delays told seen b i (Some t)))) own in

@@ -8,5 +8,7 @@ mod Order
 mod Parts
 mod Silent
 mod Starts
+mod Timely
 mod Until
+mod Whole
 mod Young

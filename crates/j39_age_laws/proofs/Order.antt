@@ -1,14 +1,13 @@
 -- Messages of a flow end in the order of their moments.
-use Rattle.std.proofs.Common.{◌≡◌, ◌≢◌, ℕ, ◌+◌, ◌*◌, ◌<◌, ◌≤◌, Option, Some, refl, sym, ap, subst, inl, inr, arith}
+use Rattle.std.proofs.Common.{◌≡◌, ◌≢◌, ℕ, ◌+◌, ◌*◌, ◌<◌, ◌≤◌, ap, inl, inr, arith}
 use Rattle.std.proofs.Math.Nat.{mul-le-mul_left, lt_of_mul-lt-mul_left}
 use Rattle.std.proofs.lemmas.Bool.{cases_lt}
 use Rattle.j39_vehicle.specs.declared.vehicle.Vehicle.{Vehicle}
 use Rattle.j39_paths.specs.declared.point.FlowAt.{FlowAt}
-use Rattle.j39_timing.specs.Gateways.{HasBegun, IsIts, end_time, queue_time, time_of}
+use Rattle.j39_timing.specs.Gateways.{HasBegun, IsIts, end_time, queue_time}
 use Rattle.j39_timing.specs.Traffic.{delay_of}
 use Rattle.j39_ages.specs.declared.bus_delays.Delays.{Delays}
-use Rattle.j39_ages.specs.BusDelays.{AreDelays}
-use Rattle.j39_age_laws.specs.Seen.{SeenBuses, clock_on, frames_at, unit_on}
+use Rattle.j39_age_laws.specs.Seen.{SeenBuses, frames_at, unit_on}
 use Rattle.j39_age_laws.specs.YoungValues.{IsSeenVehicle}
 use Rattle.j39_age_laws.proofs.Behind.{IsBehind}
 
@@ -24,17 +23,20 @@ module _ (v : Vehicle) (delays : Delays) (seen : SeenBuses) (by : ℕ) (is : IsS
       let first : (seen at.bus).schedule.queued q ≤ (seen at.bus).schedule.start q = known.one.queued_first q its.0 in
       let some : 1 ≤ (seen at.bus).schedule.bits q = known.one.some_bits q its.0 in
       let unit : 1 ≤ u = known.one.some_unit in
-      let order : u * ((seen at.bus).schedule.queued q + 1) ≤ u * ((seen at.bus).schedule.start q + (seen at.bus).schedule.bits q) = mul-le-mul_left u (omega arith) in
+      let order : u * ((seen at.bus).schedule.queued q + 1) ≤ u * ((seen at.bus).schedule.start q + (seen at.bus).schedule.bits q) = mul-le-mul_left u
+      (omega arith) in
       omega arith
 
   pub queued_till_end : (q : ℕ) → IsIts (frames_at v seen at) q → queue_time (frames_at v seen at) q ≤ end_time (frames_at v seen at) q
   queued_till_end q its =
       let first : (seen at.bus).schedule.queued q ≤ (seen at.bus).schedule.start q = known.one.queued_first q its.0 in
-      let order : u * (seen at.bus).schedule.queued q ≤ u * ((seen at.bus).schedule.start q + (seen at.bus).schedule.bits q) = mul-le-mul_left u (omega arith) in
+      let order : u * (seen at.bus).schedule.queued q ≤ u * ((seen at.bus).schedule.start q + (seen at.bus).schedule.bits q) = mul-le-mul_left u
+      (omega arith) in
       omega arith
 
   -- its end is a period behind the bit of its moment at most
-  ends_by : (r : ℕ) → HasBegun (frames_at v seen at) r → (seen at.bus).schedule.start r + (seen at.bus).schedule.bits r ≤ (seen at.bus).of.since r + known.one.stream.period
+  ends_by : (r : ℕ) → HasBegun (frames_at v seen at) r → (seen at.bus).schedule.start r + (seen at.bus).schedule.bits r ≤
+      (seen at.bus).of.since r + known.one.stream.period
   ends_by r (its, begun) =
       let few : (seen at.bus).schedule.bits r ≤ known.one.stream.bits = known.one.few_bits r its in
       let start : (seen at.bus).schedule.start r ≤ (seen at.bus).schedule.queued r + known.one.wait =
@@ -65,7 +67,8 @@ module _ (v : Vehicle) (delays : Delays) (seen : SeenBuses) (by : ℕ) (is : IsS
               let first : (seen at.bus).of.since q ≤ (seen at.bus).schedule.queued q = known.one.moment_first q its in
               let start : (seen at.bus).schedule.queued q ≤ (seen at.bus).schedule.start q = known.one.queued_first q its.0 in
               let unit : 1 ≤ u = known.one.some_unit in
-              let far : u * ((seen at.bus).schedule.start r + (seen at.bus).schedule.bits r + 1) ≤ u * ((seen at.bus).schedule.start q + (seen at.bus).schedule.bits q) =
+              let far : u * ((seen at.bus).schedule.start r + (seen at.bus).schedule.bits r + 1) ≤ u * ((seen at.bus).schedule.start q +
+              (seen at.bus).schedule.bits q) =
               mul-le-mul_left u (omega arith) in
               absurd (omega arith)
           | inr behind ↦

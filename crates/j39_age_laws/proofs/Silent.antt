@@ -1,5 +1,5 @@
 -- How often what comes directly has moments.
-use Rattle.std.proofs.Common.{◌≡◌, ℕ, zero, suc, ◌+◌, ◌<◌, ◌≤◌, Option, Some, None, refl, sym, ap, ◌∙◌, subst, arith}
+use Rattle.std.proofs.Common.{◌≡◌, ℕ, zero, suc, ◌+◌, ◌<◌, ◌≤◌, length, Option, Some, None, sym, ◌∙◌, subst, arith}
 use Rattle.std.proofs.lemmas.Option.{none-some, same_Some}
 use Rattle.std.specs.Option.{option_and_then, option_map_or}
 use Rattle.j39_findings.specs.declared.plan.flow_plan.FlowPlan.{FlowPlan}
@@ -9,7 +9,7 @@ use Rattle.j39_paths.specs.declared.point.FlowAt.{FlowAt}
 use Rattle.j39_paths.specs.declared.point.Point.{Point}
 use Rattle.j39_timing.specs.Gateways.{IsIts}
 use Rattle.j39_ages.specs.declared.bus_delays.Delays.{Delays}
-use Rattle.j39_ages.specs.Times.{behind_by, direct_feeder, input_at, pause_of, silent_by, unasked_at, within_of}
+use Rattle.j39_ages.specs.Times.{behind_by, direct_feeder, input_at, pause_of, silent, silent_by, unasked_at, within_of}
 use Rattle.j39_ages.specs.BusDelays.{AreDelays}
 use Rattle.j39_age_laws.specs.Seen.{SeenBuses, frames_at}
 use Rattle.j39_age_laws.specs.YoungValues.{ComesDirectly, IsOnTheWay, IsSeenVehicle, KeepPauses, pause_at, by_itself, sent_on}
@@ -23,7 +23,8 @@ unfolding silent_by
 unfed_pause v zero at pause none is =
     subst (λ (o : Option Forward). option_and_then (λ flow. option_map_or (λ n. None) o (pause_of flow)) (unasked_at v at) ≡ Some pause) none is
 unfed_pause v (suc steps) at pause none is =
-    subst (λ (o : Option Forward). option_and_then (λ flow. option_map_or (λ n. option_and_then (silent_by v steps) (input_at v n)) o (pause_of flow)) (unasked_at v at) ≡ Some pause)
+    subst (λ (o : Option Forward). option_and_then (λ flow. option_map_or (λ n. option_and_then (silent_by v steps) (input_at v n)) o (pause_of flow))
+    (unasked_at v at) ≡ Some pause)
     none is
 
 fed_silent_never : (v : Vehicle) (at : FlowAt) (pause : ℕ) (n : Forward) → direct_feeder v at ≡ Some n → silent_by v zero at ≡ Some pause → ⊥
@@ -38,7 +39,8 @@ fed_silent : (v : Vehicle) (steps : ℕ) (at : FlowAt) (pause : ℕ) (n : Forwar
 unfolding silent_by
 fed_silent v steps at pause n feeder is =
     let (flow, its, known) = and_then_some (λ (flow : FlowPlan). option_and_then (silent_by v steps) (input_at v n)) (unasked_at v at) pause
-    (subst (λ (o : Option Forward). option_and_then (λ flow. option_map_or (λ n. option_and_then (silent_by v steps) (input_at v n)) o (pause_of flow)) (unasked_at v at) ≡ Some pause)
+    (subst (λ (o : Option Forward). option_and_then (λ flow. option_map_or (λ n. option_and_then (silent_by v steps) (input_at v n)) o (pause_of flow))
+    (unasked_at v at) ≡ Some pause)
     feeder is) in
     and_then_some (silent_by v steps) (input_at v n) pause known
 
@@ -58,7 +60,8 @@ shorter t before within own time to sum high = omega arith
 module _ (v : Vehicle) (delays : Delays) (told : AreDelays v delays) (seen : SeenBuses) (by : ℕ) (is : IsSeenVehicle v delays seen by)
     (start : Point) (from : ℕ) (pauses : KeepPauses v seen start from by) where
   -- of what is sent on directly
-  passed_on : (x y : FlowAt) (pause : ℕ) (n : Forward) → direct_feeder v y ≡ Some n → input_at v n ≡ Some x → (steps time : ℕ) → behind_by v delays steps y ≡ Some time
+  passed_on : (x y : FlowAt) (pause : ℕ) (n : Forward) → direct_feeder v y ≡ Some n → input_at v n ≡ Some x → (steps time : ℕ)
+      → behind_by v delays steps y ≡ Some time
       → ((k before : ℕ) → behind_by v delays k x ≡ Some before → KeepsOn v seen x pause before from by) → KeepsOn v seen y pause time from by
   passed_on x y pause n feeder source zero time known keeps = absurd (fed_never v delays y time n feeder known)
   passed_on x y pause n feeder source (suc steps) time known keeps =
@@ -76,7 +79,8 @@ module _ (v : Vehicle) (delays : Delays) (told : AreDelays v delays) (seen : See
           let (place, feeding, sent) = sends_directly v delays told seen by is y n x within before output.own_time feeder source promised output.one input in
           let (p, its, before_t, near) = keeps t low (shorter t before within own time by sum high) in
           let (q, it, what) = sent.each p (input.begun p its (earlier ((seen x.bus).moment p) t before within own time by sum high before_t)) in
-          let moment : (seen y.bus).moment q ≡ (seen x.bus).moment p = subst (λ (r : ℕ). (seen y.bus).moment q ≡ (seen x.bus).moment r) what (sent.handed.moments q it) in
+          let moment : (seen y.bus).moment q ≡ (seen x.bus).moment p = subst (λ (r : ℕ). (seen y.bus).moment q ≡ (seen x.bus).moment r) what
+          (sent.handed.moments q it) in
           (q, it, omega (arith, moment, before_t), omega (arith, moment, near))
 
   module _ (point : Point) (way : IsOnTheWay v start point) where
@@ -92,9 +96,16 @@ module _ (v : Vehicle) (delays : Delays) (told : AreDelays v delays) (seen : See
     comes (suc steps) at pause direct silent k time known = some_cases (direct_feeder v at) (KeepsOn v seen at pause time from by)
         (λ none. own_pause at pause time direct none (unfed_pause v (suc steps) at pause none silent))
         (λ n feeder.
-            let (x, source, its) = fed_silent v steps at pause n feeder silent in
-            passed_on x at pause n feeder source k time known (λ j before behind. comes steps x pause (sent_on x at n direct feeder source) its j before behind))
+        let (x, source, its) = fed_silent v steps at pause n feeder silent in
+        passed_on x at pause n feeder source k time known (λ j before behind. comes steps x pause (sent_on x at n direct feeder source) its j before behind))
 
     pub keeps_on : (steps : ℕ) (pause : ℕ) → silent_by v steps point.at ≡ Some pause → (k time : ℕ) → behind_by v delays k point.at ≡ Some time
         → KeepsOn v seen point.at pause time from by
     keeps_on steps pause silent k time known = comes steps point.at pause by_itself silent k time known
+
+    -- and of what it is sent on from
+    pub source_keeps_on : (x : FlowAt) (pause : ℕ) (n : Forward) → direct_feeder v point.at ≡ Some n → input_at v n ≡ Some x → silent v x ≡ Some pause
+        → (k time : ℕ) → behind_by v delays k point.at ≡ Some time → KeepsOn v seen point.at pause time from by
+    source_keeps_on x pause n feeder source its k time known =
+        passed_on x point.at pause n feeder source k time known
+        (λ j before behind. comes (length v.forwards.items) x pause (sent_on x point.at n by_itself feeder source) its j before behind)

@@ -1,5 +1,5 @@
 -- Frames of a flow of which a delay is told begin within its wait from when they are queued, as far as their bus is seen.
-use Rattle.std.proofs.Common.{◌≡◌, ℕ, zero, suc, ◌+◌, ◌*◌, ◌<◌, ◌≤◌, ◌⊎◌, Bool, true, false, not, cond, ◌&&◌, ◌||◌, eqb, ltb, leb, if◌then◌else◌, List, [], ◌∷◌, ◌++◌, length, get_or, min, All, IfSome, unwrap_or, is_some, Option, Some, None, refl, sym, ap, ◌∙◌, subst, inl, inr, arith}
+use Rattle.std.proofs.Common.{◌≡◌, ℕ, zero, suc, ◌+◌, ◌*◌, ◌<◌, ◌≤◌, Bool, true, false, not, cond, ◌&&◌, ◌||◌, eqb, ltb, leb, if◌then◌else◌, List, [], ◌∷◌, ◌++◌, length, get_or, min, All, IfSome, unwrap_or, is_some, Option, Some, None, refl, sym, ap, ◌∙◌, subst, inl, inr, arith}
 use Rattle.std.proofs.lemmas.Bool.{and_parts, both_ways, cases_Bool, false≢true, lt-ltb, ltb-true, or_cases, true≢false}
 use Rattle.std.proofs.lemmas.Option.{none-some, same_Some}
 use Rattle.std.specs.Bool.{MatchBool}
@@ -154,7 +154,8 @@ module _ (timing : Timing) (asked : List (Option FlowFrames)) (paced : All HasPe
           let its : are_twins frames x ≡ true =
           subst (λ (f : FlowFrames). are_twins f x ≡ true) placed
           (subst (λ (f : FlowFrames). are_twins (planned_at all i) f ≡ true) (with_damage timing asked j x found_at) twins) in
-          elim (or_cases (keep_order x) (not (keep_order frames)) (and_parts (is_same frames.twin_ident x.twin_ident) (keep_order x || not (keep_order frames)) its).1) [
+          elim (or_cases (keep_order x) (not (keep_order frames)) (and_parts (is_same frames.twin_ident x.twin_ident) (keep_order x || not
+          (keep_order frames)) its).1) [
             | inl keeps ↦ true≢false (sym keeps ∙ kept)
             | inr loses ↦ both_ways (not (keep_order frames)) (ap not ordered) loses
           ]
@@ -237,7 +238,8 @@ module _ (plan : Plan) (timing : Timing) (stays : UnitPlan → Bool) (delays : L
         let limited = paces.2 in
         let same : wait ≡ bound.wait = omega (arith, sum, total) in
         subst (AreBegunWithin s planned of flow) same
-        (ordered_starts timing (frames_asked asked) (all_paced timing plan stays) (all_sent timing plan stays) bound.offer bound.is flow bound.frames here ordered passed
+        (ordered_starts timing (frames_asked asked) (all_paced timing plan stays)
+        (all_sent timing plan stays) bound.offer bound.is flow bound.frames here ordered passed
         wait inside.room s controllers planned of legal known paces.1 (omega (arith, fits, limited)))
 
     by_company : keep_order bound.frames ≡ false → Within bits ≡ any_delay bound.frames bound.load.limit (get_or bound.offer.waits flow None)
@@ -246,10 +248,12 @@ module _ (plan : Plan) (timing : Timing) (stays : UnitPlan → Bool) (delays : L
         let (wait, known_wait, sum) = told_wait bound.frames bound.load.limit bits (get_or bound.offer.waits flow None) told in
         let total = bound.sum in
         let same : wait ≡ bound.wait = omega (arith, sum, total) in
-        let is_wait = wait_of_company timing (frames_asked asked) (all_paced timing plan stays) (all_sent timing plan stays) bound.offer.waits bound.is.held flow
+        let is_wait = wait_of_company timing (frames_asked asked) (all_paced timing plan stays)
+        (all_sent timing plan stays) bound.offer.waits bound.is.held flow
         bound.frames here kept wait known_wait in
         subst (AreBegunWithin s planned of flow) same
-        (begun timing (frames_asked asked) (all_paced timing plan stays) (all_sent timing plan stays) s controllers planned of legal flow known flow bound.frames here kept
+        (begun timing (frames_asked asked) (all_paced timing plan stays)
+        (all_sent timing plan stays) s controllers planned of legal flow known flow bound.frames here kept
         (inl refl) wait is_wait)
 
     pub starts_within : AreBegunWithin s planned of flow bound.wait

@@ -1,20 +1,16 @@
 -- What is seen of a bus up to a bit keeps to its plan, where the frames that are queued before it keep to their streams.
-use Rattle.std.proofs.Common.{◌≡◌, ℕ, ◌+◌, ◌*◌, ◌^◌, ◌<◌, ◌≤◌, Bool, true, not, cond, ◌&&◌, ◌||◌, eqb, ltb, leb, List, ◌++◌, Option, Some, refl, sym, ap, ◌∙◌, subst, arith, inl, inr}
+use Rattle.std.proofs.Common.{◌≡◌, ℕ, ◌+◌, ◌<◌, ◌≤◌, Bool, true, not, cond, ◌&&◌, ◌||◌, eqb, ltb, leb, List, Option, refl, sym, ap, ◌∙◌, subst, arith, inl, inr}
 use Rattle.std.proofs.lemmas.Bool.{and_parts, and_from, cases_Bool, leb-true, both_ways}
 use Rattle.j39_findings.specs.declared.plan.timing.Timing.{Timing}
 use Rattle.j39_load.specs.declared.flow_frames.FlowFrames.{FlowFrames}
-use Rattle.j39_load.specs.Damage.{damage_frames}
 use Rattle.j39_load.specs.PlannedFrames.{AreFramesInAnyOrder, KeepToCompany, company_of, others_of, planned_at}
-use Rattle.j39_timing.specs.AnyOrder.{Controllers, IsLegalInAnyOrder}
+use Rattle.j39_timing.specs.AnyOrder.{Controllers}
 use Rattle.j39_timing.specs.Companies.{Company, CompanyWaits, is_unplanned_queued, is_with_company, unplanned_queued}
 use Rattle.j39_timing.specs.FrameBits.{longest_frame}
 use Rattle.j39_timing.specs.FrameStreams.{AreOfStreams, Origins}
 use Rattle.j39_timing.specs.Prefixes.{IsPlannedUntil, planned_until, seen_until}
-use Rattle.j39_timing.specs.Sums.{total}
 use Rattle.j39_timing.specs.TimedFrames.{Schedule}
 use Rattle.j39_timing.specs.Traffic.{AreAsWanted, moments_in}
-use Rattle.j39_timing.specs.Waits.{Demand, demand_of, frames_wanted}
-use Rattle.j39_timing.specs.declared.stream.Stream.{Stream}
 use Rattle.j39_timing.proofs.Prefixes.{is_planned_then, its_own, then_is_planned, then_known}
 use Rattle.j39_timing.proofs.Sums.{total-le}
 use Rattle.j39_age_laws.specs.ForwardedStreams.{KeepsOtherwise, streams_of}
@@ -96,7 +92,8 @@ module _ (timing : Timing) (all : List (Option FlowFrames)) (s : Schedule) (cont
 
       fewer : (from to : ℕ) → to < by → unplanned_queued then_seen then_planned from to ≤ unplanned_queued s planned from to
       fewer from to before =
-          total-le s.count (λ q. cond (is_unplanned_queued then_seen then_planned from to q) 1 0) (λ q. cond (is_unplanned_queued s planned from to q) 1 0) (λ q in_q.
+          total-le s.count (λ q. cond (is_unplanned_queued then_seen then_planned from to q) 1 0) (λ q. cond (is_unplanned_queued s planned from to q) 1 0)
+          (λ q in_q.
           elim (cases_Bool (is_unplanned_queued then_seen then_planned from to q)) [
             | inr fails ↦ rw (fails) (omega arith)
             | inl it ↦
@@ -107,7 +104,8 @@ module _ (timing : Timing) (all : List (Option FlowFrames)) (s : Schedule) (cont
                   | inl is ↦ absurd (both_ways (not (then_planned q)) (ap not (then_is_planned s planned by q is (omega arith))) one.0)
                   | inr unplanned_one ↦ rw (unplanned_one) refl
                 ] in
-                let there : is_unplanned_queued s planned from to q ≡ true = and_from (not (planned q)) (leb (s.queued q) to && ltb from (s.start q)) isnt one.1 in
+                let there : is_unplanned_queued s planned from to q ≡ true = and_from (not (planned q)) (leb (s.queued q) to && ltb from
+                (s.start q)) isnt one.1 in
                 rw (it, there) (omega arith)
           ])
 

@@ -1,13 +1,9 @@
 -- How old a value is where it is received.
-use Rattle.std.proofs.Common.{◌≡◌, ℕ, ◌+◌, ◌-◌, ◌<◌, ◌≤◌, List, [], length, Option, Some, arith}
+use Rattle.std.proofs.Common.{◌-◌, length, arith}
 use Rattle.j39_vehicle.specs.declared.vehicle.Vehicle.{Vehicle}
-use Rattle.j39_paths.specs.VehicleFindings.{AreFindings}
-use Rattle.j39_paths.specs.declared.point.Point.{Point}
 use Rattle.j39_ages.specs.declared.bus_delays.Delays.{Delays}
-use Rattle.j39_ages.specs.Times.{age, behind, old, silent, sum_known}
-use Rattle.j39_ages.specs.BusDelays.{AreDelays}
-use Rattle.j39_age_laws.specs.Seen.{SeenBuses}
-use Rattle.j39_age_laws.specs.YoungValues.{AreAgesBounds, IsBroughtYoung, IsSeenVehicle, KeepPauses, itself}
+use Rattle.j39_ages.specs.Times.{behind, old, silent, sum_known}
+use Rattle.j39_age_laws.specs.YoungValues.{AreAgesBounds, itself}
 use Rattle.j39_age_laws.proofs.Behind.{is_behind}
 use Rattle.j39_age_laws.proofs.Old.{old_at_most}
 use Rattle.j39_age_laws.proofs.Parts.{sum_some}
@@ -22,7 +18,8 @@ brought_young v delays none told seen p most from t known room is pauses =
     let (q, its, before, near) = keeps (t - time) (omega arith) (omega arith) in
     let begun = ends.begun q its (omega arith) in
     let ended = ends.ended q begun in
-    let (born, says, so) = old_at_most v delays none told seen t is p from pauses (length v.forwards.items) p old_p itself of_old (length v.forwards.items) time of_time
+    let (born, says, so, past) = old_at_most v delays none told seen t is p from pauses (length v.forwards.items) p old_p itself of_old
+    (length v.forwards.items) time of_time
     q its (omega arith) (omega arith) in
     record {
       frame = q;
@@ -30,5 +27,6 @@ brought_young v delays none told seen p most from t known room is pauses =
       ended = omega arith;
       born = born;
       says = says;
+      past = omega arith;
       young = omega arith;
     }

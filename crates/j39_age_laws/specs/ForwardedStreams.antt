@@ -1,5 +1,5 @@
 -- What a bus has to keep of its plan where gateways send on to it directly: of what these send it isn't asked when it is queued.
-use Rattle.std.specs.Prelude.{◌≡◌, ◌≢◌, ℕ, ◌+◌, ◌<◌, ◌≤◌, ◌⊎◌, Bool, true, false, List, [], ◌++◌, length, Option, Some, None}
+use Rattle.std.specs.Prelude.{◌≡◌, ◌≢◌, ℕ, ◌+◌, ◌<◌, ◌≤◌, ◌⊎◌, Bool, true, false, List, ◌++◌, Option, Some}
 use Rattle.std.specs.List.{slice_get}
 use Rattle.j39_findings.specs.declared.plan.flow_plan.FlowPlan.{FlowPlan}
 use Rattle.j39_findings.specs.declared.plan.timing.Timing.{Timing}
@@ -11,10 +11,9 @@ use Rattle.j39_load.specs.Damage.{damage_frames}
 use Rattle.j39_load.specs.PlannedFrames.{KeepToCompany, company_of, others_of, planned_at, traffic_of}
 use Rattle.j39_timing.specs.AnyOrder.{Controllers, IsLegalInAnyOrder, IsUnordered}
 use Rattle.j39_timing.specs.FrameBits.{longest_frame}
-use Rattle.j39_timing.specs.FrameStreams.{AreOfStreams, KeepsStream, Origins}
+use Rattle.j39_timing.specs.FrameStreams.{KeepsStream, Origins}
 use Rattle.j39_timing.specs.TimedFrames.{Schedule, Waits}
-use Rattle.j39_timing.specs.Traffic.{AreAsWanted, IsQueuedAt, Others, PlannedFramesWait, Traffic, may_share, others_queued}
-use Rattle.j39_timing.specs.declared.stream.Stream.{Stream}
+use Rattle.j39_timing.specs.Traffic.{AreAsWanted, IsQueuedAt, PlannedFramesWait, Traffic, may_share, others_queued}
 use Rattle.j39_vehicle.specs.declared.vehicle.Vehicle.{Vehicle}
 use Rattle.j39_vehicle.specs.declared.vehicle.forward.Forward.{Forward}
 use Rattle.j39_paths.specs.declared.point.FlowAt.{FlowAt}
@@ -58,7 +57,8 @@ pub record IsOtherwiseKept (v : Vehicle) (delays : Delays) (b : ℕ) (timing : T
   pub own : (p : ℕ) → p < bus.schedule.count → bus.planned p ≡ true → ¬ IsSentOn v delays (record { bus = b; flow = bus.of.source p })
       → KeepsStream bus.schedule (streams_of timing all).count (streams_of timing all).stream bus.of p
   pub sent_on : (p : ℕ) → p < bus.schedule.count → bus.planned p ≡ true → IsSentOn v delays (record { bus = b; flow = bus.of.source p })
-      → (bus.of.source p < (streams_of timing all).count) × (bus.schedule.bits p ≤ ((streams_of timing all).stream (bus.of.source p)).bits) × (bus.of.turn p < ((streams_of timing all).stream (bus.of.source p)).frames)
+      → (bus.of.source p < (streams_of timing all).count) × (bus.schedule.bits p ≤ ((streams_of timing all).stream (bus.of.source p)).bits)
+      × (bus.of.turn p < ((streams_of timing all).stream (bus.of.source p)).frames)
   pub spaced : (p q : ℕ) → p < bus.schedule.count → q < bus.schedule.count → p ≢ q → bus.planned p ≡ true → bus.planned q ≡ true
       → ¬ IsSentOn v delays (record { bus = b; flow = bus.of.source p }) → bus.of.source p ≡ bus.of.source q → bus.of.turn p ≡ bus.of.turn q
       → (bus.of.since p + ((streams_of timing all).stream (bus.of.source p)).period ≤ bus.of.since q)
@@ -87,7 +87,8 @@ pub record IsForwardTimely (v : Vehicle) (delays : Delays) (at : FlowAt) (n : Fo
   pub no_nearer : (p : ℕ) → period_of flow ≡ Some p → (q : ℕ) × (period_of other ≡ Some q) × (p ≤ q)
 
 abbrev pub AreForwardsTimely : Vehicle → Delays → Type 0
-AreForwardsTimely v delays = (at : FlowAt) (bits : ℕ) (n : Forward) → delay_at delays at ≡ Some bits → direct_feeder v at ≡ Some n → IsForwardTimely v delays at n
+AreForwardsTimely v delays = (at : FlowAt) (bits : ℕ) (n : Forward) → delay_at delays at ≡ Some bits → direct_feeder v at ≡ Some n
+    → IsForwardTimely v delays at n
 
 -- where gateways are prompt, each frame of a bus keeps to its stream, those that are sent on directly too
 abbrev pub AreStreamsKept : Vehicle → Delays → Type 0

@@ -2,4 +2,5 @@ pub mod ForwardedStreams
 pub mod KeptBuses
 pub mod Prompt
 pub mod Seen
+pub mod VehicleAges
 pub mod YoungValues

@@ -1,6 +1,5 @@
 -- Gateways that send on in time: directly, for each message that ends one of their own; or at their own moments, the newest that they have.
 use Rattle.std.specs.Prelude.{◌≡◌, ℕ, ◌+◌, ◌<◌, ◌≤◌, true, false, Option, Some, None}
-use Rattle.std.specs.List.{slice_get}
 use Rattle.std.specs.Option.{option_and_then}
 use Rattle.j39_vehicle.specs.declared.vehicle.Vehicle.{Vehicle}
 use Rattle.j39_vehicle.specs.declared.vehicle.forward.Forward.{Forward}
@@ -14,8 +13,8 @@ use Rattle.j39_ages.specs.Times.{behind, delay_at, direct_feeder, forward_at, in
 use Rattle.j39_age_laws.specs.Seen.{SeenBuses, frames_at}
 
 -- a delay is told of the flow: each of its messages goes in one frame
-abbrev pub HasDelay : Delays → FlowAt → Type 0
-HasDelay delays at = (bits : ℕ) × (delay_at delays at ≡ Some bits)
+abbrev pub IsDelayTold : Delays → FlowAt → Type 0
+IsDelayTold delays at = (bits : ℕ) × (delay_at delays at ≡ Some bits)
 
 -- what is said of signal t of flow y is what was said of signal s of flow x, by the forward at a place
 pub record LeadsTo (v : Vehicle) (n : ℕ) (x : FlowAt) (s : Option ℕ) (y : FlowAt) (t : Option ℕ) : Type 0 where
@@ -48,7 +47,7 @@ pub record IsSentAtItsBeat (v : Vehicle) (seen : SeenBuses) (n : ℕ) (x y : Flo
 -- all gateways do so, of flows of which a delay is told; no message is too old for them before the next one has to be there
 pub record ArePrompt (v : Vehicle) (delays : Delays) (seen : SeenBuses) : Type 0 where
   pub direct : (n : ℕ) (forward : Forward) (x y : FlowAt) (within : ℕ) → SendsOn v n forward x y within → is_direct forward ≡ true
-      → HasDelay delays x → HasDelay delays y → IsSentDirectly v seen n x y within
+      → IsDelayTold delays x → IsDelayTold delays y → IsSentDirectly v seen n x y within
   pub periodic : (n : ℕ) (forward : Forward) (x y : FlowAt) (within pause time : ℕ) → SendsOn v n forward x y within → is_direct forward ≡ false
       → silent v x ≡ Some pause → behind v delays x ≡ Some time → IsSentAtItsBeat v seen n x y within (pause + (time + within))
 
@@ -63,7 +62,7 @@ IsSentOn v delays at = (from : FlowAt) × (sent_from v delays at ≡ Some from)
 abbrev pub HaveOwnMoments : Vehicle → Delays → SeenBuses → Type 0
 HaveOwnMoments v delays seen = (at : FlowAt) → ¬ IsSentOn v delays at → HasOwnMoments (frames_at v seen at)
 
--- at its origin a message says what is so at its moment or later
+-- at its origin a message says what is so at its moment, or later, when it is queued at the latest
 abbrev pub SayWhatIsSo : Vehicle → SeenBuses → Type 0
 SayWhatIsSo v seen = (p : Point) → next_forward v p ≡ None → (q : ℕ) → IsIts (frames_at v seen p.at) q
-    → (time : ℕ) × ((seen p.at.bus).born q p.signal ≡ Some time) × ((seen p.at.bus).moment q ≤ time)
+    → (time : ℕ) × ((seen p.at.bus).born q p.signal ≡ Some time) × ((seen p.at.bus).moment q ≤ time) × (time ≤ queue_time (frames_at v seen p.at) q)

@@ -30,14 +30,14 @@ abbrev pub pause_at : Vehicle → FlowAt → Option ℕ
 pause_at v at = option_and_then pause_of (unasked_at v at)
 
 -- from one time to another, a message of the flow has had its moment less than its pause ago
-abbrev pub KeepsPause : Vehicle → SeenBuses → FlowAt → ℕ → ℕ → Type 0
-KeepsPause v seen at from to = (pause : ℕ) → pause_at v at ≡ Some pause → (t : ℕ) → from ≤ t → t ≤ to
+abbrev pub KeepsItsPause : Vehicle → SeenBuses → FlowAt → ℕ → ℕ → Type 0
+KeepsItsPause v seen at from to = (pause : ℕ) → pause_at v at ≡ Some pause → (t : ℕ) → from ≤ t → t ≤ to
     → (p : ℕ) × IsIts (frames_at v seen at) p × ((seen at.bus).moment p ≤ t) × (t < (seen at.bus).moment p + pause)
 
 -- so do all on the way that have moments of their own: the origin's flow, and those that gateways send at their own beat
 abbrev pub KeepPauses : Vehicle → SeenBuses → Point → ℕ → ℕ → Type 0
 KeepPauses v seen p from to = (q : Point) → IsOnTheWay v p q → (at : FlowAt) → ComesDirectly v q.at at → direct_feeder v at ≡ None
-    → KeepsPause v seen at from to
+    → KeepsItsPause v seen at from to
 
 -- by this time a frame of the flow has ended that says of the signal what was so at its origin less than `age` before
 pub record IsBroughtYoung (v : Vehicle) (seen : SeenBuses) (p : Point) (age t : ℕ) : Type 0 where
@@ -46,6 +46,7 @@ pub record IsBroughtYoung (v : Vehicle) (seen : SeenBuses) (p : Point) (age t : 
   pub ended : end_time (frames_at v seen p.at) frame ≤ t
   pub born : ℕ
   pub says : (seen p.at.bus).born frame p.signal ≡ Some born
+  pub past : born ≤ t
   pub young : t < born + age
 
 -- what is asked of what is seen of a vehicle up to a time: its buses keep to their plans, and its gateways are prompt

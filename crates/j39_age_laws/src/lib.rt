@@ -3,4 +3,4 @@
 
 mod laws;
 
-pub use laws::{ages_are_bounds, gateways_keep_to_plans};
+pub use laws::{ages_are_bounds, gateways_keep_to_plans, sound_vehicles_keep_ages};

@@ -1,9 +1,9 @@
 -- The list of findings of times has exactly what holds, in order.
 use Rattle.std.proofs.Common.{◌≡◌, ℕ, ◌<◌, ◌≤◌, ◌⊎◌, List, [], ◌∷◌, ◌++◌, Bool, Contains, Decides, refl, sym, ap, ◌∙◌, subst, inl, inr, arith}
 use Rattle.std.proofs.lemmas.List.Elements.{Contains-append_cases, Contains-append_left, Contains-append_right}
-use Rattle.j39_findings.specs.ListPlaces.{ValueAt, each}
-use Rattle.j39_findings.proofs.Members.{each_of, of_each}
-use Rattle.j39_findings.proofs.Rising.{AllPairs-from_Rises, Rises, Rises-append, Rises-each}
+use Rattle.j39_rules.specs.ListPlaces.{ValueAt, each}
+use Rattle.j39_rules.proofs.Members.{each_of, of_each}
+use Rattle.j39_rules.proofs.Rising.{AllPairs-from_Rises, Rises, Rises-append, Rises-each}
 use Rattle.j39_vehicle.specs.declared.vehicle.Vehicle.{Vehicle}
 use Rattle.j39_ages.specs.declared.bus_delays.Delays.{Delays}
 use Rattle.j39_ages.specs.declared.finding.TimeFinding.{TimeFinding}

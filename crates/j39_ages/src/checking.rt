@@ -1,7 +1,7 @@
 //! Everything that is wrong with the times of what the gateways of a vehicle send on.
 ghost use Rattle.std.specs.Prelude.{◌≡◌, ◌≢◌, ℕ, Bool, [], IfOk, OnErr};
-ghost use Rattle.j39_findings.specs.Adding.{Adds};
-ghost use Rattle.j39_findings.specs.ListPlaces.{each, found_if};
+ghost use Rattle.j39_rules.specs.Adding.{Adds};
+ghost use Rattle.j39_rules.specs.ListPlaces.{each, found_if};
 ghost use Rattle.j39_ages.specs.FoundTimes.{forward_time_findings, is_need_too_old, is_too_late, is_too_often, is_too_rare, need_time_findings, time_findings};
 
 use crate::bus_delays::Delays;

@@ -1,6 +1,6 @@
 //! By which flow a need across buses is met, and how old what it brings is.
 ghost use Rattle.std.specs.Prelude.{◌≡◌, Some};
-ghost use Rattle.j39_findings.specs.ListPlaces.{in_each};
+ghost use Rattle.j39_rules.specs.ListPlaces.{in_each};
 ghost use Rattle.j39_ages.specs.FoundTimes.{flow_of_need, is_need_too_old, is_older, is_younger, joined, need_flow_at, need_flows_at, younger_of, youngest};
 
 use crate::ages::age;

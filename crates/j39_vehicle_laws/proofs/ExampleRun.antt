@@ -7,7 +7,7 @@ use Rattle.std.proofs.lemmas.Bool.{false≢true}
 use Rattle.std.proofs.lemmas.Option.{none-some, same_Some}
 use Rattle.j39_signal.specs.Parts.{SignalParts}
 use Rattle.j39_findings.specs.Findings.{Meets}
-use Rattle.j39_findings.specs.ListPlaces.{each, in_each, pairs}
+use Rattle.j39_rules.specs.ListPlaces.{each, in_each, pairs}
 use Rattle.j39_findings.specs.declared.plan.group_plan.GroupPlan.{GroupPlan}
 use Rattle.j39_world.specs.Run.{Run}
 use Rattle.j39_world.specs.Transfers.{Begun}

@@ -1,4 +1,4 @@
-use Rattle.j39_findings.proofs.AddingLemmas.{adds_behind, refuses, some_left}
+use Rattle.j39_rules.proofs.AddingLemmas.{adds_behind, refuses, some_left}
 use Rattle.j39_ages.specs.FoundTimes.{time_findings}
 use Rattle.j39_ages.proofs.checking.find_all.Goals as goal
 

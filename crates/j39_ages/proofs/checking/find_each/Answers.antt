@@ -1,7 +1,7 @@
 use Rattle.std.proofs.Common.{◌≤◌, length, sym, ◌∙◌, arith}
-use Rattle.j39_findings.specs.ListPlaces.{each, found_if}
-use Rattle.j39_findings.proofs.AddingLemmas.{refuses, some_in_each}
-use Rattle.j39_findings.proofs.PlaceLemmas.{each_all, each_more}
+use Rattle.j39_rules.specs.ListPlaces.{each, found_if}
+use Rattle.j39_rules.proofs.AddingLemmas.{refuses, some_in_each}
+use Rattle.j39_rules.proofs.PlaceLemmas.{each_all, each_more}
 use Rattle.j39_ages.proofs.checking.find_each.Goals as goal
 
 pub returns-in_err-push_if : goal.returns-in_err-push_if

@@ -1,5 +1,5 @@
 use Rattle.std.proofs.Common.{◌≡◌, ◌++◌, drop}
-use Rattle.j39_findings.specs.ListPlaces.{each}
+use Rattle.j39_rules.specs.ListPlaces.{each}
 use Rattle.j39_ages.proofs.checking.find_each.Given as goal
 
 abbrev pub invariant-loop-place : goal.invariant-loop-place

@@ -1,5 +1,5 @@
-use Rattle.j39_findings.specs.ListPlaces.{each}
-use Rattle.j39_findings.proofs.AddingLemmas.{adds_behind, refuses, some_left, some_right}
+use Rattle.j39_rules.specs.ListPlaces.{each}
+use Rattle.j39_rules.proofs.AddingLemmas.{adds_behind, refuses, some_left, some_right}
 use Rattle.j39_ages.specs.FoundTimes.{forward_time_findings}
 use Rattle.j39_ages.proofs.checking.find_in_forwards.Goals as goal
 

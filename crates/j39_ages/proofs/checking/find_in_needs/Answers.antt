@@ -1,4 +1,4 @@
-use Rattle.j39_findings.specs.ListPlaces.{each}
+use Rattle.j39_rules.specs.ListPlaces.{each}
 use Rattle.j39_ages.specs.FoundTimes.{need_time_findings}
 use Rattle.j39_ages.proofs.checking.find_in_needs.Goals as goal
 

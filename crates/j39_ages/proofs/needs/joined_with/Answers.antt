@@ -1,5 +1,5 @@
 use Rattle.std.proofs.Common.{◌≡◌, false, sym, ap, ◌∙◌}
-use Rattle.j39_findings.specs.ListPlaces.{found_if}
+use Rattle.j39_rules.specs.ListPlaces.{found_if}
 use Rattle.j39_paths.specs.FoundPaths.{is_need_flow}
 use Rattle.j39_ages.specs.FoundTimes.{joined, need_flow_at, youngest}
 use Rattle.j39_ages.proofs.Youngest.{joined_none}

@@ -1,6 +1,6 @@
 use Rattle.std.proofs.Common.{◌≡◌, ◌≤◌, ◌+◌, [], length, drop, sym, ap, ◌∙◌, arith}
-use Rattle.j39_findings.specs.ListPlaces.{in_each}
-use Rattle.j39_findings.proofs.PlaceLemmas.{in_each_all, in_each_more}
+use Rattle.j39_rules.specs.ListPlaces.{in_each}
+use Rattle.j39_rules.proofs.PlaceLemmas.{in_each_all, in_each_more}
 use Rattle.j39_ages.specs.FoundTimes.{joined, need_flows_at, youngest}
 use Rattle.j39_ages.proofs.Youngest.{joined_assoc, joined_none, youngest_append}
 use Rattle.j39_ages.proofs.needs.youngest_of.Goals as goal

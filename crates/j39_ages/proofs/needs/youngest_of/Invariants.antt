@@ -1,5 +1,5 @@
 use Rattle.std.proofs.Common.{◌≡◌, drop}
-use Rattle.j39_findings.specs.ListPlaces.{in_each}
+use Rattle.j39_rules.specs.ListPlaces.{in_each}
 use Rattle.j39_ages.specs.FoundTimes.{joined, need_flows_at, youngest}
 use Rattle.j39_ages.proofs.needs.youngest_of.Given as goal
 
