@@ -88,7 +88,13 @@ pub(super) fn write_group_at(
 ) -> Result<(), AllocError>
     ensures { OnOk result (text.new ≡ text.old ++ group_text_at word.now vehicle.now place) }
 {
-    write_name(text, word, vehicle, place.bus, group_label_at(vehicle, place))
+    write_name(
+        text,
+        word,
+        vehicle,
+        place.bus,
+        group_label_at(vehicle, place),
+    )
 }
 
 /// Writes a word and a unit, as `BUS.UNIT`.
@@ -101,5 +107,11 @@ pub(super) fn write_unit_at(
 ) -> Result<(), AllocError>
     ensures { OnOk result (text.new ≡ text.old ++ unit_text_at word.now vehicle.now place) }
 {
-    write_name(text, word, vehicle, place.bus, unit_label_at(vehicle, place))
+    write_name(
+        text,
+        word,
+        vehicle,
+        place.bus,
+        unit_label_at(vehicle, place),
+    )
 }
