@@ -4,13 +4,14 @@ use Rattle.std.specs.declared.vec.Vec.{Vec}
 use Rattle.std.specs.Io.KnownBytes.{Appends}
 use Rattle.j39_app.specs.Answers.{IsAnswerOfTwo, IsOfSome}
 use Rattle.j39_app.specs.Known.{AreLeft, AreOfPlan, MayBeTooLong, Names}
-use Rattle.j39_app.specs.VehicleAnswers.{ArePlansText, IsAnswerOfVehicle, IsBusRefusedBy, IsOfBus, IsOfSomeBus, IsOfVehicleFiles, IsSomeBusRefused, IsTextOfBusFile}
+use Rattle.j39_app.specs.VehicleAnswers.{ArePlansText, IsAnswerOfVehicle, IsBusRefusedBy, IsOfBus, IsOfSomeBus, IsOfVehicleFiles, IsSomeBusRefused, IsTextOfBusFile, IsTextOfBuses}
 use Rattle.j39_stream.specs.Streams.{AppendsPart, HasFailed, SinkState, SourceState, log_limits, plan_limits}
 use Rattle.j39_stream.specs.declared.fault.Fault.{Fault}
 use Rattle.j39_stream.specs.declared.fault.Fault.TheVariants.{Device, TooLong}
 use Rattle.j39_stream.specs.declared.limits.Limits.{Limits}
 use Rattle.j39_stream.specs.declared.verdict.Verdict.{Verdict}
 use Rattle.j39_findings.specs.declared.plan.Plan.{Plan}
+use Rattle.j39_vehicle.specs.declared.file.VehicleFile.{VehicleFile}
 use Rattle.j39_vehicle.specs.declared.file.bus_table.BusTable.{BusTable}
 use Rattle.j39_vehicle.specs.declared.vehicle.bus_plan.BusPlan.{BusPlan}
 use Rattle.j39_words.specs.declared.orders.Order.{Order}
@@ -99,3 +100,11 @@ EndsByBuses stays_shut files state_of vehicle tables state told ended result =
     Ends (λ text buses. ArePlansText files vehicle tables text (option_map (λ v. v.items) buses)) (IsSomeBusRefused files vehicle tables) (Unit {0})
     (IsOfSomeBus files vehicle (λ table name. MayBeTooLong plan_limits (files name)) tables)
     (IsOfSomeBus files vehicle (λ table name. HasFileFailed stays_shut files state_of name) tables) state told ended result
+
+-- and of what writes of a vehicle file that was read
+abbrev pub EndsByPlans : {File W : Type 0} → (List ℕ → Type 0) → Names → (File → SourceState) → List ℕ → VehicleFile → (W → SinkState) → W → W
+    → Result Verdict Fault → Type 0
+EndsByPlans stays_shut files state_of vehicle file state told ended result =
+    Ends (IsTextOfBuses files vehicle file) (IsOfSome (IsTextOfBuses files vehicle file)) (Unit {0})
+    (IsOfSomeBus files vehicle (λ table name. MayBeTooLong plan_limits (files name)) file.buses.items)
+    (IsOfSomeBus files vehicle (λ table name. HasFileFailed stays_shut files state_of name) file.buses.items) state told ended result
