@@ -1,5 +1,6 @@
 -- What the faults of an order come of, and what stands written then.
 use Rattle.std.specs.Prelude.{◌≡◌, ◌≢◌, ◌⊎◌, ℕ, List, Option, Result, Err, IfOk, OnOk, OnErr, IsErrOf, option_map, string_bytes}
+use Rattle.std.specs.declared.alloc.Global.{Global}
 use Rattle.std.specs.declared.vec.Vec.{Vec}
 use Rattle.std.specs.Io.KnownBytes.{Appends}
 use Rattle.j39_app.specs.Answers.{IsAnswerOfTwo, IsOfSome}
@@ -95,7 +96,7 @@ EndsByBus stays_shut files state_of vehicle table state told ended result =
 
 -- and of what reads those of all buses
 abbrev pub EndsByBuses : {File W : Type 0} → (List ℕ → Type 0) → Names → (File → SourceState) → List ℕ → List BusTable → (W → SinkState) → W → W
-    → Result (Option (Vec BusPlan)) Fault → Type 0
+    → Result (Option (Vec BusPlan Global)) Fault → Type 0
 EndsByBuses stays_shut files state_of vehicle tables state told ended result =
     Ends (λ text buses. ArePlansText files vehicle tables text (option_map (λ v. v.items) buses)) (IsSomeBusRefused files vehicle tables) (Unit {0})
     (IsOfSomeBus files vehicle (λ table name. MayBeTooLong plan_limits (files name)) tables)
