@@ -85,7 +85,10 @@ impl Folder for Parts<'_> {
 }
 
 // How the command ends on the files, and whether it writes this.
-fn answered(files: &Parts<'_>, shown: &str) -> Result<(Result<Verdict, Fault>, bool), anyhow::Error> {
+fn answered(
+    files: &Parts<'_>,
+    shown: &str,
+) -> Result<(Result<Verdict, Fault>, bool), anyhow::Error> {
     let alloc = files.alloc;
     let piece = files.piece.max(1);
     let name = files.parts.first().map_or("", |part| part.name);

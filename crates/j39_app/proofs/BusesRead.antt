@@ -1,7 +1,12 @@
 -- The loop over the buses of a vehicle: those whose plans were read stand before those that are left.
-use Rattle.std.proofs.Common.{◌≡◌, ℕ, ◌+◌, List, [], ◌∷◌, ◌++◌, length, refl, sym, ap, ◌∙◌, subst, append_assoc}
+use Rattle.std.proofs.Common.{◌≡◌, ℕ, ◌+◌, List, [], ◌∷◌, ◌++◌, Some, length, refl, sym, ap, ◌∙◌, subst, append_assoc}
 use Rattle.std.proofs.lemmas.List.{append-nil}
 use Rattle.std.specs.List.{AllZip}
+use Rattle.j39_app.specs.Known.{Names}
+use Rattle.j39_app.specs.VehicleAnswers.{IsOfBus, IsOfSomeBus, IsPlanOfBus, IsTextOfBusFile}
+use Rattle.j39_findings.specs.declared.plan.Plan.{Plan}
+use Rattle.j39_vehicle.specs.declared.file.bus_table.BusTable.{BusTable}
+use Rattle.j39_vehicle.specs.declared.vehicle.bus_plan.BusPlan.{BusPlan}
 
 pub record AreRead {S T : Type 0} (IsOf : S → T → Type 0) (left all : List S) (found : List T) : Type 0 where
   pub before : List S
@@ -28,3 +33,25 @@ one_more IsOf x left all found y so is = record {
 
 pub all_read : {S T : Type 0} (IsOf : S → T → Type 0) (all : List S) (found : List T) → AreRead IsOf [] all found → AllZip IsOf all found
 all_read IsOf all found so = subst (λ xs. AllZip IsOf xs found) (sym (so.all_are ∙ append-nil so.before)) so.read
+
+module _ (files : Names) (vehicle : List ℕ) where
+  -- so it is with the next bus
+  pub some_bus : {IsOf : BusTable → List ℕ → Type 0} (table : BusTable) (left all : List BusTable) (buses : List BusPlan)
+      → AreRead (IsPlanOfBus files vehicle) (table ∷ left) all buses → IsOfBus (IsOf table) vehicle table → IsOfSomeBus files vehicle IsOf all
+  some_bus table left all buses so is = record {
+    before = so.before;
+    table = table;
+    rest = left;
+    tables_are = so.all_are;
+    buses = buses;
+    read = so.read;
+    is_of = is;
+  }
+
+  -- the bus whose plan was read
+  pub plan_read : (table : BusTable) (plan : Plan) (text : List ℕ) → IsTextOfBusFile files vehicle table text (Some plan)
+      → IsPlanOfBus files vehicle table (record { label = table.label; plan = plan })
+  plan_read table plan text (name, named, (bytes, of, (described, nothing))) = record {
+    label = refl;
+    described = (name, named, (bytes, of, described));
+  }

@@ -89,3 +89,10 @@ module _ {V W : Type 0} {IsText : List ℕ → V → Type 0} {IsPart : List ℕ 
     long = λ e. cc e;
     device = λ e. cc e;
   }
+
+-- what follows a part that wrote nothing
+pub continues : {V W : Type 0} {IsText : List ℕ → V → Type 0} {IsPart : List ℕ → Type 0} {IsTooLong IsBroken : Type 0} {state : W → SinkState}
+    {told middle ended : W} {r : Result V Fault} → middle ≡ told → Ends IsText IsPart (Unit {0}) IsTooLong IsBroken state middle ended r
+    → Ends IsText IsPart (Unit {0}) IsTooLong IsBroken state told ended r
+continues {V} {W} {IsText} {IsPart} {IsTooLong} {IsBroken} {state} {told} {middle} {ended} {r} same ends =
+    subst (λ (w : W). Ends IsText IsPart (Unit {0}) IsTooLong IsBroken state w ended r) same ends

@@ -53,8 +53,8 @@ ArePlansText files vehicle tables text (Some buses) = AllZip (IsPlanOfBus files 
 ArePlansText files vehicle tables text None = IsSomeBusRefused files vehicle tables text
 
 -- what is written of the plan of a bus
-abbrev pub IsTextOfBus : Names → List ℕ → BusTable → List ℕ → Option Plan → Type 0
-IsTextOfBus files vehicle table text plan =
+abbrev pub IsTextOfBusFile : Names → List ℕ → BusTable → List ℕ → Option Plan → Type 0
+IsTextOfBusFile files vehicle table text plan =
     IsOfBus (λ name. (bytes : List ℕ) × AreOf (files name) bytes × IsBusPlanText table.label.bytes bytes text plan) vehicle table
 
 -- what is written of what a vehicle file says, with the verdict: the first bus whose file describes no plan, or what is wrong with the vehicle
@@ -69,6 +69,6 @@ IsAnswerOfVehicle files vehicle text verdict = (bytes : List ℕ) × AreOf (file
     × ((IsRefusedVehicle bytes text × (verdict ≡ Unreadable)) ⊎ ((file : VehicleFile) × SaysOfVehicle bytes file × IsTextOfBuses files vehicle file text verdict))
 
 -- it is so of the vehicle file, or, where this one says what a vehicle has, of the file of a bus, once those before describe plans
-abbrev pub IsOfVehicle : (List ℕ → Type 0) → Names → List ℕ → Type 0
-IsOfVehicle IsOf files vehicle = IsOf vehicle ⊎ ((bytes : List ℕ) × (file : VehicleFile) × AreOf (files vehicle) bytes × SaysOfVehicle bytes file
+abbrev pub IsOfVehicleFiles : (List ℕ → Type 0) → Names → List ℕ → Type 0
+IsOfVehicleFiles IsOf files vehicle = IsOf vehicle ⊎ ((bytes : List ℕ) × (file : VehicleFile) × AreOf (files vehicle) bytes × SaysOfVehicle bytes file
     × IsOfSomeBus files vehicle (λ table name. IsOf name) file.buses.items)

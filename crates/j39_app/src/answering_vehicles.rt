@@ -2,7 +2,7 @@
 ghost use Rattle.std.specs.Prelude.{◌≡◌, ◌≢◌, ◌++◌, ◌∷◌, [], IfOk, IfSome, OnErr, OnOk, OnSome, length};
 ghost use Rattle.std.specs.Option.{option_map};
 ghost use Rattle.j39_app.specs.Answers.{IsOfBytes};
-ghost use Rattle.j39_app.specs.Faults.{EndsByBus, EndsByBuses, EndsByFile, EndsByVehicle};
+ghost use Rattle.j39_app.specs.Faults.{EndsByBus, EndsByBuses, EndsByFile, EndsByPlans, EndsByVehicle};
 ghost use Rattle.j39_app.specs.VehicleAnswers.{IsRefusedBusOf, IsRefusedVehicleOf};
 ghost use Rattle.j39_stream.specs.CommandEnds.{PutsText};
 ghost use Rattle.j39_stream.specs.Streams.{plan_limits};
@@ -106,6 +106,22 @@ fn vehicle_by<W: Sink>(
     vehicle_text(alloc, file, buses, sink)
 }
 
+// Writes what is wrong with the vehicle of a file, whose plans are read first.
+fn vehicle_with<F: Folder, W: Sink>(
+    alloc: Global,
+    files: &F,
+    vehicle: &str,
+    file: &VehicleFile,
+    sink: &mut W,
+) -> Result<Verdict, Fault>
+    ensures { EndsByPlans (F.stays_shut files.now) (F.bytes_of files.now) F.File.state vehicle.now file.now W.state sink.old sink.new result }
+{
+    match buses_of(alloc, files, vehicle, &file.buses, sink)? {
+        Some(buses) => vehicle_by(alloc, file, buses, sink),
+        None => Ok(Verdict::Unreadable),
+    }
+}
+
 /// Writes what is wrong with a vehicle. The files of its plans are opened once its own was read.
 #[inline(never)]
 pub(super) fn vehicle_files<F: Folder, W: Sink>(
@@ -116,11 +132,8 @@ pub(super) fn vehicle_files<F: Folder, W: Sink>(
 ) -> Result<Verdict, Fault>
     ensures { EndsByVehicle (F.stays_shut files.now) (F.bytes_of files.now) F.File.state vehicle.now W.state sink.old sink.new result }
 {
-    let Some(file) = vehicle_of(alloc, files, vehicle, sink)? else {
-        return Ok(Verdict::Unreadable);
-    };
-    match buses_of(alloc, files, vehicle, &file.buses, sink)? {
-        Some(buses) => vehicle_by(alloc, &file, buses, sink),
+    match vehicle_of(alloc, files, vehicle, sink)? {
+        Some(file) => vehicle_with(alloc, files, vehicle, &file, sink),
         None => Ok(Verdict::Unreadable),
     }
 }

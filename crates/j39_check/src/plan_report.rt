@@ -58,13 +58,7 @@ pub fn write_check(
         write_ok(text, plan)?;
         return Ok(Verdict::Done);
     }
-    write_findings(
-        alloc,
-        text,
-        plan,
-        &found.findings,
-        found.others.as_slice(),
-    )?;
+    write_findings(alloc, text, plan, &found.findings, found.others.as_slice())?;
     Ok(Verdict::Findings)
 }
 

@@ -17,9 +17,13 @@ push [] [] text bus others block are is = (block, [], is, refl, rw are (sym (app
 push [] (o ∷ all) text bus others block are is = absurd are
 push (b ∷ buses) [] text bus others block are is = absurd are
 push (b ∷ buses) (o ∷ all) text bus others block are is =
-    let (first, more, first_is, rest, text_is) = are in
-    (first, more ++ block, first_is, push buses all more bus others block rest is,
-    ap (λ (t : List ℕ). t ++ block) text_is ∙ append_assoc first more block)
+    let (first, more, first_is, rest, text_is) = are in (
+      first,
+      more ++ block,
+      first_is,
+      push buses all more bus others block rest is,
+      ap (λ (t : List ℕ). t ++ block) text_is ∙ append_assoc first more block,
+    )
 
 counted : (buses : List BusPlan) (all : List (List LoadFinding)) (text : List ℕ) (bus : BusPlan) (others : List LoadFinding) → AreBlocks buses all text
     → count_of_plans (buses ++ bus ∷ []) (all ++ others ∷ []) ≡ count_of_plans buses all + count_of bus others
@@ -98,9 +102,14 @@ pub all_written : (all : List BusPlan) (before after : List ℕ) (count : ℕ) (
     → (others : List (List LoadFinding)) × (blocks : List ℕ) × AreBlocks all others blocks × (after ≡ before ++ blocks)
     × (count ≡ count_of_plans all others) × (times ≡ all_are_of_times all others)
 all_written all before after count times so =
-    let same : so.done ≡ all = sym (so.all_are ∙ append-nil so.done) in
-    (so.others, so.blocks, subst (λ bs. AreBlocks bs so.others so.blocks) same so.blocks_are, so.text_is,
-    so.count_is ∙ ap (λ bs. count_of_plans bs so.others) same, so.times_is ∙ ap (λ bs. all_are_of_times bs so.others) same)
+    let same : so.done ≡ all = sym (so.all_are ∙ append-nil so.done) in (
+      so.others,
+      so.blocks,
+      subst (λ bs. AreBlocks bs so.others so.blocks) same so.blocks_are,
+      so.text_is,
+      so.count_is ∙ ap (λ bs. count_of_plans bs so.others) same,
+      so.times_is ∙ ap (λ bs. all_are_of_times bs so.others) same,
+    )
 
 pub few_written : (all : List BusPlan) (before after : List ℕ) (count : ℕ) (times : Bool) → BlocksSoFar [] all before after count times
     → length all ≤ 16 → count ≤ 2 ^ 70

@@ -20,11 +20,12 @@ ok_then (Err e) is says = tt
 pub told_times : (v : Vehicle) (delays : Delays) (old middle new : List ℕ) → AreDelays v delays → middle ≡ old ++ forward_lines v delays
     → new ≡ middle ++ vehicle_need_lines v delays → (found : BeyondPlans) → AreAllFound v delays found
     → (lines : List ℕ) × IsFoundBeyond v true lines found × (new ≡ old ++ lines)
-told_times v delays old middle new are forwards needs found (paths, times, queues) =
-    (forward_lines v delays ++ vehicle_need_lines v delays,
-    (paths, (delays, are, refl, times, queues)),
-    needs ∙ ap (λ (t : List ℕ). t ++ vehicle_need_lines v delays) forwards
-    ∙ append_assoc old (forward_lines v delays) (vehicle_need_lines v delays))
+told_times v delays old middle new are forwards needs found (paths, times, queues) = (
+  forward_lines v delays ++ vehicle_need_lines v delays,
+  (paths, (delays, are, refl, times, queues)),
+  needs ∙ ap (λ (t : List ℕ). t ++ vehicle_need_lines v delays) forwards
+      ∙ append_assoc old (forward_lines v delays) (vehicle_need_lines v delays),
+)
 
 module _ (v : Vehicle) (others : List (List LoadFinding)) (blocks lines : List ℕ) (beyond : BeyondPlans) (count : ℕ) (verdict : Verdict)
     (are : AreBlocks v.buses.items others blocks) (is : IsFoundBeyond v (all_are_of_times v.buses.items others) lines beyond)

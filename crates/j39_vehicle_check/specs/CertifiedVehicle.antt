@@ -11,6 +11,7 @@ use Rattle.j39_paths.specs.Loops.{TellLoops}
 use Rattle.j39_paths.specs.VehicleFindings.{AreFindings}
 use Rattle.j39_ages.specs.BusDelays.{AreDelays}
 use Rattle.j39_ages.specs.FoundTimes.{time_findings}
+use Rattle.j39_ages.specs.TimeFindings.{AreTimeFindings}
 use Rattle.j39_ages.specs.declared.bus_delays.Delays.{Delays}
 
 -- nothing is found in a plan and in what it asks of its bus
@@ -36,4 +37,4 @@ pub record IsCertifiedVehicle (v : Vehicle) : Type 0 where
   -- nor with the times of this
   pub delays : Delays
   pub delays_are : AreDelays v delays
-  pub times : time_findings v delays ≡ []
+  pub times : AreTimeFindings v delays []

@@ -26,12 +26,12 @@ queued_text (Some time) limit = field (codes " queued within ") time ++ (field (
 queued_text None limit = field (codes " late of ") limit ++ codes " us"
 
 -- the same, where it is asked
-unfoldable pub asked_text : Bool → Option ℕ → ℕ → List ℕ
-asked_text is_asked time limit = if is_asked then queued_text time limit else []
+unfoldable pub queued_text_where : Bool → Option ℕ → ℕ → List ℕ
+queued_text_where is_asked time limit = if is_asked then queued_text time limit else []
 
 unfoldable pub forward_line : Vehicle → Delays → ℕ → Forward → List ℕ
 forward_line v delays n forward =
-    forward_text v n forward ++ (asked_text (is_late_asked v n) (queued v delays n) (output_jitter v forward) ++ 10 ∷ [])
+    forward_text v n forward ++ (queued_text_where (is_late_asked v n) (queued v delays n) (output_jitter v forward) ++ 10 ∷ [])
 
 abbrev pub forward_lines : Vehicle → Delays → List ℕ
 forward_lines v delays = lines_of_each (forward_line v delays) 0 v.forwards.items

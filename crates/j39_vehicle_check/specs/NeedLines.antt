@@ -61,9 +61,9 @@ back_text [] = []
 back_text (n ∷ ns) = back_text ns ++ place_field (codes " ") n
 
 -- by which forwards it comes, from the origin on, where there are any
-unfoldable pub way_text : List ℕ → List ℕ
-way_text [] = []
-way_text (n ∷ ns) = codes " by" ++ back_text (n ∷ ns)
+unfoldable pub told_way_text : List ℕ → List ℕ
+told_way_text [] = []
+told_way_text (n ∷ ns) = codes " by" ++ back_text (n ∷ ns)
 
 -- ---- how old it is
 
@@ -82,7 +82,7 @@ need_age_text None None = []
 -- of the flow that meets the need what its origin sends, by which forwards, and how old it is
 unfoldable pub told_text : Vehicle → VehicleNeed → NeedFlow → List ℕ
 told_text v d told = let p = point_on d.unit.bus told.flow d.signal in
-    origin_text v p ++ (way_text (way_back v p) ++ need_age_text told.age d.within)
+    origin_text v p ++ (told_way_text (way_back v p) ++ need_age_text told.age d.within)
 
 unfoldable pub met_text : Vehicle → VehicleNeed → Option NeedFlow → List ℕ
 met_text v d (Some told) = told_text v d told

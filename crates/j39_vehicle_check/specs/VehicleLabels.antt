@@ -25,11 +25,11 @@ unfoldable pub unit_label_at : Vehicle → UnitAt → List ℕ
 unit_label_at v u = option_map_or (λ (bus : BusPlan). unit_label bus.plan u.unit) (slice_get v.buses.items u.bus) []
 
 -- a word, and what stands on a bus, as `BUS.LABEL`
-unfoldable pub name_text : List ℕ → Vehicle → ℕ → List ℕ → List ℕ
-name_text word v b label = word ++ (bus_label v b ++ (codes "." ++ label))
+unfoldable pub name_on_bus_text : List ℕ → Vehicle → ℕ → List ℕ → List ℕ
+name_on_bus_text word v b label = word ++ (bus_label v b ++ (codes "." ++ label))
 
 unfoldable pub group_text_at : List ℕ → Vehicle → GroupAt → List ℕ
-group_text_at word v g = name_text word v g.bus (group_label_at v g)
+group_text_at word v g = name_on_bus_text word v g.bus (group_label_at v g)
 
 unfoldable pub unit_text_at : List ℕ → Vehicle → UnitAt → List ℕ
-unit_text_at word v u = name_text word v u.bus (unit_label_at v u)
+unit_text_at word v u = name_on_bus_text word v u.bus (unit_label_at v u)

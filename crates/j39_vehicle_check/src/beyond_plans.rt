@@ -20,11 +20,7 @@ pub struct BeyondPlans {
 
 impl BeyondPlans {
     /// All of it, where the buses have these delays.
-    pub fn with_times(
-        alloc: Global,
-        vehicle: &Vehicle,
-        delays: &Delays,
-    ) -> Result<Self, AllocError>
+    pub fn with_times(alloc: Global, vehicle: &Vehicle, delays: &Delays) -> Result<Self, AllocError>
         ensures { IfOk result (AreAllFound vehicle.now delays.now) }
     {
         Ok(BeyondPlans {

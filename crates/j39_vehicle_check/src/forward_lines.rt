@@ -7,7 +7,7 @@ ghost use Rattle.j39_paths.specs.Forwards.{output_flows};
 ghost use Rattle.j39_paths.specs.ForwardTests.{is_output};
 ghost use Rattle.j39_ages.specs.TimeFindings.{first_output};
 ghost use Rattle.j39_ages.specs.Times.{jitter_of, us_of_ms};
-ghost use Rattle.j39_vehicle_check.specs.ForwardLines.{asked_text, forward_line, forward_lines, forward_text, output_jitter, queued_text};
+ghost use Rattle.j39_vehicle_check.specs.ForwardLines.{queued_text_where, forward_line, forward_lines, forward_text, output_jitter, queued_text};
 
 use crate::labels::{gateway_label, write_group_at};
 use j39_ages::{Delays, is_late_asked, queued};
@@ -74,14 +74,14 @@ fn write_queued(text: &mut TextBuffer, time: Option<u64>, limit: u64) -> Result<
 }
 
 // The same, where it is asked.
-#[tactic(auto, unfolding(crate::specs::ForwardLines::asked_text))]
+#[tactic(auto, unfolding(crate::specs::ForwardLines::queued_text_where))]
 fn write_asked(
     text: &mut TextBuffer,
     is_asked: bool,
     time: Option<u64>,
     limit: u64,
 ) -> Result<(), AllocError>
-    ensures { OnOk result (text.new ≡ text.old ++ asked_text is_asked time limit) }
+    ensures { OnOk result (text.new ≡ text.old ++ queued_text_where is_asked time limit) }
 {
     if is_asked {
         write_queued(text, time, limit)

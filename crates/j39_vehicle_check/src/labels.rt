@@ -1,6 +1,6 @@
 //! What a place of a vehicle names. Past the last place there is nothing.
 ghost use Rattle.std.specs.Prelude.{◌≡◌, ◌++◌, OnOk};
-ghost use Rattle.j39_vehicle_check.specs.VehicleLabels.{bus_label, gateway_label, group_label_at, group_text_at, name_text, signal_label_at, unit_label_at, unit_text_at};
+ghost use Rattle.j39_vehicle_check.specs.VehicleLabels.{bus_label, gateway_label, group_label_at, group_text_at, name_on_bus_text, signal_label_at, unit_label_at, unit_text_at};
 
 use j39_text::{TextBuffer, group_label, signal_label, unit_label};
 use j39_vehicle::{GroupAt, UnitAt, Vehicle};
@@ -62,7 +62,7 @@ pub(super) fn unit_label_at(vehicle: &Vehicle, place: UnitAt) -> &str
 }
 
 // Writes a word, the label of a bus, a point, and a label on it.
-#[tactic(auto, unfolding(crate::specs::VehicleLabels::name_text))]
+#[tactic(auto, unfolding(crate::specs::VehicleLabels::name_on_bus_text))]
 fn write_name(
     text: &mut TextBuffer,
     word: &str,
@@ -70,7 +70,7 @@ fn write_name(
     bus: usize,
     label: &str,
 ) -> Result<(), AllocError>
-    ensures { OnOk result (text.new ≡ text.old ++ name_text word.now vehicle.now bus label.now) }
+    ensures { OnOk result (text.new ≡ text.old ++ name_on_bus_text word.now vehicle.now bus label.now) }
 {
     text.word(word)?;
     text.word(bus_label(vehicle, bus))?;
@@ -88,7 +88,13 @@ pub(super) fn write_group_at(
 ) -> Result<(), AllocError>
     ensures { OnOk result (text.new ≡ text.old ++ group_text_at word.now vehicle.now place) }
 {
-    write_name(text, word, vehicle, place.bus, group_label_at(vehicle, place))
+    write_name(
+        text,
+        word,
+        vehicle,
+        place.bus,
+        group_label_at(vehicle, place),
+    )
 }
 
 /// Writes a word and a unit, as `BUS.UNIT`.
@@ -101,5 +107,11 @@ pub(super) fn write_unit_at(
 ) -> Result<(), AllocError>
     ensures { OnOk result (text.new ≡ text.old ++ unit_text_at word.now vehicle.now place) }
 {
-    write_name(text, word, vehicle, place.bus, unit_label_at(vehicle, place))
+    write_name(
+        text,
+        word,
+        vehicle,
+        place.bus,
+        unit_label_at(vehicle, place),
+    )
 }

@@ -1,6 +1,5 @@
 //! What is written of a vehicle.
 ghost use Rattle.std.specs.Prelude.{◌≡◌, ◌++◌, ℕ, List, IfOk, OnOk, true};
-
 ghost use Rattle.j39_vehicle_check.specs.CertifiedVehicle.{HasNoFindings, IsCertifiedVehicle};
 ghost use Rattle.j39_vehicle_check.specs.VehicleText.{IsFoundBeyond, IsVehicleReport, end_line, end_verdict, vehicle_ok_line};
 

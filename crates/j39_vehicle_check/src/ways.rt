@@ -1,6 +1,6 @@
 //! By which forwards what a flow brings comes from its origin.
 ghost use Rattle.std.specs.Prelude.{◌≡◌, ◌≢◌, ◌++◌, [], IfOk, OnErr, OnOk};
-ghost use Rattle.j39_vehicle_check.specs.NeedLines.{back_text, way_back, way_text};
+ghost use Rattle.j39_vehicle_check.specs.NeedLines.{back_text, way_back, told_way_text};
 
 use j39_paths::{Point, goes_on, next_forward};
 use j39_text::TextBuffer;
@@ -40,9 +40,9 @@ fn write_back(text: &mut TextBuffer, back: &[usize]) -> Result<(), AllocError>
 }
 
 // Writes by which forwards something comes, where there are any.
-#[tactic(auto, unfolding(crate::specs::NeedLines::way_text))]
+#[tactic(auto, unfolding(crate::specs::NeedLines::told_way_text))]
 fn write_forwards(text: &mut TextBuffer, back: &[usize]) -> Result<(), AllocError>
-    ensures { OnOk result (text.new ≡ text.old ++ way_text back.now) }
+    ensures { OnOk result (text.new ≡ text.old ++ told_way_text back.now) }
 {
     if back.is_empty() {
         return Ok(());
@@ -58,7 +58,7 @@ pub(super) fn write_way(
     vehicle: &Vehicle,
     start: Point,
 ) -> Result<(), AllocError>
-    ensures { OnOk result (text.new ≡ text.old ++ way_text (way_back vehicle.now start)) }
+    ensures { OnOk result (text.new ≡ text.old ++ told_way_text (way_back vehicle.now start)) }
 {
     let back = way_back(alloc, vehicle, start)?;
     write_forwards(text, &back)

@@ -1,5 +1,6 @@
 use Rattle.std.proofs.Common.{◌≡◌, ◌++◌, List, [], subst, sym, ap}
 use Rattle.j39_vehicle.specs.declared.vehicle.Vehicle.{Vehicle}
+use Rattle.j39_ages.specs.TimeFindings.{AreTimeFindings}
 use Rattle.j39_paths.specs.FoundPaths.{vehicle_findings}
 use Rattle.j39_paths.specs.VehicleFindings.{AreFindings}
 use Rattle.j39_vehicle_check.proofs.NoFindings.{none_at_all}
@@ -17,5 +18,5 @@ returns c =
       paths = subst (AreFindings v) (none_at_all v none.loops none.paths none.queues) all;
       delays = none.delays;
       delays_are = none.delays_are;
-      times = none.times;
+      times = subst (AreTimeFindings v none.delays) none.times (c.time_findings_are_exact.ensures v none.delays);
     }
