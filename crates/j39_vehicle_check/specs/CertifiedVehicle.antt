@@ -13,6 +13,8 @@ use Rattle.j39_ages.specs.BusDelays.{AreDelays}
 use Rattle.j39_ages.specs.FoundTimes.{time_findings}
 use Rattle.j39_ages.specs.TimeFindings.{AreTimeFindings}
 use Rattle.j39_ages.specs.declared.bus_delays.Delays.{Delays}
+use Rattle.j39_vehicle_laws.specs.Unaltered.{IsUnaltered}
+use Rattle.j39_age_laws.specs.VehicleAges.{AreAgesKept, AreForwardedPausesKept, AreVehicleNeedsKept}
 
 -- nothing is found in a plan and in what it asks of its bus
 abbrev pub HasCalmPlan : BusPlan → Type 0
@@ -38,3 +40,10 @@ pub record IsCertifiedVehicle (v : Vehicle) : Type 0 where
   pub delays : Delays
   pub delays_are : AreDelays v delays
   pub times : AreTimeFindings v delays []
+  -- what its units report of needs carries, gateway by gateway, what was begun at the origin, or nothing
+  pub unaltered : IsUnaltered v
+  -- each age that is known bounds how old what is brought is, and so each need that asks for an age has a flow that keeps it
+  pub ages : AreAgesKept v delays
+  pub needs : AreVehicleNeedsKept v delays
+  -- and a flow that is sent on directly keeps the pause that the plan of its bus has for it
+  pub pauses : AreForwardedPausesKept v delays
