@@ -113,12 +113,18 @@ between_decides : {test : Ends → Bool} (v : Vehicle) (n : Forward) (P : Ends �
 between_decides v n P by =
     Decides-like _
     (λ h.
-        let told = of_if (is_direct n && is_timed_bus v n.output.bus) (ends_of v n) h.0 h.1 in
-        let direct = (direct_decides v n).0 told.0 in
-        let ends = ends_told v n h.0 told.1 in
-        record {
-          direct = direct.0; timing = direct.1; ends = h.0; at = ends.at; input = ends.input; output = ends.output; related = h.2;
-        })
+    let told = of_if (is_direct n && is_timed_bus v n.output.bus) (ends_of v n) h.0 h.1 in
+    let direct = (direct_decides v n).0 told.0 in
+    let ends = ends_told v n h.0 told.1 in
+    record {
+      direct = direct.0;
+      timing = direct.1;
+      ends = h.0;
+      at = ends.at;
+      input = ends.input;
+      output = ends.output;
+      related = h.2;
+    })
     (λ m. (
       m.ends,
       ap (λ (b : Bool). if b then ends_of v n else None) ((direct_decides v n).1 (m.direct, m.timing))
