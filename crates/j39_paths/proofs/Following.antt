@@ -13,7 +13,7 @@ use Rattle.j39_findings.specs.ListPlaces.{ValueAt}
 use Rattle.j39_paths.specs.Forwards.{ComesAfter, Follows, IsFollowed, at_once, later}
 use Rattle.j39_paths.specs.Loops.{AreFollowers, followers}
 use Rattle.j39_paths.specs.PathTables.{row_at}
-use Rattle.j39_paths.specs.inside.Spreading.{Leads, LeadsOn, Rows, StayInside, further, straight}
+use Rattle.j39_paths.specs.inside.Spreading.{IsOneStep, IsWayTo, Rows, StayInside, further, straight}
 use Rattle.j39_paths.proofs.Deciding.{Decides-is_followed}
 use Rattle.j39_paths.proofs.PassingLemmas.{of_passing, passing_of}
 
@@ -34,11 +34,11 @@ follows_in v n m (Some first) is h =
     let there = of_passing (IsFollowed v first) (Decides-is_followed v first) v.forwards.items m h in
     record { first = first; first_is = is; second = there.value; second_is = there.value_is; followed = there.meets }
 
-leads_follows : (v : Vehicle) (rows : Rows) (n m : ℕ) → AreFollowers v rows → Leads rows n m → Follows v n m
+leads_follows : (v : Vehicle) (rows : Rows) (n m : ℕ) → AreFollowers v rows → IsOneStep rows n m → Follows v n m
 leads_follows v rows n m are h =
     follows_in v n m (slice_get v.forwards.items n) refl (subst (λ xs. Contains xs m) (row_is v rows n are) h)
 
-follows_leads : (v : Vehicle) (rows : Rows) (n m : ℕ) → AreFollowers v rows → Follows v n m → Leads rows n m
+follows_leads : (v : Vehicle) (rows : Rows) (n m : ℕ) → AreFollowers v rows → Follows v n m → IsOneStep rows n m
 follows_leads v rows n m are f =
     let among : Contains (followers v f.first) m =
     passing_of (IsFollowed v f.first) (Decides-is_followed v f.first) v.forwards.items m
@@ -54,16 +54,16 @@ followers_inside v rows are n m h =
     sym (length-map rows (λ row. row.items)) ∙ ap length are ∙ length-map v.forwards.items (followers v) in
     rw long within
 
-comes_after : (v : Vehicle) (rows : Rows) (n : ℕ) → AreFollowers v rows → {m : ℕ} → LeadsOn rows n m → ComesAfter v n m
+comes_after : (v : Vehicle) (rows : Rows) (n : ℕ) → AreFollowers v rows → {m : ℕ} → IsWayTo rows n m → ComesAfter v n m
 comes_after v rows n are (straight m h) = at_once m (leads_follows v rows n m are h)
 comes_after v rows n are (further k m before h) = later k m (comes_after v rows n are before) (leads_follows v rows k m are h)
 
-leads_on : (v : Vehicle) (rows : Rows) (n : ℕ) → AreFollowers v rows → {m : ℕ} → ComesAfter v n m → LeadsOn rows n m
+leads_on : (v : Vehicle) (rows : Rows) (n : ℕ) → AreFollowers v rows → {m : ℕ} → ComesAfter v n m → IsWayTo rows n m
 leads_on v rows n are (at_once m f) = straight m (follows_leads v rows n m are f)
 leads_on v rows n are (later k m before f) = further k m (leads_on v rows n are before) (follows_leads v rows k m are f)
 
 -- a search of the graph tells whether a forward comes after itself
-pub graph_tells : (v : Vehicle) (rows : Rows) (n : ℕ) (flag : Bool) → AreFollowers v rows → Decides flag (LeadsOn rows n n)
+pub graph_tells : (v : Vehicle) (rows : Rows) (n : ℕ) (flag : Bool) → AreFollowers v rows → Decides flag (IsWayTo rows n n)
     → Decides flag (ComesAfter v n n)
 graph_tells v rows n flag are decides = (λ e. comes_after v rows n are (decides.0 e), λ h. decides.1 (leads_on v rows n are h))
 

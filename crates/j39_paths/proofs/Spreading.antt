@@ -7,7 +7,7 @@ use Rattle.std.proofs.lemmas.List.Elements.{Contains-append_cases, Contains-appe
 use Rattle.std.proofs.lemmas.List.Sums.{sum_by-set}
 use Rattle.std.proofs.Math.ListN.{get_or-eq_default}
 use Rattle.std.proofs.Common.{append_assoc, length-append}
-use Rattle.j39_paths.specs.inside.Spreading.{IsReached, IsSpread, Leads, LeadsOn, ReachesOne, Rows, Spreads, StayInside, further, straight}
+use Rattle.j39_paths.specs.inside.Spreading.{IsReached, IsSpread, IsOneStep, IsWayTo, ReachesOne, Rows, Spreads, StayInside, further, straight}
 use Rattle.j39_paths.specs.PathTables.{row_at}
 
 contains_one : (k m : ℕ) → Contains (k ∷ []) m → m ≡ k
@@ -160,7 +160,7 @@ next_spread rows start place old new waiting front waiting_then i is s =
             | inl before ↦ inl (waits_then k (Contains-append_left front s.more k before))
             | inr now ↦
                 let same = contains_one place k now in
-                inr (λ m f. s.all m (subst (λ n. Leads rows n m) same f))
+                inr (λ m f. s.all m (subst (λ n. IsOneStep rows n m) same f))
           ]
           | inr all ↦ inr (λ m f. s.kept m (all m f))
         ]
@@ -173,7 +173,7 @@ next_spread rows start place old new waiting front waiting_then i is s =
       ];
     }
 
-all_reached : (rows : Rows) (start : ℕ) (reached : List Bool) → IsSpread rows start reached [] → {m : ℕ} → LeadsOn rows start m → IsReached reached m
+all_reached : (rows : Rows) (start : ℕ) (reached : List Bool) → IsSpread rows start reached [] → {m : ℕ} → IsWayTo rows start m → IsReached reached m
 all_reached rows start reached i (straight m f) = i.first m f
 all_reached rows start reached i (further k m before f) =
     elim (i.closed k (all_reached rows start reached i before)) [ inl (n, less, is) ↦ absurd (omega arith) | inr all ↦ all m f ]
@@ -183,7 +183,7 @@ pub none_waits : (rows : Rows) (start : ℕ) (reached : List Bool) (waiting : Li
 none_waits rows start reached waiting none i = subst (λ ws. IsSpread rows start reached ws) (nil_from_length waiting none) i
 
 pub spread_tells : (rows : Rows) (start : ℕ) (reached : List Bool) (flag : Bool) → flag ≡ slice_index_or reached start false
-    → IsSpread rows start reached [] → Decides flag (LeadsOn rows start start)
+    → IsSpread rows start reached [] → Decides flag (IsWayTo rows start start)
 spread_tells rows start reached flag is i = (λ e. i.sound start (sym is ∙ e), λ h. is ∙ all_reached rows start reached i h)
 
 -- the row of a place stays inside of what is marked

@@ -3,7 +3,7 @@ ghost use Rattle.std.specs.Prelude.{◌≡◌, ◌<◌, [], All, IfOk, OnOk, fal
 ghost use Rattle.std.specs.Bool.{Decides};
 ghost use Rattle.std.specs.List.{slice_index_or};
 ghost use Rattle.j39_paths.specs.PathTables.{row_at};
-ghost use Rattle.j39_paths.specs.inside.Spreading.{IsSpread, LeadsOn, ReachesOne, Spreads, StayInside};
+ghost use Rattle.j39_paths.specs.inside.Spreading.{IsSpread, IsWayTo, ReachesOne, Spreads, StayInside};
 
 use std::alloc::{AllocError, Global};
 
@@ -79,7 +79,7 @@ fn reach_all(
 /// Whether a place leads back to itself. Each place to which it leads is reached once.
 pub fn comes_back(alloc: Global, rows: &[Vec<usize>], start: usize) -> Result<bool, AllocError>
     requires { StayInside rows.now }
-    ensures { IfOk result (λ back. Decides back (LeadsOn rows.now start start)) }
+    ensures { IfOk result (λ back. Decides back (IsWayTo rows.now start start)) }
 {
     let mut reached = vec![in alloc; false; rows.len()]?;
     let mut waiting = Vec::new(alloc);

@@ -11,17 +11,17 @@ use Rattle.j39_paths.specs.PathTables.{row_at}
 abbrev pub Rows : Type 0
 Rows = List (Vec ℕ Global)
 
-abbrev pub Leads : Rows → ℕ → ℕ → Type 0
-Leads rows n m = Contains (row_at rows n) m
+abbrev pub IsOneStep : Rows → ℕ → ℕ → Type 0
+IsOneStep rows n m = Contains (row_at rows n) m
 
 -- one place leads to another over any number of places between
-pub data LeadsOn (rows : Rows) (n : ℕ) : ℕ → Type 0 where
-  straight : (m : ℕ) → Leads rows n m → LeadsOn rows n m
-  further : (k m : ℕ) → LeadsOn rows n k → Leads rows k m → LeadsOn rows n m
+pub data IsWayTo (rows : Rows) (n : ℕ) : ℕ → Type 0 where
+  straight : (m : ℕ) → IsOneStep rows n m → IsWayTo rows n m
+  further : (k m : ℕ) → IsWayTo rows n k → IsOneStep rows k m → IsWayTo rows n m
 
 -- each place to which one leads has a row
 abbrev pub StayInside : Rows → Type 0
-StayInside rows = (n m : ℕ) → Leads rows n m → m < length rows
+StayInside rows = (n m : ℕ) → IsOneStep rows n m → m < length rows
 
 -- ---- the search
 
@@ -49,7 +49,7 @@ pub record Spreads (places : List ℕ) (old : List Bool) (waiting : List ℕ) (n
 -- the start leads to what is reached, and where that leads to is reached or it waits
 pub record IsSpread (rows : Rows) (start : ℕ) (reached : List Bool) (waiting : List ℕ) : Type 0 where
   pub count : length reached ≡ length rows
-  pub sound : (m : ℕ) → IsReached reached m → LeadsOn rows start m
-  pub first : (m : ℕ) → Leads rows start m → IsReached reached m
-  pub closed : (k : ℕ) → IsReached reached k → Contains waiting k ⊎ ((m : ℕ) → Leads rows k m → IsReached reached m)
+  pub sound : (m : ℕ) → IsReached reached m → IsWayTo rows start m
+  pub first : (m : ℕ) → IsOneStep rows start m → IsReached reached m
+  pub closed : (k : ℕ) → IsReached reached k → Contains waiting k ⊎ ((m : ℕ) → IsOneStep rows k m → IsReached reached m)
   pub those : (m : ℕ) → Contains waiting m → IsReached reached m
