@@ -14,6 +14,7 @@ mod turns;
 
 use crate::finding::VehicleFinding;
 use crate::loops::loops_of;
+use crate::tables::path_tables;
 use contents::find_in_contents;
 use ends::find_in_ends;
 use j39_vehicle::Vehicle;
@@ -33,11 +34,12 @@ pub fn find_in_paths(alloc: Global, vehicle: &Vehicle) -> Result<VehicleFindings
     ensures memory { OnErr result ((vehicle.now.forwards.items ≢ []) ⊎ (vehicle.now.needs.items ≢ [])) }
 {
     let loops = loops_of(alloc, vehicle)?;
+    let tables = path_tables(alloc, vehicle)?;
     let mut findings = Vec::new(alloc);
     find_in_ends(&mut findings, vehicle)?;
     find_in_contents(&mut findings, vehicle)?;
     find_loops(&mut findings, &loops, vehicle)?;
-    find_in_needs(&mut findings, vehicle)?;
+    find_in_needs(&mut findings, vehicle, &tables)?;
     Ok(findings)
 }
 
