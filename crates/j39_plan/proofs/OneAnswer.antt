@@ -34,7 +34,7 @@ use Rattle.j39_plan.specs.NeedTables.{IsNeedOf, need_signal_rule, signals_at}
 use Rattle.j39_plan.specs.RequestTables.{IsRequestOf}
 use Rattle.j39_plan.specs.TimingTables.{TellsBus, TellsErrors, TellsTiming, errors_table}
 use Rattle.j39_plan.specs.Schema.{tables_of, found_text}
-use Rattle.j39_plan.specs.PlanFaults.{faults, units_rule, groups_rule, flows_rule, timing_table, need_tables, request_tables, unit_labels, group_labels, group_signals, knows_third, knows_fourth}
+use Rattle.j39_plan.specs.PlanFaults.{faults, units_rule, groups_rule, flows_rule, timing_table, need_tables, request_tables, unit_labels, group_labels, group_signals, version_of}
 use Rattle.j39_plan.specs.Described.{TellsPlan, Described, Reads}
 use Rattle.j39_plan.specs.OnePlan.{AreOneUnit, AreOneSelector, AreOneSignal, AreOneValueName, AreOneMeaning, AreOneText, AreOneGroup, AreOneErrorRate, AreOneBus, AreOneTiming, AreOnePace, AreOneFlowPlan, AreOneNeed, AreOneRequest, AreOnePlan, AreOneAnswer}
 
@@ -193,11 +193,11 @@ one_plan tree p q a b = record {
   keep_free = a.has_keep_free ∙ sym b.has_keep_free;
   strangers = a.has_strangers ∙ sym b.has_strangers;
   live = a.has_live ∙ sym b.has_live;
-  timing = one_timing (knows_fourth tree) (timing_table tree) p.timing q.timing a.has_timing b.has_timing;
-  units = one_each (IsUnitOf (knows_fourth tree)) AreOneUnit (one_unit (knows_fourth tree)) (tables_of units_rule tree) _ _ a.has_units b.has_units;
-  groups = one_each (IsGroupOf (knows_third tree) (knows_fourth tree)) AreOneGroup (one_group (knows_third tree) (knows_fourth tree)) (tables_of groups_rule tree) _ _ a.has_groups b.has_groups;
-  flows = one_each (IsFlowOf (knows_third tree) (knows_fourth tree) (group_labels tree) (unit_labels tree)) AreOneFlowPlan
-      (one_flow (knows_third tree) (knows_fourth tree) (group_labels tree) (unit_labels tree)) (tables_of flows_rule tree) _ _ a.has_flows b.has_flows;
+  timing = one_timing (version_of tree) (timing_table tree) p.timing q.timing a.has_timing b.has_timing;
+  units = one_each (IsUnitOf (version_of tree)) AreOneUnit (one_unit (version_of tree)) (tables_of units_rule tree) _ _ a.has_units b.has_units;
+  groups = one_each (IsGroupOf (version_of tree)) AreOneGroup (one_group (version_of tree)) (tables_of groups_rule tree) _ _ a.has_groups b.has_groups;
+  flows = one_each (IsFlowOf (version_of tree) (group_labels tree) (unit_labels tree)) AreOneFlowPlan
+      (one_flow (version_of tree) (group_labels tree) (unit_labels tree)) (tables_of flows_rule tree) _ _ a.has_flows b.has_flows;
   needs = one_each (IsNeedOf (group_labels tree) (group_signals tree) (unit_labels tree)) AreOneNeed
       (one_need (group_labels tree) (group_signals tree) (unit_labels tree)) (need_tables tree) _ _ a.has_needs b.has_needs;
   requests = one_each (IsRequestOf (group_labels tree) (unit_labels tree)) AreOneRequest

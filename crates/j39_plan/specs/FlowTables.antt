@@ -1,6 +1,6 @@
 -- The tables of flows. Since the third version it is known how often a flow is sent, since the fourth also how far behind its moments, for how long it
 -- is silent, and whether it is sent on request alone.
-use Rattle.std.specs.Prelude.{◌≡◌, ℕ, ◌-◌, List, [], ◌∷◌, ◌++◌, Bool, true, false, ◌&&◌, ◌||◌, if◌then◌else◌, Option}
+use Rattle.std.specs.Prelude.{◌≡◌, ℕ, pos, ◌-◌, List, [], ◌∷◌, ◌++◌, Bool, true, false, ◌&&◌, ◌||◌, if◌then◌else◌, Option}
 use Rattle.std.specs.Prelude.{Some, None, IfSome, option_map, option_and_then, codes, is_some, position}
 use Rattle.std.specs.Str.{bytes_eq}
 use Rattle.std.specs.Option.{option_map_or}
@@ -16,7 +16,7 @@ use Rattle.j39_plan.specs.declared.reading.place.Table.{Table}
 use Rattle.j39_plan.specs.declared.reading.place.Table.TheVariants as at
 use Rattle.j39_plan.specs.declared.reading.fault.Fault.{Fault}
 use Rattle.j39_plan.specs.declared.reading.text_kind.TextKind.TheVariants as texts
-use Rattle.j39_plan.specs.Schema.{Rule, has_key, text, number, optional, flag, found_text, number_of, given_number, flag_of}
+use Rattle.j39_plan.specs.Schema.{Rule, integer_in, given_integer_in, has_key, text, number, optional, flag, found_text, number_of, given_number, flag_of}
 use Rattle.j39_plan.specs.TableFaults.{table_only_faults, fault}
 use Rattle.j39_plan.specs.Since.{Since, since, is_known, known, rules_of, versioned_faults}
 use Rattle.j39_plan.specs.declared.reading.version.Version.{Version}
@@ -34,8 +34,11 @@ to_rule = text key.To texts.Any None
 
 -- two messages of the flow are so many milliseconds apart at least
 abbrev pub period_of : Bool → Rule
-period_of true = number key.Period 1 65535 None
-period_of false = optional key.Period 1 65535
+period_of asked = record {
+  key = key.Period;
+  kind = if asked then integer_in (pos 1) (pos 65535) else given_integer_in (pos 1) (pos 65535);
+  default = None;
+}
 
 -- a deadline asks for a period, and so does a jitter in a version that knows it
 abbrev pub asks_for_period : Version → Members → Bool

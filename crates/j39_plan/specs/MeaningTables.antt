@@ -1,6 +1,6 @@
 -- What is known of a signal since the fourth version beside its place and its scale: whether it is optional, its number, and the names of
 -- its raw numbers.
-use Rattle.std.specs.Prelude.{◌≡◌, ℕ, ◌^◌, min, not, List, [], ◌∷◌, Bool, false, if◌then◌else◌, Option, option_map, unwrap_or}
+use Rattle.std.specs.Prelude.{◌≡◌, ℕ, ◌^◌, min, not, List, [], ◌∷◌, Bool, false, if◌then◌else◌, Option, Some, None, option_map, unwrap_or}
 use Rattle.std.specs.Str.Parse.{digits_value}
 use Rattle.j39_plan.specs.declared.reading.meanings.MeaningKeys.{MeaningKeys}
 use Rattle.toml.specs.View.{table_view}

@@ -42,20 +42,17 @@ kind_rule version = text key.Kind (kinds version) None
 
 -- a trouble code is neither scaled nor has it a unit: of it each of these is what an absent key stands for
 abbrev pub step_rule : Bool → Rule
-step_rule true = number key.Step 1 1 (Some 1)
-step_rule false = number key.Step 1 1000000 (Some 1)
+step_rule code = number key.Step 1 (if code then 1 else 1000000) (Some 1)
 
 abbrev pub per_rule : Bool → Rule
-per_rule true = divisor key.Per 1
-per_rule false = divisor key.Per 10000000
+per_rule code = divisor key.Per (if code then 1 else 10000000)
 
 abbrev pub offset_rule : Bool → Rule
-offset_rule true = signed key.Offset (pos 0) (pos 0) (Some (pos 0))
-offset_rule false = signed key.Offset (negsuc 999999999999) (pos 1000000000000) (Some (pos 0))
+offset_rule code =
+    signed key.Offset (if code then pos 0 else negsuc 999999999999) (if code then pos 0 else pos 1000000000000) (Some (pos 0))
 
 abbrev pub unit_rule : Bool → Rule
-unit_rule true = text key.Unit texts.Empty (Some [])
-unit_rule false = text key.Unit texts.SignalUnit (Some [])
+unit_rule code = text key.Unit (if code then texts.Empty else texts.SignalUnit) (Some [])
 
 -- by whether the group has records
 abbrev pub repeated_rule : Bool → Rule

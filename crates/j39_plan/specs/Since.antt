@@ -1,12 +1,14 @@
 -- Since which version of a plan file each key of a table is known.
-use Rattle.std.specs.Prelude.{◌≡◌, List, [], ◌∷◌, ◌++◌, map, Bool, true, false, if◌then◌else◌}
-use Rattle.std.specs.List.{filter}
+use Rattle.std.specs.Prelude.{◌≡◌, ℕ, List, [], ◌∷◌, ◌++◌, ◌&&◌, map, Bool, true, false, if◌then◌else◌}
+use Rattle.std.specs.List.{filter, list_any}
+use Rattle.std.specs.Str.{bytes_eq}
 use Rattle.toml.specs.Data.{Members}
 use Rattle.j39_plan.specs.declared.reading.fault.Fault.{Fault}
 use Rattle.j39_plan.specs.declared.reading.key.Key.{Key}
 use Rattle.j39_plan.specs.declared.reading.place.Table.{Table}
 use Rattle.j39_plan.specs.declared.reading.version.Version.{Version}
 use Rattle.j39_plan.specs.declared.reading.version.Version.TheVariants.{First, Second, Third, Fourth}
+use Rattle.j39_plan.specs.Words.{word_of}
 use Rattle.j39_plan.specs.Schema.{Rule}
 use Rattle.j39_plan.specs.TableFaults.{key_faults, unknown_faults}
 
@@ -48,6 +50,10 @@ rules_of = map (λ s. s.rule)
 -- an older version knows what it knew: of all that a later one knows, what is known since its own time, in the same order
 abbrev pub OlderKnow : Type 0
 OlderKnow = (rules : List Since) (old new : Version) → is_known old new ≡ true → known old (known new rules) ≡ known old rules
+
+-- one that the version knows is spelled so
+abbrev pub is_known_word : Version → List (Key × Version) → List ℕ → Bool
+is_known_word version keys name = list_any (λ k. is_known k.1 version && bytes_eq (word_of k.0) name) keys
 
 -- what is wrong at a key that the version knows
 abbrev pub since_faults : Table → Version → Members → Since → List Fault

@@ -152,8 +152,11 @@ fn known_period(
         return Ok(None);
     }
     let jitter = version.knows(Version::Fourth) && has_key(members, Key::Jitter);
-    let asked = jitter || has_key(members, Key::Deadline);
-    optional_number(members, table, Key::Period, 1, MS_MOST, asked)
+    if jitter || has_key(members, Key::Deadline) {
+        optional_number(members, table, Key::Period, 1, MS_MOST, true)
+    } else {
+        optional_number(members, table, Key::Period, 1, MS_MOST, false)
+    }
 }
 
 // The deadline: none in a version that doesn't know it.

@@ -83,11 +83,7 @@ fn most(
 }
 
 // How far apart records stand: there are none in a version that doesn't know them.
-fn every(
-    version: Version,
-    members: &toml::Table,
-    table: Table,
-) -> Result<Option<u32>, PlanError>
+fn every(version: Version, members: &toml::Table, table: Table) -> Result<Option<u32>, PlanError>
     ensures gives { Gives result (since_faults table version (table_view members.now) (since Third every_rule))
         (λ n. n ≡ every_of version (table_view members.now)) }
     ensures some { IfOk result (λ found. IfSome found (λ n. 1 ≤ n)) }
@@ -146,11 +142,7 @@ fn later_keys(
 }
 
 // The tables of texts: none in a version that doesn't know them.
-fn text_tables(
-    version: Version,
-    members: &toml::Table,
-    table: Table,
-) -> Result<&[Value], PlanError>
+fn text_tables(version: Version, members: &toml::Table, table: Table) -> Result<&[Value], PlanError>
     ensures { Gives result (since_faults table version (table_view members.now) (since Third text_rule))
         (λ texts. items_view texts.now ≡ text_tables_of version (table_view members.now)) }
 {

@@ -45,7 +45,11 @@ fn lacks_identity(version: Version, members: &toml::Table) -> bool
 }
 
 #[tactic(auto, using(crate::proofs::FirstFaults::faults_after), unfolding(crate::specs::UnitTables::name_faults, crate::specs::UnitTables::name_fields_of))]
-fn name_fields(version: Version, index: usize, members: &toml::Table) -> Result<NameFields, PlanError>
+fn name_fields(
+    version: Version,
+    index: usize,
+    members: &toml::Table,
+) -> Result<NameFields, PlanError>
     ensures gives { Gives result (name_faults version index (table_view members.now)) (λ f. f ≡ name_fields_of version (table_view members.now)) }
     ensures in_range { IfOk result (λ f. first_out f ≡ None) }
 {

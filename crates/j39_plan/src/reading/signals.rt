@@ -1,5 +1,5 @@
 //! The signals of a group.
-ghost use Rattle.std.specs.Prelude.{◌≡◌, ◌≤◌, ◌≤ℤ◌, false, None, pos, negsuc, IsTrue, IfOk, IfSome};
+ghost use Rattle.std.specs.Prelude.{◌≡◌, ◌≤◌, ◌≤ℤ◌, true, false, None, pos, negsuc, IsTrue, IfOk, IfSome};
 ghost use Rattle.toml.specs.View.{table_view};
 ghost use Rattle.j39_signal.specs.Parts.{IsSignal, IsDivisor};
 ghost use Rattle.j39_findings.specs.LabelForm.{is_label};
@@ -209,7 +209,12 @@ struct SignalKeys<'a> {
 }
 
 // What the values are divided by: 1 in a version that doesn't know it.
-fn known_per(version: Version, members: &toml::Table, table: Table, code: bool) -> Result<u32, PlanError>
+fn known_per(
+    version: Version,
+    members: &toml::Table,
+    table: Table,
+    code: bool,
+) -> Result<u32, PlanError>
     ensures gives { Gives result (since_faults table version (table_view members.now) (since Third (per_rule code)))
         (λ n. n ≡ per_of version (table_view members.now)) }
     ensures divides { IfOk result IsDivisor }

@@ -1,4 +1,4 @@
-use Rattle.std.proofs.Common.{◌≡◌, true, false, refl}
+use Rattle.std.proofs.Common.{◌≡◌, true, false, refl, sym, ◌∙◌}
 use Rattle.std.proofs.lemmas.Bool.{false≢true}
 use Rattle.toml.specs.Data.{Members}
 use Rattle.j39_findings.specs.declared.plan.group_plan.GroupPlan.{GroupPlan}
@@ -25,8 +25,8 @@ pub returns-clause-groups : goal.returns-clause-groups
 returns-clause-groups c = groups
 
 lengths : OlderLengths
-lengths First ms g older told = (told.has_most, told.has_every)
-lengths Second ms g older told = (told.has_most, told.has_every)
+lengths First ms g older told = (told.has_most ∙ sym told.has_length, told.has_every)
+lengths Second ms g older told = (told.has_most ∙ sym told.has_length, told.has_every)
 lengths Third ms g older told = cc
 lengths Fourth ms g older told = cc
 
