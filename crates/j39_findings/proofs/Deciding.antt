@@ -186,11 +186,11 @@ Decides-is_to_one : (to : To) → Decides (is_to_one to) ((receiver : ℕ) × (t
 Decides-is_to_one All = (λ e. absurd (false≢true e), λ (r, e). cc)
 Decides-is_to_one (One receiver) = (λ e. (receiver, refl), λ h. refl)
 
-pub Decides-is_to : (to : To) (unit : ℕ) → Decides (is_to to unit) (to ≡ One unit)
+Decides-is_to : (to : To) (unit : ℕ) → Decides (is_to to unit) (to ≡ One unit)
 Decides-is_to All unit = (λ e. absurd (false≢true e), λ e. cc)
 Decides-is_to (One receiver) unit = Decides-like _ (λ e. cc) (λ e. cc) (Decides-eqb receiver unit)
 
-pub Decides-have_same_receiver : (to other : To) → Decides (have_same_receiver to other) (to ≡ other)
+Decides-have_same_receiver : (to other : To) → Decides (have_same_receiver to other) (to ≡ other)
 Decides-have_same_receiver All All = (λ e. refl, λ e. refl)
 Decides-have_same_receiver All (One receiver) = (λ e. absurd (false≢true e), λ e. cc)
 Decides-have_same_receiver (One receiver) other = Decides-like _ (λ e. sym e) (λ e. sym e) (Decides-is_to other receiver)

@@ -1,7 +1,7 @@
 -- Each test of what forwards hear, send and carry decides its statement.
 use Rattle.std.proofs.Common.{◌≡◌, ℕ, suc, zero, ◌+◌, ◌<◌, ◌==◌, ◌⊎◌, ◌↔◌, List, [], ◌∷◌, Bool, true, false, not, length}
 use Rattle.std.proofs.Common.{nat_lt, Option, Some, None, Decides, refl, sym, ◌∙◌, ap, inl, inr, subst, arith}
-use Rattle.std.specs.List.{count_by, slice_get}
+use Rattle.std.specs.List.{count_by, slice_get, list_any}
 use Rattle.std.specs.Option.{MatchOption, option_map_or}
 use Rattle.std.proofs.lemmas.Bool.{false≢true, eqb-true}
 use Rattle.std.proofs.lemmas.Bool.Decides.{Decides-eqb, Decides-and, Decides-or, Decides-not, Decides-like, Decides-ltb, Decides-int_eq}
@@ -13,14 +13,16 @@ use Rattle.j39_signal.specs.declared.kind.Kind.{Kind}
 use Rattle.j39_signal.specs.declared.kind.Kind.TheVariants.{Measured, Discrete, Raw, States, Signed, Dtc}
 use Rattle.j39_signal.specs.declared.selector.Selector.{Selector}
 use Rattle.j39_findings.specs.ListPlaces.{SomeMeets, SoManyMeet, ValueAt}
+use Rattle.j39_findings.specs.Found.{have_same_receiver, is_to}
 use Rattle.j39_findings.specs.declared.plan.flow_plan.FlowPlan.{FlowPlan}
 use Rattle.j39_findings.specs.declared.plan.group_plan.GroupPlan.{GroupPlan}
 use Rattle.j39_findings.specs.declared.plan.queue.Queue.{Queue}
 use Rattle.j39_findings.specs.declared.plan.queue.Queue.TheVariants.{Any, Priority}
 use Rattle.j39_findings.specs.declared.plan.timing.Timing.{Timing}
 use Rattle.j39_findings.specs.declared.plan.to.To.{To}
+use Rattle.j39_findings.specs.declared.plan.to.To.TheVariants.{All, One}
 use Rattle.j39_findings.specs.declared.plan.unit_plan.UnitPlan.{UnitPlan}
-use Rattle.j39_findings.proofs.Deciding.{Decides-have_same_receiver, Decides-meets, Decides-shares_bit, meeting_pass, passing_meet, some_decides}
+use Rattle.j39_findings.proofs.Deciding.{Decides-meets, Decides-shares_bit, meeting_pass, passing_meet}
 use Rattle.j39_vehicle.specs.declared.vehicle.Vehicle.{Vehicle}
 use Rattle.j39_vehicle.specs.declared.vehicle.bus_plan.BusPlan.{BusPlan}
 use Rattle.j39_vehicle.specs.declared.vehicle.forward.Forward.{Forward}
@@ -43,6 +45,18 @@ it_is : (b : Bool) → Decides b (b ≡ true)
 it_is b = (λ e. e, λ e. e)
 
 -- ---- lists
+
+some_from : {A : Type 0} (P : A → Type 0) (x : A) (xs : List A) → P x ⊎ SomeMeets P xs → SomeMeets P (x ∷ xs)
+some_from P x xs (inl here) = (0, record { value = x; value_is = refl; meets = here })
+some_from P x xs (inr (i, v)) = (suc i, record { value = v.value; value_is = v.value_is; meets = v.meets })
+
+some_parts : {A : Type 0} (P : A → Type 0) (x : A) (xs : List A) → SomeMeets P (x ∷ xs) → P x ⊎ SomeMeets P xs
+some_parts P x xs (zero, v) = inl (subst P (sym (same_Some _ _ v.value_is)) v.meets)
+some_parts P x xs (suc i, v) = inr (i, record { value = v.value; value_is = v.value_is; meets = v.meets })
+
+pub some_decides : {A : Type 0} {test : A → Bool} (P : A → Type 0) → ((x : A) → Decides (test x) (P x)) → (xs : List A) → Decides (list_any test xs) (SomeMeets P xs)
+some_decides P by [] = (λ e. absurd (false≢true e), λ (i, v). absurd (none-some _ v.value_is))
+some_decides P by (x ∷ xs) = Decides-like _ (some_from P x xs) (some_parts P x xs) (Decides-or _ _ (by x) (some_decides P by xs))
 
 -- more than one value meets the statement
 many_decides : {A : Type 0} {test : A → Bool} (P : A → Type 0) → ((x : A) → Decides (test x) (P x)) → (xs : List A)
@@ -74,9 +88,18 @@ Decides-is_input v n f =
     (Decides-and _ _ (Decides-meets (requests_on v.buses.items n.input.bus) (heard n) f)
     (Decides-not _ (among_decides (units_of_gateway v n.gateway) n.input.bus f.sender)))
 
+is_to_decides : (to : To) (unit : ℕ) → Decides (is_to to unit) (to ≡ One unit)
+is_to_decides All unit = (λ e. absurd (false≢true e), λ e. cc)
+is_to_decides (One receiver) unit = Decides-like _ (λ e. cc) (λ e. cc) (Decides-eqb receiver unit)
+
+same_receiver_decides : (to other : To) → Decides (have_same_receiver to other) (to ≡ other)
+same_receiver_decides All All = (λ e. refl, λ e. refl)
+same_receiver_decides All (One receiver) = (λ e. absurd (false≢true e), λ e. cc)
+same_receiver_decides (One receiver) other = Decides-like _ (λ e. sym e) (λ e. sym e) (is_to_decides other receiver)
+
 goes_to_decides : (o : Option To) (to : To) → Decides (goes_to o to) ((receiver : To) → o ≡ Some receiver → to ≡ receiver)
 goes_to_decides None to = (λ e u is. absurd (none-some _ is), λ h. refl)
-goes_to_decides (Some receiver) to = Decides-like _ (λ e u is. e ∙ same_Some _ _ is) (λ h. h receiver refl) (Decides-have_same_receiver to receiver)
+goes_to_decides (Some receiver) to = Decides-like _ (λ e u is. e ∙ same_Some _ _ is) (λ h. h receiver refl) (same_receiver_decides to receiver)
 
 pub Decides-is_output : (n : Forward) (f : FlowPlan) → Decides (is_output n f) (IsOutput n f)
 Decides-is_output n f =
