@@ -1,5 +1,5 @@
 -- An engine, a gateway on two buses of one plan, and a unit that needs the engine's message.
-use Rattle.std.proofs.Common.{◌≡◌, ◌≢◌, ℕ, zero, suc, ◌<◌, ◌≤◌, ◌==◌, ◌^◌, List, [], ◌∷◌, ◌++◌, length, get_or, replicate, Bool, true, false, Option, Some, None, inl, inr, sym, refl, ap, ◌∙◌, subst, arith}
+use Rattle.std.proofs.Common.{◌≡◌, ◌≢◌, ℕ, zero, suc, ◌<◌, ◌≤◌, ◌==◌, ◌^◌, List, [], ◌∷◌, ◌++◌, length, get_or, Bool, true, false, Option, Some, None, inl, inr, sym, refl, ap, ◌∙◌, subst, arith}
 use Rattle.std.specs.Global.{Global, Vec}
 use Rattle.std.specs.FinSet as set
 use Rattle.std.specs.Ordering.{nat_cmp}
@@ -7,9 +7,15 @@ use Rattle.std.specs.List.{All, AllPairs}
 use Rattle.std.proofs.lemmas.Bool.{false≢true}
 use Rattle.std.proofs.lemmas.List.Elements.{All-from_recursion}
 use Rattle.std.proofs.lemmas.List.Kept.{AllPairs-cons}
-use Rattle.std.proofs.lemmas.Option.{none-some}
+use Rattle.std.proofs.lemmas.Option.{none-some, same_Some}
 use Rattle.arrayvec.specs.ArrayString.{ArrayString}
 use denote.RawPtr.{null_ptr}
+use Rattle.std.specs.Prelude.{IsTrue, pos}
+use Rattle.std.proofs.lemmas.Int.{ints}
+use Rattle.j39_signal.specs.Parts.{IsSignal, SignalParts}
+use Rattle.j39_signal.specs.declared.kind.Kind.TheVariants.{Measured}
+use Rattle.j39_findings.specs.LabelForm.{is_label}
+use Rattle.j39_findings.specs.declared.plan.meaning.Meaning.{Meaning}
 use Rattle.j39_findings.specs.declared.plan.Plan.{Plan}
 use Rattle.j39_findings.specs.declared.plan.flow_plan.FlowPlan.{FlowPlan}
 use Rattle.j39_findings.specs.declared.plan.group_plan.GroupPlan.{GroupPlan}
@@ -32,7 +38,7 @@ use Rattle.j39_vehicle.specs.declared.vehicle.forward.Forward.{Forward}
 use Rattle.j39_vehicle.specs.declared.vehicle.forward.Mode.TheVariants.{Periodic}
 use Rattle.j39_vehicle.specs.declared.vehicle.gateway.Gateway.{Gateway}
 use Rattle.j39_vehicle.specs.declared.vehicle.places.UnitAt.{UnitAt}
-use Rattle.j39_vehicle.specs.VehiclePlaces.{HasForward, HasNeed, HasUnit}
+use Rattle.j39_vehicle.specs.VehiclePlaces.{HasForward, HasNeed, HasUnit, signals_at}
 use Rattle.j39_vehicle.specs.declared.vehicle.vehicle_need.VehicleNeed.{VehicleNeed}
 
 -- ---- lists
@@ -108,6 +114,40 @@ hearer = record {
   silent_stays = λ _. refl;
 }
 
+-- the engine's speed, in eighths
+abbrev pub speed : SignalParts
+speed = record {
+  label = label 82;
+  start = 24;
+  bits = 16;
+  kind = Measured;
+  step = 1;
+  offset = pos 0;
+  per = 8;
+  unit = record { bytes = []; spare = [] };
+  repeated = false;
+  optional = false;
+}
+
+pub speed_ranges : IsSignal speed.start speed.bits speed.step speed.offset
+speed_ranges = record {
+  start_range = omega arith;
+  some_bits = omega arith;
+  most_bits = omega arith;
+  some_step = omega arith;
+  most_step = omega arith;
+  least_offset = omega (arith, ints);
+  greatest_offset = omega (arith, ints);
+}
+
+abbrev pub meaning : Global → Meaning
+meaning alloc = record {
+  spn = None;
+  values = in_memory alloc [] (omega arith);
+  spn_range = λ n is. absurd (none-some _ is);
+  value_count = omega arith;
+}
+
 abbrev pub group : Global → GroupPlan
 group alloc = record {
   label = label 71;
@@ -118,8 +158,8 @@ group alloc = record {
   most = 8;
   every = None;
   when = None;
-  signals = in_memory alloc [] (omega arith);
-  meanings = in_memory alloc [] (omega arith);
+  signals = in_memory alloc (speed ∷ []) (omega arith);
+  meanings = in_memory alloc (meaning alloc ∷ []) (omega arith);
   texts = in_memory alloc [] (omega arith);
   label_form = refl;
   priority_range = omega arith;
@@ -128,11 +168,11 @@ group alloc = record {
   most_least = omega arith;
   most_range = omega arith;
   every_positive = λ n is. absurd (none-some _ is);
-  every_needed = λ none k d inside. absurd (omega arith);
+  every_needed = λ none. all_of_one (λ (s : SignalParts). s.repeated ≡ false) speed refl;
   signal_count = omega arith;
-  signal_forms = λ k d inside. absurd (omega arith);
-  signal_ranges = λ k d inside. absurd (omega arith);
-  signal_labels = λ i j d below inside. absurd (omega arith);
+  signal_forms = all_of_one (λ (s : SignalParts). IsTrue (is_label s.label.bytes)) speed refl;
+  signal_ranges = all_of_one (λ (s : SignalParts). IsSignal s.start s.bits s.step s.offset) speed speed_ranges;
+  signal_labels = pairs_of_one (λ (s t : SignalParts). s.label.bytes ≢ t.label.bytes) speed;
   meaning_count = refl;
   text_count = omega arith;
   text_labels = λ i j d below inside. absurd (omega arith);
@@ -211,7 +251,7 @@ abbrev pub need : VehicleNeed
 need = record {
   unit = unit_at 1 1;
   group = 0;
-  signal = None;
+  signal = Some 0;
   from = unit_at 0 0;
   within = None;
   within_positive = λ n is. absurd (none-some _ is);
@@ -230,8 +270,11 @@ has_forward alloc = record {
   written = λ n is. absurd (none-some _ is);
 }
 
+first_signal : (alloc : Global) (s : ℕ) → 0 ≡ s → s < signals_at (buses alloc) (record { bus = 1; group = 0 })
+first_signal alloc s is = omega (arith, is)
+
 pub has_need : (alloc : Global) → HasNeed (buses alloc) need
-has_need alloc = record { unit = omega arith; group = omega arith; signal = λ s is. absurd (none-some _ is); from = omega arith }
+has_need alloc = record { unit = omega arith; group = omega arith; signal = λ s is. first_signal alloc s (same_Some _ _ is); from = omega arith }
 
 pub its_units : (alloc : Global) → All (HasUnit (buses alloc)) (gateway alloc).units.items
 its_units alloc = all_of_two (HasUnit (buses alloc)) (unit_at 0 1) (unit_at 1 0) (omega arith) (omega arith)
@@ -254,7 +297,7 @@ vehicle alloc = record {
 -- ---- a run: both units come on, and the engine sends a message that the other unit takes
 
 abbrev pub payload : List ℕ
-payload = replicate 8 255
+payload = 255 ∷ 255 ∷ 255 ∷ 0 ∷ 10 ∷ 255 ∷ 255 ∷ 255 ∷ []
 
 abbrev pub planned : Global → Flow
 planned alloc = flow_of (group alloc ∷ []) flow

@@ -1,11 +1,13 @@
 -- The example has no findings, and in its run the need's unit reports what the gateway sends on.
 use Rattle.std.proofs.Common.{◌≡◌, ℕ, zero, suc, ◌<◌, ◌≤◌, List, [], ◌∷◌, ◌++◌, Bool, true, false, Option, Some, None, Decides, All, inl, inr, sym, refl, ap, ◌∙◌, subst, arith}
-use Rattle.std.specs.Prelude.{cond}
+use Rattle.std.specs.Prelude.{cond, pos}
 use Rattle.std.specs.Global.{Global}
 use Rattle.std.specs.List.{slice_get, slice_index_or}
 use Rattle.std.proofs.lemmas.Bool.{false≢true}
 use Rattle.std.proofs.lemmas.Option.{none-some, same_Some}
+use Rattle.j39_signal.specs.Bits.{number_at}
 use Rattle.j39_signal.specs.Parts.{SignalParts}
+use Rattle.j39_signal.specs.declared.state.State.TheVariants.{Value}
 use Rattle.j39_findings.specs.Findings.{Meets}
 use Rattle.j39_rules.specs.ListPlaces.{each, in_each, pairs}
 use Rattle.j39_findings.specs.declared.plan.group_plan.GroupPlan.{GroupPlan}
@@ -21,11 +23,13 @@ use Rattle.j39_paths.specs.Traces.{IsNeedFlow, is_from_origin, needed, next_forw
 use Rattle.j39_paths.specs.VehicleFindings.{AreFindings}
 use Rattle.j39_paths.proofs.PathLaws.{are_findings}
 use Rattle.j39_forwards.specs.Forwards.{Among, HasMessage}
+use Rattle.j39_vehicle_laws.specs.Carrying.{AreAllExact, more, none}
+use Rattle.j39_vehicle_laws.specs.Reading.{reading}
 use Rattle.j39_vehicle_laws.specs.Faithful.{KeepsContents}
 use Rattle.j39_vehicle_laws.specs.Forwarding.{ForwardedMessage, needed_message}
 use Rattle.j39_vehicle_laws.specs.Unaltered.{HasDivisors}
 use Rattle.j39_vehicle_laws.specs.BusRuns.{Carries, CarriesOne, WasHeard, WasReported, WasSent, BusMessage, VehicleRun}
-use Rattle.j39_vehicle_laws.proofs.Example.{all_of_one, all_of_two, bus, buses, flow, forward, group, need, payload, runs, steps, taken, unit_at, vehicle}
+use Rattle.j39_vehicle_laws.proofs.Example.{all_of_one, all_of_two, bus, buses, flow, forward, group, need, payload, runs, speed, steps, taken, unit_at, vehicle}
 
 -- ---- no findings
 
@@ -61,7 +65,8 @@ clean alloc =
 divide : (alloc : Global) → HasDivisors (vehicle alloc)
 divide alloc =
     let one : All (λ (g : GroupPlan). All (λ (s : SignalParts). 1 ≤ s.per) g.signals.items) (group alloc ∷ []) =
-    all_of_one (λ (g : GroupPlan). All (λ (s : SignalParts). 1 ≤ s.per) g.signals.items) (group alloc) (λ k d inside. absurd (omega arith)) in
+    all_of_one (λ (g : GroupPlan). All (λ (s : SignalParts). 1 ≤ s.per) g.signals.items) (group alloc)
+    (all_of_one (λ (s : SignalParts). 1 ≤ s.per) speed (omega arith)) in
     all_of_two (λ (b : BusPlan). All (λ (g : GroupPlan). All (λ (s : SignalParts). 1 ≤ s.per) g.signals.items) b.plan.groups.items)
     (bus alloc 65) (bus alloc 66) one one
 
@@ -153,6 +158,14 @@ is_needed alloc = record {
 is_reported : (alloc : Global) → WasReported (vehicle alloc) (λ b. taken alloc) (needed_message need 0 payload)
 is_reported alloc = record { flow = flow; flow_is = refl; so = is_heard alloc }
 
+is_exact_all : (alloc : Global) → AreAllExact (vehicle alloc) (point_on 1 0 (Some 0))
+is_exact_all alloc =
+    more (point_on 1 0 (Some 0)) (point_on 0 0 (Some 0)) 0 forward refl refl refl refl (none (point_on 0 0 (Some 0)) refl)
+
+speed_read : reading speed payload ≡ Value (pos 2560)
+unfolding number_at
+speed_read = refl
+
 pub a_message : Global → ForwardedMessage
 a_message alloc = record {
   vehicle = vehicle alloc;
@@ -168,6 +181,11 @@ a_message alloc = record {
   needed = is_needed alloc;
   bytes = payload;
   reported = is_reported alloc;
+  exact = is_exact_all alloc;
+  signal = speed;
+  signal_is = refl;
+  value = pos 2560;
+  reads = speed_read;
   forward = 0;
   forwarded = refl;
 }

@@ -1,4 +1,5 @@
 pub mod Bringing
+pub mod Copied
 pub mod Example
 pub mod ExampleRun
 pub mod Forwarding

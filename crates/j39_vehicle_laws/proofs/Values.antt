@@ -122,7 +122,7 @@ index_of_value s fits raw a is =
 above : (n m : ℕ) → m < n → nat_le n m ≡ false
 above n m less = elim (leb_tells n m) [ inl (holds, most) ↦ absurd (omega (arith, less, most)) | inr (fails, more) ↦ fails ]
 
-within : (n m : ℕ) → n ≤ m → nat_le n m ≡ true
+pub within : (n m : ℕ) → n ≤ m → nat_le n m ≡ true
 within n m most = elim (leb_tells n m) [ inl (holds, same) ↦ holds | inr (fails, more) ↦ absurd (omega (arith, most, more)) ]
 
 raw_in : (kind : Kind) (start bits i : ℕ) → width_fits kind start bits ≡ true → i ≤ last_index kind bits

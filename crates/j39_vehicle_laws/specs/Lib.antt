@@ -3,6 +3,7 @@ pub mod Values
 pub mod Faithful
 pub mod BusRuns
 pub mod Carrying
+pub mod Copied
 pub mod Unaltered
 pub mod Passing
 pub mod Forwarding

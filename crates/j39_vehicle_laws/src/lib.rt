@@ -6,6 +6,7 @@ ghost use Rattle.std.specs.Global.{Global};
 ghost use Rattle.j39_vehicle.specs.declared.vehicle.Vehicle.{Vehicle};
 ghost use Rattle.j39_paths.specs.VehicleFindings.{AreFindings};
 ghost use Rattle.j39_vehicle_laws.specs.Unaltered.{IsUnaltered};
+ghost use Rattle.j39_vehicle_laws.specs.Copied.{CopiesCanBeSent, ReadingsAreStates};
 ghost use Rattle.j39_vehicle_laws.specs.Forwarding.{ForwardedMessage};
 ghost use Rattle.j39_vehicle_laws.specs.Passing.{PassedMessagesArrive};
 ghost use Rattle.j39_vehicle_laws.specs.Values.{HavingIsOfValues, OneValueIsPassedOn};
@@ -31,6 +32,18 @@ pub fn nothing_is_altered()
 pub fn values_are_passed_on()
     ensures has { HavingIsOfValues }
     ensures passed { OneValueIsPassedOn }
+{}
+
+/// Of a vehicle without findings, what can be a message of the group that a copy hears can be one of the group that it sends: by its length,
+/// and by what tells groups of one PGN apart.
+pub fn copies_can_be_sent()
+    ensures { (v : Vehicle) → AreFindings v [] → CopiesCanBeSent v }
+{}
+
+/// What a signal reads in a message is its state there, where the message is as long as its group's are and the signal ends inside the
+/// shortest of these or is optional.
+pub fn readings_are_states()
+    ensures { ReadingsAreStates }
 {}
 
 /// Where on each bus of its trace a message is begun and nothing of it is lost, and each gateway begins it once its unit has reported the
