@@ -1,7 +1,7 @@
 -- How long the messages of each flow of each bus take, as the plans of the buses ask of them.
 use Rattle.std.specs.Prelude.{◌≡◌, ℕ, List, [], length, Bool, Option, Some, None}
 use Rattle.std.specs.List.{slice_get}
-use Rattle.std.specs.declared.vec.Vec.{Vec}
+use Rattle.std.specs.Option.{option_map_or}
 use Rattle.j39_findings.specs.declared.plan.Plan.{Plan}
 use Rattle.j39_findings.specs.declared.plan.timing.Timing.{Timing}
 use Rattle.j39_findings.specs.declared.plan.unit_plan.UnitPlan.{UnitPlan}
@@ -16,8 +16,11 @@ abbrev pub AreDelaysOn : Plan → Option Timing → List (Option Delay) → Type
 AreDelaysOn plan None delays = delays ≡ []
 AreDelaysOn plan (Some timing) delays = (stays : UnitPlan → Bool) × AsksOfBus plan timing stays delays
 
--- those of each bus stand at its place
+-- those that stand at the place of a bus
+abbrev pub delays_on : Delays → ℕ → List (Option Delay)
+delays_on delays b = option_map_or (λ told. told.items) (slice_get delays.of_buses.items b) []
+
+-- so it is of each bus
 pub record AreDelays (v : Vehicle) (delays : Delays) : Type 0 where
   pub count : length delays.of_buses.items ≡ length v.buses.items
-  pub each : (b : ℕ) (bus : BusPlan) (told : Vec (Option Delay)) → slice_get v.buses.items b ≡ Some bus → slice_get delays.of_buses.items b ≡ Some told
-      → AreDelaysOn bus.plan bus.plan.timing told.items
+  pub each : (b : ℕ) (bus : BusPlan) → slice_get v.buses.items b ≡ Some bus → AreDelaysOn bus.plan bus.plan.timing (delays_on delays b)

@@ -1,11 +1,10 @@
 -- The findings of times as a list: a test for each statement, and the list of all that pass; and of the flows of a need the one that is told.
 use Rattle.std.specs.Prelude.{ℕ, List, [], ◌∷◌, ◌++◌, Bool, true, false, not, ◌&&◌, ◌||◌, nat_lt, nat_le, if◌then◌else◌, Option, Some, None}
 use Rattle.std.specs.List.{slice_get}
-use Rattle.std.specs.Option.{option_and_then, option_map_or}
+use Rattle.std.specs.Option.{option_and_then, option_map, option_map_or}
 use Rattle.j39_findings.specs.ListPlaces.{each, found_if, in_each}
 use Rattle.j39_findings.specs.declared.plan.flow_plan.FlowPlan.{FlowPlan}
 use Rattle.j39_findings.specs.declared.plan.group_plan.GroupPlan.{GroupPlan}
-use Rattle.j39_findings.specs.declared.plan.pace.Pace.{Pace}
 use Rattle.j39_findings.specs.declared.plan.timing.Timing.{Timing}
 use Rattle.j39_findings.specs.declared.plan.to.To.{To}
 use Rattle.j39_findings.specs.declared.plan.to.To.TheVariants.{All, One}
@@ -18,10 +17,11 @@ use Rattle.j39_paths.specs.FoundPaths.{is_need_flow}
 use Rattle.j39_paths.specs.Traces.{flows_of_need, point_on}
 use Rattle.j39_paths.specs.declared.point.FlowAt.{FlowAt}
 use Rattle.j39_ages.specs.declared.bus_delays.Delays.{Delays}
+use Rattle.j39_ages.specs.declared.ends.Ends.{Ends}
 use Rattle.j39_ages.specs.declared.finding.TimeFinding.{TimeFinding}
 use Rattle.j39_ages.specs.declared.finding.TimeFinding.TheVariants.{TooOften, TooLate, TooRare, NeedTooOld}
 use Rattle.j39_ages.specs.declared.needs.NeedFlow.{NeedFlow}
-use Rattle.j39_ages.specs.TimeFindings.{first_output, period_of}
+use Rattle.j39_ages.specs.TimeFindings.{deadline_of, first_output, period_of}
 use Rattle.j39_ages.specs.Times.{age, flow_at, forward_at, input_at, jitter_of, queued_of, silent, timing_on, us_of_ms}
 
 abbrev pub is_within : ℕ → Option ℕ → Bool
@@ -29,54 +29,63 @@ is_within most number = option_map_or (λ n. nat_le n most) number false
 
 -- ---- direct forwards
 
--- the first input and the first output, where there are both, pass the test
-abbrev pub ends_pass : Vehicle → Forward → (FlowAt → FlowPlan → FlowPlan → Bool) → Bool
-ends_pass v n test =
-    option_map_or (λ at. option_map_or (λ i. option_map_or (test at i) (first_output v n) false) (flow_at v.buses.items at) false) (input_at v n) false
+-- the first input and the first output, where there are both
+abbrev pub ends_of : Vehicle → Forward → Option Ends
+ends_of v n = option_and_then (λ at. option_and_then (λ i. option_map (λ f. record { at = at; input = i; output = f }) (first_output v n))
+    (flow_at v.buses.items at)) (input_at v n)
 
 abbrev pub is_timed_bus : Vehicle → ℕ → Bool
 is_timed_bus v b = option_map_or (λ (timing : Timing). true) (timing_on v.buses.items b) false
 
-abbrev pub direct_ends_pass : Vehicle → Forward → (FlowAt → FlowPlan → FlowPlan → Bool) → Bool
-direct_ends_pass v n test = is_direct n && (is_timed_bus v n.output.bus && ends_pass v n test)
+-- those of a direct forward to a bus of whose timing something is known
+abbrev pub direct_ends : Vehicle → Forward → Option Ends
+direct_ends v n = if is_direct n && is_timed_bus v n.output.bus then ends_of v n else None
 
--- the second has no period, or it is at most the first's
 abbrev pub has_such_a_period : FlowPlan → ℕ → Bool
 has_such_a_period i p = option_map_or (λ q. nat_le p q) (period_of i) false
 
+abbrev pub is_nearer : FlowPlan → FlowPlan → Bool
+is_nearer i f = option_map_or (λ p. not (has_such_a_period i p)) (period_of f) false
+
 abbrev pub is_more_often : FlowPlan → FlowPlan → Bool
-is_more_often i f = option_map_or (λ p. not (has_such_a_period i p)) (period_of f) false || (f.on_request && not i.on_request)
+is_more_often i f = is_nearer i f || (f.on_request && not i.on_request)
 
 abbrev pub is_too_often : Vehicle → Forward → Bool
-is_too_often v n = direct_ends_pass v n (λ at i f. is_more_often i f)
+is_too_often v n = option_map_or (λ (ends : Ends). is_more_often ends.input ends.output) (direct_ends v n) false
 
 abbrev pub is_to_all : To → Bool
 is_to_all All = true
 is_to_all (One v) = false
 
 abbrev pub has_deadline : FlowPlan → Bool
-has_deadline f = option_map_or (λ (ms : ℕ). true) (option_and_then (λ (pace : Pace). pace.deadline) f.pace) false
+has_deadline f = option_map_or (λ (ms : ℕ). true) (deadline_of f) false
 
 abbrev pub is_long : List GroupPlan → ℕ → Bool
 is_long groups g = option_map_or (λ (group : GroupPlan). nat_lt 8 group.length) (slice_get groups g) false
 
-abbrev pub is_unlimited : List GroupPlan → FlowPlan → Bool
-is_unlimited groups f = is_to_all f.to && (not (has_deadline f) && is_long groups f.group)
+abbrev pub is_unlimited : Vehicle → Forward → FlowPlan → Bool
+is_unlimited v n f = is_to_all f.to && (not (has_deadline f) && is_long (groups_on v.buses.items n.output.bus) f.group)
 
 abbrev pub is_asked : Vehicle → Forward → FlowPlan → Bool
-is_asked v n f = not (is_unlimited (groups_on v.buses.items n.output.bus) f)
+is_asked v n f = not (is_unlimited v n f)
 
 abbrev pub is_late_asked_of : Vehicle → Forward → Bool
-is_late_asked_of v n = direct_ends_pass v n (λ at i f. is_asked v n f)
+is_late_asked_of v n = option_map_or (λ (ends : Ends). is_asked v n ends.output) (direct_ends v n) false
 
 abbrev pub is_late_asked : Vehicle → ℕ → Bool
 is_late_asked v n = option_map_or (is_late_asked_of v) (forward_at v n) false
 
+abbrev pub is_later : Vehicle → Delays → Forward → FlowPlan → Bool
+is_later v delays n f = is_asked v n f && not (is_within (us_of_ms (jitter_of f)) (queued_of v delays n))
+
 abbrev pub is_too_late : Vehicle → Delays → Forward → Bool
-is_too_late v delays n = direct_ends_pass v n (λ at i f. is_asked v n f && not (is_within (us_of_ms (jitter_of f)) (queued_of v delays n)))
+is_too_late v delays n = option_map_or (λ (ends : Ends). is_later v delays n ends.output) (direct_ends v n) false
+
+abbrev pub is_rarer : Vehicle → FlowAt → FlowPlan → Bool
+is_rarer v at f = option_map_or (λ ms. not (is_within (us_of_ms ms) (silent v at))) f.pause false
 
 abbrev pub is_too_rare : Vehicle → Forward → Bool
-is_too_rare v n = direct_ends_pass v n (λ at i f. option_map_or (λ ms. not (is_within (us_of_ms ms) (silent v at))) f.pause false)
+is_too_rare v n = option_map_or (λ (ends : Ends). is_rarer v ends.at ends.output) (direct_ends v n) false
 
 -- ---- needs
 
@@ -84,8 +93,8 @@ is_too_rare v n = direct_ends_pass v n (λ at i f. option_map_or (λ ms. not (is
 abbrev pub need_flow_at : Vehicle → Delays → VehicleNeed → ℕ → NeedFlow
 need_flow_at v delays d f = record { flow = f; age = age v delays (point_on d.unit.bus f d.signal) }
 
-abbrev pub need_flows : Vehicle → Delays → VehicleNeed → List NeedFlow
-need_flows v delays d = in_each (λ f flow. found_if (is_need_flow v d f flow) (need_flow_at v delays d f)) 0 (flows_of_need v d)
+abbrev pub need_flows_at : Vehicle → Delays → VehicleNeed → ℕ → FlowPlan → List NeedFlow
+need_flows_at v delays d f flow = found_if (is_need_flow v d f flow) (need_flow_at v delays d f)
 
 -- the first age is known, and less than the second, if that is known
 abbrev pub is_younger : Option ℕ → Option ℕ → Bool
@@ -95,17 +104,24 @@ is_younger (Some a) b = option_map_or (λ n. nat_lt a n) b true
 abbrev pub younger_of : NeedFlow → NeedFlow → NeedFlow
 younger_of x y = if is_younger y.age x.age then y else x
 
+abbrev pub joined : Option NeedFlow → Option NeedFlow → Option NeedFlow
+joined None b = b
+joined (Some a) None = Some a
+joined (Some a) (Some b) = Some (younger_of a b)
+
 -- the first one of the least age, else the first
 abbrev pub youngest : List NeedFlow → Option NeedFlow
 youngest [] = None
-youngest (x ∷ xs) = Some (option_map_or (younger_of x) (youngest xs) x)
+youngest (x ∷ xs) = joined (Some x) (youngest xs)
 
 abbrev pub flow_of_need : Vehicle → Delays → VehicleNeed → Option NeedFlow
-flow_of_need v delays d = youngest (need_flows v delays d)
+flow_of_need v delays d = youngest (in_each (need_flows_at v delays d) 0 (flows_of_need v d))
+
+abbrev pub is_older : Vehicle → Delays → VehicleNeed → ℕ → Bool
+is_older v delays d ms = option_map_or (λ (told : NeedFlow). not (is_within (us_of_ms ms) told.age)) (flow_of_need v delays d) false
 
 abbrev pub is_need_too_old : Vehicle → Delays → VehicleNeed → Bool
-is_need_too_old v delays d = option_map_or (λ ms. option_map_or (λ (told : NeedFlow). not (is_within (us_of_ms ms) told.age))
-    (flow_of_need v delays d) false) d.within false
+is_need_too_old v delays d = option_map_or (is_older v delays d) d.within false
 
 -- ---- the whole list
 

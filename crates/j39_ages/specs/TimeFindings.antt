@@ -16,8 +16,8 @@ use Rattle.j39_paths.specs.Buses.{groups_on}
 use Rattle.j39_paths.specs.Forwards.{IsDirect, output_flows}
 use Rattle.j39_paths.specs.ForwardTests.{is_output}
 use Rattle.j39_paths.specs.Traces.{IsNeedFlow, flows_of_need, point_on}
-use Rattle.j39_paths.specs.declared.point.FlowAt.{FlowAt}
 use Rattle.j39_ages.specs.declared.bus_delays.Delays.{Delays}
+use Rattle.j39_ages.specs.declared.ends.Ends.{Ends}
 use Rattle.j39_ages.specs.declared.finding.TimeFinding.{TimeFinding}
 use Rattle.j39_ages.specs.declared.finding.TimeFinding.TheVariants.{TooOften, TooLate, TooRare, NeedTooOld}
 use Rattle.j39_ages.specs.Times.{age, flow_at, input_at, jitter_of, queued_of, silent, timing_on, us_of_ms}
@@ -31,47 +31,46 @@ IsWithin most number = (n : ℕ) × (number ≡ Some n) × (n ≤ most)
 abbrev pub first_output : Vehicle → Forward → Option FlowPlan
 first_output v n = option_and_then (slice_get (output_flows v n)) (position (is_output n) (output_flows v n))
 
--- a direct forward to a bus of whose timing something is known: its first input, by its place, and its first output
-pub record IsDirectBetween (v : Vehicle) (n : Forward) (R : FlowAt → FlowPlan → FlowPlan → Type 0) : Type 0 where
+-- a direct forward to a bus of whose timing something is known, with its first input and its first output
+pub record IsDirectBetween (v : Vehicle) (n : Forward) (R : Ends → Type 0) : Type 0 where
   pub direct : IsDirect n
   pub timing : ¬ (timing_on v.buses.items n.output.bus ≡ None)
-  pub at : FlowAt
-  pub at_is : input_at v n ≡ Some at
-  pub input : FlowPlan
-  pub input_is : flow_at v.buses.items at ≡ Some input
-  pub output : FlowPlan
-  pub output_is : first_output v n ≡ Some output
-  pub related : R at input output
+  pub ends : Ends
+  pub at : input_at v n ≡ Some ends.at
+  pub input : flow_at v.buses.items ends.at ≡ Some ends.input
+  pub output : first_output v n ≡ Some ends.output
+  pub related : R ends
 
 abbrev pub period_of : FlowPlan → Option ℕ
 period_of flow = option_map (λ (pace : Pace). pace.period) flow.pace
 
--- the input's messages needn't be as far apart as those of the output have to be; or these are sent only where they are asked for, and those
--- aren't
-abbrev pub IsMoreOften : FlowPlan → FlowPlan → Type 0
-IsMoreOften i f = ((p : ℕ) × (period_of f ≡ Some p) × (¬ ((q : ℕ) × (period_of i ≡ Some q) × (p ≤ q))))
-    ⊎ ((f.on_request ≡ true) × (i.on_request ≡ false))
+-- the input's messages needn't be as far apart as those of the output have to be
+abbrev pub IsNearer : FlowPlan → FlowPlan → Type 0
+IsNearer i f = (p : ℕ) × (period_of f ≡ Some p) × (¬ ((q : ℕ) × (period_of i ≡ Some q) × (p ≤ q)))
 
+-- so it is, or these are sent only where they are asked for, and those aren't
 abbrev pub IsTooOften : Vehicle → Forward → Type 0
-IsTooOften v n = IsDirectBetween v n (λ at i f. IsMoreOften i f)
+IsTooOften v n = IsDirectBetween v n (λ ends.
+    IsNearer ends.input ends.output ⊎ ((ends.output.on_request ≡ true) × (ends.input.on_request ≡ false)))
+
+abbrev pub deadline_of : FlowPlan → Option ℕ
+deadline_of flow = option_and_then (λ (pace : Pace). pace.deadline) flow.pace
 
 -- a flow to all that has no written deadline, and each of whose messages goes in packets (SAE J1939-21): nothing is asked of its jitter
-pub record IsUnlimited (groups : List GroupPlan) (f : FlowPlan) : Type 0 where
+pub record IsUnlimited (v : Vehicle) (n : Forward) (f : FlowPlan) : Type 0 where
   pub to : f.to ≡ All
-  pub limit : option_and_then (λ (pace : Pace). pace.deadline) f.pace ≡ None
-  pub long : ValueAt (λ (group : GroupPlan). 8 < group.length) groups f.group
+  pub limit : deadline_of f ≡ None
+  pub long : ValueAt (λ (group : GroupPlan). 8 < group.length) (groups_on v.buses.items n.output.bus) f.group
 
--- it is asked of the forward that it queues each message within the jitter of its output
-abbrev pub IsLateAsked : Vehicle → Forward → Type 0
-IsLateAsked v n = IsDirectBetween v n (λ at i f. ¬ IsUnlimited (groups_on v.buses.items n.output.bus) f)
-
+-- of any other the forward has to queue each message within the jitter
 abbrev pub IsTooLate : Vehicle → Delays → Forward → Type 0
-IsTooLate v delays n = IsDirectBetween v n (λ at i f.
-    (¬ IsUnlimited (groups_on v.buses.items n.output.bus) f) × (¬ IsWithin (us_of_ms (jitter_of f)) (queued_of v delays n)))
+IsTooLate v delays n = IsDirectBetween v n (λ ends.
+    (¬ IsUnlimited v n ends.output) × (¬ IsWithin (us_of_ms (jitter_of ends.output)) (queued_of v delays n)))
 
 -- a message of the output has its moment in each of its pauses, and none of the input need have
 abbrev pub IsTooRare : Vehicle → Forward → Type 0
-IsTooRare v n = IsDirectBetween v n (λ at i f. (ms : ℕ) × (f.pause ≡ Some ms) × (¬ IsWithin (us_of_ms ms) (silent v at)))
+IsTooRare v n = IsDirectBetween v n (λ ends.
+    (ms : ℕ) × (ends.output.pause ≡ Some ms) × (¬ IsWithin (us_of_ms ms) (silent v ends.at)))
 
 -- ---- needs
 

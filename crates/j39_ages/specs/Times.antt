@@ -3,7 +3,6 @@
 use Rattle.std.specs.Prelude.{ℕ, zero, suc, ◌+◌, ◌-◌, ◌*◌, List, length, if◌then◌else◌, ◌&&◌, Option, Some, None}
 use Rattle.std.specs.List.{slice_get, position}
 use Rattle.std.specs.Option.{option_and_then, option_map, option_map_or}
-use Rattle.std.specs.declared.vec.Vec.{Vec}
 use Rattle.j39_findings.specs.declared.plan.flow_plan.FlowPlan.{FlowPlan}
 use Rattle.j39_findings.specs.declared.plan.pace.Pace.{Pace}
 use Rattle.j39_findings.specs.declared.plan.timing.Bitrate.{Bitrate}
@@ -20,6 +19,7 @@ use Rattle.j39_paths.specs.ForwardTests.{feeds, is_direct}
 use Rattle.j39_paths.specs.Traces.{first_input, goes_on, next_forward}
 use Rattle.j39_paths.specs.declared.point.FlowAt.{FlowAt}
 use Rattle.j39_paths.specs.declared.point.Point.{Point}
+use Rattle.j39_ages.specs.BusDelays.{delays_on}
 use Rattle.j39_ages.specs.declared.bus_delays.Delays.{Delays}
 
 -- ---- numbers
@@ -62,8 +62,7 @@ bits_within (Some (Within bits)) = Some bits
 bits_within _ = None
 
 abbrev pub delay_at : Delays → FlowAt → Option ℕ
-delay_at delays at = option_and_then bits_within
-    (option_and_then (λ (of_bus : Vec (Option Delay)). slice_get of_bus.items at.flow) (slice_get delays.of_buses.items at.bus))
+delay_at delays at = option_and_then bits_within (slice_get (delays_on delays at.bus) at.flow)
 
 -- how long a frame takes that was queued: its delay counts from the moment of the message, and it was queued within the jitter behind this
 abbrev pub own_of : Timing → FlowPlan → ℕ → ℕ
@@ -119,14 +118,15 @@ queued v delays n = option_and_then (queued_of v delays) (forward_at v n)
 abbrev pub pause_of : FlowPlan → Option ℕ
 pause_of flow = option_map us_of_ms flow.pause
 
--- of a flow that isn't sent only where it is asked for
-abbrev pub unasked : FlowPlan → Option ℕ → Option ℕ
-unasked flow silent = if flow.on_request then None else silent
+-- a flow that isn't sent only where it is asked for, on a bus of which something is known
+abbrev pub unasked_at : Vehicle → FlowAt → Option FlowPlan
+unasked_at v at = option_and_then (λ (timing : Timing). option_and_then (λ (flow : FlowPlan). if flow.on_request then None else Some flow)
+    (flow_at v.buses.items at)) (timing_on v.buses.items at.bus)
 
 unfoldable pub silent_by : Vehicle → ℕ → FlowAt → Option ℕ
-silent_by v zero at = timed v at (λ timing flow. unasked flow (option_map_or (λ n. None) (direct_feeder v at) (pause_of flow)))
-silent_by v (suc steps) at = timed v at (λ timing flow.
-    unasked flow (option_map_or (λ n. option_and_then (silent_by v steps) (input_at v n)) (direct_feeder v at) (pause_of flow)))
+silent_by v zero at = option_and_then (λ flow. option_map_or (λ n. None) (direct_feeder v at) (pause_of flow)) (unasked_at v at)
+silent_by v (suc steps) at =
+    option_and_then (λ flow. option_map_or (λ n. option_and_then (silent_by v steps) (input_at v n)) (direct_feeder v at) (pause_of flow)) (unasked_at v at)
 
 abbrev pub silent : Vehicle → FlowAt → Option ℕ
 silent v at = silent_by v (length v.forwards.items) at
@@ -145,9 +145,10 @@ old_behind v delays n at old =
 
 -- how old a value is at the moment of the message that brings it, where its trace goes on so many times at most
 unfoldable pub old_by : Vehicle → Delays → ℕ → Point → Option ℕ
-old_by v delays zero p = timed v p.at (λ timing flow. option_map_or (λ n. None) (next_forward v p) (Some 0))
-old_by v delays (suc steps) p = timed v p.at (λ timing flow.
+old_by v delays zero p = option_and_then (λ (timing : Timing). option_map_or (λ n. None) (next_forward v p) (Some 0)) (timing_on v.buses.items p.at.bus)
+old_by v delays (suc steps) p = option_and_then (λ (timing : Timing).
     option_map_or (λ n. option_and_then (λ (q : Point). old_behind v delays n q.at (old_by v delays steps q)) (goes_on v p n)) (next_forward v p) (Some 0))
+    (timing_on v.buses.items p.at.bus)
 
 abbrev pub old : Vehicle → Delays → Point → Option ℕ
 old v delays p = old_by v delays (length v.forwards.items) p

@@ -1,7 +1,7 @@
 //! How long the messages of each flow of each bus take.
 ghost use Rattle.std.specs.Prelude.{◌≡◌, ◌≢◌, [], IfOk, OnErr};
 ghost use Rattle.std.specs.Option.{option_copied};
-ghost use Rattle.j39_ages.specs.BusDelays.{AreDelays, AreDelaysOn};
+ghost use Rattle.j39_ages.specs.BusDelays.{AreDelays, AreDelaysOn, delays_on};
 ghost use Rattle.j39_ages.specs.Times.{bits_within, delay_at};
 
 use j39_findings::Plan;
@@ -29,27 +29,36 @@ fn bits_within(delay: Option<Delay>) -> Option<u32>
     }
 }
 
+// Those of the flows of the bus at a place.
+fn delays_on(delays: &Delays, bus: usize) -> &[Option<Delay>]
+    ensures { result.now ≡ delays_on delays.now bus }
+{
+    match delays.of_buses.get(bus) {
+        Some(told) => told.as_slice(),
+        None => &[],
+    }
+}
+
 /// The delay of a flow in bits, where it is told so.
 pub fn delay_at(delays: &Delays, at: FlowAt) -> Option<u32>
     ensures { result ≡ delay_at delays.now at }
 {
-    let Some(of_bus) = delays.of_buses.get(at.bus) else {
-        return None;
-    };
-    match of_bus.get(at.flow) {
+    match delays_on(delays, at.bus).get(at.flow) {
         Some(delay) => bits_within(*delay),
         None => None,
     }
 }
 
 // The delays of the flows of a bus with this plan.
-fn delays_on(alloc: Global, plan: &Plan) -> Result<Vec<Option<Delay>>, AllocError>
+fn delays_by(alloc: Global, plan: &Plan) -> Result<Vec<Option<Delay>>, AllocError>
     ensures { IfOk result (λ delays. AreDelaysOn plan.now plan.now.timing delays.items) }
 {
     let Some(timing) = plan.timing else {
         return Ok(Vec::new(alloc));
     };
-    Loads::new(alloc, timing, plan)?.delays(alloc)
+    let loads = Loads::new(alloc, timing, plan)?;
+    let delays = loads.delays(alloc)?;
+    Ok(delays)
 }
 
 /// The delays of the flows of all buses, each as its plan asks of it.
@@ -58,8 +67,10 @@ pub fn delays_of(alloc: Global, vehicle: &Vehicle) -> Result<Delays, AllocError>
     ensures memory { OnErr result (vehicle.now.buses.items ≢ []) }
 {
     let mut of_buses = Vec::new(alloc);
-    for bus in &vehicle.buses {
-        of_buses.push(delays_on(alloc, &bus.plan)?)?;
+    for place in 0..vehicle.buses.len() {
+        let bus = &vehicle.buses[place];
+        let told = delays_by(alloc, &bus.plan)?;
+        of_buses.push(told)?;
     }
     Ok(Delays { of_buses })
 }

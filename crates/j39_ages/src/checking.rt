@@ -1,7 +1,7 @@
 //! Everything that is wrong with the times of what the gateways of a vehicle send on.
 ghost use Rattle.std.specs.Prelude.{◌≡◌, ◌≢◌, ℕ, Bool, [], IfOk, OnErr};
 ghost use Rattle.j39_findings.specs.Adding.{Adds};
-ghost use Rattle.j39_findings.specs.ListPlaces.{each};
+ghost use Rattle.j39_findings.specs.ListPlaces.{each, found_if};
 ghost use Rattle.j39_ages.specs.FoundTimes.{forward_time_findings, is_need_too_old, is_too_late, is_too_often, is_too_rare, need_time_findings, time_findings};
 
 use crate::bus_delays::Delays;
@@ -34,7 +34,9 @@ fn push_if(
     findings: &mut TimeFindings,
     holds: bool,
     finding: TimeFinding,
-) -> Result<(), AllocError> {
+) -> Result<(), AllocError>
+    ensures { Adds result findings.old.items findings.new.items (found_if holds finding) }
+{
     if holds {
         findings.push(finding)?;
     }
@@ -167,6 +169,18 @@ fn find_in_needs(
     find_each(findings, &TooOld { vehicle, delays }, &vehicle.needs)
 }
 
+#[tactic(auto, unfolding(crate::specs::FoundTimes::time_findings))]
+fn find_all(
+    findings: &mut TimeFindings,
+    vehicle: &Vehicle,
+    delays: &Delays,
+) -> Result<(), AllocError>
+    ensures { Adds result findings.old.items findings.new.items (time_findings vehicle.now delays.now) }
+{
+    find_in_forwards(findings, vehicle, delays)?;
+    find_in_needs(findings, vehicle, delays)
+}
+
 /// What is wrong with the times of the forwards and of what is needed, where the buses have these delays: G10 to G13, by their numbers and then
 /// by their places in rising order.
 pub fn find_in_times(
@@ -178,7 +192,6 @@ pub fn find_in_times(
     ensures memory { OnErr result (time_findings vehicle.now delays.now ≢ []) }
 {
     let mut findings = Vec::new(alloc);
-    find_in_forwards(&mut findings, vehicle, delays)?;
-    find_in_needs(&mut findings, vehicle, delays)?;
+    find_all(&mut findings, vehicle, delays)?;
     Ok(findings)
 }

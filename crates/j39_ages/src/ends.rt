@@ -1,12 +1,12 @@
 //! What is asked of a direct forward, between its first input and its first output.
-ghost use Rattle.std.specs.Prelude.{◌≡◌, ◌&&◌, not};
+ghost use Rattle.std.specs.Prelude.{◌≡◌};
 ghost use Rattle.std.specs.List.{position};
 ghost use Rattle.std.specs.Option.{option_copied};
+ghost use Rattle.j39_paths.specs.Buses.{groups_on};
 ghost use Rattle.j39_paths.specs.ForwardTests.{is_output};
 ghost use Rattle.j39_paths.specs.Forwards.{output_flows};
 ghost use Rattle.j39_ages.specs.TimeFindings.{first_output, period_of};
-ghost use Rattle.j39_ages.specs.FoundTimes.{has_deadline, has_such_a_period, is_asked, is_late_asked, is_late_asked_of, is_long, is_more_often, is_timed_bus, is_to_all, is_too_late, is_too_often, is_too_rare, is_unlimited, is_within};
-ghost use Rattle.j39_ages.specs.Times.{silent, us_of_ms};
+ghost use Rattle.j39_ages.specs.FoundTimes.{direct_ends, ends_of, has_deadline, has_such_a_period, is_asked, is_late_asked, is_late_asked_of, is_later, is_long, is_more_often, is_nearer, is_rarer, is_timed_bus, is_to_all, is_too_late, is_too_often, is_too_rare, is_unlimited, is_within};
 
 use crate::bus_delays::Delays;
 use crate::chains::{queued_of, silent};
@@ -49,15 +49,17 @@ fn is_timed_bus(vehicle: &Vehicle, bus: usize) -> bool
     timing_on(&vehicle.buses, bus).is_some()
 }
 
-// The first input of the forward by its place, and the plans of this and of the first output, if it is direct and something is known of
-// the bus where it sends.
-fn direct_ends<'a>(
-    vehicle: &'a Vehicle,
-    forward: &Forward,
-) -> Option<(FlowAt, &'a FlowPlan, &'a FlowPlan)> {
-    if !is_direct(forward) || !is_timed_bus(vehicle, forward.output.bus) {
-        return None;
-    }
+/// Where a direct forward begins and ends: the place of its first input, and the plans of this and of its first output.
+#[derive(Clone, Copy, Debug, PartialEq, Eq)]
+pub struct Ends {
+    pub at: FlowAt,
+    pub input: FlowPlan,
+    pub output: FlowPlan,
+}
+
+fn ends_of(vehicle: &Vehicle, forward: &Forward) -> Option<Ends>
+    ensures { result ≡ ends_of vehicle.now forward.now }
+{
     let Some(at) = input_at(vehicle, forward) else {
         return None;
     };
@@ -65,8 +67,23 @@ fn direct_ends<'a>(
         return None;
     };
     match first_output(vehicle, forward) {
-        Some(output) => Some((at, input, output)),
+        Some(output) => Some(Ends {
+            at,
+            input: *input,
+            output: *output,
+        }),
         None => None,
+    }
+}
+
+// Those of a direct forward, where something is known of the bus where it sends.
+fn direct_ends(vehicle: &Vehicle, forward: &Forward) -> Option<Ends>
+    ensures { result ≡ direct_ends vehicle.now forward.now }
+{
+    if is_direct(forward) && is_timed_bus(vehicle, forward.output.bus) {
+        ends_of(vehicle, forward)
+    } else {
+        None
     }
 }
 
@@ -88,15 +105,21 @@ fn has_such_a_period(input: &FlowPlan, period: u16) -> bool
     }
 }
 
+// Whether the output has a period, and the input's messages may be nearer to each other.
+fn is_nearer(input: &FlowPlan, output: &FlowPlan) -> bool
+    ensures { result ≡ is_nearer input.now output.now }
+{
+    match period_of(output) {
+        Some(period) => !has_such_a_period(input, period),
+        None => false,
+    }
+}
+
 // Whether the input's messages may come more often than those of the output may be sent.
 fn is_more_often(input: &FlowPlan, output: &FlowPlan) -> bool
     ensures { result ≡ is_more_often input.now output.now }
 {
-    let is_nearer = match period_of(output) {
-        Some(period) => !has_such_a_period(input, period),
-        None => false,
-    };
-    is_nearer || output.on_request && !input.on_request
+    is_nearer(input, output) || output.on_request && !input.on_request
 }
 
 /// Whether what the forward hears may come more often than its output may be sent.
@@ -104,7 +127,7 @@ pub fn is_too_often(vehicle: &Vehicle, forward: &Forward) -> bool
     ensures { result ≡ is_too_often vehicle.now forward.now }
 {
     match direct_ends(vehicle, forward) {
-        Some((_at, input, output)) => is_more_often(input, output),
+        Some(ends) => is_more_often(&ends.input, &ends.output),
         None => false,
     }
 }
@@ -119,33 +142,48 @@ fn has_deadline(flow: &FlowPlan) -> bool
 }
 
 // Whether each message of the group is longer than a frame.
-fn is_long(vehicle: &Vehicle, place: GroupAt) -> bool {
+fn is_long(vehicle: &Vehicle, place: GroupAt) -> bool
+    ensures { result ≡ is_long (groups_on vehicle.now.buses.items place.bus) place.group }
+{
     match group_at(&vehicle.buses, place) {
         Some(group) => 8 < group.length,
         None => false,
     }
 }
 
-// Whether it is asked that messages of the flow, one of the bus where the forward sends, are queued within its jitter: not of a broadcast
-// without a written deadline all of whose messages go in packets.
+fn is_to_all(to: To) -> bool
+    ensures { result ≡ is_to_all to }
+{
+    match to {
+        To::All => true,
+        To::One(_) => false,
+    }
+}
+
+// Whether the flow, one of the bus where the forward sends, is a broadcast without a written deadline all of whose messages go in packets.
+fn is_unlimited(vehicle: &Vehicle, forward: &Forward, output: &FlowPlan) -> bool
+    ensures { result ≡ is_unlimited vehicle.now forward.now output.now }
+{
+    if !is_to_all(output.to) || has_deadline(output) {
+        return false;
+    }
+    let bus = forward.output.bus;
+    let group = output.group;
+    is_long(vehicle, GroupAt { bus, group })
+}
+
+// Whether it is asked that its messages are queued within its jitter.
 fn is_asked(vehicle: &Vehicle, forward: &Forward, output: &FlowPlan) -> bool
     ensures { result ≡ is_asked vehicle.now forward.now output.now }
 {
-    let group = GroupAt {
-        bus: forward.output.bus,
-        group: output.group,
-    };
-    match output.to {
-        To::All => has_deadline(output) || !is_long(vehicle, group),
-        To::One(_) => true,
-    }
+    !is_unlimited(vehicle, forward, output)
 }
 
 fn is_late_asked_of(vehicle: &Vehicle, forward: &Forward) -> bool
     ensures { result ≡ is_late_asked_of vehicle.now forward.now }
 {
     match direct_ends(vehicle, forward) {
-        Some((_at, _input, output)) => is_asked(vehicle, forward, output),
+        Some(ends) => is_asked(vehicle, forward, &ends.output),
         None => false,
     }
 }
@@ -160,24 +198,27 @@ pub fn is_late_asked(vehicle: &Vehicle, forward: usize) -> bool
     }
 }
 
+fn is_later(vehicle: &Vehicle, delays: &Delays, forward: &Forward, output: &FlowPlan) -> bool
+    ensures { result ≡ is_later vehicle.now delays.now forward.now output.now }
+{
+    let jitter = us_of_ms(jitter_of(output));
+    is_asked(vehicle, forward, output) && !is_within(jitter, queued_of(vehicle, delays, forward))
+}
+
 /// Whether it is, and isn't shown that it does.
 pub fn is_too_late(vehicle: &Vehicle, delays: &Delays, forward: &Forward) -> bool
     ensures { result ≡ is_too_late vehicle.now delays.now forward.now }
 {
     match direct_ends(vehicle, forward) {
-        Some((_at, _input, output)) => {
-            is_asked(vehicle, forward, output)
-                && !is_within(
-                    us_of_ms(jitter_of(output)),
-                    queued_of(vehicle, delays, forward),
-                )
-        }
+        Some(ends) => is_later(vehicle, delays, forward, &ends.output),
         None => false,
     }
 }
 
 // Whether messages of the input may stay away for longer than those of the output.
-fn is_rarer(vehicle: &Vehicle, at: FlowAt, output: &FlowPlan) -> bool {
+fn is_rarer(vehicle: &Vehicle, at: FlowAt, output: &FlowPlan) -> bool
+    ensures { result ≡ is_rarer vehicle.now at output.now }
+{
     match output.pause {
         Some(ms) => !is_within(us_of_ms(ms), silent(vehicle, at)),
         None => false,
@@ -189,7 +230,7 @@ pub fn is_too_rare(vehicle: &Vehicle, forward: &Forward) -> bool
     ensures { result ≡ is_too_rare vehicle.now forward.now }
 {
     match direct_ends(vehicle, forward) {
-        Some((at, _input, output)) => is_rarer(vehicle, at, output),
+        Some(ends) => is_rarer(vehicle, ends.at, &ends.output),
         None => false,
     }
 }

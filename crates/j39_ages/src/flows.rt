@@ -1,9 +1,9 @@
 //! What is known of a flow and of a forward by itself, in microseconds.
-ghost use Rattle.std.specs.Prelude.{◌≡◌, ◌≤◌, ◌+◌, ◌<◌, ◌^◌, ◌&&◌, IfSome};
+ghost use Rattle.std.specs.Prelude.{◌≡◌, ◌≤◌, ◌<◌, ◌^◌, ◌&&◌, IfSome};
 ghost use Rattle.std.specs.List.{position};
 ghost use Rattle.std.specs.Option.{option_copied};
 ghost use Rattle.j39_paths.specs.ForwardTests.{feeds, is_direct};
-ghost use Rattle.j39_ages.specs.Times.{bit_time, direct_feeder, flow_at, input_at, jitter_of, own, own_of, pause_of, sum_known, timed, timing_on, us_of_ms, within_of};
+ghost use Rattle.j39_ages.specs.Times.{bit_time, direct_feeder, flow_at, input_at, jitter_of, own, own_of, pause_of, timed, timing_on, us_of_ms, within_of};
 
 use crate::bus_delays::{Delays, delay_at};
 use j39_findings::{Bitrate, FlowPlan, Timing};
@@ -30,18 +30,6 @@ pub fn us_of_ms(ms: u16) -> u64
     ensures few { result < 2 ^ 26 }
 {
     1_000 * u64::from(ms)
-}
-
-/// Both numbers together, where both are known.
-pub fn sum_known(one: Option<u64>, other: Option<u64>) -> Option<u64>
-    requires { IfSome one (λ a. IfSome other (λ b. a + b < 2 ^ 64)) }
-    ensures { result ≡ sum_known one other }
-{
-    match (one, other) {
-        (Some(one), Some(other)) => Some(one + other),
-        (Some(_), None) => None,
-        (None, _) => None,
-    }
 }
 
 /// How many milliseconds behind its moment a message of the flow is queued at most.
@@ -82,8 +70,8 @@ pub fn flow_at(buses: &[BusPlan], at: FlowAt) -> Option<&FlowPlan>
     flows_on(buses, at.bus).get(at.flow)
 }
 
-// How long a frame of the flow takes that was queued, where it has this delay in bits.
-fn own_of(timing: Timing, flow: &FlowPlan, delay: u32) -> u64
+/// How long a frame of the flow takes that was queued, where it has this delay in bits.
+pub fn own_of(timing: Timing, flow: &FlowPlan, delay: u32) -> u64
     ensures value { result ≡ own_of timing flow.now delay }
     ensures few { result < 2 ^ 35 }
 {

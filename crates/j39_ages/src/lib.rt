@@ -8,6 +8,7 @@ mod chains;
 mod ends;
 mod finding;
 mod flows;
+mod laws;
 mod needs;
 
 pub use bus_delays::{Delays, delays_of};
@@ -15,4 +16,5 @@ pub use chains::queued;
 pub use checking::{TimeFindings, find_in_times};
 pub use ends::is_late_asked;
 pub use finding::TimeFinding;
+pub use laws::time_findings_are_exact;
 pub use needs::{NeedFlow, flow_of_need};

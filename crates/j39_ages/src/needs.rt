@@ -1,11 +1,13 @@
 //! By which flow a need across buses is met, and how old what it brings is.
-ghost use Rattle.std.specs.Prelude.{◌≡◌};
-ghost use Rattle.j39_ages.specs.FoundTimes.{flow_of_need, is_need_too_old, is_younger, need_flow_at, younger_of, youngest};
+ghost use Rattle.std.specs.Prelude.{◌≡◌, Some};
+ghost use Rattle.j39_findings.specs.ListPlaces.{in_each};
+ghost use Rattle.j39_ages.specs.FoundTimes.{flow_of_need, is_need_too_old, is_older, is_younger, joined, need_flow_at, need_flows_at, younger_of, youngest};
 
 use crate::ages::age;
 use crate::bus_delays::Delays;
 use crate::ends::is_within;
 use crate::flows::us_of_ms;
+use j39_findings::FlowPlan;
 use j39_paths::{FlowAt, Point, flows_on, is_need_flow};
 use j39_vehicle::{Vehicle, VehicleNeed};
 
@@ -43,12 +45,59 @@ fn is_younger(one: Option<u64>, other: Option<u64>) -> bool
     }
 }
 
-// The first one where the second isn't younger.
-fn younger_of(best: Option<NeedFlow>, next: NeedFlow) -> NeedFlow {
-    match best {
-        Some(best) if !is_younger(next.age, best.age) => best,
-        _ => next,
+// The second one where it is younger, else the first.
+fn younger_of(one: NeedFlow, other: NeedFlow) -> NeedFlow
+    ensures { result ≡ younger_of one other }
+{
+    if is_younger(other.age, one.age) {
+        other
+    } else {
+        one
     }
+}
+
+// The best one of those before and of the next.
+fn joined(best: Option<NeedFlow>, next: NeedFlow) -> NeedFlow
+    ensures { Some result ≡ joined best (Some next) }
+{
+    match best {
+        Some(best) => younger_of(best, next),
+        None => next,
+    }
+}
+
+// The best one of those before and of the flow at a place of the need's bus, if this is one of the need's.
+fn joined_with(
+    vehicle: &Vehicle,
+    delays: &Delays,
+    need: &VehicleNeed,
+    best: Option<NeedFlow>,
+    place: usize,
+    flow: &FlowPlan,
+) -> Option<NeedFlow>
+    ensures { result ≡ joined best (youngest (need_flows_at vehicle.now delays.now need.now place flow.now)) }
+{
+    if !is_need_flow(vehicle, need, place, flow) {
+        return best;
+    }
+    let next = need_flow_at(vehicle, delays, need, place);
+    Some(joined(best, next))
+}
+
+// The first youngest one of the need's among these, which are all flows of its bus.
+fn youngest_of(
+    vehicle: &Vehicle,
+    delays: &Delays,
+    need: &VehicleNeed,
+    flows: &[FlowPlan],
+) -> Option<NeedFlow>
+    ensures { result ≡ youngest (in_each (need_flows_at vehicle.now delays.now need.now) 0 flows.now) }
+{
+    let mut best = None;
+    for (place, flow) in flows.iter().enumerate() {
+        best = joined_with(vehicle, delays, need, best, place, flow);
+    }
+    best
 }
 
 /// Of the flows that bring the need's unit what it needs, from the unit that is named, the first one of the least age, else the first. There
@@ -56,23 +105,18 @@ fn younger_of(best: Option<NeedFlow>, next: NeedFlow) -> NeedFlow {
 pub fn flow_of_need(vehicle: &Vehicle, delays: &Delays, need: &VehicleNeed) -> Option<NeedFlow>
     ensures { result ≡ flow_of_need vehicle.now delays.now need.now }
 {
-    let mut best = None;
-    for (place, flow) in flows_on(&vehicle.buses, need.unit.bus)
-        .iter()
-        .enumerate()
-    {
-        if is_need_flow(vehicle, need, place, flow) {
-            best = Some(younger_of(
-                best,
-                need_flow_at(vehicle, delays, need, place),
-            ));
-        }
-    }
-    best
+    youngest_of(
+        vehicle,
+        delays,
+        need,
+        flows_on(&vehicle.buses, need.unit.bus),
+    )
 }
 
 // Whether flows bring it, and what none of them brings is shown to be at most so old.
-fn is_older(vehicle: &Vehicle, delays: &Delays, need: &VehicleNeed, ms: u16) -> bool {
+fn is_older(vehicle: &Vehicle, delays: &Delays, need: &VehicleNeed, ms: u16) -> bool
+    ensures { result ≡ is_older vehicle.now delays.now need.now ms }
+{
     match flow_of_need(vehicle, delays, need) {
         Some(told) => !is_within(us_of_ms(ms), told.age),
         None => false,
