@@ -132,18 +132,21 @@ none_passes test xs n x is none = elim (cases_lt (position_or_len test xs) (leng
       subst (λ y. test y ≡ false) (get_or_from_slice_get xs n x x is) (fails_before_first test xs n x (omega (arith, past, below)))
 ]
 
--- a direct forward by which a trace goes on has the flow among those that it feeds
-pub some_feeder : (v : Vehicle) (p : Point) (n : ℕ) (forward : Forward) → next_forward v p ≡ Some n → forward_at v n ≡ Some forward → is_direct forward ≡ true
-    → direct_feeder v p.at ≡ None → ⊥
-some_feeder v p n forward next there direct none =
-    let feeding : feeds v p.at forward ≡ true = next_feeds v p n forward next there in
-    let passes : is_direct_feeder v p.at forward ≡ true = and_from (feeds v p.at forward) (is_direct forward) feeding direct in
-    some_cases (position (is_direct_feeder v p.at) v.forwards.items) ⊥
-    (λ nowhere. true≢false (sym passes ∙ none_passes (is_direct_feeder v p.at) v.forwards.items n forward there nowhere))
+-- a direct forward that feeds a flow is among those that do
+pub fed_by : (v : Vehicle) (at : FlowAt) (n : ℕ) (forward : Forward) → feeds v at forward ≡ true → is_direct forward ≡ true → forward_at v n ≡ Some forward
+    → direct_feeder v at ≡ None → ⊥
+fed_by v at n forward feeding direct there none =
+    let passes : is_direct_feeder v at forward ≡ true = and_from (feeds v at forward) (is_direct forward) feeding direct in
+    some_cases (position (is_direct_feeder v at) v.forwards.items) ⊥
+    (λ nowhere. true≢false (sym passes ∙ none_passes (is_direct_feeder v at) v.forwards.items n forward there nowhere))
     (λ m found.
-    let inside = (position-Some (is_direct_feeder v p.at) v.forwards.items m forward found).0 in
+    let inside = (position-Some (is_direct_feeder v at) v.forwards.items m forward found).0 in
     let its = slice_get-get_or v.forwards.items m forward inside in
     none-some (get_or v.forwards.items m forward) (sym none ∙ (ap (option_and_then (forward_at v)) found ∙ its)))
+
+pub some_feeder : (v : Vehicle) (p : Point) (n : ℕ) (forward : Forward) → next_forward v p ≡ Some n → forward_at v n ≡ Some forward → is_direct forward ≡ true
+    → direct_feeder v p.at ≡ None → ⊥
+some_feeder v p n forward next there direct none = fed_by v p.at n forward (next_feeds v p n forward next there) direct there none
 
 -- ---- the first input
 

@@ -50,7 +50,7 @@ behind_own v delays steps at total known = some_cases (direct_feeder v at) ((n :
     by_steps n feeder (suc k) known = let fed = fed_parts v delays k at total n feeder known in (fed.own_time, fed.own_is)
 
 -- whoever tells who stays, the streams are the same
-one_traffic : (v : Vehicle) (delays : Delays) (b : ℕ) (timing other : Timing) (one : IsToldBus v delays b timing) (two : IsToldBus v delays b other)
+pub one_traffic : (v : Vehicle) (delays : Delays) (b : ℕ) (timing other : Timing) (one : IsToldBus v delays b timing) (two : IsToldBus v delays b other)
     → streams_of timing (frames_asked (asked_on one)) ≡ streams_of other (frames_asked (asked_on two))
 one_traffic v delays b timing other one two =
     let bus : one.bus ≡ two.bus = same_Some _ _ (sym one.its ∙ two.its) in

@@ -3,6 +3,7 @@ mod Circle
 mod Feeders
 mod Kept
 mod Old
+mod Once
 mod OneFlow
 mod Order
 mod Parts

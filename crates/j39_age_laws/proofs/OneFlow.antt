@@ -86,7 +86,7 @@ long_short : (timing : Timing) (units : List UnitPlan) (stays : UnitPlan → Boo
 long_short timing units stays flow pace group All frames is = cc
 long_short timing units stays flow pace group (One u) frames is = cc
 
-short_frames : (timing : Timing) (units : List UnitPlan) (stays : UnitPlan → Bool) (flow : FlowPlan) (pace : Pace) (group : GroupPlan) (frames : FlowFrames)
+pub short_frames : (timing : Timing) (units : List UnitPlan) (stays : UnitPlan → Bool) (flow : FlowPlan) (pace : Pace) (group : GroupPlan) (frames : FlowFrames)
     → messages_of timing units stays flow pace group ≡ Short frames → single_frames timing units stays flow pace group ≡ frames
 short_frames timing units stays flow pace group frames is = go (is_always_short group) is
   where

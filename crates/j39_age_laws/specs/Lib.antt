@@ -1,5 +1,6 @@
 pub mod ForwardedStreams
 pub mod KeptBuses
+pub mod OnceSentOn
 pub mod Prompt
 pub mod Seen
 pub mod VehicleAges

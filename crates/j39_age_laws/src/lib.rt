@@ -3,4 +3,6 @@
 
 mod laws;
 
-pub use laws::{ages_are_bounds, gateways_keep_to_plans, sound_vehicles_keep_ages};
+pub use laws::{
+    a_message_is_sent_on, ages_are_bounds, gateways_keep_to_plans, sound_vehicles_keep_ages,
+};
