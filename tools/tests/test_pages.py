@@ -66,7 +66,7 @@ class Shown(InFolder):
 
     def test_commands_write_what_is_shown(self) -> None:
         least = {"README.md": 7, "docs/PROMISES.md": 3, "docs/PLAN.md": 3, "docs/TIMING.md": 8, "docs/SIMULATOR.md": 11, "docs/LOGS.md": 9,
-                 "docs/TOOLS.md": 11, "docs/VEHICLES.md": 3}
+                 "docs/TOOLS.md": 11, "docs/VEHICLES.md": 1, "docs/EXAMPLES.md": 2}
         for name in PAGES:
             commands = [(command, shown) for command, shown in blocks(page(name)) if COMMAND.search(command)]
             self.assertGreaterEqual(len(commands), least.get(name, 0), name)
