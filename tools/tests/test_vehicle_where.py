@@ -2,10 +2,11 @@
 
 import json
 import os
+import subprocess
 import unittest
 
 from j39plan import program
-from tests.support import needs, run
+from tests.support import TOOLS, needs, run
 from tests.vehicles import ANSWER, B, FLOW, P, SIGNAL, UNIT, V, OfVehicles, swapped
 
 TIMING = "[timing]\nbitrate = 250000\nunplanned = 0\n"
@@ -326,6 +327,22 @@ class Forms(OfVehicles):
         hints = [line for line in lines if ": hint " in line]
         self.assertEqual([line for line in hints if "live" not in line], ["b.toml:31: hint unit X: no flow is from it or to it alone"])
         self.assertEqual([line.split(":")[0] for line in hints if "live" in line], ["p.toml", "b.toml"])
+
+
+class Checks(OfVehicles):
+    def test_vehicles_among_the_checked_plans(self) -> None:
+        """By the command that takes both."""
+        name, other = self.vehicle(), self.path("p.toml")
+        ended = subprocess.run([os.path.join(TOOLS, "check-plans"), name, other], capture_output=True, text=True, check=False,
+                               env={**os.environ, "J39PLAN": program.path(), "CHECK": os.path.join(TOOLS, "where.py")})
+        self.assertEqual((ended.returncode, ended.stdout), (0, f"{name}\n{ANSWER}{other}\nok 2 units 1 groups 1 flows\n"))
+
+
+class Answers(OfVehicles):
+    def test_answer_writes_what_where_does(self) -> None:
+        for v in (V, swapped(V, ("within = 5\n", "within = 0\n")), swapped(V, ("within = 30", "within = 20"))):
+            name = self.vehicle(v)
+            self.assertEqual(run("answer.py", "vehicle", name), run("where.py", "--json", name))
 
 
 class Calls(unittest.TestCase):

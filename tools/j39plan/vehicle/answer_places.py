@@ -102,10 +102,8 @@ class Findings:
         return Told(gateway.place, "unit", f"key unit: {forwards.shared_queue(self._ways, gateway.label, line.word('bus'))}")
 
 
-def of_bus(vehicle: str, source: Source, block: Block) -> Iterator[InFile]:
+def of_bus(vehicle: str, file: str, block: Block) -> Iterator[InFile]:
     """The parts of what is said of a bus, with their places in the file of its plan."""
-    bus = next(bus for bus in VehicleTables(source).buses if bus.label == block.bus)
-    file = plan_file(vehicle, bus.plan)
     yield InFile(vehicle, "", Placed(None, f"bus {block.bus}", "", []))
     with open(file, "rb") as opened:
         for part in answer_places.placed(opened.read(), block.answer):
@@ -116,8 +114,9 @@ def placed(name: str, data: bytes, answer: str) -> Iterator[InFile]:
     """The parts of an answer on a vehicle's file of this name; those that say what is wrong with their places."""
     source = Source(data.decode(errors="replace"), name)
     found = answer_of(answer)
+    plans = {bus.label: plan_file(name, bus.plan) for bus in VehicleTables(source).buses} if found.blocks else {}
     for block in found.blocks:
-        yield from of_bus(name, source, block)
+        yield from of_bus(name, plans[block.bus], block)
     findings: Findings | None = None
     for text in found.rest:
         kind = line_of(text).kind
