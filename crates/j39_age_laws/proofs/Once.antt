@@ -11,7 +11,7 @@ use Rattle.j39_findings.specs.declared.plan.timing.Bitrate.{Bitrate}
 use Rattle.j39_findings.specs.declared.plan.timing.Bitrate.TheVariants.{Kbit125, Kbit250, Kbit500, Mbit1}
 use Rattle.j39_findings.specs.declared.plan.timing.Timing.{Timing}
 use Rattle.j39_findings.specs.declared.plan.to.To.TheVariants.{One}
-use Rattle.j39_findings.proofs.Members.{all_at}
+use Rattle.j39_rules.proofs.Members.{all_at}
 use Rattle.j39_load.specs.declared.delay.Delay.{Delay}
 use Rattle.j39_load.specs.declared.delay.Delay.TheVariants.{Within}
 use Rattle.j39_load.specs.declared.flow_frames.FlowFrames.{FlowFrames}

@@ -3,7 +3,7 @@
 use Rattle.std.specs.Prelude.{◌≡◌, ℕ, ◌<◌, ◌≤◌, ◌⊎◌, List, [], ◌∷◌, Option, Some, None, true, false, Contains, AllPairs, IfSome}
 use Rattle.std.specs.List.{slice_get, position}
 use Rattle.std.specs.Option.{option_and_then, option_map}
-use Rattle.j39_findings.specs.Findings.{IsBelow}
+use Rattle.j39_rules.specs.Order.{ComesBefore}
 use Rattle.j39_rules.specs.ListPlaces.{ValueAt}
 use Rattle.j39_findings.specs.declared.plan.flow_plan.FlowPlan.{FlowPlan}
 use Rattle.j39_findings.specs.declared.plan.group_plan.GroupPlan.{GroupPlan}
@@ -105,19 +105,14 @@ time_finding_number (TooRare n) = 12
 time_finding_number (NeedTooOld d) = 13
 
 -- the place that it names
-abbrev pub time_finding_place : TimeFinding → ℕ
-time_finding_place (TooOften n) = n
-time_finding_place (TooLate n) = n
-time_finding_place (TooRare n) = n
-time_finding_place (NeedTooOld d) = d
-
--- by the number, then by the place
-abbrev pub ComesBefore : TimeFinding → TimeFinding → Type 0
-ComesBefore f g = (time_finding_number f < time_finding_number g)
-    ⊎ ((time_finding_number f ≡ time_finding_number g) × (time_finding_place f < time_finding_place g))
+abbrev pub time_finding_places : TimeFinding → List ℕ
+time_finding_places (TooOften n) = n ∷ []
+time_finding_places (TooLate n) = n ∷ []
+time_finding_places (TooRare n) = n ∷ []
+time_finding_places (NeedTooOld d) = d ∷ []
 
 -- all that is wrong with the times of the vehicle and nothing else, in order
 pub record AreTimeFindings (v : Vehicle) (delays : Delays) (findings : List TimeFinding) : Type 0 where
   pub sound : (finding : TimeFinding) → Contains findings finding → TimeHolds v delays finding
   pub complete : (finding : TimeFinding) → TimeHolds v delays finding → Contains findings finding
-  pub in_order : AllPairs ComesBefore findings
+  pub in_order : AllPairs (ComesBefore time_finding_number time_finding_places) findings

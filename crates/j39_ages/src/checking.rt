@@ -1,64 +1,25 @@
 //! Everything that is wrong with the times of what the gateways of a vehicle send on.
-ghost use Rattle.std.specs.Prelude.{◌≡◌, ◌≢◌, ℕ, Bool, [], IfOk, OnErr};
+ghost use Rattle.std.specs.Prelude.{◌≡◌, ◌≢◌, [], IfOk, OnErr};
 ghost use Rattle.j39_rules.specs.Adding.{Adds};
-ghost use Rattle.j39_rules.specs.ListPlaces.{each, found_if};
 ghost use Rattle.j39_ages.specs.FoundTimes.{forward_time_findings, is_need_too_old, is_too_late, is_too_often, is_too_rare, need_time_findings, time_findings};
 
 use crate::bus_delays::Delays;
 use crate::ends::{is_too_late, is_too_often, is_too_rare};
 use crate::finding::TimeFinding;
 use crate::needs::is_need_too_old;
+use j39_rules::{TestRule, find_tested};
 use j39_vehicle::{Forward, Vehicle, VehicleNeed};
 use std::alloc::{AllocError, Global};
 
 /// What is wrong with the times of a vehicle, in order.
 pub type TimeFindings = Vec<TimeFinding>;
 
-/// What is found of one value.
-trait TimeRule<T> {
-    ghost use Rattle.j39_ages.specs.declared.finding.TimeFinding.{TimeFinding as Found};
-
-    ghost test: { Self → T → Bool };
-
-    ghost make: { Self → ℕ → Found };
-
-    fn holds(&self, value: &T) -> bool
-        ensures { result ≡ test self.now value.now };
-
-    fn finding(&self, place: usize) -> TimeFinding
-        ensures { result ≡ make self.now place };
-}
-
-// Adds the finding where the test holds.
-fn push_if(findings: &mut TimeFindings, holds: bool, finding: TimeFinding) -> Result<(), AllocError>
-    ensures { Adds result findings.old.items findings.new.items (found_if holds finding) }
-{
-    if holds {
-        findings.push(finding)?;
-    }
-    Ok(())
-}
-
-// Adds a finding for each value of which the rule holds.
-fn find_each<T, R: TimeRule<T>>(
-    findings: &mut TimeFindings,
-    rule: &R,
-    values: &[T],
-) -> Result<(), AllocError>
-    ensures { Adds result findings.old.items findings.new.items (each (R.test rule.now) (R.make rule.now) 0 values.now) }
-{
-    for (place, value) in values.iter().enumerate() {
-        push_if(findings, rule.holds(value), rule.finding(place))?;
-    }
-    Ok(())
-}
-
 #[derive(Clone, Copy)]
 struct TooOften<'a> {
     vehicle: &'a Vehicle,
 }
 
-impl TimeRule<Forward> for TooOften<'_> {
+impl TestRule<Forward, TimeFinding> for TooOften<'_> {
     ghost use Rattle.j39_ages.specs.declared.finding.TimeFinding.TheVariants.{TooOften as IsTooOften};
 
     ghost test = { λ rule. is_too_often rule.vehicle.now };
@@ -80,7 +41,7 @@ struct TooLate<'a> {
     delays: &'a Delays,
 }
 
-impl TimeRule<Forward> for TooLate<'_> {
+impl TestRule<Forward, TimeFinding> for TooLate<'_> {
     ghost use Rattle.j39_ages.specs.declared.finding.TimeFinding.TheVariants.{TooLate as IsTooLate};
 
     ghost test = { λ rule. is_too_late rule.vehicle.now rule.delays.now };
@@ -101,7 +62,7 @@ struct TooRare<'a> {
     vehicle: &'a Vehicle,
 }
 
-impl TimeRule<Forward> for TooRare<'_> {
+impl TestRule<Forward, TimeFinding> for TooRare<'_> {
     ghost use Rattle.j39_ages.specs.declared.finding.TimeFinding.TheVariants.{TooRare as IsTooRare};
 
     ghost test = { λ rule. is_too_rare rule.vehicle.now };
@@ -123,7 +84,7 @@ struct TooOld<'a> {
     delays: &'a Delays,
 }
 
-impl TimeRule<VehicleNeed> for TooOld<'_> {
+impl TestRule<VehicleNeed, TimeFinding> for TooOld<'_> {
     ghost use Rattle.j39_ages.specs.declared.finding.TimeFinding.TheVariants.{NeedTooOld as IsTooOld};
 
     ghost test = { λ rule. is_need_too_old rule.vehicle.now rule.delays.now };
@@ -148,9 +109,9 @@ fn find_in_forwards(
 ) -> Result<(), AllocError>
     ensures { Adds result findings.old.items findings.new.items (forward_time_findings vehicle.now delays.now) }
 {
-    find_each(findings, &TooOften { vehicle }, &vehicle.forwards)?;
-    find_each(findings, &TooLate { vehicle, delays }, &vehicle.forwards)?;
-    find_each(findings, &TooRare { vehicle }, &vehicle.forwards)
+    find_tested(findings, &TooOften { vehicle }, &vehicle.forwards)?;
+    find_tested(findings, &TooLate { vehicle, delays }, &vehicle.forwards)?;
+    find_tested(findings, &TooRare { vehicle }, &vehicle.forwards)
 }
 
 // Adds the needs for what isn't shown to be young enough.
@@ -162,7 +123,7 @@ fn find_in_needs(
 ) -> Result<(), AllocError>
     ensures { Adds result findings.old.items findings.new.items (need_time_findings vehicle.now delays.now) }
 {
-    find_each(findings, &TooOld { vehicle, delays }, &vehicle.needs)
+    find_tested(findings, &TooOld { vehicle, delays }, &vehicle.needs)
 }
 
 #[tactic(auto, unfolding(crate::specs::FoundTimes::time_findings))]

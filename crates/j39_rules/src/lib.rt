@@ -3,4 +3,4 @@
 
 mod rules;
 
-pub use rules::{PairRule, Rule, find_each, find_pairs, push_if};
+pub use rules::{PairRule, Rule, TestRule, find_each, find_pairs, find_tested, push_if};

@@ -15,6 +15,19 @@ pub trait Rule<T, F> {
         ensures { Adds result findings.old.items findings.new.items (gives self.now place value.now) };
 }
 
+/// What is found of one value of which a test holds.
+pub trait TestRule<T, F> {
+    ghost test: { Self → T → Bool };
+
+    ghost make: { Self → ℕ → F };
+
+    fn holds(&self, value: &T) -> bool
+        ensures { result ≡ test self.now value.now };
+
+    fn finding(&self, place: usize) -> F
+        ensures { result ≡ make self.now place };
+}
+
 /// What is found of two values that stand in a relation.
 pub trait PairRule<T, F> {
     ghost test: { Self → T → T → Bool };
@@ -48,6 +61,20 @@ pub fn find_each<T, F, R: Rule<T, F>>(
 {
     for (place, value) in values.iter().enumerate() {
         rule.find(findings, place, value)?;
+    }
+    Ok(())
+}
+
+/// Adds a finding for each value of which the test holds, in the order of the values.
+pub fn find_tested<T, F: Drop, R: TestRule<T, F>>(
+    findings: &mut Vec<F>,
+    rule: &R,
+    values: &[T],
+) -> Result<(), AllocError>
+    ensures { Adds result findings.old.items findings.new.items (each (R.test rule.now) (R.make rule.now) 0 values.now) }
+{
+    for (place, value) in values.iter().enumerate() {
+        push_if(findings, rule.holds(value), rule.finding(place))?;
     }
     Ok(())
 }

@@ -2,13 +2,13 @@ use Rattle.std.proofs.Common.{◌≤◌, length, sym, ◌∙◌, arith}
 use Rattle.j39_rules.specs.ListPlaces.{each, found_if}
 use Rattle.j39_rules.proofs.AddingLemmas.{refuses, some_in_each}
 use Rattle.j39_rules.proofs.PlaceLemmas.{each_all, each_more}
-use Rattle.j39_ages.proofs.checking.find_each.Goals as goal
+use Rattle.j39_rules.proofs.rules.find_tested.Goals as goal
 
 pub returns-in_err-push_if : goal.returns-in_err-push_if
 unfolding each
 returns-in_err-push_if g c =
-    let test = g.R.TimeRule.test c.args.rule.now in
-    let make = g.R.TimeRule.make c.args.rule.now in
+    let test = g.R.TestRule.test c.args.rule.now in
+    let make = g.R.TestRule.make c.args.rule.now in
     let some = rw (c.holds.ensures, c.finding.ensures) at c.in_err-push_if.ensures in
     let x = c.index-values-place.result in
     let at = c.index-values-place.is in
@@ -17,8 +17,8 @@ returns-in_err-push_if g c =
 
 pub loop-place-preserved : goal.loop-place-preserved
 loop-place-preserved g c =
-    let test = g.R.TimeRule.test c.args.rule.now in
-    let make = g.R.TimeRule.make c.args.rule.now in
+    let test = g.R.TestRule.test c.args.rule.now in
+    let make = g.R.TestRule.make c.args.rule.now in
     let x = c.index-values-place.result in
     let old = c.loop-place.findings.items in
     let at = c.index-values-place.is in
@@ -27,7 +27,7 @@ loop-place-preserved g c =
 
 pub returns : goal.returns
 returns g c =
-    let test = g.R.TimeRule.test c.args.rule.now in
-    let make = g.R.TimeRule.make c.args.rule.now in
+    let test = g.R.TestRule.test c.args.rule.now in
+    let make = g.R.TestRule.make c.args.rule.now in
     let over : length c.args.values.now ≤ c.loop-place.place = omega arith in
     sym (each_all test make c.loop-place.place c.args.values.now c.loop-place.findings.items over) ∙ c.loop-place.invariant
