@@ -219,7 +219,7 @@ flow_alike groups units i d lacks =
 
 period_is : (ms : Members) → IsSecondFlow ms → given_period Third ms ≡ None
 unfolding given_number
-period_is ms lacks = rw (no_deadline ms lacks, no_period ms lacks)
+period_is ms lacks = rw (no_period ms lacks)
 
 deadline_is : (ms : Members) → IsSecondFlow ms → given_deadline Third ms ≡ None
 unfolding given_number
