@@ -28,8 +28,8 @@ pub fn sound_vehicles_keep_ages()
     ensures pauses { (v : Vehicle) (delays : Delays) → IsSoundVehicle v delays → AreForwardedPausesKept v delays }
 {}
 
-/// What is asked of what is seen of a vehicle can be kept, where a direct forward sends a message on to another bus, of a
-/// flow that is sent on no further.
+/// What is asked of what is seen of a vehicle can be kept, where a direct forward sends a message on to another bus, of
+/// a flow that is sent on no further.
 pub fn a_message_is_sent_on()
     ensures { (v : Vehicle) (delays : Delays) → AreSentOnOnce v delays }
 {}
