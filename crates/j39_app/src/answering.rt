@@ -14,14 +14,13 @@ ghost use Rattle.j39_stream.specs.CommandEnds.{AnswersWhole, IsOfAny};
 ghost use Rattle.j39_stream.specs.Streams.{HasFailed, log_limits, plan_limits};
 ghost use Rattle.j39_text.specs.FrameText.{IsInputText};
 
+use crate::answering_vehicles::vehicle_files;
 use crate::{
-    Fault, Folder, Order, Sink, Source, Verdict, addresses_text, bus_plan, check_text, follow_text,
+    Fault, Folder, Order, Sink, Source, Verdict, addresses_text, check_text, follow_text,
     frame_text, input_text, load_text, plan_text, put_all, read_text, run_planned, show_text,
-    vehicle_file, vehicle_text,
 };
 use j39_findings::Plan;
-use j39_vehicle::{BusPlan, BusTable, VehicleFile, plan_file};
-use std::alloc::{AllocError, Global};
+use std::alloc::Global;
 
 // Each command holds its buffers and tables in a frame of its own, since that of `answer` lies on the stack below all of them.
 #[inline(never)]
@@ -192,80 +191,6 @@ fn follow_files<F: Folder, W: Sink>(
 {
     match plan_of(alloc, files, plan, sink)? {
         Some(plan) => follow_by(alloc, files, &plan, log, all_frames, sink),
-        None => Ok(Verdict::Unreadable),
-    }
-}
-
-// What a vehicle file says. Where it is refused, writes why, and gives nothing.
-fn vehicle_of<F: Folder, W: Sink>(
-    alloc: Global,
-    files: &F,
-    name: &str,
-    sink: &mut W,
-) -> Result<Option<VehicleFile>, Fault> {
-    vehicle_file(alloc, &mut files.open(name)?, sink)
-}
-
-// The plan of a bus of a vehicle. Where its file describes none, writes why, and gives none.
-fn plan_of_bus<F: Folder, W: Sink>(
-    alloc: Global,
-    files: &F,
-    vehicle: &str,
-    bus: &BusTable,
-    sink: &mut W,
-) -> Result<Option<Plan>, Fault> {
-    let name = plan_file(alloc, vehicle, bus.plan.as_str())?;
-    bus_plan(alloc, &bus.label, &mut files.open(name.as_str())?, sink)
-}
-
-fn add_bus(buses: &mut Vec<BusPlan>, table: &BusTable, plan: Plan) -> Result<(), AllocError> {
-    let label = table.label;
-    buses.push(BusPlan { label, plan })?;
-    Ok(())
-}
-
-// The plans of the buses of a vehicle, each of whose files is opened once the one before was read. Where one describes none, writes why,
-// and gives none.
-fn plans_of<F: Folder, W: Sink>(
-    alloc: Global,
-    files: &F,
-    vehicle: &str,
-    tables: &[BusTable],
-    sink: &mut W,
-) -> Result<Option<Vec<BusPlan>>, Fault> {
-    let mut buses = Vec::new(alloc);
-    for table in tables {
-        let Some(plan) = plan_of_bus(alloc, files, vehicle, table, sink)? else {
-            return Ok(None);
-        };
-        add_bus(&mut buses, table, plan)?;
-    }
-    Ok(Some(buses))
-}
-
-#[inline(never)]
-fn vehicle_by<W: Sink>(
-    alloc: Global,
-    file: &VehicleFile,
-    buses: Vec<BusPlan>,
-    sink: &mut W,
-) -> Result<Verdict, Fault> {
-    vehicle_text(alloc, file, buses, sink)
-}
-
-// Writes what is wrong with a vehicle; the files of the plans of its buses are opened once its own was read.
-#[inline(never)]
-fn vehicle_files<F: Folder, W: Sink>(
-    alloc: Global,
-    files: &F,
-    vehicle: &str,
-    sink: &mut W,
-) -> Result<Verdict, Fault> {
-    let Some(file) = vehicle_of(alloc, files, vehicle, sink)? else {
-        return Ok(Verdict::Unreadable);
-    };
-    match plans_of(alloc, files, vehicle, &file.buses, sink)? {
-        Some(buses) => vehicle_by(alloc, &file, buses, sink),
         None => Ok(Verdict::Unreadable),
     }
 }

@@ -2,6 +2,7 @@
 #![tactic(auto)]
 
 mod answering;
+mod answering_vehicles;
 mod exit_status;
 mod folder;
 mod program;

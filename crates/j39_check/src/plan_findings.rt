@@ -1,4 +1,6 @@
 //! Everything that is wrong with a plan.
+ghost use Rattle.std.specs.Prelude.{◌≡◌, ◌+◌, length, IfOk};
+ghost use Rattle.j39_check.specs.FoundInPlan.{ArePlanFindings, are_of_times, is_of_times};
 
 use j39_findings::{Findings, Plan, check};
 use j39_load::{LoadFinding, check_load};
@@ -12,25 +14,33 @@ pub struct PlanFindings {
 }
 
 // Whether a finding is one of a bus that is too full, of a late flow, or of an old need: F17, F18 or F20.
-fn is_of_times(number: u8) -> bool {
+fn is_of_times(number: u8) -> bool
+    ensures { result ≡ is_of_times number }
+{
     matches!(number, 17 | 18 | 20)
 }
 
 impl PlanFindings {
     /// What is wrong with the plan.
-    pub fn new(alloc: Global, plan: &Plan) -> Result<Self, AllocError> {
+    pub fn new(alloc: Global, plan: &Plan) -> Result<Self, AllocError>
+        ensures { IfOk result (ArePlanFindings plan.now) }
+    {
         let others = check_load(alloc, plan)?;
         let findings = check(alloc, plan)?;
         Ok(PlanFindings { findings, others })
     }
 
     /// How many findings there are.
-    pub fn count(&self) -> usize {
+    pub fn count(&self) -> usize
+        ensures { result ≡ length self.now.findings.items + length self.now.others.items }
+    {
         self.findings.len() + self.others.len()
     }
 
     /// Whether each of them is F17, F18 or F20: what is told of times stands all the same.
-    pub fn are_of_times(&self) -> bool {
+    pub fn are_of_times(&self) -> bool
+        ensures { result ≡ are_of_times self.now.findings.items self.now.others.items }
+    {
         self.findings.is_empty()
             && self
                 .others

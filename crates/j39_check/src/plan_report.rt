@@ -1,12 +1,13 @@
 //! What is written for a plan.
-ghost use Rattle.std.specs.Prelude.{◌≡◌, ◌++◌, OnOk, IfOk};
+ghost use Rattle.std.specs.Prelude.{◌≡◌, ◌++◌, ℕ, List, OnOk, IfOk};
 ghost use Rattle.j39_check.specs.CheckText.{IsReport, findings_text, ok_line};
+ghost use Rattle.j39_check.specs.FoundInPlan.{ArePlanFindings};
 
 use crate::certificate::clean_plans_are_certified;
 use crate::finding_lines::write_lines;
 use crate::load_lines::write_load_findings;
 use crate::plan_findings::PlanFindings;
-use j39_findings::{Finding, Plan};
+use j39_findings::{Finding, Plan, clean_where_none};
 use j39_load::LoadFinding;
 use j39_stream::Verdict;
 use j39_text::TextBuffer;
@@ -47,8 +48,12 @@ pub fn write_check(
     text: &mut TextBuffer,
     plan: &Plan,
     found: &PlanFindings,
-) -> Result<Verdict, AllocError> {
+) -> Result<Verdict, AllocError>
+    requires { ArePlanFindings plan.now found.now }
+    ensures { IfOk result (λ verdict. (report : List ℕ) × IsReport plan.now report verdict × (text.new ≡ text.old ++ report)) }
+{
     if found.findings.is_empty() && found.others.is_empty() {
+        clean_where_none();
         clean_plans_are_certified();
         write_ok(text, plan)?;
         return Ok(Verdict::Done);

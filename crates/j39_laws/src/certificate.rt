@@ -15,8 +15,8 @@ use j39_findings::{
     signals_are_sound,
 };
 
-/// A plan in which nothing is wrong is sound: in every world of every run of it, with all lawful choices and whatever is lost, addresses and reports are
-/// sound, addresses also with strangers, planned addresses stay where they differ, a unit that is alone at its own is undisturbed, and so
+/// A plan in which nothing is wrong is sound: in every world of every run of it, with all lawful choices and whatever is lost, addresses and
+/// reports are sound, addresses also with strangers, planned addresses stay where they differ, a unit that is alone at its own is undisturbed, and so
 /// is one that never claims, what units have noted of one another is right where no claim is undelivered, what it keeps free stays free,
 /// claims die down, messages come to their end, on a live bus nobody disturbs their ends, those of which nothing is lost arrive, its
 /// signals read back what they were last given, some flow of it answers each request, some flow brings each unit what it needs, and a

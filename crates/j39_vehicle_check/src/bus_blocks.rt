@@ -1,4 +1,9 @@
 //! What is written of the plans of a vehicle's buses.
+ghost use Rattle.std.specs.Prelude.{◌≡◌, ◌+◌, ◌≤◌, ◌++◌, ◌^◌, ◌&&◌, ℕ, List, IfOk, OnOk, length};
+ghost use Rattle.j39_check.specs.FoundInPlan.{ArePlanFindings, are_of_times};
+ghost use Rattle.j39_load.specs.declared.load_finding.LoadFinding.{LoadFinding as LoadFaults};
+ghost use Rattle.j39_vehicle.specs.VehicleLimits.{bus_limit};
+ghost use Rattle.j39_vehicle_check.specs.VehicleBlocks.{AreBlocks, IsBlock, IsLoadOf, IsLoadWhere, all_are_of_times, count_of_plans};
 
 use crate::bus_file::write_bus;
 use j39_check::{PlanFindings, write_check, write_load};
@@ -18,10 +23,28 @@ pub struct PlansFound {
 }
 
 // How full the bus of a plan is, where it has timing.
-fn write_load_of(alloc: Global, text: &mut TextBuffer, plan: &Plan) -> Result<(), AllocError> {
+fn write_load_of(alloc: Global, text: &mut TextBuffer, plan: &Plan) -> Result<(), AllocError>
+    ensures { OnOk result ((load : List ℕ) × IsLoadOf plan.now plan.now.timing load × (text.new ≡ text.old ++ load)) }
+{
     match plan.timing {
         Some(timing) => write_load(text, &Loads::new(alloc, timing, plan)?),
         None => Ok(()),
+    }
+}
+
+// The same, where it is to be told.
+fn write_load_where(
+    alloc: Global,
+    text: &mut TextBuffer,
+    plan: &Plan,
+    is_told: bool,
+) -> Result<(), AllocError>
+    ensures { OnOk result ((load : List ℕ) × IsLoadWhere is_told plan.now load × (text.new ≡ text.old ++ load)) }
+{
+    if is_told {
+        write_load_of(alloc, text, plan)
+    } else {
+        Ok(())
     }
 }
 
@@ -31,13 +54,27 @@ fn write_block(
     text: &mut TextBuffer,
     bus: &BusPlan,
     found: &PlanFindings,
-) -> Result<(), AllocError> {
+) -> Result<(), AllocError>
+    requires { ArePlanFindings bus.now.plan found.now }
+    ensures { OnOk result ((block : List ℕ) × IsBlock bus.now found.now.others.items block × (text.new ≡ text.old ++ block)) }
+{
     write_bus(text, &bus.label)?;
-    write_check(alloc, text, &bus.plan, found)?;
-    if found.are_of_times() {
-        write_load_of(alloc, text, &bus.plan)?;
+    let _verdict = write_check(alloc, text, &bus.plan, found)?;
+    write_load_where(alloc, text, &bus.plan, found.are_of_times())
+}
+
+impl PlansFound {
+    // With the findings of one more plan.
+    fn with(self, found: &PlanFindings) -> PlansFound
+        requires { self.count ≤ 2 ^ 100 }
+        ensures count { result.count ≡ self.count + (length found.now.findings.items + length found.now.others.items) }
+        ensures are_of_times { result.are_of_times ≡ (self.are_of_times && are_of_times found.now.findings.items found.now.others.items) }
+    {
+        PlansFound {
+            count: self.count + found.count() as u128,
+            are_of_times: self.are_of_times && found.are_of_times(),
+        }
     }
-    Ok(())
 }
 
 /// Writes of each bus what is wrong with its plan, and how full it is.
@@ -45,7 +82,12 @@ pub(super) fn write_blocks(
     alloc: Global,
     text: &mut TextBuffer,
     buses: &[BusPlan],
-) -> Result<PlansFound, AllocError> {
+) -> Result<PlansFound, AllocError>
+    requires { length buses.now ≤ bus_limit }
+    ensures told { IfOk result (λ all. (others : List (List LoadFaults)) × (blocks : List ℕ) × AreBlocks buses.now others blocks
+        × (text.new ≡ text.old ++ blocks) × (all.count ≡ count_of_plans buses.now others) × (all.are_of_times ≡ all_are_of_times buses.now others)) }
+    ensures few { IfOk result (λ all. all.count ≤ 2 ^ 70) }
+{
     let mut all = PlansFound {
         count: 0,
         are_of_times: true,
@@ -53,8 +95,7 @@ pub(super) fn write_blocks(
     for bus in buses {
         let found = PlanFindings::new(alloc, &bus.plan)?;
         write_block(alloc, text, bus, &found)?;
-        all.count += found.count() as u128;
-        all.are_of_times &= found.are_of_times();
+        all = all.with(&found);
     }
     Ok(all)
 }

@@ -1,29 +1,28 @@
 //! The lines of needs.
+ghost use Rattle.std.specs.Prelude.{◌≡◌, ◌++◌, OnOk};
+ghost use Rattle.j39_load.specs.LineLists.{lines_of_each};
+ghost use Rattle.j39_ages.specs.declared.needs.NeedFlow.{NeedFlow as ToldFlows};
+ghost use Rattle.j39_vehicle_check.specs.NeedLines.{content_text, group_of_flow, limit_text, meant_text, met_text, need_age_text, origin_content, origin_text, told_text};
+ghost use Rattle.j39_vehicle_check.specs.NeedLines.{vehicle_need_line, vehicle_need_lines, vehicle_need_text};
 
-use crate::labels::{group_label_at, plan_on, write_unit_at};
-use crate::ways::way_back;
-use j39_ages::{Delays, flow_of_need};
-use j39_paths::{FlowAt, Point, origin};
-use j39_text::{TextBuffer, signal_label};
+use crate::labels::{group_label_at, signal_label_at, write_unit_at};
+use crate::ways::write_way;
+use j39_ages::{Delays, NeedFlow, flow_of_need};
+use j39_paths::{FlowAt, Point, flows_on, origin};
+use j39_text::TextBuffer;
 use j39_vehicle::{GroupAt, Vehicle, VehicleNeed};
 use std::alloc::{AllocError, Global};
 
-fn signal_label_at(vehicle: &Vehicle, group: GroupAt, signal: usize) -> &str {
-    match plan_on(vehicle, group.bus) {
-        Some(plan) => signal_label(plan, group.group, signal),
-        None => "",
-    }
-}
-
-// A group, and the signal of it that is meant, if one is.
-fn write_content(
+// The signal that is meant, if one is.
+#[tactic(auto, unfolding(crate::specs::NeedLines::meant_text))]
+fn write_meant(
     text: &mut TextBuffer,
     vehicle: &Vehicle,
     group: GroupAt,
     signal: Option<usize>,
-) -> Result<(), AllocError> {
-    text.word(" ")?;
-    text.word(group_label_at(vehicle, group))?;
+) -> Result<(), AllocError>
+    ensures { OnOk result (text.new ≡ text.old ++ meant_text vehicle.now group signal) }
+{
     match signal {
         Some(signal) => {
             text.word(" ")?;
@@ -33,13 +32,31 @@ fn write_content(
     }
 }
 
+// A group, and the signal of it that is meant.
+#[tactic(auto, unfolding(crate::specs::NeedLines::content_text))]
+fn write_content(
+    text: &mut TextBuffer,
+    vehicle: &Vehicle,
+    group: GroupAt,
+    signal: Option<usize>,
+) -> Result<(), AllocError>
+    ensures { OnOk result (text.new ≡ text.old ++ content_text vehicle.now group signal) }
+{
+    text.word(" ")?;
+    text.word(group_label_at(vehicle, group))?;
+    write_meant(text, vehicle, group, signal)
+}
+
 // Who needs what from whom.
+#[tactic(auto, unfolding(crate::specs::NeedLines::vehicle_need_text))]
 fn write_need(
     text: &mut TextBuffer,
     vehicle: &Vehicle,
     place: usize,
     need: &VehicleNeed,
-) -> Result<(), AllocError> {
+) -> Result<(), AllocError>
+    ensures { OnOk result (text.new ≡ text.old ++ vehicle_need_text vehicle.now place need.now) }
+{
     let group = GroupAt {
         bus: need.unit.bus,
         group: need.group,
@@ -50,101 +67,113 @@ fn write_need(
     write_unit_at(text, " from ", vehicle, need.from)
 }
 
-// The group of the flow at this point.
-fn group_of_flow(vehicle: &Vehicle, at: FlowAt) -> usize {
-    match plan_on(vehicle, at.bus) {
-        Some(plan) => match plan.flows.get(at.flow) {
-            Some(flow) => flow.group,
-            None => 0,
-        },
+// The group of the flow at a point.
+fn group_of_flow(vehicle: &Vehicle, at: FlowAt) -> usize
+    ensures { result ≡ group_of_flow vehicle.now at }
+{
+    match flows_on(&vehicle.buses, at.bus).get(at.flow) {
+        Some(flow) => flow.group,
         None => 0,
     }
 }
 
-// What the origin sends, where there is one.
-fn write_origin(
+#[tactic(auto, unfolding(crate::specs::NeedLines::origin_content))]
+fn write_origin_content(
     text: &mut TextBuffer,
     vehicle: &Vehicle,
-    start: Point,
-) -> Result<(), AllocError> {
+    point: Point,
+) -> Result<(), AllocError>
+    ensures { OnOk result (text.new ≡ text.old ++ origin_content vehicle.now point) }
+{
+    let group = GroupAt {
+        bus: point.at.bus,
+        group: group_of_flow(vehicle, point.at),
+    };
+    write_content(text, vehicle, group, point.signal)
+}
+
+// What the origin sends, where there is one.
+#[tactic(auto, unfolding(crate::specs::NeedLines::origin_text))]
+fn write_origin(text: &mut TextBuffer, vehicle: &Vehicle, start: Point) -> Result<(), AllocError>
+    ensures { OnOk result (text.new ≡ text.old ++ origin_text vehicle.now start) }
+{
     match origin(vehicle, start) {
-        Some(point) => {
-            let group = GroupAt {
-                bus: point.at.bus,
-                group: group_of_flow(vehicle, point.at),
-            };
-            write_content(text, vehicle, group, point.signal)
-        }
+        Some(point) => write_origin_content(text, vehicle, point),
         None => Ok(()),
     }
 }
 
-// The forwards by which it comes, from the origin on, where there are any.
-fn write_way(
-    alloc: Global,
-    text: &mut TextBuffer,
-    vehicle: &Vehicle,
-    start: Point,
-) -> Result<(), AllocError> {
-    let way = way_back(alloc, vehicle, start)?;
-    if !way.is_empty() {
-        text.word(" by")?;
-    }
-    for forward in way.iter().rev() {
-        text.place(" ", *forward)?;
-    }
-    Ok(())
-}
-
 // How old it may be.
-fn write_limit(text: &mut TextBuffer, within: Option<u16>) -> Result<(), AllocError> {
+#[tactic(auto, unfolding(crate::specs::NeedLines::limit_text))]
+fn write_limit(text: &mut TextBuffer, within: Option<u16>) -> Result<(), AllocError>
+    ensures { OnOk result (text.new ≡ text.old ++ limit_text within) }
+{
     match within {
         Some(within) => text.field(" of ", 1_000 * u32::from(within)),
         None => Ok(()),
     }
 }
 
-fn write_age(
-    text: &mut TextBuffer,
-    age: Option<u64>,
-    within: Option<u16>,
-) -> Result<(), AllocError> {
+// How old it is at most, of how old it may be.
+#[tactic(auto, unfolding(crate::specs::NeedLines::need_age_text))]
+fn write_age(text: &mut TextBuffer, age: Option<u64>, within: Option<u16>) -> Result<(), AllocError>
+    ensures { OnOk result (text.new ≡ text.old ++ need_age_text age within) }
+{
     match (age, within) {
         (Some(age), _) => {
             text.field(" age ", age)?;
             write_limit(text, within)?;
             text.word(" us")
         }
-        (None, Some(_)) => {
+        (None, Some(within)) => {
             text.word(" old")?;
-            write_limit(text, within)?;
+            write_limit(text, Some(within))?;
             text.word(" us")
         }
         (None, None) => Ok(()),
     }
 }
 
-// What comes of a need that the flow at a place of its bus meets, at this age.
+// Of the flow that meets the need what its origin sends, by which forwards, and how old it is.
+#[tactic(auto, unfolding(crate::specs::NeedLines::told_text))]
+fn write_told(
+    alloc: Global,
+    text: &mut TextBuffer,
+    vehicle: &Vehicle,
+    need: &VehicleNeed,
+    told: NeedFlow,
+) -> Result<(), AllocError>
+    ensures { OnOk result (text.new ≡ text.old ++ told_text vehicle.now need.now told) }
+{
+    let at = FlowAt {
+        bus: need.unit.bus,
+        flow: told.flow,
+    };
+    let signal = need.signal;
+    let start = Point { at, signal };
+    write_origin(text, vehicle, start)?;
+    write_way(alloc, text, vehicle, start)?;
+    write_age(text, told.age, need.within)
+}
+
+// The same, or that no flow meets it.
+#[tactic(auto, unfolding(crate::specs::NeedLines::met_text))]
 fn write_met(
     alloc: Global,
     text: &mut TextBuffer,
     vehicle: &Vehicle,
     need: &VehicleNeed,
-    flow: usize,
-    age: Option<u64>,
-) -> Result<(), AllocError> {
-    let start = Point {
-        at: FlowAt {
-            bus: need.unit.bus,
-            flow,
-        },
-        signal: need.signal,
-    };
-    write_origin(text, vehicle, start)?;
-    write_way(alloc, text, vehicle, start)?;
-    write_age(text, age, need.within)
+    met: Option<NeedFlow>,
+) -> Result<(), AllocError>
+    ensures { OnOk result (text.new ≡ text.old ++ met_text vehicle.now need.now met) }
+{
+    match met {
+        Some(told) => write_told(alloc, text, vehicle, need, told),
+        None => text.word(" unmet"),
+    }
 }
 
+#[tactic(auto, unfolding(crate::specs::NeedLines::vehicle_need_line))]
 fn write_line(
     alloc: Global,
     text: &mut TextBuffer,
@@ -152,22 +181,30 @@ fn write_line(
     delays: &Delays,
     place: usize,
     need: &VehicleNeed,
-) -> Result<(), AllocError> {
+) -> Result<(), AllocError>
+    ensures { OnOk result (text.new ≡ text.old ++ vehicle_need_line vehicle.now delays.now place need.now) }
+{
     write_need(text, vehicle, place, need)?;
-    match flow_of_need(vehicle, delays, need) {
-        Some(met) => write_met(alloc, text, vehicle, need, met.flow, met.age)?,
-        None => text.word(" unmet")?,
-    }
+    write_met(
+        alloc,
+        text,
+        vehicle,
+        need,
+        flow_of_need(vehicle, delays, need),
+    )?;
     text.end_line()
 }
 
 /// Writes a line for each need.
+#[tactic(auto, unfolding(j39_load::specs::LineLists::lines_of_each))]
 pub(super) fn write_needs(
     alloc: Global,
     text: &mut TextBuffer,
     vehicle: &Vehicle,
     delays: &Delays,
-) -> Result<(), AllocError> {
+) -> Result<(), AllocError>
+    ensures { OnOk result (text.new ≡ text.old ++ vehicle_need_lines vehicle.now delays.now) }
+{
     for (place, need) in vehicle.needs.iter().enumerate() {
         write_line(alloc, text, vehicle, delays, place, need)?;
     }

@@ -1,11 +1,16 @@
 //! Why a vehicle file is refused.
+ghost use Rattle.std.specs.Prelude.{◌≡◌, ◌++◌, IfOk, OnOk};
+ghost use Rattle.j39_vehicle_check.specs.VehicleFileText.{IsVehicleRefusal, vehicle_fault_line, vehicle_key_text, vehicle_table_text};
 
 use j39_text::TextBuffer;
 use j39_vehicle::{Fault, Key, Table, VehicleError};
-use std::alloc::AllocError;
+use std::alloc::{AllocError, Global};
 
 // Writes the name of a table.
-fn write_table(text: &mut TextBuffer, table: Table) -> Result<(), AllocError> {
+#[tactic(auto, unfolding(crate::specs::VehicleFileText::vehicle_table_text))]
+fn write_table(text: &mut TextBuffer, table: Table) -> Result<(), AllocError>
+    ensures { OnOk result (text.new ≡ text.old ++ vehicle_table_text table) }
+{
     match table {
         Table::Top => text.word("top"),
         Table::Bus(bus) => text.place("bus ", bus),
@@ -19,7 +24,10 @@ fn write_table(text: &mut TextBuffer, table: Table) -> Result<(), AllocError> {
     }
 }
 
-fn write_key(text: &mut TextBuffer, key: Option<Key>) -> Result<(), AllocError> {
+#[tactic(auto, unfolding(crate::specs::VehicleFileText::vehicle_key_text))]
+fn write_key(text: &mut TextBuffer, key: Option<Key>) -> Result<(), AllocError>
+    ensures { OnOk result (text.new ≡ text.old ++ vehicle_key_text key) }
+{
     match key {
         Some(key) => {
             text.word(" key ")?;
@@ -29,7 +37,10 @@ fn write_key(text: &mut TextBuffer, key: Option<Key>) -> Result<(), AllocError> 
     }
 }
 
-fn write_fault(text: &mut TextBuffer, fault: &Fault) -> Result<(), AllocError> {
+#[tactic(auto, unfolding(crate::specs::VehicleFileText::vehicle_fault_line))]
+fn write_fault(text: &mut TextBuffer, fault: &Fault) -> Result<(), AllocError>
+    ensures { OnOk result (text.new ≡ text.old ++ vehicle_fault_line fault.now) }
+{
     text.word("refused ")?;
     text.word(fault.cause.word())?;
     text.word(" ")?;
@@ -38,11 +49,15 @@ fn write_fault(text: &mut TextBuffer, fault: &Fault) -> Result<(), AllocError> {
     text.end_line()
 }
 
-/// Writes the line of a refusal. Where the vehicle could not be read for want of memory there is none.
-pub(super) fn write_refusal(text: &mut TextBuffer, error: &VehicleError) -> Result<(), AllocError> {
+/// The line of a refusal. Where the vehicle could not be read for want of memory there is none.
+pub(super) fn refusal(alloc: Global, error: &VehicleError) -> Result<TextBuffer, AllocError>
+    ensures { IfOk result (IsVehicleRefusal error.now) }
+{
+    let mut text = TextBuffer::new(alloc);
     match error {
-        VehicleError::Text => text.word("refused Text\n"),
-        VehicleError::Fault(fault) => write_fault(text, fault),
-        VehicleError::Memory => Err(AllocError),
+        VehicleError::Text => text.word("refused Text\n")?,
+        VehicleError::Fault(fault) => write_fault(&mut text, fault)?,
+        VehicleError::Memory => return Err(AllocError),
     }
+    Ok(text)
 }

@@ -1,5 +1,5 @@
 //! Why a plan file is refused.
-ghost use Rattle.std.specs.Prelude.{◌≡◌, ◌++◌, OnOk, IfOk};
+ghost use Rattle.std.specs.Prelude.{◌≡◌, ◌++◌, ℕ, List, OnOk, IfOk};
 ghost use Rattle.j39_check.specs.PlanText.{IsRefusalLine, fault_line, key_text, table_text};
 
 use j39_plan::{Fault, Key, PlanError, Table};
@@ -65,7 +65,9 @@ fn write_fault(text: &mut TextBuffer, fault: &Fault) -> Result<(), AllocError>
 }
 
 /// Writes the line of a refusal. Where the plan could not be read for want of memory there is none.
-pub fn write_refusal(text: &mut TextBuffer, error: &PlanError) -> Result<(), AllocError> {
+pub fn write_refusal(text: &mut TextBuffer, error: &PlanError) -> Result<(), AllocError>
+    ensures { OnOk result ((line : List ℕ) × IsRefusalLine error.now line × (text.new ≡ text.old ++ line)) }
+{
     match error {
         PlanError::Text => text.word("refused Text\n"),
         PlanError::Fault(fault) => write_fault(text, fault),

@@ -1,0 +1,4 @@
+pub mod BlockLists
+pub mod NoFindings
+pub mod Reporting
+pub mod WaySteps

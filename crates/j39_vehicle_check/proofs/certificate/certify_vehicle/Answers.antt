@@ -1,0 +1,21 @@
+use Rattle.std.proofs.Common.{◌≡◌, ◌++◌, List, [], subst, sym, ap}
+use Rattle.j39_vehicle.specs.declared.vehicle.Vehicle.{Vehicle}
+use Rattle.j39_paths.specs.FoundPaths.{vehicle_findings}
+use Rattle.j39_paths.specs.VehicleFindings.{AreFindings}
+use Rattle.j39_vehicle_check.proofs.NoFindings.{none_at_all}
+use Rattle.j39_vehicle_check.proofs.certificate.certify_vehicle.Goals as goal
+
+pub returns : goal.returns
+returns c =
+    let v : Vehicle = c.args.vehicle.now in
+    let none = c.requires in
+    let all : AreFindings v (vehicle_findings none.loops v) = c.vehicle_findings_are_exact.ensures v none.loops none.loops_are in
+    record {
+      plans = λ b bus is.
+          let (nothing, calm) = none.plans b bus is in
+          c.clean_plans_are_certified.ensures bus.plan ((c.clean_where_none.ensures bus.plan).0 nothing) calm;
+      paths = subst (AreFindings v) (none_at_all v none.loops none.paths none.queues) all;
+      delays = none.delays;
+      delays_are = none.delays_are;
+      times = none.times;
+    }
