@@ -1,10 +1,10 @@
 -- What can be wrong with the times of what a vehicle's gateways send on: each finding as a plain statement on its forwards and needs, by their
 -- places from 0.
-use Rattle.std.specs.Prelude.{◌≡◌, ℕ, ◌<◌, ◌≤◌, ◌⊎◌, List, [], ◌∷◌, Option, Some, None, true, false, Contains, AllPairs, IfSome}
+use Rattle.std.specs.Prelude.{◌≡◌, ℕ, ◌<◌, ◌≤◌, ◌⊎◌, List, Option, Some, None, true, false, Contains, AllPairs}
 use Rattle.std.specs.List.{slice_get, position}
 use Rattle.std.specs.Option.{option_and_then, option_map}
-use Rattle.j39_rules.specs.Order.{ComesBefore}
 use Rattle.j39_rules.specs.ListPlaces.{ValueAt}
+use Rattle.j39_rules.specs.Order.{ComesBefore}
 use Rattle.j39_findings.specs.declared.plan.flow_plan.FlowPlan.{FlowPlan}
 use Rattle.j39_findings.specs.declared.plan.group_plan.GroupPlan.{GroupPlan}
 use Rattle.j39_findings.specs.declared.plan.pace.Pace.{Pace}
@@ -104,7 +104,7 @@ time_finding_number (TooLate n) = 11
 time_finding_number (TooRare n) = 12
 time_finding_number (NeedTooOld d) = 13
 
--- the place that it names
+-- the places that it names
 abbrev pub time_finding_places : TimeFinding → List ℕ
 time_finding_places (TooOften n) = n ∷ []
 time_finding_places (TooLate n) = n ∷ []
