@@ -99,7 +99,8 @@ pub copied_agrees : (v : Vehicle) (n : Forward) (j i : ℕ) (t : SignalParts) �
 copied_agrees v n j i t copy is t_is =
     let copied : copied_into v n j ≡ Some i = sym (ap (λ b. if b then copied_into v n j else put_into n j) copy) ∙ is in
     let (g, g_is, rest) =
-    parts_of (λ g. option_and_then (λ h. agreeing_in g (slice_get h.signals.items j)) (group_at v.buses.items n.output)) (group_at v.buses.items n.input) i copied in
+    parts_of (λ g. option_and_then (λ h. agreeing_in g (slice_get h.signals.items j)) (group_at v.buses.items n.output))
+    (group_at v.buses.items n.input) i copied in
     let (h, h_is, agreeing) = parts_of (λ (h : GroupPlan). agreeing_in g (slice_get h.signals.items j)) (group_at v.buses.items n.output) i rest in
     let (u, u_is, found) = parts_of (first_agreeing g) (slice_get h.signals.items j) i agreeing in
     let there : slice_get h.signals.items j ≡ Some t =

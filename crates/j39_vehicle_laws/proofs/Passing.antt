@@ -26,7 +26,8 @@ use Rattle.j39_vehicle_laws.specs.BusRuns.{WasHeard, BusMessage, flow_at}
 -- what holds in each world of each run of each plan of the messages of which nothing is lost
 pub record MessagesArrive : Type 0 where
   pub unanswered : (plan : Plan) (steps : List Step) (w : World) → Run plan all_off steps w → ArrivesUnanswered plan w
-  pub answered : (plan : Plan) (steps : List Step) (w : World) → Run plan all_off steps w → (m : Answered plan w) → IsAlone plan w m → HasArrivedAnswered plan w m
+  pub answered : (plan : Plan) (steps : List Step) (w : World) → Run plan all_off steps w
+      → (m : Answered plan w) → IsAlone plan w m → HasArrivedAnswered plan w m
   pub alone : (plan : Plan) (steps : List Step) (w : World) → Run plan all_off steps w → SentFramesArrive plan w
 
 -- ---- lists
