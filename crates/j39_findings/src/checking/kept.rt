@@ -40,7 +40,7 @@ impl Rule<UnitPlan, Finding> for KeptAddress<'_> {
     }
 }
 
-#[tactic(auto, unfolding(crate::specs::Found::kept_findings, crate::specs::ListPlaces::each))]
+#[tactic(auto, unfolding(crate::specs::Found::kept_findings, j39_rules::specs::ListPlaces::each))]
 pub fn find_kept(
     findings: &mut Vec<Finding>,
     kept: &AddressSet,

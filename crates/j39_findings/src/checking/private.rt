@@ -128,7 +128,7 @@ impl Rule<GroupPlan, Finding> for PrivateUnsent<'_> {
 }
 
 /// Adds the private groups that no flow sends.
-#[tactic(auto, unfolding(crate::specs::Found::unsent_findings, crate::specs::ListPlaces::each))]
+#[tactic(auto, unfolding(crate::specs::Found::unsent_findings, j39_rules::specs::ListPlaces::each))]
 pub fn find_unsent(
     findings: &mut Vec<Finding>,
     groups: &[GroupPlan],

@@ -103,7 +103,7 @@ struct Widths;
 impl Rule<GroupPlan, Finding> for Widths {
     ghost gives = { λ _ g group. width_findings g group };
 
-    #[tactic(auto, unfolding(crate::specs::ListPlaces::each))]
+    #[tactic(auto, unfolding(j39_rules::specs::ListPlaces::each))]
     fn find(
         &self,
         findings: &mut Vec<Finding>,
@@ -120,7 +120,7 @@ struct Outsides;
 impl Rule<GroupPlan, Finding> for Outsides {
     ghost gives = { λ _ g group. outside_findings g group };
 
-    #[tactic(auto, unfolding(crate::specs::ListPlaces::each))]
+    #[tactic(auto, unfolding(j39_rules::specs::ListPlaces::each))]
     fn find(
         &self,
         findings: &mut Vec<Finding>,

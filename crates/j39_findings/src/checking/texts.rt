@@ -46,7 +46,7 @@ struct OutsideTexts;
 impl Rule<GroupPlan, Finding> for OutsideTexts {
     ghost gives = { λ _ g group. outside_text_findings g group };
 
-    #[tactic(auto, unfolding(crate::specs::ListPlaces::each))]
+    #[tactic(auto, unfolding(j39_rules::specs::ListPlaces::each))]
     fn find(
         &self,
         findings: &mut Vec<Finding>,
