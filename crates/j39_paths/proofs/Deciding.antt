@@ -128,9 +128,10 @@ Decides-is_direct n = mode_decides n.mode
 
 pub Decides-is_followed : (v : Vehicle) (n m : Forward) → Decides (is_followed v n m) (IsFollowed v n m)
 Decides-is_followed v n m =
-    Decides-like _ (λ h. record { bus = h.0; flow = h.1 }) (λ m. (m.bus, m.flow))
-    (Decides-and _ _ (Decides-eqb n.output.bus m.input.bus)
-    (some_decides (λ f. IsOutput n f × IsInput v m f) (λ f. Decides-and _ _ (Decides-is_output n f) (Decides-is_input v m f)) (output_flows v n)))
+    Decides-like _ (λ h. record { bus = h.0; flow = h.1.1 })
+    (λ followed. (followed.bus, (sym followed.flow.1.meets.0.group ∙ followed.flow.1.meets.1.meets.group, followed.flow)))
+    (Decides-and _ _ (Decides-eqb n.output.bus m.input.bus) (Decides-and _ _ (Decides-eqb n.output.group m.input.group)
+    (some_decides (λ f. IsOutput n f × IsInput v m f) (λ f. Decides-and _ _ (Decides-is_output n f) (Decides-is_input v m f)) (output_flows v n))))
 
 pub Decides-has_no_input : (v : Vehicle) (n : Forward) → Decides (has_no_input v n) (HasNoInput v n)
 Decides-has_no_input v n = Decides-not _ (some_decides (IsInput v n) (Decides-is_input v n) (input_flows v n))
@@ -331,12 +332,19 @@ Decides-is_other_signal n g h j t =
 
 -- ---- several forwards
 
+one_group : {n m : Forward} {flows : List FlowPlan} → SomeMeets (λ f. IsOutput n f × IsOutput m f) flows → n.output.group ≡ m.output.group
+one_group (i, at) = sym at.meets.0.group ∙ at.meets.1.group
+
+one_sender : {n m : Forward} {flows : List FlowPlan} → SomeMeets (λ f. IsOutput n f × IsOutput m f) flows → n.sender ≡ m.sender
+one_sender (i, at) = sym at.meets.0.sender ∙ at.meets.1.sender
+
 pub Decides-are_two_forwards : (v : Vehicle) (n m : Forward) → Decides (are_two_forwards v n m) (AreTwoForwards v n m)
 Decides-are_two_forwards v n m =
     Decides-and _ _
-    (Decides-like _ (λ h. record { bus = h.0; flow = h.1 }) (λ o. (o.bus, o.flow))
-    (Decides-and _ _ (Decides-eqb n.output.bus m.output.bus)
-    (some_decides (λ f. IsOutput n f × IsOutput m f) (λ f. Decides-and _ _ (Decides-is_output n f) (Decides-is_output m f)) (output_flows v n))))
+    (Decides-like _ (λ h. record { bus = h.0; flow = h.1.1.1 }) (λ o. (o.bus, (one_group o.flow, (one_sender o.flow, o.flow))))
+    (Decides-and _ _ (Decides-eqb n.output.bus m.output.bus) (Decides-and _ _ (Decides-eqb n.output.group m.output.group)
+    (Decides-and _ _ (Decides-eqb n.sender m.sender)
+    (some_decides (λ f. IsOutput n f × IsOutput m f) (λ f. Decides-and _ _ (Decides-is_output n f) (Decides-is_output m f)) (output_flows v n))))))
     (Decides-or _ _ (Decides-or _ _ (Decides-is_direct n) (Decides-is_direct m))
     (Decides-or _ _ (Decides-or _ _ (Decides-copies n) (Decides-copies m)) (Decides-write_one_signal n m)))
 

@@ -52,4 +52,5 @@ abbrev pub is_between : Vehicle → Forward → Forward → FlowPlan → Bool
 is_between v n m flow = is_output n flow && is_input v m flow
 
 abbrev pub is_followed : Vehicle → Forward → Forward → Bool
-is_followed v n m = n.output.bus == m.input.bus && list_any (is_between v n m) (output_flows v n)
+is_followed v n m =
+    n.output.bus == m.input.bus && (n.output.group == m.input.group && list_any (is_between v n m) (output_flows v n))

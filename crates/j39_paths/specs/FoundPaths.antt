@@ -109,7 +109,8 @@ abbrev pub is_of_both : Forward → Forward → FlowPlan → Bool
 is_of_both n m flow = is_output n flow && is_output m flow
 
 abbrev pub feed_one_flow : Vehicle → Forward → Forward → Bool
-feed_one_flow v n m = n.output.bus == m.output.bus && list_any (is_of_both n m) (output_flows v n)
+feed_one_flow v n m = n.output.bus == m.output.bus
+    && (n.output.group == m.output.group && (n.sender == m.sender && list_any (is_of_both n m) (output_flows v n)))
 
 abbrev pub are_at_odds : Forward → Forward → Bool
 are_at_odds n m = (is_direct n || is_direct m) || ((copies n || copies m) || write_one_signal n m)

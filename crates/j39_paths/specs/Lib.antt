@@ -6,5 +6,7 @@ pub mod inside
 pub mod Loops
 pub mod Matching
 pub mod MatchTests
+pub mod PassingPlaces
+pub mod PathTables
 pub mod Traces
 pub mod VehicleFindings

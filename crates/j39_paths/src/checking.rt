@@ -15,11 +15,13 @@ mod turns;
 
 use crate::finding::VehicleFinding;
 use crate::loops::loops_of;
+use crate::tables::path_tables;
 use contents::find_in_contents;
 use ends::find_in_ends;
 use j39_vehicle::Vehicle;
 pub use needs::is_need_flow;
 use needs::find_in_needs;
+pub use needs::is_need_flow;
 use queues::find_queues;
 use std::alloc::{AllocError, Global};
 use turns::find_loops;
@@ -34,11 +36,12 @@ pub fn find_in_paths(alloc: Global, vehicle: &Vehicle) -> Result<VehicleFindings
     ensures memory { OnErr result ((vehicle.now.forwards.items ≢ []) ⊎ (vehicle.now.needs.items ≢ [])) }
 {
     let loops = loops_of(alloc, vehicle)?;
+    let tables = path_tables(alloc, vehicle)?;
     let mut findings = Vec::new(alloc);
     find_in_ends(&mut findings, vehicle)?;
     find_in_contents(&mut findings, vehicle)?;
     find_loops(&mut findings, &loops, vehicle)?;
-    find_in_needs(&mut findings, vehicle)?;
+    find_in_needs(&mut findings, vehicle, &tables)?;
     Ok(findings)
 }
 

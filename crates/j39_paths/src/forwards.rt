@@ -176,5 +176,7 @@ fn some_is_between(vehicle: &Vehicle, one: &Forward, other: &Forward) -> bool
 pub fn is_followed(vehicle: &Vehicle, one: &Forward, other: &Forward) -> bool
     ensures { result ≡ is_followed vehicle.now one.now other.now }
 {
-    one.output.bus == other.input.bus && some_is_between(vehicle, one, other)
+    one.output.bus == other.input.bus
+        && one.output.group == other.input.group
+        && some_is_between(vehicle, one, other)
 }

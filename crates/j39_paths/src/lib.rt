@@ -8,7 +8,11 @@ mod forwards;
 mod laws;
 mod loops;
 mod matching;
+mod passing;
 mod point;
+mod reaching;
+mod table_traces;
+mod tables;
 mod traces;
 
 pub use buses::{flows_on, group_at};
@@ -17,4 +21,5 @@ pub use finding::VehicleFinding;
 pub use forwards::{feeds, first_input, is_direct, is_input, is_output, output_flows};
 pub use laws::vehicle_findings_are_exact;
 pub use point::{FlowAt, Point};
+pub use tables::{PathTables, path_tables};
 pub use traces::{goes_on, next_forward, origin};

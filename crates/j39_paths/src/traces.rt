@@ -3,6 +3,7 @@ ghost use Rattle.std.specs.Prelude.{◌≡◌, ◌==◌};
 ghost use Rattle.std.specs.List.{position};
 ghost use Rattle.std.specs.Option.{option_copied};
 ghost use Rattle.j39_paths.specs.Forwards.{listed};
+ghost use Rattle.j39_paths.specs.Traces as spec;
 ghost use Rattle.j39_paths.specs.Traces.{agreeing_in, behind_forward, carries, copied_into, first_agreeing, goes_into, goes_on, is_from_origin, is_sent_by, next_forward, origin, put_into};
 
 use crate::buses::{flows_on, group_at};
@@ -13,8 +14,8 @@ use j39_findings::GroupPlan;
 use j39_signal::Signal;
 use j39_vehicle::{Forward, UnitAt, Vehicle, VehicleNeed};
 
-// Whether the forward copies, or writes the signal.
-fn carries(signal: Option<usize>, forward: &Forward) -> bool
+/// Whether the forward copies, or writes the signal.
+pub fn carries(signal: Option<usize>, forward: &Forward) -> bool
     ensures { result ≡ carries signal forward.now }
 {
     match signal {
@@ -93,11 +94,17 @@ pub fn goes_into(vehicle: &Vehicle, forward: &Forward, signal: usize) -> Option<
     }
 }
 
-// Where the trace goes on behind the forward: with its first input, and with what goes into the signal.
-fn behind_forward(vehicle: &Vehicle, signal: Option<usize>, forward: &Forward) -> Option<Point>
+/// Where the trace goes on behind the forward: with its first input, and with what goes into the signal.
+pub fn behind_forward(
+    vehicle: &Vehicle,
+    signal: Option<usize>,
+    forward: &Forward,
+    input: Option<usize>,
+) -> Option<Point>
+    requires { input ≡ spec.first_input vehicle.now forward.now }
     ensures { result ≡ behind_forward vehicle.now signal forward.now }
 {
-    let Some(flow) = first_input(vehicle, forward) else {
+    let Some(flow) = input else {
         return None;
     };
     let at = FlowAt {
@@ -121,7 +128,10 @@ pub fn goes_on(vehicle: &Vehicle, point: Point, forward: usize) -> Option<Point>
     ensures { result ≡ goes_on vehicle.now point forward }
 {
     match vehicle.forwards.get(forward) {
-        Some(forward) => behind_forward(vehicle, point.signal, forward),
+        Some(forward) => {
+            let input = first_input(vehicle, forward);
+            behind_forward(vehicle, point.signal, forward, input)
+        }
         None => None,
     }
 }
@@ -147,8 +157,8 @@ pub fn origin(vehicle: &Vehicle, start: Point) -> Option<Point>
     }
 }
 
-// Whether the flow at this point is sent by the unit.
-fn is_sent_by(vehicle: &Vehicle, unit: UnitAt, point: Point) -> bool
+/// Whether the flow at this point is sent by the unit.
+pub fn is_sent_by(vehicle: &Vehicle, unit: UnitAt, point: Point) -> bool
     ensures { result ≡ is_sent_by vehicle.now unit point }
 {
     if point.at.bus != unit.bus {

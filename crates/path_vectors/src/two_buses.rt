@@ -15,7 +15,7 @@ type Row = (
     &'static str,
 );
 
-const ROWS: [Row; 48] = [
+const ROWS: [Row; 62] = [
     // A copy meets the need.
     (
         r#"length = 8, signal = [{ label = "SPN190", byte = 4, bits = 16, kind = "measured", per = 8 }]"#,
@@ -541,6 +541,148 @@ need = [{ unit = "B.C", group = "EEC1", signal = "RPM", from = "P.E", within = 3
 forward = [{ gateway = "CGW", group = "P.EEC1", as = "B.EEC1", signal = [{ label = "SPN190", as = "RPM" }] }]
 need = [{ unit = "B.C", group = "EEC1", signal = "RPM", from = "P.E", within = 30 }]"#,
         r#"G6 1 1"#,
+    ),
+    // It is sent on request, and the gateway asks.
+    (
+        r#"length = 8"#,
+        r#"{ group = "EEC1", from = "E", to = "all", on_request = true }]
+request = [{ group = "EEC1", from = "G", to = "E" }"#,
+        r#"length = 8"#,
+        r#"{ group = "EEC1", from = "G", to = "all", period = 10, jitter = 7 }"#,
+        r#"gateway = [{ label = "CGW", unit = ["P.G", "B.G"] }]
+forward = [{ gateway = "CGW", group = "P.EEC1", as = "B.EEC1" }]
+need = [{ unit = "B.C", group = "EEC1", from = "P.E" }]"#,
+        r#""#,
+    ),
+    // Records stand in it as they do in what is heard.
+    (
+        r#"length = 6, most = 26, every = 4, signal = [{ label = "S", byte = 3, bits = 8, kind = "raw", repeated = true }]"#,
+        r#"{ group = "EEC1", from = "E", to = "all", period = 10, pause = 20 }"#,
+        r#"length = 6, most = 26, every = 4, signal = [{ label = "S", byte = 3, bits = 8, kind = "raw", repeated = true }]"#,
+        r#"{ group = "EEC1", from = "G", to = "all", period = 10, jitter = 7 }"#,
+        r#"gateway = [{ label = "CGW", unit = ["P.G", "B.G"] }]
+forward = [{ gateway = "CGW", group = "P.EEC1", as = "B.EEC1" }]"#,
+        r#""#,
+    ),
+    // They stand elsewhere behind the first.
+    (
+        r#"length = 6, most = 26, every = 4, signal = [{ label = "S", byte = 3, bits = 8, kind = "raw", repeated = true }]"#,
+        r#"{ group = "EEC1", from = "E", to = "all", period = 10, pause = 20 }"#,
+        r#"length = 6, most = 26, every = 5, signal = [{ label = "S", byte = 3, bits = 8, kind = "raw", repeated = true }]"#,
+        r#"{ group = "EEC1", from = "G", to = "all", period = 10, jitter = 7 }"#,
+        r#"gateway = [{ label = "CGW", unit = ["P.G", "B.G"] }]
+forward = [{ gateway = "CGW", group = "P.EEC1", as = "B.EEC1" }]"#,
+        r#"G5 1"#,
+    ),
+    // What is heard has none.
+    (
+        r#"length = 6, most = 26, signal = [{ label = "S", byte = 3, bits = 8, kind = "raw" }]"#,
+        r#"{ group = "EEC1", from = "E", to = "all", period = 10, pause = 20 }"#,
+        r#"length = 6, most = 26, every = 4, signal = [{ label = "S", byte = 3, bits = 8, kind = "raw", repeated = true }]"#,
+        r#"{ group = "EEC1", from = "G", to = "all", period = 10, jitter = 7 }"#,
+        r#"gateway = [{ label = "CGW", unit = ["P.G", "B.G"] }]
+forward = [{ gateway = "CGW", group = "P.EEC1", as = "B.EEC1" }]"#,
+        r#"G5 1 G6 1 1"#,
+    ),
+    // It has none, where what is heard has some.
+    (
+        r#"length = 6, most = 26, every = 4, signal = [{ label = "S", byte = 3, bits = 8, kind = "raw", repeated = true }]"#,
+        r#"{ group = "EEC1", from = "E", to = "all", period = 10, pause = 20 }"#,
+        r#"length = 6, most = 26"#,
+        r#"{ group = "EEC1", from = "G", to = "all", period = 10, jitter = 7 }"#,
+        r#"gateway = [{ label = "CGW", unit = ["P.G", "B.G"] }]
+forward = [{ gateway = "CGW", group = "P.EEC1", as = "B.EEC1" }]"#,
+        r#""#,
+    ),
+    // The first signal that agrees means something else, the second one would not.
+    (
+        r#"length = 8, signal = [{ label = "S", byte = 1, bits = 8, kind = "raw", unit = "km" }, { label = "R", byte = 1, bits = 8, kind = "raw", unit = "rpm" }]"#,
+        r#"{ group = "EEC1", from = "E", to = "all", period = 10, pause = 20 }"#,
+        r#"length = 8, signal = [{ label = "T", byte = 1, bits = 8, kind = "raw", unit = "rpm" }]"#,
+        r#"{ group = "EEC1", from = "G", to = "all", period = 10, jitter = 7 }"#,
+        r#"gateway = [{ label = "CGW", unit = ["P.G", "B.G"] }]
+forward = [{ gateway = "CGW", group = "P.EEC1", as = "B.EEC1" }]"#,
+        r#"G6 1 1"#,
+    ),
+    // A signal that always has a value goes into one of the same values.
+    (
+        r#"length = 8, signal = [{ label = "S", byte = 1, bits = 8, kind = "raw" }]"#,
+        r#"{ group = "EEC1", from = "E", to = "all", period = 10, pause = 20 }"#,
+        r#"length = 8, signal = [{ label = "T", byte = 2, bits = 8, kind = "raw" }]"#,
+        r#"{ group = "EEC1", from = "G", to = "all", period = 10, jitter = 7 }"#,
+        r#"gateway = [{ label = "CGW", unit = ["P.G", "B.G"] }]
+forward = [{ gateway = "CGW", group = "P.EEC1", as = "B.EEC1", signal = [{ label = "S", as = "T" }] }]"#,
+        r#""#,
+    ),
+    // Where a message may not have it.
+    (
+        r#"length = 8, most = 20, signal = [{ label = "S", byte = 10, bits = 8, kind = "raw", optional = true }]"#,
+        r#"{ group = "EEC1", from = "E", to = "all", period = 10, pause = 20 }"#,
+        r#"length = 8, signal = [{ label = "T", byte = 2, bits = 8, kind = "raw" }]"#,
+        r#"{ group = "EEC1", from = "G", to = "all", period = 10, jitter = 7 }"#,
+        r#"gateway = [{ label = "CGW", unit = ["P.G", "B.G"] }]
+forward = [{ gateway = "CGW", group = "P.EEC1", as = "B.EEC1", signal = [{ label = "S", as = "T" }] }]"#,
+        r#"G6 1 1"#,
+    ),
+    // Where it need not be exact.
+    (
+        r#"length = 8, most = 20, signal = [{ label = "S", byte = 10, bits = 8, kind = "raw", optional = true }]"#,
+        r#"{ group = "EEC1", from = "E", to = "all", period = 10, pause = 20 }"#,
+        r#"length = 8, signal = [{ label = "T", byte = 2, bits = 8, kind = "raw" }]"#,
+        r#"{ group = "EEC1", from = "G", to = "all", period = 10, jitter = 7 }"#,
+        r#"gateway = [{ label = "CGW", unit = ["P.G", "B.G"] }]
+forward = [{ gateway = "CGW", group = "P.EEC1", as = "B.EEC1", signal = [{ label = "S", as = "T", exact = false }] }]"#,
+        r#""#,
+    ),
+    // A signed signal goes into one whose values begin with its least.
+    (
+        r#"length = 8, signal = [{ label = "S", byte = 1, bits = 8, kind = "signed" }]"#,
+        r#"{ group = "EEC1", from = "E", to = "all", period = 10, pause = 20 }"#,
+        r#"length = 8, signal = [{ label = "T", byte = 1, bits = 16, kind = "measured", offset = -128 }]"#,
+        r#"{ group = "EEC1", from = "G", to = "all", period = 10, jitter = 7 }"#,
+        r#"gateway = [{ label = "CGW", unit = ["P.G", "B.G"] }]
+forward = [{ gateway = "CGW", group = "P.EEC1", as = "B.EEC1", signal = [{ label = "S", as = "T" }] }]"#,
+        r#""#,
+    ),
+    // They begin one above.
+    (
+        r#"length = 8, signal = [{ label = "S", byte = 1, bits = 8, kind = "signed" }]"#,
+        r#"{ group = "EEC1", from = "E", to = "all", period = 10, pause = 20 }"#,
+        r#"length = 8, signal = [{ label = "T", byte = 1, bits = 16, kind = "measured", offset = -127 }]"#,
+        r#"{ group = "EEC1", from = "G", to = "all", period = 10, jitter = 7 }"#,
+        r#"gateway = [{ label = "CGW", unit = ["P.G", "B.G"] }]
+forward = [{ gateway = "CGW", group = "P.EEC1", as = "B.EEC1", signal = [{ label = "S", as = "T" }] }]"#,
+        r#"G6 1 1"#,
+    ),
+    // A trouble code goes into a trouble code.
+    (
+        r#"length = 8, signal = [{ label = "S", byte = 1, bits = 32, kind = "dtc" }]"#,
+        r#"{ group = "EEC1", from = "E", to = "all", period = 10, pause = 20 }"#,
+        r#"length = 8, signal = [{ label = "T", byte = 3, bits = 32, kind = "dtc" }]"#,
+        r#"{ group = "EEC1", from = "G", to = "all", period = 10, jitter = 7 }"#,
+        r#"gateway = [{ label = "CGW", unit = ["P.G", "B.G"] }]
+forward = [{ gateway = "CGW", group = "P.EEC1", as = "B.EEC1", signal = [{ label = "S", as = "T" }] }]"#,
+        r#""#,
+    ),
+    // The width of what is heard is none of its kind.
+    (
+        r#"length = 8, signal = [{ label = "S", byte = 1, bits = 3, kind = "discrete" }]"#,
+        r#"{ group = "EEC1", from = "E", to = "all", period = 10, pause = 20 }"#,
+        r#"length = 8, signal = [{ label = "T", byte = 2, bits = 8, kind = "measured" }]"#,
+        r#"{ group = "EEC1", from = "G", to = "all", period = 10, jitter = 7 }"#,
+        r#"gateway = [{ label = "CGW", unit = ["P.G", "B.G"] }]
+forward = [{ gateway = "CGW", group = "P.EEC1", as = "B.EEC1", signal = [{ label = "S", as = "T" }] }]"#,
+        r#"G6 1 1"#,
+    ),
+    // Values of two bits go into a byte of numbers.
+    (
+        r#"length = 8, signal = [{ label = "S", byte = 1, bits = 2, kind = "discrete" }]"#,
+        r#"{ group = "EEC1", from = "E", to = "all", period = 10, pause = 20 }"#,
+        r#"length = 8, signal = [{ label = "T", byte = 2, bits = 8, kind = "measured" }]"#,
+        r#"{ group = "EEC1", from = "G", to = "all", period = 10, jitter = 7 }"#,
+        r#"gateway = [{ label = "CGW", unit = ["P.G", "B.G"] }]
+forward = [{ gateway = "CGW", group = "P.EEC1", as = "B.EEC1", signal = [{ label = "S", as = "T" }] }]"#,
+        r#""#,
     ),
 ];
 

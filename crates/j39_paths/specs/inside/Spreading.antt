@@ -1,38 +1,55 @@
--- A search for all forwards that come after one: which are reached, and which of these wait until those that follow them are reached.
-use Rattle.std.specs.Prelude.{◌≡◌, ℕ, ◌+◌, ◌<◌, ◌⊎◌, List, [], ◌∷◌, ◌++◌, length, slice_set, count_by, Bool, true, false, not, Contains}
-use Rattle.std.specs.List.{slice_index_or}
-use Rattle.j39_vehicle.specs.declared.vehicle.Vehicle.{Vehicle}
-use Rattle.j39_paths.specs.Forwards.{ComesAfter, Follows}
+-- A search for all places of a graph that are reached from one: which are reached so far, and which of these wait until those are reached
+-- to which they lead. A row has the places to which one leads.
+use Rattle.std.specs.Prelude.{◌≡◌, ℕ, ◌+◌, ◌<◌, ◌⊎◌, List, [], ◌∷◌, ◌++◌, Bool, true, false, not, Contains, length}
+use Rattle.std.specs.List.{count_by, slice_index_or, slice_set}
+use Rattle.std.specs.declared.alloc.Global.{Global}
+use Rattle.std.specs.declared.vec.Vec.{Vec}
+use Rattle.j39_paths.specs.PathTables.{row_at}
+
+-- ---- the graph
+
+abbrev pub Rows : Type 0
+Rows = List (Vec ℕ Global)
+
+abbrev pub Leads : Rows → ℕ → ℕ → Type 0
+Leads rows n m = Contains (row_at rows n) m
+
+-- one place leads to another over any number of places between
+pub data LeadsOn (rows : Rows) (n : ℕ) : ℕ → Type 0 where
+  straight : (m : ℕ) → Leads rows n m → LeadsOn rows n m
+  further : (k m : ℕ) → LeadsOn rows n k → Leads rows k m → LeadsOn rows n m
+
+-- each place to which one leads has a row
+abbrev pub StayInside : Rows → Type 0
+StayInside rows = (n m : ℕ) → Leads rows n m → m < length rows
+
+-- ---- the search
 
 abbrev pub IsReached : List Bool → ℕ → Type 0
 IsReached reached m = slice_index_or reached m false ≡ true
 
--- the forward at the place `next` follows the one at a place, and isn't reached yet
-abbrev pub IsNews : Vehicle → ℕ → ℕ → List Bool → Type 0
-IsNews v place next reached = (slice_index_or reached next false ≡ false) × Follows v place next
+-- a place that isn't reached yet is reached then, and waits
+abbrev pub ReachesOne : ℕ → List Bool → List ℕ → List Bool → List ℕ → Type 0
+ReachesOne next old waiting new waiting_then =
+    ((slice_index_or old next false ≡ false) × (new ≡ slice_set old next true) × (waiting_then ≡ waiting ++ next ∷ []))
+    ⊎ (IsReached old next × (new ≡ old) × (waiting_then ≡ waiting))
 
--- where it is news it is reached then, and waits
-abbrev pub ReachesOne : Vehicle → ℕ → ℕ → List Bool → List ℕ → List Bool → List ℕ → Type 0
-ReachesOne v place next old waiting new waiting_then =
-    (IsNews v place next old × (new ≡ slice_set old next true) × (waiting_then ≡ waiting ++ next ∷ []))
-    ⊎ ((¬ IsNews v place next old) × (new ≡ old) × (waiting_then ≡ waiting))
-
--- those at places below `next` that follow the forward at a place are reached beside those that were before, and wait
-pub record Spreads (v : Vehicle) (place next : ℕ) (old : List Bool) (waiting : List ℕ) (new : List Bool) (waiting_then : List ℕ) : Type 0 where
+-- these places are reached beside those that were before, and those wait that weren't
+pub record Spreads (places : List ℕ) (old : List Bool) (waiting : List ℕ) (new : List Bool) (waiting_then : List ℕ) : Type 0 where
   pub count : length new ≡ length old
   pub kept : (m : ℕ) → IsReached old m → IsReached new m
-  pub sound : (m : ℕ) → IsReached new m → IsReached old m ⊎ Follows v place m
-  pub followers : (m : ℕ) → m < next → Follows v place m → IsReached new m
+  pub sound : (m : ℕ) → IsReached new m → IsReached old m ⊎ Contains places m
+  pub all : (m : ℕ) → Contains places m → IsReached new m
   pub more : List ℕ
   pub waits : waiting_then ≡ waiting ++ more
   pub told : (m : ℕ) → IsReached new m → IsReached old m ⊎ Contains more m
   pub those : (m : ℕ) → Contains more m → IsReached new m
   pub left : count_by not new + length more ≡ count_by not old
 
--- what is reached comes after the start, and what follows it is reached or it waits
-pub record IsSpread (v : Vehicle) (start : ℕ) (reached : List Bool) (waiting : List ℕ) : Type 0 where
-  pub count : length reached ≡ length v.forwards.items
-  pub sound : (m : ℕ) → IsReached reached m → ComesAfter v start m
-  pub first : (m : ℕ) → Follows v start m → IsReached reached m
-  pub closed : (k : ℕ) → IsReached reached k → Contains waiting k ⊎ ((m : ℕ) → Follows v k m → IsReached reached m)
+-- the start leads to what is reached, and where that leads to is reached or it waits
+pub record IsSpread (rows : Rows) (start : ℕ) (reached : List Bool) (waiting : List ℕ) : Type 0 where
+  pub count : length reached ≡ length rows
+  pub sound : (m : ℕ) → IsReached reached m → LeadsOn rows start m
+  pub first : (m : ℕ) → Leads rows start m → IsReached reached m
+  pub closed : (k : ℕ) → IsReached reached k → Contains waiting k ⊎ ((m : ℕ) → Leads rows k m → IsReached reached m)
   pub those : (m : ℕ) → Contains waiting m → IsReached reached m

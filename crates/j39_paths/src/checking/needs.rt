@@ -4,11 +4,13 @@ ghost use Rattle.j39_findings.specs.Adding.{Adds};
 ghost use Rattle.j39_findings.specs.Found.{meets};
 ghost use Rattle.j39_findings.specs.ListPlaces.{found_if, each};
 ghost use Rattle.j39_paths.specs.FoundPaths.{is_need_flow, is_need_unmet, need_findings, some_at};
+ghost use Rattle.j39_paths.specs.PathTables.{AreTables};
 ghost use Rattle.j39_paths.specs.Traces.{flows_of_need, is_from_origin, needed};
 
 use crate::buses::{flows_on, requests_on};
 use crate::checking::rules::{Rule, find_each, push_if};
 use crate::finding::VehicleFinding;
+use crate::tables::PathTables;
 use crate::traces::is_from_origin;
 use j39_findings::{FlowPlan, NeedPlan, RequestPlan, meets};
 use j39_vehicle::{Vehicle, VehicleNeed};
@@ -36,27 +38,52 @@ pub fn is_need_flow(vehicle: &Vehicle, need: &VehicleNeed, place: usize, flow: &
     is_needed(requests, need, flow) && is_from_origin(vehicle, need, place)
 }
 
+// The same, by the tables of the vehicle.
+fn is_told_need_flow(
+    vehicle: &Vehicle,
+    tables: &PathTables,
+    need: &VehicleNeed,
+    place: usize,
+    flow: &FlowPlan,
+) -> bool
+    requires { AreTables vehicle.now tables.now }
+    ensures { result ≡ is_need_flow vehicle.now need.now place flow.now }
+{
+    let requests = requests_on(&vehicle.buses, need.unit.bus);
+    is_needed(requests, need, flow) && tables.is_from_origin(vehicle, need, place)
+}
+
 // Whether one of these flows, which are all of the need's bus, does.
-fn some_is_need_flow(vehicle: &Vehicle, need: &VehicleNeed, flows: &[FlowPlan]) -> bool
+fn some_is_need_flow(
+    vehicle: &Vehicle,
+    tables: &PathTables,
+    need: &VehicleNeed,
+    flows: &[FlowPlan],
+) -> bool
+    requires { AreTables vehicle.now tables.now }
     ensures { result ≡ some_at (is_need_flow vehicle.now need.now) 0 flows.now }
 {
     for (place, flow) in flows.iter().enumerate() {
-        if is_need_flow(vehicle, need, place, flow) {
+        if is_told_need_flow(vehicle, tables, need, place, flow) {
             return true;
         }
     }
     false
 }
 
-fn is_need_met(vehicle: &Vehicle, need: &VehicleNeed) -> bool
+fn is_need_met(vehicle: &Vehicle, tables: &PathTables, need: &VehicleNeed) -> bool
+    requires { AreTables vehicle.now tables.now }
     ensures { result ≡ some_at (is_need_flow vehicle.now need.now) 0 (flows_of_need vehicle.now need.now) }
 {
-    some_is_need_flow(vehicle, need, flows_on(&vehicle.buses, need.unit.bus))
+    let flows = flows_on(&vehicle.buses, need.unit.bus);
+    some_is_need_flow(vehicle, tables, need, flows)
 }
 
 #[derive(Clone, Copy)]
 struct NeedUnmet<'a> {
     vehicle: &'a Vehicle,
+    tables: &'a PathTables,
+    ghost of_vehicle: { AreTables vehicle.now tables.now },
 }
 
 impl Rule<VehicleNeed> for NeedUnmet<'_> {
@@ -72,7 +99,7 @@ impl Rule<VehicleNeed> for NeedUnmet<'_> {
     ) -> Result<(), AllocError> {
         push_if(
             findings,
-            !is_need_met(self.vehicle, need),
+            !is_need_met(self.vehicle, self.tables, need),
             VehicleFinding::NeedUnmet(place),
         )
     }
@@ -83,8 +110,10 @@ impl Rule<VehicleNeed> for NeedUnmet<'_> {
 pub fn find_in_needs(
     findings: &mut Vec<VehicleFinding>,
     vehicle: &Vehicle,
+    tables: &PathTables,
 ) -> Result<(), AllocError>
+    requires { AreTables vehicle.now tables.now }
     ensures { Adds result findings.old.items findings.new.items (need_findings vehicle.now) }
 {
-    find_each(findings, &NeedUnmet { vehicle }, &vehicle.needs)
+    find_each(findings, &NeedUnmet { vehicle, tables }, &vehicle.needs)
 }

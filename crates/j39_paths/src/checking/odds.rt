@@ -28,7 +28,10 @@ fn some_is_of_both(vehicle: &Vehicle, first: &Forward, second: &Forward) -> bool
 fn feed_one_flow(vehicle: &Vehicle, first: &Forward, second: &Forward) -> bool
     ensures { result ≡ feed_one_flow vehicle.now first.now second.now }
 {
-    first.output.bus == second.output.bus && some_is_of_both(vehicle, first, second)
+    first.output.bus == second.output.bus
+        && first.output.group == second.output.group
+        && first.sender == second.sender
+        && some_is_of_both(vehicle, first, second)
 }
 
 // Whether both may say when a message is sent, or what a signal is.

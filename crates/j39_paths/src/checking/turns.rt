@@ -7,7 +7,7 @@ ghost use Rattle.j39_paths.specs.FoundPaths.{loop_findings};
 
 use crate::checking::rules::{Rule, find_each, push_if};
 use crate::finding::VehicleFinding;
-use crate::loops::flag_at;
+use crate::reaching::flag_at;
 use j39_vehicle::{Forward, Vehicle};
 use std::alloc::AllocError;
 

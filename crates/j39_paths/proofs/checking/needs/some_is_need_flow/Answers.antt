@@ -3,8 +3,8 @@ use Rattle.j39_paths.specs.FoundPaths.{is_need_flow}
 use Rattle.j39_paths.proofs.Searching.{some_at_end, some_at_here, some_at_more}
 use Rattle.j39_paths.proofs.checking.needs.some_is_need_flow.Goals as goal
 
-pub returns-then-is_need_flow : goal.returns-then-is_need_flow
-returns-then-is_need_flow c =
+pub returns-then-is_told_need_flow : goal.returns-then-is_told_need_flow
+returns-then-is_told_need_flow c =
     let test = is_need_flow c.args.vehicle.now c.args.need.now in
     let x = c.index-flows-place.result in
     let passes : test c.loop-place.place x ≡ true = cc in
