@@ -6,10 +6,9 @@ use Rattle.std.specs.Option.{option_and_then, option_map, option_map_or}
 use Rattle.std.proofs.lemmas.Bool.{false≢true, le-leb, leb-true}
 use Rattle.std.proofs.lemmas.Bool.Decides.{Decides-and, Decides-like, Decides-ltb, Decides-not, Decides-or}
 use Rattle.std.proofs.lemmas.Option.{none-some, same_Some}
-use Rattle.j39_findings.specs.ListPlaces.{ValueAt, found_if, in_each}
+use Rattle.j39_findings.specs.ListPlaces.{ValueAt, in_each}
 use Rattle.j39_findings.specs.declared.plan.flow_plan.FlowPlan.{FlowPlan}
 use Rattle.j39_findings.specs.declared.plan.group_plan.GroupPlan.{GroupPlan}
-use Rattle.j39_findings.specs.declared.plan.timing.Timing.{Timing}
 use Rattle.j39_findings.specs.declared.plan.to.To.{To}
 use Rattle.j39_findings.specs.declared.plan.to.To.TheVariants.{All, One}
 use Rattle.j39_findings.proofs.Deciding.{Decides-meets}
@@ -113,12 +112,18 @@ between_decides : {test : Ends → Bool} (v : Vehicle) (n : Forward) (P : Ends �
 between_decides v n P by =
     Decides-like _
     (λ h.
-        let told = of_if (is_direct n && is_timed_bus v n.output.bus) (ends_of v n) h.0 h.1 in
-        let direct = (direct_decides v n).0 told.0 in
-        let ends = ends_told v n h.0 told.1 in
-        record {
-          direct = direct.0; timing = direct.1; ends = h.0; at = ends.at; input = ends.input; output = ends.output; related = h.2;
-        })
+    let told = of_if (is_direct n && is_timed_bus v n.output.bus) (ends_of v n) h.0 h.1 in
+    let direct = (direct_decides v n).0 told.0 in
+    let ends = ends_told v n h.0 told.1 in
+    record {
+      direct = direct.0;
+      timing = direct.1;
+      ends = h.0;
+      at = ends.at;
+      input = ends.input;
+      output = ends.output;
+      related = h.2;
+    })
     (λ m. (
       m.ends,
       ap (λ (b : Bool). if b then ends_of v n else None) ((direct_decides v n).1 (m.direct, m.timing))

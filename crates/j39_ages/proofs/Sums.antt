@@ -1,5 +1,5 @@
 -- Sums of numbers that may be known.
-use Rattle.std.proofs.Common.{◌≡◌, ℕ, ◌+◌, ◌≤◌, Option, Some, None, refl, ap, sym, ◌∙◌, arith}
+use Rattle.std.proofs.Common.{◌≡◌, ℕ, ◌+◌, Option, Some, None, refl, ap, sym, arith}
 use Rattle.j39_ages.specs.Times.{sum_known}
 
 pub sum_none : (a : Option ℕ) → sum_known a None ≡ None

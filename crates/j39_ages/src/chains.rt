@@ -4,7 +4,8 @@ ghost use Rattle.j39_ages.specs.Times.{behind, behind_by, behind_moment, own, qu
 
 use crate::bus_delays::{Delays, delay_at};
 use crate::flows::{
-    direct_feeder, flow_at, input_at, jitter_of, own, own_of, pause_of, timing_on, us_of_ms, within_of,
+    direct_feeder, flow_at, input_at, jitter_of, own, own_of, pause_of, timing_on, us_of_ms,
+    within_of,
 };
 use j39_findings::FlowPlan;
 use j39_paths::FlowAt;

@@ -30,11 +30,7 @@ trait TimeRule<T> {
 }
 
 // Adds the finding where the test holds.
-fn push_if(
-    findings: &mut TimeFindings,
-    holds: bool,
-    finding: TimeFinding,
-) -> Result<(), AllocError>
+fn push_if(findings: &mut TimeFindings, holds: bool, finding: TimeFinding) -> Result<(), AllocError>
     ensures { Adds result findings.old.items findings.new.items (found_if holds finding) }
 {
     if holds {

@@ -42,7 +42,6 @@ fn first_output<'a>(vehicle: &'a Vehicle, forward: &Forward) -> Option<&'a FlowP
     }
 }
 
-
 fn is_timed_bus(vehicle: &Vehicle, bus: usize) -> bool
     ensures { result ≡ is_timed_bus vehicle.now bus }
 {

@@ -3,8 +3,8 @@
 
 mod ages;
 mod bus_delays;
-mod checking;
 mod chains;
+mod checking;
 mod ends;
 mod finding;
 mod flows;

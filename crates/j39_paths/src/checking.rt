@@ -19,7 +19,6 @@ use crate::tables::path_tables;
 use contents::find_in_contents;
 use ends::find_in_ends;
 use j39_vehicle::Vehicle;
-pub use needs::is_need_flow;
 use needs::find_in_needs;
 pub use needs::is_need_flow;
 use queues::find_queues;

@@ -322,13 +322,7 @@ const ROWS: [Row; 32] = [
     ),
 ];
 
-fn plan(
-    alloc: Global,
-    timing: &str,
-    units: &str,
-    group: &str,
-    flows: &str,
-) -> Result<Plan, Fail> {
+fn plan(alloc: Global, timing: &str, units: &str, group: &str, flows: &str) -> Result<Plan, Fail> {
     let text = format!(in alloc;
         "version = 4\n{timing}\nunit = [{units}]\ngroup = [{{ label = \"EEC1\", pgn = 61444, priority = 3, {group} }}]\nflow = [{flows}]\n"
     )?;
@@ -580,7 +574,11 @@ fn times_over_two_gateways(rt: HostRuntime) -> Result<(), Fail> {
     for (on_b, on_d, to_b, to_d, need, expected) in CHAINS {
         let vehicle = three_buses(rt.alloc(), on_b, on_d, to_b, to_d, need)?;
         let told = told(rt.alloc(), &vehicle)?;
-        assert_eq!(rt; told.as_str(), expected, "{on_b} {on_d} {to_b} {to_d} {need}");
+        assert_eq!(rt;
+            told.as_str(),
+            expected,
+            "{on_b} {on_d} {to_b} {to_d} {need}"
+        );
     }
     Ok(())
 }
@@ -590,7 +588,11 @@ fn times_over_two_gateways(rt: HostRuntime) -> Result<(), Fail> {
 const TWICE: [(&str, &str, &str); 4] = [
     ("within = 5", "within = 2", "F 6280 F 3280 N 2 24560"),
     ("within = 2", "within = 5", "F 3280 F 6280 N 1 25200"),
-    ("within = 5", "from = \"E\"", "F 6280 F late N 1 28200 G11 2"),
+    (
+        "within = 5",
+        "from = \"E\"",
+        "F 6280 F late N 1 28200 G11 2",
+    ),
     (
         "from = \"E\"",
         "from = \"E\"",

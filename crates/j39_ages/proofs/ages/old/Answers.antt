@@ -1,6 +1,6 @@
 use Rattle.std.proofs.Common.{◌≡◌, ◌-◌, ◌<◌, length, true, false, Some, None, sym, ap, ◌∙◌, arith}
 use Rattle.j39_paths.specs.Traces.{goes_on, next_forward}
-use Rattle.j39_ages.specs.Times.{old_by, sum_known, timing_on}
+use Rattle.j39_ages.specs.Times.{sum_known, timing_on}
 use Rattle.j39_ages.specs.inside.Aging.{aged_by, ends_here}
 use Rattle.j39_ages.proofs.Hops.{old_breaks_off, old_ends, old_first, old_further, old_last, old_unknown, old_without_age}
 use Rattle.j39_ages.proofs.ages.old.Goals as goal

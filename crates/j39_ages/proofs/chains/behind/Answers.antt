@@ -1,4 +1,4 @@
-use Rattle.std.proofs.Common.{rules, ◌≡◌, ◌-◌, ◌<◌, length, Some, None, sym, ap, ◌∙◌, arith}
+use Rattle.std.proofs.Common.{◌≡◌, ◌-◌, ◌<◌, length, Some, None, sym, ap, ◌∙◌, arith}
 use Rattle.j39_ages.specs.Times.{behind_by, direct_feeder, input_at, own, sum_known, within_of}
 use Rattle.j39_ages.proofs.Hops.{behind_first, behind_further, behind_here, behind_without_hop, behind_without_input}
 use Rattle.j39_ages.proofs.chains.behind.Goals as goal

@@ -1,4 +1,4 @@
-use Rattle.std.proofs.Common.{◌≡◌, ◌≤◌, ◌+◌, [], length, drop, sym, ap, ◌∙◌, arith}
+use Rattle.std.proofs.Common.{◌≤◌, ◌+◌, [], length, drop, sym, ap, ◌∙◌, arith}
 use Rattle.j39_findings.specs.ListPlaces.{in_each}
 use Rattle.j39_findings.proofs.PlaceLemmas.{in_each_all, in_each_more}
 use Rattle.j39_ages.specs.FoundTimes.{joined, need_flows_at, youngest}
