@@ -7,3 +7,6 @@ invariant-back l = record {
   inside : l.left ≤ length l.back;
   written : l.text ≡ l.initial.text ++ back_text (drop l.left l.back);
 }
+
+abbrev pub decreases-back : goal.decreases-back
+decreases-back l = l.left
