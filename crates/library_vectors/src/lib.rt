@@ -1,6 +1,5 @@
 //! Conformance tests of the libraries below the bus: identifiers, NAMEs and lines of frames; signals and layouts of SAE J1939-71;
-//! claims of addresses and transfers of long messages; lengths and waits of frames, and what flows ask of the bus; plans as they are read and checked;
-//! vehicle files as they are read, and what their labels stand for.
+//! claims of addresses and transfers of long messages; lengths and waits of frames, and what flows ask of the bus; plans as they are read and checked.
 #![tactic(auto)]
 
 #[cfg(test)]
@@ -19,9 +18,3 @@ mod signals;
 mod timing;
 #[cfg(test)]
 mod transfers;
-#[cfg(test)]
-mod vehicle_files;
-#[cfg(test)]
-mod vehicle_forwards;
-#[cfg(test)]
-mod vehicles;
