@@ -1,4 +1,2 @@
-pub mod BusesRead
 pub mod Ending
-pub mod VehicleEnds
 pub mod WholeInputs

@@ -2,4 +2,3 @@ pub mod Answers
 pub mod Faults
 pub mod Known
 pub mod Status
-pub mod VehicleAnswers
