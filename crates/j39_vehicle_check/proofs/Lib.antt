@@ -1,4 +1,0 @@
-pub mod BlockLists
-pub mod NoFindings
-pub mod Reporting
-pub mod WaySteps
