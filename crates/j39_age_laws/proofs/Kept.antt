@@ -89,7 +89,7 @@ module _ (v : Vehicle) (delays : Delays) (told : AreDelays v delays) (seen : See
     from_stream = λ b i. flow_value (sent_from v delays (at_of b i));
     within = λ b i. within_value v delays told seen b i;
     wait = λ b i. wait_with v delays told seen b i (view v b);
-    behind_at = λ b i. behind_with v delays told seen b i (view v b);
+    behind = λ b i. behind_with v delays told seen b i (view v b);
     apart = λ b i. unit_on v b * ((bus_with v delays told seen b (view v b)).traffic.stream i).period;
   }
 
