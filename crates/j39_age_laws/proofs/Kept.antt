@@ -35,7 +35,7 @@ use Rattle.j39_age_laws.proofs.Parts.{and_then_some, some_cases, sum_some}
 use Rattle.j39_age_laws.proofs.Starts.{starts_within}
 use Rattle.j39_age_laws.proofs.Until.{frames_then, with_streams}
 
--- what comes so long behind_at its moment has a time of its own
+-- what comes so long behind its moment has a time of its own
 behind_own : (v : Vehicle) (delays : Delays) (steps : ℕ) (at : FlowAt) (total : ℕ) → behind_by v delays steps at ≡ Some total → (n : ℕ)
     × (own v delays at ≡ Some n)
 behind_own v delays steps at total known = some_cases (direct_feeder v at) ((n : ℕ) × (own v delays at ≡ Some n))
