@@ -149,6 +149,14 @@ class Form(unittest.TestCase):
         self.assertEqual([line for line in section.splitlines() if not re.match(r"- `j39_\w+`: .*\.$", line)], [])
 
 
+# A vehicle file has tables and findings as a plan has them: the rules that both have stand under one name in either crate.
+PARALLEL = (("j39_plan", "j39_vehicle"), ("j39_findings", "j39_paths"))
+
+
+def crates_of(files: list[str]) -> tuple[str, ...]:
+    return tuple(sorted(file.split("/")[1] for file in files))
+
+
 class Names(InFolder):
     def test_links_lead_somewhere(self) -> None:
         for name in PAGES:
@@ -196,18 +204,20 @@ class Names(InFolder):
         self.assertEqual(sorted(there ^ shown), [])
 
     def test_a_name_of_definitions_has_one_home(self) -> None:
-        """No two modules of specs/, specs/inside/ included, have a definition of one name: whoever looks for a rule by its name finds it."""
+        """No two modules of specs/, specs/inside/ included, have a definition of one name, but for rules that a vehicle has as a plan has
+        them: whoever looks for a rule by its name finds it."""
         homes = homes_of_definitions(TOP)
         self.assertGreaterEqual(len(homes), 1200)
-        self.assertEqual({name: files for name, files in sorted(homes.items()) if len(files) > 1}, {})
+        shared = {name: files for name, files in sorted(homes.items()) if len(files) > 1 and crates_of(files) not in PARALLEL}
+        self.assertEqual(shared, {})
 
     def test_a_module_of_definitions_has_one_home(self) -> None:
-        """No two crates have a module of specs/, specs/inside/ included, of one name."""
+        """No two crates have a module of specs/, specs/inside/ included, of one name, but for modules of rules that a vehicle has as a plan has them."""
         homes: dict[str, list[str]] = {}
         for file in glob.glob("crates/*/specs/**/*.antt", root_dir=TOP, recursive=True):
             homes.setdefault(os.path.basename(file), []).append(file)
         self.assertGreaterEqual(len(homes), 150)
-        shared = {name: sorted(files) for name, files in homes.items() if len(files) > 1}
+        shared = {name: sorted(files) for name, files in homes.items() if len(files) > 1 and crates_of(files) not in PARALLEL}
         self.assertEqual({name: files for name, files in shared.items() if name not in ("Lib.antt", "inside.antt")}, {})
 
     def test_each_form_of_a_definition_is_seen(self) -> None:

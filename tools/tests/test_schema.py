@@ -76,6 +76,11 @@ def page_rows() -> Iterator[tuple[Any, ...]]:
             yield TABLES[heading], cells[0].strip("`"), cells[1], cells[2], cells[3] if has_since else "", cells[-1]
 
 
+def pairs(since: dict[object, int]) -> Iterator[tuple[Any, int]]:
+    """The keys of tables among what isn't known to each version: table and key, and the first version that knows it."""
+    return ((place, number) for place, number in since.items() if isinstance(place, tuple) and len(place) == 2)
+
+
 class Schema(InFolder):
     def test_it_has_the_keys_of_the_page(self) -> None:
         shown: dict[str, Any] = {}
@@ -105,6 +110,21 @@ class Schema(InFolder):
             if found := re.search(r"from version (\d) on also (.*)", kind):
                 shown.update((int(word) if word.isdigit() else word, int(found.group(1))) for word in re.findall(r"\w{3,}", found.group(2)))
         self.assertEqual(shown, schema.since())
+
+    def test_it_has_the_versions_of_the_reader(self) -> None:
+        """Of each table whose keys not all versions know that know the table, by the list of keys in the reader's sources."""
+        versions = {word: number for number, word in enumerate(("First", "Second", "Third", "Fourth"), 1)}
+        tables = {"heads": None, "timing": "timing", "units": "unit", "groups": "group", "signals": "signal", "flows": "flow"}
+        first = {None: 1} | {table: number for (place, table), number in pairs(schema.since()) if place is None}
+        shown: dict[object, int] = {}
+        for file, table in tables.items():
+            source = text_of(os.path.join(TOP, "crates", "j39_plan", "src", "reading", f"{file}.rt"))
+            keys = re.findall(r"^    \(Key::(\w+), Version::(\w+)\),$", source, re.MULTILINE)
+            words = [re.sub(r"(?<=.)(?=[A-Z])", "_", key).lower() for key, _ in keys]
+            self.assertEqual(words, list(rules(table)["properties"]), file)
+            shown.update(((table, word), versions[version]) for word, (_, version) in zip(words, keys, strict=True)
+                         if versions[version] > first.get(table, 1))
+        self.assertEqual(shown, {place: number for place, number in pairs(schema.since()) if place[0] in tables.values()})
 
     def test_it_wants_the_keys_without_a_default(self) -> None:
         for table, key, _, default, *_ in page_rows():

@@ -8,7 +8,7 @@ use Rattle.j39_stream.specs.declared.fault.Fault.{Fault}
 use Rattle.j39_stream.specs.declared.fault.Fault.TheVariants.{Device, TooLong}
 use Rattle.j39_stream.specs.declared.limits.Limits.{Limits}
 use Rattle.j39_stream.specs.declared.verdict.Verdict.{Verdict}
-use Rattle.j39_findings.specs.declared.plan.Plan.{Plan}
+use Rattle.j39_network.specs.declared.plan.Plan.{Plan}
 use Rattle.j39_words.specs.declared.orders.Order.{Order}
 use Rattle.j39_words.specs.declared.orders.Order.TheVariants.{Input, Frame, Show, Check, Addresses, Load, Run, Read, Follow, Help}
 

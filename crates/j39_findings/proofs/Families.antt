@@ -1,126 +1,52 @@
 -- What each part of the list of findings has: what holds, in order.
-use Rattle.std.proofs.Common.{◌≡◌, ℕ, ◌<◌, ◌≤◌, nat_lt, List, [], ◌∷◌, ◌++◌, Bool, true, false, if◌then◌else◌, Option, None}
-use Rattle.std.proofs.Common.{Some, Contains, Decides, refl, sym, ◌∙◌, ap, subst, inl, inr, arith}
+use Rattle.std.proofs.Common.{◌≡◌, ℕ, ◌<◌, ◌≤◌, nat_lt, List, [], ◌∷◌, ◌++◌, Bool, true, false, if◌then◌else◌, Option, None, Some, Contains, Decides, refl, sym}
+use Rattle.std.proofs.Common.{◌∙◌, ap, subst, inl, inr, arith}
 use Rattle.std.specs.List.{slice_get, count_by}
 use Rattle.std.specs.Option.{option_map_or}
 use Rattle.j39_signal.specs.Parts.{SignalParts}
 use Rattle.std.proofs.lemmas.Bool.Decides.{Decides-ltb}
 use Rattle.std.proofs.lemmas.List.Elements.{Contains-append_cases}
 use Rattle.j39_signal.specs.Places.{WidthFits, SharesBit, shares_bit}
-use Rattle.j39_findings.specs.declared.plan.Plan.{Plan}
-use Rattle.j39_findings.specs.declared.plan.group_plan.GroupPlan.{GroupPlan}
+use Rattle.j39_network.specs.declared.plan.Plan.{Plan}
+use Rattle.j39_network.specs.declared.plan.group_plan.GroupPlan.{GroupPlan}
 use Rattle.j39_findings.specs.declared.checking.finding.Finding.{Finding}
 use Rattle.j39_findings.specs.declared.checking.finding.Finding.TheVariants.{SameName, SameFixedAddress, TooFewAddresses, BadPgn, SamePgn, SignalWidth}
-use Rattle.j39_findings.specs.declared.checking.finding.Finding.TheVariants.{SignalOutside, SignalOverlap, FlowToOne, FlowToSelf, FlowRepeated, KeptAddress, PrivateUnsent, RecordOverlap, TextOutside, NeedUnmet}
-use Rattle.j39_findings.specs.declared.checking.finding.Finding.TheVariants.{RequestUnanswered, RequestUnheard, AnswerAstray, WhenOutside, RequestRepeated}
-use Rattle.j39_findings.specs.declared.checking.finding.Finding.TheVariants.{SilentAddress, SilentInPool, FlowContested}
-use Rattle.j39_findings.specs.ListPlaces.{found_if, in_each, each, pairs, ValueAt, PairAt}
+use Rattle.j39_findings.specs.declared.checking.finding.Finding.TheVariants.{SignalOutside, SignalOverlap, FlowToOne, FlowToSelf, FlowRepeated, KeptAddress}
+use Rattle.j39_findings.specs.declared.checking.finding.Finding.TheVariants.{PrivateUnsent, RecordOverlap, TextOutside, NeedUnmet, RequestUnanswered}
+use Rattle.j39_findings.specs.declared.checking.finding.Finding.TheVariants.{RequestUnheard, AnswerAstray, WhenOutside, RequestRepeated, SilentAddress}
+use Rattle.j39_findings.specs.declared.checking.finding.Finding.TheVariants.{SilentInPool, FlowContested}
+use Rattle.j39_rules.specs.ListPlaces.{found_if, in_each, each, pairs, ValueAt, PairAt}
 use Rattle.j39_claim.specs.AddressSets.{free_count}
-use Rattle.j39_findings.specs.Kinds.{MayBeOne}
-use Rattle.j39_findings.specs.Findings.{HaveSameFixedAddress, HasBadPgn, HaveSamePgn, CannotGoToOne}
-use Rattle.j39_findings.specs.Findings.{EndsOutside, GoesToItsSender, AreOneFlow, Holds, PrefersKept, IsPrivateUnsent, IsOutside, IsUnmet, IsBefore, IsBelow, finding_number, places_of}
-use Rattle.j39_findings.specs.Findings.{GoesUnanswered, GoesUnheard, IsAnsweredAstray, AskTheSame, IsSelectorInside}
-use Rattle.j39_findings.specs.Findings.{HaveSilentAddress, IsSilentInPool, IsFlowContested}
-use Rattle.j39_findings.specs.Records.{record_count}
-use Rattle.j39_findings.specs.Found.{silent_findings, contested_findings, is_unit_alone}
-use Rattle.j39_findings.specs.Found.{needed_addresses, needs_pool_address, too_few_addresses, unit_findings, group_findings, has_other_width}
-use Rattle.j39_findings.specs.Found.{ends_outside, lies_outside, overlap_findings, signal_findings, flow_findings, kept_findings, unsent_findings, overlaps_of, group_overlaps, do_records_meet, record_findings, text_findings, need_findings, request_findings}
+use Rattle.j39_network.specs.Kinds.{MayBeOne}
+use Rattle.j39_findings.specs.Findings.{HaveSameFixedAddress, HasBadPgn, HaveSamePgn, CannotGoToOne, EndsOutside, GoesToItsSender, AreOneFlow, Holds}
+use Rattle.j39_findings.specs.Findings.{PrefersKept, IsPrivateUnsent, IsOutside, IsUnmet, IsBefore, finding_number, places_of, GoesUnanswered, GoesUnheard}
+use Rattle.j39_findings.specs.Findings.{IsAnsweredAstray, AskTheSame, HaveSilentAddress, IsSilentInPool, IsFlowContested}
+use Rattle.j39_network.specs.PlannedGroups.{IsSelectorInside}
+use Rattle.j39_network.specs.Records.{record_count}
+use Rattle.j39_findings.specs.Found.{silent_findings, contested_findings, is_unit_alone, needed_addresses, needs_pool_address, too_few_addresses, unit_findings}
+use Rattle.j39_findings.specs.Found.{group_findings, has_other_width, ends_outside, lies_outside, overlap_findings, signal_findings, flow_findings}
+use Rattle.j39_findings.specs.Found.{kept_findings, unsent_findings, overlaps_of, group_overlaps, do_records_meet, record_findings, text_findings}
+use Rattle.j39_findings.specs.Found.{need_findings, request_findings}
 use Rattle.j39_findings.proofs.Meeting.{of_signal_made, of_group_overlaps}
-use Rattle.j39_findings.proofs.Members.{of_in_each, of_found_if, of_each, of_pairs}
-use Rattle.j39_findings.proofs.Rising.{Rises, Rises-append, Rises-found_if, Rises-in_each, Rises-each, Rises-pairs}
-use Rattle.j39_findings.proofs.Deciding.{Decides-may_be_one, Decides-have_same_fixed_address, Decides-needs_pool_address, Decides-has_bad_pgn, passing_meet}
+use Rattle.j39_rules.proofs.Families.{Covers as CoversPart, Covers-append, Names, Order, before, each_family, each_inside, family, inside_family, made}
+use Rattle.j39_rules.proofs.Families.{of_first, pairs_family}
+use Rattle.j39_rules.proofs.Members.{of_in_each, of_found_if, of_each, of_pairs}
+use Rattle.j39_rules.proofs.Rising.{Rises, Rises-append, Rises-found_if, Rises-in_each, Rises-each, Rises-pairs}
+use Rattle.j39_network.proofs.Served.{Decides-may_be_one}
+use Rattle.j39_findings.proofs.Deciding.{Decides-have_same_fixed_address, Decides-needs_pool_address, Decides-has_bad_pgn, passing_meet}
+use Rattle.j39_findings.proofs.Deciding.{Decides-have_silent_address, Decides-is_silent_in_pool, Decides-have_same_pgn, Decides-has_other_width}
+use Rattle.j39_findings.proofs.Deciding.{Decides-ends_outside, Decides-shares_bit, Decides-cannot_go_to_one, Decides-goes_to_its_sender, Decides-are_one_flow}
+use Rattle.j39_findings.proofs.Deciding.{Decides-prefers_kept, Decides-is_private_unsent, Decides-lies_outside, Decides-is_unmet, Decides-goes_unanswered}
+use Rattle.j39_findings.proofs.Deciding.{Decides-goes_unheard, Decides-is_answered_astray, Decides-ask_the_same, Decides-is_selector_outside}
 use Rattle.j39_findings.proofs.WhoIsAlone.{alone_by_list, Decides-contested}
-use Rattle.j39_findings.proofs.Deciding.{Decides-have_silent_address, Decides-is_silent_in_pool}
-use Rattle.j39_findings.proofs.Deciding.{Decides-have_same_pgn, Decides-has_other_width, Decides-ends_outside, Decides-shares_bit}
-use Rattle.j39_findings.proofs.Deciding.{Decides-cannot_go_to_one, Decides-goes_to_its_sender, Decides-are_one_flow, Decides-prefers_kept, Decides-is_private_unsent, Decides-lies_outside, Decides-is_unmet}
-use Rattle.j39_findings.proofs.Deciding.{Decides-goes_unanswered, Decides-goes_unheard, Decides-is_answered_astray, Decides-ask_the_same, Decides-is_selector_outside}
 
--- findings of numbers from low to high that hold, in order
-pub record Covers (plan : Plan) (low high : ℕ) (findings : List Finding) : Type 0 where
-  pub sound : (f : Finding) → Contains findings f → Holds plan f
-  pub least : (f : Finding) → Contains findings f → low ≤ finding_number f
-  pub most : (f : Finding) → Contains findings f → finding_number f ≤ high
-  pub rises : Rises IsBefore findings
+-- the order of findings
+abbrev pub in_order : Order Finding
+in_order = record { number = finding_number; places = places_of }
 
-pub Covers-append : (plan : Plan) (a b c d : ℕ) (xs ys : List Finding) → b < c → a ≤ c → b ≤ d → Covers plan a b xs → Covers plan c d ys
-    → Covers plan a d (xs ++ ys)
-Covers-append plan a b c d xs ys less low high left right = record {
-  sound = λ f h. elim (Contains-append_cases xs ys f h) [ inl here ↦ left.sound f here | inr there ↦ right.sound f there ];
-  least = λ f h. elim (Contains-append_cases xs ys f h) [
-    | inl here ↦ left.least f here
-    | inr there ↦ let e = right.least f there in omega arith
-  ];
-  most = λ f h. elim (Contains-append_cases xs ys f h) [
-    | inl here ↦ let e = left.most f here in omega arith
-    | inr there ↦ right.most f there
-  ];
-  rises = Rises-append IsBefore xs ys left.rises right.rises (λ f g here there.
-      let e = left.most f here in
-      let l = right.least g there in
-      let below : finding_number f < finding_number g = omega arith in
-      inl below);
-}
-
-holds_at : (plan : Plan) (f g : Finding) → f ≡ g → Holds plan g → Holds plan f
-holds_at plan f g e h = let P : Finding → Type 0 = λ x. Holds plan x in subst P (sym e) h
-
--- a family of one number, from what each of its findings is
-family : (plan : Plan) (n : ℕ) (findings : List Finding) → ((f : Finding) → Contains findings f → Holds plan f × (finding_number f ≡ n))
-    → Rises IsBefore findings
-    → Covers plan n n findings
-family plan n findings each_is rises = record {
-  sound = λ f h. (each_is f h).0;
-  least = λ f h. let e = (each_is f h).1 in omega arith;
-  most = λ f h. let e = (each_is f h).1 in omega arith;
-  rises = rises;
-}
-
--- what holds of the finding that was made, holds of one equal to it
-made : (plan : Plan) (n : ℕ) (f g : Finding) → f ≡ g → Holds plan g → finding_number g ≡ n → Holds plan f × (finding_number f ≡ n)
-made plan n f g e h is = let P : Finding → Type 0 = λ x. Holds plan x × (finding_number x ≡ n) in subst P (sym e) (h, is)
-
--- a finding of this number names these places
-record Names (n : ℕ) (named : List ℕ) (f : Finding) : Type 0 where
-  pub number : finding_number f ≡ n
-  pub places : places_of f ≡ named
-
--- of two findings of one number, by the places that they name
-before : (n : ℕ) (xs ys : List ℕ) (f g : Finding) → Names n xs f → Names n ys g → IsBelow xs ys → IsBefore f g
-before n xs ys f g a b below =
-    let P : List ℕ → Type 0 = λ us. IsBelow us (places_of g) in
-    let Q : List ℕ → Type 0 = λ vs. IsBelow xs vs in
-    inr (a.number ∙ sym b.number, subst P (sym a.places) (subst Q (sym b.places) below))
-
-pairs_family : {A : Type 0} (plan : Plan) (n : ℕ) {test : A → A → Bool} (R : A → A → Type 0) → ((x y : A) → Decides (test x y) (R x y))
-    → (make : ℕ → ℕ → Finding) (xs : List A)
-    → ((i j : ℕ) → PairAt R xs i j → Holds plan (make i j)) → ((i j : ℕ) → Names n (i ∷ j ∷ []) (make i j))
-    → Covers plan n n (pairs test make xs)
-pairs_family plan n {test = test} R decides make xs holds named =
-    family plan n (pairs test make xs)
-    (λ f h. let r = of_pairs R decides make xs f h in made plan n f (make r.0 r.1) r.2 (holds r.0 r.1 r.3) (named r.0 r.1).number)
-    (Rises-pairs IsBefore test make
-    (λ i k l less. before n _ _ (make i k) (make i l) (named i k) (named i l) (inr (refl, inl less)))
-    (λ i j k l less. before n _ _ (make i k) (make j l) (named i k) (named j l) (inl less)) xs)
-
-each_family : {A : Type 0} (plan : Plan) (n : ℕ) {test : A → Bool} (P : A → Type 0) → ((x : A) → Decides (test x) (P x))
-    → (make : ℕ → Finding) (xs : List A)
-    → ((i : ℕ) → ValueAt P xs i → Holds plan (make i)) → ((i : ℕ) → Names n (i ∷ []) (make i))
-    → Covers plan n n (each test make 0 xs)
-each_family plan n {test = test} P decides make xs holds named =
-    family plan n (each test make 0 xs)
-    (λ f h. let r = of_each P decides make xs f h in made plan n f (make r.0) r.1 (holds r.0 r.2) (named r.0).number)
-    (Rises-each IsBefore test make (λ k l less. before n _ _ (make k) (make l) (named k) (named l) (inl less)) 0 xs)
-
--- a finding of this number that names the place g first
-record IsOfGroup (n g : ℕ) (f : Finding) : Type 0 where
-  pub rest : List ℕ
-  pub names : Names n (g ∷ rest) f
-
-below_by_group : (n k l : ℕ) (f g : Finding) → k < l → IsOfGroup n k f → IsOfGroup n l g → IsBefore f g
-below_by_group n k l f g less a b = before n (k ∷ a.rest) (l ∷ b.rest) f g a.names b.names (inl less)
-
-of_group : (n g : ℕ) (f made : Finding) → f ≡ made → IsOfGroup n g made → IsOfGroup n g f
-of_group n g f made e h = let P : Finding → Type 0 = λ x. IsOfGroup n g x in subst P (sym e) h
+-- findings of numbers from low to high that hold of the plan, in order
+abbrev pub Covers : Plan → ℕ → ℕ → List Finding → Type 0
+Covers plan = CoversPart in_order (Holds plan)
 
 -- ---- units
 
@@ -129,16 +55,16 @@ unfolding unit_findings
 units_covered plan =
     let kept = plan.keep_free in
     let units = plan.units.items in
-    Covers-append plan 1 1 2 3 _ _ (omega arith) (omega arith) (omega arith)
-    (pairs_family plan 1 MayBeOne Decides-may_be_one SameName units (λ i j h. h) (λ i j. record { number = refl; places = refl }))
-    (Covers-append plan 2 2 3 3 _ _ (omega arith) (omega arith) (omega arith)
-    (pairs_family plan 2 HaveSameFixedAddress Decides-have_same_fixed_address SameFixedAddress units (λ i j h. h)
+    Covers-append in_order (Holds plan) 1 1 2 3 _ _ (omega arith) (omega arith) (omega arith)
+    (pairs_family in_order (Holds plan) 1 MayBeOne Decides-may_be_one SameName units (λ i j h. h) (λ i j. record { number = refl; places = refl }))
+    (Covers-append in_order (Holds plan) 2 2 3 3 _ _ (omega arith) (omega arith) (omega arith)
+    (pairs_family in_order (Holds plan) 2 HaveSameFixedAddress Decides-have_same_fixed_address SameFixedAddress units (λ i j h. h)
     (λ i j. record { number = refl; places = refl }))
-    (family plan 3 (too_few_addresses kept plan.strangers units)
+    (family in_order (Holds plan) 3 (too_few_addresses kept plan.strangers units)
     (λ f h.
     let needed = needed_addresses kept plan.strangers units in
     let r = of_found_if (nat_lt (free_count kept) needed) (TooFewAddresses needed) f h in
-    made plan 3 f (TooFewAddresses needed) r.1
+    made in_order (Holds plan) 3 f (TooFewAddresses needed) r.1
     ((count_by (needs_pool_address kept) units, passing_meet (Decides-needs_pool_address kept) units, refl), (Decides-ltb (free_count kept) needed).0 r.0) refl)
     (Rises-found_if IsBefore _ _)))
 
@@ -147,65 +73,33 @@ units_covered plan =
 pub groups_covered : (plan : Plan) → Covers plan 4 5 (group_findings plan.groups.items plan.flows.items)
 unfolding group_findings
 groups_covered plan =
-    Covers-append plan 4 4 5 5 _ _ (omega arith) (omega arith) (omega arith)
-    (each_family plan 4 HasBadPgn Decides-has_bad_pgn BadPgn plan.groups.items (λ i h. h) (λ i. record { number = refl; places = refl }))
-    (pairs_family plan 5 (HaveSamePgn plan.groups.items plan.flows.items) (Decides-have_same_pgn plan.groups.items plan.flows.items) SamePgn plan.groups.items
+    Covers-append in_order (Holds plan) 4 4 5 5 _ _ (omega arith) (omega arith) (omega arith)
+    (each_family in_order (Holds plan) 4 HasBadPgn Decides-has_bad_pgn BadPgn plan.groups.items (λ i h. h) (λ i. record { number = refl; places = refl }))
+    (pairs_family in_order (Holds plan) 5 (HaveSamePgn plan.groups.items plan.flows.items) (Decides-have_same_pgn plan.groups.items plan.flows.items) SamePgn plan.groups.items
     (λ i j h. h) (λ i j. record { number = refl; places = refl }))
 
 -- ---- signals and texts
 
-inside_family : (plan : Plan) (n : ℕ) (find : ℕ → GroupPlan → List Finding)
-    → ((g : ℕ) (group : GroupPlan) (f : Finding) → slice_get plan.groups.items g ≡ Some group → Contains (find g group) f → Holds plan f)
-    → ((g : ℕ) (group : GroupPlan) (f : Finding) → Contains (find g group) f → IsOfGroup n g f)
-    → ((g : ℕ) (group : GroupPlan) → Rises IsBefore (find g group))
-    → Covers plan n n (in_each find 0 plan.groups.items)
-inside_family plan n find holds named within =
-    family plan n (in_each find 0 plan.groups.items)
-    (λ f h.
-    let r = of_in_each find 0 plan.groups.items f h in
-    let at : r.k ≡ r.place = omega arith in
-    (holds r.place r.value f (ap (slice_get plan.groups.items) (sym at) ∙ r.value_is) r.among, (named r.place r.value f r.among).names.number))
-    (Rises-in_each IsBefore find within
-    (λ k l x y f g less in_k in_l. below_by_group n k l f g less (named k x f in_k) (named l y g in_l)) 0 plan.groups.items)
-
--- one finding for each of a group's signals, or of its texts, that meets P of the group
-each_inside : {A : Type 0} (plan : Plan) (n : ℕ) (inside : GroupPlan → List A) (test : GroupPlan → A → Bool) (P : GroupPlan → A → Type 0)
-    → ((group : GroupPlan) (x : A) → Decides (test group x) (P group x))
-    → (make : ℕ → ℕ → Finding)
-    → ((g s : ℕ) → ValueAt (λ group. ValueAt (P group) (inside group) s) plan.groups.items g → Holds plan (make g s))
-    → ((g s : ℕ) → Names n (g ∷ s ∷ []) (make g s))
-    → Covers plan n n (in_each (λ g group. each (test group) (make g) 0 (inside group)) 0 plan.groups.items)
-each_inside plan n inside test P decides make holds named =
-    inside_family plan n (λ g group. each (test group) (make g) 0 (inside group))
-    (λ g group f is h.
-    let r = of_each (P group) (decides group) (make g) (inside group) f h in
-    holds_at plan f (make g r.0) r.1 (holds g r.0 (record { value = group; value_is = is; meets = r.2 })))
-    (λ g group f h.
-    let r = of_each (P group) (decides group) (make g) (inside group) f h in
-    of_group n g f (make g r.0) r.1 (record { rest = r.0 ∷ []; names = named g r.0 }))
-    (λ g group. Rises-each IsBefore (test group) (make g)
-    (λ k l less. before n _ _ (make g k) (make g l) (named g k) (named g l) (inr (refl, inl less))) 0 (inside group))
-
 overlaps_covered : (plan : Plan) → Covers plan 8 8 (in_each overlap_findings 0 plan.groups.items)
 overlaps_covered plan =
-    inside_family plan 8 overlap_findings
+    inside_family in_order (Holds plan) 8 overlap_findings plan.groups.items
     (λ g group f is h.
     let r = of_pairs SharesBit Decides-shares_bit (SignalOverlap g) group.signals.items f h in
-    holds_at plan f (SignalOverlap g r.0 r.1) r.2 (record { value = group; value_is = is; meets = r.3 }))
+    subst (Holds plan) (sym r.2) (record { value = group; value_is = is; meets = r.3 }))
     (λ g group f h.
     let r = of_pairs SharesBit Decides-shares_bit (SignalOverlap g) group.signals.items f h in
-    of_group 8 g f (SignalOverlap g r.0 r.1) r.2 (record { rest = r.0 ∷ r.1 ∷ []; names = record { number = refl; places = refl } }))
+    of_first in_order 8 g f (SignalOverlap g r.0 r.1) r.2 (record { rest = r.0 ∷ r.1 ∷ []; names = record { number = refl; places = refl } }))
     (λ g group. Rises-pairs IsBefore shares_bit (SignalOverlap g)
     (λ i k l less. inr (refl, inr (refl, inr (refl, inl less)))) (λ i j k l less. inr (refl, inr (refl, inl less))) group.signals.items)
 
 pub signals_covered : (plan : Plan) → Covers plan 6 8 (signal_findings plan.groups.items)
 unfolding signal_findings
 signals_covered plan =
-    Covers-append plan 6 6 7 8 _ _ (omega arith) (omega arith) (omega arith)
-    (each_inside plan 6 (λ group. group.signals.items) (λ group. has_other_width) (λ group s. ¬ WidthFits s) (λ group. Decides-has_other_width) SignalWidth
+    Covers-append in_order (Holds plan) 6 6 7 8 _ _ (omega arith) (omega arith) (omega arith)
+    (each_inside in_order (Holds plan) 6 plan.groups.items (λ group. group.signals.items) (λ group. has_other_width) (λ group s. ¬ WidthFits s) (λ group. Decides-has_other_width) SignalWidth
     (λ g s h. h) (λ g s. record { number = refl; places = refl }))
-    (Covers-append plan 7 7 8 8 _ _ (omega arith) (omega arith) (omega arith)
-    (each_inside plan 7 (λ group. group.signals.items) (λ group. ends_outside group.length group.most) EndsOutside
+    (Covers-append in_order (Holds plan) 7 7 8 8 _ _ (omega arith) (omega arith) (omega arith)
+    (each_inside in_order (Holds plan) 7 plan.groups.items (λ group. group.signals.items) (λ group. ends_outside group.length group.most) EndsOutside
     (λ group. Decides-ends_outside group.length group.most) SignalOutside (λ g s h. h) (λ g s. record { number = refl; places = refl }))
     (overlaps_covered plan))
 
@@ -216,19 +110,19 @@ unfolding flow_findings
 flows_covered plan =
     let groups = plan.groups.items in
     let flows = plan.flows.items in
-    Covers-append plan 9 9 10 11 _ _ (omega arith) (omega arith) (omega arith)
-    (each_family plan 9 (CannotGoToOne groups) (Decides-cannot_go_to_one groups) FlowToOne flows (λ i h. h)
+    Covers-append in_order (Holds plan) 9 9 10 11 _ _ (omega arith) (omega arith) (omega arith)
+    (each_family in_order (Holds plan) 9 (CannotGoToOne groups) (Decides-cannot_go_to_one groups) FlowToOne flows (λ i h. h)
     (λ i. record { number = refl; places = refl }))
-    (Covers-append plan 10 10 11 11 _ _ (omega arith) (omega arith) (omega arith)
-    (each_family plan 10 GoesToItsSender Decides-goes_to_its_sender FlowToSelf flows (λ i h. h) (λ i. record { number = refl; places = refl }))
-    (pairs_family plan 11 AreOneFlow Decides-are_one_flow FlowRepeated flows (λ i j h. h) (λ i j. record { number = refl; places = refl })))
+    (Covers-append in_order (Holds plan) 10 10 11 11 _ _ (omega arith) (omega arith) (omega arith)
+    (each_family in_order (Holds plan) 10 GoesToItsSender Decides-goes_to_its_sender FlowToSelf flows (λ i h. h) (λ i. record { number = refl; places = refl }))
+    (pairs_family in_order (Holds plan) 11 AreOneFlow Decides-are_one_flow FlowRepeated flows (λ i j h. h) (λ i j. record { number = refl; places = refl })))
 
 -- ---- units at addresses that are kept free
 
 pub kept_covered : (plan : Plan) → Covers plan 12 12 (kept_findings plan.keep_free plan.units.items)
 unfolding kept_findings
 kept_covered plan =
-    each_family plan 12 (PrefersKept plan.keep_free) (Decides-prefers_kept plan.keep_free) KeptAddress plan.units.items (λ i h. h)
+    each_family in_order (Holds plan) 12 (PrefersKept plan.keep_free) (Decides-prefers_kept plan.keep_free) KeptAddress plan.units.items (λ i h. h)
     (λ i. record { number = refl; places = refl })
 
 -- ---- private groups that nobody sends
@@ -238,7 +132,7 @@ unfolding unsent_findings
 unsent_covered plan =
     let groups = plan.groups.items in
     let flows = plan.flows.items in
-    each_family plan 13 (IsPrivateUnsent groups flows) (Decides-is_private_unsent groups flows) PrivateUnsent groups (λ i h. h)
+    each_family in_order (Holds plan) 13 (IsPrivateUnsent groups flows) (Decides-is_private_unsent groups flows) PrivateUnsent groups (λ i h. h)
     (λ i. record { number = refl; places = refl })
 
 -- ---- records
@@ -254,7 +148,7 @@ rises_option find rises (Some n) = rises n
 -- a finding of this group that names the place i behind it
 record IsOfSignal (g i : ℕ) (f : Finding) : Type 0 where
   pub rest : List ℕ
-  pub names : Names 14 (g ∷ i ∷ rest) f
+  pub names : Names in_order 14 (g ∷ i ∷ rest) f
 
 of_signal_at : (every count g : ℕ) (signals : List SignalParts) (i : ℕ) (first : SignalParts) (f : Finding)
     → Contains (overlaps_of every count g signals i first) f → IsOfSignal g i f
@@ -283,19 +177,19 @@ group_rises g group =
     (λ k l x y f h less in_k in_l.
     let a = of_signal_at every count g signals k x f in_k in
     let b = of_signal_at every count g signals l y h in_l in
-    before 14 (g ∷ k ∷ a.rest) (g ∷ l ∷ b.rest) f h a.names b.names (inr (refl, inl less)))
+    before in_order 14 (g ∷ k ∷ a.rest) (g ∷ l ∷ b.rest) f h a.names b.names (inr (refl, inl less)))
     0 signals) group.every
 
 pub records_covered : (plan : Plan) → Covers plan 14 14 (record_findings plan.groups.items)
 unfolding record_findings
 records_covered plan =
-    inside_family plan 14 group_overlaps
+    inside_family in_order (Holds plan) 14 group_overlaps plan.groups.items
     (λ g group f is h.
     let o = of_group_overlaps g group f h in
-    holds_at plan f (RecordOverlap g o.i o.j) o.made (record { value = group; value_is = is; meets = o.over }))
+    subst (Holds plan) (sym o.made) (record { value = group; value_is = is; meets = o.over }))
     (λ g group f h.
     let o = of_group_overlaps g group f h in
-    of_group 14 g f (RecordOverlap g o.i o.j) o.made (record { rest = o.i ∷ o.j ∷ []; names = record { number = refl; places = refl } }))
+    of_first in_order 14 g f (RecordOverlap g o.i o.j) o.made (record { rest = o.i ∷ o.j ∷ []; names = record { number = refl; places = refl } }))
     group_rises
 
 -- ---- texts
@@ -303,7 +197,7 @@ records_covered plan =
 pub texts_covered : (plan : Plan) → Covers plan 15 15 (text_findings plan.groups.items)
 unfolding text_findings
 texts_covered plan =
-    each_inside plan 15 (λ group. group.texts.items) lies_outside IsOutside Decides-lies_outside TextOutside (λ g t h. h)
+    each_inside in_order (Holds plan) 15 plan.groups.items (λ group. group.texts.items) lies_outside IsOutside Decides-lies_outside TextOutside (λ g t h. h)
     (λ g t. record { number = refl; places = refl })
 
 -- ---- needs
@@ -313,7 +207,7 @@ unfolding need_findings
 needs_covered plan =
     let requests = plan.requests.items in
     let flows = plan.flows.items in
-    each_family plan 19 (IsUnmet requests flows) (Decides-is_unmet requests flows) NeedUnmet plan.needs.items (λ i h. h)
+    each_family in_order (Holds plan) 19 (IsUnmet requests flows) (Decides-is_unmet requests flows) NeedUnmet plan.needs.items (λ i h. h)
     (λ i. record { number = refl; places = refl })
 
 -- ---- requests
@@ -324,19 +218,19 @@ requests_covered plan =
     let groups = plan.groups.items in
     let flows = plan.flows.items in
     let requests = plan.requests.items in
-    Covers-append plan 21 21 22 25 _ _ (omega arith) (omega arith) (omega arith)
-    (each_family plan 21 (GoesUnanswered flows) (Decides-goes_unanswered flows) RequestUnanswered requests (λ i h. h)
+    Covers-append in_order (Holds plan) 21 21 22 25 _ _ (omega arith) (omega arith) (omega arith)
+    (each_family in_order (Holds plan) 21 (GoesUnanswered flows) (Decides-goes_unanswered flows) RequestUnanswered requests (λ i h. h)
     (λ i. record { number = refl; places = refl }))
-    (Covers-append plan 22 22 23 25 _ _ (omega arith) (omega arith) (omega arith)
-    (each_family plan 22 (GoesUnheard flows) (Decides-goes_unheard flows) RequestUnheard requests (λ i h. h)
+    (Covers-append in_order (Holds plan) 22 22 23 25 _ _ (omega arith) (omega arith) (omega arith)
+    (each_family in_order (Holds plan) 22 (GoesUnheard flows) (Decides-goes_unheard flows) RequestUnheard requests (λ i h. h)
     (λ i. record { number = refl; places = refl }))
-    (Covers-append plan 23 23 24 25 _ _ (omega arith) (omega arith) (omega arith)
-    (each_family plan 23 (IsAnsweredAstray groups flows) (Decides-is_answered_astray groups flows) AnswerAstray requests (λ i h. h)
+    (Covers-append in_order (Holds plan) 23 23 24 25 _ _ (omega arith) (omega arith) (omega arith)
+    (each_family in_order (Holds plan) 23 (IsAnsweredAstray groups flows) (Decides-is_answered_astray groups flows) AnswerAstray requests (λ i h. h)
     (λ i. record { number = refl; places = refl }))
-    (Covers-append plan 24 24 25 25 _ _ (omega arith) (omega arith) (omega arith)
-    (each_family plan 24 (λ group. ¬ IsSelectorInside group) Decides-is_selector_outside WhenOutside groups (λ i h. h)
+    (Covers-append in_order (Holds plan) 24 24 25 25 _ _ (omega arith) (omega arith) (omega arith)
+    (each_family in_order (Holds plan) 24 (λ group. ¬ IsSelectorInside group) Decides-is_selector_outside WhenOutside groups (λ i h. h)
     (λ i. record { number = refl; places = refl }))
-    (pairs_family plan 25 (AskTheSame groups) (Decides-ask_the_same groups) RequestRepeated requests (λ i j h. h)
+    (pairs_family in_order (Holds plan) 25 (AskTheSame groups) (Decides-ask_the_same groups) RequestRepeated requests (λ i j h. h)
     (λ i j. record { number = refl; places = refl })))))
 
 -- ---- units that never claim
@@ -346,9 +240,9 @@ unfolding silent_findings
 silent_covered plan =
     let kept = plan.keep_free in
     let units = plan.units.items in
-    Covers-append plan 26 26 27 27 _ _ (omega arith) (omega arith) (omega arith)
-    (pairs_family plan 26 HaveSilentAddress Decides-have_silent_address SilentAddress units (λ i j h. h) (λ i j. record { number = refl; places = refl }))
-    (each_family plan 27 (IsSilentInPool kept plan.strangers) (Decides-is_silent_in_pool kept plan.strangers) SilentInPool units (λ i h. h)
+    Covers-append in_order (Holds plan) 26 26 27 27 _ _ (omega arith) (omega arith) (omega arith)
+    (pairs_family in_order (Holds plan) 26 HaveSilentAddress Decides-have_silent_address SilentAddress units (λ i j h. h) (λ i j. record { number = refl; places = refl }))
+    (each_family in_order (Holds plan) 27 (IsSilentInPool kept plan.strangers) (Decides-is_silent_in_pool kept plan.strangers) SilentInPool units (λ i h. h)
     (λ i. record { number = refl; places = refl }))
 
 -- ---- ends of flows on a live bus
@@ -357,10 +251,10 @@ live_covered : (plan : Plan) (live : Bool) → plan.live ≡ live
     → Covers plan 28 28 (contested_findings live plan.keep_free plan.strangers plan.units.items plan.flows.items)
 unfolding contested_findings
 live_covered plan true live =
-    each_family plan 28 (IsFlowContested plan)
+    each_family in_order (Holds plan) 28 (IsFlowContested plan)
     (Decides-contested plan (is_unit_alone plan.keep_free plan.strangers plan.units.items) (alone_by_list plan) live) FlowContested plan.flows.items (λ f h. h)
     (λ f. record { number = refl; places = refl })
-live_covered plan false none = family plan 28 [] (λ f h. absurd (omega arith)) tt
+live_covered plan false none = family in_order (Holds plan) 28 [] (λ f h. absurd (omega arith)) tt
 
 pub contested_covered : (plan : Plan)
     → Covers plan 28 28 (contested_findings plan.live plan.keep_free plan.strangers plan.units.items plan.flows.items)

@@ -3,10 +3,10 @@ use Rattle.std.proofs.Common.{◌≡◌, ℕ, List, [], ◌∷◌, ◌++◌, len
 use Rattle.std.specs.List.{HoldsAt, slice_get}
 use Rattle.std.proofs.lemmas.List.Elements.{All-get_or}
 use Rattle.std.proofs.lemmas.Option.{get_or_from_slice_get, slice_get_within}
-use Rattle.j39_findings.specs.Records.{signals_in}
-use Rattle.j39_findings.specs.SoundSignals.{IsBlankOf, ReadsLastGiven, SoundSignals}
-use Rattle.j39_findings.specs.declared.plan.Plan.{Plan}
-use Rattle.j39_findings.specs.declared.plan.group_plan.GroupPlan.{GroupPlan}
+use Rattle.j39_network.specs.Records.{signals_in}
+use Rattle.j39_network.specs.SoundSignals.{IsBlankOf, ReadsLastGiven, SoundSignals}
+use Rattle.j39_network.specs.declared.plan.Plan.{Plan}
+use Rattle.j39_network.specs.declared.plan.group_plan.GroupPlan.{GroupPlan}
 use Rattle.j39_signal.specs.Parts.{SignalParts}
 use Rattle.j39_world.specs.Sound.{AreReportsSound, IsSubsequence, reported}
 use Rattle.j39_world.specs.Transfers.{Begun}
@@ -14,7 +14,7 @@ use Rattle.j39_world.specs.World.{World}
 use Rattle.j39_forwards.specs.Forwards.{HasMessage, Among, Gateway, IsFaithful, IsFromOrigin, Forwarded, forwarded_bytes, ReadsAsBefore, Link, AreLinks, last_link, carried_over, IsFromFirst}
 
 -- what is one of a part is one of the whole
-among_whole : (m : Begun) (xs ys : List Begun) → IsSubsequence xs ys → (earlier later : List Begun) → xs ≡ earlier ++ m ∷ later → Among ys m
+pub among_whole : (m : Begun) (xs ys : List Begun) → IsSubsequence xs ys → (earlier later : List Begun) → xs ≡ earlier ++ m ∷ later → Among ys m
 among_whole m [] ys part [] later at = absurd cc
 among_whole m [] ys part (e ∷ earlier) later at = absurd cc
 among_whole m (x ∷ xs) [] part earlier later at = absurd part

@@ -1,4 +1,6 @@
 //! What a check of a plan is good for.
+ghost use Rattle.j39_findings.specs.Findings.{Clean};
+ghost use Rattle.j39_network.specs.declared.plan.Plan.{Plan as Plans};
 ghost use Rattle.j39_world.specs.SoundPlan.{AreVehiclesSound, IsSound};
 
 use crate::laws::{
@@ -13,18 +15,17 @@ use j39_findings::{
     signals_are_sound,
 };
 
-/// A checked plan is sound: in every world of every run of it, with all lawful choices and whatever is lost, addresses and reports are
-/// sound, addresses also with strangers, planned addresses stay where they differ, a unit that is alone at its own is undisturbed, and so
+/// A plan in which nothing is wrong is sound: in every world of every run of it, with all lawful choices and whatever is lost, addresses and
+/// reports are sound, addresses also with strangers, planned addresses stay where they differ, a unit that is alone at its own is undisturbed, and so
 /// is one that never claims, what units have noted of one another is right where no claim is undelivered, what it keeps free stays free,
 /// claims die down, messages come to their end, on a live bus nobody disturbs their ends, those of which nothing is lost arrive, its
 /// signals read back what they were last given, some flow of it answers each request, some flow brings each unit what it needs, and a
 /// message of such a flow of which nothing is lost reads there as it was written. So is the plan of each vehicle, whatever the serial
-/// numbers of its boxes are. `docs/PROMISES.md` has it in plain words. It does nothing when it runs; it rests on the laws that it calls.
-pub fn certify(checked: &CheckedPlan)
-    ensures sound { IsSound checked.now }
-    ensures vehicles { AreVehiclesSound checked.now }
+/// numbers of its boxes are. `docs/PROMISES.md` has it in plain words. It rests on the laws that it calls.
+pub fn clean_plans_are_sound()
+    ensures sound { (plan : Plans) → Clean plan → IsSound plan }
+    ensures vehicles { (plan : Plans) → Clean plan → AreVehiclesSound plan }
 {
-    let _plan = checked.plan();
     addresses_are_sound();
     planned_addresses_stay();
     alone_units_are_undisturbed();
@@ -47,4 +48,13 @@ pub fn certify(checked: &CheckedPlan)
     serial_numbers_change_nothing();
     a_needed_value_arrives();
     a_sent_value_arrives();
+}
+
+/// A checked plan is sound, and so is the plan of each vehicle, whatever the serial numbers of its boxes are. It does nothing when it runs.
+pub fn certify(checked: &CheckedPlan)
+    ensures sound { IsSound checked.now }
+    ensures vehicles { AreVehiclesSound checked.now }
+{
+    let _plan = checked.plan();
+    clean_plans_are_sound();
 }

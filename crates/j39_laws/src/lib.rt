@@ -4,7 +4,7 @@
 mod certificate;
 mod laws;
 
-pub use certificate::certify;
+pub use certificate::{certify, clean_plans_are_sound};
 pub use laws::{
     a_needed_value_arrives, a_sent_value_arrives, acknowledged_messages_were_reported,
     addresses_are_sound, alone_units_are_undisturbed, answered_messages_arrive, claims_die_down,

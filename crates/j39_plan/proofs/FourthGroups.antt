@@ -1,21 +1,23 @@
 -- Groups of version 4 among whose signals nothing stands that it alone knows are those of version 3.
-use Rattle.std.proofs.Common.{◌≡◌, ℕ, Bool, true, false, arith, List, [], ◌∷◌, ◌++◌, None, refl, sym, subst, ◌∙◌}
+use Rattle.std.proofs.Common.{◌≡◌, ℕ, Bool, true, false, arith, List, [], ◌∷◌, None, refl, sym, subst, ◌∙◌}
 use Rattle.std.specs.Option.{option_map_or}
 use Rattle.toml.specs.Data.{Data, Members, no_members, get_member, as_table}
 use Rattle.j39_signal.specs.Parts.{SignalParts}
-use Rattle.j39_findings.specs.declared.plan.group_plan.GroupPlan.{GroupPlan}
-use Rattle.j39_findings.specs.declared.plan.meaning.Meaning.{Meaning}
+use Rattle.j39_network.specs.declared.plan.group_plan.GroupPlan.{GroupPlan}
+use Rattle.j39_network.specs.declared.plan.meaning.Meaning.{Meaning}
+use Rattle.j39_plan.specs.declared.reading.version.Version.TheVariants.{First, Third, Fourth}
 use Rattle.j39_plan.specs.declared.reading.key.Key.{Key}
 use Rattle.j39_plan.specs.declared.reading.key.Key.TheVariants as key
 use Rattle.j39_plan.specs.declared.reading.place.Table.{Table}
 use Rattle.j39_plan.specs.declared.reading.place.Table.TheVariants as at
 use Rattle.j39_plan.specs.declared.reading.text_kind.TextKind.TheVariants as texts
 use Rattle.j39_plan.specs.Words.{word_of}
-use Rattle.j39_plan.specs.Schema.{Rule, number_of, flag_of, given_number, table_of, tables_of}
-use Rattle.j39_plan.specs.TableFaults.{key_faults, table_faults, table_only_faults, is_key_word}
-use Rattle.j39_plan.specs.Elements.{inside, label_in, repeated_faults}
+use Rattle.j39_plan.specs.Schema.{number_of, flag_of, given_number, table_of, tables_of}
+use Rattle.j39_plan.specs.TableFaults.{key_faults, table_only_faults, is_key_word}
+use Rattle.j39_plan.specs.Since.{Since, since, versioned_faults}
+use Rattle.j39_plan.specs.Elements.{inside, label_in, label_rule, repeated_faults}
 use Rattle.j39_plan.specs.MeaningTables.{optional_rule, spn_rule, values_rule, meaning_rules, optional_of, spn_of, name_table, AreValueNames}
-use Rattle.j39_plan.specs.SignalTables.{bits_rule, is_code, place_rules, scale_rules, repeated_of, signal_table_faults, signal_faults, IsMeaningOf, IsSignalOf}
+use Rattle.j39_plan.specs.SignalTables.{byte_rule, bit_rule, bits_rule, is_code, kind_rule, step_rule, per_rule, offset_rule, unit_rule, repeated_rule, repeated_of, signal_table_faults, signal_faults, IsMeaningOf, IsSignalOf}
 use Rattle.j39_plan.specs.SelectorTables.{TellsWhen, when_rule, when_table}
 use Rattle.j39_plan.specs.GroupTables.{signal_rule, has_records, signals_faults, group_keys_faults, group_table_faults, group_faults, IsGroupOf}
 use Rattle.j39_plan.specs.Versions.{IsThirdSignal, IsThirdGroup}
@@ -55,12 +57,15 @@ later_keys = key.Label ∷ key.Byte ∷ key.Bit ∷ key.Bits ∷ key.Kind ∷ ke
 signal_words : (l : List ℕ) → IsNone (key.Optional ∷ key.Spn ∷ key.Values ∷ []) l → is_key_word later_keys l ≡ is_key_word older_keys l
 signal_words l none = rw (none 0 key.Optional (omega arith), none 1 key.Spn (omega arith), none 2 key.Values (omega arith))
 
--- the rules of a signal in the fourth version and in the third, by whether it is repeated and whether it is a trouble code
-abbrev rules_of : Bool → Bool → Bool → Bool → ℕ → List Rule
-rules_of fourth records repeated code bits = place_rules true ++ (scale_rules true records code ++ meaning_rules fourth repeated code bits)
+-- the rules of a signal in both, by whether it is repeated and whether it is a trouble code
+abbrev both_rules : Bool → Bool → Bool → ℕ → List Since
+both_rules records repeated code bits =
+    since First label_rule ∷ since First byte_rule ∷ since First bit_rule ∷ since First bits_rule ∷ since First (kind_rule Third)
+    ∷ since First (step_rule code) ∷ since Third (per_rule code) ∷ since First (offset_rule code) ∷ since First (unit_rule code)
+    ∷ since Third (repeated_rule records) ∷ meaning_rules repeated code bits
 
 keys_alike : (records repeated code : Bool) (bits : ℕ) (at : Table) (ms : Members) → IsThirdSignal ms
-    → Alike (table_faults at (rules_of true records repeated code bits) ms) (table_faults at (rules_of false records repeated code bits) ms)
+    → Alike (versioned_faults at Fourth (both_rules records repeated code bits) ms) (versioned_faults at Third (both_rules records repeated code bits) ms)
 keys_alike records repeated true bits at ms lacks =
     alike_both _ _ _ _ (alike_unknown at _ _ ms ms (only_same later_keys older_keys (key.Optional ∷ key.Spn ∷ key.Values ∷ []) signal_words ms lacks))
     (rw (optional_unfaulted repeated at ms lacks, spn_unfaulted at ms lacks, values_unfaulted true bits at ms lacks) refl)
@@ -69,28 +74,28 @@ keys_alike records repeated false bits at ms lacks =
     (rw (optional_unfaulted repeated at ms lacks, spn_unfaulted at ms lacks, values_unfaulted false bits at ms lacks) refl)
 
 signal_alike : (records : Bool) (g i : ℕ) (seen : List (List ℕ)) (d : Data) → IsThirdSignal (inside d)
-    → Alike (signal_faults true true records g i seen d) (signal_faults true false records g i seen d)
-unfolding signal_faults signal_table_faults
+    → Alike (signal_faults Fourth records g i seen d) (signal_faults Third records g i seen d)
+unfolding signal_faults signal_table_faults is_code
 signal_alike records g i seen d lacks =
-    let fourth = signal_table_faults true true records (at.Signal g i) in
-    let third = signal_table_faults true false records (at.Signal g i) in
+    let fourth = signal_table_faults Fourth records (at.Signal g i) in
+    let third = signal_table_faults Third records (at.Signal g i) in
     alike_between (table_only_faults (at.Signal g i) d) (option_map_or fourth (as_table d) []) (option_map_or third (as_table d) [])
     (repeated_faults (at.Signal g i) texts.Label seen (label_in d))
-    (alike_inside fourth third d (keys_alike records (repeated_of true (inside d)) (is_code true (inside d)) (number_of bits_rule (inside d)) (at.Signal g i) (inside d) lacks))
+    (alike_inside fourth third d (keys_alike records (repeated_of Third (inside d)) (is_code Third (inside d)) (number_of bits_rule (inside d)) (at.Signal g i) (inside d) lacks))
 
-optional_is : (ms : Members) → IsThirdSignal ms → optional_of true ms ≡ false
+optional_is : (ms : Members) → IsThirdSignal ms → optional_of Fourth ms ≡ false
 unfolding flag_of
 optional_is ms lacks = rw (no_optional ms lacks)
 
-spn_is : (ms : Members) → IsThirdSignal ms → spn_of true ms ≡ None
+spn_is : (ms : Members) → IsThirdSignal ms → spn_of Fourth ms ≡ None
 unfolding given_number
 spn_is ms lacks = rw (no_spn ms lacks)
 
-names_are : (ms : Members) → IsThirdSignal ms → name_table true ms ≡ no_members
+names_are : (ms : Members) → IsThirdSignal ms → name_table Fourth ms ≡ no_members
 unfolding table_of
 names_are ms lacks = rw (no_values ms lacks)
 
-third_signal : (d : Data) (s : SignalParts) → IsThirdSignal (inside d) → IsSignalOf true true d s → IsSignalOf true false d s
+third_signal : (d : Data) (s : SignalParts) → IsThirdSignal (inside d) → IsSignalOf Fourth d s → IsSignalOf Third d s
 third_signal d s lacks told = record {
   has_label = told.has_label;
   has_start = told.has_start;
@@ -104,7 +109,7 @@ third_signal d s lacks told = record {
   has_optional = told.has_optional ∙ optional_is (inside d) lacks;
 }
 
-fourth_signal : (d : Data) (s : SignalParts) → IsThirdSignal (inside d) → IsSignalOf true false d s → IsSignalOf true true d s
+fourth_signal : (d : Data) (s : SignalParts) → IsThirdSignal (inside d) → IsSignalOf Third d s → IsSignalOf Fourth d s
 fourth_signal d s lacks told = record {
   has_label = told.has_label;
   has_start = told.has_start;
@@ -118,13 +123,13 @@ fourth_signal d s lacks told = record {
   has_optional = told.has_optional ∙ sym (optional_is (inside d) lacks);
 }
 
-third_meaning : (d : Data) (m : Meaning) → IsThirdSignal (inside d) → IsMeaningOf true true d m → IsMeaningOf true false d m
+third_meaning : (d : Data) (m : Meaning) → IsThirdSignal (inside d) → IsMeaningOf Fourth d m → IsMeaningOf Third d m
 third_meaning d m lacks told = record {
   has_spn = told.has_spn ∙ spn_is (inside d) lacks;
   has_values = subst (λ ms. AreValueNames ms m.values.items) (names_are (inside d) lacks) told.has_values;
 }
 
-fourth_meaning : (d : Data) (m : Meaning) → IsThirdSignal (inside d) → IsMeaningOf true false d m → IsMeaningOf true true d m
+fourth_meaning : (d : Data) (m : Meaning) → IsThirdSignal (inside d) → IsMeaningOf Third d m → IsMeaningOf Fourth d m
 fourth_meaning d m lacks told = record {
   has_spn = told.has_spn ∙ sym (spn_is (inside d) lacks);
   has_values = subst (λ ms. AreValueNames ms m.values.items) (sym (names_are (inside d) lacks)) told.has_values;
@@ -132,10 +137,10 @@ fourth_meaning d m lacks told = record {
 
 -- ---- groups
 
-signals_alike : (g : ℕ) (ms : Members) → IsThirdGroup ms → Alike (signals_faults true true g ms) (signals_faults true false g ms)
+signals_alike : (g : ℕ) (ms : Members) → IsThirdGroup ms → Alike (signals_faults Fourth g ms) (signals_faults Third g ms)
 signals_alike g ms third =
-    let records = has_records true ms in
-    alike_each IsThirdSignal (signal_faults true true records g) (signal_faults true false records g) (signal_alike records g)
+    let records = has_records Fourth ms in
+    alike_each IsThirdSignal (signal_faults Fourth records g) (signal_faults Third records g) (signal_alike records g)
     label_in 0 [] (tables_of signal_rule ms) third.signals
 
 no_when : (ms : Members) → IsThirdGroup ms → get_member (word_of key.When) ms ≡ None
@@ -145,7 +150,7 @@ when_unfaulted : (at : Table) (ms : Members) → IsThirdGroup ms → key_faults 
 unfolding key_faults
 when_unfaulted at ms third = rw (no_when ms third)
 
-when_is : (ms : Members) → IsThirdGroup ms → when_table true ms ≡ None
+when_is : (ms : Members) → IsThirdGroup ms → when_table Fourth ms ≡ None
 unfolding table_of
 when_is ms third = rw (no_when ms third)
 
@@ -159,24 +164,24 @@ later_group_keys =
 group_words : (l : List ℕ) → IsNone (key.When ∷ []) l → is_key_word later_group_keys l ≡ is_key_word older_group_keys l
 group_words l none = rw (none 0 key.When (omega arith))
 
-group_keys_alike : (g : ℕ) (ms : Members) → IsThirdGroup ms → Alike (group_keys_faults true true g ms) (group_keys_faults true false g ms)
+group_keys_alike : (g : ℕ) (ms : Members) → IsThirdGroup ms → Alike (group_keys_faults Fourth g ms) (group_keys_faults Third g ms)
 group_keys_alike g ms third =
     let at : Table = at.Group g in
     alike_both _ _ _ _ (alike_unknown at _ _ ms ms (only_same later_group_keys older_group_keys (key.When ∷ []) group_words ms third.keys))
     (rw (when_unfaulted at ms third, when_is ms third) refl)
 
-pub group_alike : (g : ℕ) (seen : List (List ℕ)) (d : Data) → IsThirdGroup (inside d) → Alike (group_faults true true g seen d) (group_faults true false g seen d)
+pub group_alike : (g : ℕ) (seen : List (List ℕ)) (d : Data) → IsThirdGroup (inside d) → Alike (group_faults Fourth g seen d) (group_faults Third g seen d)
 unfolding group_faults group_table_faults
 group_alike g seen d older =
-    let fourth = group_table_faults true true g in
-    let third = group_table_faults true false g in
+    let fourth = group_table_faults Fourth g in
+    let third = group_table_faults Third g in
     alike_between (table_only_faults (at.Group g) d) (option_map_or fourth (as_table d) []) (option_map_or third (as_table d) [])
     (repeated_faults (at.Group g) texts.Label seen (label_in d))
     (alike_inside fourth third d
     (alike_both _ _ _ _ (group_keys_alike g (inside d) older)
     (alike_both _ _ _ _ (signals_alike g (inside d) older) refl)))
 
-pub third_group : (d : Data) (g : GroupPlan) → IsThirdGroup (inside d) → IsGroupOf true true d g → IsGroupOf true false d g
+pub third_group : (d : Data) (g : GroupPlan) → IsThirdGroup (inside d) → IsGroupOf Fourth d g → IsGroupOf Third d g
 third_group d g older told = record {
   has_label = told.has_label;
   has_pgn = told.has_pgn;
@@ -186,14 +191,14 @@ third_group d g older told = record {
   has_most = told.has_most;
   has_every = told.has_every;
   has_when = subst (λ t. TellsWhen t g.when) (when_is (inside d) older) told.has_when;
-  has_signals = told_alike IsThirdSignal (IsSignalOf true true) (IsSignalOf true false) third_signal
+  has_signals = told_alike IsThirdSignal (IsSignalOf Fourth) (IsSignalOf Third) third_signal
       (tables_of signal_rule (inside d)) g.signals.items older.signals told.has_signals;
-  has_meanings = told_alike IsThirdSignal (IsMeaningOf true true) (IsMeaningOf true false) third_meaning
+  has_meanings = told_alike IsThirdSignal (IsMeaningOf Fourth) (IsMeaningOf Third) third_meaning
       (tables_of signal_rule (inside d)) g.meanings.items older.signals told.has_meanings;
   has_texts = told.has_texts;
 }
 
-pub fourth_group : (d : Data) (g : GroupPlan) → IsThirdGroup (inside d) → IsGroupOf true false d g → IsGroupOf true true d g
+pub fourth_group : (d : Data) (g : GroupPlan) → IsThirdGroup (inside d) → IsGroupOf Third d g → IsGroupOf Fourth d g
 fourth_group d g older told = record {
   has_label = told.has_label;
   has_pgn = told.has_pgn;
@@ -203,9 +208,9 @@ fourth_group d g older told = record {
   has_most = told.has_most;
   has_every = told.has_every;
   has_when = subst (λ t. TellsWhen t g.when) (sym (when_is (inside d) older)) told.has_when;
-  has_signals = told_alike IsThirdSignal (IsSignalOf true false) (IsSignalOf true true) fourth_signal
+  has_signals = told_alike IsThirdSignal (IsSignalOf Third) (IsSignalOf Fourth) fourth_signal
       (tables_of signal_rule (inside d)) g.signals.items older.signals told.has_signals;
-  has_meanings = told_alike IsThirdSignal (IsMeaningOf true false) (IsMeaningOf true true) fourth_meaning
+  has_meanings = told_alike IsThirdSignal (IsMeaningOf Third) (IsMeaningOf Fourth) fourth_meaning
       (tables_of signal_rule (inside d)) g.meanings.items older.signals told.has_meanings;
   has_texts = told.has_texts;
 }

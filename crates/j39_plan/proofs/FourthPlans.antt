@@ -3,15 +3,17 @@ use Rattle.std.proofs.Common.{◌≡◌, ◌≢◌, ℕ, pos, true, false, arith
 use Rattle.std.specs.Option.{option_and_then}
 use Rattle.std.proofs.lemmas.Bool.{le-ltb, ne_eqb}
 use Rattle.toml.specs.Data.{Data, string, integer, float, boolean, datetime, array, table, Members, get_member, as_integer}
-use Rattle.j39_findings.specs.declared.plan.flow_plan.FlowPlan.{FlowPlan}
-use Rattle.j39_findings.specs.declared.plan.timing.Timing.{Timing}
+use Rattle.j39_network.specs.declared.plan.flow_plan.FlowPlan.{FlowPlan}
+use Rattle.j39_network.specs.declared.plan.timing.Timing.{Timing}
+use Rattle.j39_plan.specs.declared.reading.version.Version.TheVariants.{Third, Fourth}
 use Rattle.j39_plan.specs.declared.reading.key.Key.{Key}
 use Rattle.j39_plan.specs.declared.reading.key.Key.TheVariants as key
 use Rattle.j39_plan.specs.declared.reading.place.Table.{Table}
 use Rattle.j39_plan.specs.declared.reading.place.Table.TheVariants as at
 use Rattle.j39_plan.specs.Words.{word_of}
 use Rattle.j39_plan.specs.Schema.{has_key, bitrate_of_bus, natural, standing, number_of, given_number, flag_of, table_of}
-use Rattle.j39_plan.specs.TableFaults.{is_bitrate, standing_cause, key_faults, table_faults, is_key_word}
+use Rattle.j39_plan.specs.TableFaults.{is_bitrate, standing_cause, key_faults, is_key_word}
+use Rattle.j39_plan.specs.Since.{versioned_faults}
 use Rattle.j39_plan.specs.Elements.{inside}
 use Rattle.j39_plan.specs.FlowTables.{period_rule, given_period, jitter_rule, jitter_most, jitter_of, pause_rule, on_request_rule, on_request_of, flow_rules, flow_table_faults, flow_faults, IsFlowOf}
 use Rattle.j39_plan.specs.TimingTables.{bitrate_of, TellsErrors, bitrate_rule, unplanned_priority_rule, transport_priority_rule, gap_rule, gap_most_rule, errors_rule, timing_table_faults, errors_table, TellsBus}
@@ -32,7 +34,7 @@ no_on_request ms lacks = lacked key.OnRequest ms (lacks 2 key.OnRequest (omega a
 no_pause : (ms : Members) → IsThirdFlow ms → get_member (word_of key.Pause) ms ≡ None
 no_pause ms lacks = lacked key.Pause ms (lacks 1 key.Pause (omega arith))
 
-period_same : (ms : Members) → IsThirdFlow ms → period_rule true ms ≡ period_rule false ms
+period_same : (ms : Members) → IsThirdFlow ms → period_rule Fourth ms ≡ period_rule Third ms
 period_same ms lacks = rw (no_jitter_key ms lacks)
 
 -- the keys of a flow in the third version, and in the fourth
@@ -58,27 +60,27 @@ unfolding key_faults
 on_request_unfaulted at ms none = rw none
 
 flow_keys_alike : (at : Table) (ms : Members) → IsThirdFlow ms
-    → Alike (table_faults at (flow_rules true true ms) ms) (table_faults at (flow_rules true false ms) ms)
+    → Alike (versioned_faults at Fourth (flow_rules Fourth ms) ms) (versioned_faults at Third (flow_rules Third ms) ms)
 flow_keys_alike at ms lacks =
-    let period = (period_rule false ms).key in
+    let period = (period_rule Third ms).key in
     rw (no_jitter_key ms lacks)
     (alike_both _ _ _ _ (alike_unknown at _ _ ms ms
     (only_same (later_keys period) (older_keys period) fourth_flow_keys (flow_words period) ms lacks))
     (rw (
-      jitter_unfaulted at ms (given_number (period_rule false ms) ms) (no_jitter ms lacks),
-      pause_unfaulted at ms (given_number (period_rule false ms) ms) (no_pause ms lacks),
+      jitter_unfaulted at ms (given_number (period_rule Third ms) ms) (no_jitter ms lacks),
+      pause_unfaulted at ms (given_number (period_rule Third ms) ms) (no_pause ms lacks),
       on_request_unfaulted at ms (no_on_request ms lacks),
     ) refl))
 
 pub flow_alike : (groups units : List (List ℕ)) (i : ℕ) (d : Data) → IsThirdFlow (inside d)
-    → Alike (flow_faults true true groups units i d) (flow_faults true false groups units i d)
+    → Alike (flow_faults Fourth groups units i d) (flow_faults Third groups units i d)
 unfolding flow_faults flow_table_faults
 flow_alike groups units i d lacks =
     alike_both _ _ _ _ refl
-    (alike_inside (flow_table_faults true true groups units i) (flow_table_faults true false groups units i) d
+    (alike_inside (flow_table_faults Fourth groups units i) (flow_table_faults Third groups units i) d
     (alike_both _ _ _ _ (flow_keys_alike (at.Flow i) (inside d) lacks) refl))
 
-jitter_none : (ms : Members) (period : Option ℕ) → get_member (word_of key.Jitter) ms ≡ None → jitter_of true period ms ≡ 0
+jitter_none : (ms : Members) (period : Option ℕ) → get_member (word_of key.Jitter) ms ≡ None → jitter_of Fourth period ms ≡ 0
 unfolding number_of
 jitter_none ms period none = rw none
 
@@ -86,15 +88,15 @@ pause_none : (ms : Members) (period : Option ℕ) → get_member (word_of key.Pa
 unfolding given_number
 pause_none ms period none = rw none
 
-on_request_none : (ms : Members) → get_member (word_of key.OnRequest) ms ≡ None → on_request_of true ms ≡ false
+on_request_none : (ms : Members) → get_member (word_of key.OnRequest) ms ≡ None → on_request_of Fourth ms ≡ false
 unfolding flag_of
 on_request_none ms none = rw none
 
-period_told : (ms : Members) → IsThirdFlow ms → given_period true true ms ≡ given_period true false ms
+period_told : (ms : Members) → IsThirdFlow ms → given_period Fourth ms ≡ given_period Third ms
 period_told ms lacks = ap (λ r. given_number r ms) (period_same ms lacks)
 
 pub third_flow : (groups units : List (List ℕ)) (d : Data) (f : FlowPlan) → IsThirdFlow (inside d)
-    → IsFlowOf true true groups units d f → IsFlowOf true false groups units d f
+    → IsFlowOf Fourth groups units d f → IsFlowOf Third groups units d f
 third_flow groups units d f lacks told = record {
   has_group = told.has_group;
   has_sender = told.has_sender;
@@ -102,14 +104,14 @@ third_flow groups units d f lacks told = record {
   has_pace = record {
     has_period = told.has_pace.has_period ∙ period_told (inside d) lacks;
     has_deadline = told.has_pace.has_deadline;
-    has_jitter = subst (λ n. IfSome f.pace (λ p. p.jitter ≡ n)) (jitter_none (inside d) (given_period true true (inside d)) (no_jitter (inside d) lacks)) told.has_pace.has_jitter;
+    has_jitter = subst (λ n. IfSome f.pace (λ p. p.jitter ≡ n)) (jitter_none (inside d) (given_period Fourth (inside d)) (no_jitter (inside d) lacks)) told.has_pace.has_jitter;
   };
-  has_pause = told.has_pause ∙ pause_none (inside d) (given_number (period_rule true (inside d)) (inside d)) (no_pause (inside d) lacks);
+  has_pause = told.has_pause ∙ pause_none (inside d) (given_number (period_rule Fourth (inside d)) (inside d)) (no_pause (inside d) lacks);
   has_on_request = told.has_on_request ∙ on_request_none (inside d) (no_on_request (inside d) lacks);
 }
 
 pub fourth_flow : (groups units : List (List ℕ)) (d : Data) (f : FlowPlan) → IsThirdFlow (inside d)
-    → IsFlowOf true false groups units d f → IsFlowOf true true groups units d f
+    → IsFlowOf Third groups units d f → IsFlowOf Fourth groups units d f
 fourth_flow groups units d f lacks told = record {
   has_group = told.has_group;
   has_sender = told.has_sender;
@@ -117,9 +119,9 @@ fourth_flow groups units d f lacks told = record {
   has_pace = record {
     has_period = told.has_pace.has_period ∙ sym (period_told (inside d) lacks);
     has_deadline = told.has_pace.has_deadline;
-    has_jitter = subst (λ n. IfSome f.pace (λ p. p.jitter ≡ n)) (sym (jitter_none (inside d) (given_period true true (inside d)) (no_jitter (inside d) lacks))) told.has_pace.has_jitter;
+    has_jitter = subst (λ n. IfSome f.pace (λ p. p.jitter ≡ n)) (sym (jitter_none (inside d) (given_period Fourth (inside d)) (no_jitter (inside d) lacks))) told.has_pace.has_jitter;
   };
-  has_pause = told.has_pause ∙ sym (pause_none (inside d) (given_number (period_rule true (inside d)) (inside d)) (no_pause (inside d) lacks));
+  has_pause = told.has_pause ∙ sym (pause_none (inside d) (given_number (period_rule Fourth (inside d)) (inside d)) (no_pause (inside d) lacks));
   has_on_request = told.has_on_request ∙ sym (on_request_none (inside d) (no_on_request (inside d) lacks));
 }
 
@@ -167,9 +169,9 @@ bitrate_cause (Some (datetime x)) a b = refl
 bitrate_cause (Some (array ds)) a b = refl
 bitrate_cause (Some (table ms)) a b = refl
 
-bitrate_alike : (ms : Members) → IsThirdBus ms → key_faults at.Timing ms (bitrate_rule true) ≡ key_faults at.Timing ms (bitrate_rule false)
+bitrate_alike : (ms : Members) → IsThirdBus ms → key_faults at.Timing ms (bitrate_rule Fourth) ≡ key_faults at.Timing ms (bitrate_rule Third)
 unfolding key_faults number_of
-bitrate_alike ms third = rw (bitrate_cause (standing (bitrate_rule true) ms) third.not_slowest third.not_fastest)
+bitrate_alike ms third = rw (bitrate_cause (standing (bitrate_rule Fourth) ms) third.not_slowest third.not_fastest)
 
 gap_is : (ms : Members) → Without ms → number_of gap_rule ms ≡ 50
 unfolding number_of
@@ -192,11 +194,11 @@ unfaulted ms w = record {
   errors = rw w.errors;
 }
 
-no_errors : (ms : Members) → Without ms → errors_table true ms ≡ None
+no_errors : (ms : Members) → Without ms → errors_table Fourth ms ≡ None
 unfolding table_of
 no_errors ms w = rw w.errors
 
-pub timing_alike : (ms : Members) → IsThirdBus ms → Alike (timing_table_faults true ms) (timing_table_faults false ms)
+pub timing_alike : (ms : Members) → IsThirdBus ms → Alike (timing_table_faults Fourth ms) (timing_table_faults Third ms)
 unfolding timing_table_faults
 timing_alike ms third =
     let w = without ms third in
@@ -222,11 +224,11 @@ given ms w = record {
   gap_most = rw w.gap_most;
 }
 
-bitrate_told : (ms : Members) → number_of (bitrate_rule true) ms ≡ number_of (bitrate_rule false) ms
+bitrate_told : (ms : Members) → number_of (bitrate_rule Fourth) ms ≡ number_of (bitrate_rule Third) ms
 unfolding number_of
 bitrate_told ms = refl
 
-pub third_bus : (ms : Members) (t : Timing) → IsThirdBus ms → TellsBus true ms t → TellsBus false ms t
+pub third_bus : (ms : Members) (t : Timing) → IsThirdBus ms → TellsBus Fourth ms t → TellsBus Third ms t
 third_bus ms t third told =
     let w = without ms third in
     let g = given ms w in
@@ -240,7 +242,7 @@ third_bus ms t third told =
       has_errors = subst (λ found. TellsErrors found t.errors) (no_errors ms w) told.has_errors;
     }
 
-pub fourth_bus : (ms : Members) (t : Timing) → IsThirdBus ms → TellsBus false ms t → TellsBus true ms t
+pub fourth_bus : (ms : Members) (t : Timing) → IsThirdBus ms → TellsBus Third ms t → TellsBus Fourth ms t
 fourth_bus ms t third told =
     let w = without ms third in
     let g = given ms w in

@@ -2,20 +2,22 @@
 use Rattle.std.proofs.Common.{◌≡◌, ℕ, true, false, arith, List, [], ◌∷◌, Option, Some, None, IfSome, refl, sym, ◌∙◌}
 use Rattle.std.specs.Option.{option_map_or}
 use Rattle.toml.specs.Data.{no_items, Members, get_member}
-use Rattle.j39_findings.specs.declared.plan.Plan.{Plan}
-use Rattle.j39_findings.specs.declared.plan.timing.Timing.{Timing}
+use Rattle.j39_network.specs.declared.plan.Plan.{Plan}
+use Rattle.j39_network.specs.declared.plan.timing.Timing.{Timing}
+use Rattle.j39_plan.specs.declared.reading.version.Version.TheVariants.{Third, Fourth}
 use Rattle.j39_plan.specs.declared.reading.key.Key.{Key}
 use Rattle.j39_plan.specs.declared.reading.key.Key.TheVariants as key
 use Rattle.j39_plan.specs.declared.reading.place.Table.TheVariants as at
 use Rattle.j39_plan.specs.Words.{word_of}
 use Rattle.j39_plan.specs.Schema.{number_of, flag_of, table_of, tables_of}
-use Rattle.j39_plan.specs.TableFaults.{key_faults, keys_faults, is_key_word, has_only}
+use Rattle.j39_plan.specs.TableFaults.{key_faults, is_key_word, has_only}
+use Rattle.j39_plan.specs.Since.{known_faults}
 use Rattle.j39_plan.specs.Elements.{each_faults, label_in}
 use Rattle.j39_plan.specs.UnitTables.{IsUnitOf, unit_faults, unit_label_in}
 use Rattle.j39_plan.specs.GroupTables.{IsGroupOf, group_faults}
 use Rattle.j39_plan.specs.FlowTables.{IsFlowOf, flow_faults}
 use Rattle.j39_plan.specs.TimingTables.{timing_table_faults, TellsTiming}
-use Rattle.j39_plan.specs.PlanFaults.{version_rule, keep_free_rule, strangers_rule, strangers_of, strangers_faults, live_rule, live_of, live_faults, timing_rule, units_rule, groups_rule, flows_rule, needs_rule, requests_rule, knows_fourth, head_faults, timing_faults, array_rules, top_faults, unit_labels, group_labels, units_faults, groups_faults, flows_faults, needs_faults, need_tables_of, requests_faults, request_tables_of, no_label, faults}
+use Rattle.j39_plan.specs.PlanFaults.{version_rule, keep_free_rule, strangers_rule, strangers_of, strangers_faults, live_rule, live_of, live_faults, timing_rule, units_rule, groups_rule, flows_rule, needs_rule, requests_rule, version_of, head_faults, timing_faults, array_rules, top_faults, unit_labels, group_labels, units_faults, groups_faults, flows_faults, needs_faults, need_tables_of, requests_faults, request_tables_of, no_label, faults}
 use Rattle.j39_plan.specs.Described.{keep_free_of, TellsPlan}
 use Rattle.j39_plan.specs.Versions.{with_version, fourth_top_keys, Lacks, IsThirdBus, IsThirdUnit, IsThirdGroup, IsThirdFlow, IsThirdPlan, ReadAlike}
 use Rattle.j39_plan.proofs.Absent.{lacked, IsNone, only_same, Alike, alike_both, alike_unknown, alike_each, told_alike}
@@ -61,7 +63,7 @@ head_alike s b =
     let t = with_version 3 s in
     let k = knows_4 s b.is in
     let o = knows_3 t b.other in
-    rw (k.of_head, k.of_third, k.of_fourth, o.of_head, o.of_third, o.of_fourth)
+    rw (k, o)
     (alike_both _ _ _ _ (alike_unknown at.Top _ _ s t (known_alike 3 s b.older.keys))
     (rw (
       version_unfaulted 4 s (omega arith) (omega arith) b.is,
@@ -78,15 +80,15 @@ strangers_unfaulted s none = rw none
 
 strangers_alike : (s : Members) → Beside s → Alike (strangers_faults s) (strangers_faults (with_version 3 s))
 strangers_alike s b =
-    rw ((knows_4 s b.is).of_fourth, (knows_3 (with_version 3 s) b.other).of_fourth, strangers_unfaulted s (no_strangers s b.older.keys)) refl
+    rw (knows_4 s b.is, knows_3 (with_version 3 s) b.other, strangers_unfaulted s (no_strangers s b.older.keys)) refl
 
-none_come : (s : Members) → get_member (word_of key.Strangers) s ≡ None → strangers_of true s ≡ 0
+none_come : (s : Members) → get_member (word_of key.Strangers) s ≡ None → strangers_of Fourth s ≡ 0
 unfolding number_of
 none_come s none = rw none
 
-as_many : (s : Members) → Beside s → strangers_of (knows_fourth (with_version 3 s)) (with_version 3 s) ≡ strangers_of (knows_fourth s) s
+as_many : (s : Members) → Beside s → strangers_of (version_of (with_version 3 s)) (with_version 3 s) ≡ strangers_of (version_of s) s
 as_many s b =
-    rw ((knows_4 s b.is).of_fourth, (knows_3 (with_version 3 s) b.other).of_fourth) (sym (none_come s (no_strangers s b.older.keys)))
+    rw (knows_4 s b.is, knows_3 (with_version 3 s) b.other) (sym (none_come s (no_strangers s b.older.keys)))
 
 no_live : (s : Members) → Lacks fourth_top_keys s → get_member (word_of key.Live) s ≡ None
 no_live s lacks = lacked key.Live s (lacks 1 key.Live (omega arith))
@@ -97,18 +99,18 @@ live_unfaulted s none = rw none
 
 live_alike : (s : Members) → Beside s → Alike (live_faults s) (live_faults (with_version 3 s))
 live_alike s b =
-    rw ((knows_4 s b.is).of_fourth, (knows_3 (with_version 3 s) b.other).of_fourth, live_unfaulted s (no_live s b.older.keys)) refl
+    rw (knows_4 s b.is, knows_3 (with_version 3 s) b.other, live_unfaulted s (no_live s b.older.keys)) refl
 
-not_live : (s : Members) → get_member (word_of key.Live) s ≡ None → live_of true s ≡ false
+not_live : (s : Members) → get_member (word_of key.Live) s ≡ None → live_of Fourth s ≡ false
 unfolding flag_of
 not_live s none = rw none
 
-as_live : (s : Members) → Beside s → live_of (knows_fourth (with_version 3 s)) (with_version 3 s) ≡ live_of (knows_fourth s) s
+as_live : (s : Members) → Beside s → live_of (version_of (with_version 3 s)) (with_version 3 s) ≡ live_of (version_of s) s
 as_live s b =
-    rw ((knows_4 s b.is).of_fourth, (knows_3 (with_version 3 s) b.other).of_fourth) (sym (not_live s (no_live s b.older.keys)))
+    rw (knows_4 s b.is, knows_3 (with_version 3 s) b.other) (sym (not_live s (no_live s b.older.keys)))
 
 bus_alike : (found : Option Members) → IfSome found IsThirdBus
-    → Alike (option_map_or (timing_table_faults true) found []) (option_map_or (timing_table_faults false) found [])
+    → Alike (option_map_or (timing_table_faults Fourth) found []) (option_map_or (timing_table_faults Third) found [])
 bus_alike None third = refl
 bus_alike (Some ms) third = timing_alike ms third
 
@@ -116,7 +118,7 @@ timing_part_alike : (s : Members) → Beside s → Alike (timing_faults s) (timi
 timing_part_alike s b =
     let k = knows_4 s b.is in
     let o = knows_3 (with_version 3 s) b.other in
-    rw (k.of_third, k.of_fourth, o.of_third, o.of_fourth, key_faults_other 3 at.Top timing_rule s refl, table_other 3 timing_rule s refl)
+    rw (k, o, key_faults_other 3 at.Top timing_rule s refl, table_other 3 timing_rule s refl)
     (alike_both _ _ _ _ refl (bus_alike (table_of timing_rule s) b.older.bus))
 
 no_needs : (s : Members) → Lacks fourth_top_keys s → get_member (word_of key.Need) s ≡ None
@@ -126,7 +128,7 @@ needs_unfaulted : (s : Members) → get_member (word_of key.Need) s ≡ None →
 unfolding key_faults
 needs_unfaulted s none = rw none
 
-no_need_tables : (s : Members) → get_member (word_of key.Need) s ≡ None → need_tables_of true s ≡ no_items
+no_need_tables : (s : Members) → get_member (word_of key.Need) s ≡ None → need_tables_of Fourth s ≡ no_items
 unfolding tables_of
 no_need_tables s none = rw none
 
@@ -137,16 +139,16 @@ requests_unfaulted : (s : Members) → get_member (word_of key.Request) s ≡ No
 unfolding key_faults
 requests_unfaulted s none = rw none
 
-no_request_tables : (s : Members) → get_member (word_of key.Request) s ≡ None → request_tables_of true s ≡ no_items
+no_request_tables : (s : Members) → get_member (word_of key.Request) s ≡ None → request_tables_of Fourth s ≡ no_items
 unfolding tables_of
 no_request_tables s none = rw none
 
 arrays_alike : (s : Members) → Beside s
-    → Alike (keys_faults at.Top s (array_rules (knows_fourth s))) (keys_faults at.Top (with_version 3 s) (array_rules (knows_fourth (with_version 3 s))))
+    → Alike (known_faults at.Top (version_of s) s array_rules) (known_faults at.Top (version_of (with_version 3 s)) (with_version 3 s) array_rules)
 arrays_alike s b =
     rw (
-      (knows_4 s b.is).of_fourth,
-      (knows_3 (with_version 3 s) b.other).of_fourth,
+      knows_4 s b.is,
+      knows_3 (with_version 3 s) b.other,
       key_faults_other 3 at.Top units_rule s refl,
       key_faults_other 3 at.Top groups_rule s refl,
       key_faults_other 3 at.Top flows_rule s refl,
@@ -158,34 +160,34 @@ arrays_alike s b =
 
 units_alike : (s : Members) → Beside s → Alike (units_faults s) (units_faults (with_version 3 s))
 units_alike s b =
-    rw ((knows_4 s b.is).of_fourth, (knows_3 (with_version 3 s) b.other).of_fourth, tables_other 3 units_rule s refl)
-    (alike_each IsThirdUnit (unit_faults true) (unit_faults false) unit_alike unit_label_in 0 [] (tables_of units_rule s) b.older.units)
+    rw (knows_4 s b.is, knows_3 (with_version 3 s) b.other, tables_other 3 units_rule s refl)
+    (alike_each IsThirdUnit (unit_faults Fourth) (unit_faults Third) unit_alike unit_label_in 0 [] (tables_of units_rule s) b.older.units)
 
 groups_alike : (s : Members) → Beside s → Alike (groups_faults s) (groups_faults (with_version 3 s))
 groups_alike s b =
     let k = knows_4 s b.is in
     let o = knows_3 (with_version 3 s) b.other in
-    rw (k.of_third, k.of_fourth, o.of_third, o.of_fourth, tables_other 3 groups_rule s refl)
-    (alike_each IsThirdGroup (group_faults true true) (group_faults true false) group_alike label_in 0 [] (tables_of groups_rule s) b.older.groups)
+    rw (k, o, tables_other 3 groups_rule s refl)
+    (alike_each IsThirdGroup (group_faults Fourth) (group_faults Third) group_alike label_in 0 [] (tables_of groups_rule s) b.older.groups)
 
 flows_alike : (s : Members) → Beside s → Alike (flows_faults s) (flows_faults (with_version 3 s))
 flows_alike s b =
     let k = knows_4 s b.is in
     let o = knows_3 (with_version 3 s) b.other in
-    rw (k.of_third, k.of_fourth, o.of_third, o.of_fourth, tables_other 3 units_rule s refl, tables_other 3 groups_rule s refl, tables_other 3 flows_rule s refl)
-    (alike_each IsThirdFlow (λ i seen. flow_faults true true (group_labels s) (unit_labels s) i)
-    (λ i seen. flow_faults true false (group_labels s) (unit_labels s) i) (λ i seen d. flow_alike (group_labels s) (unit_labels s) i d)
+    rw (k, o, tables_other 3 units_rule s refl, tables_other 3 groups_rule s refl, tables_other 3 flows_rule s refl)
+    (alike_each IsThirdFlow (λ i seen. flow_faults Fourth (group_labels s) (unit_labels s) i)
+    (λ i seen. flow_faults Third (group_labels s) (unit_labels s) i) (λ i seen d. flow_alike (group_labels s) (unit_labels s) i d)
     no_label 0 [] (tables_of flows_rule s) b.older.flows)
 
 needs_alike : (s : Members) → Beside s → Alike (needs_faults s) (needs_faults (with_version 3 s))
 unfolding each_faults
 needs_alike s b =
-    rw ((knows_4 s b.is).of_fourth, (knows_3 (with_version 3 s) b.other).of_fourth, no_need_tables s (no_needs s b.older.keys)) refl
+    rw (knows_4 s b.is, knows_3 (with_version 3 s) b.other, no_need_tables s (no_needs s b.older.keys)) refl
 
 requests_alike : (s : Members) → Beside s → Alike (requests_faults s) (requests_faults (with_version 3 s))
 unfolding each_faults
 requests_alike s b =
-    rw ((knows_4 s b.is).of_fourth, (knows_3 (with_version 3 s) b.other).of_fourth, no_request_tables s (no_requests s b.older.keys)) refl
+    rw (knows_4 s b.is, knows_3 (with_version 3 s) b.other, no_request_tables s (no_requests s b.older.keys)) refl
 
 faults_alike : (s : Members) → Beside s → Alike (faults s) (faults (with_version 3 s))
 faults_alike s b =
@@ -201,20 +203,20 @@ faults_alike s b =
 
 -- ---- what is told
 
-bus_older : (found : Option Members) (t : Option Timing) → IfSome found IsThirdBus → TellsTiming true found t → TellsTiming false found t
+bus_older : (found : Option Members) (t : Option Timing) → IfSome found IsThirdBus → TellsTiming Fourth found t → TellsTiming Third found t
 bus_older None None third told = tt
 bus_older None (Some t) third told = absurd told
 bus_older (Some ms) None third told = absurd told
 bus_older (Some ms) (Some t) third told = third_bus ms t third told
 
-bus_newer : (found : Option Members) (t : Option Timing) → IfSome found IsThirdBus → TellsTiming false found t → TellsTiming true found t
+bus_newer : (found : Option Members) (t : Option Timing) → IfSome found IsThirdBus → TellsTiming Third found t → TellsTiming Fourth found t
 bus_newer None None third told = tt
 bus_newer None (Some t) third told = absurd told
 bus_newer (Some ms) None third told = absurd told
 bus_newer (Some ms) (Some t) third told = fourth_bus ms t third told
 
 kept_alike : (s : Members) → Beside s → keep_free_of (with_version 3 s) ≡ keep_free_of s
-kept_alike s b = rw ((knows_4 s b.is).of_head, (knows_3 (with_version 3 s) b.other).of_head, addresses_other 3 keep_free_rule s refl)
+kept_alike s b = rw (knows_4 s b.is, knows_3 (with_version 3 s) b.other, addresses_other 3 keep_free_rule s refl)
 
 third_plan : (s : Members) (p : Plan) → Beside s → TellsPlan s p → TellsPlan (with_version 3 s) p
 third_plan s p b told =
@@ -224,20 +226,20 @@ third_plan s p b told =
       has_keep_free = told.has_keep_free ∙ sym (kept_alike s b);
       has_strangers = told.has_strangers ∙ sym (as_many s b);
       has_live = told.has_live ∙ sym (as_live s b);
-      has_timing = rw (o.of_third, o.of_fourth, table_other 3 timing_rule s refl)
-          (bus_older (table_of timing_rule s) p.timing b.older.bus (rw (k.of_third, k.of_fourth) at told.has_timing));
-      has_units = rw (o.of_fourth, tables_other 3 units_rule s refl)
-          (told_alike IsThirdUnit (IsUnitOf true) (IsUnitOf false) third_unit (tables_of units_rule s) p.units.items b.older.units
-          (rw k.of_fourth at told.has_units));
-      has_groups = rw (o.of_third, o.of_fourth, tables_other 3 groups_rule s refl)
-          (told_alike IsThirdGroup (IsGroupOf true true) (IsGroupOf true false) third_group (tables_of groups_rule s) p.groups.items b.older.groups
-          (rw (k.of_third, k.of_fourth) at told.has_groups));
-      has_flows = rw (o.of_third, o.of_fourth, tables_other 3 units_rule s refl, tables_other 3 groups_rule s refl, tables_other 3 flows_rule s refl)
-          (told_alike IsThirdFlow (IsFlowOf true true (group_labels s) (unit_labels s)) (IsFlowOf true false (group_labels s) (unit_labels s))
-          (third_flow (group_labels s) (unit_labels s)) (tables_of flows_rule s) p.flows.items b.older.flows (rw (k.of_third, k.of_fourth) at told.has_flows));
-      has_needs = rw o.of_fourth (each_nothing _ _ p.needs.items (rw (k.of_fourth, no_need_tables s (no_needs s b.older.keys)) at told.has_needs));
-      has_requests = rw o.of_fourth
-          (each_nothing _ _ p.requests.items (rw (k.of_fourth, no_request_tables s (no_requests s b.older.keys)) at told.has_requests));
+      has_timing = rw (o, table_other 3 timing_rule s refl)
+          (bus_older (table_of timing_rule s) p.timing b.older.bus (rw k at told.has_timing));
+      has_units = rw (o, tables_other 3 units_rule s refl)
+          (told_alike IsThirdUnit (IsUnitOf Fourth) (IsUnitOf Third) third_unit (tables_of units_rule s) p.units.items b.older.units
+          (rw k at told.has_units));
+      has_groups = rw (o, tables_other 3 groups_rule s refl)
+          (told_alike IsThirdGroup (IsGroupOf Fourth) (IsGroupOf Third) third_group (tables_of groups_rule s) p.groups.items b.older.groups
+          (rw k at told.has_groups));
+      has_flows = rw (o, tables_other 3 units_rule s refl, tables_other 3 groups_rule s refl, tables_other 3 flows_rule s refl)
+          (told_alike IsThirdFlow (IsFlowOf Fourth (group_labels s) (unit_labels s)) (IsFlowOf Third (group_labels s) (unit_labels s))
+          (third_flow (group_labels s) (unit_labels s)) (tables_of flows_rule s) p.flows.items b.older.flows (rw k at told.has_flows));
+      has_needs = rw o (each_nothing _ _ p.needs.items (rw (k, no_need_tables s (no_needs s b.older.keys)) at told.has_needs));
+      has_requests = rw o
+          (each_nothing _ _ p.requests.items (rw (k, no_request_tables s (no_requests s b.older.keys)) at told.has_requests));
     }
 
 fourth_plan : (s : Members) (p : Plan) → Beside s → TellsPlan (with_version 3 s) p → TellsPlan s p
@@ -248,21 +250,21 @@ fourth_plan s p b told =
       has_keep_free = told.has_keep_free ∙ kept_alike s b;
       has_strangers = told.has_strangers ∙ as_many s b;
       has_live = told.has_live ∙ as_live s b;
-      has_timing = rw (k.of_third, k.of_fourth)
-          (bus_newer (table_of timing_rule s) p.timing b.older.bus (rw (o.of_third, o.of_fourth, table_other 3 timing_rule s refl) at told.has_timing));
-      has_units = rw k.of_fourth
-          (told_alike IsThirdUnit (IsUnitOf false) (IsUnitOf true) fourth_unit (tables_of units_rule s) p.units.items b.older.units
-          (rw (o.of_fourth, tables_other 3 units_rule s refl) at told.has_units));
-      has_groups = rw (k.of_third, k.of_fourth)
-          (told_alike IsThirdGroup (IsGroupOf true false) (IsGroupOf true true) fourth_group (tables_of groups_rule s) p.groups.items b.older.groups
-          (rw (o.of_third, o.of_fourth, tables_other 3 groups_rule s refl) at told.has_groups));
-      has_flows = rw (k.of_third, k.of_fourth)
-          (told_alike IsThirdFlow (IsFlowOf true false (group_labels s) (unit_labels s)) (IsFlowOf true true (group_labels s) (unit_labels s))
+      has_timing = rw k
+          (bus_newer (table_of timing_rule s) p.timing b.older.bus (rw (o, table_other 3 timing_rule s refl) at told.has_timing));
+      has_units = rw k
+          (told_alike IsThirdUnit (IsUnitOf Third) (IsUnitOf Fourth) fourth_unit (tables_of units_rule s) p.units.items b.older.units
+          (rw (o, tables_other 3 units_rule s refl) at told.has_units));
+      has_groups = rw k
+          (told_alike IsThirdGroup (IsGroupOf Third) (IsGroupOf Fourth) fourth_group (tables_of groups_rule s) p.groups.items b.older.groups
+          (rw (o, tables_other 3 groups_rule s refl) at told.has_groups));
+      has_flows = rw k
+          (told_alike IsThirdFlow (IsFlowOf Third (group_labels s) (unit_labels s)) (IsFlowOf Fourth (group_labels s) (unit_labels s))
           (fourth_flow (group_labels s) (unit_labels s)) (tables_of flows_rule s) p.flows.items b.older.flows
-          (rw (o.of_third, o.of_fourth, tables_other 3 units_rule s refl, tables_other 3 groups_rule s refl, tables_other 3 flows_rule s refl) at told.has_flows));
-      has_needs = rw (k.of_fourth, no_need_tables s (no_needs s b.older.keys)) (each_nothing _ _ p.needs.items (rw o.of_fourth at told.has_needs));
-      has_requests = rw (k.of_fourth, no_request_tables s (no_requests s b.older.keys))
-          (each_nothing _ _ p.requests.items (rw o.of_fourth at told.has_requests));
+          (rw (o, tables_other 3 units_rule s refl, tables_other 3 groups_rule s refl, tables_other 3 flows_rule s refl) at told.has_flows));
+      has_needs = rw (k, no_need_tables s (no_needs s b.older.keys)) (each_nothing _ _ p.needs.items (rw o at told.has_needs));
+      has_requests = rw (k, no_request_tables s (no_requests s b.older.keys))
+          (each_nothing _ _ p.requests.items (rw o at told.has_requests));
     }
 
 pub fourth_reads : (s : Members) → number_of version_rule s ≡ 4 → IsThirdPlan s → ReadAlike s (with_version 3 s)

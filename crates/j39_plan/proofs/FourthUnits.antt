@@ -4,8 +4,9 @@ use Rattle.std.specs.Option.{option_map_or}
 use Rattle.std.proofs.lemmas.Bool.{false≢true}
 use Rattle.toml.specs.Data.{Data, Members, no_members, get_member, as_table}
 use Rattle.j39_id.specs.Name.{name_number}
-use Rattle.j39_findings.specs.declared.plan.queue.Queue.TheVariants.{Priority}
-use Rattle.j39_findings.specs.declared.plan.unit_plan.UnitPlan.{UnitPlan}
+use Rattle.j39_network.specs.declared.plan.queue.Queue.TheVariants.{Priority}
+use Rattle.j39_network.specs.declared.plan.unit_plan.UnitPlan.{UnitPlan}
+use Rattle.j39_plan.specs.declared.reading.version.Version.TheVariants.{Third, Fourth}
 use Rattle.j39_plan.specs.declared.reading.key.Key.{Key}
 use Rattle.j39_plan.specs.declared.reading.key.Key.TheVariants as key
 use Rattle.j39_plan.specs.declared.reading.place.Table.{Table}
@@ -13,7 +14,8 @@ use Rattle.j39_plan.specs.declared.reading.place.Table.TheVariants as at
 use Rattle.j39_plan.specs.declared.reading.text_kind.TextKind.TheVariants as texts
 use Rattle.j39_plan.specs.Words.{word_of}
 use Rattle.j39_plan.specs.Schema.{flag_of, has_key, number_of, table_of, text_of}
-use Rattle.j39_plan.specs.TableFaults.{key_faults, table_faults, table_only_faults, is_key_word}
+use Rattle.j39_plan.specs.TableFaults.{key_faults, table_only_faults, is_key_word}
+use Rattle.j39_plan.specs.Since.{versioned_faults}
 use Rattle.j39_plan.specs.Elements.{inside, repeated_faults}
 use Rattle.j39_plan.specs.UnitTables.{any_identity_of, lacks_identity, name_faults, name_fields_of, name_of, name_rule}
 use Rattle.j39_plan.specs.UnitTables.{claims_rule, claims_of, queue_rule, queue_of, unit_rules, unit_label_in, unit_table_faults, unit_faults, IsUnitOf}
@@ -44,16 +46,16 @@ queue_unfaulted : (at : Table) (ms : Members) → IsThirdUnit ms → key_faults 
 unfolding key_faults
 queue_unfaulted at ms lacks = rw (no_queue ms lacks)
 
-unit_keys_alike : (at : Table) (ms : Members) → IsThirdUnit ms → Alike (table_faults at (unit_rules true) ms) (table_faults at (unit_rules false) ms)
+unit_keys_alike : (at : Table) (ms : Members) → IsThirdUnit ms → Alike (versioned_faults at Fourth unit_rules ms) (versioned_faults at Third unit_rules ms)
 unit_keys_alike at ms lacks =
     alike_both _ _ _ _ (alike_unknown at _ _ ms ms (only_same later_keys older_keys (key.Queue ∷ key.Claims ∷ []) unit_words ms lacks.keys))
     (rw (queue_unfaulted at ms lacks, claims_unfaulted at ms lacks) refl)
 
-claims_is : (ms : Members) → IsThirdUnit ms → claims_of true ms ≡ true
+claims_is : (ms : Members) → IsThirdUnit ms → claims_of Fourth ms ≡ true
 unfolding flag_of
 claims_is ms lacks = rw (no_claims ms lacks)
 
-queue_is : (ms : Members) → IsThirdUnit ms → queue_of true ms ≡ Priority
+queue_is : (ms : Members) → IsThirdUnit ms → queue_of Fourth ms ≡ Priority
 unfolding text_of
 queue_is ms lacks = rw (no_queue ms lacks)
 
@@ -65,52 +67,52 @@ has_number ms has = go (get_member (word_of key.Identity) ms) refl has where
   go None is e = absurd (false≢true e)
   go (Some d) is e = (d, is)
 
-name_faults_same : (i : ℕ) (ms : Members) → has_key key.Identity ms ≡ true → name_faults true i ms ≡ name_faults false i ms
+name_faults_same : (i : ℕ) (ms : Members) → has_key key.Identity ms ≡ true → name_faults Fourth i ms ≡ name_faults Third i ms
 unfolding name_faults key_faults
 name_faults_same i ms has = rw ((has_number ms has).1) refl
 
-name_fields_same : (ms : Members) → has_key key.Identity ms ≡ true → name_fields_of true ms ≡ name_fields_of false ms
+name_fields_same : (ms : Members) → has_key key.Identity ms ≡ true → name_fields_of Fourth ms ≡ name_fields_of Third ms
 unfolding name_fields_of number_of
 name_fields_same ms has = rw ((has_number ms has).1) refl
 
-no_name_same : name_fields_of true no_members ≡ name_fields_of false no_members
+no_name_same : name_fields_of Fourth no_members ≡ name_fields_of Third no_members
 unfolding name_fields_of number_of
 no_name_same = refl
 
 names_same : (i : ℕ) (found : Option Members) → IfSome found (λ inner. has_key key.Identity inner ≡ true)
-    → (option_map_or (name_faults true i) found [] ≡ option_map_or (name_faults false i) found [])
-    × (name_fields_of true (unwrap_or found no_members) ≡ name_fields_of false (unwrap_or found no_members))
-    × (option_map_or (lacks_identity true) found false ≡ false)
+    → (option_map_or (name_faults Fourth i) found [] ≡ option_map_or (name_faults Third i) found [])
+    × (name_fields_of Fourth (unwrap_or found no_members) ≡ name_fields_of Third (unwrap_or found no_members))
+    × (option_map_or (lacks_identity Fourth) found false ≡ false)
 names_same i None has = (refl, no_name_same, refl)
 names_same i (Some ms) has = (name_faults_same i ms has, name_fields_same ms has, rw has refl)
 
-none_lack : (found : Option Members) → option_map_or (lacks_identity false) found false ≡ false
+none_lack : (found : Option Members) → option_map_or (lacks_identity Third) found false ≡ false
 none_lack None = refl
 none_lack (Some ms) = refl
 
 names_of : (i : ℕ) (ms : Members) → IsThirdUnit ms
-    → (option_map_or (name_faults true i) (table_of name_rule ms) [] ≡ option_map_or (name_faults false i) (table_of name_rule ms) [])
-    × (name_fields_of true (unwrap_or (table_of name_rule ms) no_members) ≡ name_fields_of false (unwrap_or (table_of name_rule ms) no_members))
-    × (any_identity_of true ms ≡ false)
+    → (option_map_or (name_faults Fourth i) (table_of name_rule ms) [] ≡ option_map_or (name_faults Third i) (table_of name_rule ms) [])
+    × (name_fields_of Fourth (unwrap_or (table_of name_rule ms) no_members) ≡ name_fields_of Third (unwrap_or (table_of name_rule ms) no_members))
+    × (any_identity_of Fourth ms ≡ false)
 names_of i ms third = names_same i (table_of name_rule ms) third.number
 
-name_is : (ms : Members) → IsThirdUnit ms → name_of true ms ≡ name_of false ms
+name_is : (ms : Members) → IsThirdUnit ms → name_of Fourth ms ≡ name_of Third ms
 name_is ms third = ap name_number (names_of 0 ms third).1
 
-number_is : (ms : Members) → IsThirdUnit ms → any_identity_of true ms ≡ any_identity_of false ms
+number_is : (ms : Members) → IsThirdUnit ms → any_identity_of Fourth ms ≡ any_identity_of Third ms
 number_is ms third = (names_of 0 ms third).2 ∙ sym (none_lack (table_of name_rule ms))
 
-pub unit_alike : (i : ℕ) (seen : List (List ℕ)) (d : Data) → IsThirdUnit (inside d) → Alike (unit_faults true i seen d) (unit_faults false i seen d)
+pub unit_alike : (i : ℕ) (seen : List (List ℕ)) (d : Data) → IsThirdUnit (inside d) → Alike (unit_faults Fourth i seen d) (unit_faults Third i seen d)
 unfolding unit_faults unit_table_faults
 unit_alike i seen d lacks =
-    let fourth = unit_table_faults true i in
-    let third = unit_table_faults false i in
+    let fourth = unit_table_faults Fourth i in
+    let third = unit_table_faults Third i in
     alike_between (table_only_faults (at.Unit i) d) (option_map_or fourth (as_table d) []) (option_map_or third (as_table d) [])
     (repeated_faults (at.Unit i) texts.UnitLabel seen (unit_label_in d))
     (alike_inside fourth third d
     (alike_both _ _ _ _ (unit_keys_alike (at.Unit i) (inside d) lacks) (rw ((names_of i (inside d) lacks).0, claims_is (inside d) lacks, name_is (inside d) lacks) refl)))
 
-pub third_unit : (d : Data) (u : UnitPlan) → IsThirdUnit (inside d) → IsUnitOf true d u → IsUnitOf false d u
+pub third_unit : (d : Data) (u : UnitPlan) → IsThirdUnit (inside d) → IsUnitOf Fourth d u → IsUnitOf Third d u
 third_unit d u lacks told = record {
   has_label = told.has_label;
   has_address = told.has_address;
@@ -122,7 +124,7 @@ third_unit d u lacks told = record {
   has_claims = told.has_claims ∙ claims_is (inside d) lacks;
 }
 
-pub fourth_unit : (d : Data) (u : UnitPlan) → IsThirdUnit (inside d) → IsUnitOf false d u → IsUnitOf true d u
+pub fourth_unit : (d : Data) (u : UnitPlan) → IsThirdUnit (inside d) → IsUnitOf Third d u → IsUnitOf Fourth d u
 fourth_unit d u lacks told = record {
   has_label = told.has_label;
   has_address = told.has_address;

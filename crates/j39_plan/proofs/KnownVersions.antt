@@ -1,15 +1,16 @@
 -- What versions know, and what stands alike in a tree with another one.
-use Rattle.std.proofs.Common.{◌≡◌, ◌≤◌, ℕ, pos, negsuc, Bool, true, false, arith, List, [], ◌∷◌, Option, Some, None, unwrap_or}
+use Rattle.std.proofs.Common.{◌≡◌, ◌≤◌, ℕ, pos, negsuc, refl, arith, List, [], ◌∷◌, Option, Some, None, unwrap_or}
 use Rattle.std.specs.Option.{option_and_then, option_or}
 use Rattle.std.proofs.lemmas.Bool.{le-ltb}
 use Rattle.toml.specs.Data.{Data, string, integer, float, boolean, datetime, array, table, no_items, Members, get_member, as_integer}
 use Rattle.j39_plan.specs.declared.reading.key.Key.TheVariants as key
 use Rattle.j39_plan.specs.declared.reading.place.Table.TheVariants as at
+use Rattle.j39_plan.specs.declared.reading.version.Version.TheVariants.{Second, Third, Fourth}
 use Rattle.j39_plan.specs.Words.{word_of}
 use Rattle.j39_plan.specs.Schema.{integer_in, natural, number_of}
 use Rattle.j39_plan.specs.TableFaults.{standing_cause, key_faults}
 use Rattle.j39_plan.specs.Elements.{Each}
-use Rattle.j39_plan.specs.PlanFaults.{version_rule, may_keep, knows_third, knows_fourth}
+use Rattle.j39_plan.specs.PlanFaults.{version_rule, version_of}
 
 no_version : (n : ℕ) → 1 ≤ n → 0 ≡ n → ⊥
 no_version n some is = omega (arith, is)
@@ -32,23 +33,17 @@ pub version_unfaulted : (n : ℕ) (tree : Members) → 1 ≤ n → n ≤ 4 → n
 unfolding key_faults number_of
 version_unfaulted n tree some few is = rw (version_cause n (get_member (word_of key.Version) tree) some few is)
 
--- what its version knows
-pub record Knows (tree : Members) (keeps third fourth : Bool) : Type 0 where
-  pub of_head : may_keep tree ≡ keeps
-  pub of_third : knows_third tree ≡ third
-  pub of_fourth : knows_fourth tree ≡ fourth
+pub knows_2 : (tree : Members) → number_of version_rule tree ≡ 2 → version_of tree ≡ Second
+unfolding version_of
+knows_2 tree is = rw is refl
 
-pub knows_4 : (tree : Members) → number_of version_rule tree ≡ 4 → Knows tree true true true
-unfolding may_keep knows_third knows_fourth
-knows_4 tree is = record { of_head = rw is; of_third = rw is; of_fourth = rw is }
+pub knows_3 : (tree : Members) → number_of version_rule tree ≡ 3 → version_of tree ≡ Third
+unfolding version_of
+knows_3 tree is = rw is refl
 
-pub knows_2 : (tree : Members) → number_of version_rule tree ≡ 2 → Knows tree true false false
-unfolding may_keep knows_third knows_fourth
-knows_2 tree is = record { of_head = rw is; of_third = rw is; of_fourth = rw is }
-
-pub knows_3 : (tree : Members) → number_of version_rule tree ≡ 3 → Knows tree true true false
-unfolding may_keep knows_third knows_fourth
-knows_3 tree is = record { of_head = rw is; of_third = rw is; of_fourth = rw is }
+pub knows_4 : (tree : Members) → number_of version_rule tree ≡ 4 → version_of tree ≡ Fourth
+unfolding version_of
+knows_4 tree is = rw is refl
 
 -- no elements tell nothing
 pub each_nothing : {T : Type 0} (Is Was : Data → T → Type 0) (xs : List T) → Each Is no_items xs → Each Was no_items xs

@@ -6,12 +6,12 @@ pub mod FourthPlans
 pub mod FourthReads
 pub mod FourthUnits
 pub mod HeadElements
-pub mod HeadRules
 pub mod KnownVersions
 pub mod Labelled
 pub mod NeedSignals
 pub mod NoFaults
 pub mod Numbers
+pub mod OlderVersions
 pub mod OneAnswer
 pub mod OpenNumbers
 pub mod OtherVersion

@@ -4,18 +4,19 @@ use Rattle.std.specs.List.{AllZip}
 use Rattle.std.proofs.lemmas.Option.{same_Some, none-some}
 use Rattle.toml.specs.Data.{Data, Items, no_items, item, Members, no_members, member}
 use Rattle.j39_signal.specs.Parts.{SignalParts}
-use Rattle.j39_findings.specs.declared.plan.Plan.{Plan}
-use Rattle.j39_findings.specs.declared.plan.unit_plan.UnitPlan.{UnitPlan}
-use Rattle.j39_findings.specs.declared.plan.group_plan.GroupPlan.{GroupPlan}
-use Rattle.j39_findings.specs.declared.plan.flow_plan.FlowPlan.{FlowPlan}
-use Rattle.j39_findings.specs.declared.plan.meaning.Meaning.{Meaning}
-use Rattle.j39_findings.specs.declared.plan.meaning.ValueName.{ValueName}
-use Rattle.j39_findings.specs.declared.plan.text_plan.TextPlan.{TextPlan}
-use Rattle.j39_findings.specs.declared.plan.need_plan.NeedPlan.{NeedPlan}
-use Rattle.j39_findings.specs.declared.plan.request_plan.RequestPlan.{RequestPlan}
-use Rattle.j39_findings.specs.declared.plan.pace.Pace.{Pace}
-use Rattle.j39_findings.specs.declared.plan.timing.ErrorRate.{ErrorRate}
-use Rattle.j39_findings.specs.declared.plan.timing.Timing.{Timing}
+use Rattle.j39_network.specs.declared.plan.Plan.{Plan}
+use Rattle.j39_network.specs.declared.plan.unit_plan.UnitPlan.{UnitPlan}
+use Rattle.j39_network.specs.declared.plan.group_plan.GroupPlan.{GroupPlan}
+use Rattle.j39_network.specs.declared.plan.flow_plan.FlowPlan.{FlowPlan}
+use Rattle.j39_network.specs.declared.plan.meaning.Meaning.{Meaning}
+use Rattle.j39_network.specs.declared.plan.meaning.ValueName.{ValueName}
+use Rattle.j39_network.specs.declared.plan.text_plan.TextPlan.{TextPlan}
+use Rattle.j39_network.specs.declared.plan.need_plan.NeedPlan.{NeedPlan}
+use Rattle.j39_network.specs.declared.plan.request_plan.RequestPlan.{RequestPlan}
+use Rattle.j39_network.specs.declared.plan.pace.Pace.{Pace}
+use Rattle.j39_network.specs.declared.plan.timing.ErrorRate.{ErrorRate}
+use Rattle.j39_network.specs.declared.plan.timing.Timing.{Timing}
+use Rattle.j39_plan.specs.declared.reading.version.Version.{Version}
 use Rattle.j39_plan.specs.declared.reading.fault.Fault.{Fault}
 use Rattle.j39_plan.specs.declared.reading.plan_error.PlanError.{PlanError}
 use Rattle.j39_plan.specs.declared.reading.plan_error.PlanError.TheVariants as errors
@@ -33,7 +34,7 @@ use Rattle.j39_plan.specs.NeedTables.{IsNeedOf, need_signal_rule, signals_at}
 use Rattle.j39_plan.specs.RequestTables.{IsRequestOf}
 use Rattle.j39_plan.specs.TimingTables.{TellsBus, TellsErrors, TellsTiming, errors_table}
 use Rattle.j39_plan.specs.Schema.{tables_of, found_text}
-use Rattle.j39_plan.specs.PlanFaults.{faults, units_rule, groups_rule, flows_rule, timing_table, need_tables, request_tables, unit_labels, group_labels, group_signals, knows_third, knows_fourth}
+use Rattle.j39_plan.specs.PlanFaults.{faults, units_rule, groups_rule, flows_rule, timing_table, need_tables, request_tables, unit_labels, group_labels, group_signals, version_of}
 use Rattle.j39_plan.specs.Described.{TellsPlan, Described, Reads}
 use Rattle.j39_plan.specs.OnePlan.{AreOneUnit, AreOneSelector, AreOneSignal, AreOneValueName, AreOneMeaning, AreOneText, AreOneGroup, AreOneErrorRate, AreOneBus, AreOneTiming, AreOnePace, AreOneFlowPlan, AreOneNeed, AreOneRequest, AreOnePlan, AreOneAnswer}
 
@@ -48,8 +49,8 @@ one_each Is One one (item d ds) [] ys a b = absurd a
 one_each Is One one (item d ds) (x ∷ xs) [] a b = absurd b
 one_each Is One one (item d ds) (x ∷ xs) (y ∷ ys) a b = (one d x y a.0 b.0, one_each Is One one ds xs ys a.1 b.1)
 
-one_unit : (fourth : Bool) (d : Data) (u v : UnitPlan) → IsUnitOf fourth d u → IsUnitOf fourth d v → AreOneUnit u v
-one_unit fourth d u v a b = record {
+one_unit : (version : Version) (d : Data) (u v : UnitPlan) → IsUnitOf version d u → IsUnitOf version d v → AreOneUnit u v
+one_unit version d u v a b = record {
   labels = a.has_label ∙ sym b.has_label;
   addresses = a.has_address ∙ sym b.has_address;
   names = a.has_name ∙ sym b.has_name;
@@ -60,8 +61,8 @@ one_unit fourth d u v a b = record {
   claims = a.has_claims ∙ sym b.has_claims;
 }
 
-one_signal : (third fourth : Bool) (d : Data) (s t : SignalParts) → IsSignalOf third fourth d s → IsSignalOf third fourth d t → AreOneSignal s t
-one_signal third fourth d s t a b = record {
+one_signal : (version : Version) (d : Data) (s t : SignalParts) → IsSignalOf version d s → IsSignalOf version d t → AreOneSignal s t
+one_signal version d s t a b = record {
   labels = a.has_label ∙ sym b.has_label;
   starts = a.has_start ∙ sym b.has_start;
   widths = a.has_bits ∙ sym b.has_bits;
@@ -91,10 +92,10 @@ one_names (member k d ms) (x ∷ xs) [] a b = absurd b
 one_names (member k d ms) (x ∷ xs) (y ∷ ys) a b =
     (record { raws = a.0 ∙ sym b.0; names = same_Some _ _ (sym a.1 ∙ b.1) }, one_names ms xs ys a.2 b.2)
 
-one_meaning : (third fourth : Bool) (d : Data) (m n : Meaning) → IsMeaningOf third fourth d m → IsMeaningOf third fourth d n → AreOneMeaning m n
-one_meaning third fourth d m n a b = record {
+one_meaning : (version : Version) (d : Data) (m n : Meaning) → IsMeaningOf version d m → IsMeaningOf version d n → AreOneMeaning m n
+one_meaning version d m n a b = record {
   spns = a.has_spn ∙ sym b.has_spn;
-  values = one_names (name_table (third && fourth) (inside d)) m.values.items n.values.items a.has_values b.has_values;
+  values = one_names (name_table version (inside d)) m.values.items n.values.items a.has_values b.has_values;
 }
 
 one_selector : (found : Option Members) (v w : Option Selector) → TellsWhen found v → TellsWhen found w → AreOneSelector v w
@@ -105,8 +106,8 @@ one_selector (Some ms) None w a b = absurd a
 one_selector (Some ms) (Some v) None a b = absurd b
 one_selector (Some ms) (Some v) (Some w) a b = (a.has_start ∙ sym b.has_start, a.has_bits ∙ sym b.has_bits, a.has_value ∙ sym b.has_value)
 
-one_group : (third fourth : Bool) (d : Data) (g h : GroupPlan) → IsGroupOf third fourth d g → IsGroupOf third fourth d h → AreOneGroup g h
-one_group third fourth d g h a b = record {
+one_group : (version : Version) (d : Data) (g h : GroupPlan) → IsGroupOf version d g → IsGroupOf version d h → AreOneGroup g h
+one_group version d g h a b = record {
   labels = a.has_label ∙ sym b.has_label;
   pgns = a.has_pgn ∙ sym b.has_pgn;
   priorities = a.has_priority ∙ sym b.has_priority;
@@ -114,10 +115,10 @@ one_group third fourth d g h a b = record {
   privates = a.has_private ∙ sym b.has_private;
   mosts = a.has_most ∙ sym b.has_most;
   everys = a.has_every ∙ sym b.has_every;
-  whens = one_selector (when_table (third && fourth) (inside d)) g.when h.when a.has_when b.has_when;
-  signals = one_each (IsSignalOf third fourth) AreOneSignal (one_signal third fourth) (tables_of signal_rule (inside d)) _ _ a.has_signals b.has_signals;
-  meanings = one_each (IsMeaningOf third fourth) AreOneMeaning (one_meaning third fourth) (tables_of signal_rule (inside d)) _ _ a.has_meanings b.has_meanings;
-  texts = one_each IsTextOf AreOneText one_text (text_tables_of third (inside d)) _ _ a.has_texts b.has_texts;
+  whens = one_selector (when_table version (inside d)) g.when h.when a.has_when b.has_when;
+  signals = one_each (IsSignalOf version) AreOneSignal (one_signal version) (tables_of signal_rule (inside d)) _ _ a.has_signals b.has_signals;
+  meanings = one_each (IsMeaningOf version) AreOneMeaning (one_meaning version) (tables_of signal_rule (inside d)) _ _ a.has_meanings b.has_meanings;
+  texts = one_each IsTextOf AreOneText one_text (text_tables_of version (inside d)) _ _ a.has_texts b.has_texts;
 }
 
 one_errors : (tree : Option Members) (e f : Option ErrorRate) → TellsErrors tree e → TellsErrors tree f → AreOneErrorRate e f
@@ -128,41 +129,41 @@ one_errors (Some ms) None f a b = absurd a
 one_errors (Some ms) (Some e) None a b = absurd b
 one_errors (Some ms) (Some e) (Some f) a b = (a.has_count ∙ sym b.has_count, a.has_every ∙ sym b.has_every)
 
-one_bus : (fourth : Bool) (ms : Members) (t u : Timing) → TellsBus fourth ms t → TellsBus fourth ms u → AreOneBus t u
-one_bus fourth ms t u a b = record {
+one_bus : (version : Version) (ms : Members) (t u : Timing) → TellsBus version ms t → TellsBus version ms u → AreOneBus t u
+one_bus version ms t u a b = record {
   bitrates = a.has_bitrate ∙ sym b.has_bitrate;
   unplanned = a.has_unplanned ∙ sym b.has_unplanned;
   unplanned_priorities = a.has_unplanned_priority ∙ sym b.has_unplanned_priority;
   transport_priorities = a.has_transport_priority ∙ sym b.has_transport_priority;
   gaps = a.has_gap ∙ sym b.has_gap;
   gaps_most = a.has_gap_most ∙ sym b.has_gap_most;
-  errors = one_errors (errors_table fourth ms) t.errors u.errors a.has_errors b.has_errors;
+  errors = one_errors (errors_table version ms) t.errors u.errors a.has_errors b.has_errors;
 }
 
-one_timing : (fourth : Bool) (tree : Option Members) (t u : Option Timing) → TellsTiming fourth tree t → TellsTiming fourth tree u → AreOneTiming t u
-one_timing fourth None None None a b = tt
-one_timing fourth None None (Some u) a b = absurd b
-one_timing fourth None (Some t) u a b = absurd a
-one_timing fourth (Some ms) None u a b = absurd a
-one_timing fourth (Some ms) (Some t) None a b = absurd b
-one_timing fourth (Some ms) (Some t) (Some u) a b = one_bus fourth ms t u a b
+one_timing : (version : Version) (tree : Option Members) (t u : Option Timing) → TellsTiming version tree t → TellsTiming version tree u → AreOneTiming t u
+one_timing version None None None a b = tt
+one_timing version None None (Some u) a b = absurd b
+one_timing version None (Some t) u a b = absurd a
+one_timing version (Some ms) None u a b = absurd a
+one_timing version (Some ms) (Some t) None a b = absurd b
+one_timing version (Some ms) (Some t) (Some u) a b = one_bus version ms t u a b
 
-one_pace : (third fourth : Bool) (ms : Members) (p q : Option Pace) → TellsPace third fourth ms p → TellsPace third fourth ms q → AreOnePace p q
-one_pace third fourth ms None None a b = tt
-one_pace third fourth ms None (Some q) a b = absurd (none-some _ (a.has_period ∙ sym b.has_period))
-one_pace third fourth ms (Some p) None a b = absurd (none-some _ (b.has_period ∙ sym a.has_period))
-one_pace third fourth ms (Some p) (Some q) a b =
+one_pace : (version : Version) (ms : Members) (p q : Option Pace) → TellsPace version ms p → TellsPace version ms q → AreOnePace p q
+one_pace version ms None None a b = tt
+one_pace version ms None (Some q) a b = absurd (none-some _ (a.has_period ∙ sym b.has_period))
+one_pace version ms (Some p) None a b = absurd (none-some _ (b.has_period ∙ sym a.has_period))
+one_pace version ms (Some p) (Some q) a b =
     (same_Some _ _ (a.has_period ∙ sym b.has_period), a.has_deadline ∙ sym b.has_deadline, a.has_jitter ∙ sym b.has_jitter)
 
-one_flow : (third fourth : Bool) (groups units : List (List ℕ)) (d : Data) (f h : FlowPlan)
-    → IsFlowOf third fourth groups units d f → IsFlowOf third fourth groups units d h → AreOneFlowPlan f h
-one_flow third fourth groups units d f h a b = record {
+one_flow : (version : Version) (groups units : List (List ℕ)) (d : Data) (f h : FlowPlan)
+    → IsFlowOf version groups units d f → IsFlowOf version groups units d h → AreOneFlowPlan f h
+one_flow version groups units d f h a b = record {
   flows = (
     same_Some _ _ (sym a.has_group ∙ b.has_group),
     same_Some _ _ (sym a.has_sender ∙ b.has_sender),
     same_Some _ _ (sym a.has_receivers ∙ b.has_receivers),
   );
-  paces = one_pace third fourth (inside d) f.pace h.pace a.has_pace b.has_pace;
+  paces = one_pace version (inside d) f.pace h.pace a.has_pace b.has_pace;
   pauses = a.has_pause ∙ sym b.has_pause;
   answers = a.has_on_request ∙ sym b.has_on_request;
 }
@@ -192,11 +193,11 @@ one_plan tree p q a b = record {
   keep_free = a.has_keep_free ∙ sym b.has_keep_free;
   strangers = a.has_strangers ∙ sym b.has_strangers;
   live = a.has_live ∙ sym b.has_live;
-  timing = one_timing (knows_fourth tree) (timing_table tree) p.timing q.timing a.has_timing b.has_timing;
-  units = one_each (IsUnitOf (knows_fourth tree)) AreOneUnit (one_unit (knows_fourth tree)) (tables_of units_rule tree) _ _ a.has_units b.has_units;
-  groups = one_each (IsGroupOf (knows_third tree) (knows_fourth tree)) AreOneGroup (one_group (knows_third tree) (knows_fourth tree)) (tables_of groups_rule tree) _ _ a.has_groups b.has_groups;
-  flows = one_each (IsFlowOf (knows_third tree) (knows_fourth tree) (group_labels tree) (unit_labels tree)) AreOneFlowPlan
-      (one_flow (knows_third tree) (knows_fourth tree) (group_labels tree) (unit_labels tree)) (tables_of flows_rule tree) _ _ a.has_flows b.has_flows;
+  timing = one_timing (version_of tree) (timing_table tree) p.timing q.timing a.has_timing b.has_timing;
+  units = one_each (IsUnitOf (version_of tree)) AreOneUnit (one_unit (version_of tree)) (tables_of units_rule tree) _ _ a.has_units b.has_units;
+  groups = one_each (IsGroupOf (version_of tree)) AreOneGroup (one_group (version_of tree)) (tables_of groups_rule tree) _ _ a.has_groups b.has_groups;
+  flows = one_each (IsFlowOf (version_of tree) (group_labels tree) (unit_labels tree)) AreOneFlowPlan
+      (one_flow (version_of tree) (group_labels tree) (unit_labels tree)) (tables_of flows_rule tree) _ _ a.has_flows b.has_flows;
   needs = one_each (IsNeedOf (group_labels tree) (group_signals tree) (unit_labels tree)) AreOneNeed
       (one_need (group_labels tree) (group_signals tree) (unit_labels tree)) (need_tables tree) _ _ a.has_needs b.has_needs;
   requests = one_each (IsRequestOf (group_labels tree) (unit_labels tree)) AreOneRequest

@@ -5,11 +5,13 @@ use Rattle.std.proofs.lemmas.Option.{slice_get-map}
 use Rattle.std.specs.List.{slice_get}
 use Rattle.std.proofs.lemmas.List.{length-map}
 use Rattle.toml.specs.Data.{Data, Items, no_items, item, Members}
-use Rattle.j39_findings.specs.NeedPlaces.{signal_count}
-use Rattle.j39_findings.specs.PlanLimits.{need_limit}
-use Rattle.j39_findings.specs.declared.plan.unit_plan.UnitPlan.{UnitPlan}
-use Rattle.j39_findings.specs.declared.plan.group_plan.GroupPlan.{GroupPlan}
-use Rattle.j39_findings.specs.declared.plan.need_plan.NeedPlan.{NeedPlan}
+use Rattle.j39_network.specs.NeedPlaces.{signal_count}
+use Rattle.j39_network.specs.PlanLimits.{need_limit}
+use Rattle.j39_network.specs.declared.plan.unit_plan.UnitPlan.{UnitPlan}
+use Rattle.j39_network.specs.declared.plan.group_plan.GroupPlan.{GroupPlan}
+use Rattle.j39_network.specs.declared.plan.need_plan.NeedPlan.{NeedPlan}
+use Rattle.j39_plan.specs.declared.reading.version.Version.{Version}
+use Rattle.j39_plan.specs.declared.reading.version.Version.TheVariants.{First, Second, Third, Fourth}
 use Rattle.j39_plan.specs.Elements.{Each, inside, label_in}
 use Rattle.j39_plan.specs.Schema.{tables_of, items_count}
 use Rattle.j39_plan.specs.SignalTables.{IsSignalOf}
@@ -25,20 +27,22 @@ abbrev pub signals_texts : List GroupPlan → List (List (List ℕ))
 signals_texts = map (λ g. map (λ s. s.label.bytes) g.signals.items)
 
 -- those of groups that were read are those of the file
-pub signals_texts_told : (third fourth : Bool) (ds : Items) (gs : List GroupPlan) → Each (IsGroupOf third fourth) ds gs → signals_texts gs ≡ signals_of_groups ds
+pub signals_texts_told : (version : Version) (ds : Items) (gs : List GroupPlan) → Each (IsGroupOf version) ds gs → signals_texts gs ≡ signals_of_groups ds
 unfolding Each signals_of_groups
-signals_texts_told third fourth no_items [] each = refl
-signals_texts_told third fourth no_items (g ∷ gs) each = absurd each
-signals_texts_told third fourth (item d ds) [] each = absurd each
-signals_texts_told third fourth (item d ds) (g ∷ gs) each =
+signals_texts_told version no_items [] each = refl
+signals_texts_told version no_items (g ∷ gs) each = absurd each
+signals_texts_told version (item d ds) [] each = absurd each
+signals_texts_told version (item d ds) (g ∷ gs) each =
     rw (
-      labels_told (IsSignalOf third fourth) label_in (λ s. s.label.bytes) (λ e s is. is.has_label) (tables_of signal_rule (inside d)) g.signals.items each.0.has_signals,
-      signals_texts_told third fourth ds gs each.1,
+      labels_told (IsSignalOf version) label_in (λ s. s.label.bytes) (λ e s is. is.has_label) (tables_of signal_rule (inside d)) g.signals.items each.0.has_signals,
+      signals_texts_told version ds gs each.1,
     )
 
-pub needs_count : (fourth : Bool) (ms : Members) → items_count (need_tables_of fourth ms) ≤ need_limit
-needs_count true ms = tables_count key.Need need_limit ms
-needs_count false ms = omega arith
+pub needs_count : (version : Version) (ms : Members) → items_count (need_tables_of version ms) ≤ need_limit
+needs_count Fourth ms = tables_count key.Need need_limit ms
+needs_count First ms = omega arith
+needs_count Second ms = omega arith
+needs_count Third ms = omega arith
 
 -- what a table tells is a need of one of these units for one of these groups
 abbrev pub IsAmong : List GroupPlan → List UnitPlan → Data → NeedPlan → Type 0

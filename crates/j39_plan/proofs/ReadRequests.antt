@@ -2,11 +2,13 @@
 use Rattle.std.proofs.Common.{◌≡◌, ℕ, ◌<◌, ◌≤◌, Bool, true, false, arith, List, length, All}
 use Rattle.std.proofs.lemmas.List.{length-map}
 use Rattle.toml.specs.Data.{Data, Items, Members}
-use Rattle.j39_findings.specs.PlanLimits.{request_limit}
-use Rattle.j39_findings.specs.declared.plan.to.To.TheVariants.{One}
-use Rattle.j39_findings.specs.declared.plan.unit_plan.UnitPlan.{UnitPlan}
-use Rattle.j39_findings.specs.declared.plan.group_plan.GroupPlan.{GroupPlan}
-use Rattle.j39_findings.specs.declared.plan.request_plan.RequestPlan.{RequestPlan}
+use Rattle.j39_network.specs.PlanLimits.{request_limit}
+use Rattle.j39_network.specs.declared.plan.to.To.TheVariants.{One}
+use Rattle.j39_network.specs.declared.plan.unit_plan.UnitPlan.{UnitPlan}
+use Rattle.j39_network.specs.declared.plan.group_plan.GroupPlan.{GroupPlan}
+use Rattle.j39_network.specs.declared.plan.request_plan.RequestPlan.{RequestPlan}
+use Rattle.j39_plan.specs.declared.reading.version.Version.{Version}
+use Rattle.j39_plan.specs.declared.reading.version.Version.TheVariants.{First, Second, Third, Fourth}
 use Rattle.j39_plan.specs.Elements.{Each}
 use Rattle.j39_plan.specs.Schema.{items_count}
 use Rattle.j39_plan.specs.declared.reading.key.Key.TheVariants as key
@@ -15,9 +17,11 @@ use Rattle.j39_plan.specs.RequestTables.{IsRequestOf}
 use Rattle.j39_plan.proofs.NoFaults.{All-from_Each, tables_count}
 use Rattle.j39_plan.proofs.ReadPlans.{group_texts, unit_texts, placed, received}
 
-pub requests_count : (fourth : Bool) (ms : Members) → items_count (request_tables_of fourth ms) ≤ request_limit
-requests_count true ms = tables_count key.Request request_limit ms
-requests_count false ms = omega arith
+pub requests_count : (version : Version) (ms : Members) → items_count (request_tables_of version ms) ≤ request_limit
+requests_count Fourth ms = tables_count key.Request request_limit ms
+requests_count First ms = omega arith
+requests_count Second ms = omega arith
+requests_count Third ms = omega arith
 
 -- what a table tells is a request of one of these units for one of these groups
 abbrev pub IsAsked : List GroupPlan → List UnitPlan → Data → RequestPlan → Type 0

@@ -1,11 +1,12 @@
 -- Groups and flows of version 3 in whose tables nothing stands that the second doesn't know are those of version 2.
-use Rattle.std.proofs.Common.{◌≡◌, ◌≤◌, ℕ, pos, negsuc, ltb, Bool, true, false, ◌||◌, if◌then◌else◌, arith, List, [], ◌∷◌, Option, Some, None, unwrap_or, refl, sym, subst, ◌∙◌}
+use Rattle.std.proofs.Common.{◌≡◌, ◌≤◌, ℕ, pos, negsuc, ltb, Bool, true, false, ◌||◌, if◌then◌else◌, arith, List, [], ◌∷◌, Option, Some, None, IfSome, unwrap_or, refl, sym, subst, ◌∙◌}
 use Rattle.std.specs.Option.{option_map_or, option_and_then}
 use Rattle.std.proofs.lemmas.Bool.{le-ltb, ltb-false, or_parts}
 use Rattle.toml.specs.Data.{Data, string, integer, float, boolean, datetime, array, table, no_items, Members, get_member, as_integer, as_table}
 use Rattle.j39_id.specs.Limits.{message_bytes}
-use Rattle.j39_findings.specs.declared.plan.flow_plan.FlowPlan.{FlowPlan}
-use Rattle.j39_findings.specs.declared.plan.group_plan.GroupPlan.{GroupPlan}
+use Rattle.j39_network.specs.declared.plan.flow_plan.FlowPlan.{FlowPlan}
+use Rattle.j39_network.specs.declared.plan.group_plan.GroupPlan.{GroupPlan}
+use Rattle.j39_plan.specs.declared.reading.version.Version.TheVariants.{Second, Third}
 use Rattle.j39_plan.specs.declared.reading.key.Key.{Key}
 use Rattle.j39_plan.specs.declared.reading.key.Key.TheVariants as key
 use Rattle.j39_plan.specs.declared.reading.cause.Cause.TheVariants.{Range}
@@ -14,12 +15,13 @@ use Rattle.j39_plan.specs.declared.reading.place.Table.TheVariants as at
 use Rattle.j39_plan.specs.declared.reading.text_kind.TextKind.TheVariants as texts
 use Rattle.j39_plan.specs.Words.{word_of}
 use Rattle.j39_plan.specs.Schema.{has_key, integer_in, natural, standing, number_of, given_number, flag_of, tables_of}
-use Rattle.j39_plan.specs.TableFaults.{fault, standing_cause, key_faults, keys_faults, table_only_faults, is_key_word, table_faults}
+use Rattle.j39_plan.specs.TableFaults.{fault, standing_cause, key_faults, table_only_faults, is_key_word}
+use Rattle.j39_plan.specs.Since.{known_faults, versioned_faults}
 use Rattle.j39_plan.specs.Elements.{inside, label_in, label_rule, repeated_faults, Each}
 use Rattle.j39_plan.specs.SignalTables.{signal_faults, IsMeaningOf, IsSignalOf}
 use Rattle.j39_plan.specs.GroupTables.{pgn_rule, priority_rule, length_rule, private_rule, private_of, most_rule, most_of, every_rule, every_of, signal_rule, text_rule, text_tables_of, first_rules, inner_rules, signals_faults, texts_faults, group_keys_faults, group_table_faults, group_faults, IsGroupOf}
 use Rattle.j39_plan.specs.TextTables.{IsTextOf}
-use Rattle.j39_plan.specs.FlowTables.{period_of, given_period, deadline_rule, flow_rules, flow_table_faults, flow_faults, IsFlowOf}
+use Rattle.j39_plan.specs.FlowTables.{period_of, given_deadline, given_period, deadline_rule, flow_rules, flow_table_faults, flow_faults, IsFlowOf}
 use Rattle.j39_plan.specs.Versions.{third_group_keys, IsSecondSignal, IsSecondGroup, IsSecondFlow}
 use Rattle.j39_plan.proofs.Absent.{lacked, IsNone, only_same, Alike, alike_both, alike_between, alike_behind, alike_unknown, alike_inside, alike_each, told_alike}
 use Rattle.j39_plan.proofs.NoFaults.{Each-weaken}
@@ -94,7 +96,7 @@ unfolding key_faults number_of
 length_at_most at ms none = at_most 1 message_bytes at key.Length (standing length_rule ms) none
 
 group_keys_alike : (at : Table) (ms : Members) → IsSecondGroup ms
-    → Alike (keys_faults at ms (first_rules true false ms)) (keys_faults at ms (first_rules false false ms))
+    → Alike (known_faults at Third ms (first_rules ms)) (known_faults at Second ms (first_rules ms))
 group_keys_alike at ms second =
     let w = without ms second in
     let length = number_of length_rule ms in
@@ -105,52 +107,52 @@ group_keys_alike at ms second =
     (λ none. rw (private_unfaulted at ms w, most_unfaulted at ms length (length_at_most at ms none) w, every_unfaulted at ms w) refl))))
 
 group_arrays_alike : (at : Table) (ms : Members) → IsSecondGroup ms
-    → Alike (keys_faults at ms (inner_rules true)) (keys_faults at ms (inner_rules false))
+    → Alike (known_faults at Third ms inner_rules) (known_faults at Second ms inner_rules)
 group_arrays_alike at ms second =
     alike_both (key_faults at ms signal_rule) _ (key_faults at ms signal_rule) _ refl (rw (text_unfaulted at ms (without ms second)) refl)
 
-all_keys_alike : (g : ℕ) (ms : Members) → IsSecondGroup ms → Alike (group_keys_faults true false g ms) (group_keys_faults false false g ms)
+all_keys_alike : (g : ℕ) (ms : Members) → IsSecondGroup ms → Alike (group_keys_faults Third g ms) (group_keys_faults Second g ms)
 all_keys_alike g ms second =
     let at : Table = at.Group g in
     alike_both _ _ _ _ (alike_unknown at _ _ ms ms (only_same later_keys first_keys third_group_keys group_words ms second.keys))
     (alike_both _ _ _ _ (group_keys_alike at ms second) (group_arrays_alike at ms second))
 
-no_every : (ms : Members) → IsSecondGroup ms → every_of true ms ≡ None
+no_every : (ms : Members) → IsSecondGroup ms → every_of Third ms ≡ None
 unfolding given_number
 no_every ms second = rw (without ms second).every
 
-no_texts : (ms : Members) → IsSecondGroup ms → text_tables_of true ms ≡ no_items
+no_texts : (ms : Members) → IsSecondGroup ms → text_tables_of Third ms ≡ no_items
 unfolding tables_of
 no_texts ms second = rw (without ms second).text
 
-signals_alike : (g : ℕ) (ms : Members) → IsSecondGroup ms → Alike (signals_faults true false g ms) (signals_faults false false g ms)
+signals_alike : (g : ℕ) (ms : Members) → IsSecondGroup ms → Alike (signals_faults Third g ms) (signals_faults Second g ms)
 signals_alike g ms second =
     rw (no_every ms second)
-    (alike_each IsSecondSignal (signal_faults true false false g) (signal_faults false false false g) (signal_alike g) label_in 0 [] (tables_of signal_rule ms) second.signals)
+    (alike_each IsSecondSignal (signal_faults Third false g) (signal_faults Second false g) (signal_alike g) label_in 0 [] (tables_of signal_rule ms) second.signals)
 
-texts_alike : (g : ℕ) (ms : Members) → IsSecondGroup ms → Alike (texts_faults true g ms) (texts_faults false g ms)
+texts_alike : (g : ℕ) (ms : Members) → IsSecondGroup ms → Alike (texts_faults Third g ms) (texts_faults Second g ms)
 texts_alike g ms second = rw (no_texts ms second) refl
 
-pub group_alike : (g : ℕ) (seen : List (List ℕ)) (d : Data) → IsSecondGroup (inside d) → Alike (group_faults true false g seen d) (group_faults false false g seen d)
+pub group_alike : (g : ℕ) (seen : List (List ℕ)) (d : Data) → IsSecondGroup (inside d) → Alike (group_faults Third g seen d) (group_faults Second g seen d)
 unfolding group_faults group_table_faults
 group_alike g seen d second =
-    let third = group_table_faults true false g in
-    let older = group_table_faults false false g in
+    let third = group_table_faults Third g in
+    let older = group_table_faults Second g in
     alike_between (table_only_faults (at.Group g) d) (option_map_or third (as_table d) []) (option_map_or older (as_table d) [])
     (repeated_faults (at.Group g) texts.Label seen (label_in d))
     (alike_inside third older d
     (alike_both _ _ _ _ (all_keys_alike g (inside d) second)
     (alike_both _ _ _ _ (signals_alike g (inside d) second) (texts_alike g (inside d) second))))
 
-private_is : (ms : Members) → IsSecondGroup ms → private_of true ms ≡ false
+private_is : (ms : Members) → IsSecondGroup ms → private_of Third ms ≡ false
 unfolding flag_of
 private_is ms second = rw (without ms second).private
 
-most_is : (length : ℕ) (ms : Members) → IsSecondGroup ms → most_of true length ms ≡ length
+most_is : (length : ℕ) (ms : Members) → IsSecondGroup ms → most_of Third length ms ≡ length
 unfolding number_of
 most_is length ms second = rw (without ms second).most
 
-pub second_group : (d : Data) (g : GroupPlan) → IsSecondGroup (inside d) → IsGroupOf true false d g → IsGroupOf false false d g
+pub second_group : (d : Data) (g : GroupPlan) → IsSecondGroup (inside d) → IsGroupOf Third d g → IsGroupOf Second d g
 second_group d g second told = record {
   has_label = told.has_label;
   has_pgn = told.has_pgn;
@@ -160,12 +162,12 @@ second_group d g second told = record {
   has_most = told.has_most ∙ most_is (number_of length_rule (inside d)) (inside d) second;
   has_every = told.has_every ∙ no_every (inside d) second;
   has_when = told.has_when;
-  has_signals = told_alike IsSecondSignal (IsSignalOf true false) (IsSignalOf false false) second_signal (tables_of signal_rule (inside d)) g.signals.items second.signals told.has_signals;
-  has_meanings = Each-weaken (IsMeaningOf true false) (IsMeaningOf false false) (λ d m is. is) _ _ told.has_meanings;
+  has_signals = told_alike IsSecondSignal (IsSignalOf Third) (IsSignalOf Second) second_signal (tables_of signal_rule (inside d)) g.signals.items second.signals told.has_signals;
+  has_meanings = Each-weaken (IsMeaningOf Third) (IsMeaningOf Second) (λ d m is. record { has_spn = is.has_spn; has_values = is.has_values }) _ _ told.has_meanings;
   has_texts = subst (λ ds. Each IsTextOf ds g.texts.items) (no_texts (inside d) second) told.has_texts;
 }
 
-pub third_group : (d : Data) (g : GroupPlan) → IsSecondGroup (inside d) → IsGroupOf false false d g → IsGroupOf true false d g
+pub third_group : (d : Data) (g : GroupPlan) → IsSecondGroup (inside d) → IsGroupOf Second d g → IsGroupOf Third d g
 third_group d g second told = record {
   has_label = told.has_label;
   has_pgn = told.has_pgn;
@@ -175,8 +177,8 @@ third_group d g second told = record {
   has_most = told.has_most ∙ sym (most_is (number_of length_rule (inside d)) (inside d) second);
   has_every = told.has_every ∙ sym (no_every (inside d) second);
   has_when = told.has_when;
-  has_signals = told_alike IsSecondSignal (IsSignalOf false false) (IsSignalOf true false) third_signal (tables_of signal_rule (inside d)) g.signals.items second.signals told.has_signals;
-  has_meanings = Each-weaken (IsMeaningOf false false) (IsMeaningOf true false) (λ d m is. is) _ _ told.has_meanings;
+  has_signals = told_alike IsSecondSignal (IsSignalOf Second) (IsSignalOf Third) third_signal (tables_of signal_rule (inside d)) g.signals.items second.signals told.has_signals;
+  has_meanings = Each-weaken (IsMeaningOf Second) (IsMeaningOf Third) (λ d m is. record { has_spn = is.has_spn; has_values = is.has_values }) _ _ told.has_meanings;
   has_texts = subst (λ ds. Each IsTextOf ds g.texts.items) (sym (no_texts (inside d) second)) told.has_texts;
 }
 
@@ -201,33 +203,37 @@ unfolding key_faults
 deadline_unfaulted at ms lacks = rw (lacked key.Deadline ms (no_deadline ms lacks))
 
 flow_keys_alike : (at : Table) (ms : Members) → IsSecondFlow ms
-    → Alike (table_faults at (flow_rules true false ms) ms) (table_faults at (flow_rules false false ms) ms)
+    → Alike (versioned_faults at Third (flow_rules Third ms) ms) (versioned_faults at Second (flow_rules Second ms) ms)
 flow_keys_alike at ms lacks =
     rw (no_deadline ms lacks)
     (alike_both _ _ _ _ (alike_unknown at _ _ ms ms (only_same (key.Group ∷ key.From ∷ key.To ∷ key.Period ∷ key.Deadline ∷ []) (key.Group ∷ key.From ∷ key.To ∷ []) (key.Period ∷ key.Deadline ∷ []) flow_words ms lacks))
     (rw (period_unfaulted at ms lacks, deadline_unfaulted at ms lacks) refl))
 
 pub flow_alike : (groups units : List (List ℕ)) (i : ℕ) (d : Data) → IsSecondFlow (inside d)
-    → Alike (flow_faults true false groups units i d) (flow_faults false false groups units i d)
+    → Alike (flow_faults Third groups units i d) (flow_faults Second groups units i d)
 unfolding flow_faults flow_table_faults
 flow_alike groups units i d lacks =
     alike_both _ _ _ _ refl
-    (alike_inside (flow_table_faults true false groups units i) (flow_table_faults false false groups units i) d
+    (alike_inside (flow_table_faults Third groups units i) (flow_table_faults Second groups units i) d
     (alike_both _ _ _ _ (flow_keys_alike (at.Flow i) (inside d) lacks) refl))
 
-period_is : (ms : Members) → IsSecondFlow ms → given_period true false ms ≡ None
+period_is : (ms : Members) → IsSecondFlow ms → given_period Third ms ≡ None
 unfolding given_number
-period_is ms lacks = rw (no_deadline ms lacks, no_period ms lacks)
+period_is ms lacks = rw (no_period ms lacks)
+
+deadline_is : (ms : Members) → IsSecondFlow ms → given_deadline Third ms ≡ None
+unfolding given_number
+deadline_is ms lacks = rw (lacked key.Deadline ms (no_deadline ms lacks))
 
 pub second_flow : (groups units : List (List ℕ)) (d : Data) (f : FlowPlan) → IsSecondFlow (inside d)
-    → IsFlowOf true false groups units d f → IsFlowOf false false groups units d f
+    → IsFlowOf Third groups units d f → IsFlowOf Second groups units d f
 second_flow groups units d f lacks told = record {
   has_group = told.has_group;
   has_sender = told.has_sender;
   has_receivers = told.has_receivers;
   has_pace = record {
     has_period = told.has_pace.has_period ∙ period_is (inside d) lacks;
-    has_deadline = told.has_pace.has_deadline;
+    has_deadline = subst (λ n. IfSome f.pace (λ p. p.deadline ≡ n)) (deadline_is (inside d) lacks) told.has_pace.has_deadline;
     has_jitter = told.has_pace.has_jitter;
   };
   has_pause = told.has_pause;
@@ -235,14 +241,14 @@ second_flow groups units d f lacks told = record {
 }
 
 pub third_flow : (groups units : List (List ℕ)) (d : Data) (f : FlowPlan) → IsSecondFlow (inside d)
-    → IsFlowOf false false groups units d f → IsFlowOf true false groups units d f
+    → IsFlowOf Second groups units d f → IsFlowOf Third groups units d f
 third_flow groups units d f lacks told = record {
   has_group = told.has_group;
   has_sender = told.has_sender;
   has_receivers = told.has_receivers;
   has_pace = record {
     has_period = told.has_pace.has_period ∙ sym (period_is (inside d) lacks);
-    has_deadline = told.has_pace.has_deadline;
+    has_deadline = subst (λ n. IfSome f.pace (λ p. p.deadline ≡ n)) (sym (deadline_is (inside d) lacks)) told.has_pace.has_deadline;
     has_jitter = told.has_pace.has_jitter;
   };
   has_pause = told.has_pause;

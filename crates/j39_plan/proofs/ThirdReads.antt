@@ -1,18 +1,27 @@
 -- A plan of version 3 in which nothing stands that the second doesn't know is read as one of version 2.
-use Rattle.std.proofs.Common.{◌≡◌, ℕ, true, false, arith, List, [], ◌∷◌, None, refl, sym, ap, ◌∙◌}
-use Rattle.toml.specs.Data.{Members, get_member}
-use Rattle.j39_findings.specs.declared.plan.Plan.{Plan}
+use Rattle.std.proofs.Common.{◌≡◌, ℕ, true, false, arith, suc, List, [], ◌∷◌, ◌++◌, Option, None, Some, refl, sym, ap, ◌∙◌}
+use Rattle.toml.specs.Data.{Data, Items, no_items, item, Members, get_member}
+use Rattle.j39_network.specs.declared.plan.Plan.{Plan}
+use Rattle.j39_network.specs.declared.plan.timing.Timing.{Timing}
+use Rattle.j39_network.specs.declared.plan.unit_plan.UnitPlan.{UnitPlan}
+use Rattle.j39_plan.specs.declared.reading.version.Version.TheVariants.{Second, Third}
+use Rattle.j39_plan.specs.declared.reading.fault.Fault.{Fault}
 use Rattle.j39_plan.specs.declared.reading.key.Key.{Key}
 use Rattle.j39_plan.specs.declared.reading.key.Key.TheVariants as key
 use Rattle.j39_plan.specs.declared.reading.place.Table.TheVariants as at
 use Rattle.j39_plan.specs.Words.{word_of}
 use Rattle.j39_plan.specs.Outcome.{first}
 use Rattle.j39_plan.specs.Schema.{number_of, table_of, tables_of}
-use Rattle.j39_plan.specs.TableFaults.{key_faults, keys_faults, is_key_word, has_only}
-use Rattle.j39_plan.specs.Elements.{each_faults, label_in}
+use Rattle.j39_plan.specs.TableFaults.{key_faults, is_key_word, has_only}
+use Rattle.j39_plan.specs.Since.{known_faults}
+use Rattle.j39_plan.specs.Elements.{each_faults, inside, label_in}
+use Rattle.j39_plan.specs.UnitTables.{IsUnitOf, name_faults, name_fields_of, name_of, unit_faults, unit_label_in, unit_table_faults}
+use Rattle.j39_plan.specs.TimingTables.{TellsTiming}
+use Rattle.j39_plan.specs.declared.reading.version.Version.{Version}
+use Rattle.j39_plan.proofs.NoFaults.{Each-weaken}
 use Rattle.j39_plan.specs.GroupTables.{IsGroupOf, group_faults}
 use Rattle.j39_plan.specs.FlowTables.{IsFlowOf, flow_faults}
-use Rattle.j39_plan.specs.PlanFaults.{version_rule, keep_free_rule, strangers_of, strangers_faults, live_of, live_faults, timing_rule, units_rule, groups_rule, flows_rule, knows_fourth, head_faults, timing_faults, array_rules, top_faults, unit_labels, group_labels, units_faults, groups_faults, flows_faults, needs_faults, requests_faults, no_label, faults}
+use Rattle.j39_plan.specs.PlanFaults.{version_rule, keep_free_rule, strangers_of, strangers_faults, live_of, live_faults, timing_rule, units_rule, groups_rule, flows_rule, version_of, head_faults, timing_faults, array_rules, top_faults, unit_labels, group_labels, units_faults, groups_faults, flows_faults, needs_faults, requests_faults, no_label, faults}
 use Rattle.j39_plan.specs.Described.{keep_free_of, TellsPlan}
 use Rattle.j39_plan.specs.Versions.{with_version, Lacks, IsSecondGroup, IsSecondFlow, IsSecondPlan, ReadAlike}
 use Rattle.j39_plan.proofs.Absent.{lacked, IsNone, only_same, Alike, alike_both, alike_unknown, alike_each, told_alike}
@@ -56,7 +65,7 @@ head_alike s b =
     let t = with_version 2 s in
     let k = knows_3 s b.is in
     let o = knows_2 t b.other in
-    rw (k.of_head, k.of_third, k.of_fourth, o.of_head, o.of_third, o.of_fourth)
+    rw (k, o)
     (alike_both _ _ _ _ (alike_unknown at.Top _ _ s t (known_alike 2 s b.older.keys))
     (rw (
       version_unfaulted 3 s (omega arith) (omega arith) b.is,
@@ -65,16 +74,16 @@ head_alike s b =
     ) refl))
 
 strangers_alike : (s : Members) → Beside s → Alike (strangers_faults s) (strangers_faults (with_version 2 s))
-strangers_alike s b = rw ((knows_3 s b.is).of_fourth, (knows_2 (with_version 2 s) b.other).of_fourth) refl
+strangers_alike s b = rw (knows_3 s b.is, knows_2 (with_version 2 s) b.other) refl
 
-as_many : (s : Members) → Beside s → strangers_of (knows_fourth (with_version 2 s)) (with_version 2 s) ≡ strangers_of (knows_fourth s) s
-as_many s b = rw ((knows_3 s b.is).of_fourth, (knows_2 (with_version 2 s) b.other).of_fourth) refl
+as_many : (s : Members) → Beside s → strangers_of (version_of (with_version 2 s)) (with_version 2 s) ≡ strangers_of (version_of s) s
+as_many s b = rw (knows_3 s b.is, knows_2 (with_version 2 s) b.other) refl
 
 live_alike : (s : Members) → Beside s → Alike (live_faults s) (live_faults (with_version 2 s))
-live_alike s b = rw ((knows_3 s b.is).of_fourth, (knows_2 (with_version 2 s) b.other).of_fourth) refl
+live_alike s b = rw (knows_3 s b.is, knows_2 (with_version 2 s) b.other) refl
 
-as_live : (s : Members) → Beside s → live_of (knows_fourth (with_version 2 s)) (with_version 2 s) ≡ live_of (knows_fourth s) s
-as_live s b = rw ((knows_3 s b.is).of_fourth, (knows_2 (with_version 2 s) b.other).of_fourth) refl
+as_live : (s : Members) → Beside s → live_of (version_of (with_version 2 s)) (with_version 2 s) ≡ live_of (version_of s) s
+as_live s b = rw (knows_3 s b.is, knows_2 (with_version 2 s) b.other) refl
 
 no_bus : (s : Members) → Lacks (key.Timing ∷ []) s → get_member (word_of key.Timing) s ≡ None
 no_bus s lacks = lacked key.Timing s (lacks 0 key.Timing (omega arith))
@@ -90,14 +99,14 @@ no_bus_table s none = rw none
 timing_part_alike : (s : Members) → Beside s → Alike (timing_faults s) (timing_faults (with_version 2 s))
 timing_part_alike s b =
     let none = no_bus s b.older.keys in
-    rw ((knows_3 s b.is).of_third, (knows_2 (with_version 2 s) b.other).of_third, bus_unfaulted s none, no_bus_table s none) refl
+    rw (knows_3 s b.is, knows_2 (with_version 2 s) b.other, bus_unfaulted s none, no_bus_table s none) refl
 
 arrays_alike : (s : Members) → Beside s
-    → Alike (keys_faults at.Top s (array_rules (knows_fourth s))) (keys_faults at.Top (with_version 2 s) (array_rules (knows_fourth (with_version 2 s))))
+    → Alike (known_faults at.Top (version_of s) s array_rules) (known_faults at.Top (version_of (with_version 2 s)) (with_version 2 s) array_rules)
 arrays_alike s b =
     rw (
-      (knows_3 s b.is).of_fourth,
-      (knows_2 (with_version 2 s) b.other).of_fourth,
+      knows_3 s b.is,
+      knows_2 (with_version 2 s) b.other,
       key_faults_other 2 at.Top units_rule s refl,
       key_faults_other 2 at.Top groups_rule s refl,
       key_faults_other 2 at.Top flows_rule s refl,
@@ -105,33 +114,44 @@ arrays_alike s b =
 
 -- ---- the arrays
 
+same_each : (f g : ℕ → List (List ℕ) → Data → List Fault) → ((i : ℕ) (seen : List (List ℕ)) (d : Data) → f i seen d ≡ g i seen d)
+    → (label : Data → List ℕ) (i : ℕ) (seen : List (List ℕ)) (ds : Items) → each_faults f label i seen ds ≡ each_faults g label i seen ds
+unfolding each_faults
+same_each f g same label i seen no_items = refl
+same_each f g same label i seen (item d ds) = rw (same i seen d, same_each f g same label (suc i) (seen ++ label d ∷ []) ds) refl
+
+unit_alike : (i : ℕ) (seen : List (List ℕ)) (d : Data) → unit_faults Second i seen d ≡ unit_faults Third i seen d
+unfolding unit_faults unit_table_faults name_faults name_fields_of
+unit_alike i seen d = refl
+
 units_alike : (s : Members) → Beside s → units_faults (with_version 2 s) ≡ units_faults s
 units_alike s b =
-    rw ((knows_3 s b.is).of_fourth, (knows_2 (with_version 2 s) b.other).of_fourth, tables_other 2 units_rule s refl)
+    rw (knows_3 s b.is, knows_2 (with_version 2 s) b.other, tables_other 2 units_rule s refl)
+    (same_each (unit_faults Second) (unit_faults Third) unit_alike unit_label_in 0 [] (tables_of units_rule s))
 
 groups_alike : (s : Members) → Beside s → Alike (groups_faults s) (groups_faults (with_version 2 s))
 groups_alike s b =
     let k = knows_3 s b.is in
     let o = knows_2 (with_version 2 s) b.other in
-    rw (k.of_third, k.of_fourth, o.of_third, o.of_fourth, tables_other 2 groups_rule s refl)
-    (alike_each IsSecondGroup (group_faults true false) (group_faults false false) group_alike label_in 0 [] (tables_of groups_rule s) b.older.groups)
+    rw (k, o, tables_other 2 groups_rule s refl)
+    (alike_each IsSecondGroup (group_faults Third) (group_faults Second) group_alike label_in 0 [] (tables_of groups_rule s) b.older.groups)
 
 flows_alike : (s : Members) → Beside s → Alike (flows_faults s) (flows_faults (with_version 2 s))
 flows_alike s b =
     let k = knows_3 s b.is in
     let o = knows_2 (with_version 2 s) b.other in
-    rw (k.of_third, k.of_fourth, o.of_third, o.of_fourth, tables_other 2 units_rule s refl, tables_other 2 groups_rule s refl, tables_other 2 flows_rule s refl)
-    (alike_each IsSecondFlow (λ i seen. flow_faults true false (group_labels s) (unit_labels s) i)
-    (λ i seen. flow_faults false false (group_labels s) (unit_labels s) i) (λ i seen d. flow_alike (group_labels s) (unit_labels s) i d)
+    rw (k, o, tables_other 2 units_rule s refl, tables_other 2 groups_rule s refl, tables_other 2 flows_rule s refl)
+    (alike_each IsSecondFlow (λ i seen. flow_faults Third (group_labels s) (unit_labels s) i)
+    (λ i seen. flow_faults Second (group_labels s) (unit_labels s) i) (λ i seen d. flow_alike (group_labels s) (unit_labels s) i d)
     no_label 0 [] (tables_of flows_rule s) b.older.flows)
 
 needs_alike : (s : Members) → Beside s → Alike (needs_faults s) (needs_faults (with_version 2 s))
 unfolding each_faults
-needs_alike s b = rw ((knows_3 s b.is).of_fourth, (knows_2 (with_version 2 s) b.other).of_fourth) refl
+needs_alike s b = rw (knows_3 s b.is, knows_2 (with_version 2 s) b.other) refl
 
 requests_alike : (s : Members) → Beside s → Alike (requests_faults s) (requests_faults (with_version 2 s))
 unfolding each_faults
-requests_alike s b = rw ((knows_3 s b.is).of_fourth, (knows_2 (with_version 2 s) b.other).of_fourth) refl
+requests_alike s b = rw (knows_3 s b.is, knows_2 (with_version 2 s) b.other) refl
 
 faults_alike : (s : Members) → Beside s → Alike (faults s) (faults (with_version 2 s))
 faults_alike s b =
@@ -148,7 +168,39 @@ faults_alike s b =
 -- ---- what is told
 
 kept_alike : (s : Members) → Beside s → keep_free_of (with_version 2 s) ≡ keep_free_of s
-kept_alike s b = rw ((knows_3 s b.is).of_head, (knows_2 (with_version 2 s) b.other).of_head, addresses_other 2 keep_free_rule s refl)
+kept_alike s b = rw (knows_3 s b.is, knows_2 (with_version 2 s) b.other, addresses_other 2 keep_free_rule s refl)
+
+same_name : (ms : Members) → name_of Third ms ≡ name_of Second ms
+unfolding name_fields_of
+same_name ms = refl
+
+second_unit : (d : Data) (u : UnitPlan) → IsUnitOf Third d u → IsUnitOf Second d u
+second_unit d u told = record {
+  has_label = told.has_label;
+  has_address = told.has_address;
+  has_way = told.has_way;
+  has_window = told.has_window;
+  has_name = told.has_name ∙ same_name (inside d);
+  has_number = told.has_number;
+  has_queue = told.has_queue;
+  has_claims = told.has_claims;
+}
+
+third_unit : (d : Data) (u : UnitPlan) → IsUnitOf Second d u → IsUnitOf Third d u
+third_unit d u told = record {
+  has_label = told.has_label;
+  has_address = told.has_address;
+  has_way = told.has_way;
+  has_window = told.has_window;
+  has_name = told.has_name ∙ sym (same_name (inside d));
+  has_number = told.has_number;
+  has_queue = told.has_queue;
+  has_claims = told.has_claims;
+}
+
+no_bus_told : (one other : Version) (t : Option Timing) → TellsTiming one None t → TellsTiming other None t
+no_bus_told one other None told = tt
+no_bus_told one other (Some t) told = absurd told
 
 second_plan : (s : Members) (p : Plan) → Beside s → TellsPlan s p → TellsPlan (with_version 2 s) p
 second_plan s p b told =
@@ -158,16 +210,17 @@ second_plan s p b told =
       has_keep_free = told.has_keep_free ∙ sym (kept_alike s b);
       has_strangers = told.has_strangers ∙ sym (as_many s b);
       has_live = told.has_live ∙ sym (as_live s b);
-      has_timing = rw o.of_third (rw (k.of_third, k.of_fourth, no_bus_table s (no_bus s b.older.keys)) at told.has_timing);
-      has_units = rw (o.of_fourth, tables_other 2 units_rule s refl) (rw k.of_fourth at told.has_units);
-      has_groups = rw (o.of_third, o.of_fourth, tables_other 2 groups_rule s refl)
-          (told_alike IsSecondGroup (IsGroupOf true false) (IsGroupOf false false) second_group (tables_of groups_rule s) p.groups.items b.older.groups
-          (rw (k.of_third, k.of_fourth) at told.has_groups));
-      has_flows = rw (o.of_third, o.of_fourth, tables_other 2 units_rule s refl, tables_other 2 groups_rule s refl, tables_other 2 flows_rule s refl)
-          (told_alike IsSecondFlow (IsFlowOf true false (group_labels s) (unit_labels s)) (IsFlowOf false false (group_labels s) (unit_labels s))
-          (second_flow (group_labels s) (unit_labels s)) (tables_of flows_rule s) p.flows.items b.older.flows (rw (k.of_third, k.of_fourth) at told.has_flows));
-      has_needs = rw o.of_fourth (each_nothing _ _ p.needs.items (rw k.of_fourth at told.has_needs));
-      has_requests = rw o.of_fourth (each_nothing _ _ p.requests.items (rw k.of_fourth at told.has_requests));
+      has_timing = rw o (no_bus_told Third Second p.timing (rw (k, no_bus_table s (no_bus s b.older.keys)) at told.has_timing));
+      has_units = rw (o, tables_other 2 units_rule s refl)
+          (Each-weaken (IsUnitOf Third) (IsUnitOf Second) second_unit (tables_of units_rule s) p.units.items (rw k at told.has_units));
+      has_groups = rw (o, tables_other 2 groups_rule s refl)
+          (told_alike IsSecondGroup (IsGroupOf Third) (IsGroupOf Second) second_group (tables_of groups_rule s) p.groups.items b.older.groups
+          (rw k at told.has_groups));
+      has_flows = rw (o, tables_other 2 units_rule s refl, tables_other 2 groups_rule s refl, tables_other 2 flows_rule s refl)
+          (told_alike IsSecondFlow (IsFlowOf Third (group_labels s) (unit_labels s)) (IsFlowOf Second (group_labels s) (unit_labels s))
+          (second_flow (group_labels s) (unit_labels s)) (tables_of flows_rule s) p.flows.items b.older.flows (rw k at told.has_flows));
+      has_needs = rw o (each_nothing _ _ p.needs.items (rw k at told.has_needs));
+      has_requests = rw o (each_nothing _ _ p.requests.items (rw k at told.has_requests));
     }
 
 third_plan : (s : Members) (p : Plan) → Beside s → TellsPlan (with_version 2 s) p → TellsPlan s p
@@ -178,17 +231,18 @@ third_plan s p b told =
       has_keep_free = told.has_keep_free ∙ kept_alike s b;
       has_strangers = told.has_strangers ∙ as_many s b;
       has_live = told.has_live ∙ as_live s b;
-      has_timing = rw (k.of_third, k.of_fourth, no_bus_table s (no_bus s b.older.keys)) (rw o.of_third at told.has_timing);
-      has_units = rw k.of_fourth (rw (o.of_fourth, tables_other 2 units_rule s refl) at told.has_units);
-      has_groups = rw (k.of_third, k.of_fourth)
-          (told_alike IsSecondGroup (IsGroupOf false false) (IsGroupOf true false) third_group (tables_of groups_rule s) p.groups.items b.older.groups
-          (rw (o.of_third, o.of_fourth, tables_other 2 groups_rule s refl) at told.has_groups));
-      has_flows = rw (k.of_third, k.of_fourth)
-          (told_alike IsSecondFlow (IsFlowOf false false (group_labels s) (unit_labels s)) (IsFlowOf true false (group_labels s) (unit_labels s))
+      has_timing = rw (k, no_bus_table s (no_bus s b.older.keys)) (no_bus_told Second Third p.timing (rw o at told.has_timing));
+      has_units = rw k (Each-weaken (IsUnitOf Second) (IsUnitOf Third) third_unit (tables_of units_rule s) p.units.items
+          (rw (o, tables_other 2 units_rule s refl) at told.has_units));
+      has_groups = rw k
+          (told_alike IsSecondGroup (IsGroupOf Second) (IsGroupOf Third) third_group (tables_of groups_rule s) p.groups.items b.older.groups
+          (rw (o, tables_other 2 groups_rule s refl) at told.has_groups));
+      has_flows = rw k
+          (told_alike IsSecondFlow (IsFlowOf Second (group_labels s) (unit_labels s)) (IsFlowOf Third (group_labels s) (unit_labels s))
           (third_flow (group_labels s) (unit_labels s)) (tables_of flows_rule s) p.flows.items b.older.flows
-          (rw (o.of_third, o.of_fourth, tables_other 2 units_rule s refl, tables_other 2 groups_rule s refl, tables_other 2 flows_rule s refl) at told.has_flows));
-      has_needs = rw k.of_fourth (each_nothing _ _ p.needs.items (rw o.of_fourth at told.has_needs));
-      has_requests = rw k.of_fourth (each_nothing _ _ p.requests.items (rw o.of_fourth at told.has_requests));
+          (rw (o, tables_other 2 units_rule s refl, tables_other 2 groups_rule s refl, tables_other 2 flows_rule s refl) at told.has_flows));
+      has_needs = rw k (each_nothing _ _ p.needs.items (rw o at told.has_needs));
+      has_requests = rw k (each_nothing _ _ p.requests.items (rw o at told.has_requests));
     }
 
 pub third_reads : (s : Members) → number_of version_rule s ≡ 3 → IsSecondPlan s → ReadAlike s (with_version 2 s)

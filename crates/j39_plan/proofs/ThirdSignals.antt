@@ -5,6 +5,7 @@ use Rattle.std.specs.Str.{bytes_eq}
 use Rattle.toml.specs.Data.{Data, string, integer, float, boolean, datetime, array, table, Members, get_member, as_str, as_table}
 use Rattle.j39_signal.specs.declared.kind.Kind.TheVariants.{Measured, Discrete, Raw, States, Signed, Dtc}
 use Rattle.j39_signal.specs.Parts.{SignalParts}
+use Rattle.j39_plan.specs.declared.reading.version.Version.TheVariants.{Second, Third}
 use Rattle.j39_plan.specs.declared.reading.key.Key.{Key}
 use Rattle.j39_plan.specs.declared.reading.key.Key.TheVariants as key
 use Rattle.j39_plan.specs.declared.reading.place.Table.{Table}
@@ -13,7 +14,8 @@ use Rattle.j39_plan.specs.declared.reading.text_kind.TextKind.TheVariants as tex
 use Rattle.j39_plan.specs.TextKinds.{is_first_kind}
 use Rattle.j39_plan.specs.Words.{word_of}
 use Rattle.j39_plan.specs.Schema.{text_of_kind, standing, number_of, flag_of, text_of}
-use Rattle.j39_plan.specs.TableFaults.{standing_cause, key_faults, table_faults, table_only_faults, is_key_word}
+use Rattle.j39_plan.specs.TableFaults.{standing_cause, key_faults, table_only_faults, is_key_word}
+use Rattle.j39_plan.specs.Since.{versioned_faults}
 use Rattle.j39_plan.specs.Elements.{inside, label_in, repeated_faults}
 use Rattle.j39_plan.specs.SignalTables.{kind_of, is_dtc, kind_rule, is_code, per_rule, per_of, repeated_rule, repeated_of, signal_rules, signal_table_faults, signal_faults, IsSignalOf}
 use Rattle.j39_plan.specs.Versions.{is_later_kind, IsSecondSignal}
@@ -34,14 +36,14 @@ plain_kind false false false true dtc none = refl
 plain_kind false false false false true none = cc
 plain_kind false false false false false none = refl
 
-no_code : (ms : Members) → IsSecondSignal ms → is_code true ms ≡ false
+no_code : (ms : Members) → IsSecondSignal ms → is_code Third ms ≡ false
 unfolding is_code
 no_code ms second =
-    let t : List ℕ = text_of (kind_rule true) ms in
+    let t : List ℕ = text_of (kind_rule Third) ms in
     plain_kind (bytes_eq t (codes "measured")) (bytes_eq t (codes "discrete")) (bytes_eq t (codes "states")) (bytes_eq t (codes "signed"))
     (bytes_eq t (codes "dtc")) second.kind
 
-older_code : (ms : Members) → is_code false ms ≡ false
+older_code : (ms : Members) → is_code Second ms ≡ false
 unfolding is_code
 older_code ms = refl
 
@@ -60,9 +62,9 @@ kind_cause (Some (datetime x)) none = refl
 kind_cause (Some (array ds)) none = refl
 kind_cause (Some (table ms)) none = refl
 
-kind_faults : (at : Table) (ms : Members) → IsSecondSignal ms → key_faults at ms (kind_rule true) ≡ key_faults at ms (kind_rule false)
+kind_faults : (at : Table) (ms : Members) → IsSecondSignal ms → key_faults at ms (kind_rule Third) ≡ key_faults at ms (kind_rule Second)
 unfolding key_faults text_of
-kind_faults at ms second = rw (kind_cause (standing (kind_rule true) ms) second.kind)
+kind_faults at ms second = rw (kind_cause (standing (kind_rule Third) ms) second.kind)
 
 per_unfaulted : (at : Table) (ms : Members) → IsSecondSignal ms → key_faults at ms (per_rule false) ≡ []
 unfolding key_faults
@@ -85,35 +87,35 @@ signal_words : (l : List ℕ) → IsNone (key.Per ∷ key.Repeated ∷ []) l
 signal_words l none = rw (none 0 key.Per (omega arith), none 1 key.Repeated (omega arith))
 
 signal_keys_alike : (at : Table) (ms : Members) → IsSecondSignal ms
-    → Alike (table_faults at (signal_rules true false false ms) ms) (table_faults at (signal_rules false false false ms) ms)
+    → Alike (versioned_faults at Third (signal_rules Third false ms) ms) (versioned_faults at Second (signal_rules Second false ms) ms)
 signal_keys_alike at ms second =
     rw (no_code ms second, older_code ms)
     (alike_both _ _ _ _ (alike_unknown at _ _ ms ms (only_same third_keys second_keys (key.Per ∷ key.Repeated ∷ []) signal_words ms second.keys))
     (rw (kind_faults at ms second, per_unfaulted at ms second, repeated_unfaulted at ms second) refl))
 
 pub signal_alike : (g i : ℕ) (seen : List (List ℕ)) (d : Data) → IsSecondSignal (inside d)
-    → Alike (signal_faults true false false g i seen d) (signal_faults false false false g i seen d)
+    → Alike (signal_faults Third false g i seen d) (signal_faults Second false g i seen d)
 unfolding signal_faults signal_table_faults
 signal_alike g i seen d second =
-    let third = signal_table_faults true false false (at.Signal g i) in
-    let older = signal_table_faults false false false (at.Signal g i) in
+    let third = signal_table_faults Third false (at.Signal g i) in
+    let older = signal_table_faults Second false (at.Signal g i) in
     alike_between (table_only_faults (at.Signal g i) d) (option_map_or third (as_table d) []) (option_map_or older (as_table d) [])
     (repeated_faults (at.Signal g i) texts.Label seen (label_in d))
     (alike_inside third older d (signal_keys_alike (at.Signal g i) (inside d) second))
 
-kind_told : (ms : Members) → text_of (kind_rule true) ms ≡ text_of (kind_rule false) ms
+kind_told : (ms : Members) → text_of (kind_rule Third) ms ≡ text_of (kind_rule Second) ms
 unfolding text_of
 kind_told ms = refl
 
-per_is : (ms : Members) → IsSecondSignal ms → per_of true ms ≡ 1
+per_is : (ms : Members) → IsSecondSignal ms → per_of Third ms ≡ 1
 unfolding number_of
 per_is ms second = rw (no_per ms second)
 
-repeated_is : (ms : Members) → IsSecondSignal ms → repeated_of true ms ≡ false
+repeated_is : (ms : Members) → IsSecondSignal ms → repeated_of Third ms ≡ false
 unfolding flag_of
 repeated_is ms second = rw (no_repeated ms second)
 
-pub second_signal : (d : Data) (s : SignalParts) → IsSecondSignal (inside d) → IsSignalOf true false d s → IsSignalOf false false d s
+pub second_signal : (d : Data) (s : SignalParts) → IsSecondSignal (inside d) → IsSignalOf Third d s → IsSignalOf Second d s
 second_signal d s second told = record {
   has_label = told.has_label;
   has_start = told.has_start;
@@ -127,7 +129,7 @@ second_signal d s second told = record {
   has_optional = told.has_optional;
 }
 
-pub third_signal : (d : Data) (s : SignalParts) → IsSecondSignal (inside d) → IsSignalOf false false d s → IsSignalOf true false d s
+pub third_signal : (d : Data) (s : SignalParts) → IsSecondSignal (inside d) → IsSignalOf Second d s → IsSignalOf Third d s
 third_signal d s second told = record {
   has_label = told.has_label;
   has_start = told.has_start;

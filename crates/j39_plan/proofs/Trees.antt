@@ -11,12 +11,12 @@ use Rattle.toml.specs.Tables.{no_nodes}
 use Rattle.toml.specs.Parse.{parse_document, lines, skip_bom}
 use Rattle.j39_plan.specs.declared.reading.plan_error.PlanError.{PlanError}
 use Rattle.j39_plan.specs.declared.reading.plan_error.PlanError.TheVariants as errors
-use Rattle.j39_findings.specs.declared.plan.Plan.{Plan}
+use Rattle.j39_network.specs.declared.plan.Plan.{Plan}
 use Rattle.j39_plan.specs.Outcome.{GivesGrowing, FailsGrowing}
 use Rattle.j39_plan.specs.Growing.{PlanGrows}
 use Rattle.j39_plan.specs.Schema.{number_of}
 use Rattle.j39_plan.specs.TableFaults.{unknown_faults, key_faults}
-use Rattle.j39_plan.specs.PlanFaults.{faults, top_faults, may_keep}
+use Rattle.j39_plan.specs.PlanFaults.{faults, top_faults, version_of}
 use Rattle.j39_plan.specs.Described.{TellsPlan, tree_of, Reads, MayAskForRoom}
 
 pub reads_tree : (r : Result Plan PlanError) (t : Members) (tree : Option Members) → tree ≡ Some t → GivesGrowing (PlanGrows t) r (faults t) (TellsPlan t)
@@ -48,7 +48,7 @@ blank_document text blank = rw (blank_lines (length text) text blank)
 
 -- in which the version is missing
 empty_faults : top_faults no_members ≢ []
-unfolding unknown_faults key_faults may_keep number_of
+unfolding unknown_faults key_faults version_of number_of
 empty_faults none = cc
 
 never_blank : (text : List ℕ) (t : Members) → parse_document text ≡ Some t → PlanGrows t → ¬ IsBlank text

@@ -6,35 +6,41 @@ use Rattle.std.specs.Str.{is_utf8}
 use Rattle.toml.specs.Data.{Members}
 use Rattle.toml.specs.Errors.{IsBlank}
 use Rattle.toml.specs.Parse.{parse_document}
-use Rattle.j39_findings.specs.declared.plan.Plan.{Plan}
+use Rattle.j39_network.specs.declared.plan.Plan.{Plan}
 use Rattle.j39_plan.specs.declared.reading.plan_error.PlanError.{PlanError}
 use Rattle.j39_plan.specs.declared.reading.plan_error.PlanError.TheVariants as errors
 use Rattle.j39_plan.specs.Schema.{addresses_of, tables_of}
 use Rattle.j39_plan.specs.Elements.{Each}
 use Rattle.j39_plan.specs.Outcome.{first}
+use Rattle.j39_plan.specs.Since.{is_known}
+use Rattle.j39_plan.specs.declared.reading.version.Version.{Version}
+use Rattle.j39_plan.specs.declared.reading.version.Version.TheVariants.{Second}
 use Rattle.j39_plan.specs.UnitTables.{IsUnitOf}
 use Rattle.j39_plan.specs.GroupTables.{IsGroupOf}
 use Rattle.j39_plan.specs.FlowTables.{IsFlowOf}
 use Rattle.j39_plan.specs.NeedTables.{IsNeedOf}
 use Rattle.j39_plan.specs.RequestTables.{IsRequestOf}
 use Rattle.j39_plan.specs.TimingTables.{TellsTiming}
-use Rattle.j39_plan.specs.PlanFaults.{faults, may_keep, knows_third, knows_fourth, keep_free_rule, timing_table, units_rule, groups_rule, flows_rule}
+use Rattle.j39_plan.specs.PlanFaults.{faults, version_of, keep_free_rule, timing_table, units_rule, groups_rule, flows_rule}
 use Rattle.j39_plan.specs.PlanFaults.{strangers_of, live_of, need_tables, request_tables, unit_labels, group_labels, group_signals}
 
--- the addresses that a tree keeps free: none, where its version keeps none
+-- the addresses that a tree keeps free: none in a version that keeps none
+abbrev pub kept_of : Version → Members → FinSet nat_cmp
+kept_of version tree = if is_known Second version then addresses_of keep_free_rule tree else empty
+
 abbrev pub keep_free_of : Members → FinSet nat_cmp
-keep_free_of tree = if may_keep tree then addresses_of keep_free_rule tree else empty
+keep_free_of tree = kept_of (version_of tree) tree
 
 -- what the plan keeps free, how many strangers it tells of, whether its bus is live, what it knows of the bus, its units, groups, flows, needs and
 -- requests are those of the tree
 pub record TellsPlan (tree : Members) (p : Plan) : Type 0 where
   pub has_keep_free : p.keep_free ≡ keep_free_of tree
-  pub has_strangers : p.strangers ≡ strangers_of (knows_fourth tree) tree
-  pub has_live : p.live ≡ live_of (knows_fourth tree) tree
-  pub has_timing : TellsTiming (knows_fourth tree) (timing_table tree) p.timing
-  pub has_units : Each (IsUnitOf (knows_fourth tree)) (tables_of units_rule tree) p.units.items
-  pub has_groups : Each (IsGroupOf (knows_third tree) (knows_fourth tree)) (tables_of groups_rule tree) p.groups.items
-  pub has_flows : Each (IsFlowOf (knows_third tree) (knows_fourth tree) (group_labels tree) (unit_labels tree)) (tables_of flows_rule tree) p.flows.items
+  pub has_strangers : p.strangers ≡ strangers_of (version_of tree) tree
+  pub has_live : p.live ≡ live_of (version_of tree) tree
+  pub has_timing : TellsTiming (version_of tree) (timing_table tree) p.timing
+  pub has_units : Each (IsUnitOf (version_of tree)) (tables_of units_rule tree) p.units.items
+  pub has_groups : Each (IsGroupOf (version_of tree)) (tables_of groups_rule tree) p.groups.items
+  pub has_flows : Each (IsFlowOf (version_of tree) (group_labels tree) (unit_labels tree)) (tables_of flows_rule tree) p.flows.items
   pub has_needs : Each (IsNeedOf (group_labels tree) (group_signals tree) (unit_labels tree)) (need_tables tree) p.needs.items
   pub has_requests : Each (IsRequestOf (group_labels tree) (unit_labels tree)) (request_tables tree) p.requests.items
 

@@ -1,14 +1,14 @@
--- The tables of flows. The third version knows how often a flow is sent, the fourth one also how far behind its moments, for how long it
+-- The tables of flows. Since the third version it is known how often a flow is sent, since the fourth also how far behind its moments, for how long it
 -- is silent, and whether it is sent on request alone.
-use Rattle.std.specs.Prelude.{◌≡◌, ℕ, ◌-◌, List, [], ◌∷◌, ◌++◌, Bool, true, false, ◌&&◌, ◌||◌, if◌then◌else◌, Option}
+use Rattle.std.specs.Prelude.{◌≡◌, ℕ, pos, ◌-◌, List, [], ◌∷◌, ◌++◌, Bool, true, false, ◌&&◌, ◌||◌, if◌then◌else◌, Option}
 use Rattle.std.specs.Prelude.{Some, None, IfSome, option_map, option_and_then, codes, is_some, position}
 use Rattle.std.specs.Str.{bytes_eq}
 use Rattle.std.specs.Option.{option_map_or}
 use Rattle.toml.specs.Data.{Data, Members, as_table}
-use Rattle.j39_findings.specs.declared.plan.to.To.{To}
-use Rattle.j39_findings.specs.declared.plan.to.To.TheVariants.{All, One}
-use Rattle.j39_findings.specs.declared.plan.flow_plan.FlowPlan.{FlowPlan}
-use Rattle.j39_findings.specs.declared.plan.pace.Pace.{Pace}
+use Rattle.j39_network.specs.declared.plan.to.To.{To}
+use Rattle.j39_network.specs.declared.plan.to.To.TheVariants.{All, One}
+use Rattle.j39_network.specs.declared.plan.flow_plan.FlowPlan.{FlowPlan}
+use Rattle.j39_network.specs.declared.plan.pace.Pace.{Pace}
 use Rattle.j39_plan.specs.declared.reading.cause.Cause.TheVariants.{UnknownLabel}
 use Rattle.j39_plan.specs.declared.reading.key.Key.{Key}
 use Rattle.j39_plan.specs.declared.reading.key.Key.TheVariants as key
@@ -16,8 +16,11 @@ use Rattle.j39_plan.specs.declared.reading.place.Table.{Table}
 use Rattle.j39_plan.specs.declared.reading.place.Table.TheVariants as at
 use Rattle.j39_plan.specs.declared.reading.fault.Fault.{Fault}
 use Rattle.j39_plan.specs.declared.reading.text_kind.TextKind.TheVariants as texts
-use Rattle.j39_plan.specs.Schema.{Rule, has_key, text, number, optional, flag, found_text, number_of, given_number, flag_of}
-use Rattle.j39_plan.specs.TableFaults.{table_faults, table_only_faults, fault}
+use Rattle.j39_plan.specs.Schema.{Rule, integer_in, given_integer_in, has_key, text, number, optional, flag, found_text, number_of, given_number, flag_of}
+use Rattle.j39_plan.specs.TableFaults.{table_only_faults, fault}
+use Rattle.j39_plan.specs.Since.{Since, since, is_known, known, rules_of, versioned_faults}
+use Rattle.j39_plan.specs.declared.reading.version.Version.{Version}
+use Rattle.j39_plan.specs.declared.reading.version.Version.TheVariants.{First, Third, Fourth}
 use Rattle.j39_plan.specs.Elements.{inside}
 
 abbrev pub group_rule : Rule
@@ -31,15 +34,18 @@ to_rule = text key.To texts.Any None
 
 -- two messages of the flow are so many milliseconds apart at least
 abbrev pub period_of : Bool → Rule
-period_of true = number key.Period 1 65535 None
-period_of false = optional key.Period 1 65535
+period_of asked = record {
+  key = key.Period;
+  kind = if asked then integer_in (pos 1) (pos 65535) else given_integer_in (pos 1) (pos 65535);
+  default = None;
+}
 
 -- a deadline asks for a period, and so does a jitter in a version that knows it
-abbrev pub asks_for_period : Bool → Members → Bool
-asks_for_period fourth ms = (fourth && has_key key.Jitter ms) || has_key key.Deadline ms
+abbrev pub asks_for_period : Version → Members → Bool
+asks_for_period version ms = (is_known Fourth version && has_key key.Jitter ms) || has_key key.Deadline ms
 
-abbrev pub period_rule : Bool → Members → Rule
-period_rule fourth ms = period_of (asks_for_period fourth ms)
+abbrev pub period_rule : Version → Members → Rule
+period_rule version ms = period_of (asks_for_period version ms)
 
 abbrev pub deadline_rule : Rule
 deadline_rule = optional key.Deadline 1 65535
@@ -64,22 +70,43 @@ pause_rule period = optional key.Pause (pause_least period) 65535
 abbrev pub on_request_rule : Rule
 on_request_rule = flag key.OnRequest false
 
--- behind the deadline, by the period, in the fourth version and in another
-abbrev pub later_pace_rules : Bool → Option ℕ → List Rule
-later_pace_rules true period = jitter_rule period ∷ pause_rule period ∷ on_request_rule ∷ []
-later_pace_rules false period = []
+-- the period: none in a version that doesn't know it
+abbrev pub given_period : Version → Members → Option ℕ
+given_period version ms = if is_known Third version then given_number (period_rule version ms) ms else None
 
-abbrev pub pace_rules : Bool → Bool → Members → List Rule
-pace_rules true fourth ms = period_rule fourth ms ∷ deadline_rule ∷ later_pace_rules fourth (given_number (period_rule fourth ms) ms)
-pace_rules false fourth ms = []
+-- and the deadline
+abbrev pub given_deadline : Version → Members → Option ℕ
+given_deadline version ms = if is_known Third version then given_number deadline_rule ms else None
 
-abbrev pub flow_rules : Bool → Bool → Members → List Rule
-flow_rules third fourth ms = group_rule ∷ from_rule ∷ to_rule ∷ pace_rules third fourth ms
+-- behind the deadline, by the period
+abbrev pub later_pace_rules : Option ℕ → List Since
+later_pace_rules period =
+    since Fourth (jitter_rule period)
+    ∷ since Fourth (pause_rule period)
+    ∷ since Fourth on_request_rule
+    ∷ []
 
--- in the first two versions a flow has these keys, and in the third these
+abbrev pub pace_rules : Version → Members → List Since
+pace_rules version ms =
+    since Third (period_rule version ms)
+    ∷ since Third deadline_rule
+    ∷ later_pace_rules (given_period version ms)
+
+abbrev pub flow_rules : Version → Members → List Since
+flow_rules version ms =
+    since First group_rule
+    ∷ since First from_rule
+    ∷ since First to_rule
+    ∷ pace_rules version ms
+
+-- before the third version a flow has these keys, and in the third these
+abbrev pub SecondFlowRules : Type 0
+SecondFlowRules = (version : Version) (ms : Members) → is_known Third version ≡ false
+    → rules_of (known version (flow_rules version ms)) ≡ group_rule ∷ from_rule ∷ to_rule ∷ []
+
 pub record OlderFlowRules : Type 0 where
-  pub second : (ms : Members) → flow_rules false false ms ≡ group_rule ∷ from_rule ∷ to_rule ∷ []
-  pub third : (ms : Members) → flow_rules true false ms
+  pub second : SecondFlowRules
+  pub third : (ms : Members) → rules_of (known Third (flow_rules Third ms))
       ≡ group_rule ∷ from_rule ∷ to_rule ∷ period_of (has_key key.Deadline ms) ∷ deadline_rule ∷ []
 
 -- the place of a label among others
@@ -90,49 +117,33 @@ place_of labels label = position (λ l. bytes_eq l label) labels
 unfoldable pub receivers : List (List ℕ) → List ℕ → Option To
 receivers units word = if bytes_eq word (codes "all") then Some All else option_map One (place_of units word)
 
--- the period: none in a version that doesn't know it
-abbrev pub given_period : Bool → Bool → Members → Option ℕ
-given_period true fourth ms = given_number (period_rule fourth ms) ms
-given_period false fourth ms = None
-
 -- the jitter and the pause, by the period: none in a version that doesn't know them, where no flow is sent on request alone
-abbrev pub jitter_of : Bool → Option ℕ → Members → ℕ
-jitter_of true period ms = number_of (jitter_rule period) ms
-jitter_of false period ms = 0
+abbrev pub jitter_of : Version → Option ℕ → Members → ℕ
+jitter_of version period ms = if is_known Fourth version then number_of (jitter_rule period) ms else 0
 
-abbrev pub pause_of : Bool → Option ℕ → Members → Option ℕ
-pause_of true period ms = given_number (pause_rule period) ms
-pause_of false period ms = None
+abbrev pub pause_of : Version → Option ℕ → Members → Option ℕ
+pause_of version period ms = if is_known Fourth version then given_number (pause_rule period) ms else None
 
-abbrev pub on_request_of : Bool → Members → Bool
-on_request_of true ms = flag_of on_request_rule ms
-on_request_of false ms = false
-
-abbrev pub given_pause : Bool → Bool → Members → Option ℕ
-given_pause true fourth ms = pause_of fourth (given_number (period_rule fourth ms) ms) ms
-given_pause false fourth ms = None
-
-abbrev pub given_on_request : Bool → Bool → Members → Bool
-given_on_request true fourth ms = on_request_of fourth ms
-given_on_request false fourth ms = false
+abbrev pub on_request_of : Version → Members → Bool
+on_request_of version ms = if is_known Fourth version then flag_of on_request_rule ms else false
 
 -- how often a flow is sent, where its table tells it
-pub record TellsPace (third fourth : Bool) (ms : Members) (pace : Option Pace) : Type 0 where
-  pub has_period : option_map (λ p. p.period) pace ≡ given_period third fourth ms
-  pub has_deadline : IfSome pace (λ p. p.deadline ≡ given_number deadline_rule ms)
-  pub has_jitter : IfSome pace (λ p. p.jitter ≡ jitter_of fourth (given_period third fourth ms) ms)
+pub record TellsPace (version : Version) (ms : Members) (pace : Option Pace) : Type 0 where
+  pub has_period : option_map (λ p. p.period) pace ≡ given_period version ms
+  pub has_deadline : IfSome pace (λ p. p.deadline ≡ given_deadline version ms)
+  pub has_jitter : IfSome pace (λ p. p.jitter ≡ jitter_of version (given_period version ms) ms)
 
 -- the flow that a table tells, by the labels of the groups and of the units
-pub record TellsFlow (third fourth : Bool) (groups units : List (List ℕ)) (ms : Members) (f : FlowPlan) : Type 0 where
+pub record TellsFlow (version : Version) (groups units : List (List ℕ)) (ms : Members) (f : FlowPlan) : Type 0 where
   pub has_group : option_and_then (place_of groups) (found_text group_rule ms) ≡ Some f.group
   pub has_sender : option_and_then (place_of units) (found_text from_rule ms) ≡ Some f.sender
   pub has_receivers : option_and_then (receivers units) (found_text to_rule ms) ≡ Some f.to
-  pub has_pace : TellsPace third fourth ms f.pace
-  pub has_pause : f.pause ≡ given_pause third fourth ms
-  pub has_on_request : f.on_request ≡ given_on_request third fourth ms
+  pub has_pace : TellsPace version ms f.pace
+  pub has_pause : f.pause ≡ pause_of version (given_period version ms) ms
+  pub has_on_request : f.on_request ≡ on_request_of version ms
 
-abbrev pub IsFlowOf : Bool → Bool → List (List ℕ) → List (List ℕ) → Data → FlowPlan → Type 0
-IsFlowOf third fourth groups units d f = TellsFlow third fourth groups units (inside d) f
+abbrev pub IsFlowOf : Version → List (List ℕ) → List (List ℕ) → Data → FlowPlan → Type 0
+IsFlowOf version groups units d f = TellsFlow version groups units (inside d) f
 
 -- a text that names nothing
 abbrev pub unknown_label : {X : Type 0} → Table → Key → Option X → List Fault
@@ -146,13 +157,13 @@ unfoldable pub receiver_faults : Table → List (List ℕ) → Option (List ℕ)
 receiver_faults at units None = []
 receiver_faults at units (Some t) = unknown_label at key.To (receivers units t)
 
-unfoldable pub flow_table_faults : Bool → Bool → List (List ℕ) → List (List ℕ) → ℕ → Members → List Fault
-flow_table_faults third fourth groups units i ms = table_faults (at.Flow i) (flow_rules third fourth ms) ms
+unfoldable pub flow_table_faults : Version → List (List ℕ) → List (List ℕ) → ℕ → Members → List Fault
+flow_table_faults version groups units i ms = versioned_faults (at.Flow i) version (flow_rules version ms) ms
     ++ (place_faults (at.Flow i) key.Group groups (found_text group_rule ms)
     ++ (place_faults (at.Flow i) key.From units (found_text from_rule ms)
     ++ receiver_faults (at.Flow i) units (found_text to_rule ms)))
 
 -- the faults of the i-th flow, by the labels of the groups and of the units
-unfoldable pub flow_faults : Bool → Bool → List (List ℕ) → List (List ℕ) → ℕ → Data → List Fault
-flow_faults third fourth groups units i d =
-    table_only_faults (at.Flow i) d ++ option_map_or (flow_table_faults third fourth groups units i) (as_table d) []
+unfoldable pub flow_faults : Version → List (List ℕ) → List (List ℕ) → ℕ → Data → List Fault
+flow_faults version groups units i d =
+    table_only_faults (at.Flow i) d ++ option_map_or (flow_table_faults version groups units i) (as_table d) []

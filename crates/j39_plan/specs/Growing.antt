@@ -2,6 +2,7 @@
 use Rattle.std.specs.Prelude.{◌≡◌, ◌⊎◌, ℕ, List, [], Bool}
 use Rattle.toml.specs.Data.{Data, Items, no_items, item, Members}
 use Rattle.j39_plan.specs.declared.reading.fault.Fault.{Fault}
+use Rattle.j39_plan.specs.declared.reading.version.Version.{Version}
 use Rattle.j39_plan.specs.declared.reading.place.Table.TheVariants as at
 use Rattle.j39_plan.specs.Schema.{tables_of}
 use Rattle.j39_plan.specs.Elements.{inside}
@@ -13,7 +14,7 @@ use Rattle.j39_plan.specs.FlowTables.{flow_faults}
 use Rattle.j39_plan.specs.NeedTables.{need_faults}
 use Rattle.j39_plan.specs.RequestTables.{request_faults}
 use Rattle.j39_plan.specs.PlanFaults.{top_faults, units_rule, groups_rule, flows_rule, units_faults, groups_faults, flows_faults, needs_faults, need_tables, request_tables}
-use Rattle.j39_plan.specs.PlanFaults.{group_labels, group_signals, unit_labels, knows_third, knows_fourth}
+use Rattle.j39_plan.specs.PlanFaults.{group_labels, group_signals, unit_labels, version_of}
 
 -- the reader of an element asks for none
 abbrev pub NeverGrows : ℕ → Data → Type 0
@@ -25,25 +26,25 @@ EachGrows faults Grows no_items = ⊥
 EachGrows faults Grows (item d ds) = Grows 0 d ⊎ (faults 0 [] d ≡ [])
 
 -- behind a signal whose table has no fault, for the names of its raw numbers
-abbrev pub SignalGrows : Bool → Bool → Bool → ℕ → ℕ → Data → Type 0
-SignalGrows third fourth records g i d = signal_table_faults third fourth records (at.Signal g i) (inside d) ≡ []
+abbrev pub SignalGrows : Version → Bool → ℕ → ℕ → Data → Type 0
+SignalGrows version records g i d = signal_table_faults version records (at.Signal g i) (inside d) ≡ []
 
 -- in a group, whose keys have no fault, among its signals, or behind these among its texts
-abbrev pub GroupGrows : Bool → Bool → ℕ → Members → Type 0
-GroupGrows third fourth g ms = (group_keys_faults third fourth g ms ≡ [])
-    × (EachGrows (signal_faults third fourth (has_records third ms) g) (SignalGrows third fourth (has_records third ms) g) (tables_of signal_rule ms)
-    ⊎ ((signals_faults third fourth g ms ≡ []) × EachGrows (text_faults (signal_labels ms) g) NeverGrows (text_tables_of third ms)))
+abbrev pub GroupGrows : Version → ℕ → Members → Type 0
+GroupGrows version g ms = (group_keys_faults version g ms ≡ [])
+    × (EachGrows (signal_faults version (has_records version ms) g) (SignalGrows version (has_records version ms) g) (tables_of signal_rule ms)
+    ⊎ ((signals_faults version g ms ≡ []) × EachGrows (text_faults (signal_labels ms) g) NeverGrows (text_tables_of version ms)))
 
-abbrev pub GroupElementGrows : Bool → Bool → ℕ → Data → Type 0
-GroupElementGrows third fourth g d = GroupGrows third fourth g (inside d)
+abbrev pub GroupElementGrows : Version → ℕ → Data → Type 0
+GroupElementGrows version g d = GroupGrows version g (inside d)
 
 -- in a plan, whose top table has no fault, among its units, behind these among its groups, behind these among its flows, behind these
 -- among its needs, or behind these among its requests
 abbrev pub PlanGrows : Members → Type 0
 PlanGrows tree = (top_faults tree ≡ [])
-    × (EachGrows (unit_faults (knows_fourth tree)) NeverGrows (tables_of units_rule tree)
-    ⊎ ((units_faults tree ≡ []) × (EachGrows (group_faults (knows_third tree) (knows_fourth tree)) (GroupElementGrows (knows_third tree) (knows_fourth tree)) (tables_of groups_rule tree)
-    ⊎ ((groups_faults tree ≡ []) × (EachGrows (λ i seen. flow_faults (knows_third tree) (knows_fourth tree) (group_labels tree) (unit_labels tree) i)
+    × (EachGrows (unit_faults (version_of tree)) NeverGrows (tables_of units_rule tree)
+    ⊎ ((units_faults tree ≡ []) × (EachGrows (group_faults (version_of tree)) (GroupElementGrows (version_of tree)) (tables_of groups_rule tree)
+    ⊎ ((groups_faults tree ≡ []) × (EachGrows (λ i seen. flow_faults (version_of tree) (group_labels tree) (unit_labels tree) i)
     NeverGrows (tables_of flows_rule tree)
     ⊎ ((flows_faults tree ≡ []) × (EachGrows (λ i seen. need_faults (group_labels tree) (group_signals tree) (unit_labels tree) i)
     NeverGrows (need_tables tree)

@@ -19,3 +19,4 @@ pub mod TimingTables
 pub mod UnitTables
 pub mod Versions
 pub mod Words
+pub mod Since

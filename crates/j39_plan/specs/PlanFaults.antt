@@ -1,15 +1,18 @@
 -- Every fault of a plan file's tree, in the order in which they are looked for.
-use Rattle.std.specs.Prelude.{◌≡◌, ℕ, ◌==◌, ◌||◌, List, [], ◌∷◌, ◌++◌, map, Bool, true, false, if◌then◌else◌, Option, Some, None}
+use Rattle.std.specs.Prelude.{◌≡◌, ℕ, ◌==◌, List, [], ◌∷◌, ◌++◌, Bool, false, if◌then◌else◌, Option, Some, None}
 use Rattle.std.specs.Option.{option_map_or}
 use Rattle.toml.specs.Data.{Data, Items, no_items, Members}
 use Rattle.j39_id.specs.Addresses.{pool_size}
 use Rattle.j39_id.specs.Limits.{unit_limit}
-use Rattle.j39_findings.specs.PlanLimits.{flow_limit, group_limit, need_limit, request_limit}
+use Rattle.j39_network.specs.PlanLimits.{flow_limit, group_limit, need_limit, request_limit}
 use Rattle.j39_plan.specs.declared.reading.key.Key.TheVariants as key
 use Rattle.j39_plan.specs.declared.reading.place.Table.TheVariants as at
 use Rattle.j39_plan.specs.declared.reading.fault.Fault.{Fault}
 use Rattle.j39_plan.specs.Schema.{Rule, number, flag, addresses, tables, optional_table, number_of, flag_of, table_of, tables_of}
-use Rattle.j39_plan.specs.TableFaults.{unknown_faults, keys_faults}
+use Rattle.j39_plan.specs.TableFaults.{unknown_faults}
+use Rattle.j39_plan.specs.Since.{Since, since, is_known, known, rules_of, keys_of, known_keys, known_faults, since_faults}
+use Rattle.j39_plan.specs.declared.reading.version.Version.{Version}
+use Rattle.j39_plan.specs.declared.reading.version.Version.TheVariants.{First, Second, Third, Fourth}
 use Rattle.j39_plan.specs.Elements.{each_faults, labels_of, label_in}
 use Rattle.j39_plan.specs.UnitTables.{unit_faults, unit_label_in}
 use Rattle.j39_plan.specs.GroupTables.{group_faults}
@@ -21,17 +24,13 @@ use Rattle.j39_plan.specs.TimingTables.{timing_table_faults}
 abbrev pub version_rule : Rule
 version_rule = number key.Version 1 4 None
 
--- the version is the integer 2, 3 or 4, which may keep addresses free
-unfoldable pub may_keep : Members → Bool
-may_keep tree = number_of version_rule tree == 2 || (number_of version_rule tree == 3 || number_of version_rule tree == 4)
+-- the version of a number: of one that is none's the first
+abbrev pub version_numbered : ℕ → Version
+version_numbered n = if n == 2 then Second else if n == 3 then Third else if n == 4 then Fourth else First
 
--- the version is the integer 3 or 4, which knows more of groups, signals and flows, and of the bus itself
-unfoldable pub knows_third : Members → Bool
-knows_third tree = number_of version_rule tree == 3 || number_of version_rule tree == 4
-
--- the version is the integer 4, which knows more of the bus and of flows, and what units need
-unfoldable pub knows_fourth : Members → Bool
-knows_fourth tree = number_of version_rule tree == 4
+-- the version that the tree is of
+unfoldable pub version_of : Members → Version
+version_of tree = version_numbered (number_of version_rule tree)
 
 -- the addresses that no arbitrary unit may hold
 abbrev pub keep_free_rule : Rule
@@ -64,77 +63,73 @@ needs_rule = tables key.Need need_limit
 abbrev pub requests_rule : Rule
 requests_rule = tables key.Request request_limit
 
--- the first keys of tables: a plan of the first version keeps no address free
-abbrev pub head_rules : Members → List Rule
-head_rules tree = if may_keep tree then version_rule ∷ keep_free_rule ∷ [] else version_rule ∷ []
+-- the keys of the top table: its head, then the bus and its strangers, then the arrays
+abbrev pub head_rules : List Since
+head_rules =
+    since First version_rule
+    ∷ since Second keep_free_rule
+    ∷ []
 
-abbrev pub later_array_rules : Bool → List Rule
-later_array_rules true = needs_rule ∷ requests_rule ∷ []
-later_array_rules false = []
+abbrev pub bus_rules : List Since
+bus_rules =
+    since Fourth strangers_rule
+    ∷ since Fourth live_rule
+    ∷ since Third timing_rule
+    ∷ []
 
--- the fourth version knows needs and requests too
-abbrev pub array_rules : Bool → List Rule
-array_rules fourth = units_rule ∷ groups_rule ∷ flows_rule ∷ later_array_rules fourth
+abbrev pub later_array_rules : List Since
+later_array_rules =
+    since Fourth needs_rule
+    ∷ since Fourth requests_rule
+    ∷ []
 
--- the fourth version knows strangers
-abbrev pub strangers_rules : Bool → List Rule
-strangers_rules true = strangers_rule ∷ []
-strangers_rules false = []
+abbrev pub array_rules : List Since
+array_rules =
+    since First units_rule
+    ∷ since First groups_rule
+    ∷ since First flows_rule
+    ∷ later_array_rules
 
--- and live buses
-abbrev pub live_rules : Bool → List Rule
-live_rules true = live_rule ∷ []
-live_rules false = []
+abbrev pub top_rules : List Since
+top_rules = head_rules ++ (bus_rules ++ array_rules)
 
-abbrev pub timing_head_rules : Members → List Rule
-timing_head_rules tree = if knows_third tree then timing_rule ∷ [] else []
-
-abbrev pub top_rules : Members → List Rule
-top_rules tree =
-    head_rules tree
-    ++ (strangers_rules (knows_fourth tree) ++ (live_rules (knows_fourth tree) ++ (timing_head_rules tree ++ array_rules (knows_fourth tree))))
-
--- but in the fourth version there are no strangers
-abbrev pub OlderStrangers : Type 0
-OlderStrangers = strangers_rules false ≡ []
-
--- nor are there live buses
-abbrev pub OlderLive : Type 0
-OlderLive = live_rules false ≡ []
-
--- but in the fourth version the arrays are those of units, groups and flows
+-- before the fourth version the arrays are those of units, groups and flows
 abbrev pub OlderArrays : Type 0
-OlderArrays = array_rules false ≡ units_rule ∷ groups_rule ∷ flows_rule ∷ []
+OlderArrays = (version : Version) → is_known Fourth version ≡ false → rules_of (known version array_rules) ≡ units_rule ∷ groups_rule ∷ flows_rule ∷ []
 
 -- how many strangers a tree tells of: none in a version that doesn't know them
-abbrev pub strangers_of : Bool → Members → ℕ
-strangers_of true tree = number_of strangers_rule tree
-strangers_of false tree = 0
+abbrev pub strangers_of : Version → Members → ℕ
+strangers_of version tree = if is_known Fourth version then number_of strangers_rule tree else 0
 
 -- whether the bus of a tree is live: none is in a version that doesn't know them
-abbrev pub live_of : Bool → Members → Bool
-live_of true tree = flag_of live_rule tree
-live_of false tree = false
+abbrev pub live_of : Version → Members → Bool
+live_of version tree = if is_known Fourth version then flag_of live_rule tree else false
+
+-- before the fourth version there are no strangers and no live buses
+abbrev pub OlderBus : Type 0
+OlderBus = (version : Version) (tree : Members) → is_known Fourth version ≡ false
+    → (strangers_of version tree ≡ 0) × (live_of version tree ≡ false)
 
 -- the table of the bus itself: none in a version that doesn't know it
+abbrev pub timing_table_of : Version → Members → Option Members
+timing_table_of version tree = if is_known Third version then table_of timing_rule tree else None
+
 abbrev pub timing_table : Members → Option Members
-timing_table tree = if knows_third tree then table_of timing_rule tree else None
+timing_table tree = timing_table_of (version_of tree) tree
 
 -- the tables of needs: none in a version that doesn't know them
-abbrev pub need_tables_of : Bool → Members → Items
-need_tables_of true tree = tables_of needs_rule tree
-need_tables_of false tree = no_items
+abbrev pub need_tables_of : Version → Members → Items
+need_tables_of version tree = if is_known Fourth version then tables_of needs_rule tree else no_items
 
 abbrev pub need_tables : Members → Items
-need_tables tree = need_tables_of (knows_fourth tree) tree
+need_tables tree = need_tables_of (version_of tree) tree
 
 -- and those of requests
-abbrev pub request_tables_of : Bool → Members → Items
-request_tables_of true tree = tables_of requests_rule tree
-request_tables_of false tree = no_items
+abbrev pub request_tables_of : Version → Members → Items
+request_tables_of version tree = if is_known Fourth version then tables_of requests_rule tree else no_items
 
 abbrev pub request_tables : Members → Items
-request_tables tree = request_tables_of (knows_fourth tree) tree
+request_tables tree = request_tables_of (version_of tree) tree
 
 abbrev pub unit_labels : Members → List (List ℕ)
 unit_labels tree = labels_of unit_label_in (tables_of units_rule tree)
@@ -150,14 +145,14 @@ abbrev pub no_label : Data → List ℕ
 no_label d = []
 
 abbrev pub units_faults : Members → List Fault
-units_faults tree = each_faults (unit_faults (knows_fourth tree)) unit_label_in 0 [] (tables_of units_rule tree)
+units_faults tree = each_faults (unit_faults (version_of tree)) unit_label_in 0 [] (tables_of units_rule tree)
 
 abbrev pub groups_faults : Members → List Fault
-groups_faults tree = each_faults (group_faults (knows_third tree) (knows_fourth tree)) label_in 0 [] (tables_of groups_rule tree)
+groups_faults tree = each_faults (group_faults (version_of tree)) label_in 0 [] (tables_of groups_rule tree)
 
 abbrev pub flows_faults : Members → List Fault
 flows_faults tree =
-    each_faults (λ i seen. flow_faults (knows_third tree) (knows_fourth tree) (group_labels tree) (unit_labels tree) i) no_label 0 [] (tables_of flows_rule tree)
+    each_faults (λ i seen. flow_faults (version_of tree) (group_labels tree) (unit_labels tree) i) no_label 0 [] (tables_of flows_rule tree)
 
 abbrev pub needs_faults : Members → List Fault
 needs_faults tree = each_faults (λ i seen. need_faults (group_labels tree) (group_signals tree) (unit_labels tree) i) no_label 0 [] (need_tables tree)
@@ -167,25 +162,27 @@ requests_faults tree = each_faults (λ i seen. request_faults (group_labels tree
 
 -- a key that no rule names, and what stands at the version and at the addresses to keep free
 abbrev pub head_faults : Members → List Fault
-head_faults tree = unknown_faults at.Top (map (λ r. r.key) (top_rules tree)) tree ++ keys_faults at.Top tree (head_rules tree)
+head_faults tree =
+    unknown_faults at.Top (known_keys (version_of tree) (keys_of top_rules)) tree ++ known_faults at.Top (version_of tree) tree head_rules
 
 -- what stands at the key of strangers
 abbrev pub strangers_faults : Members → List Fault
-strangers_faults tree = keys_faults at.Top tree (strangers_rules (knows_fourth tree))
+strangers_faults tree = since_faults at.Top (version_of tree) tree (since Fourth strangers_rule)
 
 -- and at that of live buses
 abbrev pub live_faults : Members → List Fault
-live_faults tree = keys_faults at.Top tree (live_rules (knows_fourth tree))
+live_faults tree = since_faults at.Top (version_of tree) tree (since Fourth live_rule)
 
 -- what stands at the key of the bus itself, and then the faults of its table
 abbrev pub timing_faults : Members → List Fault
 timing_faults tree =
-    keys_faults at.Top tree (timing_head_rules tree) ++ option_map_or (timing_table_faults (knows_fourth tree)) (timing_table tree) []
+    since_faults at.Top (version_of tree) tree (since Third timing_rule)
+    ++ option_map_or (timing_table_faults (version_of tree)) (timing_table tree) []
 
 abbrev pub top_faults : Members → List Fault
 top_faults tree =
     head_faults tree
-    ++ (strangers_faults tree ++ (live_faults tree ++ (timing_faults tree ++ keys_faults at.Top tree (array_rules (knows_fourth tree)))))
+    ++ (strangers_faults tree ++ (live_faults tree ++ (timing_faults tree ++ known_faults at.Top (version_of tree) tree array_rules)))
 
 -- the top table's keys, then the units, the groups, the flows, the needs and the requests, each in order
 abbrev pub faults : Members → List Fault

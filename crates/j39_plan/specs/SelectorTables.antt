@@ -1,11 +1,14 @@
--- The table of a selector, which the fourth version alone knows: bits of the payload, and the number by which groups of one PGN are told apart.
-use Rattle.std.specs.Prelude.{◌≡◌, ℕ, ◌-◌, ◌^◌, List, [], ◌∷◌, Bool, true, false, Option, Some, None}
+-- The table of a selector, which is known since the fourth version: bits of the payload, and the number by which groups of one PGN are told apart.
+use Rattle.std.specs.Prelude.{◌≡◌, ℕ, ◌-◌, ◌^◌, List, [], ◌∷◌, if◌then◌else◌, Option, Some, None}
 use Rattle.std.specs.Option.{option_map_or}
 use Rattle.toml.specs.Data.{Members}
 use Rattle.j39_signal.specs.declared.selector.Selector.{Selector}
 use Rattle.j39_plan.specs.declared.reading.key.Key.TheVariants as key
 use Rattle.j39_plan.specs.declared.reading.place.Table.TheVariants as at
 use Rattle.j39_plan.specs.declared.reading.fault.Fault.{Fault}
+use Rattle.j39_plan.specs.declared.reading.version.Version.{Version}
+use Rattle.j39_plan.specs.declared.reading.version.Version.TheVariants.{Fourth}
+use Rattle.j39_plan.specs.Since.{is_known}
 use Rattle.j39_plan.specs.Schema.{Rule, number, optional_table, number_of, table_of}
 use Rattle.j39_plan.specs.TableFaults.{table_faults}
 use Rattle.j39_plan.specs.SignalTables.{byte_rule, bit_rule, start_of}
@@ -34,14 +37,9 @@ selector_table_faults g ms = table_faults (at.GroupWhen g) (selector_rules ms) m
 abbrev pub when_rule : Rule
 when_rule = optional_table key.When
 
--- by whether the version knows it
-abbrev pub when_rules : Bool → List Rule
-when_rules true = when_rule ∷ []
-when_rules false = []
-
-abbrev pub when_table : Bool → Members → Option Members
-when_table true ms = table_of when_rule ms
-when_table false ms = None
+-- its table: none in a version that doesn't know it
+abbrev pub when_table : Version → Members → Option Members
+when_table version ms = if is_known Fourth version then table_of when_rule ms else None
 
 -- where there is a table of it
 abbrev pub TellsWhen : Option Members → Option Selector → Type 0
@@ -49,5 +47,5 @@ TellsWhen None None = Unit {0}
 TellsWhen (Some ms) (Some w) = TellsSelector ms w
 TellsWhen _ _ = ⊥
 
-abbrev pub when_faults : Bool → ℕ → Members → List Fault
-when_faults knows g ms = option_map_or (selector_table_faults g) (when_table knows ms) []
+abbrev pub when_faults : Version → ℕ → Members → List Fault
+when_faults version g ms = option_map_or (selector_table_faults g) (when_table version ms) []

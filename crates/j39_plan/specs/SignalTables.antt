@@ -1,4 +1,4 @@
--- The tables of signals. The third version knows more kinds than the first two, what the values are divided by, and signals that are repeated.
+-- The tables of signals. Since the third version more kinds are known, what the values are divided by, and signals that are repeated.
 use Rattle.std.specs.Prelude.{◌≡◌, ℕ, ◌+◌, ◌-◌, ◌*◌, pos, negsuc, List, []}
 use Rattle.std.specs.Prelude.{◌∷◌, ◌++◌, Bool, true, false, ◌&&◌, if◌then◌else◌, Some, None, IsTrue, codes}
 use Rattle.std.specs.Str.{bytes_eq}
@@ -8,15 +8,19 @@ use Rattle.j39_id.specs.Limits.{message_bytes}
 use Rattle.j39_signal.specs.declared.kind.Kind.{Kind}
 use Rattle.j39_signal.specs.declared.kind.Kind.TheVariants.{Measured, Discrete, Raw, States, Signed, Dtc}
 use Rattle.j39_signal.specs.Parts.{SignalParts, IsSignal}
-use Rattle.j39_findings.specs.LabelForm.{is_label}
-use Rattle.j39_findings.specs.declared.plan.meaning.Meaning.{Meaning}
+use Rattle.j39_network.specs.LabelForm.{is_label}
+use Rattle.j39_network.specs.declared.plan.meaning.Meaning.{Meaning}
 use Rattle.j39_plan.specs.declared.reading.key.Key.TheVariants as key
 use Rattle.j39_plan.specs.declared.reading.place.Table.{Table}
 use Rattle.j39_plan.specs.declared.reading.place.Table.TheVariants as at
 use Rattle.j39_plan.specs.declared.reading.fault.Fault.{Fault}
 use Rattle.j39_plan.specs.declared.reading.text_kind.TextKind.TheVariants as texts
 use Rattle.j39_plan.specs.Schema.{Rule, number, signed, divisor, flag_if, text, number_of, integer_of, flag_of, text_of}
-use Rattle.j39_plan.specs.TableFaults.{table_faults, table_only_faults}
+use Rattle.j39_plan.specs.TableFaults.{table_only_faults}
+use Rattle.j39_plan.specs.Since.{Since, since, is_known, known, rules_of, versioned_faults}
+use Rattle.j39_plan.specs.declared.reading.version.Version.{Version}
+use Rattle.j39_plan.specs.declared.reading.version.Version.TheVariants.{First, Third}
+use Rattle.j39_plan.specs.declared.reading.text_kind.TextKind.{TextKind}
 use Rattle.j39_plan.specs.MeaningTables.{TellsMeaning, meaning_rules, optional_of}
 use Rattle.j39_plan.specs.Elements.{inside, label_in, label_rule, repeated_faults}
 
@@ -29,36 +33,34 @@ bit_rule = number key.Bit 1 8 (Some 1)
 abbrev pub bits_rule : Rule
 bits_rule = number key.Bits 1 64 None
 
--- in the third version, and in another
-abbrev pub kind_rule : Bool → Rule
-kind_rule true = text key.Kind texts.AnySignalKind None
-kind_rule false = text key.Kind texts.SignalKind None
+-- since the third version more kinds are known
+abbrev pub kinds : Version → TextKind
+kinds version = if is_known Third version then texts.AnySignalKind else texts.SignalKind
+
+abbrev pub kind_rule : Version → Rule
+kind_rule version = text key.Kind (kinds version) None
 
 -- a trouble code is neither scaled nor has it a unit: of it each of these is what an absent key stands for
 abbrev pub step_rule : Bool → Rule
-step_rule true = number key.Step 1 1 (Some 1)
-step_rule false = number key.Step 1 1000000 (Some 1)
+step_rule code = number key.Step 1 (if code then 1 else 1000000) (Some 1)
 
 abbrev pub per_rule : Bool → Rule
-per_rule true = divisor key.Per 1
-per_rule false = divisor key.Per 10000000
+per_rule code = divisor key.Per (if code then 1 else 10000000)
 
 abbrev pub offset_rule : Bool → Rule
-offset_rule true = signed key.Offset (pos 0) (pos 0) (Some (pos 0))
-offset_rule false = signed key.Offset (negsuc 999999999999) (pos 1000000000000) (Some (pos 0))
+offset_rule code =
+    signed key.Offset (if code then pos 0 else negsuc 999999999999) (if code then pos 0 else pos 1000000000000) (Some (pos 0))
 
 abbrev pub unit_rule : Bool → Rule
-unit_rule true = text key.Unit texts.Empty (Some [])
-unit_rule false = text key.Unit texts.SignalUnit (Some [])
+unit_rule code = text key.Unit (if code then texts.Empty else texts.SignalUnit) (Some [])
 
 -- by whether the group has records
 abbrev pub repeated_rule : Bool → Rule
 repeated_rule records = flag_if key.Repeated records
 
 -- whether it is repeated: it isn't in a version that doesn't know it
-abbrev pub repeated_of : Bool → Members → Bool
-repeated_of true ms = flag_of (repeated_rule true) ms
-repeated_of false ms = false
+abbrev pub repeated_of : Version → Members → Bool
+repeated_of version ms = if is_known Third version then flag_of (repeated_rule true) ms else false
 
 abbrev pub kind_of : List ℕ → Kind
 kind_of t =
@@ -73,66 +75,74 @@ abbrev pub is_dtc : Kind → Bool
 is_dtc Dtc = true
 is_dtc _ = false
 
--- the table is that of a trouble code, which the third version alone knows
-unfoldable pub is_code : Bool → Members → Bool
-is_code third ms = third && is_dtc (kind_of (text_of (kind_rule third) ms))
+-- the table is that of a trouble code, which is known since the third version
+unfoldable pub is_code : Version → Members → Bool
+is_code version ms = is_known Third version && is_dtc (kind_of (text_of (kind_rule version) ms))
 
--- the rules before those of the scale, and those from the scale on by whether the group has records and the table is that of a trouble code
-abbrev pub place_rules : Bool → List Rule
-place_rules third = label_rule ∷ byte_rule ∷ bit_rule ∷ bits_rule ∷ kind_rule third ∷ []
-
-abbrev pub scale_rules : Bool → Bool → Bool → List Rule
-scale_rules true records code = step_rule code ∷ per_rule code ∷ offset_rule code ∷ unit_rule code ∷ repeated_rule records ∷ []
-scale_rules false records code = step_rule code ∷ offset_rule code ∷ unit_rule code ∷ []
-
--- and behind them those of its meaning, which the fourth version alone knows
-abbrev pub signal_rules : Bool → Bool → Bool → Members → List Rule
-signal_rules third fourth records ms =
-    place_rules third ++ (scale_rules third records (is_code third ms)
-    ++ meaning_rules (third && fourth) (repeated_of third ms) (is_code third ms) (number_of bits_rule ms))
+-- by whether the group has records
+abbrev pub signal_rules : Version → Bool → Members → List Since
+signal_rules version records ms =
+    since First label_rule
+    ∷ since First byte_rule
+    ∷ since First bit_rule
+    ∷ since First bits_rule
+    ∷ since First (kind_rule version)
+    ∷ since First (step_rule (is_code version ms))
+    ∷ since Third (per_rule (is_code version ms))
+    ∷ since First (offset_rule (is_code version ms))
+    ∷ since First (unit_rule (is_code version ms))
+    ∷ since Third (repeated_rule records)
+    ∷ meaning_rules (repeated_of version ms) (is_code version ms) (number_of bits_rule ms)
 
 -- ---- a law
 
--- in the first two versions a signal has these keys, with these ranges and kinds, and in the third those of its place and its scale alone
+-- before the third version a signal has these keys, with these ranges and kinds
 abbrev pub SecondSignalRules : Type 0
-SecondSignalRules = (records : Bool) (ms : Members) → signal_rules false false records ms
+SecondSignalRules = (version : Version) (records : Bool) (ms : Members) → is_known Third version ≡ false
+    → rules_of (known version (signal_rules version records ms))
     ≡ label_rule ∷ byte_rule ∷ bit_rule ∷ bits_rule ∷ text key.Kind texts.SignalKind None ∷ number key.Step 1 1000000 (Some 1)
     ∷ signed key.Offset (negsuc 999999999999) (pos 1000000000000) (Some (pos 0)) ∷ text key.Unit texts.SignalUnit (Some []) ∷ []
 
+-- and in the third those of its place and its scale alone
+abbrev pub ThirdSignalRules : Type 0
+ThirdSignalRules = (records : Bool) (ms : Members) → let code = is_code Third ms in
+    rules_of (known Third (signal_rules Third records ms))
+    ≡ label_rule ∷ byte_rule ∷ bit_rule ∷ bits_rule ∷ kind_rule Third ∷ step_rule code ∷ per_rule code ∷ offset_rule code ∷ unit_rule code
+    ∷ repeated_rule records ∷ []
+
 pub record OlderSignalRules : Type 0 where
   pub second : SecondSignalRules
-  pub third : (records : Bool) (ms : Members) → signal_rules true false records ms ≡ place_rules true ++ scale_rules true records (is_code true ms)
+  pub third : ThirdSignalRules
 
 -- ---- what a table tells
 
 -- what the values are divided by: 1 in a version that doesn't know it
-abbrev pub per_of : Bool → Members → ℕ
-per_of true ms = number_of (per_rule false) ms
-per_of false ms = 1
+abbrev pub per_of : Version → Members → ℕ
+per_of version ms = if is_known Third version then number_of (per_rule false) ms else 1
 
 -- the bit, counted from 0, of a byte and a bit in it, which are counted from 1
 abbrev pub start_of : ℕ → ℕ → ℕ
 start_of byte bit = 8 * (byte - 1) + (bit - 1)
 
 -- the signal that a table tells
-pub record TellsSignal (third fourth : Bool) (ms : Members) (s : SignalParts) : Type 0 where
+pub record TellsSignal (version : Version) (ms : Members) (s : SignalParts) : Type 0 where
   pub has_label : s.label.bytes ≡ text_of label_rule ms
   pub has_start : s.start ≡ start_of (number_of byte_rule ms) (number_of bit_rule ms)
   pub has_bits : s.bits ≡ number_of bits_rule ms
-  pub has_kind : s.kind ≡ kind_of (text_of (kind_rule third) ms)
+  pub has_kind : s.kind ≡ kind_of (text_of (kind_rule version) ms)
   pub has_step : s.step ≡ number_of (step_rule false) ms
   pub has_offset : s.offset ≡ integer_of (offset_rule false) ms
-  pub has_per : s.per ≡ per_of third ms
+  pub has_per : s.per ≡ per_of version ms
   pub has_unit : s.unit.bytes ≡ text_of (unit_rule false) ms
-  pub has_repeated : s.repeated ≡ repeated_of third ms
-  pub has_optional : s.optional ≡ optional_of (third && fourth) ms
+  pub has_repeated : s.repeated ≡ repeated_of version ms
+  pub has_optional : s.optional ≡ optional_of version ms
 
-abbrev pub IsSignalOf : Bool → Bool → Data → SignalParts → Type 0
-IsSignalOf third fourth d s = TellsSignal third fourth (inside d) s
+abbrev pub IsSignalOf : Version → Data → SignalParts → Type 0
+IsSignalOf version d s = TellsSignal version (inside d) s
 
 -- what is said of it besides
-abbrev pub IsMeaningOf : Bool → Bool → Data → Meaning → Type 0
-IsMeaningOf third fourth d m = TellsMeaning (third && fourth) (inside d) m
+abbrev pub IsMeaningOf : Version → Data → Meaning → Type 0
+IsMeaningOf version d m = TellsMeaning version (inside d) m
 
 -- what is true of every signal that is read, in a group with records or without
 pub record IsFit (records : Bool) (s : SignalParts) : Type 0 where
@@ -140,11 +150,11 @@ pub record IsFit (records : Bool) (s : SignalParts) : Type 0 where
   pub ranges : IsSignal s.start s.bits s.step s.offset
   pub single : records ≡ false → s.repeated ≡ false
 
-unfoldable pub signal_table_faults : Bool → Bool → Bool → Table → Members → List Fault
-signal_table_faults third fourth records at ms = table_faults at (signal_rules third fourth records ms) ms
+unfoldable pub signal_table_faults : Version → Bool → Table → Members → List Fault
+signal_table_faults version records at ms = versioned_faults at version (signal_rules version records ms) ms
 
 -- the faults of the i-th signal of the g-th group, which has records or hasn't, behind those with the labels seen
-unfoldable pub signal_faults : Bool → Bool → Bool → ℕ → ℕ → List (List ℕ) → Data → List Fault
-signal_faults third fourth records g i seen d = table_only_faults (at.Signal g i) d
-    ++ option_map_or (signal_table_faults third fourth records (at.Signal g i)) (as_table d) []
+unfoldable pub signal_faults : Version → Bool → ℕ → ℕ → List (List ℕ) → Data → List Fault
+signal_faults version records g i seen d = table_only_faults (at.Signal g i) d
+    ++ option_map_or (signal_table_faults version records (at.Signal g i)) (as_table d) []
     ++ repeated_faults (at.Signal g i) texts.Label seen (label_in d)

@@ -1,16 +1,19 @@
--- The table of the bus itself, which the third version knows. The fourth one knows more of it.
+-- The table of the bus itself, which is known since the third version. Since the fourth more of it is.
 use Rattle.std.specs.Prelude.{◌≡◌, ℕ, ◌==◌, Bool, true, false, if◌then◌else◌, List, [], ◌∷◌, ◌++◌, Option, Some, None}
 use Rattle.std.specs.Option.{option_map_or}
 use Rattle.toml.specs.Data.{Members}
-use Rattle.j39_findings.specs.declared.plan.timing.Bitrate.{Bitrate}
-use Rattle.j39_findings.specs.declared.plan.timing.Bitrate.TheVariants.{Kbit125, Kbit250, Kbit500, Mbit1}
-use Rattle.j39_findings.specs.declared.plan.timing.ErrorRate.{ErrorRate}
-use Rattle.j39_findings.specs.declared.plan.timing.Timing.{Timing}
+use Rattle.j39_network.specs.declared.plan.timing.Bitrate.{Bitrate}
+use Rattle.j39_network.specs.declared.plan.timing.Bitrate.TheVariants.{Kbit125, Kbit250, Kbit500, Mbit1}
+use Rattle.j39_network.specs.declared.plan.timing.ErrorRate.{ErrorRate}
+use Rattle.j39_network.specs.declared.plan.timing.Timing.{Timing}
 use Rattle.j39_plan.specs.declared.reading.key.Key.TheVariants as key
 use Rattle.j39_plan.specs.declared.reading.place.Table.TheVariants as at
 use Rattle.j39_plan.specs.declared.reading.fault.Fault.{Fault}
 use Rattle.j39_plan.specs.Schema.{Rule, number, bitrate, optional_table, number_of, table_of}
 use Rattle.j39_plan.specs.TableFaults.{table_faults}
+use Rattle.j39_plan.specs.Since.{Since, since, is_known, known, rules_of, versioned_faults}
+use Rattle.j39_plan.specs.declared.reading.version.Version.{Version}
+use Rattle.j39_plan.specs.declared.reading.version.Version.TheVariants.{Third, Fourth}
 
 -- ---- damaged frames
 
@@ -39,9 +42,9 @@ error_table_faults ms = table_faults at.TimingErrors error_rules ms
 
 -- ---- the bus
 
--- the fourth version knows more bitrates
-abbrev pub bitrate_rule : Bool → Rule
-bitrate_rule fourth = bitrate key.Bitrate fourth
+-- since the fourth version more bitrates are known
+abbrev pub bitrate_rule : Version → Rule
+bitrate_rule version = bitrate key.Bitrate (is_known Fourth version)
 
 abbrev pub unplanned_rule : Rule
 unplanned_rule = number key.Unplanned 0 1000 None
@@ -63,60 +66,62 @@ gap_most_rule gap = number key.BroadcastGapMost gap 750 (Some 200)
 abbrev pub errors_rule : Rule
 errors_rule = optional_table key.Errors
 
--- behind what isn't planned, in the fourth version and in another
-abbrev pub later_timing_rules : Bool → Members → List Rule
-later_timing_rules true ms =
-    unplanned_priority_rule ∷ transport_priority_rule ∷ gap_rule ∷ gap_most_rule (number_of gap_rule ms) ∷ errors_rule ∷ []
-later_timing_rules false ms = []
+-- behind what isn't planned
+abbrev pub later_timing_rules : Members → List Since
+later_timing_rules ms =
+    since Fourth unplanned_priority_rule
+    ∷ since Fourth transport_priority_rule
+    ∷ since Fourth gap_rule
+    ∷ since Fourth (gap_most_rule (number_of gap_rule ms))
+    ∷ since Fourth errors_rule
+    ∷ []
 
-abbrev pub timing_rules : Bool → Members → List Rule
-timing_rules fourth ms = bitrate_rule fourth ∷ unplanned_rule ∷ later_timing_rules fourth ms
+abbrev pub timing_rules : Version → Members → List Since
+timing_rules version ms =
+    since Third (bitrate_rule version)
+    ∷ since Third unplanned_rule
+    ∷ later_timing_rules ms
 
--- but in the fourth version, the bus has these keys
+-- in the third version the bus has these keys
 abbrev pub OlderTimingRules : Type 0
-OlderTimingRules = (ms : Members) → timing_rules false ms ≡ bitrate_rule false ∷ unplanned_rule ∷ []
+OlderTimingRules = (ms : Members) → rules_of (known Third (timing_rules Third ms)) ≡ bitrate_rule Third ∷ unplanned_rule ∷ []
 
 abbrev pub bitrate_of : ℕ → Bitrate
 bitrate_of bits = if bits == 125000 then Kbit125 else if bits == 500000 then Kbit500 else if bits == 1000000 then Mbit1 else Kbit250
 
 -- what a version that doesn't know these keys takes as given
-abbrev pub unplanned_priority_of : Bool → Members → ℕ
-unplanned_priority_of true ms = number_of unplanned_priority_rule ms
-unplanned_priority_of false ms = 6
+abbrev pub unplanned_priority_of : Version → Members → ℕ
+unplanned_priority_of version ms = if is_known Fourth version then number_of unplanned_priority_rule ms else 6
 
-abbrev pub transport_priority_of : Bool → Members → ℕ
-transport_priority_of true ms = number_of transport_priority_rule ms
-transport_priority_of false ms = 7
+abbrev pub transport_priority_of : Version → Members → ℕ
+transport_priority_of version ms = if is_known Fourth version then number_of transport_priority_rule ms else 7
 
-abbrev pub gap_of : Bool → Members → ℕ
-gap_of true ms = number_of gap_rule ms
-gap_of false ms = 50
+abbrev pub gap_of : Version → Members → ℕ
+gap_of version ms = if is_known Fourth version then number_of gap_rule ms else 50
 
-abbrev pub gap_most_of : Bool → Members → ℕ
-gap_most_of true ms = number_of (gap_most_rule (number_of gap_rule ms)) ms
-gap_most_of false ms = 200
+abbrev pub gap_most_of : Version → Members → ℕ
+gap_most_of version ms = if is_known Fourth version then number_of (gap_most_rule (number_of gap_rule ms)) ms else 200
 
-abbrev pub errors_table : Bool → Members → Option Members
-errors_table true ms = table_of errors_rule ms
-errors_table false ms = None
+abbrev pub errors_table : Version → Members → Option Members
+errors_table version ms = if is_known Fourth version then table_of errors_rule ms else None
 
 -- what a table tells of the bus
-pub record TellsBus (fourth : Bool) (ms : Members) (timing : Timing) : Type 0 where
-  pub has_bitrate : timing.bitrate ≡ bitrate_of (number_of (bitrate_rule fourth) ms)
+pub record TellsBus (version : Version) (ms : Members) (timing : Timing) : Type 0 where
+  pub has_bitrate : timing.bitrate ≡ bitrate_of (number_of (bitrate_rule version) ms)
   pub has_unplanned : timing.unplanned ≡ number_of unplanned_rule ms
-  pub has_unplanned_priority : timing.unplanned_priority ≡ unplanned_priority_of fourth ms
-  pub has_transport_priority : timing.transport_priority ≡ transport_priority_of fourth ms
-  pub has_gap : timing.broadcast_gap ≡ gap_of fourth ms
-  pub has_gap_most : timing.broadcast_gap_most ≡ gap_most_of fourth ms
-  pub has_errors : TellsErrors (errors_table fourth ms) timing.errors
+  pub has_unplanned_priority : timing.unplanned_priority ≡ unplanned_priority_of version ms
+  pub has_transport_priority : timing.transport_priority ≡ transport_priority_of version ms
+  pub has_gap : timing.broadcast_gap ≡ gap_of version ms
+  pub has_gap_most : timing.broadcast_gap_most ≡ gap_most_of version ms
+  pub has_errors : TellsErrors (errors_table version ms) timing.errors
 
 -- what is known of the bus, where there is a table of it
-abbrev pub TellsTiming : Bool → Option Members → Option Timing → Type 0
-TellsTiming fourth None None = Unit {0}
-TellsTiming fourth (Some ms) (Some timing) = TellsBus fourth ms timing
+abbrev pub TellsTiming : Version → Option Members → Option Timing → Type 0
+TellsTiming version None None = Unit {0}
+TellsTiming version (Some ms) (Some timing) = TellsBus version ms timing
 TellsTiming _ _ _ = ⊥
 
 -- the faults of the table, and then those of the table of errors
-unfoldable pub timing_table_faults : Bool → Members → List Fault
-timing_table_faults fourth ms =
-    table_faults at.Timing (timing_rules fourth ms) ms ++ option_map_or error_table_faults (errors_table fourth ms) []
+unfoldable pub timing_table_faults : Version → Members → List Fault
+timing_table_faults version ms =
+    versioned_faults at.Timing version (timing_rules version ms) ms ++ option_map_or error_table_faults (errors_table version ms) []

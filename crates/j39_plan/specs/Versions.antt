@@ -2,10 +2,11 @@
 use Rattle.std.specs.Prelude.{◌≡◌, ◌≢◌, ◌↔◌, ℕ, pos, List, [], ◌∷◌, All, Bool, true, false, ◌||◌, if◌then◌else◌, IfSome, Some, Result, codes}
 use Rattle.std.specs.Str.{bytes_eq}
 use Rattle.toml.specs.Data.{integer, Items, no_items, item, Members, no_members, member}
-use Rattle.j39_findings.specs.declared.plan.Plan.{Plan}
+use Rattle.j39_network.specs.declared.plan.Plan.{Plan}
 use Rattle.j39_plan.specs.declared.reading.plan_error.PlanError.{PlanError}
 use Rattle.j39_plan.specs.declared.reading.key.Key.{Key}
 use Rattle.j39_plan.specs.declared.reading.key.Key.TheVariants as key
+use Rattle.j39_plan.specs.declared.reading.version.Version.TheVariants.{Third, Fourth}
 use Rattle.j39_plan.specs.Words.{word_of}
 use Rattle.j39_plan.specs.Schema.{has_key, number_of, text_of, table_of, tables_of}
 use Rattle.j39_plan.specs.Elements.{inside}
@@ -42,8 +43,8 @@ fourth_bus_keys = key.UnplannedPriority ∷ key.TransportPriority ∷ key.Broadc
 -- nothing of it stands in the table of the bus
 pub record IsThirdBus (ms : Members) : Type 0 where
   pub keys : Lacks fourth_bus_keys ms
-  pub not_slowest : number_of (bitrate_rule true) ms ≢ 125000
-  pub not_fastest : number_of (bitrate_rule true) ms ≢ 1000000
+  pub not_slowest : number_of (bitrate_rule Fourth) ms ≢ 125000
+  pub not_fastest : number_of (bitrate_rule Fourth) ms ≢ 1000000
 
 -- nor in the table of a unit, whose NAME has an identity number
 pub record IsThirdUnit (ms : Members) : Type 0 where
@@ -90,7 +91,7 @@ is_later_kind t = bytes_eq t (codes "states") || (bytes_eq t (codes "signed") ||
 -- nothing of it stands in the table of a signal
 pub record IsSecondSignal (ms : Members) : Type 0 where
   pub keys : Lacks (key.Per ∷ key.Repeated ∷ []) ms
-  pub kind : is_later_kind (text_of (kind_rule true) ms) ≡ false
+  pub kind : is_later_kind (text_of (kind_rule Third) ms) ≡ false
 
 abbrev pub third_group_keys : List Key
 third_group_keys = key.Private ∷ key.Most ∷ key.Every ∷ key.Text ∷ []

@@ -29,15 +29,16 @@ mod texts;
 mod timing;
 mod units;
 mod values;
+mod version;
 
 pub use cause::Cause;
 use elements::read_each;
 pub use fault::Fault;
 use flows::Flows;
 use groups::Groups;
-use heads::{head, knows_fourth, knows_third, live, strangers};
-use j39_findings::Plan;
-use j39_findings::limits::{FLOW_LIMIT, GROUP_LIMIT, UNIT_LIMIT};
+use heads::{head, live, strangers, version_of};
+use j39_network::Plan;
+use j39_network::limits::{FLOW_LIMIT, GROUP_LIMIT, UNIT_LIMIT};
 pub use key::Key;
 use later_arrays::later_arrays;
 use needs::Needs;
@@ -47,30 +48,30 @@ use requests::Requests;
 use std::alloc::Global;
 use std::str;
 use tables::array;
+pub use text_kind::{are_printable, is_label};
 use timing::timing;
 use units::Units;
+pub use version::Version;
 
 #[tactic(auto, using(crate::proofs::FirstFaults::faults_after))]
 fn read_top(alloc: Global, members: &toml::Table) -> Result<Plan, PlanError>
     ensures { GivesGrowing (PlanGrows (table_view members.now)) result (faults (table_view members.now)) (TellsPlan (table_view members.now)) }
 {
-    let keep_free = head(members)?;
-    let third = knows_third(members);
-    let fourth = knows_fourth(members);
-    let strangers = strangers(members, fourth)?;
-    let live = live(members, fourth)?;
-    let timing = timing(members, third, fourth)?;
+    let version = version_of(members);
+    let keep_free = head(members, version)?;
+    let strangers = strangers(members, version)?;
+    let live = live(members, version)?;
+    let timing = timing(members, version)?;
     let unit_values = array(members, Table::Top, Key::Unit, UNIT_LIMIT)?;
     let group_values = array(members, Table::Top, Key::Group, GROUP_LIMIT)?;
     let flow_values = array(members, Table::Top, Key::Flow, FLOW_LIMIT)?;
-    let later = later_arrays(members, fourth)?;
-    let units = read_each(alloc, &Units { fourth }, unit_values)?;
-    let groups = read_each(alloc, &Groups { third, fourth }, group_values)?;
+    let later = later_arrays(members, version)?;
+    let units = read_each(alloc, &Units { version }, unit_values)?;
+    let groups = read_each(alloc, &Groups { version }, group_values)?;
     let flows = read_each(
         alloc,
         &Flows {
-            third,
-            fourth,
+            version,
             groups: &groups,
             units: &units,
         },

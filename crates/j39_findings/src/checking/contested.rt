@@ -1,15 +1,15 @@
 //! Which flows of a live plan have an end that isn't alone at its address.
 ghost use Rattle.std.specs.Prelude.{◌≡◌};
-ghost use Rattle.j39_findings.specs.Adding.{Adds};
-ghost use Rattle.j39_findings.specs.ListPlaces.{found_if};
+ghost use Rattle.j39_rules.specs.Adding.{Adds};
+ghost use Rattle.j39_rules.specs.ListPlaces.{found_if};
 ghost use Rattle.j39_findings.specs.Found.{contested_findings, is_contested, is_end_contested, is_receiver_contested};
 ghost use Rattle.j39_findings.specs.Standing.{alone_of};
 
 use crate::checking::finding::Finding;
-use crate::checking::rules::{Rule, find_each, push_if};
-use crate::plan::{FlowPlan, Plan, To, UnitPlan};
 use crate::standing::Standing;
 use j39_claim::AddressSet;
+use j39_network::{FlowPlan, Plan, To, UnitPlan};
+use j39_rules::{Rule, find_each, push_if};
 use std::alloc::AllocError;
 
 #[derive(Clone, Copy)]
@@ -46,7 +46,7 @@ impl FlowContested<'_> {
     }
 }
 
-impl Rule<FlowPlan> for FlowContested<'_> {
+impl Rule<FlowPlan, Finding> for FlowContested<'_> {
     ghost use Rattle.j39_findings.specs.declared.checking.finding.Finding.TheVariants.{FlowContested as FlowsContested};
 
     ghost gives = { λ rule f flow. found_if (is_contested (alone_of rule.standing.now rule.kept.now) rule.units.now flow) (FlowsContested f) };

@@ -1,14 +1,14 @@
 //! What is wrong with the flows of a plan.
 ghost use Rattle.std.specs.Prelude.{◌≡◌};
-ghost use Rattle.j39_findings.specs.Adding.{Adds};
-ghost use Rattle.j39_findings.specs.ListPlaces.{found_if};
+ghost use Rattle.j39_rules.specs.Adding.{Adds};
+ghost use Rattle.j39_rules.specs.ListPlaces.{found_if};
 ghost use Rattle.j39_findings.specs.Found.{is_one_frame_to_all, may_be_one_frame_to_all, cannot_go_to_one, goes_to_its_sender, are_one_flow, flow_findings};
 
 use crate::checking::finding::Finding;
-use crate::checking::rules::{PairRule, Rule, find_each, find_pairs, push_if};
-use crate::plan::{FlowPlan, GroupPlan, To};
 use j39_id::limits::FRAME_BYTES;
 use j39_id::{PDU2_FIRST, pf_of};
+use j39_network::{FlowPlan, GroupPlan, To};
+use j39_rules::{PairRule, Rule, find_each, find_pairs, push_if};
 use std::alloc::AllocError;
 
 /// Whether each message of the group is sent in one frame, which has no destination.
@@ -39,7 +39,7 @@ struct FlowToOne<'a> {
     groups: &'a [GroupPlan],
 }
 
-impl Rule<FlowPlan> for FlowToOne<'_> {
+impl Rule<FlowPlan, Finding> for FlowToOne<'_> {
     ghost use Rattle.j39_findings.specs.declared.checking.finding.Finding.TheVariants.{FlowToOne as FlowsToOne};
 
     ghost gives = { λ rule f flow. found_if (cannot_go_to_one rule.groups.now flow) (FlowsToOne f) };
@@ -61,7 +61,7 @@ impl Rule<FlowPlan> for FlowToOne<'_> {
 #[derive(Clone, Copy)]
 struct FlowToSelf;
 
-impl Rule<FlowPlan> for FlowToSelf {
+impl Rule<FlowPlan, Finding> for FlowToSelf {
     ghost use Rattle.j39_findings.specs.declared.checking.finding.Finding.TheVariants.{FlowToSelf as FlowsToSelf};
 
     ghost gives = { λ _ f flow. found_if (goes_to_its_sender flow) (FlowsToSelf f) };
@@ -83,7 +83,7 @@ impl Rule<FlowPlan> for FlowToSelf {
 #[derive(Clone, Copy)]
 struct FlowRepeated;
 
-impl PairRule<FlowPlan> for FlowRepeated {
+impl PairRule<FlowPlan, Finding> for FlowRepeated {
     ghost use Rattle.j39_findings.specs.declared.checking.finding.Finding.TheVariants.{FlowRepeated as FlowsRepeated};
 
     ghost test = { λ _. are_one_flow };

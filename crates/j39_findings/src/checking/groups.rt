@@ -1,17 +1,17 @@
 //! What is wrong with the groups of a plan.
 ghost use Rattle.std.specs.Prelude.{◌≡◌};
 ghost use Rattle.j39_signal.specs.Selectors.{differ_in_value};
-ghost use Rattle.j39_findings.specs.Adding.{Adds};
-ghost use Rattle.j39_findings.specs.ListPlaces.{found_if};
+ghost use Rattle.j39_rules.specs.Adding.{Adds};
+ghost use Rattle.j39_rules.specs.ListPlaces.{found_if};
 ghost use Rattle.j39_findings.specs.Found.{is_for_no_plan, is_wrongly_private, has_bad_pgn, have_same_pgn, is_selector_outside, group_findings};
 
 use crate::checking::finding::Finding;
 use crate::checking::private::are_sent_together;
-use crate::checking::rules::{PairRule, Rule, find_each, find_pairs, push_if};
-use crate::plan::{FlowPlan, GroupPlan};
 use j39_id::proprietary::is_proprietary;
 use j39_id::services::is_service;
 use j39_id::{EXTENDED_PAGE, Pgn};
+use j39_network::{FlowPlan, GroupPlan};
+use j39_rules::{PairRule, Rule, find_each, find_pairs, push_if};
 use j39_signal::Selector;
 use std::alloc::AllocError;
 
@@ -35,7 +35,7 @@ fn is_wrongly_private(group: &GroupPlan) -> bool
 #[derive(Clone, Copy)]
 struct BadPgn;
 
-impl Rule<GroupPlan> for BadPgn {
+impl Rule<GroupPlan, Finding> for BadPgn {
     ghost use Rattle.j39_findings.specs.declared.checking.finding.Finding.TheVariants.{BadPgn as BadPgns};
 
     ghost gives = { λ _ g group. found_if (has_bad_pgn group) (BadPgns g) };
@@ -68,7 +68,7 @@ fn is_selector_outside(group: &GroupPlan) -> bool
 #[derive(Clone, Copy)]
 pub(super) struct WhenOutside;
 
-impl Rule<GroupPlan> for WhenOutside {
+impl Rule<GroupPlan, Finding> for WhenOutside {
     ghost use Rattle.j39_findings.specs.declared.checking.finding.Finding.TheVariants.{WhenOutside as WhensOutside};
 
     ghost gives = { λ _ g group. found_if (is_selector_outside group) (WhensOutside g) };
@@ -105,7 +105,7 @@ struct SamePgn<'a> {
     flows: &'a [FlowPlan],
 }
 
-impl PairRule<GroupPlan> for SamePgn<'_> {
+impl PairRule<GroupPlan, Finding> for SamePgn<'_> {
     ghost use Rattle.j39_findings.specs.declared.checking.finding.Finding.TheVariants.{SamePgn as SamePgns};
 
     ghost test = { λ rule. have_same_pgn rule.groups.now rule.flows.now };

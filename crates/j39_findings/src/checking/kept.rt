@@ -1,13 +1,13 @@
 //! Which units prefer an address that is kept free.
 ghost use Rattle.std.specs.Prelude.{◌≡◌};
-ghost use Rattle.j39_findings.specs.Adding.{Adds};
-ghost use Rattle.j39_findings.specs.ListPlaces.{found_if};
+ghost use Rattle.j39_rules.specs.Adding.{Adds};
+ghost use Rattle.j39_rules.specs.ListPlaces.{found_if};
 ghost use Rattle.j39_findings.specs.Found.{prefers_kept, kept_findings};
 
 use crate::checking::finding::Finding;
-use crate::checking::rules::{Rule, find_each, push_if};
-use crate::plan::UnitPlan;
 use j39_claim::AddressSet;
+use j39_network::UnitPlan;
+use j39_rules::{Rule, find_each, push_if};
 use std::alloc::AllocError;
 
 fn prefers_kept(kept: &AddressSet, unit: &UnitPlan) -> bool
@@ -21,7 +21,7 @@ struct KeptAddress<'a> {
     kept: &'a AddressSet,
 }
 
-impl Rule<UnitPlan> for KeptAddress<'_> {
+impl Rule<UnitPlan, Finding> for KeptAddress<'_> {
     ghost use Rattle.j39_findings.specs.declared.checking.finding.Finding.TheVariants.{KeptAddress as KeptAddresses};
 
     ghost gives = { λ rule i unit. found_if (prefers_kept rule.kept.now unit) (KeptAddresses i) };
@@ -40,7 +40,7 @@ impl Rule<UnitPlan> for KeptAddress<'_> {
     }
 }
 
-#[tactic(auto, unfolding(crate::specs::Found::kept_findings, crate::specs::ListPlaces::each))]
+#[tactic(auto, unfolding(crate::specs::Found::kept_findings, j39_rules::specs::ListPlaces::each))]
 pub fn find_kept(
     findings: &mut Vec<Finding>,
     kept: &AddressSet,

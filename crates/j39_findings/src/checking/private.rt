@@ -1,13 +1,13 @@
 //! Which flows send private groups.
 ghost use Rattle.std.specs.Prelude.{◌≡◌};
-ghost use Rattle.j39_findings.specs.Adding.{Adds};
-ghost use Rattle.j39_findings.specs.ListPlaces.{found_if};
+ghost use Rattle.j39_rules.specs.Adding.{Adds};
+ghost use Rattle.j39_rules.specs.ListPlaces.{found_if};
 ghost use Rattle.j39_findings.specs.Found.{sends, do_receivers_meet, sends_beside, is_sent_beside, sends_first, are_sent_together, is_sent, is_private_unsent, unsent_findings};
 
 use crate::checking::finding::Finding;
 use crate::checking::flows::may_be_one_frame_to_all;
-use crate::checking::rules::{Rule, find_each, push_if};
-use crate::plan::{FlowPlan, GroupPlan, To};
+use j39_network::{FlowPlan, GroupPlan, To};
+use j39_rules::{Rule, find_each, push_if};
 use std::alloc::AllocError;
 
 // Whether the flow sends the group, which its label names.
@@ -108,7 +108,7 @@ struct PrivateUnsent<'a> {
     flows: &'a [FlowPlan],
 }
 
-impl Rule<GroupPlan> for PrivateUnsent<'_> {
+impl Rule<GroupPlan, Finding> for PrivateUnsent<'_> {
     ghost use Rattle.j39_findings.specs.declared.checking.finding.Finding.TheVariants.{PrivateUnsent as PrivatesUnsent};
 
     ghost gives = { λ rule g group. found_if (is_private_unsent rule.groups.now rule.flows.now group) (PrivatesUnsent g) };
@@ -128,7 +128,7 @@ impl Rule<GroupPlan> for PrivateUnsent<'_> {
 }
 
 /// Adds the private groups that no flow sends.
-#[tactic(auto, unfolding(crate::specs::Found::unsent_findings, crate::specs::ListPlaces::each))]
+#[tactic(auto, unfolding(crate::specs::Found::unsent_findings, j39_rules::specs::ListPlaces::each))]
 pub fn find_unsent(
     findings: &mut Vec<Finding>,
     groups: &[GroupPlan],

@@ -1,12 +1,12 @@
 //! Which signals of groups are met by others in later records.
 ghost use Rattle.std.specs.Prelude.{◌≡◌, ◌≤◌, ◌+◌, ◌*◌, ◌/◌};
-ghost use Rattle.j39_findings.specs.Adding.{Adds};
-ghost use Rattle.j39_findings.specs.ListPlaces.{found_if, in_each};
+ghost use Rattle.j39_rules.specs.Adding.{Adds};
+ghost use Rattle.j39_rules.specs.ListPlaces.{found_if};
 ghost use Rattle.j39_findings.specs.Found.{comes_onto, do_records_meet, group_overlaps, overlaps_of, record_findings};
 
 use crate::checking::finding::Finding;
-use crate::checking::rules::{Rule, find_each, push_if};
-use crate::plan::GroupPlan;
+use j39_network::GroupPlan;
+use j39_rules::{Rule, find_each, push_if};
 use j39_signal::Signal;
 use std::alloc::AllocError;
 
@@ -57,7 +57,7 @@ fn do_records_meet(first: &RepeatedSignal, place: usize, second: &Signal) -> boo
     }
 }
 
-impl Rule<Signal> for RepeatedSignal<'_> {
+impl Rule<Signal, Finding> for RepeatedSignal<'_> {
     ghost use Rattle.j39_findings.specs.declared.checking.finding.Finding.TheVariants.{RecordOverlap};
 
     ghost gives = { λ rule t other.
@@ -87,7 +87,7 @@ struct RecordSignals<'a> {
     ghost every_positive: { 1 ≤ every },
 }
 
-impl Rule<Signal> for RecordSignals<'_> {
+impl Rule<Signal, Finding> for RecordSignals<'_> {
     ghost gives = { λ rule s signal. overlaps_of rule.every rule.count rule.group rule.signals.now s signal };
 
     fn find(
@@ -113,7 +113,7 @@ impl Rule<Signal> for RecordSignals<'_> {
 #[derive(Clone, Copy)]
 struct Records;
 
-impl Rule<GroupPlan> for Records {
+impl Rule<GroupPlan, Finding> for Records {
     ghost gives = { λ _ g group. group_overlaps g group };
 
     fn find(

@@ -1,13 +1,13 @@
 //! What is wrong with the signals of each group of a plan.
-ghost use Rattle.j39_findings.specs.Adding.{Adds};
+ghost use Rattle.j39_rules.specs.Adding.{Adds};
 ghost use Rattle.j39_signal.specs.Places.{shares_bit};
-ghost use Rattle.j39_findings.specs.ListPlaces.{found_if, each};
-ghost use Rattle.j39_findings.specs.SignalPlaces.{room_of_signal};
+ghost use Rattle.j39_rules.specs.ListPlaces.{found_if, each};
+ghost use Rattle.j39_network.specs.SignalPlaces.{room_of_signal};
 ghost use Rattle.j39_findings.specs.Found.{has_other_width, ends_outside, width_findings, outside_findings, overlap_findings, signal_findings};
 
 use crate::checking::finding::Finding;
-use crate::checking::rules::{PairRule, Rule, find_each, find_pairs, push_if};
-use crate::plan::GroupPlan;
+use j39_network::GroupPlan;
+use j39_rules::{PairRule, Rule, find_each, find_pairs, push_if};
 use j39_signal::Signal;
 use std::alloc::AllocError;
 
@@ -16,7 +16,7 @@ struct SignalWidth {
     group: usize,
 }
 
-impl Rule<Signal> for SignalWidth {
+impl Rule<Signal, Finding> for SignalWidth {
     ghost use Rattle.j39_findings.specs.declared.checking.finding.Finding.TheVariants.{SignalWidth as Widths};
 
     ghost gives = { λ rule s signal. found_if (has_other_width signal) (Widths rule.group s) };
@@ -57,7 +57,7 @@ impl SignalOutside {
     }
 }
 
-impl Rule<Signal> for SignalOutside {
+impl Rule<Signal, Finding> for SignalOutside {
     ghost use Rattle.j39_findings.specs.declared.checking.finding.Finding.TheVariants.{SignalOutside as Outsides};
 
     ghost gives = { λ rule s signal. found_if (ends_outside rule.length rule.most signal) (Outsides rule.group s) };
@@ -81,7 +81,7 @@ struct SignalOverlap {
     group: usize,
 }
 
-impl PairRule<Signal> for SignalOverlap {
+impl PairRule<Signal, Finding> for SignalOverlap {
     ghost use Rattle.j39_findings.specs.declared.checking.finding.Finding.TheVariants.{SignalOverlap as Overlaps};
 
     ghost test = { λ _. shares_bit };
@@ -100,10 +100,10 @@ impl PairRule<Signal> for SignalOverlap {
 #[derive(Clone, Copy)]
 struct Widths;
 
-impl Rule<GroupPlan> for Widths {
+impl Rule<GroupPlan, Finding> for Widths {
     ghost gives = { λ _ g group. width_findings g group };
 
-    #[tactic(auto, unfolding(crate::specs::ListPlaces::each))]
+    #[tactic(auto, unfolding(j39_rules::specs::ListPlaces::each))]
     fn find(
         &self,
         findings: &mut Vec<Finding>,
@@ -117,10 +117,10 @@ impl Rule<GroupPlan> for Widths {
 #[derive(Clone, Copy)]
 struct Outsides;
 
-impl Rule<GroupPlan> for Outsides {
+impl Rule<GroupPlan, Finding> for Outsides {
     ghost gives = { λ _ g group. outside_findings g group };
 
-    #[tactic(auto, unfolding(crate::specs::ListPlaces::each))]
+    #[tactic(auto, unfolding(j39_rules::specs::ListPlaces::each))]
     fn find(
         &self,
         findings: &mut Vec<Finding>,
@@ -139,7 +139,7 @@ impl Rule<GroupPlan> for Outsides {
 #[derive(Clone, Copy)]
 struct Overlaps;
 
-impl Rule<GroupPlan> for Overlaps {
+impl Rule<GroupPlan, Finding> for Overlaps {
     ghost gives = { λ _ g group. overlap_findings g group };
 
     fn find(

@@ -1,20 +1,20 @@
 //! Which units that never claim have an address that another one may hold.
 ghost use Rattle.std.specs.Prelude.{◌≡◌};
-ghost use Rattle.j39_findings.specs.Adding.{Adds};
-ghost use Rattle.j39_findings.specs.ListPlaces.{found_if};
+ghost use Rattle.j39_rules.specs.Adding.{Adds};
+ghost use Rattle.j39_rules.specs.ListPlaces.{found_if};
 ghost use Rattle.j39_findings.specs.Found.{have_silent_address, is_silent_in_pool, silent_findings};
 
 use crate::checking::finding::Finding;
-use crate::checking::rules::{PairRule, Rule, find_each, find_pairs, push_if};
-use crate::plan::UnitPlan;
 use j39_claim::AddressSet;
 use j39_id::addresses::is_in_pool;
+use j39_network::UnitPlan;
+use j39_rules::{PairRule, Rule, find_each, find_pairs, push_if};
 use std::alloc::AllocError;
 
 #[derive(Clone, Copy)]
 struct SilentAddress;
 
-impl PairRule<UnitPlan> for SilentAddress {
+impl PairRule<UnitPlan, Finding> for SilentAddress {
     ghost use Rattle.j39_findings.specs.declared.checking.finding.Finding.TheVariants.{SilentAddress as SilentAddresses};
 
     ghost test = { λ _. have_silent_address };
@@ -43,7 +43,7 @@ struct SilentInPool<'a> {
     strangers: u8,
 }
 
-impl Rule<UnitPlan> for SilentInPool<'_> {
+impl Rule<UnitPlan, Finding> for SilentInPool<'_> {
     ghost use Rattle.j39_findings.specs.declared.checking.finding.Finding.TheVariants.{SilentInPool as SilentInPools};
 
     ghost gives = { λ rule u unit. found_if (is_silent_in_pool rule.kept.now rule.strangers unit) (SilentInPools u) };

@@ -1,12 +1,12 @@
 //! Which texts of groups lie outside of the bytes of their messages.
 ghost use Rattle.std.specs.Prelude.{◌≡◌};
-ghost use Rattle.j39_findings.specs.Adding.{Adds};
-ghost use Rattle.j39_findings.specs.ListPlaces.{found_if};
+ghost use Rattle.j39_rules.specs.Adding.{Adds};
+ghost use Rattle.j39_rules.specs.ListPlaces.{found_if};
 ghost use Rattle.j39_findings.specs.Found.{lies_outside, outside_text_findings, text_findings};
 
 use crate::checking::finding::Finding;
-use crate::checking::rules::{Rule, find_each, push_if};
-use crate::plan::{GroupPlan, TextPlan};
+use j39_network::{GroupPlan, TextPlan};
+use j39_rules::{Rule, find_each, push_if};
 use std::alloc::AllocError;
 
 fn lies_outside(group: &GroupPlan, text: &TextPlan) -> bool
@@ -21,7 +21,7 @@ struct TextOutside<'a> {
     group: &'a GroupPlan,
 }
 
-impl Rule<TextPlan> for TextOutside<'_> {
+impl Rule<TextPlan, Finding> for TextOutside<'_> {
     ghost use Rattle.j39_findings.specs.declared.checking.finding.Finding.TheVariants.{TextOutside as TextsOutside};
 
     ghost gives = { λ rule t text. found_if (lies_outside rule.group.now text) (TextsOutside rule.place t) };
@@ -43,10 +43,10 @@ impl Rule<TextPlan> for TextOutside<'_> {
 #[derive(Clone, Copy)]
 struct OutsideTexts;
 
-impl Rule<GroupPlan> for OutsideTexts {
+impl Rule<GroupPlan, Finding> for OutsideTexts {
     ghost gives = { λ _ g group. outside_text_findings g group };
 
-    #[tactic(auto, unfolding(crate::specs::ListPlaces::each))]
+    #[tactic(auto, unfolding(j39_rules::specs::ListPlaces::each))]
     fn find(
         &self,
         findings: &mut Vec<Finding>,

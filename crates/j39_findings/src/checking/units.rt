@@ -1,22 +1,21 @@
 //! What is wrong with the units of a plan.
 ghost use Rattle.std.specs.Prelude.{◌≡◌, ◌≤◌, length};
 ghost use Rattle.j39_id.specs.Limits.{unit_limit};
-ghost use Rattle.j39_findings.specs.Adding.{Adds};
-ghost use Rattle.j39_findings.specs.Kinds.{may_be_one};
+ghost use Rattle.j39_rules.specs.Adding.{Adds};
+ghost use Rattle.j39_network.specs.Kinds.{may_be_one};
 ghost use Rattle.j39_findings.specs.Found.{have_same_fixed_address, is_fixed, needed_addresses, needs_pool_address, unit_findings};
 
 use crate::checking::finding::Finding;
-use crate::checking::rules::{PairRule, find_pairs, push_if};
-use crate::kinds::may_be_one;
-use crate::plan::UnitPlan;
 use j39_claim::AddressSet;
 use j39_id::addresses::is_in_pool;
+use j39_network::{UnitPlan, may_be_one};
+use j39_rules::{PairRule, find_pairs, push_if};
 use std::alloc::AllocError;
 
 #[derive(Clone, Copy)]
 struct SameName;
 
-impl PairRule<UnitPlan> for SameName {
+impl PairRule<UnitPlan, Finding> for SameName {
     ghost use Rattle.j39_findings.specs.declared.checking.finding.Finding.TheVariants.{SameName as SameNames};
 
     ghost test = { λ _. may_be_one };
@@ -41,7 +40,7 @@ fn is_fixed(unit: &UnitPlan) -> bool
 #[derive(Clone, Copy)]
 struct SameFixedAddress;
 
-impl PairRule<UnitPlan> for SameFixedAddress {
+impl PairRule<UnitPlan, Finding> for SameFixedAddress {
     ghost use Rattle.j39_findings.specs.declared.checking.finding.Finding.TheVariants.{SameFixedAddress as SameAddresses};
 
     ghost test = { λ _. have_same_fixed_address };

@@ -1,36 +1,33 @@
 //! The flows of a plan.
-ghost use Rattle.std.specs.Prelude.{◌≡◌, ◌≤◌, [], true, map, Some, IfOk, IfSome};
+ghost use Rattle.std.specs.Prelude.{◌≡◌, ◌≤◌, [], map, Some, IfOk, IfSome};
 ghost use Rattle.std.specs.Option.{ForSome};
 ghost use Rattle.toml.specs.View.{table_view};
 ghost use Rattle.j39_plan.specs.Outcome.{Gives};
-ghost use Rattle.j39_plan.specs.TableFaults.{keys_faults, unknown_faults};
+ghost use Rattle.j39_plan.specs.Since.{since, since_faults, known_faults};
+ghost use Rattle.j39_plan.specs.declared.reading.version.Version.TheVariants.{Third};
 ghost use Rattle.j39_plan.specs.FlowTables as spec;
 
 use super::elements::ReadElement;
 use super::labels::{Labelled, place_of};
-use super::tables::{only, table_of};
+use super::tables::{only_known, table_of};
 use super::values::{any_text, flag, has_key, number, optional_number, refused};
-use super::{Cause, Key, PlanError, Table};
-use j39_findings::{FlowPlan, GroupPlan, Pace, To, UnitPlan};
+use super::{Cause, Key, PlanError, Table, Version};
+use j39_network::{FlowPlan, GroupPlan, Pace, To, UnitPlan};
 use std::alloc::Global;
 use toml::Value;
 
 // The most milliseconds of a period, a deadline, a jitter and a pause.
 const MS_MOST: u32 = 65_535;
 
-const FLOW_KEYS: [Key; 3] = [Key::Group, Key::From, Key::To];
-
-const THIRD_KEYS: [Key; 5] = [Key::Group, Key::From, Key::To, Key::Period, Key::Deadline];
-
-const FOURTH_KEYS: [Key; 8] = [
-    Key::Group,
-    Key::From,
-    Key::To,
-    Key::Period,
-    Key::Deadline,
-    Key::Jitter,
-    Key::Pause,
-    Key::OnRequest,
+const KEYS: [(Key, Version); 8] = [
+    (Key::Group, Version::First),
+    (Key::From, Version::First),
+    (Key::To, Version::First),
+    (Key::Period, Version::Third),
+    (Key::Deadline, Version::Third),
+    (Key::Jitter, Version::Fourth),
+    (Key::Pause, Version::Fourth),
+    (Key::OnRequest, Version::Fourth),
 ];
 
 /// The place of the item that a text names.
@@ -97,20 +94,20 @@ struct LaterPace {
 fn later_pace(
     members: &toml::Table,
     table: Table,
-    fourth: bool,
+    version: Version,
     period: Option<u32>,
 ) -> Result<LaterPace, PlanError>
     requires some { IfSome period (λ n. 1 ≤ n) }
     requires few { IfSome period (λ n. n ≤ 65535) }
-    ensures gives { Gives result (keys_faults table (table_view members.now) (spec.later_pace_rules fourth period))
-        (λ later. (later.jitter ≡ spec.jitter_of fourth period (table_view members.now))
-        × (later.pause ≡ spec.pause_of fourth period (table_view members.now))
-        × (later.on_request ≡ spec.on_request_of fourth (table_view members.now))) }
+    ensures gives { Gives result (known_faults table version (table_view members.now) (spec.later_pace_rules period))
+        (λ later. (later.jitter ≡ spec.jitter_of version period (table_view members.now))
+        × (later.pause ≡ spec.pause_of version period (table_view members.now))
+        × (later.on_request ≡ spec.on_request_of version (table_view members.now))) }
     ensures below { IfOk result (λ later. later.jitter ≤ spec.jitter_most period) }
     ensures some { IfOk result (λ later. IfSome later.pause (λ n. 1 ≤ n)) }
     ensures few { IfOk result (λ later. IfSome later.pause (λ n. n ≤ 65535)) }
 {
-    if !fourth {
+    if !version.knows(Version::Fourth) {
         return Ok(LaterPace {
             jitter: 0,
             pause: None,
@@ -140,17 +137,56 @@ struct Rhythm {
     ghost pause_positive: { ForSome pause (λ n. 1 ≤ n) },
 }
 
-#[tactic(auto, using(crate::proofs::FirstFaults::faults_after))]
-fn given_rhythm(members: &toml::Table, table: Table, fourth: bool) -> Result<Rhythm, PlanError>
-    ensures { Gives result (keys_faults table (table_view members.now) (spec.pace_rules true fourth (table_view members.now)))
-        (λ rhythm. spec.TellsPace true fourth (table_view members.now) rhythm.pace
-        × (rhythm.pause ≡ spec.given_pause true fourth (table_view members.now))
-        × (rhythm.on_request ≡ spec.given_on_request true fourth (table_view members.now))) }
+// The period, for which other keys may ask: none in a version that doesn't know it.
+fn known_period(
+    members: &toml::Table,
+    table: Table,
+    version: Version,
+) -> Result<Option<u32>, PlanError>
+    ensures gives { Gives result (since_faults table version (table_view members.now) (since Third (spec.period_rule version (table_view members.now))))
+        (λ n. n ≡ spec.given_period version (table_view members.now)) }
+    ensures some { IfOk result (λ found. IfSome found (λ n. 1 ≤ n)) }
+    ensures few { IfOk result (λ found. IfSome found (λ n. n ≤ 65535)) }
 {
-    let asked = fourth && has_key(members, Key::Jitter) || has_key(members, Key::Deadline);
-    let period = optional_number(members, table, Key::Period, 1, MS_MOST, asked)?;
-    let deadline = optional_number(members, table, Key::Deadline, 1, MS_MOST, false)?;
-    let later = later_pace(members, table, fourth, period)?;
+    if !version.knows(Version::Third) {
+        return Ok(None);
+    }
+    let jitter = version.knows(Version::Fourth) && has_key(members, Key::Jitter);
+    if jitter || has_key(members, Key::Deadline) {
+        optional_number(members, table, Key::Period, 1, MS_MOST, true)
+    } else {
+        optional_number(members, table, Key::Period, 1, MS_MOST, false)
+    }
+}
+
+// The deadline: none in a version that doesn't know it.
+fn known_deadline(
+    members: &toml::Table,
+    table: Table,
+    version: Version,
+) -> Result<Option<u32>, PlanError>
+    ensures gives { Gives result (since_faults table version (table_view members.now) (since Third spec.deadline_rule))
+        (λ n. n ≡ spec.given_deadline version (table_view members.now)) }
+    ensures some { IfOk result (λ found. IfSome found (λ n. 1 ≤ n)) }
+    ensures few { IfOk result (λ found. IfSome found (λ n. n ≤ 65535)) }
+{
+    if version.knows(Version::Third) {
+        optional_number(members, table, Key::Deadline, 1, MS_MOST, false)
+    } else {
+        Ok(None)
+    }
+}
+
+#[tactic(auto, using(crate::proofs::FirstFaults::faults_after))]
+fn known_rhythm(members: &toml::Table, table: Table, version: Version) -> Result<Rhythm, PlanError>
+    ensures { Gives result (known_faults table version (table_view members.now) (spec.pace_rules version (table_view members.now)))
+        (λ rhythm. spec.TellsPace version (table_view members.now) rhythm.pace
+        × (rhythm.pause ≡ spec.pause_of version (spec.given_period version (table_view members.now)) (table_view members.now))
+        × (rhythm.on_request ≡ spec.on_request_of version (table_view members.now))) }
+{
+    let period = known_period(members, table, version)?;
+    let deadline = known_deadline(members, table, version)?;
+    let later = later_pace(members, table, version, period)?;
     let pace = match period {
         None => None,
         Some(period) => Some(Pace {
@@ -166,60 +202,17 @@ fn given_rhythm(members: &toml::Table, table: Table, fourth: bool) -> Result<Rhy
     })
 }
 
-// The same, where the version knows it.
-fn known_rhythm(
-    members: &toml::Table,
-    table: Table,
-    third: bool,
-    fourth: bool,
-) -> Result<Rhythm, PlanError>
-    ensures { Gives result (keys_faults table (table_view members.now) (spec.pace_rules third fourth (table_view members.now)))
-        (λ rhythm. spec.TellsPace third fourth (table_view members.now) rhythm.pace
-        × (rhythm.pause ≡ spec.given_pause third fourth (table_view members.now))
-        × (rhythm.on_request ≡ spec.given_on_request third fourth (table_view members.now))) }
-{
-    if third {
-        given_rhythm(members, table, fourth)
-    } else {
-        Ok(Rhythm {
-            pace: None,
-            pause: None,
-            on_request: false,
-        })
-    }
-}
-
-// Refuses a key that the version doesn't know.
-fn only_known(
-    members: &toml::Table,
-    table: Table,
-    third: bool,
-    fourth: bool,
-) -> Result<(), PlanError>
-    ensures { Gives result (unknown_faults table (map (λ r. r.key) (spec.flow_rules third fourth (table_view members.now))) (table_view members.now)) (λ _. Unit {0}) }
-{
-    if !third {
-        only(members, table, &FLOW_KEYS)
-    } else if fourth {
-        only(members, table, &FOURTH_KEYS)
-    } else {
-        only(members, table, &THIRD_KEYS)
-    }
-}
-
 /// The reader of flows between units.
 #[derive(Clone, Copy)]
 pub struct Flows<'a> {
-    pub third: bool,
-    pub fourth: bool,
+    pub version: Version,
     pub groups: &'a [GroupPlan],
     pub units: &'a [UnitPlan],
 }
 
 #[tactic(auto, using(crate::proofs::FirstFaults::faults_after), unfolding(crate::specs::FlowTables::flow_table_faults))]
 fn flow(
-    third: bool,
-    fourth: bool,
+    version: Version,
     groups: &[GroupPlan],
     units: &[UnitPlan],
     index: usize,
@@ -227,15 +220,15 @@ fn flow(
 ) -> Result<FlowPlan, PlanError>
     ensures { let group_labels = map (λ g. g.label.bytes) groups.now in
         let unit_labels = map (λ u. u.label.bytes) units.now in
-        Gives result (spec.flow_table_faults third fourth group_labels unit_labels index (table_view members.now))
-        (spec.TellsFlow third fourth group_labels unit_labels (table_view members.now)) }
+        Gives result (spec.flow_table_faults version group_labels unit_labels index (table_view members.now))
+        (spec.TellsFlow version group_labels unit_labels (table_view members.now)) }
 {
     let table = Table::Flow(index);
-    only_known(members, table, third, fourth)?;
+    only_known(members, table, version, &KEYS)?;
     let group_text = any_text(members, table, Key::Group)?;
     let from_text = any_text(members, table, Key::From)?;
     let to_text = any_text(members, table, Key::To)?;
-    let rhythm = known_rhythm(members, table, third, fourth)?;
+    let rhythm = known_rhythm(members, table, version)?;
     let group = place(groups, group_text, table, Key::Group)?;
     let sender = place(units, from_text, table, Key::From)?;
     let to = to(units, to_text, table)?;
@@ -258,11 +251,11 @@ impl ReadElement<FlowPlan> for Flows<'_> {
 
     ghost label_of = { no_label };
 
-    ghost faults = { λ r i seen. flow_faults r.third r.fourth (map (λ g. g.label.bytes) r.groups.now) (map (λ u. u.label.bytes) r.units.now) i };
+    ghost faults = { λ r i seen. flow_faults r.version (map (λ g. g.label.bytes) r.groups.now) (map (λ u. u.label.bytes) r.units.now) i };
 
     ghost Grows = { λ _. NeverGrows };
 
-    ghost Tells = { λ r. IsFlowOf r.third r.fourth (map (λ g. g.label.bytes) r.groups.now) (map (λ u. u.label.bytes) r.units.now) };
+    ghost Tells = { λ r. IsFlowOf r.version (map (λ g. g.label.bytes) r.groups.now) (map (λ u. u.label.bytes) r.units.now) };
 
     #[tactic(auto, using(crate::proofs::FirstFaults::faults_after), unfolding(crate::specs::FlowTables::flow_faults))]
     fn read(
@@ -273,8 +266,7 @@ impl ReadElement<FlowPlan> for Flows<'_> {
         value: &Value,
     ) -> Result<FlowPlan, PlanError> {
         flow(
-            self.third,
-            self.fourth,
+            self.version,
             self.groups,
             self.units,
             index,

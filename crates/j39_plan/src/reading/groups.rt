@@ -1,80 +1,43 @@
 //! The groups of a plan.
-ghost use Rattle.std.specs.Prelude.{◌≡◌, ◌≢◌, ◌≤◌, ◌<◌, ◌&&◌, [], map, option_map, IfOk, OnErr, IfSome};
+ghost use Rattle.std.specs.Prelude.{◌≡◌, ◌≢◌, ◌≤◌, ◌<◌, [], map, option_map, IfOk, OnErr, IfSome};
 ghost use Rattle.toml.specs.View.{items_view, table_view};
 ghost use Rattle.j39_id.specs.Limits.{message_bytes};
 ghost use Rattle.j39_plan.specs.Schema.{tables_of};
-ghost use Rattle.j39_plan.specs.TableFaults.{keys_faults, unknown_faults};
+ghost use Rattle.j39_plan.specs.Since.{since, since_faults, known_faults};
+ghost use Rattle.j39_plan.specs.declared.reading.version.Version.TheVariants.{Third, Fourth};
 ghost use Rattle.j39_plan.specs.Outcome.{Gives, GivesGrowing};
 ghost use Rattle.j39_plan.specs.Growing.{GroupGrows};
-ghost use Rattle.j39_plan.specs.SelectorTables.{when_rules, when_table};
-ghost use Rattle.j39_plan.specs.GroupTables.{every_of, group_rules, group_table_faults, inner_rules, later_rules, most_of, private_of, signal_rule, text_tables_of, TellsGroup};
+ghost use Rattle.j39_plan.specs.SelectorTables.{when_rule, when_table};
+ghost use Rattle.j39_plan.specs.GroupTables.{every_of, every_rule, group_table_faults, inner_rules, later_rules, most_of, most_rule, private_of, private_rule, signal_rule, text_rule, text_tables_of, TellsGroup};
 
 use super::elements::{ReadElement, read_each};
 use super::labels::untaken;
 use super::selectors::when;
 use super::signals::{PlannedSignal, Signals};
-use super::tables::{array, only, optional_inner, table_of};
+use super::tables::{array, only_known, optional_inner, table_of};
 use super::text_kind::TextKind;
 use super::texts::Texts;
 use super::values::{flag, number, optional_number, short_text};
-use super::{Key, PlanError, Table};
-use j39_findings::limits::{SIGNAL_LIMIT, TEXT_LIMIT};
-use j39_findings::{GroupPlan, Meaning};
+use super::{Key, PlanError, Table, Version};
 use j39_id::limits::MESSAGE_BYTES;
+use j39_network::limits::{SIGNAL_LIMIT, TEXT_LIMIT};
+use j39_network::{GroupPlan, Meaning};
 use j39_signal::Signal;
 use std::alloc::{AllocError, Global};
 use toml::Value;
 
-const FIRST_KEYS: [Key; 5] = [
-    Key::Label,
-    Key::Pgn,
-    Key::Priority,
-    Key::Length,
-    Key::Signal,
+const KEYS: [(Key, Version); 10] = [
+    (Key::Label, Version::First),
+    (Key::Pgn, Version::First),
+    (Key::Priority, Version::First),
+    (Key::Length, Version::First),
+    (Key::Private, Version::Third),
+    (Key::Most, Version::Third),
+    (Key::Every, Version::Third),
+    (Key::When, Version::Fourth),
+    (Key::Signal, Version::First),
+    (Key::Text, Version::Third),
 ];
-
-const THIRD_KEYS: [Key; 9] = [
-    Key::Label,
-    Key::Pgn,
-    Key::Priority,
-    Key::Length,
-    Key::Private,
-    Key::Most,
-    Key::Every,
-    Key::Signal,
-    Key::Text,
-];
-
-const FOURTH_KEYS: [Key; 10] = [
-    Key::Label,
-    Key::Pgn,
-    Key::Priority,
-    Key::Length,
-    Key::Private,
-    Key::Most,
-    Key::Every,
-    Key::When,
-    Key::Signal,
-    Key::Text,
-];
-
-fn only_known(
-    third: bool,
-    fourth: bool,
-    members: &toml::Table,
-    table: Table,
-) -> Result<(), PlanError>
-    ensures { Gives result (unknown_faults table (map (λ r. r.key) (group_rules third fourth (table_view members.now))) (table_view members.now)) (λ _. Unit {0}) }
-{
-    if !third {
-        return only(members, table, &FIRST_KEYS);
-    }
-    if fourth {
-        only(members, table, &FOURTH_KEYS)
-    } else {
-        only(members, table, &THIRD_KEYS)
-    }
-}
 
 // What stands behind the length: whether the number is a maker's own, the length of the longest messages, how far apart records stand,
 // and the table of the selector.
@@ -86,16 +49,63 @@ struct LaterKeys<'a> {
     when: Option<&'a toml::Table>,
 }
 
-#[tactic(auto, using(crate::proofs::FirstFaults::faults_after))]
+// Whether the number is a maker's own: it isn't in a version that doesn't know it.
+fn private(version: Version, members: &toml::Table, table: Table) -> Result<bool, PlanError>
+    ensures { Gives result (since_faults table version (table_view members.now) (since Third private_rule))
+        (λ b. b ≡ private_of version (table_view members.now)) }
+{
+    if version.knows(Version::Third) {
+        flag(members, table, Key::Private, false)
+    } else {
+        Ok(false)
+    }
+}
+
+// The length of the longest messages: that of all in a version that doesn't know several.
+fn most(
+    version: Version,
+    length: u32,
+    members: &toml::Table,
+    table: Table,
+) -> Result<u32, PlanError>
+    requires { length ≤ message_bytes }
+    ensures gives { Gives result (since_faults table version (table_view members.now) (since Third (most_rule length)))
+        (λ n. n ≡ most_of version length (table_view members.now)) }
+    ensures at_least { IfOk result (λ n. length ≤ n) }
+    ensures at_most { IfOk result (λ n. n ≤ message_bytes) }
+{
+    if version.knows(Version::Third) {
+        let limit = MESSAGE_BYTES as u32;
+        number(members, table, Key::Most, length, limit, Some(length))
+    } else {
+        Ok(length)
+    }
+}
+
+// How far apart records stand: there are none in a version that doesn't know them.
+fn every(version: Version, members: &toml::Table, table: Table) -> Result<Option<u32>, PlanError>
+    ensures gives { Gives result (since_faults table version (table_view members.now) (since Third every_rule))
+        (λ n. n ≡ every_of version (table_view members.now)) }
+    ensures some { IfOk result (λ found. IfSome found (λ n. 1 ≤ n)) }
+    ensures few { IfOk result (λ found. IfSome found (λ n. n ≤ 255)) }
+{
+    if version.knows(Version::Third) {
+        optional_number(members, table, Key::Every, 1, 255, false)
+    } else {
+        Ok(None)
+    }
+}
+
+// The table of the selector: none in a version that doesn't know it.
 fn when_key(
-    fourth: bool,
+    version: Version,
     members: &toml::Table,
     table: Table,
 ) -> Result<Option<&toml::Table>, PlanError>
-    ensures { Gives result (keys_faults table (table_view members.now) (when_rules fourth))
-        (λ found. option_map (λ t. table_view t.now) found ≡ when_table fourth (table_view members.now)) }
+    ensures { Gives result (since_faults table version (table_view members.now) (since Fourth when_rule))
+        (λ found. option_map (λ t. table_view t.now) found ≡ when_table version (table_view members.now)) }
 {
-    if fourth {
+    if version.knows(Version::Fourth) {
         optional_inner(members, table, Key::When)
     } else {
         Ok(None)
@@ -104,47 +114,42 @@ fn when_key(
 
 #[tactic(auto, using(crate::proofs::FirstFaults::faults_after))]
 fn later_keys(
-    third: bool,
-    fourth: bool,
+    version: Version,
     length: u32,
     members: &toml::Table,
     table: Table,
 ) -> Result<LaterKeys, PlanError>
     requires { length ≤ message_bytes }
-    ensures gives { Gives result (keys_faults table (table_view members.now) (later_rules third fourth length))
-        (λ later. (later.private ≡ private_of third (table_view members.now)) × (later.most ≡ most_of third length (table_view members.now))
-        × (later.every ≡ every_of third (table_view members.now))
-        × (option_map (λ t. table_view t.now) later.when ≡ when_table (third && fourth) (table_view members.now))) }
+    ensures gives { Gives result (known_faults table version (table_view members.now) (later_rules length))
+        (λ later. (later.private ≡ private_of version (table_view members.now)) × (later.most ≡ most_of version length (table_view members.now))
+        × (later.every ≡ every_of version (table_view members.now))
+        × (option_map (λ t. table_view t.now) later.when ≡ when_table version (table_view members.now))) }
     ensures at_least { IfOk result (λ later. length ≤ later.most) }
     ensures at_most { IfOk result (λ later. later.most ≤ message_bytes) }
     ensures some { IfOk result (λ later. IfSome later.every (λ n. 1 ≤ n)) }
     ensures few { IfOk result (λ later. IfSome later.every (λ n. n ≤ 255)) }
 {
-    if third {
-        let private = flag(members, table, Key::Private, false)?;
-        let most = number(
-            members,
-            table,
-            Key::Most,
-            length,
-            MESSAGE_BYTES as u32,
-            Some(length),
-        )?;
-        let every = optional_number(members, table, Key::Every, 1, 255, false)?;
-        let when = when_key(fourth, members, table)?;
-        Ok(LaterKeys {
-            private,
-            most,
-            every,
-            when,
-        })
+    let private = private(version, members, table)?;
+    let most = most(version, length, members, table)?;
+    let every = every(version, members, table)?;
+    let when = when_key(version, members, table)?;
+    Ok(LaterKeys {
+        private,
+        most,
+        every,
+        when,
+    })
+}
+
+// The tables of texts: none in a version that doesn't know them.
+fn text_tables(version: Version, members: &toml::Table, table: Table) -> Result<&[Value], PlanError>
+    ensures { Gives result (since_faults table version (table_view members.now) (since Third text_rule))
+        (λ texts. items_view texts.now ≡ text_tables_of version (table_view members.now)) }
+{
+    if version.knows(Version::Third) {
+        array(members, table, Key::Text, TEXT_LIMIT)
     } else {
-        Ok(LaterKeys {
-            private: false,
-            most: length,
-            every: None,
-            when: None,
-        })
+        Ok(&[])
     }
 }
 
@@ -156,21 +161,14 @@ struct Inside<'a> {
 }
 
 #[tactic(auto, using(crate::proofs::FirstFaults::faults_after))]
-fn arrays(third: bool, members: &toml::Table, table: Table) -> Result<Inside, PlanError>
-    ensures { Gives result (keys_faults table (table_view members.now) (inner_rules third))
+fn arrays(version: Version, members: &toml::Table, table: Table) -> Result<Inside, PlanError>
+    ensures { Gives result (known_faults table version (table_view members.now) inner_rules)
         (λ arrays. (items_view arrays.signals.now ≡ tables_of signal_rule (table_view members.now))
-        × (items_view arrays.texts.now ≡ text_tables_of third (table_view members.now))) }
+        × (items_view arrays.texts.now ≡ text_tables_of version (table_view members.now))) }
 {
     let signals = array(members, table, Key::Signal, SIGNAL_LIMIT)?;
-    if third {
-        let texts = array(members, table, Key::Text, TEXT_LIMIT)?;
-        Ok(Inside { signals, texts })
-    } else {
-        Ok(Inside {
-            signals,
-            texts: &[],
-        })
-    }
+    let texts = text_tables(version, members, table)?;
+    Ok(Inside { signals, texts })
 }
 
 // How many bytes each record stands behind the one before, in the type of a plan.
@@ -205,28 +203,26 @@ fn parted(
 #[tactic(auto, using(crate::proofs::FirstFaults::faults_after), unfolding(crate::specs::GroupTables::group_table_faults))]
 fn group(
     alloc: Global,
-    third: bool,
-    fourth: bool,
+    version: Version,
     index: usize,
     members: &toml::Table,
 ) -> Result<GroupPlan, PlanError>
-    ensures { GivesGrowing (GroupGrows third fourth index (table_view members.now)) result
-        (group_table_faults third fourth index (table_view members.now)) (TellsGroup third fourth (table_view members.now)) }
+    ensures { GivesGrowing (GroupGrows version index (table_view members.now)) result
+        (group_table_faults version index (table_view members.now)) (TellsGroup version (table_view members.now)) }
 {
     let table = Table::Group(index);
-    only_known(third, fourth, members, table)?;
+    only_known(members, table, version, &KEYS)?;
     let label = short_text(members, table, Key::Label, TextKind::Label, None)?;
     let pgn = number(members, table, Key::Pgn, 0, 0xff_ffff, None)?;
     let priority = number(members, table, Key::Priority, 0, 7, None)?;
     let length = number(members, table, Key::Length, 1, MESSAGE_BYTES as u32, None)?;
-    let later = later_keys(third, fourth, length, members, table)?;
+    let later = later_keys(version, length, members, table)?;
     let when = when(later.when, index)?;
-    let arrays = arrays(third, members, table)?;
+    let arrays = arrays(version, members, table)?;
     let every = distance(later.every);
     let records = later.every.is_some();
     let reader = Signals {
-        third,
-        fourth,
+        version,
         records,
         group: index,
     };
@@ -255,11 +251,10 @@ fn group(
     })
 }
 
-/// The reader of groups, in the third version of a plan, the fourth or another.
+/// The reader of groups.
 #[derive(Clone, Copy)]
 pub struct Groups {
-    pub third: bool,
-    pub fourth: bool,
+    pub version: Version,
 }
 
 impl ReadElement<GroupPlan> for Groups {
@@ -271,11 +266,11 @@ impl ReadElement<GroupPlan> for Groups {
 
     ghost label_of = { label_in };
 
-    ghost faults = { λ r. group_faults r.third r.fourth };
+    ghost faults = { λ r. group_faults r.version };
 
-    ghost Grows = { λ r. GroupElementGrows r.third r.fourth };
+    ghost Grows = { λ r. GroupElementGrows r.version };
 
-    ghost Tells = { λ r. IsGroupOf r.third r.fourth };
+    ghost Tells = { λ r. IsGroupOf r.version };
 
     #[tactic(auto, using(crate::proofs::FirstFaults::faults_after), unfolding(crate::specs::GroupTables::group_faults))]
     fn read(
@@ -286,13 +281,7 @@ impl ReadElement<GroupPlan> for Groups {
         value: &Value,
     ) -> Result<GroupPlan, PlanError> {
         let table = Table::Group(index);
-        let group = group(
-            alloc,
-            self.third,
-            self.fourth,
-            index,
-            table_of(value, table)?,
-        )?;
+        let group = group(alloc, self.version, index, table_of(value, table)?)?;
         untaken(seen, group.label.as_str(), TextKind::Label, table)?;
         Ok(group)
     }

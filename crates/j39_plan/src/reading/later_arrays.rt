@@ -1,14 +1,14 @@
-//! The arrays of tables that the fourth version alone knows.
+//! The arrays of tables that are known since the fourth version.
 ghost use Rattle.std.specs.Prelude.{◌≡◌};
 ghost use Rattle.toml.specs.View.{items_view, table_view};
 ghost use Rattle.j39_plan.specs.declared.reading.place.Table.TheVariants as at;
-ghost use Rattle.j39_plan.specs.TableFaults.{keys_faults};
+ghost use Rattle.j39_plan.specs.Since.{known_faults};
 ghost use Rattle.j39_plan.specs.Outcome.{Gives};
 ghost use Rattle.j39_plan.specs.PlanFaults.{later_array_rules, need_tables_of, request_tables_of};
 
 use super::tables::array;
-use super::{Key, PlanError, Table};
-use j39_findings::limits::{NEED_LIMIT, REQUEST_LIMIT};
+use super::{Key, PlanError, Table, Version};
+use j39_network::limits::{NEED_LIMIT, REQUEST_LIMIT};
 use toml::Value;
 
 /// The tables of needs and those of requests.
@@ -20,12 +20,12 @@ pub struct LaterArrays<'a> {
 
 /// Those of a plan: none where its version doesn't know them.
 #[tactic(auto, using(crate::proofs::FirstFaults::faults_after))]
-pub fn later_arrays(members: &toml::Table, fourth: bool) -> Result<LaterArrays<'_>, PlanError>
-    ensures { Gives result (keys_faults at.Top (table_view members.now) (later_array_rules fourth))
-        (λ later. (items_view later.needs.now ≡ need_tables_of fourth (table_view members.now))
-        × (items_view later.requests.now ≡ request_tables_of fourth (table_view members.now))) }
+pub fn later_arrays(members: &toml::Table, version: Version) -> Result<LaterArrays<'_>, PlanError>
+    ensures { Gives result (known_faults at.Top version (table_view members.now) later_array_rules)
+        (λ later. (items_view later.needs.now ≡ need_tables_of version (table_view members.now))
+        × (items_view later.requests.now ≡ request_tables_of version (table_view members.now))) }
 {
-    if !fourth {
+    if !version.knows(Version::Fourth) {
         return Ok(LaterArrays {
             needs: &[],
             requests: &[],

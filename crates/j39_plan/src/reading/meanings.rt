@@ -7,21 +7,22 @@ ghost use Rattle.std.specs.Char.{is_ascii_digit};
 ghost use Rattle.std.specs.Str.Parse.{digits_value};
 ghost use Rattle.toml.specs.Data.{as_str, no_members};
 ghost use Rattle.toml.specs.View.{view, table_view};
-ghost use Rattle.j39_findings.specs.LabelForm.{is_label};
-ghost use Rattle.j39_findings.specs.PlanLimits.{spn_most, value_limit};
+ghost use Rattle.j39_network.specs.LabelForm.{is_label};
+ghost use Rattle.j39_network.specs.PlanLimits.{spn_most, value_limit};
 ghost use Rattle.j39_plan.specs.Schema as schema;
 ghost use Rattle.j39_plan.specs.Schema.{flag_of};
-ghost use Rattle.j39_plan.specs.TableFaults.{has_labels, has_numbers, has_texts, is_decimal, is_number_below, key_faults, keys_faults, names_cause};
+ghost use Rattle.j39_plan.specs.TableFaults.{has_labels, has_numbers, has_texts, is_decimal, is_number_below, key_faults, names_cause};
 ghost use Rattle.j39_plan.specs.MeaningTables.{AreValueNames, TellsKeys, meaning_rules, optional_rule, raw_limit};
+ghost use Rattle.j39_plan.specs.Since.{known_faults};
 ghost use Rattle.j39_plan.specs.Outcome.{Gives};
 
 use super::text_kind::TextKind;
 use super::values::{flag_if, optional_number, refused, value_at};
-use super::{Cause, Key, PlanError, Table};
+use super::{Cause, Key, PlanError, Table, Version};
 use arrayvec::ArrayString;
-use j39_findings::limits::{SPN_MOST, VALUE_LIMIT};
-use j39_findings::{Meaning, ValueName};
 use j39_id::Label;
+use j39_network::limits::{SPN_MOST, VALUE_LIMIT};
+use j39_network::{Meaning, ValueName};
 use std::alloc::{AllocError, Global};
 use toml::Value;
 
@@ -222,17 +223,17 @@ fn raw_limit(bits: u32) -> u64
 pub fn meaning_keys<'a>(
     members: &'a toml::Table,
     table: Table,
-    fourth: bool,
+    version: Version,
     repeated: bool,
     code: bool,
     bits: u32,
 ) -> Result<MeaningKeys<'a>, PlanError>
-    ensures gives { Gives result (keys_faults table (table_view members.now) (meaning_rules fourth repeated code bits))
-        (TellsKeys fourth (table_view members.now)) }
+    ensures gives { Gives result (known_faults table version (table_view members.now) (meaning_rules repeated code bits))
+        (TellsKeys version (table_view members.now)) }
     ensures spn { IfOk result (λ m. IfSome m.spn (λ n. n ≤ spn_most)) }
     ensures named { IfOk result (λ m. IfSome m.names (λ t. names_cause (raw_limit bits) (table_view t.now) ≡ None)) }
 {
-    if !fourth {
+    if !version.knows(Version::Fourth) {
         return Ok(MeaningKeys {
             optional: false,
             spn: None,

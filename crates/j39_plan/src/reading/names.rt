@@ -9,7 +9,7 @@ ghost use Rattle.j39_plan.specs.TableFaults.{key_faults};
 
 use super::tables::only;
 use super::values::{flag, has_key, number};
-use super::{Key, PlanError, Table};
+use super::{Key, PlanError, Table, Version};
 use j39_id::{Name, NameFields};
 
 const NAME_KEYS: [Key; 9] = [
@@ -25,12 +25,12 @@ const NAME_KEYS: [Key; 9] = [
 ];
 
 // The identity number, which the fourth version lets be absent.
-fn identity(fourth: bool, members: &toml::Table, table: Table) -> Result<u32, PlanError>
-    ensures gives { Gives result (key_faults table (table_view members.now) (identity_rule fourth))
-        (λ n. n ≡ number_of (identity_rule fourth) (table_view members.now)) }
+fn identity(version: Version, members: &toml::Table, table: Table) -> Result<u32, PlanError>
+    ensures gives { Gives result (key_faults table (table_view members.now) (identity_rule version))
+        (λ n. n ≡ number_of (identity_rule version) (table_view members.now)) }
     ensures range { IfOk result (λ n. n < 2 ^ 21) }
 {
-    if fourth {
+    if version.knows(Version::Fourth) {
         number(members, table, Key::Identity, 0, 2_097_151, Some(0))
     } else {
         number(members, table, Key::Identity, 0, 2_097_151, None)
@@ -38,20 +38,24 @@ fn identity(fourth: bool, members: &toml::Table, table: Table) -> Result<u32, Pl
 }
 
 // Whether a NAME leaves its identity number open.
-fn lacks_identity(fourth: bool, members: &toml::Table) -> bool
-    ensures { result ≡ lacks_identity fourth (table_view members.now) }
+fn lacks_identity(version: Version, members: &toml::Table) -> bool
+    ensures { result ≡ lacks_identity version (table_view members.now) }
 {
-    fourth && !has_key(members, Key::Identity)
+    version.knows(Version::Fourth) && !has_key(members, Key::Identity)
 }
 
 #[tactic(auto, using(crate::proofs::FirstFaults::faults_after), unfolding(crate::specs::UnitTables::name_faults, crate::specs::UnitTables::name_fields_of))]
-fn name_fields(fourth: bool, index: usize, members: &toml::Table) -> Result<NameFields, PlanError>
-    ensures gives { Gives result (name_faults fourth index (table_view members.now)) (λ f. f ≡ name_fields_of fourth (table_view members.now)) }
+fn name_fields(
+    version: Version,
+    index: usize,
+    members: &toml::Table,
+) -> Result<NameFields, PlanError>
+    ensures gives { Gives result (name_faults version index (table_view members.now)) (λ f. f ≡ name_fields_of version (table_view members.now)) }
     ensures in_range { IfOk result (λ f. first_out f ≡ None) }
 {
     let table = Table::UnitName(index);
     only(members, table, &NAME_KEYS)?;
-    let identity = identity(fourth, members, table)?;
+    let identity = identity(version, members, table)?;
     let manufacturer = number(members, table, Key::Manufacturer, 0, 2047, Some(0))?;
     let ecu = number(members, table, Key::Ecu, 0, 7, Some(0))?;
     let function_instance = number(members, table, Key::FunctionInstance, 0, 31, Some(0))?;
@@ -75,12 +79,12 @@ fn name_fields(fourth: bool, index: usize, members: &toml::Table) -> Result<Name
 }
 
 /// The NAME that a table tells, with 0 for an identity number that is left open.
-pub fn name(fourth: bool, index: usize, members: &toml::Table) -> Result<Name, PlanError>
-    ensures gives { Gives result (name_faults fourth index (table_view members.now))
-        (λ n. n ≡ name_number (name_fields_of fourth (table_view members.now))) }
+pub fn name(version: Version, index: usize, members: &toml::Table) -> Result<Name, PlanError>
+    ensures gives { Gives result (name_faults version index (table_view members.now))
+        (λ n. n ≡ name_number (name_fields_of version (table_view members.now))) }
     ensures range { IfOk result (λ n. n < 2 ^ 64) }
 {
-    let fields = name_fields(fourth, index, members)?;
+    let fields = name_fields(version, index, members)?;
     match Name::from_fields(fields) {
         Ok(name) => Ok(name),
         Err(_) => unreachable!(),
@@ -88,10 +92,10 @@ pub fn name(fourth: bool, index: usize, members: &toml::Table) -> Result<Name, P
 }
 
 /// Whether the NAME of a table leaves its identity number open, and so has 0 there.
-pub fn is_open(fourth: bool, members: &toml::Table, name: Name) -> bool
-    requires { name ≡ name_number (name_fields_of fourth (table_view members.now)) }
-    ensures value { result ≡ lacks_identity fourth (table_view members.now) }
+pub fn is_open(version: Version, members: &toml::Table, name: Name) -> bool
+    requires { name ≡ name_number (name_fields_of version (table_view members.now)) }
+    ensures value { result ≡ lacks_identity version (table_view members.now) }
     ensures number { result ≡ true → name % 2 ^ 21 ≡ 0 }
 {
-    lacks_identity(fourth, members)
+    lacks_identity(version, members)
 }

@@ -1,86 +1,47 @@
 //! The signals of a group.
-ghost use Rattle.std.specs.Prelude.{◌≡◌, ◌≤◌, ◌≤ℤ◌, ◌&&◌, true, false, None, pos, negsuc, map, IsTrue, IfOk, IfSome};
+ghost use Rattle.std.specs.Prelude.{◌≡◌, ◌≤◌, ◌≤ℤ◌, true, false, None, pos, negsuc, IsTrue, IfOk, IfSome};
 ghost use Rattle.toml.specs.View.{table_view};
 ghost use Rattle.j39_signal.specs.Parts.{IsSignal, IsDivisor};
-ghost use Rattle.j39_findings.specs.LabelForm.{is_label};
+ghost use Rattle.j39_network.specs.LabelForm.{is_label};
 ghost use Rattle.j39_plan.specs.Schema.{flag_of, integer_of, number_of, text_of};
-ghost use Rattle.j39_plan.specs.TableFaults.{key_faults, names_cause, unknown_faults};
+ghost use Rattle.j39_plan.specs.TableFaults.{key_faults, names_cause};
+ghost use Rattle.j39_plan.specs.Since.{since, since_faults};
+ghost use Rattle.j39_plan.specs.declared.reading.version.Version.TheVariants.{Third};
 ghost use Rattle.j39_plan.specs.MeaningTables.{TellsKeys, raw_limit};
-ghost use Rattle.j39_findings.specs.PlanLimits.{spn_most};
+ghost use Rattle.j39_network.specs.PlanLimits.{spn_most};
 ghost use Rattle.j39_plan.specs.Outcome.{Gives};
 ghost use Rattle.j39_id.specs.Limits.{message_bytes};
-ghost use Rattle.j39_plan.specs.SignalTables.{is_code, is_dtc, kind_of, kind_rule, offset_rule, per_rule, repeated_rule, signal_rules, signal_table_faults, start_of, step_rule, unit_rule, TellsSignal};
+ghost use Rattle.j39_plan.specs.SignalTables.{is_code, is_dtc, kind_of, kind_rule, kinds, offset_rule, per_of, per_rule, repeated_of, repeated_rule, signal_table_faults, start_of, step_rule, unit_rule, TellsSignal};
 
 use super::elements::ReadElement;
 use super::labels::{Labelled, untaken};
 use super::meanings::{MeaningKeys, meaning_keys, meaning_of};
-use super::tables::{only, table_of};
+use super::tables::{only_known, table_of};
 use super::text_kind::TextKind;
 use super::values::{divisor, flag_if, integer, number, short_text, text};
-use super::{Key, PlanError, Table};
-use j39_findings::Meaning;
+use super::{Key, PlanError, Table, Version};
 use j39_id::Label;
 use j39_id::limits::MESSAGE_BYTES;
+use j39_network::Meaning;
 use j39_signal::{Kind, Signal};
 use std::alloc::Global;
 use toml::Value;
 
-const FIRST_KEYS: [Key; 8] = [
-    Key::Label,
-    Key::Byte,
-    Key::Bit,
-    Key::Bits,
-    Key::Kind,
-    Key::Step,
-    Key::Offset,
-    Key::Unit,
+const KEYS: [(Key, Version); 13] = [
+    (Key::Label, Version::First),
+    (Key::Byte, Version::First),
+    (Key::Bit, Version::First),
+    (Key::Bits, Version::First),
+    (Key::Kind, Version::First),
+    (Key::Step, Version::First),
+    (Key::Per, Version::Third),
+    (Key::Offset, Version::First),
+    (Key::Unit, Version::First),
+    (Key::Repeated, Version::Third),
+    (Key::Optional, Version::Fourth),
+    (Key::Spn, Version::Fourth),
+    (Key::Values, Version::Fourth),
 ];
-
-const THIRD_KEYS: [Key; 10] = [
-    Key::Label,
-    Key::Byte,
-    Key::Bit,
-    Key::Bits,
-    Key::Kind,
-    Key::Step,
-    Key::Per,
-    Key::Offset,
-    Key::Unit,
-    Key::Repeated,
-];
-
-const FOURTH_KEYS: [Key; 13] = [
-    Key::Label,
-    Key::Byte,
-    Key::Bit,
-    Key::Bits,
-    Key::Kind,
-    Key::Step,
-    Key::Per,
-    Key::Offset,
-    Key::Unit,
-    Key::Repeated,
-    Key::Optional,
-    Key::Spn,
-    Key::Values,
-];
-
-// Refuses a key that the version, the third or the fourth, doesn't know.
-fn only_known(
-    fourth: bool,
-    records: bool,
-    members: &toml::Table,
-    table: Table,
-) -> Result<(), PlanError>
-    ensures { Gives result (unknown_faults table (map (λ r. r.key) (signal_rules true fourth records (table_view members.now))) (table_view members.now))
-        (λ _. Unit {0}) }
-{
-    if fourth {
-        only(members, table, &FOURTH_KEYS)
-    } else {
-        only(members, table, &THIRD_KEYS)
-    }
-}
 
 fn kind_of(word: &str) -> Kind
     ensures { result ≡ kind_of word.now }
@@ -114,15 +75,26 @@ pub(super) fn start_of(byte: u32, bit: u32) -> u16
     start as u16
 }
 
+// The words of kinds that the version knows.
+fn kinds(version: Version) -> TextKind
+    ensures { result ≡ kinds version }
+{
+    if version.knows(Version::Third) {
+        TextKind::AnySignalKind
+    } else {
+        TextKind::SignalKind
+    }
+}
+
 // The kind, and whether it is a trouble code.
 #[tactic(auto, unfolding(crate::specs::SignalTables::is_code))]
-fn third_kind(members: &toml::Table, table: Table) -> Result<(Kind, bool), PlanError>
-    ensures { Gives result (key_faults table (table_view members.now) (kind_rule true))
-        (λ k. (k.0 ≡ kind_of (text_of (kind_rule true) (table_view members.now))) × (k.1 ≡ is_code true (table_view members.now))) }
+fn kind(version: Version, members: &toml::Table, table: Table) -> Result<(Kind, bool), PlanError>
+    ensures { Gives result (key_faults table (table_view members.now) (kind_rule version))
+        (λ k. (k.0 ≡ kind_of (text_of (kind_rule version) (table_view members.now))) × (k.1 ≡ is_code version (table_view members.now))) }
 {
-    let word = text(members, table, Key::Kind, TextKind::AnySignalKind, None)?;
+    let word = text(members, table, Key::Kind, kinds(version), None)?;
     let kind = kind_of(word);
-    Ok((kind, is_dtc(kind)))
+    Ok((kind, version.knows(Version::Third) && is_dtc(kind)))
 }
 
 #[tactic(auto, unfolding(crate::specs::Schema::number_of))]
@@ -236,53 +208,69 @@ struct SignalKeys<'a> {
     meant: MeaningKeys<'a>,
 }
 
-#[tactic(auto, using(crate::proofs::FirstFaults::faults_after), unfolding(crate::specs::SignalTables::signal_table_faults, crate::specs::SignalTables::is_code))]
-fn first_signal(fourth: bool, table: Table, members: &toml::Table) -> Result<Signal, PlanError>
-    ensures gives { Gives result (signal_table_faults false fourth false table (table_view members.now)) (TellsSignal false fourth (table_view members.now)) }
-    ensures label_form { IfOk result (λ s. IsTrue (is_label s.label.bytes)) }
-    ensures ranges { IfOk result (λ s. IsSignal s.start s.bits s.step s.offset) }
-    ensures single { IfOk result (λ s. s.repeated ≡ false) }
+// What the values are divided by: 1 in a version that doesn't know it.
+fn known_per(
+    version: Version,
+    members: &toml::Table,
+    table: Table,
+    code: bool,
+) -> Result<u32, PlanError>
+    ensures gives { Gives result (since_faults table version (table_view members.now) (since Third (per_rule code)))
+        (λ n. n ≡ per_of version (table_view members.now)) }
+    ensures divides { IfOk result IsDivisor }
 {
-    only(members, table, &FIRST_KEYS)?;
-    let label = short_text(members, table, Key::Label, TextKind::Label, None)?;
-    let byte = number(members, table, Key::Byte, 1, MESSAGE_BYTES as u32, None)?;
-    let bit = number(members, table, Key::Bit, 1, 8, Some(1))?;
-    let bits = number(members, table, Key::Bits, 1, 64, None)?;
-    let kind = kind_of(text(members, table, Key::Kind, TextKind::SignalKind, None)?);
-    let step = step(members, table, false)?;
-    let offset = offset(members, table, false)?;
-    let unit = unit(members, table, false)?;
-    let start = start_of(byte, bit);
-    Ok(whole_signal(label, start, bits, kind, step, offset, unit))
+    if version.knows(Version::Third) {
+        per(members, table, code)
+    } else {
+        Ok(1)
+    }
+}
+
+// Whether it is repeated: it isn't in a version that doesn't know it.
+fn known_repeated(
+    version: Version,
+    members: &toml::Table,
+    table: Table,
+    records: bool,
+) -> Result<bool, PlanError>
+    ensures gives { Gives result (since_faults table version (table_view members.now) (since Third (repeated_rule records)))
+        (λ b. b ≡ repeated_of version (table_view members.now)) }
+    ensures only { IfOk result (λ b. records ≡ false → b ≡ false) }
+{
+    if version.knows(Version::Third) {
+        repeated(members, table, records)
+    } else {
+        Ok(false)
+    }
 }
 
 #[tactic(auto, using(crate::proofs::FirstFaults::faults_after), unfolding(crate::specs::SignalTables::signal_table_faults))]
-fn third_signal<'a>(
-    fourth: bool,
-    records: bool,
+fn signal<'a>(
+    reader: &Signals,
     table: Table,
     members: &'a toml::Table,
 ) -> Result<SignalKeys<'a>, PlanError>
-    ensures gives { Gives result (signal_table_faults true fourth records table (table_view members.now))
-        (λ k. TellsSignal true fourth (table_view members.now) k.signal × TellsKeys fourth (table_view members.now) k.meant) }
+    ensures gives { Gives result (signal_table_faults reader.now.version reader.now.records table (table_view members.now))
+        (λ k. TellsSignal reader.now.version (table_view members.now) k.signal × TellsKeys reader.now.version (table_view members.now) k.meant) }
     ensures label_form { IfOk result (λ k. IsTrue (is_label k.signal.label.bytes)) }
     ensures ranges { IfOk result (λ k. IsSignal k.signal.start k.signal.bits k.signal.step k.signal.offset) }
-    ensures single { IfOk result (λ k. records ≡ false → k.signal.repeated ≡ false) }
+    ensures single { IfOk result (λ k. reader.now.records ≡ false → k.signal.repeated ≡ false) }
     ensures spn { IfOk result (λ k. IfSome k.meant.spn (λ n. n ≤ spn_most)) }
     ensures named { IfOk result (λ k. IfSome k.meant.names (λ t. names_cause (raw_limit k.signal.bits) (table_view t.now) ≡ None)) }
 {
-    only_known(fourth, records, members, table)?;
+    let version = reader.version;
+    only_known(members, table, version, &KEYS)?;
     let label = short_text(members, table, Key::Label, TextKind::Label, None)?;
     let byte = number(members, table, Key::Byte, 1, MESSAGE_BYTES as u32, None)?;
     let bit = number(members, table, Key::Bit, 1, 8, Some(1))?;
     let bits = number(members, table, Key::Bits, 1, 64, None)?;
-    let kind = third_kind(members, table)?;
+    let kind = kind(version, members, table)?;
     let step = step(members, table, kind.1)?;
-    let per = per(members, table, kind.1)?;
+    let per = known_per(version, members, table, kind.1)?;
     let offset = offset(members, table, kind.1)?;
     let unit = unit(members, table, kind.1)?;
-    let repeated = repeated(members, table, records)?;
-    let meant = meaning_keys(members, table, fourth, repeated, kind.1, bits)?;
+    let repeated = known_repeated(version, members, table, reader.records)?;
+    let meant = meaning_keys(members, table, version, repeated, kind.1, bits)?;
     let start = start_of(byte, bit);
     match whole_signal(label, start, bits, kind.0, step, offset, unit).divided_by(per) {
         Some(signal) => Ok(SignalKeys {
@@ -293,33 +281,6 @@ fn third_signal<'a>(
     }
 }
 
-#[tactic(auto, unfolding(crate::specs::SignalTables::signal_table_faults))]
-fn signal<'a>(
-    version: &Signals,
-    table: Table,
-    members: &'a toml::Table,
-) -> Result<SignalKeys<'a>, PlanError>
-    ensures gives { Gives result (signal_table_faults version.now.third version.now.fourth version.now.records table (table_view members.now))
-        (λ k. TellsSignal version.now.third version.now.fourth (table_view members.now) k.signal
-        × TellsKeys (version.now.third && version.now.fourth) (table_view members.now) k.meant) }
-    ensures label_form { IfOk result (λ k. IsTrue (is_label k.signal.label.bytes)) }
-    ensures ranges { IfOk result (λ k. IsSignal k.signal.start k.signal.bits k.signal.step k.signal.offset) }
-    ensures single { IfOk result (λ k. version.now.records ≡ false → k.signal.repeated ≡ false) }
-    ensures spn { IfOk result (λ k. IfSome k.meant.spn (λ n. n ≤ spn_most)) }
-    ensures named { IfOk result (λ k. IfSome k.meant.names (λ t. names_cause (raw_limit k.signal.bits) (table_view t.now) ≡ None)) }
-{
-    if version.third {
-        return third_signal(version.fourth, version.records, table, members);
-    }
-    let signal = first_signal(version.fourth, table, members)?;
-    let meant = MeaningKeys {
-        optional: false,
-        spn: None,
-        names: None,
-    };
-    Ok(SignalKeys { signal, meant })
-}
-
 /// A signal of a group, with what is said of it besides.
 #[derive(Drop)]
 pub struct PlannedSignal {
@@ -327,11 +288,10 @@ pub struct PlannedSignal {
     pub meaning: Meaning,
 }
 
-/// The reader of the signals of the group at a place, which has records or hasn't, in the third version of a plan, the fourth or another.
+/// The reader of the signals of the group at a place, which has records or hasn't.
 #[derive(Clone, Copy)]
 pub struct Signals {
-    pub third: bool,
-    pub fourth: bool,
+    pub version: Version,
     pub records: bool,
     pub group: usize,
 }
@@ -345,11 +305,11 @@ impl ReadElement<PlannedSignal> for Signals {
 
     ghost label_of = { label_in };
 
-    ghost faults = { λ r. signal_faults r.third r.fourth r.records r.group };
+    ghost faults = { λ r. signal_faults r.version r.records r.group };
 
-    ghost Grows = { λ r. SignalGrows r.third r.fourth r.records r.group };
+    ghost Grows = { λ r. SignalGrows r.version r.records r.group };
 
-    ghost Tells = { λ r d x. (IsSignalOf r.third r.fourth d x.signal × IsFit r.records x.signal) × IsMeaningOf r.third r.fourth d x.meaning };
+    ghost Tells = { λ r d x. (IsSignalOf r.version d x.signal × IsFit r.records x.signal) × IsMeaningOf r.version d x.meaning };
 
     #[tactic(auto, using(crate::proofs::FirstFaults::faults_after), unfolding(crate::specs::SignalTables::signal_faults))]
     fn read(

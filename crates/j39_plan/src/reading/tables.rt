@@ -6,10 +6,11 @@ ghost use Rattle.toml.specs.Data.{as_table};
 ghost use Rattle.toml.specs.View.{view, table_view, items_view};
 ghost use Rattle.j39_plan.specs.Schema as schema;
 ghost use Rattle.j39_plan.specs.TableFaults.{is_key_word, key_faults, table_only_faults, unknown_faults};
+ghost use Rattle.j39_plan.specs.Since.{is_known_word, known_keys};
 ghost use Rattle.j39_plan.specs.Outcome.{Gives};
 
 use super::values::{refused, value_at};
-use super::{Cause, Fault, Key, Place, PlanError, Table};
+use super::{Cause, Fault, Key, Place, PlanError, Table, Version};
 use toml::Value;
 
 /// The table at a key.
@@ -97,6 +98,41 @@ pub fn only(members: &toml::Table, table: Table, keys: &[Key]) -> Result<(), Pla
     ensures { Gives result (unknown_faults table keys.now (table_view members.now)) (λ _. Unit {0}) }
 {
     if has_only(members, keys) {
+        Ok(())
+    } else {
+        Err(PlanError::Fault(Fault {
+            cause: Cause::UnknownKey,
+            place: Place { table, key: None },
+        }))
+    }
+}
+
+fn is_known(name: &str, version: Version, keys: &[(Key, Version)]) -> bool
+    ensures { result ≡ is_known_word version keys.now name.now }
+{
+    keys.iter()
+        .any(|key| version.knows(key.1) && key.0.word() == name)
+}
+
+fn has_known(members: &toml::Table, version: Version, keys: &[(Key, Version)]) -> bool
+    ensures { result ≡ list_all (λ name. is_known_word version keys.now (string_bytes name)) (keys_of members.now.entries) }
+{
+    members
+        .keys()
+        .all(|name| is_known(name.as_str(), version, keys))
+}
+
+/// Refuses a table with a key that the version doesn't know, of these, each with the version since which it is known.
+#[tactic(auto, using(crate::proofs::Tables::has_known_view), unfolding(crate::specs::TableFaults::unknown_faults))]
+pub fn only_known(
+    members: &toml::Table,
+    table: Table,
+    version: Version,
+    keys: &[(Key, Version)],
+) -> Result<(), PlanError>
+    ensures { Gives result (unknown_faults table (known_keys version keys.now) (table_view members.now)) (λ _. Unit {0}) }
+{
+    if has_known(members, version, keys) {
         Ok(())
     } else {
         Err(PlanError::Fault(Fault {

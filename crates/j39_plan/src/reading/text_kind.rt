@@ -1,8 +1,8 @@
 //! Kinds of texts.
 ghost use Rattle.std.specs.Prelude.{◌≡◌};
 ghost use Rattle.std.specs.List.{list_all};
-ghost use Rattle.j39_findings.specs.LabelForm.{is_label_byte, is_label};
-ghost use Rattle.j39_plan.specs.TextKinds.{is_first_kind};
+ghost use Rattle.j39_network.specs.LabelForm.{is_label_byte, is_label};
+ghost use Rattle.j39_plan.specs.TextKinds.{is_first_kind, is_printable};
 
 /// Which texts a key takes.
 #[derive(Clone, Copy)]
@@ -31,7 +31,8 @@ fn are_label_bytes(bytes: &[u8]) -> bool
     bytes.iter().all(|byte| is_label_byte(*byte))
 }
 
-fn is_label(text: &str) -> bool
+/// Whether the text is a label: 1 to 32 ASCII letters, digits and `_`.
+pub fn is_label(text: &str) -> bool
     ensures { result ≡ is_label text.now }
 {
     1 <= text.len() && text.len() <= 32 && are_label_bytes(text.as_bytes())
@@ -43,15 +44,15 @@ fn is_first_kind(text: &str) -> bool
     text == "measured" || text == "discrete" || text == "raw"
 }
 
-impl TextKind {
-    ghost use Rattle.std.specs.List.{list_all};
-    ghost use Rattle.j39_plan.specs.TextKinds.{is_printable, takes};
+/// Whether the bytes are printable ASCII characters.
+pub fn are_printable(bytes: &[u8]) -> bool
+    ensures { result ≡ list_all is_printable bytes.now }
+{
+    bytes.iter().all(|byte| matches!(*byte, 32..=126))
+}
 
-    fn are_printable(bytes: &[u8]) -> bool
-        ensures { result ≡ list_all is_printable bytes.now }
-    {
-        bytes.iter().all(|byte| matches!(*byte, 32..=126))
-    }
+impl TextKind {
+    ghost use Rattle.j39_plan.specs.TextKinds.{takes};
 
     /// Whether a key of this kind takes the text.
     pub fn takes(self, text: &str) -> bool
@@ -66,7 +67,7 @@ impl TextKind {
             TextKind::AnySignalKind => {
                 is_first_kind(text) || text == "states" || text == "signed" || text == "dtc"
             }
-            TextKind::SignalUnit => text.len() <= 32 && Self::are_printable(text.as_bytes()),
+            TextKind::SignalUnit => text.len() <= 32 && are_printable(text.as_bytes()),
             TextKind::Empty => text.is_empty(),
             TextKind::Any => true,
         }

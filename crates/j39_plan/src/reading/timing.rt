@@ -1,49 +1,40 @@
 //! What a plan file tells of the bus itself.
-ghost use Rattle.std.specs.Prelude.{◌≡◌, ◌≤◌, [], map, option_map, IfOk};
+ghost use Rattle.std.specs.Prelude.{◌≡◌, ◌≤◌, [], true, option_map, IfOk};
 ghost use Rattle.std.specs.Option.{option_map_or};
 ghost use Rattle.toml.specs.View.{table_view};
 ghost use Rattle.j39_plan.specs.declared.reading.place.Table.TheVariants as at;
 ghost use Rattle.j39_plan.specs.Schema as schema;
-ghost use Rattle.j39_plan.specs.TableFaults.{key_faults, keys_faults, unknown_faults};
+ghost use Rattle.j39_plan.specs.TableFaults.{key_faults};
+ghost use Rattle.j39_plan.specs.Since.{is_known, known_faults};
+ghost use Rattle.j39_plan.specs.declared.reading.version.Version.TheVariants.{Third};
 ghost use Rattle.j39_plan.specs.TimingTables as spec;
-ghost use Rattle.j39_plan.specs.PlanFaults.{knows_third, knows_fourth, timing_faults, timing_table};
+ghost use Rattle.j39_plan.specs.PlanFaults.{version_of, timing_faults, timing_table};
 ghost use Rattle.j39_plan.specs.Outcome.{Gives};
 
-use super::tables::{only, optional_inner};
+use super::tables::{only, only_known, optional_inner};
 use super::values::{bitrate_number, number};
-use super::{Key, PlanError, Table};
-use j39_findings::{Bitrate, ErrorRate, Timing};
+use super::{Key, PlanError, Table, Version};
+use j39_network::{Bitrate, ErrorRate, Timing};
 
-const THIRD_KEYS: [Key; 2] = [Key::Bitrate, Key::Unplanned];
-
-const FOURTH_KEYS: [Key; 7] = [
-    Key::Bitrate,
-    Key::Unplanned,
-    Key::UnplannedPriority,
-    Key::TransportPriority,
-    Key::BroadcastGap,
-    Key::BroadcastGapMost,
-    Key::Errors,
+const KEYS: [(Key, Version); 7] = [
+    (Key::Bitrate, Version::Third),
+    (Key::Unplanned, Version::Third),
+    (Key::UnplannedPriority, Version::Fourth),
+    (Key::TransportPriority, Version::Fourth),
+    (Key::BroadcastGap, Version::Fourth),
+    (Key::BroadcastGapMost, Version::Fourth),
+    (Key::Errors, Version::Fourth),
 ];
 
 const ERROR_KEYS: [Key; 2] = [Key::Count, Key::Every];
 
-fn only_known(members: &toml::Table, fourth: bool) -> Result<(), PlanError>
-    ensures { Gives result (unknown_faults at.Timing (map (λ r. r.key) (spec.timing_rules fourth (table_view members.now))) (table_view members.now)) (λ _. Unit {0}) }
+fn bitrate(members: &toml::Table, version: Version) -> Result<Bitrate, PlanError>
+    ensures { Gives result (key_faults at.Timing (table_view members.now) (spec.bitrate_rule version))
+        (λ b. b ≡ spec.bitrate_of (schema.number_of (spec.bitrate_rule version) (table_view members.now))) }
 {
-    if fourth {
-        only(members, Table::Timing, &FOURTH_KEYS)
-    } else {
-        only(members, Table::Timing, &THIRD_KEYS)
-    }
-}
-
-fn bitrate(members: &toml::Table, fourth: bool) -> Result<Bitrate, PlanError>
-    ensures { Gives result (key_faults at.Timing (table_view members.now) (spec.bitrate_rule fourth))
-        (λ b. b ≡ spec.bitrate_of (schema.number_of (spec.bitrate_rule fourth) (table_view members.now))) }
-{
+    let more = version.knows(Version::Fourth);
     Ok(
-        match bitrate_number(members, Table::Timing, Key::Bitrate, fourth)? {
+        match bitrate_number(members, Table::Timing, Key::Bitrate, more)? {
             125_000 => Bitrate::Kbit125,
             500_000 => Bitrate::Kbit500,
             1_000_000 => Bitrate::Mbit1,
@@ -63,13 +54,13 @@ struct LaterKeys<'a> {
 }
 
 #[tactic(auto, using(crate::proofs::FirstFaults::faults_after))]
-fn later_keys(members: &toml::Table, fourth: bool) -> Result<LaterKeys, PlanError>
-    ensures gives { Gives result (keys_faults at.Timing (table_view members.now) (spec.later_timing_rules fourth (table_view members.now)))
-        (λ later. (later.unplanned_priority ≡ spec.unplanned_priority_of fourth (table_view members.now))
-        × (later.transport_priority ≡ spec.transport_priority_of fourth (table_view members.now))
-        × (later.gap ≡ spec.gap_of fourth (table_view members.now))
-        × (later.gap_most ≡ spec.gap_most_of fourth (table_view members.now))
-        × (option_map (λ t. table_view t.now) later.errors ≡ spec.errors_table fourth (table_view members.now))) }
+fn later_keys(members: &toml::Table, version: Version) -> Result<LaterKeys, PlanError>
+    ensures gives { Gives result (known_faults at.Timing version (table_view members.now) (spec.later_timing_rules (table_view members.now)))
+        (λ later. (later.unplanned_priority ≡ spec.unplanned_priority_of version (table_view members.now))
+        × (later.transport_priority ≡ spec.transport_priority_of version (table_view members.now))
+        × (later.gap ≡ spec.gap_of version (table_view members.now))
+        × (later.gap_most ≡ spec.gap_most_of version (table_view members.now))
+        × (option_map (λ t. table_view t.now) later.errors ≡ spec.errors_table version (table_view members.now))) }
     ensures unplanned_priority { IfOk result (λ later. later.unplanned_priority ≤ 6) }
     ensures transport_priority { IfOk result (λ later. later.transport_priority ≤ 7) }
     ensures gap_least { IfOk result (λ later. 10 ≤ later.gap) }
@@ -77,7 +68,7 @@ fn later_keys(members: &toml::Table, fourth: bool) -> Result<LaterKeys, PlanErro
     ensures order { IfOk result (λ later. later.gap ≤ later.gap_most) }
     ensures gap_most { IfOk result (λ later. later.gap_most ≤ 750) }
 {
-    if !fourth {
+    if !version.knows(Version::Fourth) {
         return Ok(LaterKeys {
             unplanned_priority: 6,
             transport_priority: 7,
@@ -127,13 +118,14 @@ fn errors(inner: Option<&toml::Table>) -> Result<Option<ErrorRate>, PlanError>
 }
 
 #[tactic(auto, using(crate::proofs::FirstFaults::faults_after), unfolding(crate::specs::TimingTables::timing_table_faults))]
-fn bus(members: &toml::Table, fourth: bool) -> Result<Timing, PlanError>
-    ensures { Gives result (spec.timing_table_faults fourth (table_view members.now)) (spec.TellsBus fourth (table_view members.now)) }
+fn bus(members: &toml::Table, version: Version) -> Result<Timing, PlanError>
+    requires { is_known Third version ≡ true }
+    ensures { Gives result (spec.timing_table_faults version (table_view members.now)) (spec.TellsBus version (table_view members.now)) }
 {
-    only_known(members, fourth)?;
-    let bitrate = bitrate(members, fourth)?;
+    only_known(members, Table::Timing, version, &KEYS)?;
+    let bitrate = bitrate(members, version)?;
     let unplanned = number(members, Table::Timing, Key::Unplanned, 0, 1000, None)?;
-    let later = later_keys(members, fourth)?;
+    let later = later_keys(members, version)?;
     let errors = errors(later.errors)?;
     Ok(Timing {
         bitrate,
@@ -148,17 +140,16 @@ fn bus(members: &toml::Table, fourth: bool) -> Result<Timing, PlanError>
 
 /// What is known of the bus, where the version knows its table and there is one.
 #[tactic(auto, using(crate::proofs::FirstFaults::faults_after))]
-pub fn timing(members: &toml::Table, third: bool, fourth: bool) -> Result<Option<Timing>, PlanError>
-    requires third { third ≡ knows_third (table_view members.now) }
-    requires fourth { fourth ≡ knows_fourth (table_view members.now) }
+pub fn timing(members: &toml::Table, version: Version) -> Result<Option<Timing>, PlanError>
+    requires { version ≡ version_of (table_view members.now) }
     ensures { Gives result (timing_faults (table_view members.now))
-        (spec.TellsTiming (knows_fourth (table_view members.now)) (timing_table (table_view members.now))) }
+        (spec.TellsTiming (version_of (table_view members.now)) (timing_table (table_view members.now))) }
 {
-    if !third {
+    if !version.knows(Version::Third) {
         return Ok(None);
     }
     match optional_inner(members, Table::Top, Key::Timing)? {
         None => Ok(None),
-        Some(inner) => Ok(Some(bus(inner, fourth)?)),
+        Some(inner) => Ok(Some(bus(inner, version)?)),
     }
 }

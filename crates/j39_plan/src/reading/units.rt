@@ -1,53 +1,36 @@
 //! The units of a plan.
-ghost use Rattle.std.specs.Prelude.{◌≡◌, ◌<◌, false, map, IfOk, Some};
+ghost use Rattle.std.specs.Prelude.{◌≡◌, ◌<◌, false, IfOk};
 ghost use Rattle.j39_id.specs.Addresses.{null_address};
 ghost use Rattle.j39_id.specs.Name.{is_arbitrary};
 ghost use Rattle.toml.specs.View.{table_view};
-ghost use Rattle.j39_plan.specs.Schema.{text_of, number_of, table_of as inner_of};
-ghost use Rattle.j39_plan.specs.TableFaults.{key_faults, keys_faults, unknown_faults};
+ghost use Rattle.j39_plan.specs.Schema.{text_of, number_of};
+ghost use Rattle.j39_plan.specs.TableFaults.{key_faults};
+ghost use Rattle.j39_plan.specs.Since.{since, since_faults};
+ghost use Rattle.j39_plan.specs.declared.reading.version.Version.TheVariants.{Fourth};
 ghost use Rattle.j39_plan.specs.Outcome.{Gives};
-ghost use Rattle.j39_plan.specs.UnitTables.{way_of, address_rule, chooser_rule, claims_of, last_rules, name_rule, queue_in, queue_of, queue_rule, unit_rules, silent_faults, unit_table_faults, TellsUnit};
+ghost use Rattle.j39_plan.specs.UnitTables.{way_of, address_rule, chooser_rule, claims_of, claims_rule, queue_in, queue_of, queue_rule, silent_faults, unit_table_faults, TellsUnit};
 
 use super::elements::ReadElement;
 use super::labels::untaken;
 use super::names::{is_open, name};
-use super::tables::{inner, only, table_of};
+use super::tables::{inner, only_known, table_of};
 use super::text_kind::TextKind;
 use super::values::{flag, number, refused, short_text, text};
-use super::{Cause, Key, PlanError, Table};
-use j39_findings::{Queue, UnitPlan, Way};
+use super::{Cause, Key, PlanError, Table, Version};
 use j39_id::{Address, Name};
+use j39_network::{Queue, UnitPlan, Way};
 use std::alloc::Global;
 use toml::Value;
 
-const UNIT_KEYS: [Key; 5] = [
-    Key::Label,
-    Key::Address,
-    Key::Chooser,
-    Key::Window,
-    Key::Name,
+const KEYS: [(Key, Version); 7] = [
+    (Key::Label, Version::First),
+    (Key::Address, Version::First),
+    (Key::Chooser, Version::First),
+    (Key::Window, Version::First),
+    (Key::Queue, Version::Fourth),
+    (Key::Name, Version::First),
+    (Key::Claims, Version::Fourth),
 ];
-
-const FOURTH_KEYS: [Key; 7] = [
-    Key::Label,
-    Key::Address,
-    Key::Chooser,
-    Key::Window,
-    Key::Queue,
-    Key::Name,
-    Key::Claims,
-];
-
-// Refuses a key that the version doesn't know.
-fn only_known(members: &toml::Table, table: Table, fourth: bool) -> Result<(), PlanError>
-    ensures { Gives result (unknown_faults table (map (λ r. r.key) (unit_rules fourth)) (table_view members.now)) (λ _. Unit {0}) }
-{
-    if fourth {
-        only(members, table, &FOURTH_KEYS)
-    } else {
-        only(members, table, &UNIT_KEYS)
-    }
-}
 
 fn address(members: &toml::Table, table: Table) -> Result<Address, PlanError>
     ensures gives { Gives result (key_faults table (table_view members.now) address_rule)
@@ -109,38 +92,28 @@ fn queue(members: &toml::Table, table: Table) -> Result<Queue, PlanError>
     Ok(queue_in(word))
 }
 
-// What the table of a unit has behind the window: how its controller chooses, the table of its NAME, and whether it claims.
-#[derive(Drop)]
-struct LastKeys<'a> {
-    queue: Queue,
-    inside: &'a toml::Table,
-    claims: bool,
+// How its controller chooses among frames that wait: by priority in a version that knows no other way.
+#[tactic(auto)]
+fn known_queue(version: Version, members: &toml::Table, table: Table) -> Result<Queue, PlanError>
+    ensures { Gives result (since_faults table version (table_view members.now) (since Fourth queue_rule))
+        (λ q. q ≡ queue_of version (table_view members.now)) }
+{
+    if version.knows(Version::Fourth) {
+        queue(members, table)
+    } else {
+        Ok(Queue::Priority)
+    }
 }
 
-// The same, as far as the version knows it.
-#[tactic(auto, using(crate::proofs::FirstFaults::faults_after))]
-fn last_keys(fourth: bool, members: &toml::Table, table: Table) -> Result<LastKeys, PlanError>
-    ensures { Gives result (keys_faults table (table_view members.now) (last_rules fourth))
-        (λ last. (last.queue ≡ queue_of fourth (table_view members.now))
-        × (Some (table_view last.inside.now) ≡ inner_of name_rule (table_view members.now))
-        × (last.claims ≡ claims_of fourth (table_view members.now))) }
+// Whether it claims its address: it does in a version that knows no other.
+fn known_claims(version: Version, members: &toml::Table, table: Table) -> Result<bool, PlanError>
+    ensures { Gives result (since_faults table version (table_view members.now) (since Fourth claims_rule))
+        (λ b. b ≡ claims_of version (table_view members.now)) }
 {
-    if fourth {
-        let queue = queue(members, table)?;
-        let inside = inner(members, table, Key::Name)?;
-        let claims = flag(members, table, Key::Claims, true)?;
-        Ok(LastKeys {
-            queue,
-            inside,
-            claims,
-        })
+    if version.knows(Version::Fourth) {
+        flag(members, table, Key::Claims, true)
     } else {
-        let inside = inner(members, table, Key::Name)?;
-        Ok(LastKeys {
-            queue: Queue::Priority,
-            inside,
-            claims: true,
-        })
+        Ok(true)
     }
 }
 
@@ -158,34 +131,36 @@ fn silent_stays(index: usize, claims: bool, name: Name) -> Result<(), PlanError>
 }
 
 #[tactic(auto, using(crate::proofs::FirstFaults::faults_after), unfolding(crate::specs::UnitTables::unit_table_faults))]
-fn unit(fourth: bool, index: usize, members: &toml::Table) -> Result<UnitPlan, PlanError>
-    ensures { Gives result (unit_table_faults fourth index (table_view members.now)) (TellsUnit fourth (table_view members.now)) }
+fn unit(version: Version, index: usize, members: &toml::Table) -> Result<UnitPlan, PlanError>
+    ensures { Gives result (unit_table_faults version index (table_view members.now)) (TellsUnit version (table_view members.now)) }
 {
     let table = Table::Unit(index);
-    only_known(members, table, fourth)?;
+    only_known(members, table, version, &KEYS)?;
     let label = short_text(members, table, Key::Label, TextKind::UnitLabel, None)?;
     let address = address(members, table)?;
     let way = way(members, table)?;
     let window = number(members, table, Key::Window, 1, 255, Some(255))?;
-    let last = last_keys(fourth, members, table)?;
-    let name = name(fourth, index, last.inside)?;
-    silent_stays(index, last.claims, name)?;
+    let queue = known_queue(version, members, table)?;
+    let inside = inner(members, table, Key::Name)?;
+    let claims = known_claims(version, members, table)?;
+    let name = name(version, index, inside)?;
+    silent_stays(index, claims, name)?;
     Ok(UnitPlan {
         label,
         address,
         name,
-        any_identity: is_open(fourth, last.inside, name),
+        any_identity: is_open(version, inside, name),
         way,
         window: window as u8,
-        queue: last.queue,
-        claims: last.claims,
+        queue,
+        claims,
     })
 }
 
 /// The reader of units.
 #[derive(Clone, Copy)]
 pub struct Units {
-    pub fourth: bool,
+    pub version: Version,
 }
 
 impl ReadElement<UnitPlan> for Units {
@@ -196,11 +171,11 @@ impl ReadElement<UnitPlan> for Units {
 
     ghost label_of = { unit_label_in };
 
-    ghost faults = { λ r. unit_faults r.fourth };
+    ghost faults = { λ r. unit_faults r.version };
 
     ghost Grows = { λ _. NeverGrows };
 
-    ghost Tells = { λ r. IsUnitOf r.fourth };
+    ghost Tells = { λ r. IsUnitOf r.version };
 
     #[tactic(auto, using(crate::proofs::FirstFaults::faults_after), unfolding(crate::specs::UnitTables::unit_faults))]
     fn read(
@@ -211,7 +186,7 @@ impl ReadElement<UnitPlan> for Units {
         value: &Value,
     ) -> Result<UnitPlan, PlanError> {
         let table = Table::Unit(index);
-        let unit = unit(self.fourth, index, table_of(value, table)?)?;
+        let unit = unit(self.version, index, table_of(value, table)?)?;
         untaken(seen, unit.label.as_str(), TextKind::UnitLabel, table)?;
         Ok(unit)
     }

@@ -3,8 +3,8 @@ use Rattle.j39_findings.specs.declared.checking.finding.Finding.{Finding}
 use Rattle.j39_findings.specs.Findings.{AreFindings}
 use Rattle.j39_findings.specs.Found.{unit_findings}
 use Rattle.j39_findings.proofs.FoundLaws.{are_findings}
-use Rattle.j39_findings.proofs.AddingLemmas.{WantsMemory, wants_memory, units_some, groups_some, signals_some, flows_some, kept_some, unsent_some, records_some, texts_some, needs_some, requests_some, whole_list}
-use Rattle.j39_findings.proofs.AddingLemmas.{silent_some, contested_some}
+use Rattle.j39_findings.proofs.FoundParts.{WantsMemory, wants_memory, units_some, groups_some, signals_some, flows_some, kept_some, unsent_some, records_some, texts_some, needs_some, requests_some, whole_list}
+use Rattle.j39_findings.proofs.FoundParts.{silent_some, contested_some}
 use Rattle.j39_findings.proofs.checking.check.Goals as goal
 use Rattle.j39_findings.proofs.checking.check.Goals.{After-drop-findings, After-drop-findings-in_err-find_in_groups}
 use Rattle.j39_findings.proofs.checking.check.Goals.{After-drop-findings-in_err-find_in_signals}

@@ -2,7 +2,7 @@ use Rattle.std.proofs.Common.{◌≡◌, [], refl, inl, inr}
 use Rattle.std.proofs.lemmas.Result.{err_from_is_err_and}
 use Rattle.toml.specs.View.{items_view}
 use Rattle.j39_id.specs.Limits.{unit_limit}
-use Rattle.j39_findings.specs.PlanLimits.{flow_limit, group_limit}
+use Rattle.j39_network.specs.PlanLimits.{flow_limit, group_limit}
 use Rattle.j39_plan.specs.declared.reading.key.Key.TheVariants as key
 use Rattle.j39_plan.specs.Elements.{each_faults, Each}
 use Rattle.j39_plan.specs.Growing.{NeverGrows, EachGrows}
@@ -22,21 +22,20 @@ use Rattle.j39_plan.proofs.reading.read_top.Goals as goal
 pub returns-in_err-flows : goal.returns-in_err-flows
 returns-in_err-flows c =
     let p = err_from_is_err_and c.from_residual-in_err-flows.result c.from_residual-in_err-flows.ensures.1 in
-    let third = c.knows_third-third.result in
-    let fourth = c.knows_fourth-fourth.result in
+    let version = c.version_of-version.result in
     let gs = c.in_ok-groups.groups.items in
     let us = c.in_ok-units.units.items in
-    let groups = group_texts_told _ _ _ gs c.in_ok-groups.ensures.1 in
+    let groups = group_texts_told _ _ gs c.in_ok-groups.ensures.1 in
     let units = unit_texts_told _ _ us c.in_ok-units.ensures.1 in
-    let no_units = rw (c.in_ok-unit_values.ensures.1, c.knows_fourth-fourth.ensures) at c.in_ok-units.ensures.0 in
-    let no_groups = rw (c.in_ok-group_values.ensures.1, c.knows_third-third.ensures, c.knows_fourth-fourth.ensures) at c.in_ok-groups.ensures.0 in
-    let no_strangers_key = rw c.knows_fourth-fourth.ensures at c.in_ok-strangers.ensures.gives.0 in
-    let no_live_key = rw c.knows_fourth-fourth.ensures at c.in_ok-live.ensures.0 in
-    let no_later_key = rw c.knows_fourth-fourth.ensures at c.in_ok-later.ensures.0 in
+    let no_units = rw (c.in_ok-unit_values.ensures.1, c.version_of-version.ensures) at c.in_ok-units.ensures.0 in
+    let no_groups = rw (c.in_ok-group_values.ensures.1, c.version_of-version.ensures) at c.in_ok-groups.ensures.0 in
+    let no_strangers_key = rw c.version_of-version.ensures at c.in_ok-strangers.ensures.gives.0 in
+    let no_live_key = rw c.version_of-version.ensures at c.in_ok-live.ensures.0 in
+    let no_later_key = rw c.version_of-version.ensures at c.in_ok-later.ensures.0 in
     let ds = items_view c.in_ok-flow_values.flow_values.now in
     let told :
-    FailsGrowing (EachGrows (λ i seen. flow_faults third fourth (group_texts gs) (unit_texts us) i) NeverGrows ds) c.in_err-flows.field-0.0
-    (each_faults (λ i seen. flow_faults third fourth (group_texts gs) (unit_texts us) i) no_label 0 [] ds) =
+    FailsGrowing (EachGrows (λ i seen. flow_faults version (group_texts gs) (unit_texts us) i) NeverGrows ds) c.in_err-flows.field-0.0
+    (each_faults (λ i seen. flow_faults version (group_texts gs) (unit_texts us) i) no_label 0 [] ds) =
     rw (c.deref.ensures.value, c.deref-2.ensures.value) at c.in_err-flows.ensures in
     let fails = rw (
       groups,
@@ -44,8 +43,7 @@ returns-in_err-flows c =
       c.in_ok-group_values.ensures.1,
       c.in_ok-unit_values.ensures.1,
       c.in_ok-flow_values.ensures.1,
-      c.knows_third-third.ensures,
-      c.knows_fourth-fourth.ensures,
+      c.version_of-version.ensures,
     ) at told in
     rw (p.1, p.2, c.in_ok-keep_free.ensures.gives.0, no_strangers_key, no_live_key, c.in_ok-timing.ensures.0, c.in_ok-unit_values.ensures.0, c.in_ok-group_values.ensures.0)
     (rw (c.in_ok-flow_values.ensures.0, no_later_key, no_units, no_groups)
@@ -54,10 +52,10 @@ returns-in_err-flows c =
 pub returns-in_err-units : goal.returns-in_err-units
 returns-in_err-units c =
     let p = err_from_is_err_and c.from_residual-in_err-units.result c.from_residual-in_err-units.ensures.1 in
-    let no_strangers_key = rw c.knows_fourth-fourth.ensures at c.in_ok-strangers.ensures.gives.0 in
-    let no_live_key = rw c.knows_fourth-fourth.ensures at c.in_ok-live.ensures.0 in
-    let no_later_key = rw c.knows_fourth-fourth.ensures at c.in_ok-later.ensures.0 in
-    let fails = rw (c.in_ok-unit_values.ensures.1, c.knows_fourth-fourth.ensures) at c.in_err-units.ensures in
+    let no_strangers_key = rw c.version_of-version.ensures at c.in_ok-strangers.ensures.gives.0 in
+    let no_live_key = rw c.version_of-version.ensures at c.in_ok-live.ensures.0 in
+    let no_later_key = rw c.version_of-version.ensures at c.in_ok-later.ensures.0 in
+    let fails = rw (c.in_ok-unit_values.ensures.1, c.version_of-version.ensures) at c.in_err-units.ensures in
     rw (p.1, p.2, c.in_ok-keep_free.ensures.gives.0, no_strangers_key, no_live_key, c.in_ok-timing.ensures.0, c.in_ok-unit_values.ensures.0, c.in_ok-group_values.ensures.0)
     (rw (c.in_ok-flow_values.ensures.0, no_later_key)
     (fails_on _ _ c.in_err-units.field-0.0 _ _ (λ grows. (refl, inl grows)) (λ f is. first-append _ _ f is) fails))
@@ -65,11 +63,11 @@ returns-in_err-units c =
 pub returns-in_err-groups : goal.returns-in_err-groups
 returns-in_err-groups c =
     let p = err_from_is_err_and c.from_residual-in_err-groups.result c.from_residual-in_err-groups.ensures.1 in
-    let no_units = rw (c.in_ok-unit_values.ensures.1, c.knows_fourth-fourth.ensures) at c.in_ok-units.ensures.0 in
-    let no_strangers_key = rw c.knows_fourth-fourth.ensures at c.in_ok-strangers.ensures.gives.0 in
-    let no_live_key = rw c.knows_fourth-fourth.ensures at c.in_ok-live.ensures.0 in
-    let no_later_key = rw c.knows_fourth-fourth.ensures at c.in_ok-later.ensures.0 in
-    let fails = rw (c.in_ok-group_values.ensures.1, c.knows_third-third.ensures, c.knows_fourth-fourth.ensures) at c.in_err-groups.ensures in
+    let no_units = rw (c.in_ok-unit_values.ensures.1, c.version_of-version.ensures) at c.in_ok-units.ensures.0 in
+    let no_strangers_key = rw c.version_of-version.ensures at c.in_ok-strangers.ensures.gives.0 in
+    let no_live_key = rw c.version_of-version.ensures at c.in_ok-live.ensures.0 in
+    let no_later_key = rw c.version_of-version.ensures at c.in_ok-later.ensures.0 in
+    let fails = rw (c.in_ok-group_values.ensures.1, c.version_of-version.ensures) at c.in_err-groups.ensures in
     rw (p.1, p.2, c.in_ok-keep_free.ensures.gives.0, no_strangers_key, no_live_key, c.in_ok-timing.ensures.0, c.in_ok-unit_values.ensures.0, c.in_ok-group_values.ensures.0)
     (rw (c.in_ok-flow_values.ensures.0, no_later_key, no_units)
     (fails_on _ _ c.in_err-groups.field-0.0 _ _ (λ grows. (refl, inr (refl, inl grows))) (λ f is. first-append _ _ f is) fails))
@@ -77,21 +75,20 @@ returns-in_err-groups c =
 pub returns-in_err-needs : goal.returns-in_err-needs
 returns-in_err-needs c =
     let p = err_from_is_err_and c.from_residual-in_err-needs.result c.from_residual-in_err-needs.ensures.1 in
-    let third = c.knows_third-third.result in
-    let fourth = c.knows_fourth-fourth.result in
+    let version = c.version_of-version.result in
     let gs = c.in_ok-groups.groups.items in
     let us = c.in_ok-units.units.items in
-    let groups = group_texts_told _ _ _ gs c.in_ok-groups.ensures.1 in
-    let signals = signals_texts_told _ _ _ gs c.in_ok-groups.ensures.1 in
+    let groups = group_texts_told _ _ gs c.in_ok-groups.ensures.1 in
+    let signals = signals_texts_told _ _ gs c.in_ok-groups.ensures.1 in
     let units = unit_texts_told _ _ us c.in_ok-units.ensures.1 in
-    let no_units = rw (c.in_ok-unit_values.ensures.1, c.knows_fourth-fourth.ensures) at c.in_ok-units.ensures.0 in
-    let no_groups = rw (c.in_ok-group_values.ensures.1, c.knows_third-third.ensures, c.knows_fourth-fourth.ensures) at c.in_ok-groups.ensures.0 in
-    let no_strangers_key = rw c.knows_fourth-fourth.ensures at c.in_ok-strangers.ensures.gives.0 in
-    let no_live_key = rw c.knows_fourth-fourth.ensures at c.in_ok-live.ensures.0 in
-    let no_later_key = rw c.knows_fourth-fourth.ensures at c.in_ok-later.ensures.0 in
+    let no_units = rw (c.in_ok-unit_values.ensures.1, c.version_of-version.ensures) at c.in_ok-units.ensures.0 in
+    let no_groups = rw (c.in_ok-group_values.ensures.1, c.version_of-version.ensures) at c.in_ok-groups.ensures.0 in
+    let no_strangers_key = rw c.version_of-version.ensures at c.in_ok-strangers.ensures.gives.0 in
+    let no_live_key = rw c.version_of-version.ensures at c.in_ok-live.ensures.0 in
+    let no_later_key = rw c.version_of-version.ensures at c.in_ok-later.ensures.0 in
     let fs = items_view c.in_ok-flow_values.flow_values.now in
     let flows_told :
-    (each_faults (λ i seen. flow_faults third fourth (group_texts gs) (unit_texts us) i) no_label 0 [] fs ≡ []) =
+    (each_faults (λ i seen. flow_faults version (group_texts gs) (unit_texts us) i) no_label 0 [] fs ≡ []) =
     rw (c.deref.ensures.value, c.deref-2.ensures.value) at c.in_ok-flows.ensures.0 in
     let no_flows = rw (
       groups,
@@ -99,8 +96,7 @@ returns-in_err-needs c =
       c.in_ok-group_values.ensures.1,
       c.in_ok-unit_values.ensures.1,
       c.in_ok-flow_values.ensures.1,
-      c.knows_third-third.ensures,
-      c.knows_fourth-fourth.ensures,
+      c.version_of-version.ensures,
     ) at flows_told in
     let ds = items_view c.in_ok-later.later.needs.now in
     let told :
@@ -114,7 +110,7 @@ returns-in_err-needs c =
       c.in_ok-group_values.ensures.1,
       c.in_ok-unit_values.ensures.1,
       c.in_ok-later.ensures.1.0,
-      c.knows_fourth-fourth.ensures,
+      c.version_of-version.ensures,
     ) at told in
     rw (p.1, p.2, c.in_ok-keep_free.ensures.gives.0, no_strangers_key, no_live_key, c.in_ok-timing.ensures.0, c.in_ok-unit_values.ensures.0, c.in_ok-group_values.ensures.0)
     (rw (c.in_ok-flow_values.ensures.0, no_later_key, no_units, no_groups, no_flows)
@@ -123,21 +119,20 @@ returns-in_err-needs c =
 pub returns-in_err-requests : goal.returns-in_err-requests
 returns-in_err-requests c =
     let p = err_from_is_err_and c.from_residual-in_err-requests.result c.from_residual-in_err-requests.ensures.1 in
-    let third = c.knows_third-third.result in
-    let fourth = c.knows_fourth-fourth.result in
+    let version = c.version_of-version.result in
     let gs = c.in_ok-groups.groups.items in
     let us = c.in_ok-units.units.items in
-    let groups = group_texts_told _ _ _ gs c.in_ok-groups.ensures.1 in
-    let signals = signals_texts_told _ _ _ gs c.in_ok-groups.ensures.1 in
+    let groups = group_texts_told _ _ gs c.in_ok-groups.ensures.1 in
+    let signals = signals_texts_told _ _ gs c.in_ok-groups.ensures.1 in
     let units = unit_texts_told _ _ us c.in_ok-units.ensures.1 in
-    let no_units = rw (c.in_ok-unit_values.ensures.1, c.knows_fourth-fourth.ensures) at c.in_ok-units.ensures.0 in
-    let no_groups = rw (c.in_ok-group_values.ensures.1, c.knows_third-third.ensures, c.knows_fourth-fourth.ensures) at c.in_ok-groups.ensures.0 in
-    let no_strangers_key = rw c.knows_fourth-fourth.ensures at c.in_ok-strangers.ensures.gives.0 in
-    let no_live_key = rw c.knows_fourth-fourth.ensures at c.in_ok-live.ensures.0 in
-    let no_later_key = rw c.knows_fourth-fourth.ensures at c.in_ok-later.ensures.0 in
+    let no_units = rw (c.in_ok-unit_values.ensures.1, c.version_of-version.ensures) at c.in_ok-units.ensures.0 in
+    let no_groups = rw (c.in_ok-group_values.ensures.1, c.version_of-version.ensures) at c.in_ok-groups.ensures.0 in
+    let no_strangers_key = rw c.version_of-version.ensures at c.in_ok-strangers.ensures.gives.0 in
+    let no_live_key = rw c.version_of-version.ensures at c.in_ok-live.ensures.0 in
+    let no_later_key = rw c.version_of-version.ensures at c.in_ok-later.ensures.0 in
     let fs = items_view c.in_ok-flow_values.flow_values.now in
     let flows_told :
-    (each_faults (λ i seen. flow_faults third fourth (group_texts gs) (unit_texts us) i) no_label 0 [] fs ≡ []) =
+    (each_faults (λ i seen. flow_faults version (group_texts gs) (unit_texts us) i) no_label 0 [] fs ≡ []) =
     rw (c.deref.ensures.value, c.deref-2.ensures.value) at c.in_ok-flows.ensures.0 in
     let no_flows = rw (
       groups,
@@ -145,8 +140,7 @@ returns-in_err-requests c =
       c.in_ok-group_values.ensures.1,
       c.in_ok-unit_values.ensures.1,
       c.in_ok-flow_values.ensures.1,
-      c.knows_third-third.ensures,
-      c.knows_fourth-fourth.ensures,
+      c.version_of-version.ensures,
     ) at flows_told in
     let ns = items_view c.in_ok-later.later.needs.now in
     let needs_told :
@@ -159,7 +153,7 @@ returns-in_err-requests c =
       c.in_ok-group_values.ensures.1,
       c.in_ok-unit_values.ensures.1,
       c.in_ok-later.ensures.1.0,
-      c.knows_fourth-fourth.ensures,
+      c.version_of-version.ensures,
     ) at needs_told in
     let ds = items_view c.in_ok-later.later.requests.now in
     let told :
@@ -172,7 +166,7 @@ returns-in_err-requests c =
       c.in_ok-group_values.ensures.1,
       c.in_ok-unit_values.ensures.1,
       c.in_ok-later.ensures.1.1,
-      c.knows_fourth-fourth.ensures,
+      c.version_of-version.ensures,
     ) at told in
     rw (p.1, p.2, c.in_ok-keep_free.ensures.gives.0, no_strangers_key, no_live_key, c.in_ok-timing.ensures.0, c.in_ok-unit_values.ensures.0, c.in_ok-group_values.ensures.0)
     (rw (c.in_ok-flow_values.ensures.0, no_later_key, no_units, no_groups, no_flows, no_needs)
@@ -189,26 +183,26 @@ invariant_of-result-clause-flow_count c = rw (length-Each _ _ _ c.in_ok-flows.en
 
 pub invariant_of-result-clause-need_count : goal.invariant_of-result-clause-need_count
 invariant_of-result-clause-need_count c =
-    rw (length-Each _ _ _ c.in_ok-needs.ensures.1, c.in_ok-later.ensures.1.0) (needs_count c.knows_fourth-fourth.result _)
+    rw (length-Each _ _ _ c.in_ok-needs.ensures.1, c.in_ok-later.ensures.1.0) (needs_count c.version_of-version.result _)
 
 pub invariant_of-result-clause-request_count : goal.invariant_of-result-clause-request_count
 invariant_of-result-clause-request_count c =
-    rw (length-Each _ _ _ c.in_ok-requests.ensures.1, c.in_ok-later.ensures.1.1) (requests_count c.knows_fourth-fourth.result _)
+    rw (length-Each _ _ _ c.in_ok-requests.ensures.1, c.in_ok-later.ensures.1.1) (requests_count c.version_of-version.result _)
 
 pub invariant_of-result-clause-unit_labels : goal.invariant_of-result-clause-unit_labels
 invariant_of-result-clause-unit_labels c = units_apart _ _ _ c.in_ok-units.ensures.1 c.in_ok-units.ensures.0
 
 pub invariant_of-result-clause-group_labels : goal.invariant_of-result-clause-group_labels
-invariant_of-result-clause-group_labels c = groups_apart _ _ _ _ c.in_ok-groups.ensures.1 c.in_ok-groups.ensures.0
+invariant_of-result-clause-group_labels c = groups_apart _ _ _ c.in_ok-groups.ensures.1 c.in_ok-groups.ensures.0
 
 pub invariant_of-result-clause-flow_groups : goal.invariant_of-result-clause-flow_groups
-invariant_of-result-clause-flow_groups c = flow_groups _ _ _ _ _ _ (rw (c.deref.ensures.value, c.deref-2.ensures.value) at c.in_ok-flows.ensures.1)
+invariant_of-result-clause-flow_groups c = flow_groups _ _ _ _ _ (rw (c.deref.ensures.value, c.deref-2.ensures.value) at c.in_ok-flows.ensures.1)
 
 pub invariant_of-result-clause-flow_senders : goal.invariant_of-result-clause-flow_senders
-invariant_of-result-clause-flow_senders c = flow_senders _ _ _ _ _ _ (rw (c.deref.ensures.value, c.deref-2.ensures.value) at c.in_ok-flows.ensures.1)
+invariant_of-result-clause-flow_senders c = flow_senders _ _ _ _ _ (rw (c.deref.ensures.value, c.deref-2.ensures.value) at c.in_ok-flows.ensures.1)
 
 pub invariant_of-result-clause-flow_receivers : goal.invariant_of-result-clause-flow_receivers
-invariant_of-result-clause-flow_receivers c = flow_receivers _ _ _ _ _ _ (rw (c.deref.ensures.value, c.deref-2.ensures.value) at c.in_ok-flows.ensures.1)
+invariant_of-result-clause-flow_receivers c = flow_receivers _ _ _ _ _ (rw (c.deref.ensures.value, c.deref-2.ensures.value) at c.in_ok-flows.ensures.1)
 
 pub invariant_of-result-clause-need_units : goal.invariant_of-result-clause-need_units
 invariant_of-result-clause-need_units c = need_units _ _ _ _ (rw (c.deref-3.ensures.value, c.deref-4.ensures.value) at c.in_ok-needs.ensures.1)
@@ -233,22 +227,21 @@ invariant_of-result-clause-request_receivers c = request_receivers _ _ _ _ (rw (
 
 pub returns : goal.returns
 returns c =
-    let third = c.knows_third-third.result in
-    let fourth = c.knows_fourth-fourth.result in
+    let version = c.version_of-version.result in
     let gs = c.in_ok-groups.groups.items in
     let us = c.in_ok-units.units.items in
-    let groups = group_texts_told _ _ _ gs c.in_ok-groups.ensures.1 in
-    let signals = signals_texts_told _ _ _ gs c.in_ok-groups.ensures.1 in
+    let groups = group_texts_told _ _ gs c.in_ok-groups.ensures.1 in
+    let signals = signals_texts_told _ _ gs c.in_ok-groups.ensures.1 in
     let units = unit_texts_told _ _ us c.in_ok-units.ensures.1 in
-    let no_units = rw (c.in_ok-unit_values.ensures.1, c.knows_fourth-fourth.ensures) at c.in_ok-units.ensures.0 in
-    let no_groups = rw (c.in_ok-group_values.ensures.1, c.knows_third-third.ensures, c.knows_fourth-fourth.ensures) at c.in_ok-groups.ensures.0 in
-    let no_strangers_key = rw c.knows_fourth-fourth.ensures at c.in_ok-strangers.ensures.gives.0 in
-    let no_live_key = rw c.knows_fourth-fourth.ensures at c.in_ok-live.ensures.0 in
-    let no_later_key = rw c.knows_fourth-fourth.ensures at c.in_ok-later.ensures.0 in
+    let no_units = rw (c.in_ok-unit_values.ensures.1, c.version_of-version.ensures) at c.in_ok-units.ensures.0 in
+    let no_groups = rw (c.in_ok-group_values.ensures.1, c.version_of-version.ensures) at c.in_ok-groups.ensures.0 in
+    let no_strangers_key = rw c.version_of-version.ensures at c.in_ok-strangers.ensures.gives.0 in
+    let no_live_key = rw c.version_of-version.ensures at c.in_ok-live.ensures.0 in
+    let no_later_key = rw c.version_of-version.ensures at c.in_ok-later.ensures.0 in
     let fs = items_view c.in_ok-flow_values.flow_values.now in
     let flows_told :
-    (each_faults (λ i seen. flow_faults third fourth (group_texts gs) (unit_texts us) i) no_label 0 [] fs ≡ [])
-    × Each (IsFlowOf third fourth (group_texts gs) (unit_texts us)) fs c.in_ok-flows.flows.items =
+    (each_faults (λ i seen. flow_faults version (group_texts gs) (unit_texts us) i) no_label 0 [] fs ≡ [])
+    × Each (IsFlowOf version (group_texts gs) (unit_texts us)) fs c.in_ok-flows.flows.items =
     rw (c.deref.ensures.value, c.deref-2.ensures.value) at c.in_ok-flows.ensures in
     let flows = rw (
       groups,
@@ -256,8 +249,7 @@ returns c =
       c.in_ok-group_values.ensures.1,
       c.in_ok-unit_values.ensures.1,
       c.in_ok-flow_values.ensures.1,
-      c.knows_third-third.ensures,
-      c.knows_fourth-fourth.ensures,
+      c.version_of-version.ensures,
     ) at flows_told in
     let ds = items_view c.in_ok-later.later.needs.now in
     let needs_told :
@@ -271,7 +263,7 @@ returns c =
       c.in_ok-group_values.ensures.1,
       c.in_ok-unit_values.ensures.1,
       c.in_ok-later.ensures.1.0,
-      c.knows_fourth-fourth.ensures,
+      c.version_of-version.ensures,
     ) at needs_told in
     let rs = items_view c.in_ok-later.later.requests.now in
     let requests_told :
@@ -284,17 +276,17 @@ returns c =
       c.in_ok-group_values.ensures.1,
       c.in_ok-unit_values.ensures.1,
       c.in_ok-later.ensures.1.1,
-      c.knows_fourth-fourth.ensures,
+      c.version_of-version.ensures,
     ) at requests_told in (
       rw (c.in_ok-keep_free.ensures.gives.0, no_strangers_key, no_live_key, c.in_ok-timing.ensures.0, c.in_ok-unit_values.ensures.0, c.in_ok-group_values.ensures.0)
           (rw (c.in_ok-flow_values.ensures.0, no_later_key, no_units, no_groups, flows.0, needs.0) requests.0),
       record {
         has_keep_free = c.in_ok-keep_free.ensures.gives.1;
-        has_strangers = rw c.knows_fourth-fourth.ensures at c.in_ok-strangers.ensures.gives.1;
-        has_live = rw c.knows_fourth-fourth.ensures at c.in_ok-live.ensures.1;
+        has_strangers = rw c.version_of-version.ensures at c.in_ok-strangers.ensures.gives.1;
+        has_live = rw c.version_of-version.ensures at c.in_ok-live.ensures.1;
         has_timing = c.in_ok-timing.ensures.1;
-        has_units = rw (c.in_ok-unit_values.ensures.1, c.knows_fourth-fourth.ensures) at c.in_ok-units.ensures.1;
-        has_groups = rw (c.in_ok-group_values.ensures.1, c.knows_third-third.ensures, c.knows_fourth-fourth.ensures) at c.in_ok-groups.ensures.1;
+        has_units = rw (c.in_ok-unit_values.ensures.1, c.version_of-version.ensures) at c.in_ok-units.ensures.1;
+        has_groups = rw (c.in_ok-group_values.ensures.1, c.version_of-version.ensures) at c.in_ok-groups.ensures.1;
         has_flows = flows.1;
         has_needs = needs.1;
         has_requests = requests.1;

@@ -1,19 +1,20 @@
-use Rattle.std.proofs.Common.{◌≡◌, true, Option, refl, ap}
+use Rattle.std.proofs.Common.{◌≡◌, true, Option, refl, sym, ap, ◌∙◌}
 use Rattle.std.specs.Prelude.{unwrap_or}
 use Rattle.toml.specs.Data.{Members, no_members}
+use Rattle.j39_plan.specs.declared.reading.version.Version.TheVariants.{Fourth}
+use Rattle.j39_plan.specs.Since.{is_known}
 use Rattle.j39_plan.specs.Schema.{table_of}
 use Rattle.j39_plan.proofs.reading.meanings.meaning_keys.Goals as goal
 
 pub returns-clause-gives : goal.returns-clause-gives
 unfolding table_of
 returns-clause-gives c =
-    let is : c.args.fourth ≡ true = c.if-not-fourth.false in
-    let names = rw c.raw_limit.ensures.value at c.in_ok-names.ensures.gives in
-    rw is (
-      rw (c.in_ok-optional.ensures.0, c.in_ok-spn.ensures.gives.0, names.0) refl,
+    let is : is_known Fourth c.args.version ≡ true = sym c.knows.ensures ∙ c.if-not-knows.false in
+    let names = rw c.raw_limit.ensures.value at c.in_ok-names.ensures.gives in (
+      rw (is, c.in_ok-optional.ensures.0, c.in_ok-spn.ensures.gives.0, names.0) refl,
       record {
-        has_optional = c.in_ok-optional.ensures.1;
-        has_spn = c.in_ok-spn.ensures.gives.1;
-        has_names = ap (λ (o : Option Members). unwrap_or o no_members) names.1;
+        has_optional = rw is c.in_ok-optional.ensures.1;
+        has_spn = rw is c.in_ok-spn.ensures.gives.1;
+        has_names = rw is (ap (λ (o : Option Members). unwrap_or o no_members) names.1);
       },
     )

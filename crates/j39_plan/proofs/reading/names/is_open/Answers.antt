@@ -4,4 +4,4 @@ use Rattle.j39_plan.proofs.reading.names.is_open.Goals as goal
 
 pub returns-clause-number : goal.returns-clause-number
 returns-clause-number c =
-    open_number c.args.fourth (table_view c.args.members.now) c.args.name c.lacks_identity.result c.requires c.lacks_identity.ensures
+    open_number c.args.version (table_view c.args.members.now) c.args.name c.lacks_identity.result c.requires c.lacks_identity.ensures

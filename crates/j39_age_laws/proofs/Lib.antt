@@ -1,0 +1,15 @@
+mod Behind
+mod Circle
+mod Feeders
+mod Kept
+mod Old
+mod Once
+mod OneFlow
+mod Order
+mod Parts
+mod Silent
+mod Starts
+mod Timely
+mod Until
+mod Whole
+mod Young

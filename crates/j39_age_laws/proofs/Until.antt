@@ -1,0 +1,142 @@
+-- What is seen of a bus up to a bit keeps to its plan, where the frames that are queued before it keep to their streams.
+use Rattle.std.proofs.Common.{◌≡◌, ℕ, ◌+◌, ◌<◌, ◌≤◌, Bool, true, not, cond, ◌&&◌, ◌||◌, eqb, ltb, leb, List, Option, refl, sym, ap, ◌∙◌, subst, arith, inl, inr}
+use Rattle.std.proofs.lemmas.Bool.{and_parts, and_from, cases_Bool, leb-true, both_ways}
+use Rattle.j39_network.specs.declared.plan.timing.Timing.{Timing}
+use Rattle.j39_load.specs.declared.flow_frames.FlowFrames.{FlowFrames}
+use Rattle.j39_load.specs.PlannedFrames.{AreFramesInAnyOrder, KeepToCompany, company_of, others_of, planned_at}
+use Rattle.j39_timing.specs.AnyOrder.{Controllers}
+use Rattle.j39_timing.specs.Companies.{Company, CompanyWaits, is_unplanned_queued, is_with_company, unplanned_queued}
+use Rattle.j39_timing.specs.FrameBits.{longest_frame}
+use Rattle.j39_timing.specs.FrameStreams.{AreOfStreams, Origins}
+use Rattle.j39_timing.specs.Prefixes.{IsPlannedUntil, planned_until, seen_until}
+use Rattle.j39_timing.specs.TimedFrames.{Schedule}
+use Rattle.j39_timing.specs.Traffic.{AreAsWanted, moments_in}
+use Rattle.j39_timing.proofs.Prefixes.{is_planned_then, its_own, then_is_planned, then_known}
+use Rattle.j39_timing.proofs.Sums.{total-le}
+use Rattle.j39_age_laws.specs.ForwardedStreams.{KeepsOtherwise, streams_of}
+
+module _ (timing : Timing) (all : List (Option FlowFrames)) (s : Schedule) (controllers : Controllers) (planned : ℕ → Bool) (of : Origins) (i : ℕ)
+    (keeps : KeepsOtherwise timing all s controllers planned of i) where
+  -- with the streams it is all that is asked
+  pub with_streams : AreOfStreams s (λ p. planned p ≡ true) (streams_of timing all).count (streams_of timing all).stream of
+      → AreFramesInAnyOrder timing all s controllers planned of i
+  with_streams streams = record {
+    known = record {
+      longest_at_most = keeps.longest_at_most;
+      of_streams = streams;
+      as_wanted = keeps.as_wanted;
+      from_least = keeps.from_least;
+      to_greatest = keeps.to_greatest;
+      own_identifier = keeps.own_identifier;
+      urgency_of_others = keeps.urgency_of_others;
+      few_others = keeps.few_others;
+    };
+    of_unit = keeps.of_unit;
+    to_last = keeps.to_last;
+    companies = keeps.companies;
+  }
+
+  module _ (by : ℕ) (seen : by ≤ s.now)
+      (streams : AreOfStreams s (λ p. planned_until s planned by p ≡ true) (streams_of timing all).count (streams_of timing all).stream of) where
+    abbrev pub least : ℕ
+    least = (others_of timing).least
+
+    abbrev pub then_seen : Schedule
+    then_seen = seen_until s by (others_of timing).least
+
+    abbrev pub then_planned : ℕ → Bool
+    then_planned = planned_until s planned by
+
+    own : (p : ℕ) → s.queued p < by → then_seen.ident p ≡ s.ident p
+    own p early = its_own s by (others_of timing).least p early
+
+    fewer_moments : (j t span : ℕ) → moments_in s then_planned of j t span ≤ moments_in s planned of j t span
+    fewer_moments j t span = total-le s.count (λ p. cond (then_planned p && (eqb (of.source p) j && (leb t (of.since p) && ltb (of.since p) (t + span)))) 1 0)
+        (λ p. cond (planned p && (eqb (of.source p) j && (leb t (of.since p) && ltb (of.since p) (t + span)))) 1 0)
+        (λ p in_p. one (planned p) (ltb (s.queued p) by) (eqb (of.source p) j && (leb t (of.since p) && ltb (of.since p) (t + span))))
+      where
+        one : (a b c : Bool) → cond ((a && b) && c) 1 0 ≤ cond (a && c) 1 0
+        one Rattle.std.proofs.Common.true Rattle.std.proofs.Common.true c = omega arith
+        one Rattle.std.proofs.Common.true Rattle.std.proofs.Common.false c = omega arith
+        one Rattle.std.proofs.Common.false b c = omega arith
+
+    wanted_then : AreAsWanted s then_planned of (streams_of timing all).demands (streams_of timing all).stream
+    wanted_then j t span demand has =
+        let fewer = fewer_moments j t span in
+        let most = keeps.as_wanted j t span demand has in
+        omega (arith, fewer, most)
+
+    planned_then : IsPlannedUntil s (streams_of timing all) (others_of timing) (longest_frame 8) planned of i by
+    planned_then = record {
+      longest_at_most = keeps.longest_at_most;
+      of_streams = streams;
+      as_wanted = wanted_then;
+      from_least = keeps.from_least;
+      to_greatest = keeps.to_greatest;
+      own_identifier = keeps.own_identifier;
+      urgency_of_others = keeps.urgency_of_others;
+      few_others = keeps.few_others;
+    }
+
+    -- ---- a company
+
+    module _ (company : Company) (kept : KeepToCompany timing s planned of company) where
+      with_company : (p : ℕ) → s.queued p < by → is_with_company then_seen of company p ≡ is_with_company s of company p
+      with_company p early = ap (λ c. company.has (of.source p) || ltb c company.level) (own p early)
+
+      company_before : (from to : ℕ) → CompanyWaits then_seen then_planned of company from to → CompanyWaits s planned of company from to
+      company_before from to stretch t after within =
+          let (p, in_p, is, with_it, waits) = stretch t after within in
+          let (plain, early) = is_planned_then s planned by p is in
+          (p, in_p, plain, subst (λ x. x ≡ true) (with_company p early) with_it, waits)
+
+      fewer : (from to : ℕ) → to < by → unplanned_queued then_seen then_planned from to ≤ unplanned_queued s planned from to
+      fewer from to before =
+          total-le s.count (λ q. cond (is_unplanned_queued then_seen then_planned from to q) 1 0) (λ q. cond (is_unplanned_queued s planned from to q) 1 0)
+          (λ q in_q.
+          elim (cases_Bool (is_unplanned_queued then_seen then_planned from to q)) [
+            | inr fails ↦ rw (fails) (omega arith)
+            | inl it ↦
+                let one = and_parts (not (then_planned q)) (leb (s.queued q) to && ltb from (s.start q)) it in
+                let two = and_parts (leb (s.queued q) to) (ltb from (s.start q)) one.1 in
+                let until : s.queued q ≤ to = leb-true (s.queued q) to two.0 in
+                let isnt : not (planned q) ≡ true = elim (cases_Bool (planned q)) [
+                  | inl is ↦ absurd (both_ways (not (then_planned q)) (ap not (then_is_planned s planned by q is (omega arith))) one.0)
+                  | inr unplanned_one ↦ rw (unplanned_one) refl
+                ] in
+                let there : is_unplanned_queued s planned from to q ≡ true = and_from (not (planned q)) (leb (s.queued q) to && ltb from
+                (s.start q)) isnt one.1 in
+                rw (it, there) (omega arith)
+          ])
+
+      company_then : KeepToCompany timing then_seen then_planned of company
+      company_then = record {
+        identifiers = λ p in_p. elim (cases_Bool (ltb (s.queued p) by)) [
+          | inl early ↦ rw (early) (kept.identifiers p in_p)
+          | inr late ↦ rw (late) (let few = timing.unplanned_priority_range in omega arith)
+        ];
+        own_identifiers = λ p q t in_p in_q before is has at_p at_q same.
+            let (plain, early) = is_planned_then s planned by p is in
+            let ready : s.queued q < by = let at = at_q.0 in omega arith in
+            let of_p : then_seen.ident p ≡ s.ident p = own p early in
+            let of_q : then_seen.ident q ≡ s.ident q = own q ready in
+            let both = kept.own_identifiers p q t in_p in_q (omega arith) plain has at_p at_q (sym of_p ∙ (same ∙ of_q)) in
+            (then_is_planned s planned by q both.0 ready, both.1);
+        few_unplanned = λ p from to in_p is has before waits stretch.
+            let (plain, early) = is_planned_then s planned by p is in
+            let most = kept.few_unplanned p from to in_p plain has (omega arith) waits (company_before from to stretch) in
+            let less = fewer from to before in
+            omega (arith, most, less);
+      }
+
+    pub frames_then : AreFramesInAnyOrder timing all then_seen controllers then_planned of i
+    frames_then = record {
+      known = then_known s (streams_of timing all) (others_of timing) (longest_frame 8) planned of i by seen planned_then;
+      of_unit = λ p in_p is un. keeps.of_unit p in_p (is_planned_then s planned by p is).0 un;
+      to_last = λ p in_p is kept.
+          let (plain, early) = is_planned_then s planned by p is in
+          let most = keeps.to_last p in_p plain kept in
+          let same = own p early in
+          omega (arith, most, same);
+      companies = λ j level goes kept is_level. company_then (company_of timing all (planned_at all j) level) (keeps.companies j level goes kept is_level);
+    }

@@ -1,0 +1,7 @@
+pub mod ForwardedStreams
+pub mod KeptBuses
+pub mod OnceSentOn
+pub mod Prompt
+pub mod Seen
+pub mod VehicleAges
+pub mod YoungValues

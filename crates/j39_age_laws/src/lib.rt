@@ -1,0 +1,8 @@
+//! Laws of what gateways of a vehicle send on, and how old it is where it is received.
+#![tactic(auto)]
+
+mod laws;
+
+pub use laws::{
+    a_message_is_sent_on, ages_are_bounds, gateways_keep_to_plans, sound_vehicles_keep_ages,
+};

@@ -1,0 +1,10 @@
+use Rattle.std.proofs.Common.{◌≡◌, ◌-◌, ◌*◌, ◌^◌, ◌≤◌, length, Some}
+use Rattle.j39_ages.specs.Times.{behind_by, sum_known}
+use Rattle.j39_ages.proofs.chains.behind.Given as goal
+
+abbrev pub invariant-chain : goal.invariant-chain
+invariant-chain l = record {
+  sum : sum_known (Some l.hops) (behind_by l.vehicle l.delays (length l.vehicle.forwards.items - l._step) l.at)
+      ≡ behind_by l.vehicle l.delays (length l.vehicle.forwards.items) l.fn.start;
+  few : l.hops ≤ l._step * 2 ^ 36;
+}

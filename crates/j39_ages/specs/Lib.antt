@@ -1,0 +1,5 @@
+pub mod BusDelays
+pub mod FoundTimes
+pub mod inside
+pub mod TimeFindings
+pub mod Times

@@ -1,0 +1,166 @@
+//! How long what comes along direct forwards takes, and how often it comes.
+ghost use Rattle.std.specs.Prelude.{◌≡◌, ◌<◌, ◌≤◌, ◌^◌, Some, IfSome};
+ghost use Rattle.j39_ages.specs.Times.{behind_at, behind_by, behind_moment, own, queued, queued_of, silent, silent_by, sum_known, unasked_at, within_of};
+
+use crate::bus_delays::{Delays, delay_at};
+use crate::flows::{
+    direct_feeder, flow_at, input_at, jitter_of, own, own_of, pause_of, timing_on, us_of_ms,
+    within_of,
+};
+use j39_network::FlowPlan;
+use j39_paths::FlowAt;
+use j39_vehicle::{Forward, Vehicle};
+
+// How long a message of the flow takes from its moment until it has ended, if no direct forward feeds it.
+fn behind_moment(vehicle: &Vehicle, delays: &Delays, at: FlowAt) -> Option<u64>
+    ensures value { result ≡ behind_moment vehicle.now delays.now at }
+    ensures few { IfSome result (λ behind_at. behind_at < 2 ^ 36) }
+{
+    let Some(timing) = timing_on(&vehicle.buses, at.bus) else {
+        return None;
+    };
+    let Some(flow) = flow_at(&vehicle.buses, at) else {
+        return None;
+    };
+    match delay_at(delays, at) {
+        Some(delay) => Some(own_of(timing, flow, delay) + us_of_ms(jitter_of(flow))),
+        None => None,
+    }
+}
+
+// How long the forward takes, and what it sends until that has ended.
+fn hop(vehicle: &Vehicle, delays: &Delays, forward: &Forward, at: FlowAt) -> Option<u64>
+    ensures value { result ≡ sum_known (within_of forward.now) (own vehicle.now delays.now at) }
+    ensures few { IfSome result (λ hop. hop < 2 ^ 36) }
+{
+    let Some(within) = within_of(forward) else {
+        return None;
+    };
+    match own(vehicle, delays, at) {
+        Some(own) => Some(within + own),
+        None => None,
+    }
+}
+
+// How long it takes in all, where direct forwards took so long up to the flow, and none feeds this.
+fn first_behind(vehicle: &Vehicle, delays: &Delays, hops: u64, at: FlowAt) -> Option<u64>
+    requires { hops ≤ 2 ^ 45 }
+    ensures value { result ≡ sum_known (Some hops) (behind_moment vehicle.now delays.now at) }
+    ensures few { IfSome result (λ behind_at. behind_at < 2 ^ 46) }
+{
+    match behind_moment(vehicle, delays, at) {
+        Some(behind) => Some(hops + behind),
+        None => None,
+    }
+}
+
+// The same, where no more direct forwards are followed.
+#[tactic(auto, unfolding(crate::specs::Times::behind_by))]
+fn last_behind(vehicle: &Vehicle, delays: &Delays, hops: u64, at: FlowAt) -> Option<u64>
+    requires { hops ≤ 2 ^ 45 }
+    ensures value { result ≡ sum_known (Some hops) (behind_by vehicle.now delays.now 0 at) }
+    ensures few { IfSome result (λ behind_at. behind_at < 2 ^ 46) }
+{
+    match direct_feeder(vehicle, at) {
+        None => first_behind(vehicle, delays, hops, at),
+        Some(_forward) => None,
+    }
+}
+
+/// How long a message of the flow takes until it has ended: from its moment, which is that of the first one where direct forwards sent it on.
+pub fn behind(vehicle: &Vehicle, delays: &Delays, start: FlowAt) -> Option<u64>
+    ensures value { result ≡ behind_at vehicle.now delays.now start }
+    ensures few { IfSome result (λ behind_at. behind_at < 2 ^ 46) }
+{
+    let mut at = start;
+    let mut hops = 0;
+    'chain: for _step in 0..vehicle.forwards.len() {
+        let Some(forward) = direct_feeder(vehicle, at) else {
+            return first_behind(vehicle, delays, hops, at);
+        };
+        let Some(hop) = hop(vehicle, delays, forward, at) else {
+            return None;
+        };
+        let Some(source) = input_at(vehicle, forward) else {
+            return None;
+        };
+        hops += hop;
+        at = source;
+    }
+    last_behind(vehicle, delays, hops, at)
+}
+
+/// In how many microseconds behind the moment of the message that it sends the forward has queued it, if it is direct.
+pub fn queued_of(vehicle: &Vehicle, delays: &Delays, forward: &Forward) -> Option<u64>
+    ensures { result ≡ queued_of vehicle.now delays.now forward.now }
+{
+    let Some(source) = input_at(vehicle, forward) else {
+        return None;
+    };
+    let Some(behind) = behind(vehicle, delays, source) else {
+        return None;
+    };
+    match within_of(forward) {
+        Some(within) => Some(behind + within),
+        None => None,
+    }
+}
+
+/// The same of the forward at a place: none where it isn't known.
+pub fn queued(vehicle: &Vehicle, delays: &Delays, forward: usize) -> Option<u64>
+    ensures { result ≡ queued vehicle.now delays.now forward }
+{
+    match vehicle.forwards.get(forward) {
+        Some(forward) => queued_of(vehicle, delays, forward),
+        None => None,
+    }
+}
+
+// The flow, where something is known of its bus, and it isn't sent only where it is asked for.
+fn unasked_at(vehicle: &Vehicle, at: FlowAt) -> Option<FlowPlan>
+    ensures { result ≡ unasked_at vehicle.now at }
+{
+    let Some(_timing) = timing_on(&vehicle.buses, at.bus) else {
+        return None;
+    };
+    match flow_at(&vehicle.buses, at) {
+        Some(flow) if !flow.on_request => Some(*flow),
+        _ => None,
+    }
+}
+
+// In how many microseconds a message of the flow has its moment, where no more direct forwards are followed.
+#[tactic(auto, unfolding(crate::specs::Times::silent_by))]
+fn last_silent(vehicle: &Vehicle, at: FlowAt) -> Option<u64>
+    ensures value { result ≡ silent_by vehicle.now 0 at }
+    ensures few { IfSome result (λ silent. silent < 2 ^ 26) }
+{
+    let Some(flow) = unasked_at(vehicle, at) else {
+        return None;
+    };
+    match direct_feeder(vehicle, at) {
+        None => pause_of(&flow),
+        Some(_forward) => None,
+    }
+}
+
+/// In how many microseconds a message of the flow has its moment, however they lie.
+pub fn silent(vehicle: &Vehicle, start: FlowAt) -> Option<u64>
+    ensures value { result ≡ silent vehicle.now start }
+    ensures few { IfSome result (λ silent. silent < 2 ^ 26) }
+{
+    let mut at = start;
+    'chain: for _step in 0..vehicle.forwards.len() {
+        let Some(flow) = unasked_at(vehicle, at) else {
+            return None;
+        };
+        let Some(forward) = direct_feeder(vehicle, at) else {
+            return pause_of(&flow);
+        };
+        let Some(heard) = input_at(vehicle, forward) else {
+            return None;
+        };
+        at = heard;
+    }
+    last_silent(vehicle, at)
+}

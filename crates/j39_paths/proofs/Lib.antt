@@ -1,0 +1,10 @@
+pub mod Deciding
+pub mod Families
+pub mod Following
+pub mod PassingLemmas
+pub mod PathLaws
+pub mod Searching
+pub mod Spreading
+pub mod TableRows
+pub mod Tracing
+pub mod Whole

@@ -1,0 +1,11 @@
+use Rattle.std.proofs.Common.{◌∙◌, ap}
+use Rattle.std.specs.List.{find}
+use Rattle.j39_paths.specs.PathTables.{carries_at}
+use Rattle.j39_paths.proofs.TableRows.{next_by_feeders}
+use Rattle.j39_paths.proofs.tables.PathTables.next_forward.Goals as goal
+
+pub returns : goal.returns
+returns c =
+    let v = c.args.vehicle.now in
+    let p = c.args.point in
+    c.first_carrying.ensures ∙ ap (find (carries_at v p.signal)) (c.feeders.ensures ∙ c.requires.feeders p.at) ∙ next_by_feeders v p

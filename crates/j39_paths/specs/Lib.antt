@@ -1,0 +1,12 @@
+pub mod Buses
+pub mod ForwardEnds
+pub mod ForwardTests
+pub mod FoundPaths
+pub mod inside
+pub mod Loops
+pub mod Matching
+pub mod MatchTests
+pub mod PassingPlaces
+pub mod PathTables
+pub mod Traces
+pub mod VehicleFindings

@@ -1,0 +1,119 @@
+//! Which needs no flow meets.
+ghost use Rattle.std.specs.Prelude.{◌≡◌};
+ghost use Rattle.j39_rules.specs.Adding.{Adds};
+ghost use Rattle.j39_network.specs.Serving.{meets};
+ghost use Rattle.j39_rules.specs.ListPlaces.{found_if, each};
+ghost use Rattle.j39_paths.specs.FoundPaths.{is_need_flow, is_need_unmet, need_findings, some_at};
+ghost use Rattle.j39_paths.specs.PathTables.{AreTables};
+ghost use Rattle.j39_paths.specs.Traces.{flows_of_need, is_from_origin, need_on_bus};
+
+use crate::buses::{flows_on, requests_on};
+use crate::finding::VehicleFinding;
+use crate::tables::PathTables;
+use crate::traces::is_from_origin;
+use j39_network::{FlowPlan, NeedPlan, RequestPlan, meets};
+use j39_rules::{Rule, find_each, push_if};
+use j39_vehicle::{Vehicle, VehicleNeed};
+use std::alloc::AllocError;
+
+// Whether the flow brings the need's unit the group that it needs.
+fn is_needed(requests: &[RequestPlan], need: &VehicleNeed, flow: &FlowPlan) -> bool
+    ensures { result ≡ meets requests.now (need_on_bus need.now) flow.now }
+{
+    let on_bus = NeedPlan {
+        unit: need.unit.unit,
+        group: need.group,
+        signal: None,
+        from: None,
+        within: None,
+    };
+    meets(requests, &on_bus, flow)
+}
+
+/// Whether the flow, at its place on the need's bus, brings the unit what it needs, from the unit that is named.
+pub fn is_need_flow(vehicle: &Vehicle, need: &VehicleNeed, place: usize, flow: &FlowPlan) -> bool
+    ensures { result ≡ is_need_flow vehicle.now need.now place flow.now }
+{
+    let requests = requests_on(&vehicle.buses, need.unit.bus);
+    is_needed(requests, need, flow) && is_from_origin(vehicle, need, place)
+}
+
+// The same, by the tables of the vehicle.
+fn is_told_need_flow(
+    vehicle: &Vehicle,
+    tables: &PathTables,
+    need: &VehicleNeed,
+    place: usize,
+    flow: &FlowPlan,
+) -> bool
+    requires { AreTables vehicle.now tables.now }
+    ensures { result ≡ is_need_flow vehicle.now need.now place flow.now }
+{
+    let requests = requests_on(&vehicle.buses, need.unit.bus);
+    is_needed(requests, need, flow) && tables.is_from_origin(vehicle, need, place)
+}
+
+// Whether one of these flows, which are all of the need's bus, does.
+fn some_is_need_flow(
+    vehicle: &Vehicle,
+    tables: &PathTables,
+    need: &VehicleNeed,
+    flows: &[FlowPlan],
+) -> bool
+    requires { AreTables vehicle.now tables.now }
+    ensures { result ≡ some_at (is_need_flow vehicle.now need.now) 0 flows.now }
+{
+    for (place, flow) in flows.iter().enumerate() {
+        if is_told_need_flow(vehicle, tables, need, place, flow) {
+            return true;
+        }
+    }
+    false
+}
+
+fn is_need_met(vehicle: &Vehicle, tables: &PathTables, need: &VehicleNeed) -> bool
+    requires { AreTables vehicle.now tables.now }
+    ensures { result ≡ some_at (is_need_flow vehicle.now need.now) 0 (flows_of_need vehicle.now need.now) }
+{
+    let flows = flows_on(&vehicle.buses, need.unit.bus);
+    some_is_need_flow(vehicle, tables, need, flows)
+}
+
+#[derive(Clone, Copy)]
+struct NeedUnmet<'a> {
+    vehicle: &'a Vehicle,
+    tables: &'a PathTables,
+    ghost of_vehicle: { AreTables vehicle.now tables.now },
+}
+
+impl Rule<VehicleNeed, VehicleFinding> for NeedUnmet<'_> {
+    ghost use Rattle.j39_paths.specs.declared.finding.VehicleFinding.TheVariants.{NeedUnmet as NeedsUnmet};
+
+    ghost gives = { λ rule d need. found_if (is_need_unmet rule.vehicle.now need) (NeedsUnmet d) };
+
+    fn find(
+        &self,
+        findings: &mut Vec<VehicleFinding>,
+        place: usize,
+        need: &VehicleNeed,
+    ) -> Result<(), AllocError> {
+        push_if(
+            findings,
+            !is_need_met(self.vehicle, self.tables, need),
+            VehicleFinding::NeedUnmet(place),
+        )
+    }
+}
+
+/// Adds the needs that no flow meets.
+#[tactic(auto, unfolding(crate::specs::FoundPaths::need_findings))]
+pub fn find_in_needs(
+    findings: &mut Vec<VehicleFinding>,
+    vehicle: &Vehicle,
+    tables: &PathTables,
+) -> Result<(), AllocError>
+    requires { AreTables vehicle.now tables.now }
+    ensures { Adds result findings.old.items findings.new.items (need_findings vehicle.now) }
+{
+    find_each(findings, &NeedUnmet { vehicle, tables }, &vehicle.needs)
+}

@@ -1,0 +1,89 @@
+//! Traces by the tables of a vehicle.
+ghost use Rattle.std.specs.Prelude.{◌≡◌};
+ghost use Rattle.std.specs.List.{find};
+ghost use Rattle.j39_paths.specs.PathTables.{carries_at, AreTables};
+ghost use Rattle.j39_paths.specs.Traces as spec;
+
+use crate::point::{FlowAt, Point};
+use crate::tables::PathTables;
+use crate::traces::{behind_forward, carries, is_sent_by};
+use j39_vehicle::{Vehicle, VehicleNeed};
+
+// Whether the forward at a place carries the signal.
+fn carries_at(vehicle: &Vehicle, signal: Option<usize>, place: usize) -> bool
+    ensures { result ≡ carries_at vehicle.now signal place }
+{
+    match vehicle.forwards.get(place) {
+        Some(forward) => carries(signal, forward),
+        None => false,
+    }
+}
+
+// The first of these forwards that carries the signal.
+fn first_carrying(vehicle: &Vehicle, signal: Option<usize>, places: &[usize]) -> Option<usize>
+    ensures { result ≡ find (carries_at vehicle.now signal) places.now }
+{
+    places
+        .iter()
+        .copied()
+        .find(|place| carries_at(vehicle, signal, *place))
+}
+
+impl PathTables {
+    /// The first forward that feeds the flow and carries the signal.
+    pub fn next_forward(&self, vehicle: &Vehicle, point: Point) -> Option<usize>
+        requires { AreTables vehicle.now self.now }
+        ensures { result ≡ spec.next_forward vehicle.now point }
+    {
+        first_carrying(vehicle, point.signal, self.feeders(point.at))
+    }
+
+    /// Where the trace goes on by the forward at a place.
+    pub fn goes_on(&self, vehicle: &Vehicle, point: Point, forward: usize) -> Option<Point>
+        requires { AreTables vehicle.now self.now }
+        ensures { result ≡ spec.goes_on vehicle.now point forward }
+    {
+        match vehicle.forwards.get(forward) {
+            Some(next) => behind_forward(vehicle, point.signal, next, self.input(forward)),
+            None => None,
+        }
+    }
+
+    /// Where the trace of a flow and a signal ends: none where what goes into a signal is missing on the way, or it goes on more often than
+    /// there are forwards, in a loop.
+    pub fn origin(&self, vehicle: &Vehicle, start: Point) -> Option<Point>
+        requires { AreTables vehicle.now self.now }
+        ensures { result ≡ spec.origin vehicle.now start }
+    {
+        let mut point = start;
+        'trace: for _step in 0..vehicle.forwards.len() {
+            let Some(forward) = self.next_forward(vehicle, point) else {
+                return Some(point);
+            };
+            let Some(before) = self.goes_on(vehicle, point, forward) else {
+                return None;
+            };
+            point = before;
+        }
+        match self.next_forward(vehicle, point) {
+            None => Some(point),
+            Some(_forward) => None,
+        }
+    }
+
+    /// Whether what the flow at a place of the need's bus brings comes from the unit that the need names.
+    pub fn is_from_origin(&self, vehicle: &Vehicle, need: &VehicleNeed, flow: usize) -> bool
+        requires { AreTables vehicle.now self.now }
+        ensures { result ≡ spec.is_from_origin vehicle.now need.now flow }
+    {
+        let at = FlowAt {
+            bus: need.unit.bus,
+            flow,
+        };
+        let signal = need.signal;
+        match self.origin(vehicle, Point { at, signal }) {
+            Some(point) => is_sent_by(vehicle, need.from, point),
+            None => false,
+        }
+    }
+}

@@ -1,0 +1,34 @@
+-- The first fault of faults that follow one another.
+use Rattle.std.proofs.Common.{◌≡◌, List, [], ◌∷◌, ◌++◌, Result, Some, Err}
+use Rattle.j39_vehicle.specs.declared.reading.fault.Fault.{Fault}
+use Rattle.j39_vehicle.specs.declared.reading.vehicle_error.VehicleError.{VehicleError}
+use Rattle.j39_vehicle.specs.declared.reading.vehicle_error.VehicleError.TheVariants as errors
+use Rattle.j39_vehicle.specs.Outcome.{first, FailsGrowing, Gives}
+
+pub first-append : (xs ys : List Fault) (f : Fault) → first xs ≡ Some f → first (xs ++ ys) ≡ Some f
+first-append [] ys f e = cc
+first-append (x ∷ xs) ys f e = e
+
+pub ruleset faults_after = (first-append)
+
+-- A reader passes on the refusal of a part, where the part's first fault is the first of the whole.
+pub fails_on : (Inner Outer : Type 0) (e : VehicleError) (part whole : List Fault) → (Inner → Outer)
+    → ((f : Fault) → first part ≡ Some f → first whole ≡ Some f)
+    → FailsGrowing Inner e part → FailsGrowing Outer e whole
+fails_on Inner Outer errors.Text part whole grows leads fails = fails
+fails_on Inner Outer (errors.Fault f) part whole grows leads fails = leads f fails
+fails_on Inner Outer errors.Memory part whole grows leads fails = grows fails
+
+-- What a reader refuses it refuses behind parts without a fault, and before others.
+pub fails_behind : (Grows : Type 0) (e : VehicleError) (xs ys : List Fault) → xs ≡ [] → FailsGrowing Grows e ys → FailsGrowing Grows e (xs ++ ys)
+fails_behind Grows e xs ys none fails = rw none fails
+
+pub fails_before : (Grows : Type 0) (e : VehicleError) (xs ys : List Fault) → FailsGrowing Grows e xs → FailsGrowing Grows e (xs ++ ys)
+fails_before Grows errors.Text xs ys fails = fails
+fails_before Grows (errors.Fault f) xs ys fails = first-append xs ys f fails
+fails_before Grows errors.Memory xs ys fails = fails
+
+-- What a part refuses the whole refuses, where their faults are the same.
+pub refused_alike : (X : Type 0) (given : Result X VehicleError) (e : VehicleError) (faults : List Fault) (Is : X → Type 0)
+    → given ≡ Err e → FailsGrowing ⊥ e faults → Gives given faults Is
+refused_alike X given e faults Is same fails = rw (same) fails

@@ -1,0 +1,67 @@
+//! The buses of a vehicle file.
+ghost use Rattle.std.specs.Prelude.{◌≡◌, [], map};
+ghost use Rattle.toml.specs.View.{table_view};
+ghost use Rattle.j39_vehicle.specs.Outcome.{GivesGrowing};
+ghost use Rattle.j39_vehicle.specs.BusTables.{bus_table_faults, named_bus, TellsBus};
+
+use super::elements::ReadElement;
+use super::named::untaken;
+use super::owned::owned;
+use super::tables::{only, table_of};
+use super::text_kind::TextKind;
+use super::values::{label, text};
+use super::{Key, Table, VehicleError};
+use crate::file::BusTable;
+use std::alloc::Global;
+use toml::Value;
+
+const BUS_KEYS: [Key; 2] = [Key::Label, Key::Plan];
+
+#[tactic(auto, using(crate::proofs::FirstFaults::faults_after), unfolding(crate::specs::BusTables::bus_table_faults))]
+fn bus(
+    alloc: Global,
+    index: usize,
+    seen: &[BusTable],
+    members: &toml::Table,
+) -> Result<BusTable, VehicleError>
+    ensures { let faults = bus_table_faults index (map named_bus seen.now) (table_view members.now) in
+        GivesGrowing (faults ≡ []) result faults (TellsBus (table_view members.now)) }
+{
+    let table = Table::Bus(index);
+    only(members, table, &BUS_KEYS)?;
+    let label = label(members, table)?;
+    let plan = text(members, table, Key::Plan, TextKind::FileName)?;
+    untaken(seen, label.as_str(), table, Key::Label)?;
+    let plan = owned(alloc, plan)?;
+    Ok(BusTable { label, plan })
+}
+
+/// The reader of buses.
+#[derive(Clone, Copy)]
+pub struct Buses;
+
+impl ReadElement<BusTable> for Buses {
+    ghost use Rattle.j39_vehicle.specs.Growing.{BusGrows};
+    ghost use Rattle.j39_vehicle.specs.BusTables.{bus_faults, bus_name, IsBusOf};
+
+    ghost name = { named_bus };
+
+    ghost name_in = { bus_name };
+
+    ghost faults = { λ _. bus_faults };
+
+    ghost Grows = { λ _. BusGrows };
+
+    ghost Tells = { λ _. IsBusOf };
+
+    #[tactic(auto, using(crate::proofs::FirstFaults::faults_after), unfolding(crate::specs::BusTables::bus_faults))]
+    fn read(
+        &self,
+        alloc: Global,
+        index: usize,
+        seen: &[BusTable],
+        value: &Value,
+    ) -> Result<BusTable, VehicleError> {
+        bus(alloc, index, seen, table_of(value, Table::Bus(index))?)
+    }
+}

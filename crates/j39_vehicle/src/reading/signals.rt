@@ -1,0 +1,76 @@
+//! The signals of a forward.
+ghost use Rattle.std.specs.Prelude.{◌≡◌, [], map, unwrap_or, true};
+ghost use Rattle.toml.specs.View.{table_view};
+ghost use Rattle.j39_vehicle.specs.Outcome.{GivesGrowing};
+ghost use Rattle.j39_vehicle.specs.SignalTables.{named_signal, signal_table_faults, TellsSignal};
+
+use super::elements::ReadElement;
+use super::named::untaken;
+use super::owned::owned;
+use super::tables::{only, table_of};
+use super::text_kind::TextKind;
+use super::values::{optional_text, optional_truth, text};
+use super::{Key, Table, VehicleError};
+use crate::file::SignalTable;
+use std::alloc::Global;
+use toml::Value;
+
+const SIGNAL_KEYS: [Key; 3] = [Key::Label, Key::As, Key::Exact];
+
+#[tactic(auto, using(crate::proofs::FirstFaults::faults_after), unfolding(crate::specs::SignalTables::signal_table_faults))]
+fn signal(
+    alloc: Global,
+    forward: usize,
+    index: usize,
+    seen: &[SignalTable],
+    members: &toml::Table,
+) -> Result<SignalTable, VehicleError>
+    ensures { let faults = signal_table_faults forward index (map named_signal seen.now) (table_view members.now) in
+        GivesGrowing (faults ≡ []) result faults (TellsSignal (table_view members.now)) }
+{
+    let table = Table::Signal(forward, index);
+    only(members, table, &SIGNAL_KEYS)?;
+    let read = text(members, table, Key::Label, TextKind::Any)?;
+    let given = optional_text(members, table, Key::As, TextKind::Any)?;
+    let exact = optional_truth(members, table, Key::Exact)?.unwrap_or(true);
+    let written = given.unwrap_or(read);
+    untaken(seen, written, table, Key::As)?;
+    Ok(SignalTable {
+        read: owned(alloc, read)?,
+        written: owned(alloc, written)?,
+        exact,
+    })
+}
+
+/// The reader of the signals of the forward at a place.
+#[derive(Clone, Copy)]
+pub struct Signals {
+    pub forward: usize,
+}
+
+impl ReadElement<SignalTable> for Signals {
+    ghost use Rattle.j39_vehicle.specs.Growing.{SignalGrows};
+    ghost use Rattle.j39_vehicle.specs.SignalTables.{signal_faults, forwarded_name, IsSignalOf};
+
+    ghost name = { named_signal };
+
+    ghost name_in = { forwarded_name };
+
+    ghost faults = { λ r. signal_faults r.forward };
+
+    ghost Grows = { λ r. SignalGrows r.forward };
+
+    ghost Tells = { λ _. IsSignalOf };
+
+    #[tactic(auto, using(crate::proofs::FirstFaults::faults_after), unfolding(crate::specs::SignalTables::signal_faults))]
+    fn read(
+        &self,
+        alloc: Global,
+        index: usize,
+        seen: &[SignalTable],
+        value: &Value,
+    ) -> Result<SignalTable, VehicleError> {
+        let table = Table::Signal(self.forward, index);
+        signal(alloc, self.forward, index, seen, table_of(value, table)?)
+    }
+}

@@ -1,0 +1,59 @@
+//! What needs name.
+ghost use Rattle.j39_vehicle.specs.Resolved as spec;
+
+use super::each::Resolve;
+use super::found::{group_place, unit_named};
+use super::own::given_signal;
+use crate::file::NeedTable;
+use crate::reading::{Key, Table, VehicleError, refused};
+use crate::vehicle::{BusPlan, GroupAt, VehicleNeed};
+use j39_plan::Cause;
+use std::alloc::Global;
+
+/// What the tables of needs stand for.
+#[derive(Clone, Copy)]
+pub struct Needs<'a> {
+    pub buses: &'a [BusPlan],
+}
+
+impl Resolve<NeedTable, VehicleNeed> for Needs<'_> {
+    ghost faults = { λ r. spec.need_found r.buses.now };
+
+    ghost Grows = { λ _. spec.NeverFoundGrows };
+
+    ghost StandsFor = { λ r. spec.StandsForNeed r.buses.now };
+
+    #[tactic(auto, using(crate::proofs::FirstFaults::faults_after), unfolding(crate::specs::Resolved::need_found, crate::specs::TableFaults::label_faults))]
+    fn resolve(
+        &self,
+        _alloc: Global,
+        index: usize,
+        table: &NeedTable,
+    ) -> Result<VehicleNeed, VehicleError> {
+        let place = Table::Need(index);
+        let unit = match unit_named(self.buses, table.unit.text.as_str()) {
+            Some(unit) => unit,
+            None => return Err(refused(Cause::UnknownLabel, place, Key::Unit)),
+        };
+        let group = match group_place(self.buses, unit.bus, table.group.as_str()) {
+            Some(group) => group,
+            None => return Err(refused(Cause::UnknownLabel, place, Key::Group)),
+        };
+        let whole = GroupAt {
+            bus: unit.bus,
+            group,
+        };
+        let signal = given_signal(self.buses, whole, &table.signal, place, Key::Signal)?;
+        let from = match unit_named(self.buses, table.from.text.as_str()) {
+            Some(from) => from,
+            None => return Err(refused(Cause::UnknownLabel, place, Key::From)),
+        };
+        Ok(VehicleNeed {
+            unit,
+            group,
+            signal,
+            from,
+            within: table.within,
+        })
+    }
+}

@@ -1,0 +1,11 @@
+pub mod Bringing
+pub mod Copied
+pub mod Example
+pub mod ExampleRun
+pub mod Forwarding
+pub mod Hops
+pub mod Indexes
+pub mod Multiples
+pub mod Passing
+pub mod Places
+pub mod Values

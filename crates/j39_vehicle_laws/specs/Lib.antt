@@ -1,0 +1,9 @@
+pub mod Reading
+pub mod Values
+pub mod Faithful
+pub mod BusRuns
+pub mod Carrying
+pub mod Copied
+pub mod Unaltered
+pub mod Passing
+pub mod Forwarding
