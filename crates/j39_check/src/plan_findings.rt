@@ -1,6 +1,8 @@
 //! Everything that is wrong with a plan.
 ghost use Rattle.std.specs.Prelude.{◌≡◌, ◌+◌, length, IfOk};
+ghost use Rattle.std.specs.List.{list_all};
 ghost use Rattle.j39_check.specs.FoundInPlan.{ArePlanFindings, are_of_times, is_of_times};
+ghost use Rattle.j39_load.specs.LoadFindings.{load_finding_number};
 
 use j39_findings::{Findings, Plan, check};
 use j39_load::{LoadFinding, check_load};
@@ -18,6 +20,13 @@ fn is_of_times(number: u8) -> bool
     ensures { result ≡ is_of_times number }
 {
     matches!(number, 17 | 18 | 20)
+}
+
+// Whether each of these is.
+fn all_of_times(others: &[LoadFinding]) -> bool
+    ensures { result ≡ list_all (λ finding. is_of_times (load_finding_number finding)) others.now }
+{
+    others.iter().all(|finding| is_of_times(finding.number()))
 }
 
 impl PlanFindings {
@@ -41,10 +50,6 @@ impl PlanFindings {
     pub fn are_of_times(&self) -> bool
         ensures { result ≡ are_of_times self.now.findings.items self.now.others.items }
     {
-        self.findings.is_empty()
-            && self
-                .others
-                .iter()
-                .all(|finding| is_of_times(finding.number()))
+        self.findings.is_empty() && all_of_times(self.others.as_slice())
     }
 }
