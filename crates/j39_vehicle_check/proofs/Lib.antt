@@ -1,3 +1,4 @@
+pub mod Behind
 pub mod BlockLists
 pub mod NoFindings
 pub mod Reporting

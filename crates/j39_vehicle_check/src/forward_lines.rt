@@ -1,5 +1,5 @@
 //! The lines of forwards.
-ghost use Rattle.std.specs.Prelude.{◌≡◌, ◌++◌, OnOk};
+ghost use Rattle.std.specs.Prelude.{◌≡◌, ◌++◌, Some, None, OnOk};
 ghost use Rattle.std.specs.List.{position};
 ghost use Rattle.std.specs.Option.{option_copied};
 ghost use Rattle.j39_load.specs.LineLists.{lines_of_each};
@@ -10,6 +10,7 @@ ghost use Rattle.j39_ages.specs.Times.{jitter_of, us_of_ms};
 ghost use Rattle.j39_vehicle_check.specs.ForwardLines.{queued_text_where, forward_line, forward_lines, forward_text, output_jitter, queued_text};
 
 use crate::labels::{gateway_label, write_group_at};
+use crate::times::us_of_ms;
 use j39_ages::{Delays, is_late_asked, queued};
 use j39_findings::FlowPlan;
 use j39_paths::{is_output, output_flows};
@@ -39,7 +40,7 @@ fn jitter_of(flow: &FlowPlan) -> u64
     ensures { result ≡ us_of_ms (jitter_of flow.now) }
 {
     match flow.pace {
-        Some(pace) => 1_000 * u64::from(pace.jitter),
+        Some(pace) => us_of_ms(pace.jitter),
         None => 0,
     }
 }
@@ -57,19 +58,29 @@ fn output_jitter(vehicle: &Vehicle, forward: &Forward) -> u64
 
 // When messages are queued, of when they have to be.
 #[tactic(auto, unfolding(crate::specs::ForwardLines::queued_text))]
+fn write_within(text: &mut TextBuffer, time: u64, limit: u64) -> Result<(), AllocError>
+    ensures { OnOk result (text.new ≡ text.old ++ queued_text (Some time) limit) }
+{
+    text.field(" queued within ", time)?;
+    text.field(" of ", limit)?;
+    text.word(" us")
+}
+
+// When they have to be, where it isn't known when they are.
+#[tactic(auto, unfolding(crate::specs::ForwardLines::queued_text))]
+fn write_late(text: &mut TextBuffer, limit: u64) -> Result<(), AllocError>
+    ensures { OnOk result (text.new ≡ text.old ++ queued_text None limit) }
+{
+    text.field(" late of ", limit)?;
+    text.word(" us")
+}
+
 fn write_queued(text: &mut TextBuffer, time: Option<u64>, limit: u64) -> Result<(), AllocError>
     ensures { OnOk result (text.new ≡ text.old ++ queued_text time limit) }
 {
     match time {
-        Some(time) => {
-            text.field(" queued within ", time)?;
-            text.field(" of ", limit)?;
-            text.word(" us")
-        }
-        None => {
-            text.field(" late of ", limit)?;
-            text.word(" us")
-        }
+        Some(time) => write_within(text, time, limit),
+        None => write_late(text, limit),
     }
 }
 

@@ -1,11 +1,12 @@
 //! The lines of needs.
-ghost use Rattle.std.specs.Prelude.{◌≡◌, ◌++◌, OnOk};
+ghost use Rattle.std.specs.Prelude.{◌≡◌, ◌++◌, Some, None, OnOk};
 ghost use Rattle.j39_load.specs.LineLists.{lines_of_each};
 ghost use Rattle.j39_ages.specs.declared.needs.NeedFlow.{NeedFlow as ToldFlows};
 ghost use Rattle.j39_vehicle_check.specs.NeedLines.{content_text, group_of_flow, limit_text, meant_text, met_text, need_age_text, origin_content, origin_text, told_text};
 ghost use Rattle.j39_vehicle_check.specs.NeedLines.{vehicle_need_line, vehicle_need_lines, vehicle_need_text};
 
 use crate::labels::{group_label_at, signal_label_at, write_unit_at};
+use crate::times::us_of_ms;
 use crate::ways::write_way;
 use j39_ages::{Delays, NeedFlow, flow_of_need};
 use j39_paths::{FlowAt, Point, flows_on, origin};
@@ -109,28 +110,48 @@ fn write_limit(text: &mut TextBuffer, within: Option<u16>) -> Result<(), AllocEr
     ensures { OnOk result (text.new ≡ text.old ++ limit_text within) }
 {
     match within {
-        Some(within) => text.field(" of ", 1_000 * u32::from(within)),
+        Some(within) => text.field(" of ", us_of_ms(within)),
         None => Ok(()),
     }
 }
 
 // How old it is at most, of how old it may be.
 #[tactic(auto, unfolding(crate::specs::NeedLines::need_age_text))]
+fn write_known_age(text: &mut TextBuffer, age: u64, within: Option<u16>) -> Result<(), AllocError>
+    ensures { OnOk result (text.new ≡ text.old ++ need_age_text (Some age) within) }
+{
+    text.field(" age ", age)?;
+    write_limit(text, within)?;
+    text.word(" us")
+}
+
+// How old it may be, where it isn't known how old it is.
+#[tactic(auto, unfolding(crate::specs::NeedLines::need_age_text))]
+fn write_unknown_age(text: &mut TextBuffer, within: u16) -> Result<(), AllocError>
+    ensures { OnOk result (text.new ≡ text.old ++ need_age_text None (Some within)) }
+{
+    text.word(" old")?;
+    write_limit(text, Some(within))?;
+    text.word(" us")
+}
+
+// The same, where it is asked.
+#[tactic(auto, unfolding(crate::specs::NeedLines::need_age_text))]
+fn write_unknown_age_where(text: &mut TextBuffer, within: Option<u16>) -> Result<(), AllocError>
+    ensures { OnOk result (text.new ≡ text.old ++ need_age_text None within) }
+{
+    match within {
+        Some(within) => write_unknown_age(text, within),
+        None => Ok(()),
+    }
+}
+
 fn write_age(text: &mut TextBuffer, age: Option<u64>, within: Option<u16>) -> Result<(), AllocError>
     ensures { OnOk result (text.new ≡ text.old ++ need_age_text age within) }
 {
-    match (age, within) {
-        (Some(age), _) => {
-            text.field(" age ", age)?;
-            write_limit(text, within)?;
-            text.word(" us")
-        }
-        (None, Some(within)) => {
-            text.word(" old")?;
-            write_limit(text, Some(within))?;
-            text.word(" us")
-        }
-        (None, None) => Ok(()),
+    match age {
+        Some(age) => write_known_age(text, age, within),
+        None => write_unknown_age_where(text, within),
     }
 }
 
