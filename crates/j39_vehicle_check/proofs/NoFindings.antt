@@ -30,15 +30,22 @@ block_calm bus others text block none =
     (nothing, subst (AreLoadFindings bus.plan bus.plan.timing) calm block.wrong)
 
 -- where no plan has a finding, each plan is calm
+abbrev pub AreCalm : List BusPlan → Type 0
+AreCalm [] = ⊤
+AreCalm (bus ∷ buses) = HasCalmPlan bus × AreCalm buses
+
 pub plans_calm : (buses : List BusPlan) (others : List (List LoadFinding)) (text : List ℕ) → AreBlocks buses others text
-    → count_of_plans buses others ≡ 0 → (b : ℕ) (bus : BusPlan) → slice_get buses b ≡ Some bus → HasCalmPlan bus
-plans_calm [] [] text are none b bus is = cc is
-plans_calm [] (o ∷ others) text are none b bus is = absurd are
-plans_calm (first ∷ buses) [] text are none b bus is = absurd are
-plans_calm (first ∷ buses) (o ∷ others) text are none zero bus is =
-    let same : first ≡ bus = cc is in
-    subst HasCalmPlan same (block_calm first o are.0 are.2 (omega (arith, none)))
-plans_calm (first ∷ buses) (o ∷ others) text are none (suc b) bus is = plans_calm buses others are.1 are.3 (omega (arith, none)) b bus is
+    → count_of_plans buses others ≡ 0 → AreCalm buses
+plans_calm [] others text are none = tt
+plans_calm (bus ∷ buses) [] text are none = absurd are
+plans_calm (bus ∷ buses) (o ∷ others) text are none =
+    let (block, more, is, rest, text_is) = are in
+    (block_calm bus o block is (omega (arith, none)), plans_calm buses others more rest (omega (arith, none)))
+
+pub calm_at : (buses : List BusPlan) → AreCalm buses → (b : ℕ) (bus : BusPlan) → slice_get buses b ≡ Some bus → HasCalmPlan bus
+calm_at [] calm b bus is = cc is
+calm_at (first ∷ buses) calm zero bus is = subst HasCalmPlan (cc is) calm.0
+calm_at (first ∷ buses) calm (suc b) bus is = calm_at buses calm.1 b bus is
 
 timed_of : (bus : BusPlan) (others : List LoadFinding) → length (found bus.plan) + length others ≡ 0 → are_of_times (found bus.plan) others ≡ true
 timed_of bus others none =
@@ -61,7 +68,7 @@ nothing_found v others blocks lines beyond are is none =
     let here : IsFoundBeyond v true lines beyond = rw timed at is in
     let ((loops, loops_are, paths_are), (delays, delays_are, lines_are, times_are, queues_are)) = here in
     record {
-      plans = plans_calm v.buses.items others blocks are (omega (arith, none));
+      plans = calm_at v.buses.items (plans_calm v.buses.items others blocks are (omega (arith, none)));
       loops = loops;
       loops_are = loops_are;
       paths = sym paths_are ∙ empty beyond.paths.items (omega (arith, none));
