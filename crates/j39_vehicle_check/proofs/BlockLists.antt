@@ -38,10 +38,12 @@ counted (b ∷ buses) (o ∷ all) text bus others are =
     omega (arith, behind)
 
 and_true : (a : Bool) → (a && true) ≡ (true && a)
-and_true a = elim a [ true ↦ refl | false ↦ refl ]
+and_true true = refl
+and_true false = refl
 
 and_assoc : (a b c : Bool) → (a && (b && c)) ≡ ((a && b) && c)
-and_assoc a b c = elim a [ true ↦ refl | false ↦ refl ]
+and_assoc true b c = refl
+and_assoc false b c = refl
 
 timed : (buses : List BusPlan) (all : List (List LoadFinding)) (text : List ℕ) (bus : BusPlan) (others : List LoadFinding) → AreBlocks buses all text
     → all_are_of_times (buses ++ bus ∷ []) (all ++ others ∷ []) ≡ (all_are_of_times buses all && are_of_times (found bus.plan) others)

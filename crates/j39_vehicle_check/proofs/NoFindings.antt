@@ -1,7 +1,6 @@
 -- Where no finding is counted, there is none.
-use Rattle.std.proofs.Common.{◌≡◌, ℕ, zero, suc, ◌+◌, Bool, true, false, ◌&&◌, List, [], ◌∷◌, ◌++◌, length, Some, None, refl, sym, ap, ◌∙◌, subst, arith, true≢false}
-use Rattle.std.specs.Bool.{MatchBool}
-use Rattle.std.specs.List.{slice_get}
+use Rattle.std.proofs.Common.{◌≡◌, ℕ, zero, suc, ◌+◌, Bool, true, List, [], ◌∷◌, ◌++◌, length, Some, refl, sym, ap, ◌∙◌, subst, arith}
+use Rattle.std.specs.List.{AllByRecursion, slice_get}
 use Rattle.j39_findings.specs.Found.{found}
 use Rattle.j39_load.specs.LoadFindings.{AreLoadFindings}
 use Rattle.j39_load.specs.declared.load_finding.LoadFinding.{LoadFinding}
@@ -30,21 +29,19 @@ block_calm bus others text block none =
     (nothing, subst (AreLoadFindings bus.plan bus.plan.timing) calm block.wrong)
 
 -- where no plan has a finding, each plan is calm
-abbrev pub AreCalm : List BusPlan → Type 0
-AreCalm [] = ⊤
-AreCalm (bus ∷ buses) = HasCalmPlan bus × AreCalm buses
-
 pub plans_calm : (buses : List BusPlan) (others : List (List LoadFinding)) (text : List ℕ) → AreBlocks buses others text
-    → count_of_plans buses others ≡ 0 → AreCalm buses
+    → count_of_plans buses others ≡ 0 → AllByRecursion HasCalmPlan buses
 plans_calm [] others text are none = tt
 plans_calm (bus ∷ buses) [] text are none = absurd are
 plans_calm (bus ∷ buses) (o ∷ others) text are none =
     let (block, more, is, rest, text_is) = are in
     (block_calm bus o block is (omega (arith, none)), plans_calm buses others more rest (omega (arith, none)))
 
-pub calm_at : (buses : List BusPlan) → AreCalm buses → (b : ℕ) (bus : BusPlan) → slice_get buses b ≡ Some bus → HasCalmPlan bus
+pub calm_at : (buses : List BusPlan) → AllByRecursion HasCalmPlan buses → (b : ℕ) (bus : BusPlan) → slice_get buses b ≡ Some bus → HasCalmPlan bus
 calm_at [] calm b bus is = cc is
-calm_at (first ∷ buses) calm zero bus is = subst HasCalmPlan (cc is) calm.0
+calm_at (first ∷ buses) calm zero bus is =
+    let same : first ≡ bus = cc is in
+    subst HasCalmPlan same calm.0
 calm_at (first ∷ buses) calm (suc b) bus is = calm_at buses calm.1 b bus is
 
 timed_of : (bus : BusPlan) (others : List LoadFinding) → length (found bus.plan) + length others ≡ 0 → are_of_times (found bus.plan) others ≡ true

@@ -1,4 +1,4 @@
-use Rattle.std.proofs.Common.{rules, arith, drop, ◌+◌}
+use Rattle.std.proofs.Common.{drop, ◌+◌}
 use Rattle.std.proofs.lemmas.List.{drop_all}
 use Rattle.j39_vehicle_check.proofs.BlockLists.{all_written, few_so_far, few_written, next_bus, none_written, one_written}
 use Rattle.j39_vehicle_check.proofs.bus_blocks.write_blocks.Goals as goal

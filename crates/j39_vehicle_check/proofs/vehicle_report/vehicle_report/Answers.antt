@@ -1,4 +1,4 @@
-use Rattle.std.proofs.Common.{◌≡◌, ◌∙◌, ◌+◌, ◌++◌, ℕ, List, [], refl, sym, ap, rules}
+use Rattle.std.proofs.Common.{◌≡◌, ◌∙◌, ◌+◌, refl, sym}
 use Rattle.j39_vehicle_check.proofs.NoFindings.{nothing_found}
 use Rattle.j39_vehicle_check.proofs.Reporting.{whole}
 use Rattle.j39_vehicle_check.specs.VehicleBlocks.{count_of_plans}
