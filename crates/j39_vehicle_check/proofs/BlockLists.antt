@@ -1,5 +1,6 @@
 -- The blocks of buses, one after another.
-use Rattle.std.proofs.Common.{◌≡◌, ℕ, ◌+◌, ◌*◌, ◌≤◌, ◌<◌, ◌^◌, Bool, true, false, ◌&&◌, List, [], ◌∷◌, ◌++◌, length, drop, get_or, refl, sym, ap, ◌∙◌, subst, arith, append_assoc}
+use Rattle.std.proofs.Common.{◌≡◌, ℕ, ◌+◌, ◌*◌, ◌≤◌, ◌<◌, ◌^◌, Bool, true, false, ◌&&◌, List, [], ◌∷◌, ◌++◌, length, drop, get_or}
+use Rattle.std.proofs.Common.{refl, sym, ap, ◌∙◌, subst, arith, append_assoc}
 use Rattle.std.proofs.lemmas.List.{append-nil, drop_more, length-append}
 use Rattle.j39_findings.specs.Found.{found}
 use Rattle.j39_findings.specs.declared.checking.finding.Finding.{Finding}
@@ -107,7 +108,8 @@ module _ (bus : BusPlan) (left all : List BusPlan) (before middle after : List �
     blocks = so.blocks ++ block;
     blocks_are = push so.done so.others so.blocks bus wrong.others.items block so.blocks_are is;
     text_is = put ∙ ap (λ (t : List ℕ). t ++ block) so.text_is ∙ append_assoc before so.blocks block;
-    count_is = next_is ∙ ap (λ (n : ℕ). n + count_of bus wrong.others.items) so.count_is ∙ sym (counted so.done so.others so.blocks bus wrong.others.items so.blocks_are);
+    count_is = next_is ∙ ap (λ (n : ℕ). n + count_of bus wrong.others.items) so.count_is
+        ∙ sym (counted so.done so.others so.blocks bus wrong.others.items so.blocks_are);
     times_is = more_is ∙ ap (λ (t : Bool). t && are_of_times (found bus.plan) wrong.others.items) so.times_is
         ∙ sym (timed so.done so.others so.blocks bus wrong.others.items so.blocks_are);
     few = omega (arith, so.few, few, length_done);

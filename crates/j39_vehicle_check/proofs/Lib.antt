@@ -2,3 +2,4 @@ pub mod BlockLists
 pub mod NoFindings
 pub mod Reporting
 pub mod WaySteps
+pub mod WholeTexts

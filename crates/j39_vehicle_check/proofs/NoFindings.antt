@@ -37,12 +37,12 @@ plans_calm (bus ∷ buses) (o ∷ others) text are none =
     let (block, more, is, rest, text_is) = are in
     (block_calm bus o block is (omega (arith, none)), plans_calm buses others more rest (omega (arith, none)))
 
-pub calm_at : (buses : List BusPlan) → AllByRecursion HasCalmPlan buses → (b : ℕ) (bus : BusPlan) → slice_get buses b ≡ Some bus → HasCalmPlan bus
-calm_at [] calm b bus is = cc is
-calm_at (first ∷ buses) calm zero bus is =
-    let same : first ≡ bus = cc is in
-    subst HasCalmPlan same calm.0
-calm_at (first ∷ buses) calm (suc b) bus is = calm_at buses calm.1 b bus is
+all_at : {X : Type 0} (P : X → Type 0) (xs : List X) → AllByRecursion P xs → (i : ℕ) (x : X) → slice_get xs i ≡ Some x → P x
+all_at P [] all i x is = cc is
+all_at P (y ∷ ys) all zero x is =
+    let same : y ≡ x = cc is in
+    subst P same all.0
+all_at P (y ∷ ys) all (suc i) x is = all_at P ys all.1 i x is
 
 timed_of : (bus : BusPlan) (others : List LoadFinding) → length (found bus.plan) + length others ≡ 0 → are_of_times (found bus.plan) others ≡ true
 timed_of bus others none =
@@ -65,7 +65,7 @@ nothing_found v others blocks lines beyond are is none =
     let here : IsFoundBeyond v true lines beyond = rw timed at is in
     let ((loops, loops_are, paths_are), (delays, delays_are, lines_are, times_are, queues_are)) = here in
     record {
-      plans = calm_at v.buses.items (plans_calm v.buses.items others blocks are (omega (arith, none)));
+      plans = all_at HasCalmPlan v.buses.items (plans_calm v.buses.items others blocks are (omega (arith, none)));
       loops = loops;
       loops_are = loops_are;
       paths = sym paths_are ∙ empty beyond.paths.items (omega (arith, none));

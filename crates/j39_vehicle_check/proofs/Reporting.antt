@@ -44,7 +44,8 @@ module _ (v : Vehicle) (others : List (List LoadFinding)) (blocks lines : List �
     count = count;
     count_is = counts;
     certified = certified;
-    text_is = four ∙ ap (λ (t : List ℕ). t ++ end_line v count) (three ∙ ap (λ (t : List ℕ). t ++ beyond_lines v beyond) (two ∙ ap (λ (t : List ℕ). t ++ lines) one))
+    text_is = four ∙ ap (λ (t : List ℕ). t ++ end_line v count)
+        (three ∙ ap (λ (t : List ℕ). t ++ beyond_lines v beyond) (two ∙ ap (λ (t : List ℕ). t ++ lines) one))
         ∙ append_assoc (blocks ++ lines) (beyond_lines v beyond) (end_line v count)
         ∙ append_assoc blocks lines (beyond_lines v beyond ++ end_line v count);
     verdict_is = tells;
