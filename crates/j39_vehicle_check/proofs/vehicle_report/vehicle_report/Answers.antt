@@ -12,7 +12,7 @@ write_end-requires c none =
     let (lines, is, second) = c.in_ok-found.ensures in
     let beyond = c.in_ok-found.found in
     let counted : c.in_ok-plans.plans.count + c.count.result ≡ count_of_plans v.buses.items others + count_beyond beyond =
-        rw (counts, c.count.ensures.count) refl in
+    rw (counts, c.count.ensures.count) refl in
     nothing_found v others blocks lines beyond are (rw times at is) (sym counted ∙ none)
 
 pub returns : goal.returns
@@ -22,7 +22,7 @@ returns c =
     let (lines, is, second) = c.in_ok-found.ensures in
     let beyond = c.in_ok-found.found in
     let counted : c.in_ok-plans.plans.count + c.count.result ≡ count_of_plans v.buses.items others + count_beyond beyond =
-        rw (counts, c.count.ensures.count) refl in
+    rw (counts, c.count.ensures.count) refl in
     whole v others blocks lines beyond (c.in_ok-plans.plans.count + c.count.result) c.in_ok-verdict.verdict are (rw times at is) counted
     c.in_ok-verdict.ensures.certified c.in_ok-verdict.ensures.verdict c.write_blocks.new.text c.write_beyond.new.text c.write.new.text
     c.write_end.new.text (rw c.new-text.ensures at first) second c.in_ok-write.ensures c.in_ok-verdict.ensures.text
