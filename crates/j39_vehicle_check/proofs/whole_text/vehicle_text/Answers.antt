@@ -7,7 +7,7 @@ returns-in-Ok g c =
     let (none, stands) = c.in-Ok.ensures in
     put_said c.put_report.result (λ text verdict is. inl (c.in-Ok.vehicle, none, stands, is)) c.put_report.ensures
 
-pub returns : goal.returns
-returns g c =
+pub returns-in-Err : goal.returns-in-Err
+returns-in-Err g c =
     put_said c.refuse.result
     (λ text verdict is. refused_with c.args.buses.items c.args.file.now _ c.in-Err.error text verdict c.in-Err.ensures is) c.refuse.ensures
