@@ -1,9 +1,12 @@
 -- The blocks of buses, one after another.
-use Rattle.std.proofs.Common.{◌≡◌, ℕ, ◌+◌, ◌*◌, ◌≤◌, ◌<◌, ◌^◌, Bool, true, ◌&&◌, List, [], ◌∷◌, ◌++◌, length, refl, sym, ap, ◌∙◌, subst, arith, append_assoc}
-use Rattle.std.proofs.lemmas.List.{append-nil, length-append}
+use Rattle.std.proofs.Common.{◌≡◌, ℕ, ◌+◌, ◌*◌, ◌≤◌, ◌<◌, ◌^◌, Bool, true, false, ◌&&◌, List, [], ◌∷◌, ◌++◌, length, drop, get_or}
+use Rattle.std.proofs.Common.{refl, sym, ap, ◌∙◌, subst, arith, append_assoc}
+use Rattle.std.proofs.lemmas.List.{append-nil, drop_more, length-append}
 use Rattle.j39_findings.specs.Found.{found}
+use Rattle.j39_findings.specs.declared.checking.finding.Finding.{Finding}
 use Rattle.j39_load.specs.declared.load_finding.LoadFinding.{LoadFinding}
-use Rattle.j39_check.specs.FoundInPlan.{are_of_times}
+use Rattle.j39_check.specs.FoundInPlan.{ArePlanFindings, are_of_times}
+use Rattle.j39_check.specs.declared.plan_findings.PlanFindings.{PlanFindings}
 use Rattle.j39_vehicle.specs.declared.vehicle.bus_plan.BusPlan.{BusPlan}
 use Rattle.j39_vehicle_check.specs.VehicleBlocks.{AreBlocks, IsBlock, all_are_of_times, count_of_plans}
 
@@ -36,10 +39,12 @@ counted (b ∷ buses) (o ∷ all) text bus others are =
     omega (arith, behind)
 
 and_true : (a : Bool) → (a && true) ≡ (true && a)
-and_true a = elim a [ true ↦ refl | false ↦ refl ]
+and_true true = refl
+and_true false = refl
 
 and_assoc : (a b c : Bool) → (a && (b && c)) ≡ ((a && b) && c)
-and_assoc a b c = elim a [ true ↦ refl | false ↦ refl ]
+and_assoc true b c = refl
+and_assoc false b c = refl
 
 timed : (buses : List BusPlan) (all : List (List LoadFinding)) (text : List ℕ) (bus : BusPlan) (others : List LoadFinding) → AreBlocks buses all text
     → all_are_of_times (buses ++ bus ∷ []) (all ++ others ∷ []) ≡ (all_are_of_times buses all && are_of_times (found bus.plan) others)
@@ -50,6 +55,10 @@ timed (b ∷ buses) (o ∷ all) text bus others are =
     let (first, more, first_is, rest, text_is) = are in
     ap (λ (t : Bool). are_of_times (found b.plan) o && t) (timed buses all more bus others rest)
     ∙ and_assoc (are_of_times (found b.plan) o) (all_are_of_times buses all) (are_of_times (found bus.plan) others)
+
+-- the bus that is looked at
+pub next_bus : (buses : List BusPlan) (i : ℕ) (bus : BusPlan) → bus ≡ get_or buses i bus → i < length buses → drop i buses ≡ bus ∷ drop (i + 1) buses
+next_bus buses i bus is more = drop_more buses i bus more ∙ ap (λ b. b ∷ drop (i + 1) buses) (sym is)
 
 -- what was written of the buses before those that are left
 pub record BlocksSoFar (left all : List BusPlan) (before after : List ℕ) (count : ℕ) (times : Bool) : Type 0 where
@@ -76,10 +85,18 @@ none_written all text = record {
   few = omega arith;
 }
 
-module _ (bus : BusPlan) (left all : List BusPlan) (before middle after : List ℕ) (count next : ℕ) (times more : Bool) (others : List LoadFinding)
-    (block : List ℕ) (so : BlocksSoFar (bus ∷ left) all before middle count times) (is : IsBlock bus others block) (put : after ≡ middle ++ block)
-    (counts : next ≡ count + count_of bus others) (tells : more ≡ (times && are_of_times (found bus.plan) others))
-    (few : count_of bus others ≤ 2 ^ 66) where
+-- and of the next one, in whose plan this is wrong
+module _ (bus : BusPlan) (left all : List BusPlan) (before middle after : List ℕ) (count next : ℕ) (times more : Bool) (wrong : PlanFindings)
+    (block : List ℕ) (so : BlocksSoFar (bus ∷ left) all before middle count times) (are : ArePlanFindings bus.plan wrong)
+    (is : IsBlock bus wrong.others.items block) (put : after ≡ middle ++ block)
+    (counts : next ≡ count + (length wrong.findings.items + length wrong.others.items))
+    (tells : more ≡ (times && are_of_times wrong.findings.items wrong.others.items)) (few : next ≤ count + 2 ^ 64) where
+  next_is : next ≡ count + count_of bus wrong.others.items
+  next_is = counts ∙ ap (λ (fs : List Finding). count + (length fs + length wrong.others.items)) are.listed
+
+  more_is : more ≡ (times && are_of_times (found bus.plan) wrong.others.items)
+  more_is = tells ∙ ap (λ (fs : List Finding). times && are_of_times fs wrong.others.items) are.listed
+
   length_done : length (so.done ++ bus ∷ []) ≡ length so.done + 1
   length_done = length-append so.done (bus ∷ [])
 
@@ -87,15 +104,23 @@ module _ (bus : BusPlan) (left all : List BusPlan) (before middle after : List �
   one_written = record {
     done = so.done ++ bus ∷ [];
     all_are = so.all_are ∙ sym (append_assoc so.done (bus ∷ []) left);
-    others = so.others ++ others ∷ [];
+    others = so.others ++ wrong.others.items ∷ [];
     blocks = so.blocks ++ block;
-    blocks_are = push so.done so.others so.blocks bus others block so.blocks_are is;
+    blocks_are = push so.done so.others so.blocks bus wrong.others.items block so.blocks_are is;
     text_is = put ∙ ap (λ (t : List ℕ). t ++ block) so.text_is ∙ append_assoc before so.blocks block;
-    count_is = counts ∙ ap (λ (n : ℕ). n + count_of bus others) so.count_is ∙ sym (counted so.done so.others so.blocks bus others so.blocks_are);
-    times_is = tells ∙ ap (λ (t : Bool). t && are_of_times (found bus.plan) others) so.times_is
-        ∙ sym (timed so.done so.others so.blocks bus others so.blocks_are);
-    few = omega (arith, so.few, few, counts, length_done);
+    count_is = next_is ∙ ap (λ (n : ℕ). n + count_of bus wrong.others.items) so.count_is
+        ∙ sym (counted so.done so.others so.blocks bus wrong.others.items so.blocks_are);
+    times_is = more_is ∙ ap (λ (t : Bool). t && are_of_times (found bus.plan) wrong.others.items) so.times_is
+        ∙ sym (timed so.done so.others so.blocks bus wrong.others.items so.blocks_are);
+    few = omega (arith, so.few, few, length_done);
   }
+
+-- the count so far
+pub few_so_far : (left all : List BusPlan) (before after : List ℕ) (count : ℕ) (times : Bool) → BlocksSoFar left all before after count times
+    → length all ≤ 16 → count ≤ 2 ^ 100
+few_so_far left all before after count times so most =
+    let same : length all ≡ length so.done + length left = ap length so.all_are ∙ length-append so.done left in
+    omega (arith, so.few, most, same)
 
 -- all of them
 pub all_written : (all : List BusPlan) (before after : List ℕ) (count : ℕ) (times : Bool) → BlocksSoFar [] all before after count times

@@ -3,3 +3,4 @@ pub mod BlockLists
 pub mod NoFindings
 pub mod Reporting
 pub mod WaySteps
+pub mod WholeTexts

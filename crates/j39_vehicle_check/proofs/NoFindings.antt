@@ -1,7 +1,6 @@
 -- Where no finding is counted, there is none.
-use Rattle.std.proofs.Common.{◌≡◌, ℕ, zero, suc, ◌+◌, Bool, true, false, ◌&&◌, List, [], ◌∷◌, ◌++◌, length, Some, None, refl, sym, ap, ◌∙◌, subst, arith, true≢false}
-use Rattle.std.specs.Bool.{MatchBool}
-use Rattle.std.specs.List.{slice_get}
+use Rattle.std.proofs.Common.{◌≡◌, ℕ, zero, suc, ◌+◌, Bool, true, List, [], ◌∷◌, ◌++◌, length, Some, refl, sym, ap, ◌∙◌, subst, arith}
+use Rattle.std.specs.List.{AllByRecursion, slice_get}
 use Rattle.j39_findings.specs.Found.{found}
 use Rattle.j39_load.specs.LoadFindings.{AreLoadFindings}
 use Rattle.j39_load.specs.declared.load_finding.LoadFinding.{LoadFinding}
@@ -31,14 +30,19 @@ block_calm bus others text block none =
 
 -- where no plan has a finding, each plan is calm
 pub plans_calm : (buses : List BusPlan) (others : List (List LoadFinding)) (text : List ℕ) → AreBlocks buses others text
-    → count_of_plans buses others ≡ 0 → (b : ℕ) (bus : BusPlan) → slice_get buses b ≡ Some bus → HasCalmPlan bus
-plans_calm [] [] text are none b bus is = cc is
-plans_calm [] (o ∷ others) text are none b bus is = absurd are
-plans_calm (first ∷ buses) [] text are none b bus is = absurd are
-plans_calm (first ∷ buses) (o ∷ others) text are none zero bus is =
-    let same : first ≡ bus = cc is in
-    subst HasCalmPlan same (block_calm first o are.0 are.2 (omega (arith, none)))
-plans_calm (first ∷ buses) (o ∷ others) text are none (suc b) bus is = plans_calm buses others are.1 are.3 (omega (arith, none)) b bus is
+    → count_of_plans buses others ≡ 0 → AllByRecursion HasCalmPlan buses
+plans_calm [] others text are none = tt
+plans_calm (bus ∷ buses) [] text are none = absurd are
+plans_calm (bus ∷ buses) (o ∷ others) text are none =
+    let (block, more, is, rest, text_is) = are in
+    (block_calm bus o block is (omega (arith, none)), plans_calm buses others more rest (omega (arith, none)))
+
+all_at : {X : Type 0} (P : X → Type 0) (xs : List X) → AllByRecursion P xs → (i : ℕ) (x : X) → slice_get xs i ≡ Some x → P x
+all_at P [] all i x is = cc is
+all_at P (y ∷ ys) all zero x is =
+    let same : y ≡ x = cc is in
+    subst P same all.0
+all_at P (y ∷ ys) all (suc i) x is = all_at P ys all.1 i x is
 
 timed_of : (bus : BusPlan) (others : List LoadFinding) → length (found bus.plan) + length others ≡ 0 → are_of_times (found bus.plan) others ≡ true
 timed_of bus others none =
@@ -61,7 +65,7 @@ nothing_found v others blocks lines beyond are is none =
     let here : IsFoundBeyond v true lines beyond = rw timed at is in
     let ((loops, loops_are, paths_are), (delays, delays_are, lines_are, times_are, queues_are)) = here in
     record {
-      plans = plans_calm v.buses.items others blocks are (omega (arith, none));
+      plans = all_at HasCalmPlan v.buses.items (plans_calm v.buses.items others blocks are (omega (arith, none)));
       loops = loops;
       loops_are = loops_are;
       paths = sym paths_are ∙ empty beyond.paths.items (omega (arith, none));

@@ -1,5 +1,5 @@
 -- The parts of the text of a vehicle, put together.
-use Rattle.std.proofs.Common.{◌≡◌, ℕ, ◌+◌, Bool, true, List, [], ◌++◌, Result, Ok, Err, IfOk, refl, sym, ap, ◌∙◌, append_assoc}
+use Rattle.std.proofs.Common.{◌≡◌, ℕ, ◌+◌, true, List, [], ◌++◌, Result, Ok, Err, IfOk, refl, ap, ◌∙◌, append_assoc}
 use Rattle.j39_load.specs.declared.load_finding.LoadFinding.{LoadFinding}
 use Rattle.j39_stream.specs.declared.verdict.Verdict.{Verdict}
 use Rattle.j39_vehicle.specs.declared.vehicle.Vehicle.{Vehicle}
@@ -44,7 +44,8 @@ module _ (v : Vehicle) (others : List (List LoadFinding)) (blocks lines : List �
     count = count;
     count_is = counts;
     certified = certified;
-    text_is = four ∙ ap (λ (t : List ℕ). t ++ end_line v count) (three ∙ ap (λ (t : List ℕ). t ++ beyond_lines v beyond) (two ∙ ap (λ (t : List ℕ). t ++ lines) one))
+    text_is = four ∙ ap (λ (t : List ℕ). t ++ end_line v count)
+        (three ∙ ap (λ (t : List ℕ). t ++ beyond_lines v beyond) (two ∙ ap (λ (t : List ℕ). t ++ lines) one))
         ∙ append_assoc (blocks ++ lines) (beyond_lines v beyond) (end_line v count)
         ∙ append_assoc blocks lines (beyond_lines v beyond ++ end_line v count);
     verdict_is = tells;

@@ -68,6 +68,7 @@ impl PlansFound {
     fn with(self, found: &PlanFindings) -> PlansFound
         requires { self.count ≤ 2 ^ 100 }
         ensures count { result.count ≡ self.count + (length found.now.findings.items + length found.now.others.items) }
+        ensures few { result.count ≤ self.count + 2 ^ 64 }
         ensures are_of_times { result.are_of_times ≡ (self.are_of_times && are_of_times found.now.findings.items found.now.others.items) }
     {
         PlansFound {

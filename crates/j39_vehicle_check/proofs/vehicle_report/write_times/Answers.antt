@@ -1,4 +1,3 @@
-use Rattle.std.proofs.Common.{rules}
 use Rattle.j39_vehicle_check.proofs.Reporting.{ok_then, told_times}
 use Rattle.j39_vehicle_check.proofs.vehicle_report.write_times.Goals as goal
 
