@@ -1,4 +1,4 @@
-use Rattle.std.proofs.Common.{rules, ◌≡◌, inl, inr, refl, subst}
+use Rattle.std.proofs.Common.{rules, ◌≡◌, None, inl, inr, refl}
 use Rattle.j39_stream.specs.declared.verdict.Verdict.TheVariants.{Unreadable}
 use Rattle.j39_app.proofs.VehicleEnds.{answers_too, continues, ends_too, fails_too}
 use Rattle.j39_app.proofs.answering_vehicles.vehicle_files.Goals as goal
@@ -18,4 +18,4 @@ returns-in-Some g c =
 
 pub returns-in-None : goal.returns-in-None
 returns-in-None g c =
-    answers_too _ _ c.vehicle_of.result (search rules) (λ text part. (part.0, part.1, inl (part.2, refl))) c.vehicle_of.ensures.ends
+    answers_too None _ c.vehicle_of.result (search rules) (λ text part. (part.0, part.1, inl (part.2, refl))) c.vehicle_of.ensures.ends
