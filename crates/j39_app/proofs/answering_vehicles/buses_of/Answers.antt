@@ -7,7 +7,7 @@ use Rattle.j39_app.proofs.VehicleEnds.{answers_too, continues, fails_too, says_n
 use Rattle.j39_app.proofs.answering_vehicles.buses_of.Goals as goal
 
 pub loop-table-init : goal.loop-table-init
-loop-table-init g c = record { same = refl; read = rw c.new-buses.ensures (none_read _ _) }
+loop-table-init g c = record { same = refl; read = rw c.new-buses.ensures.items (none_read _ _) }
 
 pub loop-table-preserved : goal.loop-table-preserved
 loop-table-preserved g c =
