@@ -13,8 +13,9 @@ returns-in-Some g c =
     let same : c.vehicle_of.new.sink ≡ c.args.sink.now = rw c.in-Some.is at c.in_ok-file.ensures.silent in
     let before = rw c.in-Some.is at c.in_ok-file.ensures.ends in
     let (text, (bytes, of, (says, nothing)), put) = before.written in
-    continues same (ends_too (λ text verdict is. (bytes, of, inr (_, says, is))) (λ text is. (is.0, (bytes, of, inr (_, says, is.1))))
-    (λ long. inr (bytes, _, of, says, long)) (λ broken. inr (bytes, _, of, says, broken)) c.vehicle_with.result c.vehicle_with.ensures)
+    let file = c.in-Some.file in
+    continues same (ends_too (λ text verdict is. (bytes, of, inr (file, says, is))) (λ text is. (is.0, (bytes, of, inr (file, says, is.1))))
+    (λ long. inr (bytes, file, of, says, long)) (λ broken. inr (bytes, file, of, says, broken)) c.vehicle_with.result c.vehicle_with.ensures)
 
 pub returns-in-None : goal.returns-in-None
 returns-in-None g c =
