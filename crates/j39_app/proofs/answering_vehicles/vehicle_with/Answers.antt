@@ -16,9 +16,10 @@ returns-in-Some g c =
     let same : c.buses_of.new.sink ≡ c.args.sink.now = rw c.in-Some.is at c.in_ok-buses.ensures.silent in
     let before = rw (c.in-Some.is, c.deref.ensures.value) at c.in_ok-buses.ensures.ends in
     let (text, (read, nothing), put) = before.written in
-    continues same (ends_too (λ text verdict is. inr (c.in-Some.buses.items, read, is))
-    (λ (text : List ℕ) (is : IsOfSome (IsVehicleText c.args.file.now c.in-Some.buses.items) text). (is.0, inr (c.in-Some.buses.items, read, is.1))) (λ long. long)
-    (λ broken. broken) c.vehicle_by.result (put_ends (λ text verdict is. (verdict, is)) c.vehicle_by.result c.vehicle_by.ensures))
+    let buses = c.in-Some.buses.items in
+    continues same (ends_too (λ text verdict is. inr (buses, read, is))
+    (λ (text : List ℕ) (is : IsOfSome (IsVehicleText c.args.file.now buses) text). (is.0, inr (buses, read, is.1))) (λ long. long) (λ broken. broken)
+    c.vehicle_by.result (put_ends (λ text verdict is. (verdict, is)) c.vehicle_by.result c.vehicle_by.ensures))
 
 pub returns-in-None : goal.returns-in-None
 returns-in-None g c = answers_too None _ c.buses_of.result (search rules) (λ text part. inl (part, refl)) (rw c.deref.ensures.value at c.buses_of.ensures.ends)
