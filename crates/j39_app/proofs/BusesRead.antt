@@ -1,6 +1,6 @@
 -- The loop over the buses of a vehicle: those whose plans were read stand before those that are left.
-use Rattle.std.proofs.Common.{◌≡◌, ℕ, ◌+◌, List, [], ◌∷◌, ◌++◌, Some, length, refl, sym, ap, ◌∙◌, subst, append_assoc}
-use Rattle.std.proofs.lemmas.List.{append-nil}
+use Rattle.std.proofs.Common.{◌≡◌, ℕ, ◌+◌, ◌<◌, List, [], ◌∷◌, ◌++◌, Some, length, drop, get_or, refl, sym, ap, ◌∙◌, subst, append_assoc}
+use Rattle.std.proofs.lemmas.List.{append-nil, drop_more}
 use Rattle.std.specs.List.{AllZip}
 use Rattle.j39_app.specs.Known.{Names}
 use Rattle.j39_app.specs.VehicleAnswers.{IsOfBus, IsOfSomeBus, IsPlanOfBus, IsTextOfBusFile}
@@ -22,6 +22,12 @@ push IsOf (a ∷ xs) (b ∷ ys) x y each is = (each.0, push IsOf xs ys x y each.
 
 pub none_read : {S T : Type 0} (IsOf : S → T → Type 0) (all : List S) → AreRead IsOf all all []
 none_read IsOf all = record { before = []; all_are = refl; read = tt }
+
+-- an element stands next
+pub next_left : {S T : Type 0} (IsOf : S → T → Type 0) (all : List S) (found : List T) (i : ℕ) (x : S) → x ≡ get_or all i x → i < length all
+    → AreRead IsOf (drop i all) all found → AreRead IsOf (x ∷ drop (i + 1) all) all found
+next_left IsOf all found i x is more so =
+    subst (λ left. AreRead IsOf left all found) (drop_more all i x more ∙ ap (λ y. y ∷ drop (i + 1) all) (sym is)) so
 
 pub one_more : {S T : Type 0} (IsOf : S → T → Type 0) (x : S) (left all : List S) (found : List T) (y : T) → AreRead IsOf (x ∷ left) all found → IsOf x y
     → AreRead IsOf left all (found ++ y ∷ [])

@@ -1,12 +1,10 @@
 -- How what reads the files of a vehicle ends, by how the parts end that it is made of.
-use Rattle.std.proofs.Common.{◌≡◌, ◌≢◌, ◌⊎◌, ℕ, ◌+◌, ◌<◌, List, [], ◌∷◌, ◌++◌, length, take, drop, get_or, Option, Some, None, Result, Ok, Err, inl, inr, refl, sym, ap, ◌∙◌, subst}
+use Rattle.std.proofs.Common.{◌≡◌, ◌⊎◌, ℕ, List, [], Result, Ok, Err, inl, inr, refl, subst}
 use Rattle.std.specs.Prelude.{IsErrOf}
-use Rattle.std.specs.List.{AllZip}
 use Rattle.j39_app.specs.Faults.{Ends}
-use Rattle.j39_stream.specs.CommandEnds.{PutsText}
 use Rattle.j39_stream.specs.Streams.{SinkState}
 use Rattle.j39_stream.specs.declared.fault.Fault.{Fault}
-use Rattle.j39_stream.specs.declared.fault.Fault.TheVariants.{Memory, Device}
+use Rattle.j39_stream.specs.declared.fault.Fault.TheVariants.{Memory}
 use Rattle.j39_stream.proofs.Parts.{none_taken}
 
 module _ {V U W : Type 0} {IsText : List ℕ → V → Type 0} {IsOther : List ℕ → U → Type 0} {IsPart IsFront : List ℕ → Type 0}

@@ -5,7 +5,8 @@ use Rattle.std.specs.declared.vec.Vec.{Vec}
 use Rattle.std.specs.Io.KnownBytes.{Appends}
 use Rattle.j39_app.specs.Answers.{IsAnswerOfTwo, IsOfSome}
 use Rattle.j39_app.specs.Known.{AreLeft, AreOfPlan, MayBeTooLong, Names}
-use Rattle.j39_app.specs.VehicleAnswers.{ArePlansText, IsAnswerOfVehicle, IsBusRefusedBy, IsOfBus, IsOfSomeBus, IsOfVehicleFiles, IsSomeBusRefused, IsTextOfBusFile, IsTextOfBuses}
+use Rattle.j39_app.specs.VehicleAnswers.{ArePlansText, IsAnswerOfVehicle, IsBusRefusedBy, IsOfBus, IsOfSomeBus, IsOfVehicleFiles, IsSomeBusRefused}
+use Rattle.j39_app.specs.VehicleAnswers.{IsTextOfBusFile, IsTextOfBuses}
 use Rattle.j39_stream.specs.Streams.{AppendsPart, HasFailed, SinkState, SourceState, log_limits, plan_limits}
 use Rattle.j39_stream.specs.declared.fault.Fault.{Fault}
 use Rattle.j39_stream.specs.declared.fault.Fault.TheVariants.{Device, TooLong}
@@ -81,14 +82,16 @@ EndsByTwo IsText IsFront limits stays_shut files state_of plan other state told 
     (IsOfTwo (λ _ name. HasFileFailed stays_shut files state_of name) files limits plan other) state told ended result
 
 -- of what reads a vehicle file, and then the files of the plans that it names
-abbrev pub EndsByVehicle : {File W : Type 0} → (List ℕ → Type 0) → Names → (File → SourceState) → List ℕ → (W → SinkState) → W → W → Result Verdict Fault → Type 0
+abbrev pub EndsByVehicle : {File W : Type 0} → (List ℕ → Type 0) → Names → (File → SourceState) → List ℕ → (W → SinkState) → W → W
+    → Result Verdict Fault → Type 0
 EndsByVehicle stays_shut files state_of vehicle state told ended result =
     Ends (IsAnswerOfVehicle files vehicle) (IsOfSome (IsAnswerOfVehicle files vehicle)) (Unit {0})
     (IsOfVehicleFiles (λ name. MayBeTooLong plan_limits (files name)) files vehicle)
     (IsOfVehicleFiles (λ name. HasFileFailed stays_shut files state_of name) files vehicle) state told ended result
 
 -- of what reads the file of the plan of a bus
-abbrev pub EndsByBus : {File W : Type 0} → (List ℕ → Type 0) → Names → (File → SourceState) → List ℕ → BusTable → (W → SinkState) → W → W → Result (Option Plan) Fault → Type 0
+abbrev pub EndsByBus : {File W : Type 0} → (List ℕ → Type 0) → Names → (File → SourceState) → List ℕ → BusTable → (W → SinkState) → W → W
+    → Result (Option Plan) Fault → Type 0
 EndsByBus stays_shut files state_of vehicle table state told ended result =
     Ends (IsTextOfBusFile files vehicle table) (λ text. IsOfBus (IsBusRefusedBy files text table) vehicle table) (Unit {0})
     (IsOfBus (λ name. MayBeTooLong plan_limits (files name)) vehicle table)

@@ -66,7 +66,8 @@ IsTextOfBuses files vehicle file text verdict =
 -- what is written for a vehicle file, with the verdict
 abbrev pub IsAnswerOfVehicle : Names → List ℕ → List ℕ → Verdict → Type 0
 IsAnswerOfVehicle files vehicle text verdict = (bytes : List ℕ) × AreOf (files vehicle) bytes
-    × ((IsRefusedVehicle bytes text × (verdict ≡ Unreadable)) ⊎ ((file : VehicleFile) × SaysOfVehicle bytes file × IsTextOfBuses files vehicle file text verdict))
+    × ((IsRefusedVehicle bytes text × (verdict ≡ Unreadable))
+    ⊎ ((file : VehicleFile) × SaysOfVehicle bytes file × IsTextOfBuses files vehicle file text verdict))
 
 -- it is so of the vehicle file, or, where this one says what a vehicle has, of the file of a bus, once those before describe plans
 abbrev pub IsOfVehicleFiles : (List ℕ → Type 0) → Names → List ℕ → Type 0

@@ -1,13 +1,10 @@
 //! What is written for a vehicle.
-ghost use Rattle.std.specs.Prelude.{◌≡◌, ◌≢◌, ◌++◌, ◌∷◌, [], IfOk, IfSome, OnErr, OnOk, OnSome, length};
-ghost use Rattle.std.specs.Option.{option_map};
+ghost use Rattle.std.specs.Prelude.{◌≡◌, ◌++◌, ◌∷◌, [], IfOk, IfSome, OnOk, OnSome, length};
 ghost use Rattle.j39_app.specs.Answers.{IsOfBytes};
 ghost use Rattle.j39_app.specs.Faults.{EndsByBus, EndsByBuses, EndsByFile, EndsByPlans, EndsByVehicle};
 ghost use Rattle.j39_app.specs.VehicleAnswers.{IsRefusedBusOf, IsRefusedVehicleOf};
 ghost use Rattle.j39_stream.specs.CommandEnds.{PutsText};
 ghost use Rattle.j39_stream.specs.Streams.{plan_limits};
-ghost use Rattle.j39_vehicle.specs.PlanNames.{IsPlanFile};
-ghost use Rattle.j39_vehicle.specs.VehicleLimits.{bus_limit};
 ghost use Rattle.j39_vehicle_check.specs.VehicleFileText.{IsBusPlanText, IsVehicleFileText};
 ghost use Rattle.j39_vehicle_check.specs.VehicleText.{IsVehicleText};
 

@@ -7,6 +7,7 @@ use j39_app::{
 use j39_findings::Plan;
 use j39_id::Label;
 use j39_vehicle::BusPlan;
+use j39_vehicle::limits::BUS_LIMIT;
 use std::alloc::{AllocError, Global};
 
 fn add_bus(buses: &mut Vec<BusPlan>, label: Label, plan: Plan) -> Result<(), AllocError> {
@@ -27,9 +28,13 @@ fn perform_vehicle<P: Source, S: Source, W: Sink>(
     let mut buses = Vec::new(alloc);
     for table in &file.buses {
         match bus_plan(alloc, &table.label, input, sink)? {
-            Some(plan) if buses.len() < 16 => add_bus(&mut buses, table.label, plan)?,
-            _ => return Ok(Verdict::Unreadable),
+            Some(plan) => add_bus(&mut buses, table.label, plan)?,
+            None => return Ok(Verdict::Unreadable),
         }
+    }
+    // A file that is read lists no more of them.
+    if buses.len() > BUS_LIMIT {
+        return Ok(Verdict::Unreadable);
     }
     vehicle_text(alloc, &file, buses, sink)
 }

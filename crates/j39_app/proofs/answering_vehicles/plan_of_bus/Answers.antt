@@ -7,6 +7,6 @@ returns-in_err-name-clause-ends g c = wants_memory _ (search rules)
 
 pub returns-clause-ends : goal.returns-clause-ends
 returns-clause-ends g c =
-    let named = c.in_ok-name.ensures.named in
+    let named = rw c.as_str.ensures.value at c.in_ok-name.ensures.named in
     ends_too (λ text plan is. (_, named, is)) (λ text part. (_, named, part)) (λ long. (_, named, long)) (λ broken. (_, named, broken))
-    c.plan_named.result c.plan_named.ensures.ends
+    c.plan_named.result (rw c.as_str-2.ensures.value at c.plan_named.ensures.ends)
