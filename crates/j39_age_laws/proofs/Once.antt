@@ -5,12 +5,12 @@ use Rattle.std.proofs.Math.Nat.{mul-le-mul_right}
 use Rattle.std.proofs.lemmas.Option.{same_Some, slice_get-map}
 use Rattle.std.specs.List.{slice_get}
 use Rattle.std.specs.Option.{option_and_then, option_map_or}
-use Rattle.j39_findings.specs.PlannedUnits.{unit_at, units_of}
-use Rattle.j39_findings.specs.declared.plan.flow_plan.FlowPlan.{FlowPlan}
-use Rattle.j39_findings.specs.declared.plan.timing.Bitrate.{Bitrate}
-use Rattle.j39_findings.specs.declared.plan.timing.Bitrate.TheVariants.{Kbit125, Kbit250, Kbit500, Mbit1}
-use Rattle.j39_findings.specs.declared.plan.timing.Timing.{Timing}
-use Rattle.j39_findings.specs.declared.plan.to.To.TheVariants.{One}
+use Rattle.j39_network.specs.PlannedUnits.{unit_at, units_of}
+use Rattle.j39_network.specs.declared.plan.flow_plan.FlowPlan.{FlowPlan}
+use Rattle.j39_network.specs.declared.plan.timing.Bitrate.{Bitrate}
+use Rattle.j39_network.specs.declared.plan.timing.Bitrate.TheVariants.{Kbit125, Kbit250, Kbit500, Mbit1}
+use Rattle.j39_network.specs.declared.plan.timing.Timing.{Timing}
+use Rattle.j39_network.specs.declared.plan.to.To.TheVariants.{One}
 use Rattle.j39_rules.proofs.Members.{all_at}
 use Rattle.j39_load.specs.declared.delay.Delay.{Delay}
 use Rattle.j39_load.specs.declared.delay.Delay.TheVariants.{Within}

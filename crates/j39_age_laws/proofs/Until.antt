@@ -1,7 +1,7 @@
 -- What is seen of a bus up to a bit keeps to its plan, where the frames that are queued before it keep to their streams.
 use Rattle.std.proofs.Common.{◌≡◌, ℕ, ◌+◌, ◌<◌, ◌≤◌, Bool, true, not, cond, ◌&&◌, ◌||◌, eqb, ltb, leb, List, Option, refl, sym, ap, ◌∙◌, subst, arith, inl, inr}
 use Rattle.std.proofs.lemmas.Bool.{and_parts, and_from, cases_Bool, leb-true, both_ways}
-use Rattle.j39_findings.specs.declared.plan.timing.Timing.{Timing}
+use Rattle.j39_network.specs.declared.plan.timing.Timing.{Timing}
 use Rattle.j39_load.specs.declared.flow_frames.FlowFrames.{FlowFrames}
 use Rattle.j39_load.specs.PlannedFrames.{AreFramesInAnyOrder, KeepToCompany, company_of, others_of, planned_at}
 use Rattle.j39_timing.specs.AnyOrder.{Controllers}

@@ -1,8 +1,8 @@
 -- Buses that keep to the plans of a vehicle: the premises of each delay that is told of a flow.
 use Rattle.std.specs.Prelude.{◌≡◌, ℕ, ◌≤◌, Bool, List, Option, Some}
 use Rattle.std.specs.List.{slice_get}
-use Rattle.j39_findings.specs.declared.plan.timing.Timing.{Timing}
-use Rattle.j39_findings.specs.declared.plan.unit_plan.UnitPlan.{UnitPlan}
+use Rattle.j39_network.specs.declared.plan.timing.Timing.{Timing}
+use Rattle.j39_network.specs.declared.plan.unit_plan.UnitPlan.{UnitPlan}
 use Rattle.j39_load.specs.declared.delay.Delay.{Delay}
 use Rattle.j39_load.specs.declared.delay.Delay.TheVariants.{Within}
 use Rattle.j39_load.specs.Asked.{Asked, asked_of, frames_asked}

@@ -1,6 +1,6 @@
 -- That all that is asked of what is seen of a vehicle can be kept at once, where a gateway sends on a message.
 use Rattle.std.specs.Prelude.{◌≡◌, ◌≢◌, ℕ, ◌≤◌, true, Some, None}
-use Rattle.j39_findings.specs.declared.plan.timing.Timing.{Timing}
+use Rattle.j39_network.specs.declared.plan.timing.Timing.{Timing}
 use Rattle.j39_load.specs.AnyQueues.{keep_order}
 use Rattle.j39_load.specs.Asked.{frames_asked}
 use Rattle.j39_load.specs.PlannedFrames.{planned_at}

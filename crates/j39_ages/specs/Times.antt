@@ -3,11 +3,11 @@
 use Rattle.std.specs.Prelude.{ℕ, zero, suc, ◌+◌, ◌-◌, ◌*◌, List, length, if◌then◌else◌, ◌&&◌, Option, Some, None}
 use Rattle.std.specs.List.{slice_get, position}
 use Rattle.std.specs.Option.{option_and_then, option_map, option_map_or}
-use Rattle.j39_findings.specs.declared.plan.flow_plan.FlowPlan.{FlowPlan}
-use Rattle.j39_findings.specs.declared.plan.pace.Pace.{Pace}
-use Rattle.j39_findings.specs.declared.plan.timing.Bitrate.{Bitrate}
-use Rattle.j39_findings.specs.declared.plan.timing.Bitrate.TheVariants.{Kbit125, Kbit250, Kbit500, Mbit1}
-use Rattle.j39_findings.specs.declared.plan.timing.Timing.{Timing}
+use Rattle.j39_network.specs.declared.plan.flow_plan.FlowPlan.{FlowPlan}
+use Rattle.j39_network.specs.declared.plan.pace.Pace.{Pace}
+use Rattle.j39_network.specs.declared.plan.timing.Bitrate.{Bitrate}
+use Rattle.j39_network.specs.declared.plan.timing.Bitrate.TheVariants.{Kbit125, Kbit250, Kbit500, Mbit1}
+use Rattle.j39_network.specs.declared.plan.timing.Timing.{Timing}
 use Rattle.j39_load.specs.Loads.{bits_of_ms}
 use Rattle.j39_load.specs.declared.delay.Delay.{Delay}
 use Rattle.j39_load.specs.declared.delay.Delay.TheVariants.{Within}

@@ -7,7 +7,7 @@ use crate::flows::{
     direct_feeder, flow_at, input_at, jitter_of, own, own_of, pause_of, timing_on, us_of_ms,
     within_of,
 };
-use j39_findings::FlowPlan;
+use j39_network::FlowPlan;
 use j39_paths::FlowAt;
 use j39_vehicle::{Forward, Vehicle};
 

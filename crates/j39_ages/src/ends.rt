@@ -11,7 +11,7 @@ ghost use Rattle.j39_ages.specs.FoundTimes.{direct_ends, ends_of, has_deadline, 
 use crate::bus_delays::Delays;
 use crate::chains::{queued_of, silent};
 use crate::flows::{flow_at, input_at, jitter_of, timing_on, us_of_ms};
-use j39_findings::{FlowPlan, To};
+use j39_network::{FlowPlan, To};
 use j39_paths::{FlowAt, group_at, is_direct, is_output, output_flows};
 use j39_vehicle::{Forward, GroupAt, Vehicle};
 

@@ -6,7 +6,7 @@ ghost use Rattle.j39_paths.specs.ForwardTests.{feeds, is_direct};
 ghost use Rattle.j39_ages.specs.Times.{bit_time, direct_feeder, flow_at, input_at, jitter_of, own, own_of, pause_of, timed, timing_on, us_of_ms, within_of};
 
 use crate::bus_delays::{Delays, delay_at};
-use j39_findings::{Bitrate, FlowPlan, Timing};
+use j39_network::{Bitrate, FlowPlan, Timing};
 use j39_load::bits_of_ms;
 use j39_paths::{FlowAt, feeds, first_input, flows_on, is_direct};
 use j39_vehicle::{BusPlan, Forward, Vehicle};

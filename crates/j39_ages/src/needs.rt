@@ -7,7 +7,7 @@ use crate::ages::age;
 use crate::bus_delays::Delays;
 use crate::ends::is_within;
 use crate::flows::us_of_ms;
-use j39_findings::FlowPlan;
+use j39_network::FlowPlan;
 use j39_paths::{FlowAt, Point, flows_on, is_need_flow};
 use j39_vehicle::{Vehicle, VehicleNeed};
 

@@ -4,7 +4,7 @@ use Rattle.std.proofs.lemmas.List.{append-nil, drop_more}
 use Rattle.std.specs.List.{AllZip}
 use Rattle.j39_app.specs.Known.{Names}
 use Rattle.j39_app.specs.VehicleAnswers.{IsOfBus, IsOfSomeBus, IsPlanOfBus, IsTextOfBusFile}
-use Rattle.j39_findings.specs.declared.plan.Plan.{Plan}
+use Rattle.j39_network.specs.declared.plan.Plan.{Plan}
 use Rattle.j39_vehicle.specs.declared.file.bus_table.BusTable.{BusTable}
 use Rattle.j39_vehicle.specs.declared.vehicle.bus_plan.BusPlan.{BusPlan}
 

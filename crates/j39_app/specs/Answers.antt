@@ -11,7 +11,7 @@ use Rattle.j39_check.specs.PlanText.{Describes, IsRefusedText}
 use Rattle.j39_follow.specs.FollowText.{IsFollowText}
 use Rattle.j39_log.specs.ReadText.{IsReadText}
 use Rattle.j39_run.specs.RunText.{IsRunText}
-use Rattle.j39_findings.specs.declared.plan.Plan.{Plan}
+use Rattle.j39_network.specs.declared.plan.Plan.{Plan}
 use Rattle.j39_stream.specs.declared.verdict.Verdict.{Verdict}
 use Rattle.j39_stream.specs.declared.verdict.Verdict.TheVariants.{Done, Unreadable}
 use Rattle.j39_words.specs.declared.orders.Order.{Order}

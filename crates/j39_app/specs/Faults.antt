@@ -12,7 +12,7 @@ use Rattle.j39_stream.specs.declared.fault.Fault.{Fault}
 use Rattle.j39_stream.specs.declared.fault.Fault.TheVariants.{Device, TooLong}
 use Rattle.j39_stream.specs.declared.limits.Limits.{Limits}
 use Rattle.j39_stream.specs.declared.verdict.Verdict.{Verdict}
-use Rattle.j39_findings.specs.declared.plan.Plan.{Plan}
+use Rattle.j39_network.specs.declared.plan.Plan.{Plan}
 use Rattle.j39_vehicle.specs.declared.file.VehicleFile.{VehicleFile}
 use Rattle.j39_vehicle.specs.declared.file.bus_table.BusTable.{BusTable}
 use Rattle.j39_vehicle.specs.declared.vehicle.bus_plan.BusPlan.{BusPlan}

@@ -3,7 +3,7 @@ use Rattle.std.specs.Prelude.{◌≡◌, ◌⊎◌, ℕ, List, [], ◌∷◌, �
 use Rattle.std.specs.List.{AllZip}
 use Rattle.j39_app.specs.Known.{AreOf, Names}
 use Rattle.j39_check.specs.PlanText.{Describes}
-use Rattle.j39_findings.specs.declared.plan.Plan.{Plan}
+use Rattle.j39_network.specs.declared.plan.Plan.{Plan}
 use Rattle.j39_stream.specs.declared.verdict.Verdict.{Verdict}
 use Rattle.j39_stream.specs.declared.verdict.Verdict.TheVariants.{Unreadable}
 use Rattle.j39_vehicle.specs.PlanNames.{IsPlanFile}

@@ -19,7 +19,7 @@ use crate::{
     Fault, Folder, Order, Sink, Source, Verdict, addresses_text, check_text, follow_text,
     frame_text, input_text, load_text, plan_text, put_all, read_text, run_planned, show_text,
 };
-use j39_findings::Plan;
+use j39_network::Plan;
 use std::alloc::Global;
 
 // Each command holds its buffers and tables in a frame of its own, since that of `answer` lies on the stack below all of them.

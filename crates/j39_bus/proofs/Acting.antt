@@ -1,6 +1,6 @@
 -- What holds of a step holds of the same step in other words.
 use Rattle.std.proofs.Common.{◌≡◌, true, length, sym, ap, subst, ◌∙◌, Option, None, Result, Ok, Err, OnOk, OnErr}
-use Rattle.j39_findings.specs.declared.steps.Step.{Step}
+use Rattle.j39_network.specs.declared.steps.Step.{Step}
 use Rattle.j39_bus.specs.declared.network.Network.{Network}
 use Rattle.j39_bus.specs.BusState.{nowhere}
 use Rattle.j39_bus.specs.inside.Network.{Finds, IsAllowed, IsRefusal, Steps, world_in}
@@ -9,7 +9,7 @@ use Rattle.j39_bus.proofs.SendRefused as sending
 use Rattle.j39_bus.proofs.Refused.{none_refuses, pair_inside, unit_inside}
 use Rattle.j39_world.proofs.Refusals.{NoneHold}
 use Rattle.std.proofs.lemmas.Bool.{ltb-true, not-false}
-use Rattle.j39_findings.specs.declared.steps.Step.TheVariants.{Up, Down, Give, Ask, Begin, Send, Emit, Take, Lose, LateSender, LateReceiver, Rest}
+use Rattle.j39_network.specs.declared.steps.Step.TheVariants.{Up, Down, Give, Ask, Begin, Send, Emit, Take, Lose, LateSender, LateReceiver, Rest}
 use Rattle.j39_world.specs.declared.step_error.StepError.{StepError}
 use Rattle.j39_world.specs.Run.{step_refusals, takes_memory}
 

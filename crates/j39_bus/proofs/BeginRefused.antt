@@ -9,7 +9,7 @@ use Rattle.j39_bus.specs.declared.network.Network.{Network}
 use Rattle.j39_bus.specs.BusState.{Histories, nowhere}
 use Rattle.j39_world.specs.Flows.{flows_of}
 use Rattle.j39_world.specs.declared.flow.Flow.{Flow}
-use Rattle.j39_findings.specs.declared.plan.Plan.{Plan}
+use Rattle.j39_network.specs.declared.plan.Plan.{Plan}
 use Rattle.j39_bus.specs.inside.Network.{IsNetwork, IsOfPlan, world_in}
 use Rattle.j39_world.specs.Run.{begin_refusal, begin_refusals, is_nothing_undelivered}
 use Rattle.j39_world.proofs.Refusals.{none_hold}

@@ -4,7 +4,7 @@ use Rattle.j39_claim.specs.declared.item.Say.{Say}
 use Rattle.j39_claim.specs.declared.item.Item.{Item}
 use Rattle.j39_claim.specs.ClaimRule.{PlannedUnit, Reacts}
 use Rattle.j39_claim.specs.ClaimerValue.{ClaimerValue}
-use Rattle.j39_findings.specs.PlannedUnits.{unit_at}
+use Rattle.j39_network.specs.PlannedUnits.{unit_at}
 use Rattle.j39_world.specs.Sent.{Sent}
 use Rattle.j39_world.specs.World.{World, Undelivered, changed_pair}
 use Rattle.j39_world.specs.ClaimSteps.{tell, answer_items, GivenFrom}

@@ -7,7 +7,7 @@ use Rattle.j39_claim.specs.declared.item.Item.{Item}
 use Rattle.j39_claim.specs.declared.item.Item.TheVariants.{Told, Request}
 use Rattle.j39_claim.specs.ClaimRule.{ClaimState, PlannedUnit, Reacts, said_by, say_of, claim_of}
 use Rattle.j39_claim.specs.ClaimerValue.{ClaimerValue}
-use Rattle.j39_findings.specs.PlannedUnits.{unit_at}
+use Rattle.j39_network.specs.PlannedUnits.{unit_at}
 use Rattle.j39_bus.specs.Stations.{absent_unit, station_at}
 use Rattle.j39_bus.specs.inside.Network.{HasAnswered, planned_units}
 use Rattle.j39_bus.proofs.Worlds.{any_default, unit_at-planned_units}

@@ -11,12 +11,12 @@ use Rattle.std.specs.FinMap.{get, get-empty}
 use Rattle.std.specs.FinSet.{FinSet}
 use Rattle.j39_claim.specs.ClaimRule.{PlannedUnit, ClaimState, off}
 use Rattle.j39_claim.specs.ClaimerValue.{ClaimerValue}
-use Rattle.j39_findings.specs.Kinds.{MayBeOne, MayBeOneAt, may_be_one}
-use Rattle.j39_findings.specs.declared.plan.Plan.{Plan}
-use Rattle.j39_findings.specs.declared.plan.unit_plan.UnitPlan.{UnitPlan}
-use Rattle.j39_findings.proofs.Deciding.{Decides-may_be_one}
+use Rattle.j39_network.specs.Kinds.{MayBeOne, MayBeOneAt, may_be_one}
+use Rattle.j39_network.specs.declared.plan.Plan.{Plan}
+use Rattle.j39_network.specs.declared.plan.unit_plan.UnitPlan.{UnitPlan}
+use Rattle.j39_network.proofs.Served.{Decides-may_be_one}
 use Rattle.j39_claim.specs.declared.item.Item.{Item}
-use Rattle.j39_findings.specs.PlannedUnits.{planned_unit, unit_at}
+use Rattle.j39_network.specs.PlannedUnits.{planned_unit, unit_at}
 use Rattle.j39_world.specs.Transfers.{Outgoing}
 use Rattle.j39_bus.specs.BusState.{session_at}
 use Rattle.j39_bus.specs.Stations.{unstarted, station_at}

@@ -6,7 +6,7 @@ use Rattle.j39_bus.specs.declared.network.Network.{Network}
 use Rattle.j39_bus.specs.BusState.{Histories, nowhere}
 use Rattle.j39_world.specs.Flows.{flows_of, has_length}
 use Rattle.j39_world.specs.declared.flow.Flow.{Flow}
-use Rattle.j39_findings.specs.declared.plan.Plan.{Plan}
+use Rattle.j39_network.specs.declared.plan.Plan.{Plan}
 use Rattle.j39_bus.specs.inside.Network.{IsNetwork, IsOfPlan, world_in}
 use Rattle.j39_world.specs.Run.{send_refusal, send_refusals}
 use Rattle.j39_world.proofs.Refusals.{none_hold}

@@ -1,8 +1,8 @@
 -- What stays where a step changes other parts of a network.
 use Rattle.std.proofs.Common.{◌≡◌, ℕ, List, Option, length, map, sym, ap, ◌∙◌, subst}
 use Rattle.std.proofs.Math.Path.{transport}
-use Rattle.j39_findings.specs.declared.plan.Plan.{Plan}
-use Rattle.j39_findings.specs.declared.steps.Step.{Step}
+use Rattle.j39_network.specs.declared.plan.Plan.{Plan}
+use Rattle.j39_network.specs.declared.steps.Step.{Step}
 use Rattle.j39_bus.specs.declared.network.Network.{Network}
 use Rattle.j39_queues.specs.Queued.{IsTable}
 use Rattle.j39_world.specs.declared.flow.Flow.{Flow}

@@ -11,8 +11,8 @@ use Rattle.j39_queues.specs.Queued.{IsTable, Queued, changed_in, one_at, room_at
 use Rattle.j39_world.specs.Sent.{Sent}
 use Rattle.j39_world.specs.SentTransfers.{address_of, packet_frame}
 use Rattle.j39_bus.specs.inside.KeptMessages.{AreUnits, HasRoomAlong, HasRoomTo, GoesToUnits, at_stage}
-use Rattle.j39_findings.specs.declared.plan.to.To.{To}
-use Rattle.j39_findings.specs.declared.plan.to.To.TheVariants.{All as ToAll, One as ToOne}
+use Rattle.j39_network.specs.declared.plan.to.To.{To}
+use Rattle.j39_network.specs.declared.plan.to.To.TheVariants.{All as ToAll, One as ToOne}
 use Rattle.j39_tp.specs.declared.sending.stage.Stage.{Stage}
 use Rattle.j39_world.specs.Transfers.{Outgoing, added, is_among}
 use Rattle.j39_world.specs.TransferSteps.{replied, targets_of}

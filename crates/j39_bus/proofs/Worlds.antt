@@ -5,7 +5,7 @@ use Rattle.std.proofs.lemmas.Bool.{cases_eq, eq-eqb, ne_eqb}
 use Rattle.j39_claim.specs.declared.item.Item.{Item}
 use Rattle.j39_claim.specs.ClaimRule.{PlannedUnit}
 use Rattle.j39_claim.specs.ClaimerValue.{ClaimerValue}
-use Rattle.j39_findings.specs.PlannedUnits.{unit_at}
+use Rattle.j39_network.specs.PlannedUnits.{unit_at}
 use Rattle.j39_world.specs.Sent.{Sent, frame_of}
 use Rattle.j39_world.specs.World.{World, Undelivered, changed}
 use Rattle.j39_world.specs.ClaimSteps.{tell}

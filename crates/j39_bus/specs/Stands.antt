@@ -2,11 +2,11 @@
 use Rattle.std.specs.Prelude.{◌≡◌, ℕ, true, List, ◌∷◌, ◌++◌, length, map}
 use Rattle.j39_tp.specs.Gathered.{Gathers}
 use Rattle.j39_tp.specs.declared.packet.Packet.{Packet}
-use Rattle.j39_findings.specs.declared.plan.Plan.{Plan}
-use Rattle.j39_findings.specs.declared.steps.Step.{Step}
+use Rattle.j39_network.specs.declared.plan.Plan.{Plan}
+use Rattle.j39_network.specs.declared.steps.Step.{Step}
 use Rattle.j39_world.specs.declared.step_error.StepError.{StepError}
 use Rattle.j39_world.specs.declared.step_error.StepError.TheVariants.{Memory}
-use Rattle.j39_findings.specs.PlannedUnits.{units_of}
+use Rattle.j39_network.specs.PlannedUnits.{units_of}
 use Rattle.j39_world.specs.World.{World}
 use Rattle.j39_bus.specs.BusState.{BusState, ReceiverTable, histories_of, holding_at, world_of}
 use Rattle.j39_world.specs.Flows.{flows_of, windows_of}

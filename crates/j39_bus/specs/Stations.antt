@@ -4,8 +4,8 @@ use Rattle.std.specs.FinSet.{FinSet, empty}
 use Rattle.std.specs.Ordering.{nat_cmp}
 use Rattle.j39_claim.specs.ClaimRule.{off}
 use Rattle.j39_claim.specs.ClaimerValue.{ClaimerValue}
-use Rattle.j39_findings.specs.declared.plan.unit_plan.UnitPlan.{UnitPlan}
-use Rattle.j39_findings.specs.PlannedUnits.{planned_unit}
+use Rattle.j39_network.specs.declared.plan.unit_plan.UnitPlan.{UnitPlan}
+use Rattle.j39_network.specs.PlannedUnits.{planned_unit}
 use Rattle.j39_world.specs.World.{Stations}
 
 -- what stands at a place with no unit

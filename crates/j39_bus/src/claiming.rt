@@ -1,6 +1,6 @@
 //! The steps of units that claim addresses (SAE J1939-81).
 ghost use Rattle.std.specs.Prelude.{◌≡◌, ◌<◌, ◌≤◌, ◌+◌, length, vec_len, vec_capacity, OnOk, OnErr};
-ghost use Rattle.j39_findings.specs.declared.steps.Step.TheVariants.{Up, Give, Ask};
+ghost use Rattle.j39_network.specs.declared.steps.Step.TheVariants.{Up, Give, Ask};
 ghost use Rattle.j39_world.specs.ClaimSteps.{switched_on, asked, GivenFrom};
 ghost use Rattle.j39_bus.specs.inside.Claims.{HasRoomForOthers};
 ghost use Rattle.j39_queues.specs.Queued.{pair_in};

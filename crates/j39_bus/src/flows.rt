@@ -3,9 +3,9 @@ ghost use Rattle.std.specs.Prelude.{◌≡◌, ◌<◌, ◌≤◌, length, All, 
 ghost use Rattle.j39_id.specs.Limits.{message_bytes};
 ghost use Rattle.j39_world.specs.Flows.{flow_of, flows_of};
 ghost use Rattle.j39_bus.specs.inside.KeptMessages.{IsFlow};
-ghost use Rattle.j39_findings.specs.PlannedGroups.{IsSendable};
+ghost use Rattle.j39_network.specs.PlannedGroups.{IsSendable};
 
-use j39_findings::{FlowPlan, GroupPlan, Plan};
+use j39_network::{FlowPlan, GroupPlan, Plan};
 use j39_id::Pgn;
 use j39_world::Flow;
 use std::alloc::{AllocError, Global};

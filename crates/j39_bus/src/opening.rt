@@ -1,6 +1,6 @@
 //! A new bus.
 ghost use Rattle.std.specs.Prelude.{◌≡◌, ◌<◌, ℕ, length, map, All, IfOk, IfErr, IfSome, IfNone, OnOk};
-ghost use Rattle.j39_findings.specs.Kinds.{MayBeOneAt, AreToldApart};
+ghost use Rattle.j39_network.specs.Kinds.{MayBeOneAt, AreToldApart};
 ghost use Rattle.j39_bus.specs.Stations.{unstarted};
 ghost use Rattle.j39_world.specs.Opening.{AreFirstThatMayBeOne, CanOpen, IsNotOpened};
 ghost use Rattle.j39_bus.specs.BusState.{histories_of};
@@ -8,7 +8,7 @@ ghost use Rattle.j39_bus.specs.Stands.{Stands};
 ghost use Rattle.j39_bus.specs.inside.Network.{HasHeld, IsNetwork, IsOfPlan, world_in};
 ghost use Rattle.j39_world.specs.World.{all_off};
 ghost use Rattle.j39_bus.specs.inside.SendableGroups.{HasBadGroup};
-ghost use Rattle.j39_findings.specs.PlannedGroups.{IsSendable};
+ghost use Rattle.j39_network.specs.PlannedGroups.{IsSendable};
 
 use crate::flows::flows_of;
 use crate::network::Network;
@@ -16,7 +16,7 @@ use crate::places::empty_places;
 use crate::receivers::Receivers;
 use crate::{Bus, BusError};
 use j39_claim::{AddressSet, Choose, Claimer};
-use j39_findings::{GroupFault, GroupPlan, Plan, UnitPlan, layout_of, may_be_one};
+use j39_network::{GroupFault, GroupPlan, Plan, UnitPlan, layout_of, may_be_one};
 use j39_queues::Queues;
 use std::alloc::{AllocError, Global};
 

@@ -9,7 +9,7 @@ ghost use Rattle.j39_bus.specs.inside.Receivers.{HasRoomFor, IsAnswering, IsRead
 ghost use Rattle.j39_bus.specs.inside.Receivers.{receiver_at};
 
 use crate::places::empty_places;
-use j39_findings::UnitPlan;
+use j39_network::UnitPlan;
 use j39_tp::{Heard, Packet, Receiver};
 use std::alloc::{AllocError, Global};
 use std::marker::Model;

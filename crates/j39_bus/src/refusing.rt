@@ -1,6 +1,6 @@
 //! Why steps are refused.
 ghost use Rattle.std.specs.Prelude.{◌≡◌, ◌&&◌, ◌||◌, not, Some, length};
-ghost use Rattle.j39_findings.specs.declared.steps.Step.TheVariants.{Up, Give, Ask, Emit, Take, LateSender, LateReceiver, Rest};
+ghost use Rattle.j39_network.specs.declared.steps.Step.TheVariants.{Up, Give, Ask, Emit, Take, LateSender, LateReceiver, Rest};
 ghost use Rattle.j39_world.specs.Flows.{can_be_sent, has_length};
 ghost use Rattle.j39_bus.specs.Stations.{station_at};
 ghost use Rattle.j39_bus.specs.BusState.{Histories, nowhere};
@@ -12,7 +12,7 @@ ghost use Rattle.j39_queues.specs.Queued.{pair_in};
 
 use crate::network::Network;
 use crate::{StepError, sessions};
-use j39_findings::{Step, To};
+use j39_network::{Step, To};
 use j39_id::limits::FRAME_BYTES;
 use j39_signal::is_selected;
 use j39_world::Flow;

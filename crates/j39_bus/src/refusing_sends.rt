@@ -1,6 +1,6 @@
 //! Why a frame is not sent alone.
 ghost use Rattle.std.specs.Prelude.{◌≡◌, ◌&&◌, Some, length};
-ghost use Rattle.j39_findings.specs.declared.steps.Step.TheVariants.{Send};
+ghost use Rattle.j39_network.specs.declared.steps.Step.TheVariants.{Send};
 ghost use Rattle.j39_bus.specs.BusState.{Histories};
 ghost use Rattle.j39_bus.specs.inside.Network.{IsNetwork, IsRefusal, world_in};
 ghost use Rattle.j39_world.specs.Flows.{has_length, is_short};

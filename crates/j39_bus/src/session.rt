@@ -2,7 +2,7 @@
 ghost use Rattle.std.specs.Prelude.{◌≡◌, ◌≤◌, not, nat_eq, length};
 ghost use Rattle.std.specs.List.{filter};
 ghost use Rattle.j39_id.specs.Limits.{message_bytes};
-ghost use Rattle.j39_findings.specs.declared.plan.to.To.{To};
+ghost use Rattle.j39_network.specs.declared.plan.to.To.{To};
 ghost use Rattle.j39_tp.specs.declared.sending.outcome.Outcome.TheVariants.{GaveUp};
 ghost use Rattle.j39_tp.specs.Sender.{data_next, after_packet, ended, timeout_packet, after_timeout, outcome_of, phase_of};
 ghost use Rattle.j39_world.specs.Flows.{dest_of};
@@ -11,7 +11,7 @@ ghost use Rattle.j39_world.specs.TransferSteps.{begun_stage, first_item, outgoin
 ghost use Rattle.j39_world.specs.SwitchingOff.{without_target};
 ghost use Rattle.j39_world.specs.Transfers.{is_among};
 
-use j39_findings::To;
+use j39_network::To;
 use j39_id::Pgn;
 use j39_id::limits::FRAME_BYTES;
 use j39_tp::{Dest, Message, Outcome, Packet, Phase, Reaction, Transfer};

@@ -1,6 +1,6 @@
 //! The steps of a bus.
 ghost use Rattle.std.specs.Prelude.{◌≡◌, true, None, OnOk, OnErr, IfErr, length};
-ghost use Rattle.j39_findings.specs.declared.plan.Plan.{Plan};
+ghost use Rattle.j39_network.specs.declared.plan.Plan.{Plan};
 ghost use Rattle.j39_world.specs.World.{World};
 ghost use Rattle.j39_world.specs.Run.{refusal, cause_of, takes_memory, StepsTo, RunsThrough};
 ghost use Rattle.j39_bus.specs.Stands.{Stands, IsRefusedAt};
@@ -8,7 +8,7 @@ ghost use Rattle.j39_bus.specs.Stands.{Stands, IsRefusedAt};
 use crate::network::Network;
 use crate::{Bus, StepError};
 use j39_claim::Choose;
-use j39_findings::Step;
+use j39_network::Step;
 use std::alloc::AllocError;
 
 impl Network {

@@ -1,5 +1,5 @@
 //! A unit is switched off, also in the midst of messages.
-ghost use Rattle.j39_findings.specs.declared.steps.Step.TheVariants.{Down};
+ghost use Rattle.j39_network.specs.declared.steps.Step.TheVariants.{Down};
 ghost use Rattle.j39_bus.specs.inside.Network.{IsAllowed, IsNetwork, KeepsPlan, Steps};
 
 use crate::network::Network;

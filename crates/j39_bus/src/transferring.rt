@@ -23,7 +23,7 @@ use crate::network::Network;
 use crate::transfer_frames::packet_frame;
 use crate::wire::{post_each, reserve_each};
 use j39_claim::Claimer;
-use j39_findings::To;
+use j39_network::To;
 use j39_id::addresses::GLOBAL_ADDRESS;
 use j39_tp::Packet;
 use j39_world::Wired;

@@ -3,15 +3,15 @@ use Rattle.std.proofs.Common.{◌≡◌, ℕ, suc, zero, ◌+◌, Bool, cond, co
 use Rattle.std.proofs.lemmas.Bool.{cases_Bool}
 use Rattle.std.proofs.lemmas.Option.{same_Some}
 use Rattle.std.specs.List.{AllZip, slice_get}
-use Rattle.j39_findings.specs.declared.plan.Plan.{Plan}
-use Rattle.j39_findings.specs.declared.plan.unit_plan.UnitPlan.{UnitPlan}
+use Rattle.j39_network.specs.declared.plan.Plan.{Plan}
+use Rattle.j39_network.specs.declared.plan.unit_plan.UnitPlan.{UnitPlan}
 use Rattle.j39_plan.specs.declared.reading.fault.Fault.{Fault}
 use Rattle.j39_plan.specs.declared.reading.plan_error.PlanError.{PlanError}
 use Rattle.j39_plan.specs.declared.reading.plan_error.PlanError.TheVariants as errors
 use Rattle.j39_plan.specs.Described.{Reads, tree_of}
 use Rattle.j39_plan.specs.PlanFaults.{faults}
 use Rattle.j39_plan.specs.Outcome.{first}
-use Rattle.j39_findings.specs.declared.plan.timing.Timing.{Timing}
+use Rattle.j39_network.specs.declared.plan.timing.Timing.{Timing}
 use Rattle.j39_findings.specs.Found.{found}
 use Rattle.j39_findings.proofs.FoundLaws.{none_from_clean}
 use Rattle.j39_load.specs.declared.delay.Delay.{Delay}

@@ -1,6 +1,6 @@
 -- What is written of a plan file, by what its reader gave.
 use Rattle.std.proofs.Common.{◌≡◌, List, ℕ, Option, Some, None, Result, Ok, Err, inl, inr, refl}
-use Rattle.j39_findings.specs.declared.plan.Plan.{Plan}
+use Rattle.j39_network.specs.declared.plan.Plan.{Plan}
 use Rattle.j39_check.specs.PlanText.{IsPlanText, IsRefusedText, IsReportedText}
 use Rattle.j39_stream.specs.CommandEnds.{AnswersWhole, IsOfAny, PutsText}
 use Rattle.j39_stream.specs.Streams.{SinkState, SourceState}

@@ -1,7 +1,7 @@
 -- The lines of units, one after another.
 use Rattle.std.proofs.Common.{◌≡◌, ℕ, ◌+◌, ◌<◌, Bool, List, ◌++◌, length, drop, get_or, sym, ap}
 use Rattle.std.proofs.lemmas.List.{drop_more}
-use Rattle.j39_findings.specs.declared.plan.unit_plan.UnitPlan.{UnitPlan}
+use Rattle.j39_network.specs.declared.plan.unit_plan.UnitPlan.{UnitPlan}
 use Rattle.j39_check.specs.AddressesText.{staying_line, staying_lines}
 
 -- the lines from a unit on are its own and those of the units behind it

@@ -5,12 +5,12 @@ use Rattle.std.specs.List.{AllZip, slice_get}
 use Rattle.std.proofs.lemmas.Bool.{false≢true}
 use Rattle.j39_findings.specs.Findings.{Holds}
 use Rattle.j39_findings.specs.Found.{found}
-use Rattle.j39_findings.specs.Kinds.{AreToldApart, MayHaveName}
-use Rattle.j39_findings.specs.VehiclePlans.{IsBoxOf, IsVehicleOf}
+use Rattle.j39_network.specs.Kinds.{AreToldApart, MayHaveName}
+use Rattle.j39_network.specs.VehiclePlans.{IsBoxOf, IsVehicleOf}
 use Rattle.j39_findings.specs.declared.checking.finding.Finding.{Finding}
-use Rattle.j39_findings.specs.declared.plan.Plan.{Plan}
-use Rattle.j39_findings.specs.declared.plan.timing.Timing.{Timing}
-use Rattle.j39_findings.specs.declared.plan.unit_plan.UnitPlan.{UnitPlan}
+use Rattle.j39_network.specs.declared.plan.Plan.{Plan}
+use Rattle.j39_network.specs.declared.plan.timing.Timing.{Timing}
+use Rattle.j39_network.specs.declared.plan.unit_plan.UnitPlan.{UnitPlan}
 use Rattle.j39_findings.proofs.FoundLaws.{are_findings}
 use Rattle.j39_findings.proofs.Vehicles.{clean_vehicle, found_alike}
 use Rattle.j39_load.specs.declared.delay.Delay.{Delay}

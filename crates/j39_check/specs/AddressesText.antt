@@ -1,14 +1,14 @@
 -- The text that the addresses command writes for a plan file.
 use Rattle.std.specs.Prelude.{◌≡◌, ◌<◌, ℕ, Bool, true, false, List, [], ◌∷◌, ◌++◌, codes, count_by, length}
-use Rattle.j39_findings.specs.declared.plan.Plan.{Plan}
-use Rattle.j39_findings.specs.declared.plan.unit_plan.UnitPlan.{UnitPlan}
+use Rattle.j39_network.specs.declared.plan.Plan.{Plan}
+use Rattle.j39_network.specs.declared.plan.unit_plan.UnitPlan.{UnitPlan}
 use Rattle.j39_findings.specs.declared.checking.finding.Finding.{Finding}
 use Rattle.j39_findings.specs.declared.checking.finding.Finding.TheVariants.{SameName, SameFixedAddress, TooFewAddresses, KeptAddress, SilentAddress, SilentInPool}
 use Rattle.j39_findings.specs.Findings.{Holds}
 use Rattle.j39_findings.specs.Standing.{TellsWhoStays}
-use Rattle.j39_findings.specs.PlannedUnits.{units_of}
+use Rattle.j39_network.specs.PlannedUnits.{units_of}
 use Rattle.j39_world.specs.SoundPlan.{Always, AlwaysBeside}
-use Rattle.j39_findings.specs.Staying.{StaysBeside}
+use Rattle.j39_network.specs.Staying.{StaysBeside}
 use Rattle.j39_world.specs.HeldAddresses.{HoldsPlanned}
 use Rattle.j39_check.specs.CheckText.{IsReport}
 use Rattle.j39_check.specs.PlanText.{IsReportedText}

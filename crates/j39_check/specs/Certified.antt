@@ -2,9 +2,9 @@
 -- and of each need that asks for an age some flow brings what is as young, while it keeps its `pause`, and reads as it was written. All of it
 -- holds of the plan of each vehicle too.
 use Rattle.std.specs.Prelude.{◌≡◌, Some}
-use Rattle.j39_findings.specs.VehiclePlans.{IsVehicleOf}
-use Rattle.j39_findings.specs.declared.plan.Plan.{Plan}
-use Rattle.j39_findings.specs.declared.plan.timing.Timing.{Timing}
+use Rattle.j39_network.specs.VehiclePlans.{IsVehicleOf}
+use Rattle.j39_network.specs.declared.plan.Plan.{Plan}
+use Rattle.j39_network.specs.declared.plan.timing.Timing.{Timing}
 use Rattle.j39_load.specs.FreshNeeds.{AreNeedsFresh}
 use Rattle.j39_load.specs.KeepsErrors.{AreInTimeWithErrors}
 use Rattle.j39_load.specs.KeepsPlan.{AreFramesInTime}

@@ -1,6 +1,6 @@
 -- What is written of a plan file: nothing of one that describes a plan, else why it is refused.
 use Rattle.std.specs.Prelude.{◌≡◌, ◌⊎◌, ℕ, List, [], ◌∷◌, ◌++◌, codes, Option, Some, None, Ok, Err}
-use Rattle.j39_findings.specs.declared.plan.Plan.{Plan}
+use Rattle.j39_network.specs.declared.plan.Plan.{Plan}
 use Rattle.j39_plan.specs.declared.reading.fault.Fault.{Fault}
 use Rattle.j39_plan.specs.declared.reading.key.Key.{Key}
 use Rattle.j39_plan.specs.declared.reading.place.Table.{Table}

@@ -12,26 +12,26 @@ use Rattle.j39_signal.specs.Parts.{SignalParts}
 use Rattle.j39_signal.specs.declared.kind.Kind.{Kind}
 use Rattle.j39_signal.specs.declared.kind.Kind.TheVariants as kinds
 use Rattle.j39_signal.specs.declared.selector.Selector.{Selector}
-use Rattle.j39_findings.specs.declared.plan.Plan.{Plan}
-use Rattle.j39_findings.specs.declared.plan.flow_plan.FlowPlan.{FlowPlan}
-use Rattle.j39_findings.specs.declared.plan.group_plan.GroupPlan.{GroupPlan}
-use Rattle.j39_findings.specs.declared.plan.meaning.Meaning.{Meaning}
-use Rattle.j39_findings.specs.declared.plan.meaning.ValueName.{ValueName}
-use Rattle.j39_findings.specs.declared.plan.need_plan.NeedPlan.{NeedPlan}
-use Rattle.j39_findings.specs.declared.plan.pace.Pace.{Pace}
-use Rattle.j39_findings.specs.declared.plan.queue.Queue.{Queue}
-use Rattle.j39_findings.specs.declared.plan.queue.Queue.TheVariants as queues
-use Rattle.j39_findings.specs.declared.plan.request_plan.RequestPlan.{RequestPlan}
-use Rattle.j39_findings.specs.declared.plan.text_plan.TextPlan.{TextPlan}
-use Rattle.j39_findings.specs.declared.plan.timing.Bitrate.{Bitrate}
-use Rattle.j39_findings.specs.declared.plan.timing.Bitrate.TheVariants.{Kbit125, Kbit250, Kbit500, Mbit1}
-use Rattle.j39_findings.specs.declared.plan.timing.ErrorRate.{ErrorRate}
-use Rattle.j39_findings.specs.declared.plan.timing.Timing.{Timing}
-use Rattle.j39_findings.specs.declared.plan.to.To.{To}
-use Rattle.j39_findings.specs.declared.plan.to.To.TheVariants.{All, One}
-use Rattle.j39_findings.specs.declared.plan.unit_plan.UnitPlan.{UnitPlan}
-use Rattle.j39_findings.specs.declared.plan.way.Way.{Way}
-use Rattle.j39_findings.specs.declared.plan.way.Way.TheVariants.{Lowest, Upward}
+use Rattle.j39_network.specs.declared.plan.Plan.{Plan}
+use Rattle.j39_network.specs.declared.plan.flow_plan.FlowPlan.{FlowPlan}
+use Rattle.j39_network.specs.declared.plan.group_plan.GroupPlan.{GroupPlan}
+use Rattle.j39_network.specs.declared.plan.meaning.Meaning.{Meaning}
+use Rattle.j39_network.specs.declared.plan.meaning.ValueName.{ValueName}
+use Rattle.j39_network.specs.declared.plan.need_plan.NeedPlan.{NeedPlan}
+use Rattle.j39_network.specs.declared.plan.pace.Pace.{Pace}
+use Rattle.j39_network.specs.declared.plan.queue.Queue.{Queue}
+use Rattle.j39_network.specs.declared.plan.queue.Queue.TheVariants as queues
+use Rattle.j39_network.specs.declared.plan.request_plan.RequestPlan.{RequestPlan}
+use Rattle.j39_network.specs.declared.plan.text_plan.TextPlan.{TextPlan}
+use Rattle.j39_network.specs.declared.plan.timing.Bitrate.{Bitrate}
+use Rattle.j39_network.specs.declared.plan.timing.Bitrate.TheVariants.{Kbit125, Kbit250, Kbit500, Mbit1}
+use Rattle.j39_network.specs.declared.plan.timing.ErrorRate.{ErrorRate}
+use Rattle.j39_network.specs.declared.plan.timing.Timing.{Timing}
+use Rattle.j39_network.specs.declared.plan.to.To.{To}
+use Rattle.j39_network.specs.declared.plan.to.To.TheVariants.{All, One}
+use Rattle.j39_network.specs.declared.plan.unit_plan.UnitPlan.{UnitPlan}
+use Rattle.j39_network.specs.declared.plan.way.Way.{Way}
+use Rattle.j39_network.specs.declared.plan.way.Way.TheVariants.{Lowest, Upward}
 use Rattle.j39_load.specs.LineLists.{lines_of_each}
 use Rattle.j39_plan.specs.Words.{word_of}
 use Rattle.j39_plan.specs.declared.reading.key.Key.{Key}

@@ -1,6 +1,6 @@
 -- What is written of the plan of a vehicle, beside what is written of the plan of its type.
 use Rattle.std.specs.Prelude.{ℕ, List}
-use Rattle.j39_findings.specs.declared.plan.Plan.{Plan}
+use Rattle.j39_network.specs.declared.plan.Plan.{Plan}
 use Rattle.j39_check.specs.AddressesText.{IsAddressesReport}
 use Rattle.j39_check.specs.CheckText.{IsReport}
 use Rattle.j39_check.specs.LoadText.{IsLoadReport}

@@ -5,7 +5,7 @@ ghost use Rattle.j39_stream.specs.Streams.{plan_limits};
 
 use crate::report_text::{Report, report_text};
 use crate::stays_report::stays_report;
-use j39_findings::Plan;
+use j39_network::Plan;
 use j39_stream::{Fault, Sink, Source, Verdict};
 use j39_text::TextBuffer;
 use std::alloc::{AllocError, Global};

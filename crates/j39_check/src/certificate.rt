@@ -2,7 +2,7 @@
 ghost use Rattle.std.specs.Prelude.{[]};
 ghost use Rattle.j39_check.specs.Certified.{IsCertified};
 ghost use Rattle.j39_findings.specs.Findings.{Clean};
-ghost use Rattle.j39_findings.specs.declared.plan.Plan.{Plan as Plans};
+ghost use Rattle.j39_network.specs.declared.plan.Plan.{Plan as Plans};
 ghost use Rattle.j39_load.specs.LoadFindings.{AreLoadFindings};
 
 use j39_findings::serial_numbers_change_nothing;

@@ -4,7 +4,9 @@ ghost use Rattle.j39_findings.specs.declared.checking.finding.Finding.TheVariant
 ghost use Rattle.j39_findings.specs.declared.checking.finding.Finding.TheVariants.{SilentAddress, SilentInPool};
 ghost use Rattle.j39_check.specs.FindingLines.{finding_line, finding_lines, finding_part, finding_report, finding_text, is_between, run_lines, signal_text};
 
-use j39_findings::{Finding, Plan, bad_run};
+use j39_findings::{Finding, bad_run};
+
+use j39_network::Plan;
 use j39_schedule::write_steps;
 use j39_text::{
     TextBuffer, group_label, group_pgn, group_selector_end, signal_bits, signal_end, signal_label,

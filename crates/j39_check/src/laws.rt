@@ -1,8 +1,8 @@
 //! The laws of what check, addresses, load and show write.
 ghost use Rattle.std.specs.Prelude.{ℕ, List};
-ghost use Rattle.j39_findings.specs.Kinds.{AreToldApart};
-ghost use Rattle.j39_findings.specs.VehiclePlans.{IsVehicleOf};
-ghost use Rattle.j39_findings.specs.declared.plan.Plan.{Plan};
+ghost use Rattle.j39_network.specs.Kinds.{AreToldApart};
+ghost use Rattle.j39_network.specs.VehiclePlans.{IsVehicleOf};
+ghost use Rattle.j39_network.specs.declared.plan.Plan.{Plan};
 ghost use Rattle.j39_check.specs.AddressesText.{HasOneAddressesReport};
 ghost use Rattle.j39_check.specs.CheckText.{HasOneRefusal, HasOneReport, IsNotRefused};
 ghost use Rattle.j39_check.specs.LoadText.{HasOneLoadReport};

@@ -1,10 +1,10 @@
 //! A law of identifiers on a live bus.
 ghost use Rattle.std.specs.Prelude.{◌≡◌, ◌≢◌, ℕ, List, true};
 ghost use Rattle.j39_findings.specs.Findings.{Clean};
-ghost use Rattle.j39_findings.specs.declared.plan.Plan.{Plan as Plans};
-ghost use Rattle.j39_findings.specs.declared.plan.flow_plan.FlowPlan.{FlowPlan as PlannedFlows};
-ghost use Rattle.j39_findings.specs.declared.plan.group_plan.GroupPlan.{GroupPlan as PlannedGroups};
-ghost use Rattle.j39_findings.specs.declared.steps.Step.{Step as Steps};
+ghost use Rattle.j39_network.specs.declared.plan.Plan.{Plan as Plans};
+ghost use Rattle.j39_network.specs.declared.plan.flow_plan.FlowPlan.{FlowPlan as PlannedFlows};
+ghost use Rattle.j39_network.specs.declared.plan.group_plan.GroupPlan.{GroupPlan as PlannedGroups};
+ghost use Rattle.j39_network.specs.declared.steps.Step.{Step as Steps};
 ghost use Rattle.j39_load.specs.Loads.{group_ident};
 ghost use Rattle.j39_load.specs.Ranks.{AreTwinFlows, IsShortFlow};
 ghost use Rattle.j39_world.specs.Run.{Run, is_on};

@@ -5,7 +5,8 @@ ghost use Rattle.j39_check.specs.LoadText.{IsLoadReport, hides_times, is_untold,
 use crate::finding_lines::{is_between, write_lines};
 use crate::load_lines::{write_load_findings, write_loads};
 use crate::plan_report::write_findings;
-use j39_findings::{Finding, Plan, check};
+use j39_findings::{Finding, check};
+use j39_network::Plan;
 use j39_load::{LoadFinding, Loads, all_findings};
 use j39_stream::Verdict;
 use j39_text::TextBuffer;

@@ -6,7 +6,7 @@ ghost use Rattle.j39_stream.specs.Streams.{plan_limits};
 
 mod refusals;
 
-use j39_findings::Plan;
+use j39_network::Plan;
 use j39_plan::{PlanError, read_plan};
 use j39_stream::{Fault, Sink, Source, put_all, read_whole};
 use refusals::refusal;

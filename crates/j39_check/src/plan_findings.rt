@@ -4,7 +4,9 @@ ghost use Rattle.std.specs.List.{list_all};
 ghost use Rattle.j39_check.specs.FoundInPlan.{ArePlanFindings, are_of_times, is_of_times};
 ghost use Rattle.j39_load.specs.LoadFindings.{load_finding_number};
 
-use j39_findings::{Findings, Plan, check};
+use j39_findings::{Findings, check};
+
+use j39_network::Plan;
 use j39_load::{LoadFinding, check_load};
 use std::alloc::{AllocError, Global};
 

@@ -4,7 +4,7 @@ ghost use Rattle.j39_stream.specs.CommandEnds.{AnswersWhole, IsOfAny, PutsText};
 ghost use Rattle.j39_stream.specs.Streams.{plan_limits};
 
 use crate::plan_file::plan_text;
-use j39_findings::Plan;
+use j39_network::Plan;
 use j39_stream::{Fault, Sink, Source, Verdict, put_all};
 use j39_text::TextBuffer;
 use std::alloc::{AllocError, Global};
@@ -12,7 +12,7 @@ use std::alloc::{AllocError, Global};
 /// What is reported of a plan.
 pub(crate) trait Report {
     ghost use Rattle.std.specs.Prelude.{ℕ, List, IfOk};
-    ghost use Rattle.j39_findings.specs.declared.plan.Plan.{Plan as APlan};
+    ghost use Rattle.j39_network.specs.declared.plan.Plan.{Plan as APlan};
     ghost use Rattle.j39_stream.specs.declared.verdict.Verdict.{Verdict as AVerdict};
 
     /// This is written for a plan, with this verdict.

@@ -10,7 +10,7 @@ mod values;
 use flows::{write_flows, write_needs, write_requests};
 use groups::write_groups;
 use j39_claim::AddressSet;
-use j39_findings::{Bitrate, ErrorRate, Plan, Timing};
+use j39_network::{Bitrate, ErrorRate, Plan, Timing};
 use j39_id::Address;
 use j39_plan::{Key, Table};
 use j39_text::TextBuffer;

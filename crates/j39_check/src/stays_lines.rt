@@ -3,7 +3,9 @@ ghost use Rattle.std.specs.Prelude.{◌≡◌, ◌++◌, OnOk};
 ghost use Rattle.j39_check.specs.AddressesText.{stays_text, stays_word, staying_line, staying_lines};
 ghost use Rattle.j39_findings.specs.Standing.{stays_of};
 
-use j39_findings::{Standing, UnitPlan};
+use j39_findings::Standing;
+
+use j39_network::UnitPlan;
 use j39_text::TextBuffer;
 use std::alloc::AllocError;
 

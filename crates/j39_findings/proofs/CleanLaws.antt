@@ -1,5 +1,6 @@
 -- What 'no finding' says.
-use Rattle.std.proofs.Common.{◌≡◌, ℕ, ◌+◌, ◌*◌, ◌<◌, List, All, AllPairs, get_or, length, Bool, true, false, Decides, refl, sym, ◌∙◌, ◌≤◌, if◌then◌else◌, inl, inr, arith}
+use Rattle.std.proofs.Common.{◌≡◌, ℕ, ◌+◌, ◌*◌, ◌<◌, List, All, AllPairs, get_or, length, Bool, true, false, Decides, refl, sym, ◌∙◌, ◌≤◌, if◌then◌else◌, inl}
+use Rattle.std.proofs.Common.{inr, arith}
 use Rattle.std.proofs.lemmas.Bool.{cases_Bool, cases_lt, false≢true}
 use Rattle.std.proofs.lemmas.Bool.Decides.{not_from_Decides}
 use Rattle.std.proofs.lemmas.Option.{slice_get-get_or}
@@ -9,31 +10,34 @@ use Rattle.j39_id.specs.Pgn.{IsPgn, is_pgn}
 use Rattle.j39_id.specs.Proprietary.{is_proprietary}
 use Rattle.j39_signal.specs.Parts.{SignalParts}
 use Rattle.j39_signal.specs.Places.{WidthFits, IsInside, SharesBit, LaysOut, LaysOutFrom, width_fits}
-use Rattle.j39_findings.specs.declared.plan.Plan.{Plan}
-use Rattle.j39_findings.specs.declared.plan.group_plan.GroupPlan.{GroupPlan}
-use Rattle.j39_findings.specs.declared.plan.unit_plan.UnitPlan.{UnitPlan}
-use Rattle.j39_findings.specs.declared.plan.text_plan.TextPlan.{TextPlan}
+use Rattle.j39_network.specs.declared.plan.Plan.{Plan}
+use Rattle.j39_network.specs.declared.plan.group_plan.GroupPlan.{GroupPlan}
+use Rattle.j39_network.specs.declared.plan.unit_plan.UnitPlan.{UnitPlan}
+use Rattle.j39_network.specs.declared.plan.text_plan.TextPlan.{TextPlan}
 use Rattle.j39_findings.specs.declared.checking.finding.Finding.TheVariants.{SameName, SameFixedAddress, TooFewAddresses, BadPgn, SamePgn, SignalWidth}
-use Rattle.j39_findings.specs.declared.checking.finding.Finding.TheVariants.{SignalOutside, SignalOverlap, FlowToOne, FlowToSelf, FlowRepeated, KeptAddress, PrivateUnsent, RecordOverlap, TextOutside, NeedUnmet}
-use Rattle.j39_findings.specs.declared.checking.finding.Finding.TheVariants.{RequestUnanswered, RequestUnheard, AnswerAstray, WhenOutside, RequestRepeated}
-use Rattle.j39_findings.specs.Kinds.{MayBeOne}
+use Rattle.j39_findings.specs.declared.checking.finding.Finding.TheVariants.{SignalOutside, SignalOverlap, FlowToOne, FlowToSelf, FlowRepeated, KeptAddress}
+use Rattle.j39_findings.specs.declared.checking.finding.Finding.TheVariants.{PrivateUnsent, RecordOverlap, TextOutside, NeedUnmet, RequestUnanswered}
+use Rattle.j39_findings.specs.declared.checking.finding.Finding.TheVariants.{RequestUnheard, AnswerAstray, WhenOutside, RequestRepeated, SilentAddress}
+use Rattle.j39_findings.specs.declared.checking.finding.Finding.TheVariants.{SilentInPool, FlowContested}
+use Rattle.j39_network.specs.Kinds.{MayBeOne}
 use Rattle.j39_rules.specs.ListPlaces.{ValueAt, PairAt}
-use Rattle.j39_findings.specs.Findings.{EndsOutside, IsSelectorInside, IsProprietary, HasBadPgn, IsOutside, Clean}
-use Rattle.j39_findings.specs.SignalPlaces.{room_of_signal}
-use Rattle.j39_signal.specs.Selectors.{selector_end}
-use Rattle.j39_findings.specs.Findings.{IsServed, GoesUnanswered, GoesUnheard, IsAnsweredAstray, AskTheSame}
-use Rattle.j39_findings.specs.CleanParts.{CanBePlanned, IsAnsweredWell, LiesInside, CleanParts}
-use Rattle.j39_findings.specs.declared.checking.finding.Finding.TheVariants.{SilentAddress, SilentInPool, FlowContested}
+use Rattle.j39_findings.specs.Findings.{EndsOutside, IsProprietary, HasBadPgn, IsOutside, Clean, GoesUnanswered, GoesUnheard, IsAnsweredAstray, AskTheSame}
 use Rattle.j39_findings.specs.Findings.{IsFlowContested, IsSilentInPool}
-use Rattle.j39_findings.specs.CleanParts.{IsUnreached}
-use Rattle.j39_findings.specs.Lengths.{IsLengthOf}
-use Rattle.j39_findings.specs.TextPlaces.{last_byte}
-use Rattle.j39_findings.specs.Records.{signals_in}
+use Rattle.j39_network.specs.PlannedGroups.{IsSelectorInside}
+use Rattle.j39_network.specs.SignalPlaces.{room_of_signal}
+use Rattle.j39_signal.specs.Selectors.{selector_end}
+use Rattle.j39_network.specs.Serving.{IsServed}
+use Rattle.j39_findings.specs.CleanParts.{CanBePlanned, LiesInside, CleanParts, IsUnreached}
+use Rattle.j39_network.specs.PlannedRequests.{IsAnsweredWell}
+use Rattle.j39_network.specs.Lengths.{IsLengthOf}
+use Rattle.j39_network.specs.TextPlaces.{last_byte}
+use Rattle.j39_network.specs.Records.{signals_in}
 use Rattle.j39_findings.proofs.RecordBits.{IsApart, bits_once, laid_with_records}
-use Rattle.j39_findings.proofs.Boxes.{names_apart}
+use Rattle.j39_network.proofs.Boxes.{names_apart}
 use Rattle.j39_findings.proofs.WhoIsAlone.{Decides-alone}
-use Rattle.j39_findings.proofs.Deciding.{Decides-differ_in_value, Decides-is_pgn, Decides-is_proprietary, Decides-sends_some, Decides-some_meets}
-use Rattle.j39_findings.proofs.Deciding.{Decides-is_served, Decides-is_served_to_one, Decides-is_served_to_all, asks_one_or_all, served_to_one, served_to_all}
+use Rattle.j39_findings.proofs.Deciding.{Decides-differ_in_value, Decides-is_pgn, Decides-is_proprietary, Decides-sends_some, Decides-is_served_to_one}
+use Rattle.j39_findings.proofs.Deciding.{Decides-is_served_to_all, asks_one_or_all, served_to_one, served_to_all}
+use Rattle.j39_network.proofs.Served.{Decides-some_meets, Decides-is_served}
 
 none_at : {A : Type 0} (P : A → Type 0) (xs : List A) → ((i : ℕ) → ¬ ValueAt P xs i) → All (λ x. ¬ P x) xs
 none_at P xs none = λ i d less meets. none i (record { value = get_or xs i d; value_is = slice_get-get_or xs i d less; meets = meets })

@@ -1,24 +1,26 @@
 -- The run of a conflict is given exactly where there is one.
-use Rattle.std.proofs.Common.{◌≡◌, ◌≢◌, ℕ, ◌<◌, ◌⊎◌, Bool, true, false, if◌then◌else◌}
-use Rattle.std.proofs.Common.{nat_lt, List, Option, Some, None, Decides, refl, sym, ◌∙◌, inl, inr, arith}
+use Rattle.std.proofs.Common.{◌≡◌, ◌≢◌, ℕ, ◌<◌, ◌⊎◌, Bool, true, false, if◌then◌else◌, nat_lt, List, Option, Some, None, Decides, refl, sym, ◌∙◌, inl, inr}
+use Rattle.std.proofs.Common.{arith}
 use Rattle.std.specs.List.{slice_get}
 use Rattle.std.proofs.lemmas.Bool.{cases_Bool}
 use Rattle.std.proofs.lemmas.Bool.Decides.{Decides-and, Decides-not, Decides-ltb, not_from_Decides}
 use Rattle.std.proofs.lemmas.Option.{same_Some}
-use Rattle.j39_findings.specs.declared.plan.Plan.{Plan}
-use Rattle.j39_findings.specs.declared.plan.unit_plan.UnitPlan.{UnitPlan}
+use Rattle.j39_network.specs.declared.plan.Plan.{Plan}
+use Rattle.j39_network.specs.declared.plan.unit_plan.UnitPlan.{UnitPlan}
 use Rattle.j39_findings.specs.declared.checking.finding.Finding.{Finding}
 use Rattle.j39_findings.specs.declared.checking.finding.Finding.TheVariants.{SameName, SameFixedAddress, TooFewAddresses, BadPgn, SamePgn, SignalWidth}
-use Rattle.j39_findings.specs.declared.checking.finding.Finding.TheVariants.{SignalOutside, SignalOverlap, FlowToOne, FlowToSelf, FlowRepeated, KeptAddress, PrivateUnsent, RecordOverlap, TextOutside, NeedUnmet}
-use Rattle.j39_findings.specs.declared.checking.finding.Finding.TheVariants.{RequestUnanswered, RequestUnheard, AnswerAstray, WhenOutside, RequestRepeated}
-use Rattle.j39_findings.specs.declared.checking.finding.Finding.TheVariants.{SilentAddress, SilentInPool, FlowContested}
-use Rattle.j39_findings.specs.declared.steps.Step.{Step}
-use Rattle.j39_findings.specs.Kinds.{MayBeOne}
+use Rattle.j39_findings.specs.declared.checking.finding.Finding.TheVariants.{SignalOutside, SignalOverlap, FlowToOne, FlowToSelf, FlowRepeated, KeptAddress}
+use Rattle.j39_findings.specs.declared.checking.finding.Finding.TheVariants.{PrivateUnsent, RecordOverlap, TextOutside, NeedUnmet, RequestUnanswered}
+use Rattle.j39_findings.specs.declared.checking.finding.Finding.TheVariants.{RequestUnheard, AnswerAstray, WhenOutside, RequestRepeated, SilentAddress}
+use Rattle.j39_findings.specs.declared.checking.finding.Finding.TheVariants.{SilentInPool, FlowContested}
+use Rattle.j39_network.specs.declared.steps.Step.{Step}
+use Rattle.j39_network.specs.Kinds.{MayBeOne}
 use Rattle.j39_findings.specs.Findings.{HaveSameFixedAddress}
-use Rattle.j39_findings.specs.ConflictRuns.{conflict_steps, AreInConflict, TellsOfConflict, IsConflictRun, are_in_conflict}
-use Rattle.j39_findings.specs.ConflictRuns.{steps_between, run_of_units, run_of_places, conflict_run, RunsAreExact}
-use Rattle.j39_findings.proofs.Deciding.{Decides-have_same_fixed_address, Decides-may_be_one}
-use Rattle.j39_findings.proofs.Boxes.{names_apart}
+use Rattle.j39_findings.specs.ConflictRuns.{conflict_steps, AreInConflict, TellsOfConflict, IsConflictRun, are_in_conflict, steps_between, run_of_units}
+use Rattle.j39_findings.specs.ConflictRuns.{run_of_places, conflict_run, RunsAreExact}
+use Rattle.j39_findings.proofs.Deciding.{Decides-have_same_fixed_address}
+use Rattle.j39_network.proofs.Served.{Decides-may_be_one}
+use Rattle.j39_network.proofs.Boxes.{names_apart}
 
 conflict_decides : (u v : UnitPlan) → Decides (are_in_conflict u v) (HaveSameFixedAddress u v × (¬ MayBeOne u v))
 unfolding are_in_conflict

@@ -1,14 +1,13 @@
 -- Each test decides its statement.
-use Rattle.std.proofs.Common.{◌≡◌, ℕ, zero, suc, ◌+◌, ◌*◌, ◌<◌, ◌≤◌, ◌==◌, ◌⊎◌, List, [], ◌∷◌, Bool, true, false, cond, not, ◌||◌, ◌&&◌}
-use Rattle.std.proofs.Common.{nat_le, nat_lt, Option, Some, None, Contains, Decides, refl, sym, ◌∙◌, inl, inr, subst, ◌%◌, arith}
+use Rattle.std.proofs.Common.{◌≡◌, ℕ, zero, suc, ◌+◌, ◌*◌, ◌<◌, ◌≤◌, ◌==◌, ◌⊎◌, List, [], ◌∷◌, Bool, true, false, cond, not, ◌&&◌, nat_le, nat_lt, Option, Some}
+use Rattle.std.proofs.Common.{None, Contains, Decides, refl, sym, ◌∙◌, inl, inr, subst, ◌%◌, arith}
 use Rattle.std.specs.List.{count_by, slice_get, list_any}
-use Rattle.std.specs.FinSet.{contains}
+use Rattle.std.specs.FinSet.{contains, FinSet}
 use Rattle.std.proofs.lemmas.List.Sums.{sum_by-cons}
 use Rattle.std.proofs.lemmas.Bool.{false≢true, leb-true, le-leb, cases_Bool, cases_lt}
 use Rattle.std.proofs.lemmas.Bool.Decides.{Decides-eqb, Decides-and, Decides-or, Decides-not, Decides-like, Decides-ltb}
 use Rattle.std.proofs.lemmas.Option.{none-some, same_Some}
 use Rattle.std.proofs.lemmas.Slice.Eq.{bytes_eq-Decides}
-use Rattle.std.specs.FinSet.{FinSet}
 use Rattle.std.specs.Ordering.{nat_cmp}
 use Rattle.j39_id.specs.Name.{is_arbitrary}
 use Rattle.j39_id.specs.Limits.{frame_bytes}
@@ -20,46 +19,39 @@ use Rattle.j39_signal.specs.Parts.{SignalParts}
 use Rattle.j39_signal.specs.Places.{WidthFits, IsInside, SharesBit, shares_bit}
 use Rattle.j39_signal.proofs.Sharing.{shared_by_test}
 use Rattle.j39_rules.specs.ListPlaces.{SomeMeets, SoManyMeet, ValueAt}
-use Rattle.j39_findings.specs.declared.plan.unit_plan.UnitPlan.{UnitPlan}
-use Rattle.j39_findings.specs.declared.plan.group_plan.GroupPlan.{GroupPlan}
-use Rattle.j39_findings.specs.declared.plan.flow_plan.FlowPlan.{FlowPlan}
-use Rattle.j39_findings.specs.declared.plan.need_plan.NeedPlan.{NeedPlan}
-use Rattle.j39_findings.specs.declared.plan.request_plan.RequestPlan.{RequestPlan}
-use Rattle.j39_findings.specs.declared.plan.text_plan.TextPlan.{TextPlan}
-use Rattle.j39_findings.specs.TextPlaces.{last_byte}
-use Rattle.j39_findings.specs.declared.plan.to.To.{To}
-use Rattle.j39_findings.specs.declared.plan.to.To.TheVariants.{All, One}
-use Rattle.j39_findings.specs.Findings.{HaveSilentAddress, IsSilentInPool}
-use Rattle.j39_findings.specs.Found.{have_silent_address, is_silent_in_pool}
-use Rattle.j39_findings.specs.Kinds.{kind_of_name, MayBeOne, may_be_one}
-use Rattle.j39_findings.specs.Findings.{HaveSameFixedAddress, NeedsPoolAddress, PrefersKept, IsProprietary, IsForNoPlan}
-use Rattle.j39_findings.specs.Findings.{IsWronglyPrivate, HasBadPgn, Sends, DoReceiversMeet, AreSentTogether, HaveSamePgn, IsPrivateUnsent, IsOneFrameToAll, MayBeOneFrameToAll, CannotGoToOne, GoesToItsSender, AreOneFlow, IsOutside, Meets, IsUnmet}
-use Rattle.j39_findings.specs.Findings.{IsToOne, Serves, IsServed, IsServedToOne, IsServedToAll, AsksOne, AsksAll, GoesUnanswered, GoesUnheard, MayNameReceiver, IsAnsweredAstray, AskForOneNumber, AskTheSame, IsAskedFor}
-use Rattle.j39_findings.specs.Found.{have_same_fixed_address, needs_pool_address, prefers_kept, is_for_no_plan, is_wrongly_private}
-use Rattle.j39_findings.specs.SignalPlaces.{room_of_signal}
+use Rattle.j39_network.specs.declared.plan.unit_plan.UnitPlan.{UnitPlan}
+use Rattle.j39_network.specs.declared.plan.group_plan.GroupPlan.{GroupPlan}
+use Rattle.j39_network.specs.declared.plan.flow_plan.FlowPlan.{FlowPlan}
+use Rattle.j39_network.specs.declared.plan.need_plan.NeedPlan.{NeedPlan}
+use Rattle.j39_network.specs.declared.plan.request_plan.RequestPlan.{RequestPlan}
+use Rattle.j39_network.specs.declared.plan.text_plan.TextPlan.{TextPlan}
+use Rattle.j39_network.specs.TextPlaces.{last_byte}
+use Rattle.j39_network.specs.declared.plan.to.To.{To}
+use Rattle.j39_network.specs.declared.plan.to.To.TheVariants.{All, One}
+use Rattle.j39_findings.specs.Findings.{HaveSilentAddress, IsSilentInPool, HaveSameFixedAddress, PrefersKept, IsProprietary, IsForNoPlan, IsWronglyPrivate}
+use Rattle.j39_findings.specs.Findings.{HasBadPgn, DoReceiversMeet, AreSentTogether, HaveSamePgn, IsPrivateUnsent, CannotGoToOne, GoesToItsSender, AreOneFlow}
+use Rattle.j39_findings.specs.Findings.{IsOutside, IsUnmet, GoesUnanswered, GoesUnheard, IsAnsweredAstray, AskForOneNumber, AskTheSame}
+use Rattle.j39_findings.specs.Found.{have_silent_address, is_silent_in_pool, have_same_fixed_address, needs_pool_address, prefers_kept, is_for_no_plan}
+use Rattle.j39_findings.specs.Found.{is_wrongly_private, is_selector_outside, has_bad_pgn, sends, do_receivers_meet, sends_beside, are_sent_together}
+use Rattle.j39_findings.specs.Found.{have_same_pgn, is_private_unsent, has_other_width, ends_outside, is_one_frame_to_all, may_be_one_frame_to_all, is_group_of}
+use Rattle.j39_findings.specs.Found.{have_same_receiver, cannot_go_to_one, goes_to_its_sender, are_one_flow, lies_outside, is_unmet, is_served_to_one}
+use Rattle.j39_findings.specs.Found.{is_served_to_all, goes_unanswered, goes_unheard, may_name_receiver, is_one_astray, is_all_astray, is_answered_astray}
+use Rattle.j39_findings.specs.Found.{ask_for_one_number, ask_the_same}
+use Rattle.j39_network.specs.UnitAddresses.{NeedsPoolAddress}
+use Rattle.j39_network.specs.PlannedFlows.{Sends, IsOneFrameToAll, MayBeOneFrameToAll, IsToOne}
+use Rattle.j39_network.specs.Serving.{Serves, IsServed, IsServedToOne, IsServedToAll, AsksOne, AsksAll, MayNameReceiver, meets}
+use Rattle.j39_network.specs.SignalPlaces.{room_of_signal}
 use Rattle.j39_signal.specs.Selectors.{DifferInValue, differ_in_value, selector_end}
 use Rattle.j39_signal.specs.declared.selector.Selector.{Selector}
 use Rattle.std.specs.Option.{ForSome, option_map_or}
-use Rattle.j39_findings.specs.Findings.{IsSelectorInside}
-use Rattle.j39_findings.specs.Found.{is_selector_outside}
-use Rattle.j39_findings.specs.Found.{has_bad_pgn, sends, do_receivers_meet, sends_beside, are_sent_together, have_same_pgn, is_private_unsent, has_other_width, ends_outside, is_one_frame_to_all, may_be_one_frame_to_all, is_group_of}
-use Rattle.j39_findings.specs.Found.{is_to_one, is_to, have_same_receiver, cannot_go_to_one, goes_to_its_sender, are_one_flow, lies_outside}
-use Rattle.j39_findings.specs.Found.{is_from, is_reached, meets, is_unmet}
-use Rattle.j39_findings.specs.Found.{serves, is_served, is_served_to_one, is_served_to_all, goes_unanswered, goes_unheard, may_name_receiver, is_one_astray, is_all_astray, is_answered_astray, ask_for_one_number, ask_the_same, is_asked_for}
+use Rattle.j39_network.specs.PlannedGroups.{IsSelectorInside}
+use Rattle.j39_network.proofs.Served.{not_is, Decides-is_to_one, Decides-is_to, some_decides, to_all_decides, Decides-serves, Decides-is_served}
+use Rattle.j39_network.proofs.Served.{Decides-some_meets}
 
 Decides-leb : (a b : ℕ) → Decides (nat_le a b) (a ≤ b)
 Decides-leb a b = (leb-true a b, le-leb a b)
 
 -- ---- units
-
-not_is : (b : Bool) → Decides (not b) (b ≡ false)
-not_is true = (λ e. sym e, λ e. sym e)
-not_is false = (λ e. refl, λ e. refl)
-
-pub Decides-may_be_one : (u v : UnitPlan) → Decides (may_be_one u v) (MayBeOne u v)
-Decides-may_be_one u v =
-    Decides-and _ _ (Decides-eqb (kind_of_name u.name) (kind_of_name v.name))
-    (Decides-or _ _ (Decides-eqb u.name v.name) (Decides-or _ _ (λ e. e, λ e. e) (λ e. e, λ e. e)))
 
 pub Decides-have_same_fixed_address : (u v : UnitPlan) → Decides (have_same_fixed_address u v) (HaveSameFixedAddress u v)
 Decides-have_same_fixed_address u v =
@@ -182,31 +174,10 @@ Decides-lies_outside g t = Decides-or _ _ (Decides-ltb (g.length + 1) t.byte) (D
 
 -- ---- flows
 
-Decides-is_to_one : (to : To) → Decides (is_to_one to) ((receiver : ℕ) × (to ≡ One receiver))
-Decides-is_to_one All = (λ e. absurd (false≢true e), λ (r, e). cc)
-Decides-is_to_one (One receiver) = (λ e. (receiver, refl), λ h. refl)
-
-Decides-is_to : (to : To) (unit : ℕ) → Decides (is_to to unit) (to ≡ One unit)
-Decides-is_to All unit = (λ e. absurd (false≢true e), λ e. cc)
-Decides-is_to (One receiver) unit = Decides-like _ (λ e. cc) (λ e. cc) (Decides-eqb receiver unit)
-
 Decides-have_same_receiver : (to other : To) → Decides (have_same_receiver to other) (to ≡ other)
 Decides-have_same_receiver All All = (λ e. refl, λ e. refl)
 Decides-have_same_receiver All (One receiver) = (λ e. absurd (false≢true e), λ e. cc)
 Decides-have_same_receiver (One receiver) other = Decides-like _ (λ e. sym e) (λ e. sym e) (Decides-is_to other receiver)
-
--- the first value meets P, or one behind it
-some_from : {A : Type 0} (P : A → Type 0) (x : A) (xs : List A) → P x ⊎ SomeMeets P xs → SomeMeets P (x ∷ xs)
-some_from P x xs (inl here) = (0, record { value = x; value_is = refl; meets = here })
-some_from P x xs (inr (i, v)) = (suc i, record { value = v.value; value_is = v.value_is; meets = v.meets })
-
-some_parts : {A : Type 0} (P : A → Type 0) (x : A) (xs : List A) → SomeMeets P (x ∷ xs) → P x ⊎ SomeMeets P xs
-some_parts P x xs (zero, v) = inl (subst P (sym (same_Some _ _ v.value_is)) v.meets)
-some_parts P x xs (suc i, v) = inr (i, record { value = v.value; value_is = v.value_is; meets = v.meets })
-
-pub some_decides : {A : Type 0} {test : A → Bool} (P : A → Type 0) → ((x : A) → Decides (test x) (P x)) → (xs : List A) → Decides (list_any test xs) (SomeMeets P xs)
-some_decides P by [] = (λ e. absurd (false≢true e), λ (i, v). absurd (none-some _ v.value_is))
-some_decides P by (x ∷ xs) = Decides-like _ (some_from P x xs) (some_parts P x xs) (Decides-or _ _ (by x) (some_decides P by xs))
 
 one_frame_decides : (g : GroupPlan) → Decides (is_one_frame_to_all g) (IsOneFrameToAll g)
 one_frame_decides g = Decides-and _ _ (Decides-leb pdu2_first (pf_of g.pgn)) (Decides-leb g.most frame_bytes)
@@ -233,17 +204,6 @@ Decides-are_one_flow f h =
     (Decides-and _ _ (Decides-eqb f.group h.group) (Decides-and _ _ (Decides-eqb f.sender h.sender) (Decides-have_same_receiver f.to h.to)))
 
 -- ---- private groups
-
-all_from : (to : To) → not (is_to_one to) ≡ true → to ≡ All
-all_from All is = refl
-all_from (One receiver) is = absurd (false≢true is)
-
-is_all : (to : To) → to ≡ All → not (is_to_one to) ≡ true
-is_all All is = refl
-is_all (One receiver) is = cc
-
-to_all_decides : (to : To) → Decides (not (is_to_one to)) (to ≡ All)
-to_all_decides to = (all_from to, is_all to)
 
 Decides-sends : (gs : List GroupPlan) (g : GroupPlan) (f : FlowPlan) → Decides (sends gs g f) (Sends gs g f)
 Decides-sends gs g f =
@@ -300,20 +260,6 @@ Decides-is_private_unsent gs fs g =
     Decides-and _ _ (λ e. e, λ e. e) (Decides-not _ (Decides-sends_some gs fs g))
 
 -- ---- requests
-
-reaches_decides : (to : To) (unit : ℕ) → Decides (is_reached to unit) ((to ≡ All) ⊎ (to ≡ One unit))
-reaches_decides to unit = Decides-or _ _ (to_all_decides to) (Decides-is_to to unit)
-
-pub Decides-serves : (r : RequestPlan) (f : FlowPlan) → Decides (serves r f) (Serves r f)
-Decides-serves r f =
-    Decides-like _ (λ h. record { group = h.0; other = h.1.0; asked = h.1.1.0; reaches = h.1.1.1 })
-    (λ m. (m.group, (m.other, (m.asked, m.reaches))))
-    (Decides-and _ _ (Decides-eqb f.group r.group)
-    (Decides-and _ _ (Decides-not _ (Decides-eqb f.sender r.sender))
-    (Decides-and _ _ (reaches_decides r.to f.sender) (reaches_decides f.to r.sender))))
-
-pub Decides-is_served : (fs : List FlowPlan) (r : RequestPlan) → Decides (is_served fs r) (IsServed fs r)
-Decides-is_served fs r = some_decides (Serves r) (Decides-serves r) fs
 
 pub Decides-is_served_to_one : (fs : List FlowPlan) (r : RequestPlan) → Decides (is_served_to_one fs r) (IsServedToOne fs r)
 Decides-is_served_to_one fs r =
@@ -384,31 +330,6 @@ served_to_one fs r (i, v) none = elim (one_or_all v.value.to) [
 ]
 
 -- ---- needs
-
-is_from_decides : (from : Option ℕ) (sender : ℕ) → Decides (is_from from sender) ((u : ℕ) → from ≡ Some u → sender ≡ u)
-is_from_decides None sender = (λ e u is. absurd (none-some _ is), λ h. refl)
-is_from_decides (Some unit) sender =
-    Decides-like _ (λ e u is. e ∙ same_Some _ _ is) (λ h. h unit refl) (Decides-eqb sender unit)
-
-unless : (b test : Bool) (P : Type 0) → Decides test P → Decides (not b || test) (b ≡ true → P)
-unless true test P by = (λ e is. by.0 e, λ h. by.1 (h refl))
-unless false test P by = (λ e is. absurd (false≢true is), λ h. refl)
-
-asked_for_decides : (rs : List RequestPlan) (f : FlowPlan) → Decides (is_asked_for rs f) (IsAskedFor rs f)
-asked_for_decides rs f = unless f.on_request _ _ (some_decides (λ r. Serves r f) (λ r. Decides-serves r f) rs)
-
-pub Decides-meets : (rs : List RequestPlan) (need : NeedPlan) (flow : FlowPlan) → Decides (meets rs need flow) (Meets rs need flow)
-Decides-meets rs need flow =
-    Decides-like _ (λ h. record { group = h.0; other = h.1.0; from = h.1.1.0; reaches = h.1.1.1.0; comes = h.1.1.1.1 })
-    (λ m. (m.group, (m.other, (m.from, (m.reaches, m.comes)))))
-    (Decides-and _ _ (Decides-eqb flow.group need.group)
-    (Decides-and _ _ (Decides-not _ (Decides-eqb flow.sender need.unit))
-    (Decides-and _ _ (is_from_decides need.from flow.sender)
-    (Decides-and _ _ (reaches_decides flow.to need.unit) (asked_for_decides rs flow)))))
-
-pub Decides-some_meets : (rs : List RequestPlan) (fs : List FlowPlan) (need : NeedPlan)
-    → Decides (list_any (meets rs need) fs) (SomeMeets (Meets rs need) fs)
-Decides-some_meets rs fs need = some_decides (Meets rs need) (Decides-meets rs need) fs
 
 pub Decides-is_unmet : (rs : List RequestPlan) (fs : List FlowPlan) (need : NeedPlan) → Decides (is_unmet rs fs need) (IsUnmet rs fs need)
 Decides-is_unmet rs fs need = Decides-not _ (Decides-some_meets rs fs need)

@@ -1,40 +1,44 @@
 -- What each part of the list of findings has: what holds, in order.
-use Rattle.std.proofs.Common.{◌≡◌, ℕ, ◌<◌, ◌≤◌, nat_lt, List, [], ◌∷◌, ◌++◌, Bool, true, false, if◌then◌else◌, Option, None}
-use Rattle.std.proofs.Common.{Some, Contains, Decides, refl, sym, ◌∙◌, ap, subst, inl, inr, arith}
+use Rattle.std.proofs.Common.{◌≡◌, ℕ, ◌<◌, ◌≤◌, nat_lt, List, [], ◌∷◌, ◌++◌, Bool, true, false, if◌then◌else◌, Option, None, Some, Contains, Decides, refl, sym}
+use Rattle.std.proofs.Common.{◌∙◌, ap, subst, inl, inr, arith}
 use Rattle.std.specs.List.{slice_get, count_by}
 use Rattle.std.specs.Option.{option_map_or}
 use Rattle.j39_signal.specs.Parts.{SignalParts}
 use Rattle.std.proofs.lemmas.Bool.Decides.{Decides-ltb}
 use Rattle.std.proofs.lemmas.List.Elements.{Contains-append_cases}
 use Rattle.j39_signal.specs.Places.{WidthFits, SharesBit, shares_bit}
-use Rattle.j39_findings.specs.declared.plan.Plan.{Plan}
-use Rattle.j39_findings.specs.declared.plan.group_plan.GroupPlan.{GroupPlan}
+use Rattle.j39_network.specs.declared.plan.Plan.{Plan}
+use Rattle.j39_network.specs.declared.plan.group_plan.GroupPlan.{GroupPlan}
 use Rattle.j39_findings.specs.declared.checking.finding.Finding.{Finding}
 use Rattle.j39_findings.specs.declared.checking.finding.Finding.TheVariants.{SameName, SameFixedAddress, TooFewAddresses, BadPgn, SamePgn, SignalWidth}
-use Rattle.j39_findings.specs.declared.checking.finding.Finding.TheVariants.{SignalOutside, SignalOverlap, FlowToOne, FlowToSelf, FlowRepeated, KeptAddress, PrivateUnsent, RecordOverlap, TextOutside, NeedUnmet}
-use Rattle.j39_findings.specs.declared.checking.finding.Finding.TheVariants.{RequestUnanswered, RequestUnheard, AnswerAstray, WhenOutside, RequestRepeated}
-use Rattle.j39_findings.specs.declared.checking.finding.Finding.TheVariants.{SilentAddress, SilentInPool, FlowContested}
+use Rattle.j39_findings.specs.declared.checking.finding.Finding.TheVariants.{SignalOutside, SignalOverlap, FlowToOne, FlowToSelf, FlowRepeated, KeptAddress}
+use Rattle.j39_findings.specs.declared.checking.finding.Finding.TheVariants.{PrivateUnsent, RecordOverlap, TextOutside, NeedUnmet, RequestUnanswered}
+use Rattle.j39_findings.specs.declared.checking.finding.Finding.TheVariants.{RequestUnheard, AnswerAstray, WhenOutside, RequestRepeated, SilentAddress}
+use Rattle.j39_findings.specs.declared.checking.finding.Finding.TheVariants.{SilentInPool, FlowContested}
 use Rattle.j39_rules.specs.ListPlaces.{found_if, in_each, each, pairs, ValueAt, PairAt}
 use Rattle.j39_claim.specs.AddressSets.{free_count}
-use Rattle.j39_findings.specs.Kinds.{MayBeOne}
-use Rattle.j39_findings.specs.Findings.{HaveSameFixedAddress, HasBadPgn, HaveSamePgn, CannotGoToOne}
-use Rattle.j39_findings.specs.Findings.{EndsOutside, GoesToItsSender, AreOneFlow, Holds, PrefersKept, IsPrivateUnsent, IsOutside, IsUnmet, IsBefore, finding_number, places_of}
-use Rattle.j39_findings.specs.Findings.{GoesUnanswered, GoesUnheard, IsAnsweredAstray, AskTheSame, IsSelectorInside}
-use Rattle.j39_findings.specs.Findings.{HaveSilentAddress, IsSilentInPool, IsFlowContested}
-use Rattle.j39_findings.specs.Records.{record_count}
-use Rattle.j39_findings.specs.Found.{silent_findings, contested_findings, is_unit_alone}
-use Rattle.j39_findings.specs.Found.{needed_addresses, needs_pool_address, too_few_addresses, unit_findings, group_findings, has_other_width}
-use Rattle.j39_findings.specs.Found.{ends_outside, lies_outside, overlap_findings, signal_findings, flow_findings, kept_findings, unsent_findings, overlaps_of, group_overlaps, do_records_meet, record_findings, text_findings, need_findings, request_findings}
+use Rattle.j39_network.specs.Kinds.{MayBeOne}
+use Rattle.j39_findings.specs.Findings.{HaveSameFixedAddress, HasBadPgn, HaveSamePgn, CannotGoToOne, EndsOutside, GoesToItsSender, AreOneFlow, Holds}
+use Rattle.j39_findings.specs.Findings.{PrefersKept, IsPrivateUnsent, IsOutside, IsUnmet, IsBefore, finding_number, places_of, GoesUnanswered, GoesUnheard}
+use Rattle.j39_findings.specs.Findings.{IsAnsweredAstray, AskTheSame, HaveSilentAddress, IsSilentInPool, IsFlowContested}
+use Rattle.j39_network.specs.PlannedGroups.{IsSelectorInside}
+use Rattle.j39_network.specs.Records.{record_count}
+use Rattle.j39_findings.specs.Found.{silent_findings, contested_findings, is_unit_alone, needed_addresses, needs_pool_address, too_few_addresses, unit_findings}
+use Rattle.j39_findings.specs.Found.{group_findings, has_other_width, ends_outside, lies_outside, overlap_findings, signal_findings, flow_findings}
+use Rattle.j39_findings.specs.Found.{kept_findings, unsent_findings, overlaps_of, group_overlaps, do_records_meet, record_findings, text_findings}
+use Rattle.j39_findings.specs.Found.{need_findings, request_findings}
 use Rattle.j39_findings.proofs.Meeting.{of_signal_made, of_group_overlaps}
-use Rattle.j39_rules.proofs.Families.{Covers as CoversPart, Covers-append, Names, Order, before, each_family, each_inside, family, inside_family, made, of_first, pairs_family}
+use Rattle.j39_rules.proofs.Families.{Covers as CoversPart, Covers-append, Names, Order, before, each_family, each_inside, family, inside_family, made}
+use Rattle.j39_rules.proofs.Families.{of_first, pairs_family}
 use Rattle.j39_rules.proofs.Members.{of_in_each, of_found_if, of_each, of_pairs}
 use Rattle.j39_rules.proofs.Rising.{Rises, Rises-append, Rises-found_if, Rises-in_each, Rises-each, Rises-pairs}
-use Rattle.j39_findings.proofs.Deciding.{Decides-may_be_one, Decides-have_same_fixed_address, Decides-needs_pool_address, Decides-has_bad_pgn, passing_meet}
+use Rattle.j39_network.proofs.Served.{Decides-may_be_one}
+use Rattle.j39_findings.proofs.Deciding.{Decides-have_same_fixed_address, Decides-needs_pool_address, Decides-has_bad_pgn, passing_meet}
+use Rattle.j39_findings.proofs.Deciding.{Decides-have_silent_address, Decides-is_silent_in_pool, Decides-have_same_pgn, Decides-has_other_width}
+use Rattle.j39_findings.proofs.Deciding.{Decides-ends_outside, Decides-shares_bit, Decides-cannot_go_to_one, Decides-goes_to_its_sender, Decides-are_one_flow}
+use Rattle.j39_findings.proofs.Deciding.{Decides-prefers_kept, Decides-is_private_unsent, Decides-lies_outside, Decides-is_unmet, Decides-goes_unanswered}
+use Rattle.j39_findings.proofs.Deciding.{Decides-goes_unheard, Decides-is_answered_astray, Decides-ask_the_same, Decides-is_selector_outside}
 use Rattle.j39_findings.proofs.WhoIsAlone.{alone_by_list, Decides-contested}
-use Rattle.j39_findings.proofs.Deciding.{Decides-have_silent_address, Decides-is_silent_in_pool}
-use Rattle.j39_findings.proofs.Deciding.{Decides-have_same_pgn, Decides-has_other_width, Decides-ends_outside, Decides-shares_bit}
-use Rattle.j39_findings.proofs.Deciding.{Decides-cannot_go_to_one, Decides-goes_to_its_sender, Decides-are_one_flow, Decides-prefers_kept, Decides-is_private_unsent, Decides-lies_outside, Decides-is_unmet}
-use Rattle.j39_findings.proofs.Deciding.{Decides-goes_unanswered, Decides-goes_unheard, Decides-is_answered_astray, Decides-ask_the_same, Decides-is_selector_outside}
 
 -- the order of findings
 abbrev pub in_order : Order Finding

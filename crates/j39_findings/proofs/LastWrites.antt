@@ -1,13 +1,12 @@
 -- The raw number last put for a signal, and what is read of it.
-use Rattle.std.proofs.Common.{◌≡◌, ◌≢◌, ℕ, ◌<◌, List, [], ◌∷◌, ◌++◌, length}
-use Rattle.std.proofs.Common.{get_or, set, map, All, refl, sym, ◌∙◌, ap, arith}
+use Rattle.std.proofs.Common.{◌≡◌, ◌≢◌, ℕ, ◌<◌, List, [], ◌∷◌, ◌++◌, length, get_or, set, map, All, refl, sym, ◌∙◌, ap, arith}
 use Rattle.std.proofs.lemmas.List.{get_or-map, get_or-set_other, get_or-set_same, length-map, length-set}
 use Rattle.std.proofs.lemmas.List.Elements.{All-tail}
 use Rattle.j39_signal.specs.Bits.{raw_of}
 use Rattle.j39_signal.specs.Parts.{SignalParts}
 use Rattle.j39_signal.specs.Laid.{Write, Chain, last_raws, last_payload, KeepsWrites}
 use Rattle.j39_signal.specs.State.{state_of}
-use Rattle.j39_findings.specs.SoundSignals.{LeaveAlone, ReadsBack, ReadsLastGiven}
+use Rattle.j39_network.specs.SoundSignals.{LeaveAlone, ReadsBack, ReadsLastGiven}
 
 untouched : (raws : List ℕ) (writes : List Write) (place : ℕ) → LeaveAlone writes place → get_or (last_raws raws writes) place 0 ≡ get_or raws place 0
 untouched raws [] place alone = refl

@@ -1,5 +1,6 @@
 -- Which later records come onto other signals.
-use Rattle.std.proofs.Common.{◌≡◌, ℕ, ◌+◌, ◌-◌, ◌*◌, ◌/◌, ◌<◌, ◌≤◌, ◌⊎◌, max, Bool, true, false, if◌then◌else◌, Decides, List, [], Some, None, Option, Contains, refl, sym, ap, subst, ◌∙◌, inl, inr, arith}
+use Rattle.std.proofs.Common.{◌≡◌, ℕ, ◌+◌, ◌-◌, ◌*◌, ◌/◌, ◌<◌, ◌≤◌, ◌⊎◌, max, Bool, true, false, if◌then◌else◌, Decides, List, [], Some, None, Option, Contains}
+use Rattle.std.proofs.Common.{refl, sym, ap, subst, ◌∙◌, inl, inr, arith}
 use Rattle.std.specs.List.{slice_get}
 use Rattle.std.specs.Option.{option_map_or}
 use Rattle.std.proofs.Math.Nat.{div-lt_iff_lt-mul, lt-mul-div-succ, mul-le-mul_left, mul_assoc, mul_comm, one-le-mul}
@@ -7,12 +8,12 @@ use Rattle.std.proofs.lemmas.Bool.{false≢true, leb-true, le-leb}
 use Rattle.std.proofs.lemmas.Bool.Decides.{Decides-and, Decides-ltb, Decides-or}
 use Rattle.j39_signal.specs.Parts.{SignalParts}
 use Rattle.j39_signal.specs.Places.{Covers, SharesBit, end_of, further}
-use Rattle.j39_findings.specs.declared.plan.group_plan.GroupPlan.{GroupPlan}
+use Rattle.j39_network.specs.declared.plan.group_plan.GroupPlan.{GroupPlan}
 use Rattle.j39_findings.specs.declared.checking.finding.Finding.{Finding}
 use Rattle.j39_findings.specs.declared.checking.finding.Finding.TheVariants.{RecordOverlap}
 use Rattle.j39_rules.specs.ListPlaces.{found_if, in_each}
 use Rattle.j39_findings.specs.Findings.{ComesOnto, HasRecordsOver}
-use Rattle.j39_findings.specs.Records.{record_count}
+use Rattle.j39_network.specs.Records.{record_count}
 use Rattle.j39_findings.specs.Found.{first_near, comes_onto, do_records_meet, overlaps_of, group_overlaps}
 use Rattle.j39_findings.proofs.Deciding.{Decides-shares_bit}
 use Rattle.j39_rules.proofs.Members.{of_in_each, in_each_of, of_found_if, found_if_of}

@@ -5,13 +5,13 @@ use Rattle.std.proofs.lemmas.Bool.{false≢true}
 use Rattle.std.proofs.lemmas.List.Elements.{All-head, All-tail}
 use Rattle.j39_signal.specs.Parts.{SignalParts}
 use Rattle.j39_signal.specs.Places.{IsInside}
-use Rattle.j39_findings.specs.declared.plan.Plan.{Plan}
-use Rattle.j39_findings.specs.declared.plan.group_plan.GroupPlan.{GroupPlan}
+use Rattle.j39_network.specs.declared.plan.Plan.{Plan}
+use Rattle.j39_network.specs.declared.plan.group_plan.GroupPlan.{GroupPlan}
 use Rattle.j39_findings.specs.declared.checking.finding.Finding.TheVariants.{SignalOutside}
 use Rattle.j39_findings.specs.Findings.{Holds}
 use Rattle.j39_rules.specs.ListPlaces.{ValueAt}
-use Rattle.j39_findings.specs.Records.{single_signals}
-use Rattle.j39_findings.specs.SignalPlaces.{HasNoOptional, room_of_signal}
+use Rattle.j39_network.specs.Records.{single_signals}
+use Rattle.j39_network.specs.SignalPlaces.{HasNoOptional, room_of_signal}
 use Rattle.j39_findings.specs.WithoutOptional.{IsWithoutOptional}
 use Rattle.j39_rules.proofs.Members.{all_at}
 

@@ -7,11 +7,12 @@ use Rattle.j39_signal.specs.declared.selector.Selector.{Selector}
 use Rattle.std.proofs.lemmas.Bool.{false≢true, and_parts, cases_lt, eqb-true}
 use Rattle.j39_rules.specs.ListPlaces.{ValueAt, SomeMeets}
 use Rattle.j39_findings.specs.Findings.{IsForNoPlan, IsProprietary, HasBadPgn, AreSentTogether, DoReceiversMeet, Clean}
-use Rattle.j39_findings.specs.PrivateGroups.{Fits, CanBe, OneGroupFits, HasNoPrivate, IsFoundAsBefore}
-use Rattle.j39_findings.specs.declared.plan.Plan.{Plan}
-use Rattle.j39_findings.specs.declared.plan.group_plan.GroupPlan.{GroupPlan}
-use Rattle.j39_findings.specs.declared.plan.flow_plan.FlowPlan.{FlowPlan}
-use Rattle.j39_findings.specs.declared.plan.to.To.{To}
+use Rattle.j39_network.specs.PrivateGroups.{Fits, CanBe, OneGroupFits, HasNoPrivate}
+use Rattle.j39_findings.specs.WithoutPrivate.{IsFoundAsBefore}
+use Rattle.j39_network.specs.declared.plan.Plan.{Plan}
+use Rattle.j39_network.specs.declared.plan.group_plan.GroupPlan.{GroupPlan}
+use Rattle.j39_network.specs.declared.plan.flow_plan.FlowPlan.{FlowPlan}
+use Rattle.j39_network.specs.declared.plan.to.To.{To}
 use Rattle.j39_findings.specs.declared.checking.finding.Finding.TheVariants.{SamePgn}
 use Rattle.j39_rules.proofs.Members.{all_at}
 

@@ -1,5 +1,6 @@
 -- Of a group in which no record comes onto another signal each bit is one signal's, and the signals of each message lay it out.
-use Rattle.std.proofs.Common.{◌≡◌, ◌≢◌, ◌⊎◌, ℕ, zero, suc, ◌+◌, ◌-◌, ◌*◌, ◌%◌, ◌<◌, ◌≤◌, Bool, true, false, not, List, [], ◌∷◌, ◌++◌, map, get_or, All, AllPairs, Contains, Some, None, Option, unwrap_or, refl, sym, ap, subst, ◌∙◌, inl, inr, arith}
+use Rattle.std.proofs.Common.{◌≡◌, ◌≢◌, ◌⊎◌, ℕ, zero, suc, ◌+◌, ◌-◌, ◌*◌, ◌%◌, ◌<◌, ◌≤◌, Bool, true, false, not, List, [], ◌∷◌, ◌++◌, map, get_or, All}
+use Rattle.std.proofs.Common.{AllPairs, Contains, Some, None, Option, unwrap_or, refl, sym, ap, subst, ◌∙◌, inl, inr, arith}
 use Rattle.std.specs.List.{filter, slice_get}
 use Rattle.std.specs.Option.{option_map_or}
 use Rattle.std.proofs.Math.Nat.{mul-add}
@@ -12,14 +13,14 @@ use Rattle.j39_signal.specs.Places.{Covers, IsAlwaysInside, IsInside, LaysOut, L
 use Rattle.j39_signal.proofs.There.{inside_there}
 use Rattle.j39_signal.specs.declared.kind.Kind.{Kind}
 use Rattle.j39_signal.specs.declared.kind.Kind.TheVariants.{Measured, Discrete, Raw, States, Signed, Dtc}
-use Rattle.j39_findings.specs.declared.plan.group_plan.GroupPlan.{GroupPlan}
+use Rattle.j39_network.specs.declared.plan.group_plan.GroupPlan.{GroupPlan}
 use Rattle.j39_findings.specs.CleanParts.{HasBit, HasBitsOnce}
 use Rattle.j39_findings.specs.Findings.{ComesOnto, HasRecordsOver}
-use Rattle.j39_findings.specs.Lengths.{IsLengthOf}
+use Rattle.j39_network.specs.Lengths.{IsLengthOf}
 use Rattle.j39_rules.specs.ListPlaces.{PairAt}
-use Rattle.j39_findings.specs.Records.{single_signals, stands_once, repeated_signals, record_signals, records_signals, record_count, signals_in}
+use Rattle.j39_network.specs.Records.{single_signals, stands_once, repeated_signals, record_signals, records_signals, record_count, signals_in}
 use Rattle.j39_rules.proofs.Members.{all_at}
-use Rattle.j39_findings.proofs.RecordCounts.{longer_has, records_counted, singles_alone}
+use Rattle.j39_network.proofs.RecordCounts.{longer_has, records_counted, singles_alone}
 use Rattle.j39_rules.proofs.Rising.{Rises, Rises-append, AllPairs-from_Rises, all_by_contains}
 
 -- ---- each bit is one signal's

@@ -2,8 +2,9 @@
 use Rattle.std.proofs.Common.{◌≡◌, None, sym, subst, ◌∙◌}
 use Rattle.std.proofs.lemmas.Option.{none-some}
 use Rattle.j39_signal.specs.Selectors.{DifferInValue}
-use Rattle.j39_findings.specs.WithoutSelectors.{HasNoSelectors, IsWithoutSelectors}
-use Rattle.j39_findings.specs.declared.plan.Plan.{Plan}
+use Rattle.j39_network.specs.PlannedGroups.{HasNoSelectors}
+use Rattle.j39_findings.specs.WithoutSelectors.{IsWithoutSelectors}
+use Rattle.j39_network.specs.declared.plan.Plan.{Plan}
 use Rattle.j39_rules.proofs.Members.{all_at}
 
 pub without_selectors : (plan : Plan) → HasNoSelectors plan → IsWithoutSelectors plan

@@ -1,36 +1,39 @@
 -- In the plan of each vehicle the same is found as in the plan, where no two units may be one.
-use Rattle.std.proofs.Common.{◌≡◌, ◌≢◌, ℕ, List, [], ◌∷◌, Bool, true, false, nat_lt, Option, Some, None, Contains, if◌then◌else◌}
-use Rattle.std.proofs.Common.{refl, sym, ◌∙◌, ap, subst, inl, inr, arith}
+use Rattle.std.proofs.Common.{◌≡◌, ◌≢◌, ℕ, List, [], ◌∷◌, Bool, true, false, nat_lt, Option, Some, None, Contains, if◌then◌else◌, refl, sym, ◌∙◌, ap, subst}
+use Rattle.std.proofs.Common.{inl, inr, arith}
 use Rattle.std.specs.FinSet.{FinSet}
 use Rattle.std.specs.List.{slice_get}
 use Rattle.std.specs.Ordering.{nat_cmp}
 use Rattle.std.proofs.lemmas.Bool.{cases_Bool}
 use Rattle.std.proofs.lemmas.Bool.Decides.{Decides-ltb}
-use Rattle.j39_findings.specs.declared.plan.Plan.{Plan}
-use Rattle.j39_findings.specs.declared.plan.flow_plan.FlowPlan.{FlowPlan}
-use Rattle.j39_findings.specs.declared.plan.unit_plan.UnitPlan.{UnitPlan}
+use Rattle.j39_network.specs.declared.plan.Plan.{Plan}
+use Rattle.j39_network.specs.declared.plan.flow_plan.FlowPlan.{FlowPlan}
+use Rattle.j39_network.specs.declared.plan.unit_plan.UnitPlan.{UnitPlan}
 use Rattle.j39_findings.specs.declared.checking.finding.Finding.{Finding}
-use Rattle.j39_findings.specs.declared.checking.finding.Finding.TheVariants.{SameName, SameFixedAddress, KeptAddress, SilentAddress, SilentInPool, FlowContested}
-use Rattle.j39_findings.specs.declared.checking.finding.Finding.TheVariants.{TooFewAddresses, BadPgn, SamePgn, SignalWidth}
-use Rattle.j39_findings.specs.declared.checking.finding.Finding.TheVariants.{SignalOutside, SignalOverlap, FlowToOne, FlowToSelf, FlowRepeated, PrivateUnsent, RecordOverlap, TextOutside, NeedUnmet}
-use Rattle.j39_findings.specs.declared.checking.finding.Finding.TheVariants.{RequestUnanswered, RequestUnheard, AnswerAstray, WhenOutside, RequestRepeated}
-use Rattle.j39_findings.specs.declared.steps.Step.{Step}
+use Rattle.j39_findings.specs.declared.checking.finding.Finding.TheVariants.{SameName, SameFixedAddress, KeptAddress, SilentAddress, SilentInPool}
+use Rattle.j39_findings.specs.declared.checking.finding.Finding.TheVariants.{FlowContested, TooFewAddresses, BadPgn, SamePgn, SignalWidth, SignalOutside}
+use Rattle.j39_findings.specs.declared.checking.finding.Finding.TheVariants.{SignalOverlap, FlowToOne, FlowToSelf, FlowRepeated, PrivateUnsent, RecordOverlap}
+use Rattle.j39_findings.specs.declared.checking.finding.Finding.TheVariants.{TextOutside, NeedUnmet, RequestUnanswered, RequestUnheard, AnswerAstray}
+use Rattle.j39_findings.specs.declared.checking.finding.Finding.TheVariants.{WhenOutside, RequestRepeated}
+use Rattle.j39_network.specs.declared.steps.Step.{Step}
 use Rattle.j39_rules.specs.ListPlaces.{pairs, PairAt}
-use Rattle.j39_findings.specs.Kinds.{MayBeOne, AreToldApart, may_be_one}
+use Rattle.j39_network.specs.Kinds.{MayBeOne, AreToldApart, may_be_one}
 use Rattle.j39_findings.specs.Findings.{Clean, IsAloneInPlan, IsFlowContested}
-use Rattle.j39_findings.specs.PlannedUnits.{units_of}
-use Rattle.j39_findings.specs.Staying.{IsAloneThere}
-use Rattle.j39_findings.specs.Found.{have_same_fixed_address, needs_pool_address, unit_findings, kept_findings, prefers_kept}
-use Rattle.j39_findings.specs.Found.{have_silent_address, is_silent_in_pool, silent_findings, contested_findings, is_unit_alone, is_contested, found}
+use Rattle.j39_network.specs.PlannedUnits.{units_of}
+use Rattle.j39_network.specs.Staying.{IsAloneThere}
+use Rattle.j39_findings.specs.Found.{have_same_fixed_address, needs_pool_address, unit_findings, kept_findings, prefers_kept, have_silent_address}
+use Rattle.j39_findings.specs.Found.{is_silent_in_pool, silent_findings, contested_findings, is_unit_alone, is_contested, found}
 use Rattle.j39_findings.specs.ConflictRuns.{are_in_conflict, steps_between, run_of_units, run_of_places, conflict_run}
-use Rattle.j39_findings.specs.VehiclePlans.{IsBoxOf, IsVehicleOf, AreFoundAlike}
-use Rattle.j39_findings.proofs.Boxes.{apart_at}
-use Rattle.j39_findings.proofs.Deciding.{Decides-may_be_one}
+use Rattle.j39_network.specs.VehiclePlans.{IsBoxOf, IsVehicleOf}
+use Rattle.j39_findings.specs.FoundInVehicles.{AreFoundAlike}
+use Rattle.j39_network.proofs.Boxes.{apart_at}
+use Rattle.j39_network.proofs.Served.{Decides-may_be_one}
 use Rattle.j39_findings.proofs.FoundLaws.{clean_from_none, none_from_clean}
 use Rattle.j39_rules.proofs.Members.{of_pairs}
-use Rattle.j39_findings.proofs.VehicleUnits.{AreBoth, both_at, boxes_apart, boxes_fixed, boxes_silent, box_needs, box_prefers, box_silent, count_alike, each_alike, ordered, pairs_alike}
+use Rattle.j39_network.proofs.VehicleUnits.{AreBoth, both_at, boxes_apart, count_alike, each_alike, ordered, pairs_alike}
+use Rattle.j39_findings.proofs.BoxRules.{boxes_fixed, boxes_silent, box_needs, box_prefers, box_silent}
 use Rattle.j39_rules.proofs.PlaceLemmas.{each_same}
-use Rattle.j39_findings.proofs.StayingBoxes.{outside_alike, outside_back, stay_alike}
+use Rattle.j39_network.proofs.StayingBoxes.{outside_alike, outside_back, stay_alike}
 use Rattle.j39_findings.proofs.WhoIsAlone.{alone_by_list, Decides-both, Decides-contested}
 
 none_paired : (units : List UnitPlan) → ((i j : ℕ) → ¬ PairAt MayBeOne units i j) → pairs may_be_one SameName units ≡ []

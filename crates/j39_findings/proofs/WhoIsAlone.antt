@@ -1,5 +1,6 @@
 -- Which units are alone at their addresses: it is told by the arrays of a search as by the test on the list of units.
-use Rattle.std.proofs.Common.{◌≡◌, ◌≢◌, ◌⊎◌, ℕ, [], ◌<◌, arith, Bool, true, false, not, ◌&&◌, ◌||◌, ◌==◌, nat_lt, List, length, get_or, refl, sym, ap, ◌∙◌, subst, inl, inr, Option, Some, None, is_none, is_some, if◌then◌else◌, Decides}
+use Rattle.std.proofs.Common.{◌≡◌, ◌≢◌, ◌⊎◌, ℕ, [], ◌<◌, arith, Bool, true, false, not, ◌&&◌, ◌||◌, ◌==◌, nat_lt, List, length, get_or, refl, sym, ap, ◌∙◌}
+use Rattle.std.proofs.Common.{subst, inl, inr, Option, Some, None, is_none, is_some, if◌then◌else◌, Decides}
 use Rattle.std.proofs.lemmas.Bool.{cases_Bool, cases_eq, cases_lt, true≢false, false≢true, and_from, not-true}
 use Rattle.std.proofs.lemmas.Bool.Decides.{Decides-eqb, Decides-and, Decides-like, Decides-ltb, Decides-or}
 use Rattle.std.proofs.lemmas.Option.{none-some, slice_get_within}
@@ -11,19 +12,19 @@ use Rattle.std.specs.Ordering.{nat_cmp}
 use Rattle.j39_id.specs.Addresses.{in_pool}
 use Rattle.j39_id.specs.Name.{is_arbitrary}
 use Rattle.j39_claim.specs.ClaimRule.{PlannedUnit}
-use Rattle.j39_findings.specs.declared.plan.Plan.{Plan}
-use Rattle.j39_findings.specs.declared.plan.flow_plan.FlowPlan.{FlowPlan}
-use Rattle.j39_findings.specs.declared.plan.to.To.{To}
-use Rattle.j39_findings.specs.declared.plan.to.To.TheVariants.{All, One}
-use Rattle.j39_findings.specs.declared.plan.unit_plan.UnitPlan.{UnitPlan}
+use Rattle.j39_network.specs.declared.plan.Plan.{Plan}
+use Rattle.j39_network.specs.declared.plan.flow_plan.FlowPlan.{FlowPlan}
+use Rattle.j39_network.specs.declared.plan.to.To.{To}
+use Rattle.j39_network.specs.declared.plan.to.To.TheVariants.{All, One}
+use Rattle.j39_network.specs.declared.plan.unit_plan.UnitPlan.{UnitPlan}
 use Rattle.j39_findings.specs.Findings.{IsAloneInPlan, IsFlowContested}
 use Rattle.j39_findings.specs.declared.checking.finding.Finding.TheVariants.{FlowContested}
 use Rattle.j39_findings.specs.Found.{contested_findings, has_to_move, is_unit_alone, is_contested, is_end_contested, is_receiver_contested, is_shared}
 use Rattle.j39_rules.specs.ListPlaces.{each, SomeMeets}
-use Rattle.j39_findings.specs.PlannedUnits.{units_of, unit_at}
-use Rattle.j39_findings.specs.Staying.{EachOther, IsFirstThere, Stays}
+use Rattle.j39_network.specs.PlannedUnits.{units_of, unit_at}
+use Rattle.j39_network.specs.Staying.{EachOther, IsFirstThere, Stays}
 use Rattle.j39_findings.specs.Standing.{AreFirsts, TellsAtEach, AreTwoThere, IsMover, TellsWhoIsAlone, is_alone_by, is_first_by, is_mover_by}
-use Rattle.j39_findings.proofs.Deciding.{some_decides}
+use Rattle.j39_network.proofs.Served.{some_decides}
 use Rattle.j39_rules.proofs.PlaceLemmas.{each_same}
 use Rattle.j39_findings.proofs.WhoStays.{first_told, not_first_told, placed, planned_at, some_come, told_by}
 use Rattle.j39_findings.proofs.SharedAddresses.{shared_told}

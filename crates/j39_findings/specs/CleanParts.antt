@@ -8,18 +8,21 @@ use Rattle.j39_id.specs.Pgn.{IsPgn, extended_page}
 use Rattle.j39_id.specs.Services.{service_groups}
 use Rattle.j39_signal.specs.Places.{Covers, LaysOutFrom, further}
 use Rattle.j39_signal.specs.Selectors.{DifferInValue}
-use Rattle.j39_findings.specs.Kinds.{MayBeOne}
+use Rattle.j39_network.specs.Kinds.{MayBeOne}
 use Rattle.j39_rules.specs.ListPlaces.{ValueAt, SomeMeets}
-use Rattle.j39_findings.specs.Records.{record_count}
-use Rattle.j39_findings.specs.TextPlaces.{last_byte}
-use Rattle.j39_findings.specs.Findings.{IsFixed, IsSelectorInside, AreNeeded, IsProprietary, IsToOne, IsOneFrameToAll, AreOneFlow, Sends, AreSentTogether, Meets}
-use Rattle.j39_findings.specs.Findings.{IsAloneInPlan, AskTheSame, AsksAll, AsksOne, IsServed, IsServedToAll, IsServedToOne, MayNameReceiver}
-use Rattle.j39_findings.specs.declared.plan.Plan.{Plan}
-use Rattle.j39_findings.specs.declared.plan.group_plan.GroupPlan.{GroupPlan}
-use Rattle.j39_findings.specs.declared.plan.request_plan.RequestPlan.{RequestPlan}
-use Rattle.j39_findings.specs.declared.plan.text_plan.TextPlan.{TextPlan}
-use Rattle.j39_findings.specs.declared.plan.unit_plan.UnitPlan.{UnitPlan}
-use Rattle.j39_findings.specs.declared.plan.to.To.TheVariants.{One}
+use Rattle.j39_network.specs.Records.{record_count}
+use Rattle.j39_network.specs.TextPlaces.{last_byte}
+use Rattle.j39_network.specs.UnitAddresses.{IsFixed}
+use Rattle.j39_network.specs.PlannedGroups.{IsSelectorInside}
+use Rattle.j39_findings.specs.Findings.{AreNeeded, IsProprietary, AreOneFlow, AreSentTogether, IsAloneInPlan, AskTheSame}
+use Rattle.j39_network.specs.PlannedFlows.{IsToOne, IsOneFrameToAll, Sends}
+use Rattle.j39_network.specs.Serving.{Meets, IsServed}
+use Rattle.j39_network.specs.declared.plan.Plan.{Plan}
+use Rattle.j39_network.specs.declared.plan.group_plan.GroupPlan.{GroupPlan}
+use Rattle.j39_network.specs.declared.plan.text_plan.TextPlan.{TextPlan}
+use Rattle.j39_network.specs.declared.plan.unit_plan.UnitPlan.{UnitPlan}
+use Rattle.j39_network.specs.declared.plan.to.To.TheVariants.{One}
+use Rattle.j39_network.specs.PlannedRequests.{IsAnsweredWell}
 
 -- two units that claim and never move have two addresses
 abbrev pub HoldApart : UnitPlan → UnitPlan → Type 0
@@ -61,12 +64,6 @@ HasBitsOnce g = (i j k l bit : ℕ) → HasBit g i k bit → HasBit g j l bit �
 pub record LiesInside (g : GroupPlan) (t : TextPlan) : Type 0 where
   pub begins : t.byte ≤ g.length + 1
   pub ends : last_byte t ≤ g.most
-
--- where one unit is asked, for a group whose messages can name a receiver, some flow answers to one unit, and where all are asked, some answers
--- to all
-pub record IsAnsweredWell (plan : Plan) (r : RequestPlan) : Type 0 where
-  pub to_one : AsksOne r → MayNameReceiver plan.groups.items r → IsServedToOne plan.flows.items r
-  pub to_all : AsksAll r → IsServedToAll plan.flows.items r
 
 pub record CleanParts (plan : Plan) : Type 0 where
   pub told_apart : AllPairs (λ u v. ¬ MayBeOne u v) plan.units.items

@@ -1,56 +1,50 @@
 -- What can be wrong with a plan: each finding as a plain statement on its units, groups, signals, flows, needs and requests, by their
 -- places from 0 (addresses and NAMEs: SAE J1939-81; groups and their destinations: SAE J1939-21; signals: SAE J1939-71).
-use Rattle.std.specs.Prelude.{◌≡◌, ◌≢◌, ℕ, ◌+◌, ◌*◌, ◌<◌, ◌≤◌, ◌⊎◌, List, [], ◌∷◌, Some}
-use Rattle.std.specs.Prelude.{true, false, Contains, AllPairs}
+use Rattle.std.specs.Prelude.{◌≡◌, ℕ, ◌+◌, ◌*◌, ◌<◌, ◌≤◌, ◌⊎◌, List, [], ◌∷◌, Some, true, false, Contains, AllPairs}
 use Rattle.std.specs.FinSet.{FinSet, contains}
 use Rattle.std.specs.Ordering.{nat_cmp}
-use Rattle.j39_claim.specs.AddressSets.{IsFreeIn, free_count}
+use Rattle.j39_claim.specs.AddressSets.{free_count}
 use Rattle.j39_id.specs.Addresses.{in_pool}
-use Rattle.j39_id.specs.Limits.{frame_bytes}
 use Rattle.j39_id.specs.Name.{is_arbitrary}
-use Rattle.j39_id.specs.Pgn.{IsPgn, extended_page, pdu2_first, pf_of}
+use Rattle.j39_id.specs.Pgn.{IsPgn, extended_page}
 use Rattle.j39_id.specs.Proprietary.{proprietary_a, proprietary_a2, proprietary_b_first, proprietary_b_last, proprietary_b2_first, proprietary_b2_last}
 use Rattle.j39_id.specs.Services.{service_groups}
 use Rattle.std.specs.List.{slice_get}
-use Rattle.j39_signal.specs.Selectors.{DifferInValue, EndsInside}
+use Rattle.j39_signal.specs.Selectors.{DifferInValue}
 use Rattle.j39_signal.specs.Parts.{SignalParts}
 use Rattle.j39_signal.specs.Places.{Covers, WidthFits, IsInside, SharesBit, further}
-use Rattle.j39_findings.specs.Kinds.{MayBeOne}
-use Rattle.j39_findings.specs.PlannedUnits.{units_of}
-use Rattle.j39_findings.specs.Staying.{IsAloneBeside}
+use Rattle.j39_network.specs.Kinds.{MayBeOne}
+use Rattle.j39_network.specs.PlannedUnits.{units_of}
+use Rattle.j39_network.specs.Staying.{IsAloneBeside}
 use Rattle.j39_rules.specs.ListPlaces.{ValueAt, PairAt, SomeMeets, SoManyMeet}
 use Rattle.j39_rules.specs.Order.{ComesBefore}
-use Rattle.j39_findings.specs.Records.{record_count}
-use Rattle.j39_findings.specs.SignalPlaces.{room_of_signal}
-use Rattle.j39_findings.specs.TextPlaces.{last_byte}
-use Rattle.j39_findings.specs.declared.plan.Plan.{Plan}
-use Rattle.j39_findings.specs.declared.plan.unit_plan.UnitPlan.{UnitPlan}
-use Rattle.j39_findings.specs.declared.plan.group_plan.GroupPlan.{GroupPlan}
-use Rattle.j39_findings.specs.declared.plan.flow_plan.FlowPlan.{FlowPlan}
-use Rattle.j39_findings.specs.declared.plan.need_plan.NeedPlan.{NeedPlan}
-use Rattle.j39_findings.specs.declared.plan.request_plan.RequestPlan.{RequestPlan}
-use Rattle.j39_findings.specs.declared.plan.text_plan.TextPlan.{TextPlan}
-use Rattle.j39_findings.specs.declared.plan.to.To.TheVariants.{All, One}
+use Rattle.j39_network.specs.Records.{record_count}
+use Rattle.j39_network.specs.SignalPlaces.{room_of_signal}
+use Rattle.j39_network.specs.TextPlaces.{last_byte}
+use Rattle.j39_network.specs.declared.plan.Plan.{Plan}
+use Rattle.j39_network.specs.declared.plan.unit_plan.UnitPlan.{UnitPlan}
+use Rattle.j39_network.specs.declared.plan.group_plan.GroupPlan.{GroupPlan}
+use Rattle.j39_network.specs.declared.plan.flow_plan.FlowPlan.{FlowPlan}
+use Rattle.j39_network.specs.declared.plan.need_plan.NeedPlan.{NeedPlan}
+use Rattle.j39_network.specs.declared.plan.request_plan.RequestPlan.{RequestPlan}
+use Rattle.j39_network.specs.declared.plan.text_plan.TextPlan.{TextPlan}
+use Rattle.j39_network.specs.declared.plan.to.To.TheVariants.{All, One}
 use Rattle.j39_findings.specs.declared.checking.finding.Finding.{Finding}
 use Rattle.j39_findings.specs.declared.checking.finding.Finding.TheVariants.{SameName, SameFixedAddress, TooFewAddresses, BadPgn, SamePgn, SignalWidth}
-use Rattle.j39_findings.specs.declared.checking.finding.Finding.TheVariants.{SignalOutside, SignalOverlap, FlowToOne, FlowToSelf, FlowRepeated, KeptAddress, PrivateUnsent, RecordOverlap, TextOutside, NeedUnmet}
-use Rattle.j39_findings.specs.declared.checking.finding.Finding.TheVariants.{RequestUnanswered, RequestUnheard, AnswerAstray, WhenOutside, RequestRepeated}
-use Rattle.j39_findings.specs.declared.checking.finding.Finding.TheVariants.{SilentAddress, SilentInPool, FlowContested}
+use Rattle.j39_findings.specs.declared.checking.finding.Finding.TheVariants.{SignalOutside, SignalOverlap, FlowToOne, FlowToSelf, FlowRepeated, KeptAddress}
+use Rattle.j39_findings.specs.declared.checking.finding.Finding.TheVariants.{PrivateUnsent, RecordOverlap, TextOutside, NeedUnmet, RequestUnanswered}
+use Rattle.j39_findings.specs.declared.checking.finding.Finding.TheVariants.{RequestUnheard, AnswerAstray, WhenOutside, RequestRepeated, SilentAddress}
+use Rattle.j39_findings.specs.declared.checking.finding.Finding.TheVariants.{SilentInPool, FlowContested}
+use Rattle.j39_network.specs.UnitAddresses.{IsFixed, NeedsPoolAddress}
+use Rattle.j39_network.specs.PlannedFlows.{IsOneFrameToAll, MayBeOneFrameToAll, Sends, IsToOne}
+use Rattle.j39_network.specs.PlannedGroups.{IsSelectorInside}
+use Rattle.j39_network.specs.Serving.{IsServed, IsServedToOne, IsServedToAll, AsksOne, AsksAll, MayNameReceiver, Meets}
 
 -- ---- units
-
--- a unit that never moves to another address
-abbrev pub IsFixed : UnitPlan → Type 0
-IsFixed unit = is_arbitrary unit.name ≡ false
 
 -- two of those claim one address
 abbrev pub HaveSameFixedAddress : UnitPlan → UnitPlan → Type 0
 HaveSameFixedAddress u v = IsFixed u × IsFixed v × (u.address ≡ v.address) × (u.claims ≡ true) × (v.claims ≡ true)
-
--- a unit that needs an address of the pool that isn't kept free: an arbitrary one may have to move to any of them, a fixed one may
--- have its own there
-abbrev pub NeedsPoolAddress : FinSet nat_cmp → UnitPlan → Type 0
-NeedsPoolAddress kept unit = (is_arbitrary unit.name ≡ true) ⊎ IsFreeIn kept unit.address
 
 -- so many addresses of the pool that aren't kept free are needed: one for each unit that needs one, and one for each stranger, which may
 -- have to move to any of them
@@ -90,18 +84,6 @@ IsWronglyPrivate group = ((group.private ≡ false) × IsProprietary group.pgn) 
 abbrev pub HasBadPgn : GroupPlan → Type 0
 HasBadPgn group = IsForNoPlan group.pgn ⊎ IsWronglyPrivate group
 
--- a group each message of which is sent in one frame, and whose frames name no destination
-abbrev pub IsOneFrameToAll : GroupPlan → Type 0
-IsOneFrameToAll group = (pdu2_first ≤ pf_of group.pgn) × (group.most ≤ frame_bytes)
-
--- a group some message of which is sent so
-abbrev pub MayBeOneFrameToAll : GroupPlan → Type 0
-MayBeOneFrameToAll group = (pdu2_first ≤ pf_of group.pgn) × (group.length ≤ frame_bytes)
-
--- the flow sends the group, which its label names
-abbrev pub Sends : List GroupPlan → GroupPlan → FlowPlan → Type 0
-Sends groups group flow = ValueAt (λ sent. sent.label.bytes ≡ group.label.bytes) groups flow.group
-
 -- one unit can hear a message of either flow: one of them goes to all, or both to this unit, or both may go in a frame that names no
 -- destination
 abbrev pub DoReceiversMeet : GroupPlan → GroupPlan → FlowPlan → FlowPlan → Type 0
@@ -117,17 +99,10 @@ abbrev pub HaveSamePgn : List GroupPlan → List FlowPlan → GroupPlan → Grou
 HaveSamePgn groups flows g h = (g.pgn ≡ h.pgn) × (¬ DifferInValue g.when h.when)
     × ((g.private ≡ false) ⊎ ((h.private ≡ false) ⊎ AreSentTogether groups flows g h))
 
--- the bits of its selector lie inside each of its messages
-abbrev pub IsSelectorInside : GroupPlan → Type 0
-IsSelectorInside group = EndsInside group.length group.when
-
 abbrev pub IsPrivateUnsent : List GroupPlan → List FlowPlan → GroupPlan → Type 0
 IsPrivateUnsent groups flows group = (group.private ≡ true) × (¬ SomeMeets (Sends groups group) flows)
 
 -- ---- flows
-
-abbrev pub IsToOne : FlowPlan → Type 0
-IsToOne flow = (receiver : ℕ) × (flow.to ≡ One receiver)
 
 abbrev pub CannotGoToOne : List GroupPlan → FlowPlan → Type 0
 CannotGoToOne groups flow = IsToOne flow × ValueAt IsOneFrameToAll groups flow.group
@@ -180,30 +155,6 @@ pub record HasRecordsOver (group : GroupPlan) (i j : ℕ) : Type 0 where
 
 -- ---- requests
 
--- the flow answers the request: it sends the group that is asked for, comes from another unit than the one that asks, which is the one that
--- is asked where only one is, and goes to the one that asks or to all (SAE J1939-21, requests)
-pub record Serves (request : RequestPlan) (flow : FlowPlan) : Type 0 where
-  pub group : flow.group ≡ request.group
-  pub other : flow.sender ≢ request.sender
-  pub asked : (request.to ≡ All) ⊎ (request.to ≡ One flow.sender)
-  pub reaches : (flow.to ≡ All) ⊎ (flow.to ≡ One request.sender)
-
--- some flow answers it, some that goes to one unit, some that goes to all
-abbrev pub IsServed : List FlowPlan → RequestPlan → Type 0
-IsServed flows request = SomeMeets (Serves request) flows
-
-abbrev pub IsServedToOne : List FlowPlan → RequestPlan → Type 0
-IsServedToOne flows request = SomeMeets (λ flow. Serves request flow × IsToOne flow) flows
-
-abbrev pub IsServedToAll : List FlowPlan → RequestPlan → Type 0
-IsServedToAll flows request = SomeMeets (λ flow. Serves request flow × (flow.to ≡ All)) flows
-
-abbrev pub AsksOne : RequestPlan → Type 0
-AsksOne request = (unit : ℕ) × (request.to ≡ One unit)
-
-abbrev pub AsksAll : RequestPlan → Type 0
-AsksAll request = request.to ≡ All
-
 -- the one unit that is asked would refuse
 abbrev pub GoesUnanswered : List FlowPlan → RequestPlan → Type 0
 GoesUnanswered flows request = AsksOne request × (¬ IsServed flows request)
@@ -211,10 +162,6 @@ GoesUnanswered flows request = AsksOne request × (¬ IsServed flows request)
 -- of all that are asked none would answer
 abbrev pub GoesUnheard : List FlowPlan → RequestPlan → Type 0
 GoesUnheard flows request = AsksAll request × (¬ IsServed flows request)
-
--- some message of the group asked for can name a receiver
-abbrev pub MayNameReceiver : List GroupPlan → RequestPlan → Type 0
-MayNameReceiver groups request = ValueAt (λ group. ¬ IsOneFrameToAll group) groups request.group
 
 -- where one unit is asked, for a group whose messages can name a receiver, those that answer go to all; where all are asked, those that
 -- answer go to one unit each (SAE J1939-21: one is answered to one, all are answered to all)
@@ -232,19 +179,6 @@ abbrev pub AskTheSame : List GroupPlan → RequestPlan → RequestPlan → Type 
 AskTheSame groups r s = AskForOneNumber groups r s × (r.sender ≡ s.sender) × (r.to ≡ s.to)
 
 -- ---- needs
-
--- a flow that is sent only as an answer comes where some request is there that it serves; any other comes by itself
-abbrev pub IsAskedFor : List RequestPlan → FlowPlan → Type 0
-IsAskedFor requests flow = flow.on_request ≡ true → SomeMeets (λ request. Serves request flow) requests
-
--- the flow brings the need's unit what it needs: it goes to this unit or to all, comes from another one, which is the need's where it
--- names one, and is asked for where it has to be
-pub record Meets (requests : List RequestPlan) (need : NeedPlan) (flow : FlowPlan) : Type 0 where
-  pub group : flow.group ≡ need.group
-  pub other : flow.sender ≢ need.unit
-  pub from : (u : ℕ) → need.from ≡ Some u → flow.sender ≡ u
-  pub reaches : (flow.to ≡ All) ⊎ (flow.to ≡ One need.unit)
-  pub comes : IsAskedFor requests flow
 
 abbrev pub IsUnmet : List RequestPlan → List FlowPlan → NeedPlan → Type 0
 IsUnmet requests flows need = ¬ SomeMeets (Meets requests need) flows

@@ -1,5 +1,6 @@
 -- The findings of a plan as a list: a test for each statement, and the list of all that pass.
-use Rattle.std.specs.Prelude.{ℕ, ◌+◌, ◌-◌, ◌*◌, ◌/◌, List, [], ◌++◌, Bool, true, false, not, ◌&&◌, ◌||◌, ◌==◌, nat_le, nat_lt, if◌then◌else◌, count_by, Option, Some, None}
+use Rattle.std.specs.Prelude.{ℕ, ◌+◌, ◌-◌, ◌*◌, ◌/◌, List, [], ◌++◌, Bool, true, false, not, ◌&&◌, ◌||◌, ◌==◌, nat_le, nat_lt, if◌then◌else◌, count_by, Option}
+use Rattle.std.specs.Prelude.{Some, None}
 use Rattle.std.specs.List.{slice_get, list_any}
 use Rattle.std.specs.Option.{option_map_or}
 use Rattle.std.specs.Str.{bytes_eq}
@@ -15,25 +16,27 @@ use Rattle.j39_id.specs.Services.{is_service}
 use Rattle.j39_signal.specs.Selectors.{differ_in_value, selector_end}
 use Rattle.j39_signal.specs.Parts.{SignalParts}
 use Rattle.j39_signal.specs.Places.{width_fits, is_inside, shares_bit, end_of, further}
-use Rattle.j39_findings.specs.Kinds.{may_be_one}
+use Rattle.j39_network.specs.Kinds.{may_be_one}
 use Rattle.j39_rules.specs.ListPlaces.{found_if, each, pairs, in_each}
-use Rattle.j39_findings.specs.Records.{record_count}
-use Rattle.j39_findings.specs.SignalPlaces.{room_of_signal}
-use Rattle.j39_findings.specs.TextPlaces.{last_byte}
-use Rattle.j39_findings.specs.declared.plan.Plan.{Plan}
-use Rattle.j39_findings.specs.declared.plan.unit_plan.UnitPlan.{UnitPlan}
-use Rattle.j39_findings.specs.declared.plan.group_plan.GroupPlan.{GroupPlan}
-use Rattle.j39_findings.specs.declared.plan.flow_plan.FlowPlan.{FlowPlan}
-use Rattle.j39_findings.specs.declared.plan.need_plan.NeedPlan.{NeedPlan}
-use Rattle.j39_findings.specs.declared.plan.request_plan.RequestPlan.{RequestPlan}
-use Rattle.j39_findings.specs.declared.plan.text_plan.TextPlan.{TextPlan}
-use Rattle.j39_findings.specs.declared.plan.to.To.{To}
-use Rattle.j39_findings.specs.declared.plan.to.To.TheVariants.{All, One}
+use Rattle.j39_network.specs.Records.{record_count}
+use Rattle.j39_network.specs.SignalPlaces.{room_of_signal}
+use Rattle.j39_network.specs.TextPlaces.{last_byte}
+use Rattle.j39_network.specs.declared.plan.Plan.{Plan}
+use Rattle.j39_network.specs.declared.plan.unit_plan.UnitPlan.{UnitPlan}
+use Rattle.j39_network.specs.declared.plan.group_plan.GroupPlan.{GroupPlan}
+use Rattle.j39_network.specs.declared.plan.flow_plan.FlowPlan.{FlowPlan}
+use Rattle.j39_network.specs.declared.plan.need_plan.NeedPlan.{NeedPlan}
+use Rattle.j39_network.specs.declared.plan.request_plan.RequestPlan.{RequestPlan}
+use Rattle.j39_network.specs.declared.plan.text_plan.TextPlan.{TextPlan}
+use Rattle.j39_network.specs.declared.plan.to.To.{To}
+use Rattle.j39_network.specs.declared.plan.to.To.TheVariants.{All, One}
 use Rattle.j39_findings.specs.declared.checking.finding.Finding.{Finding}
 use Rattle.j39_findings.specs.declared.checking.finding.Finding.TheVariants.{SameName, SameFixedAddress, TooFewAddresses, BadPgn, SamePgn, SignalWidth}
-use Rattle.j39_findings.specs.declared.checking.finding.Finding.TheVariants.{SignalOutside, SignalOverlap, FlowToOne, FlowToSelf, FlowRepeated, KeptAddress, PrivateUnsent, RecordOverlap, TextOutside, NeedUnmet}
-use Rattle.j39_findings.specs.declared.checking.finding.Finding.TheVariants.{RequestUnanswered, RequestUnheard, AnswerAstray, WhenOutside, RequestRepeated}
-use Rattle.j39_findings.specs.declared.checking.finding.Finding.TheVariants.{SilentAddress, SilentInPool, FlowContested}
+use Rattle.j39_findings.specs.declared.checking.finding.Finding.TheVariants.{SignalOutside, SignalOverlap, FlowToOne, FlowToSelf, FlowRepeated, KeptAddress}
+use Rattle.j39_findings.specs.declared.checking.finding.Finding.TheVariants.{PrivateUnsent, RecordOverlap, TextOutside, NeedUnmet, RequestUnanswered}
+use Rattle.j39_findings.specs.declared.checking.finding.Finding.TheVariants.{RequestUnheard, AnswerAstray, WhenOutside, RequestRepeated, SilentAddress}
+use Rattle.j39_findings.specs.declared.checking.finding.Finding.TheVariants.{SilentInPool, FlowContested}
+use Rattle.j39_network.specs.Serving.{is_to_one, is_to, serves, is_served, meets}
 
 -- ---- units
 
@@ -88,14 +91,6 @@ may_be_one_frame_to_all group = is_pdu2 group.pgn && nat_le group.length frame_b
 abbrev pub is_group_of : (GroupPlan → Bool) → Option GroupPlan → Bool
 is_group_of test None = false
 is_group_of test (Some group) = test group
-
-abbrev pub is_to_one : To → Bool
-is_to_one All = false
-is_to_one (One receiver) = true
-
-abbrev pub is_to : To → ℕ → Bool
-is_to All unit = false
-is_to (One receiver) unit = receiver == unit
 
 abbrev pub have_same_receiver : To → To → Bool
 have_same_receiver All to = not (is_to_one to)
@@ -215,17 +210,6 @@ flow_findings groups flows =
 
 -- ---- requests
 
-abbrev pub is_reached : To → ℕ → Bool
-is_reached to unit = not (is_to_one to) || is_to to unit
-
-abbrev pub serves : RequestPlan → FlowPlan → Bool
-serves request flow =
-    flow.group == request.group
-    && (not (flow.sender == request.sender) && (is_reached request.to flow.sender && is_reached flow.to request.sender))
-
-abbrev pub is_served : List FlowPlan → RequestPlan → Bool
-is_served flows request = list_any (serves request) flows
-
 abbrev pub serves_one : RequestPlan → FlowPlan → Bool
 serves_one request flow = serves request flow && is_to_one flow.to
 
@@ -277,22 +261,6 @@ request_findings groups flows requests =
     ++ (each is_selector_outside WhenOutside 0 groups ++ pairs (ask_the_same groups) RequestRepeated requests)))
 
 -- ---- needs that no flow meets
-
-abbrev pub is_from : Option ℕ → ℕ → Bool
-is_from None sender = true
-is_from (Some unit) sender = sender == unit
-
-abbrev pub serves_some : List RequestPlan → FlowPlan → Bool
-serves_some requests flow = list_any (λ request. serves request flow) requests
-
-abbrev pub is_asked_for : List RequestPlan → FlowPlan → Bool
-is_asked_for requests flow = not flow.on_request || serves_some requests flow
-
-abbrev pub meets : List RequestPlan → NeedPlan → FlowPlan → Bool
-meets requests need flow =
-    flow.group == need.group
-    && (not (flow.sender == need.unit)
-    && (is_from need.from flow.sender && (is_reached flow.to need.unit && is_asked_for requests flow)))
 
 abbrev pub is_unmet : List RequestPlan → List FlowPlan → NeedPlan → Bool
 is_unmet requests flows need = not (list_any (meets requests need) flows)

@@ -1,7 +1,7 @@
 -- Why a plan is not taken as checked.
 use Rattle.std.specs.Prelude.{◌≡◌, ◌≢◌, []}
 use Rattle.j39_findings.specs.Found.{found}
-use Rattle.j39_findings.specs.declared.plan.Plan.{Plan}
+use Rattle.j39_network.specs.declared.plan.Plan.{Plan}
 use Rattle.j39_findings.specs.declared.checking.refused.RefusedCause.{RefusedCause}
 use Rattle.j39_findings.specs.declared.checking.refused.RefusedCause.TheVariants.{Findings, Memory}
 

@@ -1,17 +1,18 @@
 -- Which units of a plan stay, which are alone at their addresses, and how that is told: by the least NAME that is planned at each address,
 -- whether another unit is planned there, the least NAME of those that may have to move, and whether strangers come.
-use Rattle.std.specs.Prelude.{◌≡◌, ℕ, ◌<◌, ◌≤◌, Bool, true, MatchBool, not, false, is_none, ◌&&◌, ◌||◌, cond, nat_le, nat_lt, List, length, slice_index_or, Option, Some, None}
+use Rattle.std.specs.Prelude.{◌≡◌, ℕ, ◌<◌, ◌≤◌, Bool, true, MatchBool, not, false, is_none, ◌&&◌, ◌||◌, cond, nat_le, nat_lt, List, length, slice_index_or}
+use Rattle.std.specs.Prelude.{Option, Some, None}
 use Rattle.std.specs.List.{slice_get}
 use Rattle.std.specs.FinSet.{FinSet, contains}
 use Rattle.std.specs.Ordering.{nat_cmp}
 use Rattle.j39_id.specs.Addresses.{in_pool}
 use Rattle.j39_id.specs.Name.{is_arbitrary}
-use Rattle.j39_findings.specs.declared.plan.Plan.{Plan}
-use Rattle.j39_findings.specs.declared.plan.unit_plan.UnitPlan.{UnitPlan}
+use Rattle.j39_network.specs.declared.plan.Plan.{Plan}
+use Rattle.j39_network.specs.declared.plan.unit_plan.UnitPlan.{UnitPlan}
 use Rattle.j39_findings.specs.declared.standing.Standing.{Standing}
 use Rattle.j39_findings.specs.Findings.{IsAloneInPlan}
-use Rattle.j39_findings.specs.PlannedUnits.{units_of}
-use Rattle.j39_findings.specs.Staying.{StaysBeside}
+use Rattle.j39_network.specs.PlannedUnits.{units_of}
+use Rattle.j39_network.specs.Staying.{StaysBeside}
 
 -- of the unit at each place this tells whether it stays
 abbrev pub TellsWhoStays : Plan → (UnitPlan → Bool) → Type 0

@@ -4,8 +4,8 @@ use Rattle.std.specs.List.{filter}
 use Rattle.j39_signal.specs.Places.{IsInside}
 use Rattle.j39_rules.specs.ListPlaces.{ValueAt}
 use Rattle.j39_findings.specs.Findings.{Holds}
-use Rattle.j39_findings.specs.Records.{single_signals}
-use Rattle.j39_findings.specs.declared.plan.Plan.{Plan}
+use Rattle.j39_network.specs.Records.{single_signals}
+use Rattle.j39_network.specs.declared.plan.Plan.{Plan}
 use Rattle.j39_findings.specs.declared.checking.finding.Finding.TheVariants.{SignalOutside}
 
 -- of a plan without optional signals F7 says that a signal ends behind the shortest message, and each message has all signals that

@@ -1,12 +1,9 @@
--- Plans without groups that are told by their data.
-use Rattle.std.specs.Prelude.{◌≡◌, ◌↔◌, ◌⊎◌, ℕ, false, All, None}
+-- What is found in plans without groups that are told by their data.
+use Rattle.std.specs.Prelude.{◌≡◌, ◌↔◌, ◌⊎◌, ℕ, false}
 use Rattle.j39_rules.specs.ListPlaces.{PairAt}
 use Rattle.j39_findings.specs.Findings.{AreSentTogether, Holds}
-use Rattle.j39_findings.specs.declared.plan.Plan.{Plan}
+use Rattle.j39_network.specs.declared.plan.Plan.{Plan}
 use Rattle.j39_findings.specs.declared.checking.finding.Finding.TheVariants.{SamePgn, WhenOutside}
-
-abbrev pub HasNoSelectors : Plan → Type 0
-HasNoSelectors plan = All (λ group. group.when ≡ None) plan.groups.items
 
 -- of such a plan F24 says nothing, and F5 what it said before there were any
 pub record IsWithoutSelectors (plan : Plan) : Type 0 where

@@ -3,9 +3,7 @@ ghost use Rattle.std.specs.Prelude.{◌≡◌, ◌≢◌, IfOk, OnErr, option_ma
 ghost use Rattle.j39_findings.specs.ConflictRuns.{are_in_conflict, conflict_steps, steps_between, run_of_places, conflict_run};
 
 use crate::checking::Finding;
-use crate::kinds::may_be_one;
-use crate::plan::{Plan, UnitPlan};
-use crate::steps::Step;
+use j39_network::{Plan, Step, UnitPlan, may_be_one};
 use std::alloc::{AllocError, Global};
 
 #[tactic(auto, unfolding(crate::specs::ConflictRuns::are_in_conflict))]

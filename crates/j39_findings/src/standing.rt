@@ -1,9 +1,9 @@
 //! Which units of a plan hold their planned addresses, whatever the others do, and which are alone there.
-ghost use Rattle.std.specs.Prelude.{◌≡◌, length, IsTrue};
+ghost use Rattle.std.specs.Prelude.{◌≡◌, length};
 ghost use Rattle.j39_findings.specs.Standing.{AreFirsts, TellsAtEach, AreTwoThere, TellsWhoIsAlone, TellsWhoStays, IsMover, alone_of, is_alone_by, is_first_by, is_least, is_mover_by, is_settled, smaller, stays_by, stays_of};
 
-use crate::plan::{Plan, UnitPlan};
 use j39_claim::AddressSet;
+use j39_network::{Plan, UnitPlan};
 use j39_id::Name;
 use j39_id::addresses::is_in_pool;
 

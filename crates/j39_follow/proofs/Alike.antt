@@ -8,7 +8,7 @@ use Rattle.j39_id.specs.Lines.{Line, Short, Long, lines}
 use Rattle.j39_id.specs.declared.frame.Frame.{Frame}
 use Rattle.j39_id.specs.declared.line_error.LineError.{LineError}
 use Rattle.j39_id.specs.declared.line_error.LineError.TheVariants.{Empty, NoHash, ShortIdent, BadIdent, TooLong, BadData}
-use Rattle.j39_findings.specs.declared.plan.Plan.{Plan}
+use Rattle.j39_network.specs.declared.plan.Plan.{Plan}
 use Rattle.j39_log.specs.ReadText.{Past, ReadsLine, ReadsLines, nothing_yet, passed_over}
 use Rattle.j39_follow.specs.Alike.{FollowAndReadSeeAlike, IsUndirected, SawAlike}
 use Rattle.j39_follow.specs.FollowText.{FollowedPast, FollowsLine, FollowsLines, FollowsPart, frames_seen, line_passed_over, nothing_followed, one_line_more}

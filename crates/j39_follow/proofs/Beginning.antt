@@ -3,7 +3,7 @@ use Rattle.std.proofs.Common.{◌≡◌, ◌<◌, ℕ, ◌||◌, not, nat_lt, Bo
 use Rattle.std.proofs.lemmas.Bool.{cases_Bool, or_cases, lt-ltb, ltb-true}
 use Rattle.j39_id.specs.Addresses.{in_pool}
 use Rattle.j39_id.specs.FrameMeaning.{cannot_claim, claims_address, name_in}
-use Rattle.j39_findings.specs.declared.plan.Plan.{Plan}
+use Rattle.j39_network.specs.declared.plan.Plan.{Plan}
 use Rattle.j39_follow.specs.Contests.{Begins, BeginsNone, Defends, IsContestBehind, IsTakenBehind, Opposes, Runs, Takes, Timed, frames_of, likely_named}
 use Rattle.j39_follow.specs.Holders.{HoldsByFrames, IsHolder}
 use Rattle.j39_follow.specs.Who.{IsSameParty}

@@ -5,7 +5,7 @@ use Rattle.std.proofs.lemmas.Bool.{and_parts, cases_Bool, or_cases, le-leb, leb-
 use Rattle.std.proofs.lemmas.List.{append-nil}
 use Rattle.j39_id.specs.FrameMeaning.{cannot_claim, claims_address, name_in}
 use Rattle.j39_id.specs.declared.frame.Frame.{Frame}
-use Rattle.j39_findings.specs.declared.plan.Plan.{Plan}
+use Rattle.j39_network.specs.declared.plan.Plan.{Plan}
 use Rattle.j39_follow.specs.Contests.{Begins, BeginsNone, Defends, EndsContest, IsContention, IsContentionBehind, IsContestBehind, IsGuessed, IsTakenBehind, Leads, Opposes, Runs, Timed, claim_wait, frames_of, likely_named, nothing_contended}
 use Rattle.j39_follow.specs.Holders.{Claims}
 use Rattle.j39_follow.specs.Who.{IsLikeliest, IsSameParty}

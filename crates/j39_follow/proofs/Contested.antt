@@ -8,8 +8,8 @@ use Rattle.j39_id.specs.FrameMeaning.{cannot_claim, carries_name, claims_address
 use Rattle.j39_id.specs.Ident.{pgn_of}
 use Rattle.j39_id.specs.Services.{address_claimed}
 use Rattle.j39_id.specs.declared.frame.Frame.{Frame}
-use Rattle.j39_findings.specs.declared.plan.Plan.{Plan}
-use Rattle.j39_findings.specs.declared.plan.unit_plan.UnitPlan.{UnitPlan}
+use Rattle.j39_network.specs.declared.plan.Plan.{Plan}
+use Rattle.j39_network.specs.declared.plan.unit_plan.UnitPlan.{UnitPlan}
 use Rattle.j39_follow.specs.Contests.{IsContention, IsContested, IsGuessed, IsHeard, IsNow, IsTaken, Timed, claim_wait, frames_of}
 use Rattle.j39_follow.specs.Holders.{IsHolder}
 use Rattle.j39_follow.specs.Who.{IsLikeliest, IsWho}

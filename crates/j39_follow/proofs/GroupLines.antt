@@ -13,9 +13,9 @@ use Rattle.j39_id.specs.Lines.{Line, Short, Long, lines}
 use Rattle.j39_id.specs.declared.frame.Frame.{Frame}
 use Rattle.j39_id.specs.declared.line_error.LineError.{LineError}
 use Rattle.j39_id.specs.declared.line_error.LineError.TheVariants.{Empty, NoHash, ShortIdent, BadIdent, TooLong, BadData}
-use Rattle.j39_findings.specs.PrivateGroups.{HasNoPrivate}
-use Rattle.j39_findings.specs.declared.plan.Plan.{Plan}
-use Rattle.j39_findings.specs.declared.plan.group_plan.GroupPlan.{GroupPlan}
+use Rattle.j39_network.specs.PrivateGroups.{HasNoPrivate}
+use Rattle.j39_network.specs.declared.plan.Plan.{Plan}
+use Rattle.j39_network.specs.declared.plan.group_plan.GroupPlan.{GroupPlan}
 use Rattle.j39_log.proofs.Indexes.{first_place, no_place}
 use Rattle.j39_log.proofs.OneText.{one_packet}
 use Rattle.j39_log.specs.LogFrames.{IsHeardAs, is_planned_as, is_shared_as, planned, planned_group}

@@ -1,7 +1,7 @@
 -- What a directory knows behind a frame that tells of no address, and the frames of lines.
 use Rattle.std.proofs.Common.{◌≡◌, ◌++◌, ◌∷◌, [], ℕ, List, refl, ap, ◌∙◌}
 use Rattle.j39_id.specs.declared.frame.Frame.{Frame}
-use Rattle.j39_findings.specs.declared.plan.Plan.{Plan}
+use Rattle.j39_network.specs.declared.plan.Plan.{Plan}
 use Rattle.j39_follow.specs.Contests.{Timed, frames_of}
 use Rattle.j39_follow.specs.FollowText.{FollowedPast, frames_seen, lines_with}
 use Rattle.j39_follow.specs.LogLines.{moment_of}

@@ -5,7 +5,7 @@ use Rattle.j39_id.specs.FrameLine.{IsLastWord}
 use Rattle.j39_id.specs.Lines.{Line, Short, Long, lines}
 use Rattle.j39_id.specs.declared.frame.Frame.{Frame}
 use Rattle.j39_id.specs.declared.line_error.LineError.{LineError}
-use Rattle.j39_findings.specs.declared.plan.Plan.{Plan}
+use Rattle.j39_network.specs.declared.plan.Plan.{Plan}
 use Rattle.j39_log.proofs.OneText.{not_all, one_refused}
 use Rattle.j39_log.specs.ReadText.{refused_plan_line}
 use Rattle.j39_stream.specs.declared.verdict.Verdict.{Verdict}

@@ -4,8 +4,8 @@ use Rattle.std.specs.List.{slice_get}
 use Rattle.std.proofs.lemmas.Bool.{cases_Bool, cases_order}
 use Rattle.j39_id.specs.declared.frame.Frame.{Frame}
 use Rattle.j39_rules.specs.ListPlaces.{ValueAt}
-use Rattle.j39_findings.specs.declared.plan.Plan.{Plan}
-use Rattle.j39_findings.specs.declared.plan.unit_plan.UnitPlan.{UnitPlan}
+use Rattle.j39_network.specs.declared.plan.Plan.{Plan}
+use Rattle.j39_network.specs.declared.plan.unit_plan.UnitPlan.{UnitPlan}
 use Rattle.j39_follow.specs.Holders.{IsHolder}
 use Rattle.j39_follow.specs.Who.{IsLikeliest, IsWho, MayHold, unit_of_name}
 use Rattle.j39_follow.specs.declared.holders.Holders.{Holders}

@@ -2,7 +2,7 @@
 use Rattle.std.proofs.Common.{◌+◌, ◌≤◌, ℕ, List, Option, Some, None, Bor, ap, arith}
 use Rattle.std.specs.Prelude.{IfNone, IfSome}
 use Rattle.std.specs.Option.{option_copied}
-use Rattle.j39_findings.specs.declared.plan.Plan.{Plan}
+use Rattle.j39_network.specs.declared.plan.Plan.{Plan}
 use Rattle.j39_follow.specs.FollowText.{FollowedPast, one_line_more, with_bad_line}
 use Rattle.j39_follow.specs.LogLines.{IsInterface, NamesInterface}
 use Rattle.j39_follow.specs.declared.reading.Reading.{Reading}

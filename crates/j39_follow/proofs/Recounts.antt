@@ -6,8 +6,8 @@ use Rattle.j39_id.specs.FrameMeaning.{cannot_claim, claims_address, name_in}
 use Rattle.j39_follow.specs.Holders.{Claims, HoldsByFrames, TakesFrom, TellsOf}
 use Rattle.j39_follow.specs.Who.{IsUnitTold, is_name_of}
 use Rattle.j39_follow.specs.declared.holders.Holders.{Holders}
-use Rattle.j39_findings.specs.declared.plan.Plan.{Plan}
-use Rattle.j39_findings.specs.declared.plan.unit_plan.UnitPlan.{UnitPlan}
+use Rattle.j39_network.specs.declared.plan.Plan.{Plan}
+use Rattle.j39_network.specs.declared.plan.unit_plan.UnitPlan.{UnitPlan}
 use Rattle.j39_follow.specs.inside.Recounting.{IsMoved, IsNew, Recounts, TellsPlace, claimed_at, is_marked}
 use Rattle.j39_follow.proofs.Holding.{all_front, held_by, holds_new, holds_on, one_more, told_by, told_new, told_on}
 

@@ -9,8 +9,8 @@ use Rattle.std.proofs.lemmas.Option.{get_or_from_slice_get, slice_get-get_or, sl
 use Rattle.j39_id.specs.declared.frame.Frame.{Frame}
 use Rattle.j39_follow.specs.Holders.{IsHolder}
 use Rattle.j39_follow.specs.declared.holders.Holders.{Holders}
-use Rattle.j39_findings.specs.declared.plan.Plan.{Plan}
-use Rattle.j39_findings.specs.declared.plan.unit_plan.UnitPlan.{UnitPlan}
+use Rattle.j39_network.specs.declared.plan.Plan.{Plan}
+use Rattle.j39_network.specs.declared.plan.unit_plan.UnitPlan.{UnitPlan}
 use Rattle.j39_follow.specs.Who.{is_name_of}
 use Rattle.j39_follow.specs.inside.Recounting.{HasNameAt, IsClaimedBehind, IsLeft, IsMarked, IsMoved, Recounts, is_marked}
 

@@ -4,10 +4,10 @@ use Rattle.std.specs.List.{position_from, slice_get}
 use Rattle.std.specs.Option.{option_or}
 use Rattle.std.proofs.lemmas.Bool.{cases_Bool, eq-eqb, eqb-false, ne_eqb}
 use Rattle.std.proofs.lemmas.Iterator.Adapters.{position_from-zero}
-use Rattle.j39_findings.specs.Kinds.{AreToldApart, MayBeOne, MayHaveName, kind_of_name}
-use Rattle.j39_findings.specs.declared.plan.Plan.{Plan}
-use Rattle.j39_findings.specs.declared.plan.unit_plan.UnitPlan.{UnitPlan}
-use Rattle.j39_findings.proofs.Boxes.{apart_at}
+use Rattle.j39_network.specs.Kinds.{AreToldApart, MayBeOne, MayHaveName, kind_of_name}
+use Rattle.j39_network.specs.declared.plan.Plan.{Plan}
+use Rattle.j39_network.specs.declared.plan.unit_plan.UnitPlan.{UnitPlan}
+use Rattle.j39_network.proofs.Boxes.{apart_at}
 use Rattle.j39_follow.specs.UnitsOfNames.{NamesAreOfTheirUnits}
 use Rattle.j39_follow.specs.Who.{numbered_unit, unit_of_kind, unit_of_name}
 

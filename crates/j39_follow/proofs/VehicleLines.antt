@@ -9,7 +9,7 @@ use Rattle.j39_id.specs.Lines.{Line, Short, Long}
 use Rattle.j39_id.specs.declared.frame.Frame.{Frame}
 use Rattle.j39_id.specs.declared.line_error.LineError.{LineError}
 use Rattle.j39_id.specs.declared.line_error.LineError.TheVariants.{Empty, NoHash, ShortIdent, BadIdent, TooLong, BadData}
-use Rattle.j39_findings.specs.declared.plan.Plan.{Plan}
+use Rattle.j39_network.specs.declared.plan.Plan.{Plan}
 use Rattle.j39_log.specs.LogPairs.{Seen}
 use Rattle.j39_tp.specs.declared.packet.Packet.{Packet}
 use Rattle.j39_follow.specs.Contests.{Timed, frames_of}

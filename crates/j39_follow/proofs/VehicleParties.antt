@@ -9,8 +9,8 @@ use Rattle.std.proofs.lemmas.List.{map-append}
 use Rattle.std.proofs.lemmas.Option.{same_Some}
 use Rattle.j39_id.specs.FrameMeaning.{cannot_claim, name_in}
 use Rattle.j39_id.specs.declared.frame.Frame.{Frame}
-use Rattle.j39_findings.specs.declared.plan.Plan.{Plan}
-use Rattle.j39_findings.specs.declared.plan.unit_plan.UnitPlan.{UnitPlan}
+use Rattle.j39_network.specs.declared.plan.Plan.{Plan}
+use Rattle.j39_network.specs.declared.plan.unit_plan.UnitPlan.{UnitPlan}
 use Rattle.j39_follow.specs.Contests.{Begins, Defends, EndsContest, IsContestBehind, IsContested, IsTaken, IsTakenBehind, Leads, Opposes, Timed, frames_of}
 use Rattle.j39_follow.specs.Contests.{likely_named, nothing_contended}
 use Rattle.j39_follow.specs.Holders.{Claims, HoldsByFrames, TellsOf}

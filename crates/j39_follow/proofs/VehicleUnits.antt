@@ -8,12 +8,12 @@ use Rattle.std.proofs.lemmas.Bool.{cases_Bool, cases_eq, cases_lt, false≢true,
 use Rattle.std.proofs.lemmas.Bool.Decides.{Decides-ltb}
 use Rattle.std.proofs.lemmas.List.Quantifiers.{position-Some}
 use Rattle.std.proofs.lemmas.Option.{none-some, same_Some, slice_get-get_or}
-use Rattle.j39_findings.specs.Kinds.{AreToldApart, MayHaveName, kind_of_name}
-use Rattle.j39_findings.specs.VehiclePlans.{IsBoxOf, IsVehicleOf}
-use Rattle.j39_findings.specs.declared.plan.Plan.{Plan}
-use Rattle.j39_findings.specs.declared.plan.unit_plan.UnitPlan.{UnitPlan}
-use Rattle.j39_findings.proofs.Boxes.{apart_at}
-use Rattle.j39_findings.proofs.VehicleUnits.{AreBoth, both_at, boxes_apart, ordered, unit_of as unit_there}
+use Rattle.j39_network.specs.Kinds.{AreToldApart, MayHaveName, kind_of_name}
+use Rattle.j39_network.specs.VehiclePlans.{IsBoxOf, IsVehicleOf}
+use Rattle.j39_network.specs.declared.plan.Plan.{Plan}
+use Rattle.j39_network.specs.declared.plan.unit_plan.UnitPlan.{UnitPlan}
+use Rattle.j39_network.proofs.Boxes.{apart_at}
+use Rattle.j39_network.proofs.VehicleUnits.{AreBoth, both_at, boxes_apart, ordered, unit_of as unit_there}
 use Rattle.j39_follow.specs.VehicleLogs.{IsOfVehicle}
 use Rattle.j39_follow.specs.Who.{is_name_of, numbered_unit, unit_of_kind, unit_of_name}
 use Rattle.j39_follow.proofs.UnitNames.{names_are_of_their_units}

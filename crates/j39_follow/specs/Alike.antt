@@ -2,7 +2,7 @@
 use Rattle.std.specs.Prelude.{◌≡◌, ℕ, Bool, List}
 use Rattle.std.specs.List.{All}
 use Rattle.j39_id.specs.Lines.{Line, Short, Long, lines}
-use Rattle.j39_findings.specs.declared.plan.Plan.{Plan}
+use Rattle.j39_network.specs.declared.plan.Plan.{Plan}
 use Rattle.j39_log.specs.ReadText.{Past, ReadsLines, nothing_yet}
 use Rattle.j39_follow.specs.FollowText.{FollowedPast, FollowsLines, frames_seen, nothing_followed}
 use Rattle.j39_follow.specs.LogLines.{EndsInDirection}

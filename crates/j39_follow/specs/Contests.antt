@@ -6,7 +6,7 @@ use Rattle.std.specs.Option.{option_map_or}
 use Rattle.j39_id.specs.Addresses.{in_pool}
 use Rattle.j39_id.specs.FrameMeaning.{name_in}
 use Rattle.j39_id.specs.declared.frame.Frame.{Frame}
-use Rattle.j39_findings.specs.declared.plan.Plan.{Plan}
+use Rattle.j39_network.specs.declared.plan.Plan.{Plan}
 use Rattle.j39_follow.specs.Holders.{Claims, HoldsByFrames, IsHolder, TellsOf}
 use Rattle.j39_follow.specs.Who.{IsLikeliest, IsSameParty, IsWho, unit_of_name}
 use Rattle.j39_follow.specs.declared.contest.Contention.{Contention}

@@ -9,8 +9,8 @@ use Rattle.j39_id.specs.Pgn.{is_pdu2}
 use Rattle.j39_id.specs.declared.frame.Frame.{Frame}
 use Rattle.j39_id.specs.declared.ident.Ident.{Ident}
 use Rattle.j39_rules.specs.ListPlaces.{ValueAt}
-use Rattle.j39_findings.specs.declared.plan.Plan.{Plan}
-use Rattle.j39_findings.specs.declared.plan.group_plan.GroupPlan.{GroupPlan}
+use Rattle.j39_network.specs.declared.plan.Plan.{Plan}
+use Rattle.j39_network.specs.declared.plan.group_plan.GroupPlan.{GroupPlan}
 use Rattle.j39_log.specs.NamedReports.{named_reading_lines}
 use Rattle.j39_id.specs.FrameMeaning.{cannot_claim, claims_address, name_in, requested_group, requests_group}
 use Rattle.j39_text.specs.Labels.{unit_label}

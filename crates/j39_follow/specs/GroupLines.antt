@@ -3,9 +3,9 @@ use Rattle.std.specs.Prelude.{◌≡◌, ◌⊎◌, ℕ, Bool, List, [], ◌∷�
 use Rattle.std.specs.List.{All, slice_get}
 use Rattle.j39_id.specs.Lines.{lines}
 use Rattle.j39_id.specs.declared.frame.Frame.{Frame}
-use Rattle.j39_findings.specs.PrivateGroups.{HasNoPrivate}
-use Rattle.j39_findings.specs.declared.plan.Plan.{Plan}
-use Rattle.j39_findings.specs.declared.plan.group_plan.GroupPlan.{GroupPlan}
+use Rattle.j39_network.specs.PrivateGroups.{HasNoPrivate}
+use Rattle.j39_network.specs.declared.plan.Plan.{Plan}
+use Rattle.j39_network.specs.declared.plan.group_plan.GroupPlan.{GroupPlan}
 use Rattle.j39_log.specs.NamedReports.{named_reading_lines, named_report}
 use Rattle.j39_log.specs.ReadText.{Past, ReadsLines, nothing_yet}
 use Rattle.j39_follow.specs.Alike.{IsUndirected}

@@ -3,7 +3,7 @@ ghost use Rattle.std.specs.Prelude.{◌≡◌, ◌<◌, ◌++◌, length, OnOk};
 ghost use Rattle.j39_follow.specs.LoggedRequests.{asked_number, asked_request, asked_text, is_aimed_so, is_asked_by, number_of_group};
 
 use crate::sending::{Aim, Sending, is_sender};
-use j39_findings::{Plan, RequestPlan, To};
+use j39_network::{Plan, RequestPlan, To};
 use j39_text::TextBuffer;
 use std::alloc::AllocError;
 

@@ -1,6 +1,6 @@
 //! A claim of an address, and the contest that it begins.
 ghost use Rattle.std.specs.Prelude.{◌≡◌, ◌<◌, nat_lt, List, Option, Some, None, if◌then◌else◌};
-ghost use Rattle.j39_findings.specs.declared.plan.Plan.{Plan as APlan};
+ghost use Rattle.j39_network.specs.declared.plan.Plan.{Plan as APlan};
 ghost use Rattle.j39_follow.specs.Contests.{IsContentionBehind, IsContestBehind, IsTakenBehind, Timed, frames_of};
 ghost use Rattle.j39_follow.specs.inside.Contesting.{IsBegun, IsClaimAt, IsMet, contest_with as contest_of, defends_in, is_defended, is_place, smaller_of, opponent_of};
 ghost use Rattle.j39_follow.specs.inside.Recounting.{Knows};
@@ -10,7 +10,7 @@ use crate::claimants::Claimant;
 use crate::contest::{Contention, Contest, contest_left, running};
 use crate::directory::Directory;
 use crate::who::{Who, likely_named};
-use j39_findings::Plan;
+use j39_network::Plan;
 use j39_id::addresses::is_in_pool;
 
 /// A claim: the NAME, what is known of it, the address that it claims, and the time of the line, if it has one.

@@ -3,7 +3,7 @@ ghost use Rattle.std.specs.Prelude.{◌≡◌, ◌==◌, ℕ, None, Some, OnOk, 
 ghost use Rattle.j39_follow.specs.inside.Contesting.{claimant_in, known_in};
 
 use crate::who::{Who, likely_named};
-use j39_findings::Plan;
+use j39_network::Plan;
 use std::alloc::{AllocError, Global};
 use std::collections::BTreeMap;
 

@@ -1,6 +1,6 @@
 //! Contests for addresses.
 ghost use Rattle.std.specs.Prelude.{◌≡◌, ◌<◌, ◌==◌, ◌||◌, if◌then◌else◌, [], ◌∷◌, ◌++◌, ℕ, List, None, OnOk, true, is_some};
-ghost use Rattle.j39_findings.specs.declared.plan.Plan.{Plan as APlan};
+ghost use Rattle.j39_network.specs.declared.plan.Plan.{Plan as APlan};
 ghost use Rattle.j39_id.specs.FrameMeaning.{cannot_claim, claims_address, name_in};
 ghost use Rattle.j39_follow.specs.Contests.{IsContentionBehind, Timed, frames_of};
 ghost use Rattle.j39_follow.specs.LogLines.{moment_of};
@@ -14,7 +14,7 @@ use crate::directory::Directory;
 use crate::known_parties::ADDRESSES;
 use crate::moment::moment;
 use crate::who::Who;
-use j39_findings::Plan;
+use j39_network::Plan;
 use j39_id::{Frame, Ident, carried_name, claims_address};
 use std::alloc::{AllocError, Global};
 

@@ -1,7 +1,7 @@
 //! Who stands behind each address.
 ghost use Rattle.std.specs.Prelude.{◌≡◌, [], ◌∷◌, ◌++◌, List, length};
 ghost use Rattle.j39_id.specs.declared.frame.Frame.{Frame as AFrame};
-ghost use Rattle.j39_findings.specs.declared.plan.Plan.{Plan as APlan};
+ghost use Rattle.j39_network.specs.declared.plan.Plan.{Plan as APlan};
 ghost use Rattle.j39_follow.specs.Holders.{IsHolder};
 ghost use Rattle.j39_follow.specs.inside.Contesting.{IsGuess, IsLikelyName, IsNameAt};
 ghost use Rattle.j39_follow.specs.inside.Recounting.{ArePartiesOf, HasNames, Knows, Recounts};
@@ -10,7 +10,7 @@ use crate::holders::Holders;
 use crate::known_parties::{ADDRESSES, Parties};
 use crate::naming::names_of;
 use crate::who::{Who, who_at};
-use j39_findings::Plan;
+use j39_network::Plan;
 use j39_id::Frame;
 use j39_text::TextBuffer;
 use std::alloc::Global;

@@ -11,7 +11,7 @@ ghost use Rattle.j39_follow.specs.inside.Tallies.{IsTally};
 
 use crate::holders::Holders;
 use crate::tally::{Tally, first_of};
-use j39_findings::{FlowPlan, GroupPlan, Plan, To, UnitPlan};
+use j39_network::{FlowPlan, GroupPlan, Plan, To, UnitPlan};
 use j39_text::{TextBuffer, group_label, unit_label};
 use std::alloc::AllocError;
 

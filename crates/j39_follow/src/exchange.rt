@@ -4,7 +4,7 @@ ghost use Rattle.j39_follow.specs.inside.Exchanging.{IsAfter, nothing_asked};
 
 use crate::event::Event;
 use crate::replies::{answers, asks, refuses};
-use j39_findings::{Plan, RequestPlan};
+use j39_network::{Plan, RequestPlan};
 
 /// How often a request was asked, answered and refused, and whether it is open.
 #[derive(Clone, Copy)]

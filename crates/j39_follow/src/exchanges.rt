@@ -1,15 +1,15 @@
 //! How often all requests were asked, answered and refused.
 ghost use Rattle.std.specs.Prelude.{◌≡◌, ◌<◌, ◌-◌, ◌^◌, ◌++◌, ◌∷◌, [], List, length};
 ghost use Rattle.std.specs.Option.{option_to_list};
-ghost use Rattle.j39_findings.specs.PlanLimits.{request_limit};
-ghost use Rattle.j39_findings.specs.declared.plan.Plan.{Plan as APlan};
+ghost use Rattle.j39_network.specs.PlanLimits.{request_limit};
+ghost use Rattle.j39_network.specs.declared.plan.Plan.{Plan as APlan};
 ghost use Rattle.j39_follow.specs.declared.event.Event.{Event as AnEvent};
 ghost use Rattle.j39_follow.specs.inside.Exchanging.{AreExchanges, exchange_at};
 
 use crate::event::Event;
 use crate::exchange::Exchange;
-use j39_findings::Plan;
-use j39_findings::limits::REQUEST_LIMIT;
+use j39_network::Plan;
+use j39_network::limits::REQUEST_LIMIT;
 
 /// How often each request was asked, answered and refused, by its place.
 #[derive(Drop)]

@@ -1,6 +1,6 @@
 //! The report of a message: who sent which group to whom, and what it reads.
 ghost use Rattle.std.specs.Prelude.{◌≡◌, ◌++◌, ◌&&◌, ℕ, List, if◌then◌else◌, is_some, IfOk, OnOk};
-ghost use Rattle.j39_findings.specs.declared.plan.Plan.{Plan as APlan};
+ghost use Rattle.j39_network.specs.declared.plan.Plan.{Plan as APlan};
 ghost use Rattle.j39_id.specs.Pgn.{is_pdu2};
 ghost use Rattle.j39_log.specs.inside.ReportHeads.{report_head};
 ghost use Rattle.j39_follow.specs.Contests.{IsTaken, Timed};
@@ -16,7 +16,7 @@ use crate::message::{Arrival, Sort};
 use crate::party_text::{is_to_all, write_parties};
 use crate::sending::{Aim, Sending, flow_of, group_of};
 use crate::stamp::{Stamp, write_stamp};
-use j39_findings::{GroupPlan, Plan};
+use j39_network::{GroupPlan, Plan};
 use j39_id::{PDU2_FIRST, pf_of};
 use j39_log::{Groups, write_digits, write_group_readings};
 use j39_text::TextBuffer;

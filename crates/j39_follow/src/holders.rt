@@ -4,14 +4,14 @@ ghost use Rattle.std.specs.List.{slice_get};
 ghost use Rattle.j39_id.specs.Addresses.{null_address};
 ghost use Rattle.j39_id.specs.Limits.{unit_limit};
 ghost use Rattle.j39_id.specs.declared.frame.Frame.{Frame as AFrame};
-ghost use Rattle.j39_findings.specs.declared.plan.Plan.{Plan as APlan};
-ghost use Rattle.j39_findings.specs.declared.plan.unit_plan.UnitPlan.{UnitPlan as AUnitPlan};
+ghost use Rattle.j39_network.specs.declared.plan.Plan.{Plan as APlan};
+ghost use Rattle.j39_network.specs.declared.plan.unit_plan.UnitPlan.{UnitPlan as AUnitPlan};
 ghost use Rattle.j39_follow.specs.Holders.{IsHolder, TellsOf};
 ghost use Rattle.j39_follow.specs.Who.{is_name_of as is_of_unit, unit_of_name};
 ghost use Rattle.j39_follow.specs.inside.Recounting.{HasNameAt, IsHeldByUnit, IsLatestBelow, IsLeft, IsMarked, IsMoved, Recounts, claimed_at, is_marked};
 
 use crate::who::unit_named;
-use j39_findings::{Plan, UnitPlan};
+use j39_network::{Plan, UnitPlan};
 use j39_id::addresses::NULL_ADDRESS;
 use j39_id::limits::UNIT_LIMIT;
 use j39_id::{Frame, cannot_claim, carried_name, claims_address};

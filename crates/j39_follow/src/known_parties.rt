@@ -1,6 +1,6 @@
 //! Who is taken to be behind each address.
 ghost use Rattle.std.specs.Prelude.{◌≡◌, List, IfSome};
-ghost use Rattle.j39_findings.specs.declared.plan.Plan.{Plan as APlan};
+ghost use Rattle.j39_network.specs.declared.plan.Plan.{Plan as APlan};
 ghost use Rattle.j39_follow.specs.Contests.{IsTaken, Timed};
 ghost use Rattle.j39_follow.specs.Who.{who_text};
 ghost use Rattle.j39_follow.specs.inside.Contesting.{ShowsParties};

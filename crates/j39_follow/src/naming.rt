@@ -5,7 +5,7 @@ ghost use Rattle.j39_follow.specs.inside.Recounting.{ArePartyNames};
 
 use crate::party_text::write_who;
 use crate::who::Who;
-use j39_findings::Plan;
+use j39_network::Plan;
 use j39_text::TextBuffer;
 use std::alloc::{AllocError, Global};
 

@@ -1,13 +1,13 @@
 //! How often what units need was sent.
 ghost use Rattle.std.specs.Prelude.{◌≡◌, ◌<◌, ◌^◌, ◌++◌, ℕ, List, OnOk, if◌then◌else◌};
-ghost use Rattle.j39_findings.specs.Found.{meets as brings};
-ghost use Rattle.j39_findings.specs.PlanLimits.{flow_limit};
+ghost use Rattle.j39_network.specs.Serving.{meets as brings};
+ghost use Rattle.j39_network.specs.PlanLimits.{flow_limit};
 ghost use Rattle.j39_follow.specs.FollowText.{met_need_text, met_signal_text, need_ends, need_met_line, times_met as times_sent};
 ghost use Rattle.j39_follow.specs.declared.message.Sort.{Sort as ASort};
 ghost use Rattle.j39_follow.specs.inside.Tallies.{IsTally, tally_at};
 
 use crate::tally::Tally;
-use j39_findings::{FlowPlan, NeedPlan, Plan, RequestPlan, meets};
+use j39_network::{FlowPlan, NeedPlan, Plan, RequestPlan, meets};
 use j39_text::{TextBuffer, group_label, signal_label, unit_label};
 use std::alloc::AllocError;
 

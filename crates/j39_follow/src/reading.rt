@@ -2,7 +2,7 @@
 ghost use Rattle.std.specs.Prelude.{◌≡◌, ◌+◌, ◌-◌, ◌||◌, true, false, ◌^◌, ◌<◌, ◌≤◌, ◌++◌, ◌∷◌, [], ℕ, List, None, length, IfOk, OnOk};
 ghost use Rattle.std.specs.Option.{option_copied, option_to_list};
 ghost use Rattle.j39_id.specs.Lines.{tells};
-ghost use Rattle.j39_findings.specs.declared.plan.Plan.{Plan as APlan};
+ghost use Rattle.j39_network.specs.declared.plan.Plan.{Plan as APlan};
 ghost use Rattle.j39_log.specs.inside.Listening.{AreAllInRange};
 ghost use Rattle.j39_log.specs.LogPairs.{Seen};
 ghost use Rattle.j39_id.specs.FrameMeaning.{cannot_claim, claims_address};
@@ -35,7 +35,7 @@ use crate::request_ends::write_requests;
 use crate::stamp::Stamp;
 use crate::taking::taken;
 use crate::tally::Tally;
-use j39_findings::Plan;
+use j39_network::Plan;
 use j39_id::{Cut, Frame, LineError, cannot_claim, claims_address, read_frame};
 use j39_log::{Groups, Listeners};
 use j39_text::TextBuffer;

@@ -5,7 +5,7 @@ ghost use Rattle.j39_follow.specs.LoggedRequests.{answers, asks_request as asks,
 use crate::asking::asked_number;
 use crate::event::{Event, Reply};
 use crate::sending::Aim;
-use j39_findings::{Plan, RequestPlan, To};
+use j39_network::{Plan, RequestPlan, To};
 
 // Whether this unit was asked: of a request to all each other one.
 fn was_asked(to: To, asker: usize, unit: usize) -> bool

@@ -7,7 +7,7 @@ ghost use Rattle.j39_follow.specs.inside.Exchanging.{AreExchanges};
 use crate::endings::write_to;
 use crate::exchange::Exchange;
 use crate::exchanges::Exchanges;
-use j39_findings::{Plan, RequestPlan};
+use j39_network::{Plan, RequestPlan};
 use j39_text::{TextBuffer, group_label, unit_label};
 use std::alloc::AllocError;
 

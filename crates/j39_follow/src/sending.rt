@@ -1,12 +1,12 @@
 //! A message as it was sent, and the flow that it fits.
 ghost use Rattle.std.specs.Prelude.{◌≡◌, ◌<◌, ◌↔◌, ℕ, Some, false, get_or, IsTrue, length};
 ghost use Rattle.std.specs.List.{position};
-ghost use Rattle.j39_findings.specs.declared.plan.flow_plan.FlowPlan.{FlowPlan as APlannedFlow};
+ghost use Rattle.j39_network.specs.declared.plan.flow_plan.FlowPlan.{FlowPlan as APlannedFlow};
 ghost use Rattle.j39_log.specs.inside.Listening.{HasAllOf};
 ghost use Rattle.j39_follow.specs.inside.Reporting.{is_all};
 ghost use Rattle.j39_follow.specs.Fits.{IsSentGroup, MayBeGroup, fits, fits_all, fitting_flow, is_for_all as goes_to_all, may_have_bytes, is_unit, reaches as is_reached};
 
-use j39_findings::{FlowPlan, GroupPlan, To};
+use j39_network::{FlowPlan, GroupPlan, To};
 use j39_log::{Groups, Span};
 use j39_signal::is_selected;
 

@@ -2,15 +2,15 @@
 ghost use Rattle.std.specs.Prelude.{◌≡◌, ◌==◌, ◌+◌, ◌-◌, ◌^◌, ◌<◌, ◌∷◌, ◌++◌, [], ℕ, List, if◌then◌else◌, length, min};
 ghost use Rattle.std.specs.List.{position};
 ghost use Rattle.std.specs.Option.{option_to_list};
-ghost use Rattle.j39_findings.specs.PlanLimits.{flow_limit, group_limit};
-ghost use Rattle.j39_findings.specs.declared.plan.Plan.{Plan as APlan};
-ghost use Rattle.j39_findings.specs.declared.plan.group_plan.GroupPlan.{GroupPlan as APlannedGroup};
+ghost use Rattle.j39_network.specs.PlanLimits.{flow_limit, group_limit};
+ghost use Rattle.j39_network.specs.declared.plan.Plan.{Plan as APlan};
+ghost use Rattle.j39_network.specs.declared.plan.group_plan.GroupPlan.{GroupPlan as APlannedGroup};
 ghost use Rattle.j39_follow.specs.inside.Tallies.{IsTally, tally_at};
 ghost use Rattle.j39_follow.specs.declared.message.Sort.{Sort as ASort};
 
 use crate::message::Sort;
-use j39_findings::Plan;
-use j39_findings::limits::{FLOW_LIMIT, GROUP_LIMIT};
+use j39_network::Plan;
+use j39_network::limits::{FLOW_LIMIT, GROUP_LIMIT};
 use j39_log::Groups;
 
 /// How often each flow was sent, each group without a flow, and at the first group of a number what else there was of the number.

@@ -21,7 +21,7 @@ use crate::known_parties::Parties;
 use crate::message::{Sort, in_frame};
 use crate::sending::{Aim, Sending};
 use crate::who::Who;
-use j39_findings::Plan;
+use j39_network::Plan;
 use j39_id::addresses::GLOBAL_ADDRESS;
 use j39_id::{Frame, requested_group, requests_group};
 

@@ -2,14 +2,14 @@
 ghost use Rattle.std.specs.Prelude.{◌≡◌, ◌<◌, ◌+◌, ℕ, List, length, IfSome, Some, true, false};
 ghost use Rattle.j39_id.specs.declared.frame.Frame.{Frame as AFrame};
 ghost use Rattle.std.specs.List.{slice_get};
-ghost use Rattle.j39_findings.specs.declared.plan.unit_plan.UnitPlan.{UnitPlan as AUnitPlan};
+ghost use Rattle.j39_network.specs.declared.plan.unit_plan.UnitPlan.{UnitPlan as AUnitPlan};
 ghost use Rattle.j39_follow.specs.Contests.{likely_named as likely_who};
 ghost use Rattle.j39_follow.specs.Who.{IsWho, MayHold, is_of_any as is_any, numbered_unit as first_numbered, unit_of_kind as first_of_kind, unit_of_name as first_named};
 ghost use Rattle.j39_follow.specs.inside.Likeliest.{IsBelowBest, IsBestOf, IsNotBelow};
 ghost use Rattle.j39_follow.specs.inside.Recounting.{Recounts};
 
 use crate::holders::Holders;
-use j39_findings::{Plan, kind_of_name};
+use j39_network::{Plan, kind_of_name};
 use j39_id::Name;
 
 /// Who stands behind an address of a log. Units are given by their places, from 0.

@@ -3,10 +3,10 @@ use Rattle.std.proofs.Common.{◌≡◌, ℕ, List, [], ◌∷◌, ◌++◌, len
 use Rattle.std.specs.List.{HoldsAt, slice_get}
 use Rattle.std.proofs.lemmas.List.Elements.{All-get_or}
 use Rattle.std.proofs.lemmas.Option.{get_or_from_slice_get, slice_get_within}
-use Rattle.j39_findings.specs.Records.{signals_in}
-use Rattle.j39_findings.specs.SoundSignals.{IsBlankOf, ReadsLastGiven, SoundSignals}
-use Rattle.j39_findings.specs.declared.plan.Plan.{Plan}
-use Rattle.j39_findings.specs.declared.plan.group_plan.GroupPlan.{GroupPlan}
+use Rattle.j39_network.specs.Records.{signals_in}
+use Rattle.j39_network.specs.SoundSignals.{IsBlankOf, ReadsLastGiven, SoundSignals}
+use Rattle.j39_network.specs.declared.plan.Plan.{Plan}
+use Rattle.j39_network.specs.declared.plan.group_plan.GroupPlan.{GroupPlan}
 use Rattle.j39_signal.specs.Parts.{SignalParts}
 use Rattle.j39_world.specs.Sound.{AreReportsSound, IsSubsequence, reported}
 use Rattle.j39_world.specs.Transfers.{Begun}

@@ -7,9 +7,9 @@ use Rattle.j39_signal.specs.Laid.{Chain, Write, last_payload}
 use Rattle.j39_signal.specs.Parts.{SignalParts}
 use Rattle.j39_signal.specs.State.{IsRawOf, state_of}
 use Rattle.j39_signal.specs.declared.state.State.TheVariants.{Value}
-use Rattle.j39_findings.specs.Records.{signals_in}
-use Rattle.j39_findings.specs.SoundSignals.{IsBlankOf, LeaveAlone, unset_state}
-use Rattle.j39_findings.specs.declared.plan.group_plan.GroupPlan.{GroupPlan}
+use Rattle.j39_network.specs.Records.{signals_in}
+use Rattle.j39_network.specs.SoundSignals.{IsBlankOf, LeaveAlone, unset_state}
+use Rattle.j39_network.specs.declared.plan.group_plan.GroupPlan.{GroupPlan}
 use Rattle.j39_world.specs.Sound.{AreReportsSound, reported}
 use Rattle.j39_world.specs.Transfers.{Begun}
 use Rattle.j39_world.specs.World.{World}

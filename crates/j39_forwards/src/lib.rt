@@ -3,10 +3,10 @@
 
 ghost use Rattle.std.specs.Prelude.{◌≡◌, ℕ, List, length, Some};
 ghost use Rattle.std.specs.List.{HoldsAt, slice_get};
-ghost use Rattle.j39_findings.specs.Records.{signals_in};
-ghost use Rattle.j39_findings.specs.SoundSignals.{SoundSignals};
-ghost use Rattle.j39_findings.specs.declared.plan.Plan.{Plan};
-ghost use Rattle.j39_findings.specs.declared.plan.group_plan.GroupPlan.{GroupPlan};
+ghost use Rattle.j39_network.specs.Records.{signals_in};
+ghost use Rattle.j39_network.specs.SoundSignals.{SoundSignals};
+ghost use Rattle.j39_network.specs.declared.plan.Plan.{Plan};
+ghost use Rattle.j39_network.specs.declared.plan.group_plan.GroupPlan.{GroupPlan};
 ghost use Rattle.j39_signal.specs.Parts.{SignalParts};
 ghost use Rattle.j39_world.specs.Sound.{AreReportsSound};
 ghost use Rattle.j39_world.specs.World.{World};

@@ -5,14 +5,14 @@ use Rattle.j39_claim.specs.declared.item.Say.TheVariants.{Claim, Cannot}
 use Rattle.j39_claim.specs.declared.item.Item.{Item}
 use Rattle.j39_claim.specs.declared.item.Item.TheVariants.{Told}
 use Rattle.j39_findings.specs.Findings.{Clean}
-use Rattle.j39_findings.specs.Needs.{AreNeedsMet}
-use Rattle.j39_findings.specs.PlannedRequests.{AreAnsweredWell, AreRequestsServed}
-use Rattle.j39_findings.specs.SoundSignals.{SoundSignals}
-use Rattle.j39_findings.specs.declared.plan.Plan.{Plan}
-use Rattle.j39_findings.specs.declared.steps.Step.{Step}
+use Rattle.j39_network.specs.Needs.{AreNeedsMet}
+use Rattle.j39_network.specs.PlannedRequests.{AreAnsweredWell, AreRequestsServed}
+use Rattle.j39_network.specs.SoundSignals.{SoundSignals}
+use Rattle.j39_network.specs.declared.plan.Plan.{Plan}
+use Rattle.j39_network.specs.declared.steps.Step.{Step}
 use Rattle.j39_world.specs.World.{World, Undelivered, all_off}
 use Rattle.j39_world.specs.Run.{Run}
-use Rattle.j39_findings.specs.PlannedUnits.{unit_at, units_of}
+use Rattle.j39_network.specs.PlannedUnits.{unit_at, units_of}
 use Rattle.j39_world.specs.Opening.{AreNamesDistinct}
 use Rattle.j39_world.specs.Settling.{Settles}
 use Rattle.j39_world.specs.Ending.{TransfersEnd}
@@ -23,7 +23,7 @@ use Rattle.j39_world.specs.SentArriving.{HasArrivedAlone, NeededAlone, SentFrame
 use Rattle.j39_world.specs.Sound.{AreAddressesSound, AreAddressesDifferent, AreAllDelivered, AreNotesRight, AreKeptFree, DoesOneLie, IsQuiet}
 use Rattle.j39_world.specs.Sound.{AreReportsSound, AreSentFramesSound, IsAcknowledgedReported}
 use Rattle.j39_world.specs.SoundPlan.{AlwaysBeside, IsSending, IsSound}
-use Rattle.j39_findings.specs.Staying.{IsAloneThere}
+use Rattle.j39_network.specs.Staying.{IsAloneThere}
 use Rattle.j39_world.specs.HeldAddresses.{ArePlannedApart, HoldsAlone, HoldsPlanned}
 use Rattle.j39_laws.proofs.Addresses.CleanUnits.{clean_units}
 

@@ -2,12 +2,12 @@
 use Rattle.std.proofs.Common.{◌≡◌, ℕ, zero, suc, ◌&&◌, nat_le, List, [], ◌∷◌, map, All, Option, Some, None, refl, ap, ◌∙◌, subst}
 use Rattle.std.specs.List.{slice_get}
 use Rattle.std.specs.Option.{option_map_or}
-use Rattle.j39_findings.proofs.Lengths.{same_length}
+use Rattle.j39_network.proofs.Lengths.{same_length}
 use Rattle.j39_rules.proofs.Members.{all_at}
-use Rattle.j39_findings.specs.Lengths.{HasOneLengthEach}
-use Rattle.j39_findings.specs.declared.plan.Plan.{Plan}
-use Rattle.j39_findings.specs.declared.plan.flow_plan.FlowPlan.{FlowPlan}
-use Rattle.j39_findings.specs.declared.plan.group_plan.GroupPlan.{GroupPlan}
+use Rattle.j39_network.specs.Lengths.{HasOneLengthEach}
+use Rattle.j39_network.specs.declared.plan.Plan.{Plan}
+use Rattle.j39_network.specs.declared.plan.flow_plan.FlowPlan.{FlowPlan}
+use Rattle.j39_network.specs.declared.plan.group_plan.GroupPlan.{GroupPlan}
 use Rattle.j39_world.specs.Flows.{flow_of, HasOneLength, HaveOneLengthEach}
 use Rattle.j39_world.specs.declared.flow.Flow.{Flow}
 

@@ -12,15 +12,15 @@ use Rattle.j39_signal.specs.State.{IsRawOf, state_of}
 use Rattle.j39_signal.proofs.Writes.{keeps_writes, ones_read, value_read}
 use Rattle.j39_signal.specs.declared.state.State.TheVariants.{Value}
 use Rattle.j39_findings.specs.Findings.{Clean}
-use Rattle.j39_findings.specs.Records.{signals_in}
-use Rattle.j39_findings.specs.SoundSignals.{IsBlankOf, ReadsBack, ReadsLastGiven, unset_state}
+use Rattle.j39_network.specs.Records.{signals_in}
+use Rattle.j39_network.specs.SoundSignals.{IsBlankOf, ReadsBack, ReadsLastGiven, unset_state}
 use Rattle.j39_findings.proofs.CleanLaws.{lays_out_each}
 use Rattle.j39_findings.proofs.LastWrites.{reads_last}
-use Rattle.j39_findings.specs.declared.plan.Plan.{Plan}
-use Rattle.j39_findings.specs.declared.plan.group_plan.GroupPlan.{GroupPlan}
-use Rattle.j39_findings.specs.declared.plan.to.To.{To}
-use Rattle.j39_findings.specs.declared.plan.to.To.TheVariants.{All as ToAll, One}
-use Rattle.j39_findings.specs.declared.steps.Step.{Step}
+use Rattle.j39_network.specs.declared.plan.Plan.{Plan}
+use Rattle.j39_network.specs.declared.plan.group_plan.GroupPlan.{GroupPlan}
+use Rattle.j39_network.specs.declared.plan.to.To.{To}
+use Rattle.j39_network.specs.declared.plan.to.To.TheVariants.{All as ToAll, One}
+use Rattle.j39_network.specs.declared.steps.Step.{Step}
 use Rattle.j39_tp.specs.declared.sending.outcome.Outcome.{Outcome}
 use Rattle.j39_tp.specs.declared.sending.outcome.Outcome.TheVariants.{Acked, Sent}
 use Rattle.j39_world.specs.Arriving.{HasArrived}

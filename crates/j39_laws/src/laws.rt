@@ -1,12 +1,12 @@
 //! Laws of all runs of a plan.
 ghost use Rattle.std.specs.Prelude.{◌≡◌, List, false};
 ghost use Rattle.j39_findings.specs.Findings.{Clean};
-ghost use Rattle.j39_findings.specs.declared.plan.Plan.{Plan as Plans};
-ghost use Rattle.j39_findings.specs.declared.steps.Step.{Step as Steps};
+ghost use Rattle.j39_network.specs.declared.plan.Plan.{Plan as Plans};
+ghost use Rattle.j39_network.specs.declared.steps.Step.{Step as Steps};
 ghost use Rattle.j39_world.specs.World.{World, all_off};
 ghost use Rattle.j39_findings.specs.ConflictRuns.{IsConflictRun};
 ghost use Rattle.j39_findings.specs.declared.checking.finding.Finding.{Finding as Findings};
-ghost use Rattle.j39_findings.specs.PlannedUnits.{units_of};
+ghost use Rattle.j39_network.specs.PlannedUnits.{units_of};
 ghost use Rattle.j39_world.specs.Conflict.{LeavesWithoutAddress};
 ghost use Rattle.j39_world.specs.Opening.{AreNamesDistinct};
 ghost use Rattle.j39_world.specs.Run.{Run, RunsThrough};

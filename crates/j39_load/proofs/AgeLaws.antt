@@ -6,16 +6,19 @@ use Rattle.std.proofs.lemmas.Option.{none-some, same_Some, get_or_from_slice_get
 use Rattle.std.specs.List.{slice_get}
 use Rattle.std.specs.Option.{option_map_or}
 use Rattle.std.specs.Prelude.{slice_index_or}
-use Rattle.j39_findings.specs.Findings.{Clean, Meets}
-use Rattle.j39_findings.specs.Found.{is_unmet, meets}
+use Rattle.j39_findings.specs.Findings.{Clean}
+use Rattle.j39_network.specs.Serving.{Meets}
+use Rattle.j39_findings.specs.Found.{is_unmet}
+use Rattle.j39_network.specs.Serving.{meets}
 use Rattle.j39_findings.proofs.CleanLaws.{parts_of}
-use Rattle.j39_findings.proofs.Deciding.{Decides-is_unmet, Decides-meets}
-use Rattle.j39_findings.specs.declared.plan.Plan.{Plan}
-use Rattle.j39_findings.specs.declared.plan.flow_plan.FlowPlan.{FlowPlan}
-use Rattle.j39_findings.specs.declared.plan.need_plan.NeedPlan.{NeedPlan}
-use Rattle.j39_findings.specs.declared.plan.request_plan.RequestPlan.{RequestPlan}
-use Rattle.j39_findings.specs.declared.plan.timing.Timing.{Timing}
-use Rattle.j39_findings.specs.declared.plan.unit_plan.UnitPlan.{UnitPlan}
+use Rattle.j39_findings.proofs.Deciding.{Decides-is_unmet}
+use Rattle.j39_network.proofs.Served.{Decides-meets}
+use Rattle.j39_network.specs.declared.plan.Plan.{Plan}
+use Rattle.j39_network.specs.declared.plan.flow_plan.FlowPlan.{FlowPlan}
+use Rattle.j39_network.specs.declared.plan.need_plan.NeedPlan.{NeedPlan}
+use Rattle.j39_network.specs.declared.plan.request_plan.RequestPlan.{RequestPlan}
+use Rattle.j39_network.specs.declared.plan.timing.Timing.{Timing}
+use Rattle.j39_network.specs.declared.plan.unit_plan.UnitPlan.{UnitPlan}
 use Rattle.j39_load.specs.declared.delay.Delay.{Delay}
 use Rattle.j39_load.specs.declared.delay.Delay.TheVariants.{Within, Late, Long, Whole}
 use Rattle.j39_load.specs.declared.load_finding.LoadFinding.TheVariants.{NeedTooOld}

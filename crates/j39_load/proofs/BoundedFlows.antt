@@ -5,9 +5,9 @@ use Rattle.std.proofs.lemmas.Bool.{leb-true, true≢false}
 use Rattle.std.proofs.lemmas.Option.{same_Some, none-some, slice_get_within, slice_get-get_or, get_or_from_slice_get}
 use Rattle.std.specs.Bool.{MatchBool}
 use Rattle.std.specs.List.{slice_get}
-use Rattle.j39_findings.specs.declared.plan.Plan.{Plan}
-use Rattle.j39_findings.specs.declared.plan.timing.Timing.{Timing}
-use Rattle.j39_findings.specs.declared.plan.unit_plan.UnitPlan.{UnitPlan}
+use Rattle.j39_network.specs.declared.plan.Plan.{Plan}
+use Rattle.j39_network.specs.declared.plan.timing.Timing.{Timing}
+use Rattle.j39_network.specs.declared.plan.unit_plan.UnitPlan.{UnitPlan}
 use Rattle.j39_load.specs.declared.delay.Delay.{Delay}
 use Rattle.j39_load.specs.declared.delay.Delay.TheVariants.{Within, Late, Long, Whole}
 use Rattle.j39_load.specs.declared.flow_frames.FlowFrames.{FlowFrames}

@@ -7,7 +7,7 @@ use Rattle.std.proofs.lemmas.Option.{none-some}
 use Rattle.std.specs.List.{cons_option, filter_map, range_with_len, slice_get}
 use Rattle.std.specs.Option.{option_and_then}
 use Rattle.j39_id.specs.Limits.{unit_limit}
-use Rattle.j39_findings.specs.declared.plan.timing.Timing.{Timing}
+use Rattle.j39_network.specs.declared.plan.timing.Timing.{Timing}
 use Rattle.j39_load.specs.declared.broadcast.Broadcast.{Broadcast}
 use Rattle.j39_load.specs.declared.flow_frames.FlowFrames.{FlowFrames}
 use Rattle.j39_load.specs.AnyQueues.{held_at, later_frames, offered, offered_at}

@@ -10,16 +10,16 @@ use Rattle.j39_id.specs.Pgn.{is_pdu2, pf_of}
 use Rattle.j39_findings.specs.CleanParts.{CanBePlanned}
 use Rattle.j39_findings.specs.Findings.{Clean}
 use Rattle.j39_rules.specs.ListPlaces.{SomeMeets}
-use Rattle.j39_findings.specs.PrivateGroups.{Fits}
+use Rattle.j39_network.specs.PrivateGroups.{Fits}
 use Rattle.j39_signal.specs.Selectors.{DifferInValue}
 use Rattle.j39_signal.specs.declared.selector.Selector.{Selector}
 use Rattle.j39_findings.specs.declared.checking.finding.Finding.TheVariants.{FlowRepeated, FlowToOne}
-use Rattle.j39_findings.specs.declared.plan.Plan.{Plan}
-use Rattle.j39_findings.specs.declared.plan.flow_plan.FlowPlan.{FlowPlan}
-use Rattle.j39_findings.specs.declared.plan.group_plan.GroupPlan.{GroupPlan}
-use Rattle.j39_findings.specs.declared.plan.request_plan.RequestPlan.{RequestPlan}
-use Rattle.j39_findings.specs.declared.plan.to.To.{To}
-use Rattle.j39_findings.specs.declared.plan.to.To.TheVariants.{All as ToAll, One}
+use Rattle.j39_network.specs.declared.plan.Plan.{Plan}
+use Rattle.j39_network.specs.declared.plan.flow_plan.FlowPlan.{FlowPlan}
+use Rattle.j39_network.specs.declared.plan.group_plan.GroupPlan.{GroupPlan}
+use Rattle.j39_network.specs.declared.plan.request_plan.RequestPlan.{RequestPlan}
+use Rattle.j39_network.specs.declared.plan.to.To.{To}
+use Rattle.j39_network.specs.declared.plan.to.To.TheVariants.{All as ToAll, One}
 use Rattle.j39_findings.proofs.CleanLaws.{parts_of}
 use Rattle.j39_findings.proofs.PrivateGroups.{one_unless_apart}
 use Rattle.j39_load.specs.Loads.{destination_at, group_ident}

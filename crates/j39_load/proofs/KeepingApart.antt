@@ -11,18 +11,18 @@ use Rattle.std.specs.Option.{option_map_or}
 use Rattle.j39_claim.specs.ClaimRule.{PlannedUnit}
 use Rattle.j39_id.specs.Ident.{identifier_of}
 use Rattle.j39_id.specs.Pgn.{IsPgn, is_pdu2, pdu2_first, pf_of}
-use Rattle.j39_findings.specs.declared.plan.Plan.{Plan}
-use Rattle.j39_findings.specs.declared.plan.flow_plan.FlowPlan.{FlowPlan}
-use Rattle.j39_findings.specs.declared.plan.group_plan.GroupPlan.{GroupPlan}
-use Rattle.j39_findings.specs.declared.plan.pace.Pace.{Pace}
-use Rattle.j39_findings.specs.declared.plan.queue.Queue.{Queue}
-use Rattle.j39_findings.specs.declared.plan.timing.Bitrate.{Bitrate}
-use Rattle.j39_findings.specs.declared.plan.timing.Bitrate.TheVariants.{Kbit125, Kbit250, Kbit500, Mbit1}
-use Rattle.j39_findings.specs.declared.plan.timing.ErrorRate.{ErrorRate}
-use Rattle.j39_findings.specs.declared.plan.timing.Timing.{Timing}
-use Rattle.j39_findings.specs.declared.plan.to.To.{To}
-use Rattle.j39_findings.specs.declared.plan.to.To.TheVariants.{All, One}
-use Rattle.j39_findings.specs.declared.plan.unit_plan.UnitPlan.{UnitPlan}
+use Rattle.j39_network.specs.declared.plan.Plan.{Plan}
+use Rattle.j39_network.specs.declared.plan.flow_plan.FlowPlan.{FlowPlan}
+use Rattle.j39_network.specs.declared.plan.group_plan.GroupPlan.{GroupPlan}
+use Rattle.j39_network.specs.declared.plan.pace.Pace.{Pace}
+use Rattle.j39_network.specs.declared.plan.queue.Queue.{Queue}
+use Rattle.j39_network.specs.declared.plan.timing.Bitrate.{Bitrate}
+use Rattle.j39_network.specs.declared.plan.timing.Bitrate.TheVariants.{Kbit125, Kbit250, Kbit500, Mbit1}
+use Rattle.j39_network.specs.declared.plan.timing.ErrorRate.{ErrorRate}
+use Rattle.j39_network.specs.declared.plan.timing.Timing.{Timing}
+use Rattle.j39_network.specs.declared.plan.to.To.{To}
+use Rattle.j39_network.specs.declared.plan.to.To.TheVariants.{All, One}
+use Rattle.j39_network.specs.declared.plan.unit_plan.UnitPlan.{UnitPlan}
 use Rattle.j39_rules.proofs.Members.{all_at}
 use Rattle.j39_load.specs.KeepsErrors.{KeepsErrors, begins_within, planned_with}
 use Rattle.j39_load.specs.KeepsPlan.{CanBeKept, Held, IsFrameOf, IsMsBehind, KeepsQueues, KeepsToPlan, FrameFlows, bit_time, goes_to}
@@ -40,7 +40,7 @@ use Rattle.j39_timing.specs.Rounds.{AreSenders, Senders, all_planned, in_rounds}
 use Rattle.j39_timing.specs.Sums.{total}
 use Rattle.j39_timing.specs.TimedFrames.{Schedule}
 use Rattle.j39_timing.specs.Traffic.{others_queued}
-use Rattle.j39_findings.specs.PlannedUnits.{planned_unit, unit_at, units_of}
+use Rattle.j39_network.specs.PlannedUnits.{planned_unit, unit_at, units_of}
 use Rattle.j39_world.specs.HeldAddresses.{ArePlannedApart}
 
 in_ms_behind : (bitrate : Bitrate) (ms a b : ℕ) → a + ms * bits_per_ms bitrate ≤ b → a * bit_time bitrate + 1000 * ms ≤ b * bit_time bitrate

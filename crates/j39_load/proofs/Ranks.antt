@@ -10,22 +10,22 @@ use Rattle.j39_id.specs.Name.{is_arbitrary}
 use Rattle.j39_id.specs.Pgn.{is_pdu2}
 use Rattle.std.specs.List.{slice_get}
 use Rattle.j39_id.specs.Services.{claim_priority, data_transfer, request as request_group}
-use Rattle.j39_findings.specs.declared.plan.Plan.{Plan}
-use Rattle.j39_findings.specs.declared.plan.flow_plan.FlowPlan.{FlowPlan}
-use Rattle.j39_findings.specs.declared.plan.group_plan.GroupPlan.{GroupPlan}
-use Rattle.j39_findings.specs.declared.plan.request_plan.RequestPlan.{RequestPlan}
-use Rattle.j39_findings.specs.declared.plan.timing.Timing.{Timing}
-use Rattle.j39_findings.specs.declared.plan.to.To.{To}
-use Rattle.j39_findings.specs.declared.plan.to.To.TheVariants.{All as ToAll, One}
-use Rattle.j39_findings.specs.declared.plan.unit_plan.UnitPlan.{UnitPlan}
+use Rattle.j39_network.specs.declared.plan.Plan.{Plan}
+use Rattle.j39_network.specs.declared.plan.flow_plan.FlowPlan.{FlowPlan}
+use Rattle.j39_network.specs.declared.plan.group_plan.GroupPlan.{GroupPlan}
+use Rattle.j39_network.specs.declared.plan.request_plan.RequestPlan.{RequestPlan}
+use Rattle.j39_network.specs.declared.plan.timing.Timing.{Timing}
+use Rattle.j39_network.specs.declared.plan.to.To.{To}
+use Rattle.j39_network.specs.declared.plan.to.To.TheVariants.{All as ToAll, One}
+use Rattle.j39_network.specs.declared.plan.unit_plan.UnitPlan.{UnitPlan}
 use Rattle.j39_load.specs.Loads.{destination_at, greatest_address, least_address, may_move, of_unit}
 use Rattle.j39_rules.proofs.Members.{all_at}
 use Rattle.j39_load.specs.Ranks.{AreHeldByPlan, AreUnitsPlanned, LieBetween, RequestLiesBetween}
 use Rattle.j39_findings.specs.Standing.{TellsWhoStays}
 use Rattle.j39_findings.proofs.WhoStays.{placed}
 use Rattle.j39_claim.specs.ClaimRule.{PlannedUnit}
-use Rattle.j39_findings.specs.PlannedUnits.{planned_unit, unit_at, units_of}
-use Rattle.j39_findings.specs.Staying.{StaysBeside}
+use Rattle.j39_network.specs.PlannedUnits.{planned_unit, unit_at, units_of}
+use Rattle.j39_network.specs.Staying.{StaysBeside}
 
 -- of two groups alike the one with the smaller addresses has the smaller identifier
 identifier-mono : (priority pgn d e s t : ℕ) → d ≤ e → s ≤ t → identifier_of priority pgn d s ≤ identifier_of priority pgn e t

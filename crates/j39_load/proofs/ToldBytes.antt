@@ -11,11 +11,11 @@ use Rattle.j39_signal.specs.Selectors.{is_selected, selector_end}
 use Rattle.j39_signal.specs.declared.selector.Selector.{Selector}
 use Rattle.j39_findings.specs.Findings.{Clean}
 use Rattle.j39_rules.specs.ListPlaces.{ValueAt}
-use Rattle.j39_findings.specs.PrivateGroups.{CanBe}
-use Rattle.j39_findings.specs.Records.{signals_in}
-use Rattle.j39_findings.specs.declared.plan.Plan.{Plan}
-use Rattle.j39_findings.specs.declared.plan.flow_plan.FlowPlan.{FlowPlan}
-use Rattle.j39_findings.specs.declared.plan.group_plan.GroupPlan.{GroupPlan}
+use Rattle.j39_network.specs.PrivateGroups.{CanBe}
+use Rattle.j39_network.specs.Records.{signals_in}
+use Rattle.j39_network.specs.declared.plan.Plan.{Plan}
+use Rattle.j39_network.specs.declared.plan.flow_plan.FlowPlan.{FlowPlan}
+use Rattle.j39_network.specs.declared.plan.group_plan.GroupPlan.{GroupPlan}
 use Rattle.j39_findings.proofs.PrivateGroups.{one_fits}
 use Rattle.j39_load.specs.ReadInTime.{AreWritten}
 use Rattle.j39_load.specs.ToldBytes.{IsToldOf, LeaveSelector}

@@ -6,16 +6,16 @@ use Rattle.std.specs.List.{AllZip, slice_get}
 use Rattle.std.proofs.lemmas.Bool.{cases_Bool, cases_lt, eqb-true, eq-eqb}
 use Rattle.std.proofs.lemmas.Option.{none-some, same_Some}
 use Rattle.std.proofs.lemmas.Slice.Zip.{AllZip-long}
-use Rattle.j39_findings.specs.Kinds.{AreToldApart}
-use Rattle.j39_findings.specs.VehiclePlans.{IsBoxOf, IsVehicleOf}
-use Rattle.j39_findings.specs.declared.plan.Plan.{Plan}
-use Rattle.j39_findings.specs.declared.plan.flow_plan.FlowPlan.{FlowPlan}
-use Rattle.j39_findings.specs.declared.plan.need_plan.NeedPlan.{NeedPlan}
-use Rattle.j39_findings.specs.declared.plan.request_plan.RequestPlan.{RequestPlan}
-use Rattle.j39_findings.specs.declared.plan.timing.Timing.{Timing}
-use Rattle.j39_findings.specs.declared.plan.unit_plan.UnitPlan.{UnitPlan}
-use Rattle.j39_findings.proofs.Boxes.{AreOrderedAlike}
-use Rattle.j39_findings.proofs.VehicleUnits.{AreBoth, both_at, box_chooses, ordered, unit_of}
+use Rattle.j39_network.specs.Kinds.{AreToldApart}
+use Rattle.j39_network.specs.VehiclePlans.{IsBoxOf, IsVehicleOf}
+use Rattle.j39_network.specs.declared.plan.Plan.{Plan}
+use Rattle.j39_network.specs.declared.plan.flow_plan.FlowPlan.{FlowPlan}
+use Rattle.j39_network.specs.declared.plan.need_plan.NeedPlan.{NeedPlan}
+use Rattle.j39_network.specs.declared.plan.request_plan.RequestPlan.{RequestPlan}
+use Rattle.j39_network.specs.declared.plan.timing.Timing.{Timing}
+use Rattle.j39_network.specs.declared.plan.unit_plan.UnitPlan.{UnitPlan}
+use Rattle.j39_network.proofs.Boxes.{AreOrderedAlike}
+use Rattle.j39_network.proofs.VehicleUnits.{AreBoth, both_at, box_chooses, ordered, unit_of}
 use Rattle.j39_load.specs.declared.delay.Delay.{Delay}
 use Rattle.j39_load.specs.declared.load_finding.LoadFinding.{LoadFinding}
 use Rattle.j39_load.specs.Ages.{old_needs}
@@ -25,9 +25,9 @@ use Rattle.j39_load.specs.LoadFindings.{AreLoadFindings, AsksOfBus, all_findings
 use Rattle.j39_findings.specs.Standing.{TellsWhoStays}
 use Rattle.j39_load.specs.VehicleLoads.{AreLoadsAlike, StandAlike}
 use Rattle.j39_load.proofs.OneLoad.{AreSeenAlike, asked_alike, told_once}
-use Rattle.j39_findings.specs.PlannedUnits.{units_of}
-use Rattle.j39_findings.specs.Staying.{StaysBeside}
-use Rattle.j39_findings.proofs.StayingBoxes.{stay_alike}
+use Rattle.j39_network.specs.PlannedUnits.{units_of}
+use Rattle.j39_network.specs.Staying.{StaysBeside}
+use Rattle.j39_network.proofs.StayingBoxes.{stay_alike}
 
 -- what is told of a unit is told of the box at its place, which is known by its NAME
 told_by : List UnitPlan → List UnitPlan → (UnitPlan → Bool) → UnitPlan → Bool

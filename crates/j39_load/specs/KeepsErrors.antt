@@ -1,8 +1,8 @@
 -- What a bus on which frames are damaged keeps of a plan, in the plan's own words, beside what its frames keep.
 use Rattle.std.specs.Prelude.{◌≡◌, ℕ, suc, ◌+◌, ◌*◌, ◌%◌, ◌<◌, ◌≤◌, ◌&&◌, Bool, true, cond, nat_lt, not, Some}
-use Rattle.j39_findings.specs.declared.plan.Plan.{Plan}
-use Rattle.j39_findings.specs.declared.plan.timing.ErrorRate.{ErrorRate}
-use Rattle.j39_findings.specs.declared.plan.timing.Timing.{Timing}
+use Rattle.j39_network.specs.declared.plan.Plan.{Plan}
+use Rattle.j39_network.specs.declared.plan.timing.ErrorRate.{ErrorRate}
+use Rattle.j39_network.specs.declared.plan.timing.Timing.{Timing}
 use Rattle.j39_load.specs.KeepsPlan.{AreSentInTime, Held, KeepsAllOrder, KeepsToPlan, FrameFlows, bit_time}
 use Rattle.j39_timing.specs.Errors.{Damaged, IsLegalWithErrors, at_place, with_errors}
 use Rattle.j39_timing.specs.FrameStreams.{Origins}

@@ -1,10 +1,10 @@
 -- That what is asked of a bus in the plan's own words can be met, all of it on one bus: frames that are as late as the jitter allows, an attempt that
 -- is damaged, and units that keep order or don't.
 use Rattle.std.specs.Prelude.{◌≡◌, ℕ, suc, Bool, true}
-use Rattle.j39_findings.specs.declared.plan.Plan.{Plan}
-use Rattle.j39_findings.specs.declared.plan.pace.Pace.{Pace}
-use Rattle.j39_findings.specs.declared.plan.timing.ErrorRate.{ErrorRate}
-use Rattle.j39_findings.specs.declared.plan.timing.Timing.{Timing}
+use Rattle.j39_network.specs.declared.plan.Plan.{Plan}
+use Rattle.j39_network.specs.declared.plan.pace.Pace.{Pace}
+use Rattle.j39_network.specs.declared.plan.timing.ErrorRate.{ErrorRate}
+use Rattle.j39_network.specs.declared.plan.timing.Timing.{Timing}
 use Rattle.j39_load.specs.KeepsErrors.{KeepsErrors}
 use Rattle.j39_load.specs.KeepsPlan.{FrameFlows, Held, IsMsBehind, KeepsQueues, KeepsToPlan}
 use Rattle.j39_timing.specs.AnyOrder.{Controllers}

@@ -5,7 +5,7 @@ ghost use Rattle.j39_load.specs.Ages.{ages_for, ages_of, is_in_limit, is_too_old
 use crate::delay::Delay;
 use crate::load_finding::LoadFinding;
 use crate::streams::bits_of_ms;
-use j39_findings::{FlowPlan, NeedPlan, RequestPlan, Timing, is_met, meets};
+use j39_network::{FlowPlan, NeedPlan, RequestPlan, Timing, is_met, meets};
 use std::alloc::AllocError;
 
 // The age of what a flow of this delay brings, in bits, where one is known: it isn't known when answers are asked for.

@@ -4,7 +4,7 @@ ghost use Rattle.j39_load.specs.Damage.{damage_stream, damage_streams, load_of_d
 ghost use Rattle.j39_timing.specs.Waits.{IsStream};
 
 use crate::streams::bits_of_ms;
-use j39_findings::{ErrorRate, Timing};
+use j39_network::{ErrorRate, Timing};
 use j39_timing::{ERROR_FRAME, Stream, frame_bits};
 use std::alloc::AllocError;
 

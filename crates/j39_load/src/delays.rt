@@ -18,7 +18,7 @@ use crate::offers::Offers;
 use crate::streams::{bits_of_ms, frames_to_all};
 use crate::twins::may_precede;
 use crate::whole_time::WholeTime;
-use j39_findings::Timing;
+use j39_network::Timing;
 use j39_timing::{Stream, frame_bits, least_wait};
 use std::alloc::{AllocError, Global};
 

@@ -4,7 +4,9 @@ ghost use Rattle.j39_findings.specs.Standing.{stays_of};
 ghost use Rattle.j39_load.specs.Loads.{may_move};
 ghost use Rattle.j39_load.specs.inside.Extremes.{extreme_address};
 
-use j39_findings::{Standing, UnitPlan};
+use j39_findings::Standing;
+
+use j39_network::UnitPlan;
 use j39_id::addresses::{POOL_FIRST, POOL_LAST};
 
 /// One end of the addresses that a unit may come to hold.

@@ -11,7 +11,7 @@ use crate::load_finding::LoadFinding;
 use crate::loads::Loads;
 use crate::streams::bits_per_ms;
 use crate::whole_time::WholeTime;
-use j39_findings::{Bitrate, Plan, Timing};
+use j39_network::{Bitrate, Plan, Timing};
 use std::alloc::{AllocError, Global};
 
 /// What is looked for at each flow.

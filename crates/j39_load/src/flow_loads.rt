@@ -1,6 +1,6 @@
 //! What each flow of a plan asks of the bus.
 ghost use Rattle.std.specs.Prelude.{◌≡◌, ◌≢◌, [], ◌^◌, ◌<◌, ◌≤◌, ℕ, max, All, length, IfOk, OnErr};
-ghost use Rattle.j39_findings.specs.declared.plan.to.To.TheVariants.{One};
+ghost use Rattle.j39_network.specs.declared.plan.to.To.TheVariants.{One};
 ghost use Rattle.std.specs.Option.{option_map};
 ghost use Rattle.j39_load.specs.Loads.{bits_of_ms as bits_in_ms, broadcast_of, flow_load, has_short, load_of_flow, load_of_messages, loads_of, messages_of, packet_frames};
 ghost use Rattle.j39_load.specs.Loads.{single_frames, singles_of, time_limit};
@@ -17,7 +17,7 @@ use crate::identifiers::{any_unit, group_ident, packet_ident, session_ident, twi
 use crate::messages::Messages;
 use crate::network::Network;
 use crate::streams::{bits_of_ms, load, packet_stream, single_stream};
-use j39_findings::{FlowPlan, GroupPlan, Pace, Timing, To};
+use j39_network::{FlowPlan, GroupPlan, Pace, Timing, To};
 use j39_id::limits::FRAME_BYTES;
 use j39_tp::Size;
 use std::alloc::{AllocError, Global};

@@ -2,14 +2,14 @@
 ghost use Rattle.std.specs.Prelude.{◌≡◌, ◌<◌, ℕ, length, max};
 ghost use Rattle.j39_id.specs.Ident.{identifier_of};
 ghost use Rattle.j39_id.specs.Limits.{unit_limit};
-ghost use Rattle.j39_findings.specs.declared.plan.to.To.TheVariants.{One};
+ghost use Rattle.j39_network.specs.declared.plan.to.To.TheVariants.{One};
 ghost use Rattle.j39_load.specs.Loads.{any_unit, broadcast_ident, destination_at, group_ident, packet_ident, session_ident, twin_ident};
 ghost use Rattle.j39_load.specs.RequestLoads.{request_ident};
 ghost use Rattle.j39_load.specs.inside.Networks.{addresses_at, units_in};
 
 use crate::extreme::Extreme;
 use crate::network::Network;
-use j39_findings::{FlowPlan, GroupPlan, Queue, RequestPlan, To};
+use j39_network::{FlowPlan, GroupPlan, Queue, RequestPlan, To};
 use j39_id::addresses::GLOBAL_ADDRESS;
 use j39_id::services::{CLAIM_PRIORITY, CONNECTION_MANAGEMENT, DATA_TRANSFER, REQUEST};
 use j39_id::{PDU2_FIRST, Pgn, pf_of};

@@ -3,17 +3,17 @@ ghost use Rattle.std.specs.Prelude.{◌≡◌, ◌≢◌, ℕ, ◌<◌, ◌≤�
 ghost use Rattle.std.specs.List.{slice_get};
 ghost use Rattle.j39_id.specs.Pgn.{IsPgn};
 ghost use Rattle.j39_findings.specs.Findings.{Clean};
-ghost use Rattle.j39_findings.specs.Kinds.{AreToldApart};
-ghost use Rattle.j39_findings.specs.VehiclePlans.{IsVehicleOf};
-ghost use Rattle.j39_findings.specs.declared.plan.Plan.{Plan as Plans};
-ghost use Rattle.j39_findings.specs.declared.plan.flow_plan.FlowPlan.{FlowPlan as PlannedFlows};
-ghost use Rattle.j39_findings.specs.declared.plan.group_plan.GroupPlan.{GroupPlan as PlannedGroups};
-ghost use Rattle.j39_findings.specs.declared.plan.pace.Pace.{Pace as PlannedPaces};
-ghost use Rattle.j39_findings.specs.declared.plan.queue.Queue.TheVariants.{Priority};
-ghost use Rattle.j39_findings.specs.declared.plan.request_plan.RequestPlan.{RequestPlan as PlannedRequests};
-ghost use Rattle.j39_findings.specs.declared.plan.timing.ErrorRate.{ErrorRate as ErrorRates};
-ghost use Rattle.j39_findings.specs.declared.plan.timing.Timing.{Timing as Timings};
-ghost use Rattle.j39_findings.specs.declared.plan.unit_plan.UnitPlan.{UnitPlan as PlannedUnits};
+ghost use Rattle.j39_network.specs.Kinds.{AreToldApart};
+ghost use Rattle.j39_network.specs.VehiclePlans.{IsVehicleOf};
+ghost use Rattle.j39_network.specs.declared.plan.Plan.{Plan as Plans};
+ghost use Rattle.j39_network.specs.declared.plan.flow_plan.FlowPlan.{FlowPlan as PlannedFlows};
+ghost use Rattle.j39_network.specs.declared.plan.group_plan.GroupPlan.{GroupPlan as PlannedGroups};
+ghost use Rattle.j39_network.specs.declared.plan.pace.Pace.{Pace as PlannedPaces};
+ghost use Rattle.j39_network.specs.declared.plan.queue.Queue.TheVariants.{Priority};
+ghost use Rattle.j39_network.specs.declared.plan.request_plan.RequestPlan.{RequestPlan as PlannedRequests};
+ghost use Rattle.j39_network.specs.declared.plan.timing.ErrorRate.{ErrorRate as ErrorRates};
+ghost use Rattle.j39_network.specs.declared.plan.timing.Timing.{Timing as Timings};
+ghost use Rattle.j39_network.specs.declared.plan.unit_plan.UnitPlan.{UnitPlan as PlannedUnits};
 ghost use Rattle.j39_load.specs.declared.delay.Delay.{Delay as Delays};
 ghost use Rattle.j39_load.specs.FreshNeeds.{AreNeedsFresh};
 ghost use Rattle.j39_load.specs.KeepsErrors.{AreInTimeWithErrors, KeepsErrors, origins_with, planned_with};
@@ -33,7 +33,7 @@ ghost use Rattle.j39_load.specs.VehicleLoads.{AreLoadsAlike};
 ghost use Rattle.j39_timing.specs.AnyOrder.{Controllers, IsLegalInAnyOrder};
 ghost use Rattle.j39_timing.specs.Errors.{Damaged, IsLegalWithErrors, with_errors};
 ghost use Rattle.j39_timing.specs.TimedFrames.{IsLegal, Schedule};
-ghost use Rattle.j39_findings.specs.PlannedUnits.{units_of};
+ghost use Rattle.j39_network.specs.PlannedUnits.{units_of};
 ghost use Rattle.j39_world.specs.HeldAddresses.{ArePlannedApart};
 
 /// The delays of a plan bound the time of its frames. A delay that `Loads::delays` tells holds in every schedule whose

@@ -1,7 +1,7 @@
 //! What a plan asks of its bus.
 ghost use Rattle.std.specs.Prelude.{◌≡◌, ◌≢◌, [], ◌≤◌, ◌<◌, ◌⊎◌, ◌^◌, ◌*◌, ◌+◌, ◌++◌, Bool, All, length, map, sum_by, IfOk, OnOk, OnErr};
-ghost use Rattle.j39_findings.specs.PlanLimits.{flow_limit, request_limit};
-ghost use Rattle.j39_findings.specs.declared.plan.unit_plan.UnitPlan.{UnitPlan as APlannedUnit};
+ghost use Rattle.j39_network.specs.PlanLimits.{flow_limit, request_limit};
+ghost use Rattle.j39_network.specs.declared.plan.unit_plan.UnitPlan.{UnitPlan as APlannedUnit};
 ghost use Rattle.j39_load.specs.AnyQueues.{IsOffer};
 ghost use Rattle.j39_load.specs.Asked.{all_frames, announcements_of_unit, asked_by, asked_of, frames_of_flow, frames_of_request, packets_of_unit, singles_of_flow, total_load, wanting};
 ghost use Rattle.j39_load.specs.Delays.{HasDelay, TellDelays};
@@ -28,7 +28,8 @@ use crate::offers::{Offers, offers_of};
 use crate::request_load::RequestLoad;
 use crate::requests::request_loads_of;
 use crate::unit_load::UnitLoad;
-use j39_findings::{Plan, Standing, Timing};
+use j39_findings::Standing;
+use j39_network::{Plan, Timing};
 use j39_timing::Stream;
 use std::alloc::{AllocError, Global};
 

@@ -3,7 +3,8 @@ ghost use Rattle.std.specs.Prelude.{◌≡◌, ◌<◌, length};
 ghost use Rattle.j39_load.specs.inside.Networks.{addresses_at, units_in};
 
 use crate::extreme::Extreme;
-use j39_findings::{Plan, Standing, Timing};
+use j39_findings::Standing;
+use j39_network::{Plan, Timing};
 
 /// A plan, how its bus is timed, and which of its units stay: what the identifiers and the streams of its frames rest on.
 #[derive(Clone, Copy)]

@@ -11,7 +11,7 @@ use crate::ages::smaller;
 use crate::companies::{company_wait, keep_order, leasts_of};
 use crate::demands::demands_of;
 use crate::flow_frames::FlowFrames;
-use j39_findings::Timing;
+use j39_network::Timing;
 use j39_timing::{Stream, Wanted};
 use std::alloc::{AllocError, Global};
 

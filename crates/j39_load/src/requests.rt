@@ -1,6 +1,6 @@
 //! What the requests of a plan ask of its bus.
 ghost use Rattle.std.specs.Prelude.{◌≡◌, ◌≢◌, [], ◌<◌, ℕ, All, length, IfOk, OnErr};
-ghost use Rattle.j39_findings.specs.declared.plan.to.To.TheVariants.{One};
+ghost use Rattle.j39_network.specs.declared.plan.to.To.TheVariants.{One};
 ghost use Rattle.j39_load.specs.RequestLoads.{load_of_request, request_loads_of};
 ghost use Rattle.j39_load.specs.SoundLoads.{IsSoundIfAsked};
 ghost use Rattle.j39_load.specs.inside.Networks.{stays_in, units_in};
@@ -11,7 +11,7 @@ use crate::identifiers::{any_unit, request_ident};
 use crate::network::Network;
 use crate::request_load::RequestLoad;
 use crate::streams::{load, request_stream};
-use j39_findings::RequestPlan;
+use j39_network::RequestPlan;
 use std::alloc::{AllocError, Global};
 
 // What a request asks of the bus, where it is known how often it is sent.

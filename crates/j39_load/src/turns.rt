@@ -12,7 +12,7 @@ use crate::loads::Loads;
 use crate::offers::Offers;
 use crate::streams::bits_of_ms;
 use crate::unit_load::UnitLoad;
-use j39_findings::Timing;
+use j39_network::Timing;
 use std::alloc::{AllocError, Global};
 
 // The longest time from the end of one frame of a message to the end of the next packet, where packets wait for so

@@ -6,15 +6,15 @@ use Rattle.std.proofs.lemmas.Bool.{and_parts, leb-true}
 use Rattle.std.proofs.lemmas.List.Quantifiers.{position-Some}
 use Rattle.std.proofs.lemmas.Option.{slice_get-get_or}
 use Rattle.std.proofs.lemmas.List.{get_or-map, length-map}
-use Rattle.j39_findings.specs.declared.plan.Plan.{Plan}
-use Rattle.j39_findings.specs.declared.plan.group_plan.GroupPlan.{GroupPlan}
-use Rattle.j39_findings.specs.Lengths.{IsLengthOf}
+use Rattle.j39_network.specs.declared.plan.Plan.{Plan}
+use Rattle.j39_network.specs.declared.plan.group_plan.GroupPlan.{GroupPlan}
+use Rattle.j39_network.specs.Lengths.{IsLengthOf}
 use Rattle.j39_log.specs.inside.Listening.{IsCatalogOf}
 use Rattle.j39_log.specs.inside.ValueLines.{items_of, value_lines_of}
 use Rattle.j39_log.specs.declared.value_line.ValueLine.{ValueLine}
 use Rattle.j39_log.specs.LogFrames.{planned_group, is_planned_as, is_shared_as, planned}
 use Rattle.j39_log.specs.NamedReports.{NumberNames, named_report, named_reading_lines}
-use Rattle.j39_findings.specs.declared.plan.meaning.Meaning.{Meaning}
+use Rattle.j39_network.specs.declared.plan.meaning.Meaning.{Meaning}
 use Rattle.j39_log.specs.declared.name_table.NameTable.{NameTable}
 use Rattle.j39_log.specs.declared.names.GroupNames.{GroupNames}
 use Rattle.j39_log.specs.declared.names.PlanNames.{PlanNames}

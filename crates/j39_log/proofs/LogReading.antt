@@ -2,7 +2,7 @@
 use Rattle.std.proofs.Common.{◌≡◌, ℕ, true, List, [], ◌∷◌, ◌++◌, length, refl, sym, ap, ◌∙◌, subst, append_assoc}
 use Rattle.std.proofs.lemmas.List.{append-nil}
 use Rattle.j39_id.specs.Lines.{Line}
-use Rattle.j39_findings.specs.declared.plan.Plan.{Plan}
+use Rattle.j39_network.specs.declared.plan.Plan.{Plan}
 use Rattle.j39_log.specs.ReadText.{IsLogText, Past, ReadsLines, count_line, counts_line, nothing_yet}
 use Rattle.j39_stream.specs.LineReading.{HasLines, IsSoFar}
 use Rattle.j39_stream.specs.declared.verdict.Verdict.TheVariants.{Done}

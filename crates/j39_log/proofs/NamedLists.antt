@@ -6,9 +6,9 @@ use Rattle.std.proofs.lemmas.Slice.Zip.{get_or-zip, length-zip}
 use Rattle.j39_signal.specs.Bits.{raw_of}
 use Rattle.j39_signal.specs.Parts.{SignalParts}
 use Rattle.j39_signal.specs.Places.{further}
-use Rattle.j39_findings.specs.Records.{stands_once}
-use Rattle.j39_findings.specs.declared.plan.Plan.{Plan}
-use Rattle.j39_findings.specs.declared.plan.group_plan.GroupPlan.{GroupPlan}
+use Rattle.j39_network.specs.Records.{stands_once}
+use Rattle.j39_network.specs.declared.plan.Plan.{Plan}
+use Rattle.j39_network.specs.declared.plan.group_plan.GroupPlan.{GroupPlan}
 use Rattle.j39_log.specs.LogReports.{signal_state_text}
 use Rattle.j39_log.specs.LogReports as plain
 use Rattle.j39_log.specs.NamedReports.{HasNoMeanings, NamedSignal, NumberNames, meaning_names, named_lines, parameter_names, raw_text, named_reading_lines, named_record_line, named_record_lines, named_record_signals, named_records_lines, named_signal_line, named_signal_lines, named_single_signals, named_state_text}

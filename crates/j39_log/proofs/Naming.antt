@@ -8,9 +8,9 @@ use Rattle.std.proofs.lemmas.List.{append-nil, get_or-map, length-map, take_all,
 use Rattle.std.proofs.lemmas.List.Folds.{find-append}
 use Rattle.std.proofs.lemmas.Slice.Zip.{get_or-zip, length-zip}
 use Rattle.j39_signal.specs.Parts.{SignalParts}
-use Rattle.j39_findings.specs.declared.plan.group_plan.GroupPlan.{GroupPlan}
-use Rattle.j39_findings.specs.declared.plan.meaning.Meaning.{Meaning}
-use Rattle.j39_findings.specs.declared.plan.meaning.ValueName.{ValueName}
+use Rattle.j39_network.specs.declared.plan.group_plan.GroupPlan.{GroupPlan}
+use Rattle.j39_network.specs.declared.plan.meaning.Meaning.{Meaning}
+use Rattle.j39_network.specs.declared.plan.meaning.ValueName.{ValueName}
 use Rattle.j39_log.specs.NamedReports.{NumberNames, Numbered, all_numbered, first_names, is_numbered, numbered_as, numbered_signals, value_names}
 use Rattle.j39_log.specs.inside.NameTables.{signal_name, with_name}
 

@@ -10,10 +10,10 @@ use Rattle.j39_signal.specs.declared.kind.Kind.{Kind}
 use Rattle.j39_signal.specs.Parts.{SignalParts}
 use Rattle.j39_signal.specs.Selectors.{is_selected}
 use Rattle.j39_signal.specs.declared.selector.Selector.{Selector}
-use Rattle.j39_findings.proofs.Lengths.{same_length}
-use Rattle.j39_findings.specs.Records.{single_signals}
-use Rattle.j39_findings.specs.declared.plan.group_plan.GroupPlan.{GroupPlan}
-use Rattle.j39_findings.specs.declared.plan.text_plan.TextPlan.{TextPlan}
+use Rattle.j39_network.proofs.Lengths.{same_length}
+use Rattle.j39_network.specs.Records.{single_signals}
+use Rattle.j39_network.specs.declared.plan.group_plan.GroupPlan.{GroupPlan}
+use Rattle.j39_network.specs.declared.plan.text_plan.TextPlan.{TextPlan}
 use Rattle.j39_text.specs.Decimals.{quotient_text}
 use Rattle.j39_text.specs.Texts.{field_text}
 use Rattle.j39_text.proofs.Quotients.{undivided}

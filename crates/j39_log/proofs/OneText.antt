@@ -11,9 +11,9 @@ use Rattle.j39_id.specs.declared.ident.Ident.{Ident}
 use Rattle.j39_id.specs.declared.line_error.LineError.{LineError}
 use Rattle.j39_rules.specs.ListPlaces.{ValueAt}
 use Rattle.j39_signal.proofs.LaidOut.{no_fault}
-use Rattle.j39_findings.specs.PlannedGroups.{IsSendable, IsRefusedGroup, IsFirstRefused}
-use Rattle.j39_findings.specs.declared.plan.Plan.{Plan}
-use Rattle.j39_findings.specs.declared.plan.group_plan.GroupPlan.{GroupPlan}
+use Rattle.j39_network.specs.PlannedGroups.{IsSendable, IsRefusedGroup, IsFirstRefused}
+use Rattle.j39_network.specs.declared.plan.Plan.{Plan}
+use Rattle.j39_network.specs.declared.plan.group_plan.GroupPlan.{GroupPlan}
 use Rattle.j39_tp.proofs.PacketLaws.{one_management, one_data}
 use Rattle.j39_tp.proofs.Tracking.{one_pgn, one_message}
 use Rattle.j39_tp.specs.declared.packet.Packet.{Packet}

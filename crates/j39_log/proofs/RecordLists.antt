@@ -7,7 +7,7 @@ use Rattle.j39_signal.specs.Bits.{raw_of}
 use Rattle.j39_signal.specs.Parts.{SignalParts}
 use Rattle.j39_signal.specs.Places.{further}
 use Rattle.j39_signal.specs.State.{state_of}
-use Rattle.j39_findings.specs.Records.{record_signals, repeated_signals}
+use Rattle.j39_network.specs.Records.{record_signals, repeated_signals}
 use Rattle.j39_log.specs.LogReports.{record_line, record_lines, records_lines, signal_state_text}
 
 one_with : (b : Bool) (place behind : ℕ) (s : SignalParts) (bytes : List ℕ) → b ≡ true

@@ -1,6 +1,6 @@
 -- The head of a report and what stands behind it are its first line.
 use Rattle.std.proofs.Common.{◌≡◌, ◌++◌, ℕ, List, refl, append_assoc}
-use Rattle.j39_findings.specs.declared.plan.group_plan.GroupPlan.{GroupPlan}
+use Rattle.j39_network.specs.declared.plan.group_plan.GroupPlan.{GroupPlan}
 use Rattle.j39_id.specs.declared.ident.Ident.{Ident}
 use Rattle.j39_text.specs.Texts.{field_text}
 use Rattle.j39_log.specs.LogReports.{group_line, way_text}

@@ -10,8 +10,8 @@ use Rattle.j39_signal.specs.declared.kind.Kind.TheVariants.{Dtc}
 use Rattle.j39_signal.specs.State.{state_of}
 use Rattle.j39_signal.specs.declared.state.State.{State}
 use Rattle.j39_signal.specs.declared.state.State.TheVariants.{Value, Specific, Reserved, Fault, Absent}
-use Rattle.j39_findings.specs.declared.plan.group_plan.GroupPlan.{GroupPlan}
-use Rattle.j39_findings.specs.Records.{record_count, record_signals, single_signals}
+use Rattle.j39_network.specs.declared.plan.group_plan.GroupPlan.{GroupPlan}
+use Rattle.j39_network.specs.Records.{record_count, record_signals, single_signals}
 use Rattle.j39_text.specs.Decimals.{quotient_text}
 use Rattle.j39_text.specs.FrameText.{destination_text}
 use Rattle.j39_text.specs.Texts.{field, field_text}

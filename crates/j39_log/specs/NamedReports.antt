@@ -11,11 +11,11 @@ use Rattle.j39_signal.specs.declared.kind.Kind.TheVariants.{Dtc}
 use Rattle.j39_signal.specs.State.{state_of, value_of}
 use Rattle.j39_signal.specs.declared.state.State.{State}
 use Rattle.j39_signal.specs.declared.state.State.TheVariants.{Value}
-use Rattle.j39_findings.specs.Records.{record_count, stands_once}
-use Rattle.j39_findings.specs.declared.plan.Plan.{Plan}
-use Rattle.j39_findings.specs.declared.plan.group_plan.GroupPlan.{GroupPlan}
-use Rattle.j39_findings.specs.declared.plan.meaning.Meaning.{Meaning}
-use Rattle.j39_findings.specs.declared.plan.meaning.ValueName.{ValueName}
+use Rattle.j39_network.specs.Records.{record_count, stands_once}
+use Rattle.j39_network.specs.declared.plan.Plan.{Plan}
+use Rattle.j39_network.specs.declared.plan.group_plan.GroupPlan.{GroupPlan}
+use Rattle.j39_network.specs.declared.plan.meaning.Meaning.{Meaning}
+use Rattle.j39_network.specs.declared.plan.meaning.ValueName.{ValueName}
 use Rattle.j39_log.specs.LogReports.{group_line, scaled_text, signal_state_text, suspect_parameter}
 use Rattle.j39_log.specs.LogReports as plain
 use Rattle.j39_text.specs.Texts.{field}

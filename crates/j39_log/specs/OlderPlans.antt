@@ -7,11 +7,11 @@ use Rattle.j39_signal.specs.Parts.{SignalParts}
 use Rattle.j39_signal.specs.declared.kind.Kind.{Kind}
 use Rattle.j39_signal.specs.declared.kind.Kind.TheVariants.{Measured, Discrete, Raw}
 use Rattle.j39_signal.specs.declared.state.State.TheVariants.{Value}
-use Rattle.j39_findings.specs.Lengths.{HasOneLengthEach}
-use Rattle.j39_findings.specs.PrivateGroups.{HasNoPrivate}
-use Rattle.j39_findings.specs.WithoutSelectors.{HasNoSelectors}
-use Rattle.j39_findings.specs.declared.plan.Plan.{Plan}
-use Rattle.j39_findings.specs.declared.plan.group_plan.GroupPlan.{GroupPlan}
+use Rattle.j39_network.specs.Lengths.{HasOneLengthEach}
+use Rattle.j39_network.specs.PrivateGroups.{HasNoPrivate}
+use Rattle.j39_network.specs.PlannedGroups.{HasNoSelectors}
+use Rattle.j39_network.specs.declared.plan.Plan.{Plan}
+use Rattle.j39_network.specs.declared.plan.group_plan.GroupPlan.{GroupPlan}
 use Rattle.j39_log.specs.LogFrames.{planned}
 use Rattle.j39_log.specs.LogReports.{group_line, group_report, signal_lines, signal_state_text, signal_unit_text}
 use Rattle.j39_text.specs.Texts.{field_text}

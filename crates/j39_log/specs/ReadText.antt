@@ -7,8 +7,8 @@ use Rattle.j39_id.specs.declared.ident.Ident.{Ident}
 use Rattle.j39_id.specs.declared.line_error.LineError.{LineError}
 use Rattle.j39_id.specs.declared.line_error.LineError.TheVariants.{Empty, ShortIdent}
 use Rattle.j39_rules.specs.ListPlaces.{ValueAt}
-use Rattle.j39_findings.specs.PlannedGroups.{IsSendable, IsFirstRefused}
-use Rattle.j39_findings.specs.declared.plan.Plan.{Plan}
+use Rattle.j39_network.specs.PlannedGroups.{IsSendable, IsFirstRefused}
+use Rattle.j39_network.specs.declared.plan.Plan.{Plan}
 use Rattle.j39_tp.specs.Carried.{Carried}
 use Rattle.j39_tp.specs.declared.packet.Packet.{Packet}
 use Rattle.j39_text.specs.Labels.{group_label}

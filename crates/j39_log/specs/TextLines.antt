@@ -1,6 +1,6 @@
 -- The lines of the texts of a group.
 use Rattle.std.specs.Prelude.{ℕ, ◌-◌, List, [], ◌∷◌, ◌++◌, take, drop, Option, Some, None, codes}
-use Rattle.j39_findings.specs.declared.plan.text_plan.TextPlan.{TextPlan}
+use Rattle.j39_network.specs.declared.plan.text_plan.TextPlan.{TextPlan}
 use Rattle.j39_text.specs.Quotations.{quotation}
 
 -- so many of the bytes, or all of them

@@ -1,15 +1,15 @@
 //! The layouts of a plan's groups, what their reports have in common, and where the groups of one number stand.
 ghost use Rattle.std.specs.Prelude.{◌≡◌, ◌≢◌, ◌<◌, List, [], ◌∷◌, ◌++◌, length, map, All, OnOk, OnErr, IfOk, IfErr};
 ghost use Rattle.j39_log.specs.inside.Listening.{extended, IsBadCatalog, IsCatalogOf, IsIndex};
-ghost use Rattle.j39_findings.specs.PlannedGroups.{IsSendable, layout_of as parts_of};
-ghost use Rattle.j39_findings.specs.declared.plan.group_plan.GroupPlan.{GroupPlan as APlannedGroup};
+ghost use Rattle.j39_network.specs.PlannedGroups.{IsSendable, layout_of as parts_of};
+ghost use Rattle.j39_network.specs.declared.plan.group_plan.GroupPlan.{GroupPlan as APlannedGroup};
 
 use crate::first_flows::first_flows;
 use crate::names::{PlanNames, plan_names};
 use crate::report_head::report_heads;
 use crate::value_line::{ValueLine, value_lines_of};
-use j39_findings::limits::GROUP_LIMIT;
-use j39_findings::{GroupFault, GroupPlan, Plan, layout_of};
+use j39_network::limits::GROUP_LIMIT;
+use j39_network::{GroupFault, GroupPlan, Plan, layout_of};
 use j39_signal::Layout;
 use j39_text::TextBuffer;
 use std::alloc::{AllocError, Global};

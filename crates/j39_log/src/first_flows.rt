@@ -1,10 +1,10 @@
 //! Where the flows of each group of a plan begin.
 ghost use Rattle.std.specs.Prelude.{◌≡◌, ◌==◌, ◌<◌, ℕ, if◌then◌else◌};
-ghost use Rattle.j39_findings.specs.PlanLimits.{group_limit};
+ghost use Rattle.j39_network.specs.PlanLimits.{group_limit};
 ghost use Rattle.j39_log.specs.inside.FirstFlows.{AreFirstFlows, start_at};
 
-use j39_findings::FlowPlan;
-use j39_findings::limits::GROUP_LIMIT;
+use j39_network::FlowPlan;
+use j39_network::limits::GROUP_LIMIT;
 
 // The flows of a group begin at this place.
 fn begin(starts: &mut [usize; GROUP_LIMIT], group: usize, place: usize)

@@ -1,10 +1,10 @@
 //! The groups of a plan as a reader of frames finds them.
 ghost use Rattle.std.specs.Prelude.{◌≡◌, ◌<◌, ℕ, false, get_or, length, All, IfErr, IfOk, OnOk};
 ghost use Rattle.std.specs.List.{HoldsAt, position};
-ghost use Rattle.j39_findings.specs.PlannedGroups.{IsSendable, layout_of};
+ghost use Rattle.j39_network.specs.PlannedGroups.{IsSendable, layout_of};
 ghost use Rattle.j39_log.specs.LogFrames.{is_planned_as, planned};
-ghost use Rattle.j39_findings.specs.PlanLimits.{group_limit};
-ghost use Rattle.j39_findings.specs.declared.plan.flow_plan.FlowPlan.{FlowPlan as APlannedFlow};
+ghost use Rattle.j39_network.specs.PlanLimits.{group_limit};
+ghost use Rattle.j39_network.specs.declared.plan.flow_plan.FlowPlan.{FlowPlan as APlannedFlow};
 ghost use Rattle.j39_log.specs.inside.FirstFlows.{first_flow, is_flow_of};
 ghost use Rattle.j39_log.specs.inside.Listening.{HasAllOf, IsBadCatalog, IsSpanOf};
 ghost use Rattle.j39_log.specs.inside.NameTables.{AreGroupNames};
@@ -14,8 +14,8 @@ ghost use Rattle.j39_log.specs.inside.ValueLines.{value_lines_of};
 use crate::catalog::{Catalog, CatalogError, Span};
 use crate::names::GroupNames;
 use crate::value_line::ValueLine;
-use j39_findings::limits::GROUP_LIMIT;
-use j39_findings::{GroupPlan, Plan};
+use j39_network::limits::GROUP_LIMIT;
+use j39_network::{GroupPlan, Plan};
 use j39_signal::{Layout, is_selected};
 use std::alloc::Global;
 use std::marker::Model;
@@ -31,7 +31,7 @@ impl<'a> Model for Groups<'a> {
     ghost use Rattle.std.specs.Coded.{codes, coded_ℕ};
     ghost use Rattle.std.specs.FinSet as set;
     ghost use Rattle.std.specs.Ordering.{nat_cmp};
-    ghost use Rattle.j39_findings.specs.declared.plan.Plan.{Plan as Planned};
+    ghost use Rattle.j39_network.specs.declared.plan.Plan.{Plan as Planned};
     ghost use Rattle.j39_log.specs.inside.Listening.{IsCatalogOf};
 
     ghost Value = { Planned };

@@ -8,7 +8,7 @@ use crate::catalog::CatalogError;
 use crate::groups::Groups;
 use crate::log_reader::LogReader;
 use crate::log_reading::Reading;
-use j39_findings::Plan;
+use j39_network::Plan;
 use j39_stream::{Fault, LOG_LIMITS, Sink, Source, Verdict, put_all, read_lines};
 use j39_text::{TextBuffer, group_label};
 use std::alloc::{AllocError, Global};

@@ -5,7 +5,7 @@ ghost use Rattle.j39_log.specs.NamedReports.{Numbered, HasNoMeanings, first_name
 ghost use Rattle.j39_log.specs.inside.NameTables.{AreNamesOf, has_no_meaning, has_no_meanings, names_in, signal_name, names_of_tables, value_names_of};
 
 use crate::name_table::NameTable;
-use j39_findings::{GroupPlan, Meaning, Plan, ValueName};
+use j39_network::{GroupPlan, Meaning, Plan, ValueName};
 use j39_signal::Signal;
 use j39_text::TextBuffer;
 use std::alloc::{AllocError, Global};

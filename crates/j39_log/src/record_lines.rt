@@ -2,12 +2,12 @@
 ghost use Rattle.std.specs.Prelude.{◌≡◌, ◌≤◌, ◌<◌, ◌+◌, ◌*◌, [], ◌∷◌, ◌++◌, length, true, Some, All, OnOk};
 ghost use Rattle.std.specs.List.{HoldsAt};
 ghost use Rattle.j39_signal.specs.Places.{IsInside, further};
-ghost use Rattle.j39_findings.specs.Records.{record_count, record_signals};
+ghost use Rattle.j39_network.specs.Records.{record_count, record_signals};
 ghost use Rattle.j39_log.specs.LogReports.{all_records_lines, record_line, record_lines, records_lines, scaled_text, signal_state_text, value_text};
 
 use crate::trouble_code::write_code;
 use crate::value_line::write_unit;
-use j39_findings::GroupPlan;
+use j39_network::GroupPlan;
 use j39_signal::{Kind, Layout, Signal, State};
 use j39_text::{TextBuffer, write_quotient};
 use std::alloc::AllocError;

@@ -2,7 +2,7 @@
 ghost use Rattle.std.specs.Prelude.{◌≡◌, ◌≢◌, [], map, IfOk, OnErr};
 ghost use Rattle.j39_log.specs.inside.ReportHeads.{report_head};
 
-use j39_findings::GroupPlan;
+use j39_network::GroupPlan;
 use j39_text::TextBuffer;
 use std::alloc::{AllocError, Global};
 

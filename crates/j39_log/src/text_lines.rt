@@ -2,7 +2,7 @@
 ghost use Rattle.std.specs.Prelude.{◌≡◌, ◌++◌, OnOk};
 ghost use Rattle.j39_log.specs.TextLines.{text_bytes, text_line, text_lines};
 
-use j39_findings::TextPlan;
+use j39_network::TextPlan;
 use j39_text::{TextBuffer, write_quotation};
 use std::alloc::AllocError;
 

@@ -3,7 +3,7 @@ ghost use Rattle.std.specs.Prelude.{◌≡◌};
 ghost use Rattle.std.specs.Option.{option_copied};
 ghost use Rattle.j39_paths.specs.Buses.{flows_on, group_at, groups_on, requests_on, spn_at};
 
-use j39_findings::{FlowPlan, GroupPlan, RequestPlan};
+use j39_network::{FlowPlan, GroupPlan, RequestPlan};
 use j39_vehicle::{BusPlan, GroupAt};
 
 /// The flows of a bus, none where there is no such bus.

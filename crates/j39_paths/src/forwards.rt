@@ -1,14 +1,14 @@
 //! What a forward hears, what it sends, and what it carries.
 ghost use Rattle.std.specs.Prelude.{◌≡◌};
 ghost use Rattle.std.specs.List.{list_any};
-ghost use Rattle.j39_findings.specs.Found.{meets};
+ghost use Rattle.j39_network.specs.Serving.{meets};
 ghost use Rattle.j39_paths.specs.Forwards.{heard, input_flows, listed, output_flows, units_of_gateway};
 ghost use Rattle.j39_paths.specs.ForwardTests.{copies, feeds, goes_to, is_among, is_direct, is_between, is_followed, is_input, is_output, write_one_signal, writes};
 ghost use Rattle.j39_paths.specs.Traces.{first_input};
 
 use crate::buses::{flows_on, requests_on};
 use crate::point::FlowAt;
-use j39_findings::{FlowPlan, NeedPlan, RequestPlan, To, meets};
+use j39_network::{FlowPlan, NeedPlan, RequestPlan, To, meets};
 use j39_vehicle::{Forward, ForwardedSignal, Mode, UnitAt, Vehicle};
 
 fn units_of_gateway(vehicle: &Vehicle, gateway: usize) -> &[UnitAt]

@@ -10,7 +10,7 @@ use crate::buses::{flows_on, group_at};
 use crate::forwards::{copies, feeds, first_input, listed, writes};
 use crate::matching::agree;
 use crate::point::{FlowAt, Point};
-use j39_findings::GroupPlan;
+use j39_network::GroupPlan;
 use j39_signal::Signal;
 use j39_vehicle::{Forward, UnitAt, Vehicle, VehicleNeed};
 

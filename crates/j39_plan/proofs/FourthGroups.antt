@@ -3,8 +3,8 @@ use Rattle.std.proofs.Common.{◌≡◌, ℕ, Bool, true, false, arith, List, []
 use Rattle.std.specs.Option.{option_map_or}
 use Rattle.toml.specs.Data.{Data, Members, no_members, get_member, as_table}
 use Rattle.j39_signal.specs.Parts.{SignalParts}
-use Rattle.j39_findings.specs.declared.plan.group_plan.GroupPlan.{GroupPlan}
-use Rattle.j39_findings.specs.declared.plan.meaning.Meaning.{Meaning}
+use Rattle.j39_network.specs.declared.plan.group_plan.GroupPlan.{GroupPlan}
+use Rattle.j39_network.specs.declared.plan.meaning.Meaning.{Meaning}
 use Rattle.j39_plan.specs.declared.reading.version.Version.TheVariants.{First, Third, Fourth}
 use Rattle.j39_plan.specs.declared.reading.key.Key.{Key}
 use Rattle.j39_plan.specs.declared.reading.key.Key.TheVariants as key

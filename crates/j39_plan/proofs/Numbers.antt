@@ -11,10 +11,10 @@ use Rattle.std.proofs.lemmas.Str.Parse.{IsNumeralModel, numerals_by_value, parse
 use Rattle.toml.specs.Data.{Data, Members, member, as_str}
 use Rattle.toml.specs.declared.value.Value.{Value}
 use Rattle.toml.specs.View.{members_view, view}
-use Rattle.j39_findings.specs.LabelForm.{is_label}
+use Rattle.j39_network.specs.LabelForm.{is_label}
 use Rattle.j39_plan.specs.Schema.{members_count}
-use Rattle.j39_findings.specs.PlanLimits.{value_limit}
-use Rattle.j39_findings.specs.declared.plan.meaning.ValueName.{ValueName}
+use Rattle.j39_network.specs.PlanLimits.{value_limit}
+use Rattle.j39_network.specs.declared.plan.meaning.ValueName.{ValueName}
 use Rattle.j39_plan.specs.MeaningTables.{AreValueNames}
 use Rattle.j39_plan.specs.declared.reading.cause.Cause.{Cause}
 use Rattle.j39_plan.specs.declared.reading.cause.Cause.TheVariants.{TooMany}

@@ -5,8 +5,8 @@ use Rattle.std.proofs.lemmas.List.{length-map, get_or-map}
 use Rattle.std.proofs.lemmas.List.Elements.{All-cons}
 use Rattle.toml.specs.Data.{Data, Items, no_items, item, Members}
 use Rattle.j39_signal.specs.Parts.{SignalParts}
-use Rattle.j39_findings.specs.PlanLimits.{text_limit}
-use Rattle.j39_findings.specs.declared.plan.text_plan.TextPlan.{TextPlan}
+use Rattle.j39_network.specs.PlanLimits.{text_limit}
+use Rattle.j39_network.specs.declared.plan.text_plan.TextPlan.{TextPlan}
 use Rattle.j39_plan.specs.declared.reading.version.Version.{Version}
 use Rattle.j39_plan.specs.declared.reading.version.Version.TheVariants.{First, Second, Third, Fourth}
 use Rattle.j39_plan.specs.declared.reading.place.Table.TheVariants as at
@@ -17,7 +17,7 @@ use Rattle.j39_plan.specs.Elements.{each_faults, Each, is_label_among, labels_of
 use Rattle.j39_plan.specs.SignalTables.{IsMeaningOf, IsSignalOf, IsFit, signal_faults}
 use Rattle.j39_plan.specs.Growing.{EachGrows, SignalGrows}
 use Rattle.j39_plan.specs.declared.reading.signals.PlannedSignal.{PlannedSignal}
-use Rattle.j39_findings.specs.declared.plan.meaning.Meaning.{Meaning}
+use Rattle.j39_network.specs.declared.plan.meaning.Meaning.{Meaning}
 use Rattle.j39_plan.specs.TextTables.{IsTextOf, text_faults}
 use Rattle.j39_plan.specs.GroupTables.{text_tables_of}
 use Rattle.j39_plan.proofs.Labelled.{is_among_both}

@@ -1,9 +1,9 @@
 -- A plan of version 3 in which nothing stands that the second doesn't know is read as one of version 2.
 use Rattle.std.proofs.Common.{◌≡◌, ℕ, true, false, arith, suc, List, [], ◌∷◌, ◌++◌, Option, None, Some, refl, sym, ap, ◌∙◌}
 use Rattle.toml.specs.Data.{Data, Items, no_items, item, Members, get_member}
-use Rattle.j39_findings.specs.declared.plan.Plan.{Plan}
-use Rattle.j39_findings.specs.declared.plan.timing.Timing.{Timing}
-use Rattle.j39_findings.specs.declared.plan.unit_plan.UnitPlan.{UnitPlan}
+use Rattle.j39_network.specs.declared.plan.Plan.{Plan}
+use Rattle.j39_network.specs.declared.plan.timing.Timing.{Timing}
+use Rattle.j39_network.specs.declared.plan.unit_plan.UnitPlan.{UnitPlan}
 use Rattle.j39_plan.specs.declared.reading.version.Version.TheVariants.{Second, Third}
 use Rattle.j39_plan.specs.declared.reading.fault.Fault.{Fault}
 use Rattle.j39_plan.specs.declared.reading.key.Key.{Key}

@@ -11,7 +11,7 @@ use Rattle.toml.specs.Tables.{no_nodes}
 use Rattle.toml.specs.Parse.{parse_document, lines, skip_bom}
 use Rattle.j39_plan.specs.declared.reading.plan_error.PlanError.{PlanError}
 use Rattle.j39_plan.specs.declared.reading.plan_error.PlanError.TheVariants as errors
-use Rattle.j39_findings.specs.declared.plan.Plan.{Plan}
+use Rattle.j39_network.specs.declared.plan.Plan.{Plan}
 use Rattle.j39_plan.specs.Outcome.{GivesGrowing, FailsGrowing}
 use Rattle.j39_plan.specs.Growing.{PlanGrows}
 use Rattle.j39_plan.specs.Schema.{number_of}

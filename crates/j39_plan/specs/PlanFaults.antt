@@ -4,7 +4,7 @@ use Rattle.std.specs.Option.{option_map_or}
 use Rattle.toml.specs.Data.{Data, Items, no_items, Members}
 use Rattle.j39_id.specs.Addresses.{pool_size}
 use Rattle.j39_id.specs.Limits.{unit_limit}
-use Rattle.j39_findings.specs.PlanLimits.{flow_limit, group_limit, need_limit, request_limit}
+use Rattle.j39_network.specs.PlanLimits.{flow_limit, group_limit, need_limit, request_limit}
 use Rattle.j39_plan.specs.declared.reading.key.Key.TheVariants as key
 use Rattle.j39_plan.specs.declared.reading.place.Table.TheVariants as at
 use Rattle.j39_plan.specs.declared.reading.fault.Fault.{Fault}

@@ -14,8 +14,8 @@ use Rattle.j39_plan.specs.declared.reading.key.Key.{Key}
 use Rattle.j39_plan.specs.declared.reading.place.Table.{Table}
 use Rattle.j39_plan.specs.declared.reading.fault.Fault.{Fault}
 use Rattle.j39_signal.specs.Parts.{divides_decimally}
-use Rattle.j39_findings.specs.LabelForm.{is_label}
-use Rattle.j39_findings.specs.PlanLimits.{value_limit}
+use Rattle.j39_network.specs.LabelForm.{is_label}
+use Rattle.j39_network.specs.PlanLimits.{value_limit}
 use Rattle.j39_plan.specs.TextKinds.{takes}
 use Rattle.j39_plan.specs.Words.{word_of}
 use Rattle.j39_plan.specs.Schema.{Kind, integer_in, flag_value, flag_where, text_of_kind, one_table, tables_up_to}

@@ -2,10 +2,10 @@
 use Rattle.std.specs.Prelude.{◌≡◌, ℕ, ◌==◌, Bool, true, false, if◌then◌else◌, List, [], ◌∷◌, ◌++◌, Option, Some, None}
 use Rattle.std.specs.Option.{option_map_or}
 use Rattle.toml.specs.Data.{Members}
-use Rattle.j39_findings.specs.declared.plan.timing.Bitrate.{Bitrate}
-use Rattle.j39_findings.specs.declared.plan.timing.Bitrate.TheVariants.{Kbit125, Kbit250, Kbit500, Mbit1}
-use Rattle.j39_findings.specs.declared.plan.timing.ErrorRate.{ErrorRate}
-use Rattle.j39_findings.specs.declared.plan.timing.Timing.{Timing}
+use Rattle.j39_network.specs.declared.plan.timing.Bitrate.{Bitrate}
+use Rattle.j39_network.specs.declared.plan.timing.Bitrate.TheVariants.{Kbit125, Kbit250, Kbit500, Mbit1}
+use Rattle.j39_network.specs.declared.plan.timing.ErrorRate.{ErrorRate}
+use Rattle.j39_network.specs.declared.plan.timing.Timing.{Timing}
 use Rattle.j39_plan.specs.declared.reading.key.Key.TheVariants as key
 use Rattle.j39_plan.specs.declared.reading.place.Table.TheVariants as at
 use Rattle.j39_plan.specs.declared.reading.fault.Fault.{Fault}

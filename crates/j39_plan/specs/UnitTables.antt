@@ -6,11 +6,11 @@ use Rattle.std.specs.Option.{option_map_or}
 use Rattle.toml.specs.Data.{Data, Members, no_members, as_table}
 use Rattle.j39_id.specs.declared.name_fields.NameFields.{NameFields}
 use Rattle.j39_id.specs.Name.{name_number, is_arbitrary}
-use Rattle.j39_findings.specs.declared.plan.queue.Queue.{Queue}
-use Rattle.j39_findings.specs.declared.plan.queue.Queue.TheVariants.{Any, Priority}
-use Rattle.j39_findings.specs.declared.plan.way.Way.{Way}
-use Rattle.j39_findings.specs.declared.plan.way.Way.TheVariants.{Lowest, Upward}
-use Rattle.j39_findings.specs.declared.plan.unit_plan.UnitPlan.{UnitPlan}
+use Rattle.j39_network.specs.declared.plan.queue.Queue.{Queue}
+use Rattle.j39_network.specs.declared.plan.queue.Queue.TheVariants.{Any, Priority}
+use Rattle.j39_network.specs.declared.plan.way.Way.{Way}
+use Rattle.j39_network.specs.declared.plan.way.Way.TheVariants.{Lowest, Upward}
+use Rattle.j39_network.specs.declared.plan.unit_plan.UnitPlan.{UnitPlan}
 use Rattle.j39_plan.specs.declared.reading.cause.Cause.TheVariants.{Range}
 use Rattle.j39_plan.specs.declared.reading.key.Key.TheVariants as key
 use Rattle.j39_plan.specs.declared.reading.place.Table.TheVariants as at

@@ -2,7 +2,7 @@
 use Rattle.std.proofs.Common.{◌≡◌, ℕ, ◌<◌, List, [], ◌∷◌, ◌++◌, length, map, sym, ap, ◌∙◌, arith, append_assoc, subst, Some, Err}
 use Rattle.std.proofs.lemmas.List.{length-map, map-append}
 use Rattle.std.specs.List.{slice_split}
-use Rattle.j39_findings.specs.declared.plan.Plan.{Plan}
+use Rattle.j39_network.specs.declared.plan.Plan.{Plan}
 use Rattle.j39_world.specs.World.{World}
 use Rattle.j39_id.specs.Lines.{at_start, is_line_feed, line_of, told}
 use Rattle.j39_run.specs.RunText.{EndsAt, IsWithin, IsSameForContinuations, IsSameOnceTold}

@@ -4,11 +4,11 @@ use Rattle.std.proofs.lemmas.List.{append-nil, length-append, length-map, map-ap
 use Rattle.std.specs.List.{range_with_len}
 use Rattle.j39_id.specs.Lines.{Line, lines}
 use Rattle.j39_id.specs.declared.frame.Frame.{Frame}
-use Rattle.j39_findings.specs.declared.plan.Plan.{Plan}
-use Rattle.j39_findings.specs.declared.steps.Step.{Step}
+use Rattle.j39_network.specs.declared.plan.Plan.{Plan}
+use Rattle.j39_network.specs.declared.steps.Step.{Step}
 use Rattle.j39_world.specs.declared.step_error.StepError.{StepError}
 use Rattle.j39_bus.specs.BusState.{BusState, undelivered}
-use Rattle.j39_findings.specs.PlannedUnits.{planned_unit}
+use Rattle.j39_network.specs.PlannedUnits.{planned_unit}
 use Rattle.j39_bus.specs.Stations.{station_at}
 use Rattle.j39_world.specs.Run.{StepsTo, RunsThrough, refusal}
 use Rattle.j39_world.specs.Sent.{sent_of}

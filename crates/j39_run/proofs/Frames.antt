@@ -5,13 +5,13 @@ use Rattle.std.proofs.Math.Seq.{drop-append_seam}
 use Rattle.j39_id.specs.declared.frame.Frame.{Frame}
 use Rattle.j39_claim.specs.declared.item.Item.{Item}
 use Rattle.j39_claim.specs.ClaimRule.{PlannedUnit}
-use Rattle.j39_findings.specs.declared.plan.Plan.{Plan}
-use Rattle.j39_findings.specs.declared.steps.Step.{Step}
-use Rattle.j39_findings.specs.declared.steps.Step.TheVariants.{Up, Down, Give, Ask, Begin, Send, Emit, Take, Lose, LateSender, LateReceiver, Rest}
+use Rattle.j39_network.specs.declared.plan.Plan.{Plan}
+use Rattle.j39_network.specs.declared.steps.Step.{Step}
+use Rattle.j39_network.specs.declared.steps.Step.TheVariants.{Up, Down, Give, Ask, Begin, Send, Emit, Take, Lose, LateSender, LateReceiver, Rest}
 use Rattle.j39_world.specs.declared.wired.Wired.{Wired}
 use Rattle.j39_world.specs.declared.wired.Wired.TheVariants as wired
 use Rattle.j39_bus.specs.BusState.{BusState}
-use Rattle.j39_findings.specs.PlannedUnits.{units_of}
+use Rattle.j39_network.specs.PlannedUnits.{units_of}
 use Rattle.j39_world.specs.ClaimSteps.{GivenFrom}
 use Rattle.j39_world.specs.Flows.{flows_of, windows_of}
 use Rattle.j39_world.specs.declared.flow.Flow.{Flow}

@@ -3,8 +3,8 @@ use Rattle.std.specs.Prelude.{◌≡◌, ◌⊎◌, ℕ, ◌+◌, ◌<◌, Bool,
 use Rattle.std.specs.List.{slice_split}
 use Rattle.hex.specs.Hex.{encode_upper}
 use Rattle.j39_id.specs.FrameLine.{canon_text}
-use Rattle.j39_findings.specs.declared.plan.Plan.{Plan}
-use Rattle.j39_findings.specs.declared.steps.Step.{Step}
+use Rattle.j39_network.specs.declared.plan.Plan.{Plan}
+use Rattle.j39_network.specs.declared.steps.Step.{Step}
 use Rattle.j39_world.specs.declared.bus_error.BusError.{BusError}
 use Rattle.j39_world.specs.declared.bus_error.BusError.TheVariants.{ChooserCount, SameName, BadGroup, Memory}
 use Rattle.j39_world.specs.declared.step_error.StepError.{StepError}

@@ -2,7 +2,7 @@
 use Rattle.std.specs.Prelude.{◌≡◌, ◌↔◌, ℕ, Bool, IsTrue, cond, List, length, map, Option, Some, None}
 use Rattle.std.specs.List.{range_with_len}
 use Rattle.j39_claim.specs.ClaimRule.{ClaimState}
-use Rattle.j39_findings.specs.declared.plan.Plan.{Plan}
+use Rattle.j39_network.specs.declared.plan.Plan.{Plan}
 use Rattle.j39_world.specs.Sent.{Sent}
 use Rattle.j39_world.specs.Sound.{IsQuiet}
 use Rattle.j39_world.specs.Transfers.{Reported}

@@ -8,7 +8,7 @@ ghost use Rattle.j39_run.specs.Views.{Shows, View};
 use crate::halt::Halt;
 use crate::run_lines::{settled_line, write_halt, write_reports, write_units};
 use j39_bus::Bus;
-use j39_findings::Plan;
+use j39_network::Plan;
 use j39_text::TextBuffer;
 use std::alloc::AllocError;
 

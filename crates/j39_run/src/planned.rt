@@ -8,7 +8,7 @@ ghost use Rattle.j39_stream.specs.Streams.{plan_limits};
 
 use crate::run_text;
 use j39_claim::{Choose, Lowest, Upward};
-use j39_findings::{Plan, Way};
+use j39_network::{Plan, Way};
 use j39_stream::{Fault, Sink, Source, Verdict};
 use std::alloc::Global;
 

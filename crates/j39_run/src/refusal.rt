@@ -3,7 +3,7 @@ ghost use Rattle.std.specs.Prelude.{IfOk};
 ghost use Rattle.j39_run.specs.RunText.{IsPlanRefusal};
 
 use j39_bus::BusError;
-use j39_findings::Plan;
+use j39_network::Plan;
 use j39_text::{TextBuffer, write_group, write_units};
 use std::alloc::{AllocError, Global};
 

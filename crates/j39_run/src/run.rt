@@ -11,7 +11,7 @@ use crate::running::Running;
 use crate::schedule_reader::ScheduleReader;
 use j39_bus::{Bus, BusError};
 use j39_claim::Choose;
-use j39_findings::Plan;
+use j39_network::Plan;
 use j39_schedule::Units;
 use j39_stream::{Fault, PLAN_LIMITS, Sink, Source, Verdict, put_all, read_lines};
 use std::alloc::Global;

@@ -1,7 +1,7 @@
 //! A schedule that runs on a bus, line after line.
 ghost use Rattle.std.specs.Prelude.{◌≡◌, ◌<◌, ◌^◌, true, [], ◌∷◌, IfOk, OnErr, OnOk, None, Some};
 ghost use Rattle.j39_bus.specs.Stands.{Stands};
-ghost use Rattle.j39_findings.specs.declared.plan.Plan.{Plan as APlan};
+ghost use Rattle.j39_network.specs.declared.plan.Plan.{Plan as APlan};
 ghost use Rattle.j39_id.specs.Lines.{Line, Short, tells};
 ghost use Rattle.j39_schedule.specs.Schedule.{line_order, read_as};
 ghost use Rattle.j39_world.specs.Run.{cause_of, refusal};
@@ -12,7 +12,7 @@ ghost use Rattle.j39_run.specs.inside.Doing.{HasRun, OrdersStep, RunsOn};
 use crate::halt::Halt;
 use crate::run_lines::write_frames;
 use j39_bus::{Bus, StepError};
-use j39_findings::Step;
+use j39_network::Step;
 use j39_id::Cut;
 use j39_schedule::{LineFault, Units, Unread, read_line};
 use j39_text::TextBuffer;

@@ -10,7 +10,7 @@ use Rattle.std.specs.List.{list_all}
 use Rattle.std.specs.Prelude.{decimal}
 use Rattle.hex.specs.Hex.{encode_upper, is_hex_digit, upper_digits, IsBytes}
 use Rattle.hex.proofs.HexLemmas.{decode_of-encode_upper, decode_of-ok, length-encode_with}
-use Rattle.j39_findings.specs.declared.plan.Plan.{Plan}
+use Rattle.j39_network.specs.declared.plan.Plan.{Plan}
 use Rattle.j39_schedule.specs.Schedule.{flow_place, is_number, spelled_number}
 use Rattle.j39_schedule.proofs.Numbers.{same_test}
 use Rattle.j39_schedule.proofs.TextWords.{IsWord}

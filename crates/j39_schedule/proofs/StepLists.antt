@@ -1,8 +1,8 @@
 -- The lines of steps, one after another.
 use Rattle.std.proofs.Common.{◌≡◌, ℕ, ◌+◌, ◌<◌, List, ◌++◌, length, drop, get_or, refl}
 use Rattle.std.proofs.lemmas.List.{drop_more}
-use Rattle.j39_findings.specs.declared.plan.Plan.{Plan}
-use Rattle.j39_findings.specs.declared.steps.Step.{Step}
+use Rattle.j39_network.specs.declared.plan.Plan.{Plan}
+use Rattle.j39_network.specs.declared.steps.Step.{Step}
 use Rattle.j39_schedule.specs.StepLines.{step_line, step_lines}
 
 -- the lines from a step on are its own and those of the steps behind it

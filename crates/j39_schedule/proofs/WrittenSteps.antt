@@ -9,9 +9,9 @@ use Rattle.hex.specs.Hex.{IsBytes, encode_upper, upper_digits}
 use Rattle.hex.proofs.HexLemmas.{decode_of-encode_upper, length-encode_with}
 use Rattle.j39_id.specs.Limits.{message_bytes}
 use Rattle.j39_id.specs.Lines.{Short, line_of, lines}
-use Rattle.j39_findings.specs.declared.plan.Plan.{Plan}
-use Rattle.j39_findings.specs.declared.steps.Step.{Step}
-use Rattle.j39_findings.specs.declared.steps.Step.TheVariants.{Up, Down, Give, Ask, Begin, Send, Emit, Take, Lose, LateSender, LateReceiver, Rest}
+use Rattle.j39_network.specs.declared.plan.Plan.{Plan}
+use Rattle.j39_network.specs.declared.steps.Step.{Step}
+use Rattle.j39_network.specs.declared.steps.Step.TheVariants.{Up, Down, Give, Ask, Begin, Send, Emit, Take, Lose, LateSender, LateReceiver, Rest}
 use Rattle.j39_text.specs.Labels.{unit_label, units_text}
 use Rattle.j39_text.specs.Texts.{field_text, place_field}
 use Rattle.j39_schedule.specs.Schedule.{Ordered, Reading, as_ordered, begins, sends, does, line_order, order_named, read_as, readings_of}

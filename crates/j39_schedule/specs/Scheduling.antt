@@ -1,6 +1,6 @@
 -- What the reader of schedules gives.
 use Rattle.std.specs.Prelude.{◌≡◌, ℕ, List, Option, Some, Result, Ok, Err}
-use Rattle.j39_findings.specs.declared.steps.Step.{Step}
+use Rattle.j39_network.specs.declared.steps.Step.{Step}
 use Rattle.j39_schedule.specs.Schedule.{Ordered, Reading, begins, sends, does, read_as}
 use Rattle.j39_schedule.specs.declared.unread.Unread.{Unread}
 use Rattle.j39_schedule.specs.declared.unread.Unread.TheVariants as unread

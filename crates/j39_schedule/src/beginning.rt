@@ -9,7 +9,7 @@ ghost use Rattle.j39_schedule.specs.Scheduling.{IsReadAs};
 use crate::line_fault::LineFault;
 use crate::unread::Unread;
 use hex::FromHexError;
-use j39_findings::{Plan, Step};
+use j39_network::{Plan, Step};
 use std::alloc::Global;
 
 /// The most digits of a number.

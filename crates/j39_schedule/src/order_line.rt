@@ -13,7 +13,7 @@ use crate::sending::send;
 use crate::units::Units;
 use crate::unread::Unread;
 use crate::values::{Values, values_of};
-use j39_findings::Step;
+use j39_network::Step;
 use std::alloc::Global;
 
 /// The unit of a label, by its place.

@@ -6,7 +6,7 @@ use crate::beginning::{flow_place, number_of, spell_bytes};
 use crate::line_fault::LineFault;
 use crate::unread::Unread;
 use hex::FromHexError;
-use j39_findings::{Plan, Step};
+use j39_network::{Plan, Step};
 use std::alloc::Global;
 
 /// The order to send the bytes that hex digits spell by the flow of a number, in one frame.

@@ -1,9 +1,9 @@
 //! Writing the steps of a plan as lines of a schedule.
 ghost use Rattle.std.specs.Prelude.{◌≡◌, ◌++◌, OnOk};
-ghost use Rattle.j39_findings.specs.declared.steps.Step.TheVariants.{Begin, Send};
+ghost use Rattle.j39_network.specs.declared.steps.Step.TheVariants.{Begin, Send};
 ghost use Rattle.j39_schedule.specs.StepLines.{step_line, step_lines, step_text, step_unit_text};
 
-use j39_findings::{Plan, Step};
+use j39_network::{Plan, Step};
 use j39_text::{TextBuffer, unit_label, write_units};
 use std::alloc::AllocError;
 

@@ -4,7 +4,7 @@ ghost use Rattle.j39_schedule.specs.Schedule.{unit_named};
 ghost use Rattle.j39_schedule.specs.inside.UnitIndexes.{Has, IsIndexOf};
 ghost use Rattle.j39_schedule.specs.inside.Checksums.{checksum, is_unit_named};
 
-use j39_findings::Plan;
+use j39_network::Plan;
 use std::alloc::{AllocError, Global};
 use std::marker::Model;
 

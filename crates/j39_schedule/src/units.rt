@@ -3,7 +3,7 @@ ghost use Rattle.std.specs.Prelude.{◌≡◌, IfOk};
 ghost use Rattle.j39_schedule.specs.Schedule.{unit_named};
 
 use crate::unit_index::UnitIndex;
-use j39_findings::Plan;
+use j39_network::Plan;
 use std::alloc::{AllocError, Global};
 use std::marker::Model;
 
@@ -18,7 +18,7 @@ impl<'a> Model for Units<'a> {
     ghost use Rattle.std.specs.Coded.{codes, coded_ℕ};
     ghost use Rattle.std.specs.FinSet as set;
     ghost use Rattle.std.specs.Ordering.{nat_cmp};
-    ghost use Rattle.j39_findings.specs.declared.plan.Plan.{Plan as Planned};
+    ghost use Rattle.j39_network.specs.declared.plan.Plan.{Plan as Planned};
     ghost use Rattle.j39_schedule.specs.inside.UnitIndexes.{IsIndexOf};
 
     ghost Value = { Planned };

@@ -4,7 +4,7 @@ ghost use Rattle.j39_text.specs.Labels.{group_label, group_pgn, group_selector_e
 ghost use Rattle.j39_text.specs.Labels.{signals_of, text_end, text_label, texts_of, unit_address, unit_label, units_text};
 
 use crate::TextBuffer;
-use j39_findings::{Plan, TextPlan};
+use j39_network::{Plan, TextPlan};
 use j39_signal::Signal;
 use std::alloc::AllocError;
 

@@ -9,11 +9,11 @@ use Rattle.std.proofs.lemmas.Option.{same_Some}
 use Rattle.std.specs.List.{Contains}
 use Rattle.j39_tp.specs.Sender as sender
 use Rattle.j39_tp.specs.declared.packet.Packet.{Packet}
-use Rattle.j39_findings.specs.declared.plan.Plan.{Plan}
-use Rattle.j39_findings.specs.declared.plan.to.To.{To}
-use Rattle.j39_findings.specs.declared.plan.to.To.TheVariants.{All, One}
-use Rattle.j39_findings.specs.declared.steps.Step.{Step}
-use Rattle.j39_findings.specs.declared.steps.Step.TheVariants.{Up, Down, Give, Ask, Begin, Send, Emit, Take, Lose, LateSender, LateReceiver, Rest}
+use Rattle.j39_network.specs.declared.plan.Plan.{Plan}
+use Rattle.j39_network.specs.declared.plan.to.To.{To}
+use Rattle.j39_network.specs.declared.plan.to.To.TheVariants.{All, One}
+use Rattle.j39_network.specs.declared.steps.Step.{Step}
+use Rattle.j39_network.specs.declared.steps.Step.TheVariants.{Up, Down, Give, Ask, Begin, Send, Emit, Take, Lose, LateSender, LateReceiver, Rest}
 use Rattle.j39_claim.specs.declared.item.Item.{Item}
 use Rattle.j39_claim.specs.declared.item.Item.TheVariants.{Told}
 use Rattle.j39_claim.specs.declared.item.Say.TheVariants.{Claim}
@@ -26,10 +26,11 @@ use Rattle.j39_world.specs.declared.wired.Wired.{Wired}
 use Rattle.j39_world.specs.declared.wired.Wired.TheVariants as wired
 use Rattle.j39_world.specs.ClaimSteps.{GivenFrom}
 use Rattle.j39_world.specs.Flows.{FlowGoes, dest_of, flows_of, windows_of}
-use Rattle.j39_findings.specs.PlannedUnits.{unit_at, units_of}
+use Rattle.j39_network.specs.PlannedUnits.{unit_at, units_of}
 use Rattle.j39_world.specs.Run.{Follows, StepsTo, at_ends, begin_refusal, begin_refusals, send_refusal, send_refusals, count_of, has_address, is_nothing_undelivered, is_on, refusal, Run}
-use Rattle.j39_world.specs.LiveEnds.{AreEndsAlone, StandsAlone, KeepsEnds}
-use Rattle.j39_findings.specs.Staying.{IsAloneThere}
+use Rattle.j39_world.specs.LiveEnds.{AreEndsAlone, StandsAlone}
+use Rattle.j39_traces.specs.KeepsEnds.{KeepsEnds}
+use Rattle.j39_network.specs.Staying.{IsAloneThere}
 use Rattle.j39_world.specs.SwitchingOff.{session_without}
 use Rattle.j39_world.specs.SoundPlan.{Always, IsSending}
 use Rattle.j39_world.specs.Transfers.{Outgoing, is_among}

@@ -13,8 +13,8 @@ use Rattle.j39_tp.specs.declared.receiving.reception.Kind.{Kind}
 use Rattle.j39_tp.specs.declared.receiving.reception.Kind.TheVariants.{Broadcast, Directed}
 use Rattle.j39_tp.specs.declared.receiving.reception.Reception.{Reception}
 use Rattle.j39_tp.proofs.Answering.{IsAside}
-use Rattle.j39_findings.specs.declared.plan.Plan.{Plan}
-use Rattle.j39_findings.specs.declared.plan.to.To.TheVariants.{One}
+use Rattle.j39_network.specs.declared.plan.Plan.{Plan}
+use Rattle.j39_network.specs.declared.plan.to.To.TheVariants.{One}
 use Rattle.j39_world.specs.declared.wired.Wired.{Wired}
 use Rattle.j39_world.specs.declared.wired.Wired.TheVariants as wired
 use Rattle.j39_world.specs.Flows.{window_at}

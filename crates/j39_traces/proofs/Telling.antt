@@ -18,13 +18,13 @@ use Rattle.j39_claim.specs.ClaimRule.{ClaimState, PlannedUnit, Reacts, claim_of,
 use Rattle.j39_tp.specs.Sender as sender
 use Rattle.j39_tp.specs.declared.packet.Packet.{Packet}
 use Rattle.j39_tp.specs.declared.packet.Packet.TheVariants.{Rts, Cts, EndAck, Bam, Abort, Dt}
-use Rattle.j39_findings.specs.declared.plan.Plan.{Plan}
-use Rattle.j39_findings.specs.declared.plan.flow_plan.FlowPlan.{FlowPlan}
-use Rattle.j39_findings.specs.declared.plan.group_plan.GroupPlan.{GroupPlan}
-use Rattle.j39_findings.specs.declared.plan.to.To.{To}
-use Rattle.j39_findings.specs.declared.plan.to.To.TheVariants.{All, One}
-use Rattle.j39_findings.specs.declared.steps.Step.{Step}
-use Rattle.j39_findings.specs.declared.steps.Step.TheVariants.{Up, Down, Give, Ask, Begin, Send, Emit, Take, Lose, LateSender, LateReceiver, Rest}
+use Rattle.j39_network.specs.declared.plan.Plan.{Plan}
+use Rattle.j39_network.specs.declared.plan.flow_plan.FlowPlan.{FlowPlan}
+use Rattle.j39_network.specs.declared.plan.group_plan.GroupPlan.{GroupPlan}
+use Rattle.j39_network.specs.declared.plan.to.To.{To}
+use Rattle.j39_network.specs.declared.plan.to.To.TheVariants.{All, One}
+use Rattle.j39_network.specs.declared.steps.Step.{Step}
+use Rattle.j39_network.specs.declared.steps.Step.TheVariants.{Up, Down, Give, Ask, Begin, Send, Emit, Take, Lose, LateSender, LateReceiver, Rest}
 use Rattle.j39_world.specs.declared.flow.Flow.{Flow}
 use Rattle.j39_world.specs.declared.wired.Wired.{Wired}
 use Rattle.j39_world.specs.declared.wired.Wired.TheVariants as wired
@@ -32,13 +32,13 @@ use Rattle.j39_world.specs.SwitchingOff.{switched_off}
 use Rattle.j39_world.specs.ClaimSteps.{GivenFrom, answer_items, asked as asks, asking_items, first_items, heard_and_answered, switched_on, told_to_others, without_lists_to}
 use Rattle.j39_world.specs.Flows.{dest_of, flow_of, flows_of, is_short, windows_of}
 use Rattle.j39_world.specs.Opening.{AreNamesDistinct}
-use Rattle.j39_findings.specs.PlannedUnits.{unit_at, units_of}
+use Rattle.j39_network.specs.PlannedUnits.{unit_at, units_of}
 use Rattle.j39_world.specs.Run.{StepsTo, count_of, refusal}
 use Rattle.j39_world.specs.Sent.{Sent, frame_of, sent_of, source_of}
 use Rattle.j39_world.specs.SentTransfers.{address_of, destination_of, group_of, packet_frame, short_frame}
 use Rattle.j39_world.specs.Sound.{IsQuiet}
 use Rattle.j39_world.specs.SoundPlan.{Always, IsSending}
-use Rattle.j39_findings.specs.Staying.{IsAloneThere}
+use Rattle.j39_network.specs.Staying.{IsAloneThere}
 use Rattle.j39_findings.specs.Findings.{Clean}
 use Rattle.j39_world.specs.TransferSteps.{BeginsAt, SendsAt, LostFrom, TakenFrom, first_frame}
 use Rattle.j39_world.specs.World.{Stations, Undelivered, World, changed, changed_pair}

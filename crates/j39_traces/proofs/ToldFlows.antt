@@ -16,21 +16,22 @@ use Rattle.j39_id.specs.Pgn.{is_pdu2, pdu2_first, pf_of}
 use Rattle.j39_id.specs.Services.{is_service}
 use Rattle.j39_id.specs.declared.frame.Frame.{Frame}
 use Rattle.j39_id.specs.declared.ident.Ident.{Ident}
-use Rattle.j39_findings.specs.Findings.{AreSentTogether, Clean, DoReceiversMeet, MayBeOneFrameToAll}
+use Rattle.j39_findings.specs.Findings.{AreSentTogether, Clean, DoReceiversMeet}
+use Rattle.j39_network.specs.PlannedFlows.{MayBeOneFrameToAll}
 use Rattle.j39_findings.specs.declared.checking.finding.Finding.TheVariants.{SamePgn}
-use Rattle.j39_findings.specs.declared.plan.Plan.{Plan}
-use Rattle.j39_findings.specs.declared.plan.flow_plan.FlowPlan.{FlowPlan}
-use Rattle.j39_findings.specs.declared.plan.group_plan.GroupPlan.{GroupPlan}
-use Rattle.j39_findings.specs.declared.plan.unit_plan.UnitPlan.{UnitPlan}
-use Rattle.j39_findings.specs.declared.plan.to.To.{To}
-use Rattle.j39_findings.specs.declared.plan.to.To.TheVariants.{All as ToAll, One as ToOne}
-use Rattle.j39_findings.specs.declared.steps.Step.{Step}
-use Rattle.j39_findings.specs.declared.steps.Step.TheVariants.{Up, Down, Give, Ask, Begin, Send, Emit, Take, Lose, LateSender, LateReceiver, Rest}
+use Rattle.j39_network.specs.declared.plan.Plan.{Plan}
+use Rattle.j39_network.specs.declared.plan.flow_plan.FlowPlan.{FlowPlan}
+use Rattle.j39_network.specs.declared.plan.group_plan.GroupPlan.{GroupPlan}
+use Rattle.j39_network.specs.declared.plan.unit_plan.UnitPlan.{UnitPlan}
+use Rattle.j39_network.specs.declared.plan.to.To.{To}
+use Rattle.j39_network.specs.declared.plan.to.To.TheVariants.{All as ToAll, One as ToOne}
+use Rattle.j39_network.specs.declared.steps.Step.{Step}
+use Rattle.j39_network.specs.declared.steps.Step.TheVariants.{Up, Down, Give, Ask, Begin, Send, Emit, Take, Lose, LateSender, LateReceiver, Rest}
 use Rattle.j39_findings.proofs.PrivateGroups.{not_both_taken}
 use Rattle.j39_signal.specs.Selectors.{is_selected}
 use Rattle.j39_world.specs.Flows.{flows_of, has_length, is_short}
 use Rattle.j39_world.specs.Opening.{AreNamesDistinct}
-use Rattle.j39_findings.specs.PlannedUnits.{planned_unit, unit_at, units_of}
+use Rattle.j39_network.specs.PlannedUnits.{planned_unit, unit_at, units_of}
 use Rattle.j39_world.specs.Run.{StepsTo, refusal}
 use Rattle.j39_world.specs.SoundPlan.{Always}
 use Rattle.j39_world.specs.World.{World}

@@ -10,25 +10,25 @@ use Rattle.j39_id.specs.Pgn.{is_pgn}
 use Rattle.j39_id.specs.Services.{is_service}
 use Rattle.j39_id.specs.declared.frame.Frame.{Frame}
 use Rattle.j39_id.specs.declared.ident.Ident.{Ident}
-use Rattle.j39_findings.specs.Kinds.{AreToldApart, kind_of_name}
-use Rattle.j39_findings.specs.VehiclePlans.{IsBoxOf, IsVehicleOf}
-use Rattle.j39_findings.specs.declared.plan.Plan.{Plan}
-use Rattle.j39_findings.specs.declared.plan.flow_plan.FlowPlan.{FlowPlan}
-use Rattle.j39_findings.specs.declared.plan.group_plan.GroupPlan.{GroupPlan}
-use Rattle.j39_findings.specs.declared.plan.to.To.{To}
-use Rattle.j39_findings.specs.declared.plan.to.To.TheVariants.{All as ToAll, One as ToOne}
-use Rattle.j39_findings.specs.declared.plan.unit_plan.UnitPlan.{UnitPlan}
-use Rattle.j39_findings.specs.declared.steps.Step.{Step}
-use Rattle.j39_findings.specs.declared.steps.Step.TheVariants.{Up, Down, Give, Ask, Begin, Send, Emit, Take, Lose, LateSender, LateReceiver, Rest}
-use Rattle.j39_findings.proofs.VehicleUnits.{boxes_apart}
+use Rattle.j39_network.specs.Kinds.{AreToldApart, kind_of_name}
+use Rattle.j39_network.specs.VehiclePlans.{IsBoxOf, IsVehicleOf}
+use Rattle.j39_network.specs.declared.plan.Plan.{Plan}
+use Rattle.j39_network.specs.declared.plan.flow_plan.FlowPlan.{FlowPlan}
+use Rattle.j39_network.specs.declared.plan.group_plan.GroupPlan.{GroupPlan}
+use Rattle.j39_network.specs.declared.plan.to.To.{To}
+use Rattle.j39_network.specs.declared.plan.to.To.TheVariants.{All as ToAll, One as ToOne}
+use Rattle.j39_network.specs.declared.plan.unit_plan.UnitPlan.{UnitPlan}
+use Rattle.j39_network.specs.declared.steps.Step.{Step}
+use Rattle.j39_network.specs.declared.steps.Step.TheVariants.{Up, Down, Give, Ask, Begin, Send, Emit, Take, Lose, LateSender, LateReceiver, Rest}
+use Rattle.j39_network.proofs.VehicleUnits.{boxes_apart}
 use Rattle.j39_findings.proofs.Vehicles.{clean_vehicle}
 use Rattle.j39_laws.proofs.Addresses.CleanUnits.{placed}
 use Rattle.j39_laws.proofs.Runs.Units.{in_units}
 use Rattle.j39_world.specs.declared.flow.Flow.{Flow}
 use Rattle.j39_world.specs.Flows.{FlowGoes, flow_of, flows_of}
-use Rattle.j39_world.specs.LiveEnds.{KeepsEnds}
+use Rattle.j39_traces.specs.KeepsEnds.{KeepsEnds}
 use Rattle.j39_world.specs.Opening.{AreNamesDistinct}
-use Rattle.j39_findings.specs.PlannedUnits.{planned_unit, unit_at, units_of}
+use Rattle.j39_network.specs.PlannedUnits.{planned_unit, unit_at, units_of}
 use Rattle.j39_world.specs.Run.{Follows}
 use Rattle.j39_world.specs.Sent.{Sent, sent_of}
 use Rattle.j39_world.specs.World.{World}

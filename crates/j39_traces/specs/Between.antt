@@ -6,15 +6,15 @@ use Rattle.j39_id.specs.Pgn.{is_pdu2}
 use Rattle.j39_id.specs.Services.{connection_management, data_transfer}
 use Rattle.j39_id.specs.declared.frame.Frame.{Frame}
 use Rattle.j39_id.specs.declared.ident.Ident.{Ident}
-use Rattle.j39_findings.specs.declared.plan.Plan.{Plan}
-use Rattle.j39_findings.specs.declared.plan.to.To.{To}
-use Rattle.j39_findings.specs.declared.plan.to.To.TheVariants.{All, One}
-use Rattle.j39_findings.specs.declared.steps.Step.{Step}
-use Rattle.j39_findings.specs.declared.steps.Step.TheVariants.{Begin, Down, Send, Emit, Take, LateSender, LateReceiver}
+use Rattle.j39_network.specs.declared.plan.Plan.{Plan}
+use Rattle.j39_network.specs.declared.plan.to.To.{To}
+use Rattle.j39_network.specs.declared.plan.to.To.TheVariants.{All, One}
+use Rattle.j39_network.specs.declared.steps.Step.{Step}
+use Rattle.j39_network.specs.declared.steps.Step.TheVariants.{Begin, Down, Send, Emit, Take, LateSender, LateReceiver}
 use Rattle.j39_id.specs.FrameMeaning.{carries_name, requests_group}
 use Rattle.j39_world.specs.declared.flow.Flow.{Flow}
 use Rattle.j39_world.specs.Flows.{FlowGoes, flows_of}
-use Rattle.j39_findings.specs.PlannedUnits.{unit_at, units_of}
+use Rattle.j39_network.specs.PlannedUnits.{unit_at, units_of}
 use Rattle.j39_world.specs.Run.{Follows}
 use Rattle.j39_world.specs.Sent.{Sent, sent_of}
 use Rattle.j39_world.specs.SoundPlan.{IsSending}

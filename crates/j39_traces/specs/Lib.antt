@@ -1,4 +1,5 @@
 pub mod Between
+pub mod KeepsEnds
 pub mod Telling
 pub mod ToldFlows
 pub mod VehicleRuns

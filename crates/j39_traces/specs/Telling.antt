@@ -6,9 +6,9 @@ use Rattle.j39_id.specs.Services.{is_service}
 use Rattle.j39_id.specs.declared.frame.Frame.{Frame}
 use Rattle.j39_claim.specs.declared.item.Say.TheVariants.{Claim}
 use Rattle.j39_claim.specs.declared.item.Item.TheVariants.{Told}
-use Rattle.j39_findings.specs.declared.plan.Plan.{Plan}
-use Rattle.j39_findings.specs.declared.plan.group_plan.GroupPlan.{GroupPlan}
-use Rattle.j39_findings.specs.PlannedUnits.{units_of, unit_at}
+use Rattle.j39_network.specs.declared.plan.Plan.{Plan}
+use Rattle.j39_network.specs.declared.plan.group_plan.GroupPlan.{GroupPlan}
+use Rattle.j39_network.specs.PlannedUnits.{units_of, unit_at}
 use Rattle.j39_world.specs.Sent.{sent_of}
 use Rattle.j39_world.specs.World.{World, Undelivered}
 use Rattle.j39_follow.specs.Holders.{HoldsByFrames}

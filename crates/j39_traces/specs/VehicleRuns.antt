@@ -1,9 +1,9 @@
 -- What the log of a run of one vehicle tells, as it is followed by the plan of its type, in which units may be of any serial number.
 use Rattle.std.specs.Prelude.{◌≡◌, ℕ, false, List, [], ◌∷◌, ◌++◌, Option, Some}
 use Rattle.j39_id.specs.declared.frame.Frame.{Frame}
-use Rattle.j39_findings.specs.declared.plan.Plan.{Plan}
-use Rattle.j39_findings.specs.declared.plan.to.To.{To}
-use Rattle.j39_findings.specs.declared.steps.Step.{Step}
+use Rattle.j39_network.specs.declared.plan.Plan.{Plan}
+use Rattle.j39_network.specs.declared.plan.to.To.{To}
+use Rattle.j39_network.specs.declared.steps.Step.{Step}
 use Rattle.j39_world.specs.Run.{Follows}
 use Rattle.j39_world.specs.World.{World}
 use Rattle.j39_follow.specs.FollowReports.{IsMessageReport, in_frame}

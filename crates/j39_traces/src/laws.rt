@@ -1,22 +1,22 @@
 //! Laws of all runs of a plan, and of the logs of their frames.
 ghost use Rattle.std.specs.Prelude.{◌≡◌, ℕ, List, false};
-ghost use Rattle.j39_findings.specs.declared.plan.Plan.{Plan as Plans};
-ghost use Rattle.j39_findings.specs.declared.steps.Step.{Step as Steps};
+ghost use Rattle.j39_network.specs.declared.plan.Plan.{Plan as Plans};
+ghost use Rattle.j39_network.specs.declared.steps.Step.{Step as Steps};
 ghost use Rattle.j39_world.specs.Opening.{AreNamesDistinct};
-ghost use Rattle.j39_findings.specs.PlannedUnits.{units_of};
+ghost use Rattle.j39_network.specs.PlannedUnits.{units_of};
 ghost use Rattle.j39_world.specs.Run.{Run};
 ghost use Rattle.j39_world.specs.Sound.{IsQuiet};
-ghost use Rattle.j39_world.specs.LiveEnds.{KeepsEnds};
+ghost use Rattle.j39_traces.specs.KeepsEnds.{KeepsEnds};
 ghost use Rattle.j39_world.specs.SoundPlan.{IsSending};
-ghost use Rattle.j39_findings.specs.Staying.{IsAloneThere};
+ghost use Rattle.j39_network.specs.Staying.{IsAloneThere};
 ghost use Rattle.j39_world.specs.World.{World, all_off};
 ghost use Rattle.j39_traces.specs.Between.{EachGoesBetweenUnits, EndsKeepAddresses, MessagesGoBetweenHolders};
 ghost use Rattle.j39_traces.specs.Telling.{EachIsTold, FramesTellHolders, HaveOwnNumbers, IsHolderTold};
 ghost use Rattle.j39_traces.specs.ToldFlows.{AreToldAsBegun, EachClaims};
 ghost use Rattle.j39_traces.specs.VehicleRuns.{AreVehiclesToldAsBegun, FramesTellOfVehicle, VehicleMessagesGoBetweenHolders};
 ghost use Rattle.j39_findings.specs.Findings.{Clean};
-ghost use Rattle.j39_findings.specs.Kinds.{AreToldApart};
-ghost use Rattle.j39_findings.specs.VehiclePlans.{IsVehicleOf};
+ghost use Rattle.j39_network.specs.Kinds.{AreToldApart};
+ghost use Rattle.j39_network.specs.VehiclePlans.{IsVehicleOf};
 
 /// In every world of every run of a plan whose NAMEs differ and that plans none of the network's own groups, with all lawful choices:
 /// by the frames sent so far the NAME of each unit that is on holds its address, or a claim of that address is undelivered to it.

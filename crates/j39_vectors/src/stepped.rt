@@ -5,7 +5,7 @@ ghost use Rattle.j39_world.specs.World.{World, all_off};
 
 use j39_bus::{Bus, BusError};
 use j39_claim::Choose;
-use j39_findings::{Plan, Step};
+use j39_network::{Plan, Step};
 use std::alloc::Global;
 
 /// Does the steps in turn on a new bus of the plan, up to the first that isn't done, and says how many were done.

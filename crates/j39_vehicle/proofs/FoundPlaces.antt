@@ -8,9 +8,9 @@ use Rattle.std.specs.Prelude.{position, option_and_then}
 use Rattle.std.specs.List.{AllZip, slice_get}
 use Rattle.std.specs.Option.{ForSome, option_map_or}
 use Rattle.std.specs.Str.{bytes_eq}
-use Rattle.j39_findings.specs.declared.plan.to.To.TheVariants.{All as ToAll, One}
-use Rattle.j39_findings.specs.declared.plan.group_plan.GroupPlan.{GroupPlan}
-use Rattle.j39_findings.specs.NeedPlaces.{signal_count}
+use Rattle.j39_network.specs.declared.plan.to.To.TheVariants.{All as ToAll, One}
+use Rattle.j39_network.specs.declared.plan.group_plan.GroupPlan.{GroupPlan}
+use Rattle.j39_network.specs.NeedPlaces.{signal_count}
 use Rattle.j39_vehicle.specs.declared.file.name_on_bus.NameOnBus.{NameOnBus}
 use Rattle.j39_vehicle.specs.declared.file.gateway_table.GatewayTable.{GatewayTable}
 use Rattle.j39_vehicle.specs.declared.file.signal_table.SignalTable.{SignalTable}

@@ -5,7 +5,7 @@ use Rattle.std.specs.List.{list_any, slice_get}
 use Rattle.std.specs.Str.{bytes_eq}
 use Rattle.std.specs.Option.{option_map_or}
 use Rattle.toml.specs.Data.{Data, Items, no_items, Members, as_table}
-use Rattle.j39_findings.specs.PlanLimits.{signal_limit}
+use Rattle.j39_network.specs.PlanLimits.{signal_limit}
 use Rattle.j39_plan.specs.Elements.{inside, Each}
 use Rattle.j39_vehicle.specs.declared.reading.key.Key.TheVariants as key
 use Rattle.j39_vehicle.specs.declared.reading.place.Table.{Table}

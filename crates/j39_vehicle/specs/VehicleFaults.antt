@@ -1,7 +1,7 @@
 -- Every fault of a vehicle file's tree, in the order in which they are looked for.
 use Rattle.std.specs.Prelude.{List, [], ◌∷◌, ◌++◌}
 use Rattle.toml.specs.Data.{Data, Members}
-use Rattle.j39_findings.specs.PlanLimits.{need_limit}
+use Rattle.j39_network.specs.PlanLimits.{need_limit}
 use Rattle.j39_vehicle.specs.declared.reading.key.Key.TheVariants as key
 use Rattle.j39_vehicle.specs.declared.reading.place.Table.TheVariants as at
 use Rattle.j39_vehicle.specs.declared.reading.fault.Fault.{Fault}

@@ -2,8 +2,8 @@
 use Rattle.std.specs.Prelude.{◌≡◌, ℕ, ◌<◌, List, All, length, Some}
 use Rattle.std.specs.List.{slice_get}
 use Rattle.std.specs.Option.{ForSome, option_map_or}
-use Rattle.j39_findings.specs.declared.plan.to.To.TheVariants.{One}
-use Rattle.j39_findings.specs.NeedPlaces.{signal_count}
+use Rattle.j39_network.specs.declared.plan.to.To.TheVariants.{One}
+use Rattle.j39_network.specs.NeedPlaces.{signal_count}
 use Rattle.j39_vehicle.specs.declared.vehicle.bus_plan.BusPlan.{BusPlan}
 use Rattle.j39_vehicle.specs.declared.vehicle.places.UnitAt.{UnitAt}
 use Rattle.j39_vehicle.specs.declared.vehicle.places.GroupAt.{GroupAt}

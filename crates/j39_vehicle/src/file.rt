@@ -1,6 +1,6 @@
 //! What a vehicle file says. It names units, groups and signals by their labels, which stand in the plans of its buses.
 ghost use Rattle.std.specs.Prelude.{◌≤◌, length};
-ghost use Rattle.j39_findings.specs.PlanLimits.{need_limit};
+ghost use Rattle.j39_network.specs.PlanLimits.{need_limit};
 ghost use Rattle.j39_vehicle.specs.VehicleLimits.{bus_limit, forward_limit, gateway_limit};
 
 mod bus_table;

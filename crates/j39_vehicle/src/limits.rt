@@ -13,7 +13,7 @@ pub const GATEWAY_UNIT_LIMIT: usize = 128;
 pub const FORWARD_LIMIT: usize = 512;
 
 /// The most signals that a forward lists: those of a group.
-pub use j39_findings::limits::SIGNAL_LIMIT as FORWARD_SIGNAL_LIMIT;
+pub use j39_network::limits::SIGNAL_LIMIT as FORWARD_SIGNAL_LIMIT;
 
 /// The most needs of a vehicle.
-pub use j39_findings::limits::NEED_LIMIT as VEHICLE_NEED_LIMIT;
+pub use j39_network::limits::NEED_LIMIT as VEHICLE_NEED_LIMIT;

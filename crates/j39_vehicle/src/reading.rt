@@ -1,7 +1,7 @@
 //! Reading a vehicle file.
 ghost use Rattle.std.specs.Prelude.{◌≡◌, ◌≤◌, length, IsErrOf};
 ghost use Rattle.toml.specs.View.{items_view, table_view};
-ghost use Rattle.j39_findings.specs.PlanLimits.{need_limit};
+ghost use Rattle.j39_network.specs.PlanLimits.{need_limit};
 ghost use Rattle.j39_plan.specs.Described.{tree_of, MayAskForRoom};
 ghost use Rattle.j39_vehicle.specs.Outcome.{Gives, GivesGrowing};
 ghost use Rattle.j39_vehicle.specs.VehicleLimits.{bus_limit, forward_limit, gateway_limit};

@@ -1,6 +1,6 @@
 //! A vehicle: its buses, each with its plan, its gateways, what these send on from bus to bus, and who needs what from whom.
 ghost use Rattle.std.specs.Prelude.{◌≤◌, All, length};
-ghost use Rattle.j39_findings.specs.PlanLimits.{need_limit};
+ghost use Rattle.j39_network.specs.PlanLimits.{need_limit};
 ghost use Rattle.j39_vehicle.specs.VehicleLimits.{bus_limit, forward_limit, gateway_limit};
 ghost use Rattle.j39_vehicle.specs.VehiclePlaces.{HasForward, HasNeed, HasUnit};
 

@@ -1,7 +1,7 @@
 -- The lines of needs.
 use Rattle.std.specs.Prelude.{ℕ, zero, suc, List, [], ◌∷◌, ◌++◌, codes, length, Option, Some, None}
 use Rattle.std.specs.Option.{option_map_or}
-use Rattle.j39_findings.specs.declared.plan.flow_plan.FlowPlan.{FlowPlan}
+use Rattle.j39_network.specs.declared.plan.flow_plan.FlowPlan.{FlowPlan}
 use Rattle.j39_text.specs.Texts.{field, place_field}
 use Rattle.j39_load.specs.LineLists.{lines_of_each}
 use Rattle.j39_vehicle.specs.declared.vehicle.Vehicle.{Vehicle}

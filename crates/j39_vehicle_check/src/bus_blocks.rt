@@ -7,7 +7,7 @@ ghost use Rattle.j39_vehicle_check.specs.VehicleBlocks.{AreBlocks, IsBlock, IsLo
 
 use crate::bus_file::write_bus;
 use j39_check::{PlanFindings, write_check, write_load};
-use j39_findings::Plan;
+use j39_network::Plan;
 use j39_load::Loads;
 use j39_text::TextBuffer;
 use j39_vehicle::BusPlan;

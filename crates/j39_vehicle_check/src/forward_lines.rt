@@ -12,7 +12,7 @@ ghost use Rattle.j39_vehicle_check.specs.ForwardLines.{queued_text_where, forwar
 use crate::labels::{gateway_label, write_group_at};
 use crate::times::us_of_ms;
 use j39_ages::{Delays, is_late_asked, queued};
-use j39_findings::FlowPlan;
+use j39_network::FlowPlan;
 use j39_paths::{is_output, output_flows};
 use j39_text::TextBuffer;
 use j39_vehicle::{Forward, Vehicle};

@@ -10,7 +10,7 @@ use Rattle.j39_signal.specs.Selectors.{has_selector, is_selected, selector_end}
 use Rattle.j39_signal.specs.State.{state_in_payload, state_of}
 use Rattle.j39_signal.specs.declared.selector.Selector.{Selector}
 use Rattle.j39_signal.specs.declared.state.State.TheVariants.{Absent}
-use Rattle.j39_findings.specs.declared.plan.group_plan.GroupPlan.{GroupPlan}
+use Rattle.j39_network.specs.declared.plan.group_plan.GroupPlan.{GroupPlan}
 use Rattle.j39_vehicle.specs.declared.vehicle.Vehicle.{Vehicle}
 use Rattle.j39_vehicle.specs.declared.vehicle.forward.Forward.{Forward}
 use Rattle.j39_paths.specs.VehicleFindings.{AreFindings, HaveOtherLayouts, IsSelector}

@@ -14,24 +14,24 @@ use Rattle.std.specs.Prelude.{IsTrue, pos}
 use Rattle.std.proofs.lemmas.Int.{ints}
 use Rattle.j39_signal.specs.Parts.{IsSignal, SignalParts}
 use Rattle.j39_signal.specs.declared.kind.Kind.TheVariants.{Measured}
-use Rattle.j39_findings.specs.LabelForm.{is_label}
-use Rattle.j39_findings.specs.declared.plan.meaning.Meaning.{Meaning}
-use Rattle.j39_findings.specs.declared.plan.Plan.{Plan}
-use Rattle.j39_findings.specs.declared.plan.flow_plan.FlowPlan.{FlowPlan}
-use Rattle.j39_findings.specs.declared.plan.group_plan.GroupPlan.{GroupPlan}
-use Rattle.j39_findings.specs.declared.plan.queue.Queue.TheVariants.{Priority}
-use Rattle.j39_findings.specs.declared.plan.to.To.TheVariants.{All as ToAll, One}
-use Rattle.j39_findings.specs.declared.plan.unit_plan.UnitPlan.{UnitPlan}
-use Rattle.j39_findings.specs.PlannedUnits.{units_of}
-use Rattle.j39_findings.specs.declared.steps.Step.{Step}
-use Rattle.j39_findings.specs.declared.steps.Step.TheVariants.{Send, Take, Up}
+use Rattle.j39_network.specs.LabelForm.{is_label}
+use Rattle.j39_network.specs.declared.plan.meaning.Meaning.{Meaning}
+use Rattle.j39_network.specs.declared.plan.Plan.{Plan}
+use Rattle.j39_network.specs.declared.plan.flow_plan.FlowPlan.{FlowPlan}
+use Rattle.j39_network.specs.declared.plan.group_plan.GroupPlan.{GroupPlan}
+use Rattle.j39_network.specs.declared.plan.queue.Queue.TheVariants.{Priority}
+use Rattle.j39_network.specs.declared.plan.to.To.TheVariants.{All as ToAll, One}
+use Rattle.j39_network.specs.declared.plan.unit_plan.UnitPlan.{UnitPlan}
+use Rattle.j39_network.specs.PlannedUnits.{units_of}
+use Rattle.j39_network.specs.declared.steps.Step.{Step}
+use Rattle.j39_network.specs.declared.steps.Step.TheVariants.{Send, Take, Up}
 use Rattle.j39_world.specs.ClaimSteps.{switched_on}
 use Rattle.j39_world.specs.Flows.{flow_of}
 use Rattle.j39_world.specs.Run.{Follows, Run}
 use Rattle.j39_world.specs.TransferSteps.{sends_alone}
 use Rattle.j39_world.specs.World.{World, all_off, changed_pair}
 use Rattle.j39_world.specs.declared.flow.Flow.{Flow}
-use Rattle.j39_findings.specs.declared.plan.way.Way.TheVariants.{Lowest}
+use Rattle.j39_network.specs.declared.plan.way.Way.TheVariants.{Lowest}
 use Rattle.j39_vehicle.specs.declared.vehicle.Vehicle.{Vehicle}
 use Rattle.j39_vehicle.specs.declared.vehicle.bus_plan.BusPlan.{BusPlan}
 use Rattle.j39_vehicle.specs.declared.vehicle.forward.Forward.{Forward}

@@ -8,9 +8,9 @@ use Rattle.std.proofs.lemmas.Option.{none-some, same_Some}
 use Rattle.j39_signal.specs.Bits.{number_at}
 use Rattle.j39_signal.specs.Parts.{SignalParts}
 use Rattle.j39_signal.specs.declared.state.State.TheVariants.{Value}
-use Rattle.j39_findings.specs.Findings.{Meets}
+use Rattle.j39_network.specs.Serving.{Meets}
 use Rattle.j39_rules.specs.ListPlaces.{each, in_each, pairs}
-use Rattle.j39_findings.specs.declared.plan.group_plan.GroupPlan.{GroupPlan}
+use Rattle.j39_network.specs.declared.plan.group_plan.GroupPlan.{GroupPlan}
 use Rattle.j39_world.specs.Run.{Run}
 use Rattle.j39_world.specs.Transfers.{Begun}
 use Rattle.j39_world.specs.World.{all_off}

@@ -1,8 +1,8 @@
 -- Runs of vehicles, without a clock: a run of the plan of each bus, and gateways that hand on between these.
 use Rattle.std.specs.Prelude.{◌≡◌, ℕ, ◌⊎◌, List, Option, Some, None}
 use Rattle.std.specs.List.{slice_get}
-use Rattle.j39_findings.specs.declared.plan.flow_plan.FlowPlan.{FlowPlan}
-use Rattle.j39_findings.specs.declared.steps.Step.{Step}
+use Rattle.j39_network.specs.declared.plan.flow_plan.FlowPlan.{FlowPlan}
+use Rattle.j39_network.specs.declared.steps.Step.{Step}
 use Rattle.j39_world.specs.Run.{Run}
 use Rattle.j39_world.specs.Sound.{reported, reported_alone}
 use Rattle.j39_world.specs.World.{World, all_off}

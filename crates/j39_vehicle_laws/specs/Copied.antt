@@ -5,8 +5,8 @@ use Rattle.j39_signal.specs.Parts.{SignalParts}
 use Rattle.j39_signal.specs.Places.{IsAlwaysInside}
 use Rattle.j39_signal.specs.Selectors.{is_selected}
 use Rattle.j39_signal.specs.State.{state_in_payload}
-use Rattle.j39_findings.specs.Lengths.{IsLengthOf}
-use Rattle.j39_findings.specs.declared.plan.group_plan.GroupPlan.{GroupPlan}
+use Rattle.j39_network.specs.Lengths.{IsLengthOf}
+use Rattle.j39_network.specs.declared.plan.group_plan.GroupPlan.{GroupPlan}
 use Rattle.j39_vehicle.specs.declared.vehicle.Vehicle.{Vehicle}
 use Rattle.j39_vehicle.specs.declared.vehicle.forward.Forward.{Forward}
 use Rattle.j39_paths.specs.Buses.{group_at}

@@ -1,9 +1,9 @@
 -- How a message goes through a vehicle where nothing of it is lost on a bus, and each gateway begins what it has reported.
 use Rattle.std.specs.Prelude.{◌≡◌, ℕ, true, ◌⊎◌, List, [], ◌∷◌, Option, Some, None}
 use Rattle.std.specs.List.{slice_get}
-use Rattle.j39_findings.specs.declared.plan.Plan.{Plan}
-use Rattle.j39_findings.specs.declared.plan.flow_plan.FlowPlan.{FlowPlan}
-use Rattle.j39_findings.specs.declared.steps.Step.{Step}
+use Rattle.j39_network.specs.declared.plan.Plan.{Plan}
+use Rattle.j39_network.specs.declared.plan.flow_plan.FlowPlan.{FlowPlan}
+use Rattle.j39_network.specs.declared.steps.Step.{Step}
 use Rattle.j39_world.specs.Arriving.{Answered, IsAlone, IsThrough, IsUnanswered, RunSparing}
 use Rattle.j39_world.specs.Flows.{flow_of}
 use Rattle.j39_world.specs.Run.{Run, begin_refusal, count_of}

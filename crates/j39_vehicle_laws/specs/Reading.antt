@@ -6,7 +6,7 @@ use Rattle.j39_signal.specs.Places.{is_inside}
 use Rattle.j39_signal.specs.State.{IsRawOf, state_of}
 use Rattle.j39_signal.specs.declared.state.State.{State}
 use Rattle.j39_signal.specs.declared.state.State.TheVariants.{Value, Absent}
-use Rattle.j39_findings.specs.SoundSignals.{unset_state}
+use Rattle.j39_network.specs.SoundSignals.{unset_state}
 use Rattle.j39_paths.specs.Matching.{first_value, last_value}
 use Rattle.j39_forwards.specs.Forwards.{AreOneValue}
 

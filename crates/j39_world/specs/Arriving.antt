@@ -5,10 +5,10 @@ use Rattle.std.specs.List.{All, slice_get}
 use Rattle.j39_tp.specs.declared.sending.outcome.Outcome.{Outcome}
 use Rattle.j39_tp.specs.declared.sending.outcome.Outcome.TheVariants.{Sent, Acked}
 use Rattle.j39_tp.specs.declared.sending.stage.Stage.TheVariants.{Resting}
-use Rattle.j39_findings.specs.declared.plan.Plan.{Plan}
-use Rattle.j39_findings.specs.declared.plan.to.To.TheVariants as tos
-use Rattle.j39_findings.specs.declared.steps.Step.{Step}
-use Rattle.j39_findings.specs.declared.steps.Step.TheVariants.{Begin, Down, Emit, Take, Lose, LateSender, LateReceiver, Rest}
+use Rattle.j39_network.specs.declared.plan.Plan.{Plan}
+use Rattle.j39_network.specs.declared.plan.to.To.TheVariants as tos
+use Rattle.j39_network.specs.declared.steps.Step.{Step}
+use Rattle.j39_network.specs.declared.steps.Step.TheVariants.{Begin, Down, Emit, Take, Lose, LateSender, LateReceiver, Rest}
 use Rattle.j39_world.specs.declared.flow.Flow.{Flow}
 use Rattle.j39_world.specs.declared.wired.Wired.{Wired}
 use Rattle.j39_world.specs.Flows.{flows_of, is_short}

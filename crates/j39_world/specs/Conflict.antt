@@ -1,7 +1,7 @@
 -- What a run that shows a conflict of two fixed units comes to (SAE J1939-81).
 use Rattle.std.specs.Prelude.{◌≡◌, ℕ, true, List, None}
-use Rattle.j39_findings.specs.declared.plan.Plan.{Plan}
-use Rattle.j39_findings.specs.declared.steps.Step.{Step}
+use Rattle.j39_network.specs.declared.plan.Plan.{Plan}
+use Rattle.j39_network.specs.declared.steps.Step.{Step}
 use Rattle.j39_world.specs.World.{World, all_off}
 use Rattle.j39_world.specs.Run.{Run, RunsThrough}
 use Rattle.j39_world.specs.Sound.{IsQuiet}

@@ -1,9 +1,9 @@
 -- How transfers end: whoever goes on with them comes to their end, whatever is lost and whoever hears nothing in time. It says
 -- nothing of time.
 use Rattle.std.specs.Prelude.{◌≡◌, ℕ, ◌≤◌, List, [], ◌∷◌, length, All, Some}
-use Rattle.j39_findings.specs.declared.plan.Plan.{Plan}
-use Rattle.j39_findings.specs.declared.steps.Step.{Step}
-use Rattle.j39_findings.specs.declared.steps.Step.TheVariants.{Up, Down, Give, Ask, Begin, Send}
+use Rattle.j39_network.specs.declared.plan.Plan.{Plan}
+use Rattle.j39_network.specs.declared.steps.Step.{Step}
+use Rattle.j39_network.specs.declared.steps.Step.TheVariants.{Up, Down, Give, Ask, Begin, Send}
 use Rattle.j39_world.specs.Transfers.{Outgoing}
 use Rattle.j39_world.specs.World.{World}
 use Rattle.j39_world.specs.Run.{RunsThrough}

@@ -6,8 +6,8 @@ use Rattle.std.specs.Ordering.{nat_cmp}
 use Rattle.j39_id.specs.Addresses.{in_pool}
 use Rattle.j39_id.specs.Name.{is_arbitrary}
 use Rattle.j39_claim.specs.ClaimRule.{PlannedUnit}
-use Rattle.j39_findings.specs.PlannedUnits.{unit_at}
-use Rattle.j39_findings.specs.Staying.{EachOther, EachSmaller, IsFirstThere, IsOutsidePool, Stays}
+use Rattle.j39_network.specs.PlannedUnits.{unit_at}
+use Rattle.j39_network.specs.Staying.{EachOther, EachSmaller, IsFirstThere, IsOutsidePool, Stays}
 use Rattle.j39_world.specs.World.{World}
 
 -- the unit, while it is on, holds its planned address

@@ -1,7 +1,7 @@
 -- Steps that are not refused can be done.
 use Rattle.std.specs.Prelude.{◌≡◌, None}
-use Rattle.j39_findings.specs.declared.plan.Plan.{Plan}
-use Rattle.j39_findings.specs.declared.steps.Step.{Step}
+use Rattle.j39_network.specs.declared.plan.Plan.{Plan}
+use Rattle.j39_network.specs.declared.steps.Step.{Step}
 use Rattle.j39_world.specs.World.{World}
 use Rattle.j39_world.specs.Run.{refusal, StepsTo}
 

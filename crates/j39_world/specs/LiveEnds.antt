@@ -1,17 +1,16 @@
 -- The ends of flows of a live plan (SAE J1939-81, address claim procedures): whatever other units do, none of them comes to hold the address
 -- of an end, so that messages go on while units claim.
-use Rattle.std.specs.Prelude.{◌≡◌, ◌≢◌, ◌⊎◌, ℕ, true, false, List, [], Some, Contains}
+use Rattle.std.specs.Prelude.{◌≡◌, ◌≢◌, ℕ, true, List, [], Some, Contains}
 use Rattle.std.specs.List.{slice_get}
 use Rattle.j39_claim.specs.declared.item.Say.TheVariants.{Claim}
 use Rattle.j39_claim.specs.declared.item.Item.TheVariants.{Told}
-use Rattle.j39_findings.specs.Findings.{Clean}
-use Rattle.j39_findings.specs.declared.plan.Plan.{Plan}
-use Rattle.j39_findings.specs.declared.plan.to.To.TheVariants.{One}
+use Rattle.j39_network.specs.declared.plan.Plan.{Plan}
+use Rattle.j39_network.specs.declared.plan.to.To.TheVariants.{One}
 use Rattle.j39_world.specs.declared.flow.Flow.{Flow}
 use Rattle.j39_world.specs.declared.wired.Wired.TheVariants.{Alone}
 use Rattle.j39_world.specs.Flows.{flows_of}
-use Rattle.j39_findings.specs.PlannedUnits.{unit_at, units_of}
-use Rattle.j39_findings.specs.Staying.{EachOther, IsAloneThere}
+use Rattle.j39_network.specs.PlannedUnits.{unit_at, units_of}
+use Rattle.j39_network.specs.Staying.{EachOther, IsAloneThere}
 use Rattle.j39_world.specs.Transfers.{Outgoing, is_among}
 use Rattle.j39_world.specs.World.{World}
 
@@ -41,7 +40,3 @@ pub record AreEndsUndisturbed (plan : Plan) (w : World) : Type 0 where
   pub sent : (u v f : ℕ) (bytes : List ℕ) → Contains (w.wire u v) (Alone f bytes) → StandsAlone plan w u
   pub sent_to : (u v f : ℕ) (bytes : List ℕ) (flow : Flow) (x : ℕ) → Contains (w.wire u v) (Alone f bytes) → slice_get (flows_of plan) f ≡ Some flow
       → flow.to ≡ One x → (x ≡ v) × StandsAlone plan w v
-
--- messages of the plan go on between units that hold their addresses: it isn't live, or it has no findings, so that each end is alone
-abbrev pub KeepsEnds : Plan → Type 0
-KeepsEnds plan = (plan.live ≡ false) ⊎ Clean plan

@@ -1,12 +1,12 @@
 -- Which plans have a bus, and why another has none.
 use Rattle.std.specs.Prelude.{◌≡◌, ◌≢◌, ℕ, ◌<◌, List, length, All}
 use Rattle.j39_claim.specs.ClaimRule.{PlannedUnit}
-use Rattle.j39_findings.specs.Kinds.{MayBeOneAt, AreToldApart}
-use Rattle.j39_findings.specs.PlannedGroups.{IsSendable, IsFirstRefused}
-use Rattle.j39_findings.specs.declared.plan.Plan.{Plan}
+use Rattle.j39_network.specs.Kinds.{MayBeOneAt, AreToldApart}
+use Rattle.j39_network.specs.PlannedGroups.{IsSendable, IsFirstRefused}
+use Rattle.j39_network.specs.declared.plan.Plan.{Plan}
 use Rattle.j39_world.specs.declared.bus_error.BusError.{BusError}
 use Rattle.j39_world.specs.declared.bus_error.BusError.TheVariants.{ChooserCount, SameName, BadGroup, Memory}
-use Rattle.j39_findings.specs.PlannedUnits.{unit_at}
+use Rattle.j39_network.specs.PlannedUnits.{unit_at}
 
 -- the units at these places have one NAME
 pub record HaveOneName (units : List PlannedUnit) (i j : ℕ) : Type 0 where

@@ -1,8 +1,8 @@
 -- How a bus settles: whoever goes on delivering what is undelivered comes to an end. It says nothing of time.
 use Rattle.std.specs.Prelude.{◌≢◌, ℕ, ◌≤◌, List, [], ◌∷◌, length, All}
-use Rattle.j39_findings.specs.declared.plan.Plan.{Plan}
-use Rattle.j39_findings.specs.declared.steps.Step.{Step}
-use Rattle.j39_findings.specs.declared.steps.Step.TheVariants.{Give}
+use Rattle.j39_network.specs.declared.plan.Plan.{Plan}
+use Rattle.j39_network.specs.declared.steps.Step.{Step}
+use Rattle.j39_network.specs.declared.steps.Step.TheVariants.{Give}
 use Rattle.j39_world.specs.World.{World}
 use Rattle.j39_world.specs.Run.{RunsThrough}
 

@@ -5,14 +5,14 @@ use Rattle.std.specs.FinSet.{contains}
 use Rattle.std.specs.List.{filter}
 use Rattle.j39_tp.specs.declared.sending.outcome.Outcome.TheVariants.{Acked}
 use Rattle.j39_tp.specs.declared.sending.stage.Stage.TheVariants.{Resting}
-use Rattle.j39_findings.specs.declared.plan.to.To.TheVariants.{One}
+use Rattle.j39_network.specs.declared.plan.to.To.TheVariants.{One}
 use Rattle.j39_world.specs.Transfers.{Outgoing, Begun, Reported}
 use Rattle.j39_world.specs.declared.wired.Wired.TheVariants.{Alone}
 use Rattle.j39_id.specs.Name.{is_arbitrary}
 use Rattle.j39_claim.specs.declared.item.Say.TheVariants.{Claim, Cannot}
 use Rattle.j39_claim.specs.declared.item.Item.TheVariants.{Told}
-use Rattle.j39_findings.specs.declared.plan.Plan.{Plan}
-use Rattle.j39_findings.specs.PlannedUnits.{units_of, unit_at}
+use Rattle.j39_network.specs.declared.plan.Plan.{Plan}
+use Rattle.j39_network.specs.PlannedUnits.{units_of, unit_at}
 use Rattle.j39_world.specs.World.{World, Undelivered}
 
 -- a claim of this address is undelivered between the two

@@ -4,17 +4,17 @@
 -- it answers each request, and some flow brings each unit what it needs; and a message of such a flow of which nothing is lost reads there
 -- as it was written.
 use Rattle.std.specs.Prelude.{◌≡◌, ℕ, ◌<◌, ◌⊎◌, false, true, List, length, Some}
-use Rattle.j39_findings.specs.Needs.{AreNeedsMet}
-use Rattle.j39_findings.specs.PlannedRequests.{AreAnsweredWell, AreRequestsServed}
-use Rattle.j39_findings.specs.SoundSignals.{SoundSignals}
-use Rattle.j39_findings.specs.VehiclePlans.{IsVehicleOf}
-use Rattle.j39_findings.specs.declared.plan.Plan.{Plan}
-use Rattle.j39_findings.specs.declared.plan.unit_plan.UnitPlan.{UnitPlan}
-use Rattle.j39_findings.specs.declared.steps.Step.{Step}
+use Rattle.j39_network.specs.Needs.{AreNeedsMet}
+use Rattle.j39_network.specs.PlannedRequests.{AreAnsweredWell, AreRequestsServed}
+use Rattle.j39_network.specs.SoundSignals.{SoundSignals}
+use Rattle.j39_network.specs.VehiclePlans.{IsVehicleOf}
+use Rattle.j39_network.specs.declared.plan.Plan.{Plan}
+use Rattle.j39_network.specs.declared.plan.unit_plan.UnitPlan.{UnitPlan}
+use Rattle.j39_network.specs.declared.steps.Step.{Step}
 use Rattle.j39_world.specs.Transfers.{Outgoing}
 use Rattle.j39_world.specs.World.{World, all_off}
 use Rattle.j39_world.specs.Run.{Run}
-use Rattle.j39_findings.specs.PlannedUnits.{unit_at, units_of}
+use Rattle.j39_network.specs.PlannedUnits.{unit_at, units_of}
 use Rattle.j39_world.specs.Settling.{Settles}
 use Rattle.j39_world.specs.Ending.{TransfersEnd}
 use Rattle.j39_world.specs.LiveEnds.{AreEndsUndisturbed}
@@ -23,7 +23,7 @@ use Rattle.j39_world.specs.Needed.{NeededValuesArrive}
 use Rattle.j39_world.specs.SentArriving.{SentFramesArrive, SentValuesArrive}
 use Rattle.j39_world.specs.Sound.{AreAddressesSound, AreAddressesDifferent, AreAllDelivered, AreNotesRight, AreKeptFree, DoesOneLie, IsQuiet}
 use Rattle.j39_world.specs.Sound.{AreReportsSound, AreSentFramesSound, IsAcknowledgedReported}
-use Rattle.j39_findings.specs.Staying.{IsAloneThere}
+use Rattle.j39_network.specs.Staying.{IsAloneThere}
 use Rattle.j39_world.specs.HeldAddresses.{ArePlannedApart, HoldsAlone, HoldsPlanned}
 use Rattle.j39_world.specs.Strangers.{HasStrangers}
 

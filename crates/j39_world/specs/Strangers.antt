@@ -4,16 +4,16 @@ use Rattle.std.specs.FinSet.{empty}
 use Rattle.std.specs.List.{slice_get}
 use Rattle.j39_id.specs.Addresses.{in_pool}
 use Rattle.j39_id.specs.Name.{is_arbitrary}
-use Rattle.j39_findings.specs.Findings.{NeedsPoolAddress}
-use Rattle.j39_findings.specs.Kinds.{AreToldApart}
+use Rattle.j39_network.specs.UnitAddresses.{NeedsPoolAddress}
+use Rattle.j39_network.specs.Kinds.{AreToldApart}
 use Rattle.j39_rules.specs.ListPlaces.{SoManyMeet}
-use Rattle.j39_findings.specs.declared.plan.Plan.{Plan}
-use Rattle.j39_findings.specs.declared.plan.flow_plan.FlowPlan.{FlowPlan}
-use Rattle.j39_findings.specs.declared.plan.to.To.TheVariants.{One}
-use Rattle.j39_findings.specs.declared.plan.unit_plan.UnitPlan.{UnitPlan}
+use Rattle.j39_network.specs.declared.plan.Plan.{Plan}
+use Rattle.j39_network.specs.declared.plan.flow_plan.FlowPlan.{FlowPlan}
+use Rattle.j39_network.specs.declared.plan.to.To.TheVariants.{One}
+use Rattle.j39_network.specs.declared.plan.unit_plan.UnitPlan.{UnitPlan}
 use Rattle.j39_world.specs.Opening.{AreNamesDistinct}
-use Rattle.j39_findings.specs.PlannedUnits.{unit_at, units_of}
-use Rattle.j39_findings.specs.Staying.{EachOther}
+use Rattle.j39_network.specs.PlannedUnits.{unit_at, units_of}
+use Rattle.j39_network.specs.Staying.{EachOther}
 
 -- the second plan is the first with these strangers: it may have any groups and flows
 pub record HasStrangers (plan joined : Plan) (strangers : List UnitPlan) : Type 0 where

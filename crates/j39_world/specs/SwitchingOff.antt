@@ -8,8 +8,8 @@ use Rattle.j39_tp.specs.Sender.{ended}
 use Rattle.j39_tp.specs.declared.receiving.progress.Progress.TheVariants.{Closed}
 use Rattle.j39_tp.specs.declared.sending.outcome.Outcome.TheVariants.{GaveUp}
 use Rattle.j39_tp.specs.declared.sending.stage.Stage.{Stage}
-use Rattle.j39_findings.specs.declared.plan.to.To.{To}
-use Rattle.j39_findings.specs.declared.plan.to.To.TheVariants.{All, One}
+use Rattle.j39_network.specs.declared.plan.to.To.{To}
+use Rattle.j39_network.specs.declared.plan.to.To.TheVariants.{All, One}
 use Rattle.j39_world.specs.ClaimSteps.{without_lists_to}
 use Rattle.j39_world.specs.Transfers.{Outgoing, Receivers, Sessions}
 use Rattle.j39_world.specs.World.{World, changed}

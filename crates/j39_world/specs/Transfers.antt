@@ -6,7 +6,7 @@ use Rattle.j39_tp.specs.declared.receiving.progress.Progress.{Progress}
 use Rattle.j39_tp.specs.declared.receiving.progress.Progress.TheVariants.{Closed, Open, Complete}
 use Rattle.j39_tp.specs.declared.sending.stage.Stage.{Stage}
 use Rattle.j39_tp.specs.Sender.{outcome_of}
-use Rattle.j39_findings.specs.declared.plan.to.To.{To}
+use Rattle.j39_network.specs.declared.plan.to.To.{To}
 use Rattle.j39_world.specs.declared.wired.Wired.{Wired}
 
 -- a message that a unit sends, from its beginning until the unit rests: the place of its flow, its PGN,

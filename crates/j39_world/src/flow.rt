@@ -1,5 +1,5 @@
 //! Flows of a plan.
-use j39_findings::To;
+use j39_network::To;
 use j39_id::Pgn;
 use j39_signal::Selector;
 

@@ -1,6 +1,6 @@
 -- What is sent of a message.
 use Rattle.std.specs.Prelude.{◌≡◌, ℕ, List}
-use Rattle.j39_findings.specs.declared.plan.to.To.{To}
+use Rattle.j39_network.specs.declared.plan.to.To.{To}
 use Rattle.j39_tp.specs.declared.sending.outcome.Outcome.TheVariants.{Sent}
 use Rattle.j39_tp.specs.declared.sending.stage.Stage.{Stage}
 use Rattle.j39_tp.specs.declared.sending.stage.Stage.TheVariants.{Resting}

@@ -1,7 +1,7 @@
 -- What a walk over the groups of a plan answers.
 use Rattle.std.specs.Prelude.{List, All}
-use Rattle.j39_findings.specs.PlannedGroups.{IsSendable, IsFirstRefused}
-use Rattle.j39_findings.specs.declared.plan.group_plan.GroupPlan.{GroupPlan}
+use Rattle.j39_network.specs.PlannedGroups.{IsSendable, IsFirstRefused}
+use Rattle.j39_network.specs.declared.plan.group_plan.GroupPlan.{GroupPlan}
 use Rattle.j39_world.specs.declared.bus_error.BusError.{BusError}
 use Rattle.j39_world.specs.declared.bus_error.BusError.TheVariants.{ChooserCount, SameName, BadGroup, Memory}
 

@@ -2,7 +2,7 @@
 ghost use Rattle.std.specs.Prelude.{◌≡◌, ◌<◌, ◌≤◌, length, vec_len, vec_capacity, OnOk, OnErr, IfOk};
 ghost use Rattle.std.specs.List.{filter, range_with_len};
 ghost use Rattle.j39_id.specs.Limits.{message_bytes};
-ghost use Rattle.j39_findings.specs.declared.steps.Step.TheVariants.{Begin};
+ghost use Rattle.j39_network.specs.declared.steps.Step.TheVariants.{Begin};
 ghost use Rattle.j39_bus.specs.BusState.{Histories};
 ghost use Rattle.j39_bus.specs.Stations.{station_at};
 ghost use Rattle.j39_bus.specs.inside.Network.{IsAllowed, IsNetwork, IsSameNetwork, KeepsPlan, has_begun, world_in, Steps};
@@ -17,7 +17,7 @@ use crate::session::Session;
 use crate::transfer_frames::{packet_frame, short_frame};
 use crate::wire::{post_each, reserve_each};
 use j39_claim::Claimer;
-use j39_findings::To;
+use j39_network::To;
 use j39_id::Frame;
 use j39_world::{Flow, Wired};
 use std::alloc::{AllocError, Global};

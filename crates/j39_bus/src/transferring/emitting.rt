@@ -1,6 +1,6 @@
 //! A sender goes on.
 ghost use Rattle.std.specs.Prelude.{◌≡◌, ◌<◌, true, length, vec_len, vec_capacity, OnOk, OnErr};
-ghost use Rattle.j39_findings.specs.declared.steps.Step.TheVariants.{Emit};
+ghost use Rattle.j39_network.specs.declared.steps.Step.TheVariants.{Emit};
 ghost use Rattle.j39_bus.specs.inside.Network.{IsAllowed, IsNetwork, IsSameNetwork, KeepsPlan, world_in, Steps};
 ghost use Rattle.j39_bus.specs.BusState.{Histories, session_at};
 ghost use Rattle.j39_world.specs.Run.{can_emit};

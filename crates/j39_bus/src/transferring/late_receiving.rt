@@ -1,6 +1,6 @@
 //! A receiver hears nothing in time.
 ghost use Rattle.std.specs.Prelude.{◌≡◌, ◌<◌, length, vec_len, vec_capacity, OnOk, OnErr};
-ghost use Rattle.j39_findings.specs.declared.steps.Step.TheVariants.{LateReceiver};
+ghost use Rattle.j39_network.specs.declared.steps.Step.TheVariants.{LateReceiver};
 ghost use Rattle.j39_bus.specs.BusState.{Histories};
 ghost use Rattle.j39_bus.specs.inside.Network.{HasHeld, IsAllowed, IsNetwork, IsSameNetwork, KeepsPlan, world_in, Steps};
 ghost use Rattle.j39_queues.specs.Queued.{room_at};

@@ -1,5 +1,5 @@
 //! What is sent is lost.
-ghost use Rattle.j39_findings.specs.declared.steps.Step.TheVariants.{Lose};
+ghost use Rattle.j39_network.specs.declared.steps.Step.TheVariants.{Lose};
 ghost use Rattle.j39_bus.specs.inside.Network.{IsAllowed, IsNetwork, KeepsPlan, Steps};
 
 use crate::network::Network;

@@ -1,6 +1,6 @@
 //! A sender rests.
 ghost use Rattle.std.specs.Prelude.{◌≡◌, ◌<◌, length};
-ghost use Rattle.j39_findings.specs.declared.steps.Step.TheVariants.{Rest};
+ghost use Rattle.j39_network.specs.declared.steps.Step.TheVariants.{Rest};
 ghost use Rattle.j39_bus.specs.BusState.{nowhere};
 ghost use Rattle.j39_bus.specs.inside.Network.{IsAllowed, IsNetwork, KeepsPlan, world_in, Steps};
 ghost use Rattle.j39_world.specs.Resting.{can_rest, is_over_with};

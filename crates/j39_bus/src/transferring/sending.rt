@@ -1,6 +1,6 @@
 //! A frame is sent alone, beside whatever message its unit sends.
 ghost use Rattle.std.specs.Prelude.{◌≡◌, ◌<◌, ◌≤◌, length, vec_len, vec_capacity, OnOk, OnErr};
-ghost use Rattle.j39_findings.specs.declared.steps.Step.TheVariants.{Send};
+ghost use Rattle.j39_network.specs.declared.steps.Step.TheVariants.{Send};
 ghost use Rattle.j39_bus.specs.BusState.{Histories};
 ghost use Rattle.j39_bus.specs.Stations.{station_at};
 ghost use Rattle.j39_bus.specs.inside.Network.{IsAllowed, IsNetwork, IsSameNetwork, KeepsPlan, has_sent, world_in, Steps};

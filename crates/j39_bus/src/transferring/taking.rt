@@ -1,6 +1,6 @@
 //! A unit takes what is sent to it.
 ghost use Rattle.std.specs.Prelude.{◌≡◌, ℕ, ◌+◌, ◌<◌, ◌≤◌, true, [], ◌∷◌, ◌++◌, drop, length, vec_len, vec_capacity, OnOk, OnErr, IfOk};
-ghost use Rattle.j39_findings.specs.declared.steps.Step.TheVariants.{Take};
+ghost use Rattle.j39_network.specs.declared.steps.Step.TheVariants.{Take};
 ghost use Rattle.j39_queues.specs.Queued.{KeepsRoom, pair_in, room_at};
 ghost use Rattle.j39_tp.specs.Receiver.{is_complete};
 ghost use Rattle.j39_tp.specs.Carried.{Carried};

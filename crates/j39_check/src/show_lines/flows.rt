@@ -4,7 +4,7 @@ ghost use Rattle.j39_check.specs.ShowText.{flow_lines, need_from_line, need_line
 ghost use Rattle.j39_load.specs.LineLists.{lines_of_each};
 
 use super::values::{write_number, write_optional, write_truth, write_word};
-use j39_findings::{FlowPlan, NeedPlan, Pace, Plan, RequestPlan, To};
+use j39_network::{FlowPlan, NeedPlan, Pace, Plan, RequestPlan, To};
 use j39_plan::{Key, Table};
 use j39_text::{TextBuffer, group_label, signal_label, unit_label};
 use std::alloc::AllocError;

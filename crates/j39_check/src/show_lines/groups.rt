@@ -9,7 +9,7 @@ ghost use Rattle.j39_load.specs.LineLists.{lines_of_each};
 use super::values::{
     write_front, write_number, write_optional, write_text, write_truth, write_word,
 };
-use j39_findings::{GroupPlan, Meaning, Plan, TextPlan, ValueName};
+use j39_network::{GroupPlan, Meaning, Plan, TextPlan, ValueName};
 use j39_plan::{Key, Table};
 use j39_signal::{Kind, Selector, Signal};
 use j39_text::TextBuffer;

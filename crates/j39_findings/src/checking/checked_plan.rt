@@ -6,7 +6,7 @@ ghost use Rattle.j39_findings.specs.Refused.{IsCauseFor};
 
 use crate::checking::check;
 use crate::checking::refused::{Refused, RefusedCause};
-use crate::plan::Plan;
+use j39_network::Plan;
 use std::alloc::Global;
 use std::marker::Model;
 
@@ -20,7 +20,7 @@ impl Model for CheckedPlan {
     ghost use Rattle.std.specs.Coded.{codes, coded_ℕ};
     ghost use Rattle.std.specs.FinSet as set;
     ghost use Rattle.std.specs.Ordering.{nat_cmp};
-    ghost use Rattle.j39_findings.specs.declared.plan.Plan.{Plan as Planned};
+    ghost use Rattle.j39_network.specs.declared.plan.Plan.{Plan as Planned};
     ghost use Rattle.j39_findings.specs.Findings.{Clean};
 
     ghost Value = { Planned };

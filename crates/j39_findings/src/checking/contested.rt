@@ -6,10 +6,10 @@ ghost use Rattle.j39_findings.specs.Found.{contested_findings, is_contested, is_
 ghost use Rattle.j39_findings.specs.Standing.{alone_of};
 
 use crate::checking::finding::Finding;
-use crate::plan::{FlowPlan, Plan, To, UnitPlan};
 use crate::standing::Standing;
 use j39_claim::AddressSet;
 use j39_rules::{Rule, find_each, push_if};
+use j39_network::{FlowPlan, Plan, To, UnitPlan};
 use std::alloc::AllocError;
 
 #[derive(Clone, Copy)]

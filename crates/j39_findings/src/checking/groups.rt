@@ -7,7 +7,7 @@ ghost use Rattle.j39_findings.specs.Found.{is_for_no_plan, is_wrongly_private, h
 
 use crate::checking::finding::Finding;
 use crate::checking::private::are_sent_together;
-use crate::plan::{FlowPlan, GroupPlan};
+use j39_network::{FlowPlan, GroupPlan};
 use j39_id::proprietary::is_proprietary;
 use j39_id::services::is_service;
 use j39_id::{EXTENDED_PAGE, Pgn};

@@ -5,9 +5,9 @@ ghost use Rattle.j39_rules.specs.ListPlaces.{found_if};
 ghost use Rattle.j39_findings.specs.Found.{prefers_kept, kept_findings};
 
 use crate::checking::finding::Finding;
-use crate::plan::UnitPlan;
 use j39_claim::AddressSet;
 use j39_rules::{Rule, find_each, push_if};
+use j39_network::UnitPlan;
 use std::alloc::AllocError;
 
 fn prefers_kept(kept: &AddressSet, unit: &UnitPlan) -> bool

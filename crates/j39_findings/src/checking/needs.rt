@@ -1,43 +1,13 @@
 //! Which needs no flow meets.
-ghost use Rattle.std.specs.Prelude.{◌≡◌};
-ghost use Rattle.std.specs.List.{list_any};
 ghost use Rattle.j39_rules.specs.Adding.{Adds};
 ghost use Rattle.j39_rules.specs.ListPlaces.{found_if};
-ghost use Rattle.j39_findings.specs.Found.{is_from, is_unmet, meets, need_findings};
+ghost use Rattle.j39_findings.specs.Found.{is_unmet, need_findings};
+ghost use Rattle.j39_network.specs.Serving.{meets};
 
 use crate::checking::finding::Finding;
-use crate::checking::requests::{is_asked_for, reaches};
-use crate::plan::{FlowPlan, NeedPlan, RequestPlan};
 use j39_rules::{Rule, find_each, push_if};
+use j39_network::{FlowPlan, NeedPlan, RequestPlan, is_met};
 use std::alloc::AllocError;
-
-// Whether the need takes what this unit sends.
-fn is_from(from: Option<usize>, sender: usize) -> bool
-    ensures { result ≡ is_from from sender }
-{
-    match from {
-        None => true,
-        Some(unit) => sender == unit,
-    }
-}
-
-/// Whether the flow brings the need's unit what it needs, where these are the requests of the plan.
-pub fn meets(requests: &[RequestPlan], need: &NeedPlan, flow: &FlowPlan) -> bool
-    ensures { result ≡ meets requests.now need.now flow.now }
-{
-    flow.group == need.group
-        && flow.sender != need.unit
-        && is_from(need.from, flow.sender)
-        && reaches(flow.to, need.unit)
-        && is_asked_for(requests, flow)
-}
-
-/// Whether some flow brings the need's unit what it needs.
-pub fn is_met(requests: &[RequestPlan], flows: &[FlowPlan], need: &NeedPlan) -> bool
-    ensures { result ≡ list_any (meets requests.now need.now) flows.now }
-{
-    flows.iter().any(|flow| meets(requests, need, flow))
-}
 
 #[derive(Clone, Copy)]
 struct NeedUnmet<'a> {

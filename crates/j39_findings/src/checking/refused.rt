@@ -1,7 +1,7 @@
 //! Plans that are not taken as checked.
 use crate::checking::finding::Findings;
-use crate::plan::Plan;
 
+use j39_network::Plan;
 /// Why a plan is not taken as checked.
 #[derive(Drop)]
 pub enum RefusedCause {

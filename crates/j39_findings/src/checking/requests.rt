@@ -2,56 +2,16 @@
 ghost use Rattle.std.specs.Prelude.{◌≡◌};
 ghost use Rattle.j39_rules.specs.Adding.{Adds};
 ghost use Rattle.j39_rules.specs.ListPlaces.{found_if};
-ghost use Rattle.j39_findings.specs.Found.{ask_the_same, ask_for_one_number, is_all_astray, is_answered_astray, is_asked_for, is_one_astray, is_reached, is_served, is_served_to_all, is_served_to_one, goes_unanswered, goes_unheard, may_name_receiver, request_findings, serves, serves_all, serves_one, serves_some};
+ghost use Rattle.j39_findings.specs.Found.{ask_the_same, ask_for_one_number, is_all_astray, is_answered_astray, is_one_astray, is_served_to_all};
+ghost use Rattle.j39_findings.specs.Found.{is_served_to_one, goes_unanswered, goes_unheard, may_name_receiver, request_findings, serves_all, serves_one};
+ghost use Rattle.j39_network.specs.Serving.{is_served, serves};
 
 use crate::checking::finding::Finding;
 use crate::checking::flows::is_one_frame_to_all;
 use crate::checking::groups::WhenOutside;
-use crate::plan::{FlowPlan, GroupPlan, RequestPlan, To};
 use j39_rules::{PairRule, Rule, find_each, find_pairs, push_if};
+use j39_network::{FlowPlan, GroupPlan, RequestPlan, To, is_served, serves};
 use std::alloc::AllocError;
-
-/// Whether what goes there reaches the unit.
-pub(super) fn reaches(to: To, unit: usize) -> bool
-    ensures { result ≡ is_reached to unit }
-{
-    match to {
-        To::All => true,
-        To::One(receiver) => receiver == unit,
-    }
-}
-
-/// Whether the flow answers the request (SAE J1939-21, requests): it sends the group that is asked for to the unit that asks or to all,
-/// and its sender is another unit, and is asked.
-pub fn serves(request: &RequestPlan, flow: &FlowPlan) -> bool
-    ensures { result ≡ serves request.now flow.now }
-{
-    flow.group == request.group
-        && flow.sender != request.sender
-        && reaches(request.to, flow.sender)
-        && reaches(flow.to, request.sender)
-}
-
-/// Whether some flow answers the request.
-pub fn is_served(flows: &[FlowPlan], request: &RequestPlan) -> bool
-    ensures { result ≡ is_served flows.now request.now }
-{
-    flows.iter().any(|flow| serves(request, flow))
-}
-
-// Whether the flow answers some request.
-fn serves_some(requests: &[RequestPlan], flow: &FlowPlan) -> bool
-    ensures { result ≡ serves_some requests.now flow.now }
-{
-    requests.iter().any(|request| serves(request, flow))
-}
-
-/// Whether the flow comes by itself, or some request is there that it answers.
-pub fn is_asked_for(requests: &[RequestPlan], flow: &FlowPlan) -> bool
-    ensures { result ≡ is_asked_for requests.now flow.now }
-{
-    !flow.on_request || serves_some(requests, flow)
-}
 
 fn serves_one(request: &RequestPlan, flow: &FlowPlan) -> bool
     ensures { result ≡ serves_one request.now flow.now }

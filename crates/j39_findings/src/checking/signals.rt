@@ -2,12 +2,12 @@
 ghost use Rattle.j39_rules.specs.Adding.{Adds};
 ghost use Rattle.j39_signal.specs.Places.{shares_bit};
 ghost use Rattle.j39_rules.specs.ListPlaces.{found_if, each};
-ghost use Rattle.j39_findings.specs.SignalPlaces.{room_of_signal};
+ghost use Rattle.j39_network.specs.SignalPlaces.{room_of_signal};
 ghost use Rattle.j39_findings.specs.Found.{has_other_width, ends_outside, width_findings, outside_findings, overlap_findings, signal_findings};
 
 use crate::checking::finding::Finding;
-use crate::plan::GroupPlan;
 use j39_rules::{PairRule, Rule, find_each, find_pairs, push_if};
+use j39_network::GroupPlan;
 use j39_signal::Signal;
 use std::alloc::AllocError;
 

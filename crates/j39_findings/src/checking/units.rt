@@ -2,13 +2,12 @@
 ghost use Rattle.std.specs.Prelude.{◌≡◌, ◌≤◌, length};
 ghost use Rattle.j39_id.specs.Limits.{unit_limit};
 ghost use Rattle.j39_rules.specs.Adding.{Adds};
-ghost use Rattle.j39_findings.specs.Kinds.{may_be_one};
+ghost use Rattle.j39_network.specs.Kinds.{may_be_one};
 ghost use Rattle.j39_findings.specs.Found.{have_same_fixed_address, is_fixed, needed_addresses, needs_pool_address, unit_findings};
 
 use crate::checking::finding::Finding;
-use crate::kinds::may_be_one;
-use crate::plan::UnitPlan;
 use j39_claim::AddressSet;
+use j39_network::{UnitPlan, may_be_one};
 use j39_id::addresses::is_in_pool;
 use j39_rules::{PairRule, find_pairs, push_if};
 use std::alloc::AllocError;

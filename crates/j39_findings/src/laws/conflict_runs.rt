@@ -1,5 +1,5 @@
 //! The law of runs that show a conflict.
-ghost use Rattle.j39_findings.specs.declared.plan.Plan.{Plan};
+ghost use Rattle.j39_network.specs.declared.plan.Plan.{Plan};
 ghost use Rattle.j39_findings.specs.declared.checking.finding.Finding.{Finding};
 ghost use Rattle.j39_findings.specs.ConflictRuns.{RunsAreExact};
 

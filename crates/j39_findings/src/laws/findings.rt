@@ -1,6 +1,6 @@
 //! Laws of the findings.
 ghost use Rattle.std.specs.Prelude.{◌≡◌, ◌↔◌, []};
-ghost use Rattle.j39_findings.specs.declared.plan.Plan.{Plan};
+ghost use Rattle.j39_network.specs.declared.plan.Plan.{Plan};
 ghost use Rattle.j39_findings.specs.Findings.{AreFindings, Clean};
 ghost use Rattle.j39_findings.specs.Found.{found};
 ghost use Rattle.j39_findings.specs.CleanParts.{CleanParts};

@@ -1,7 +1,8 @@
 //! The laws of needs.
-ghost use Rattle.j39_findings.specs.declared.plan.Plan.{Plan};
+ghost use Rattle.j39_network.specs.declared.plan.Plan.{Plan};
 ghost use Rattle.j39_findings.specs.Findings.{Clean};
-ghost use Rattle.j39_findings.specs.Needs.{AreNeedsMet, IsWithoutNeeds};
+ghost use Rattle.j39_network.specs.Needs.{AreNeedsMet};
+ghost use Rattle.j39_findings.specs.WithoutNeeds.{IsWithoutNeeds};
 
 /// In a clean plan some flow brings each unit what it needs.
 pub fn needs_are_met()

@@ -1,7 +1,8 @@
 //! The laws of records.
-ghost use Rattle.j39_findings.specs.declared.plan.Plan.{Plan};
-ghost use Rattle.j39_findings.specs.Records.{RecordsAreCounted};
-ghost use Rattle.j39_findings.specs.WithoutRecords.{HasNoRecords, IsWithoutRecords};
+ghost use Rattle.j39_network.specs.declared.plan.Plan.{Plan};
+ghost use Rattle.j39_network.specs.Records.{RecordsAreCounted};
+ghost use Rattle.j39_network.specs.Records.{HasNoRecords};
+ghost use Rattle.j39_findings.specs.WithoutRecords.{IsWithoutRecords};
 
 /// The records of a message are those that have signals and end inside it.
 pub fn records_are_counted()

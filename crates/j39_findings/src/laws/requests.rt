@@ -1,9 +1,10 @@
 //! The laws of requests.
-ghost use Rattle.j39_findings.specs.declared.plan.Plan.{Plan};
-ghost use Rattle.j39_findings.specs.declared.plan.flow_plan.FlowPlan.{FlowPlan};
-ghost use Rattle.j39_findings.specs.declared.plan.need_plan.NeedPlan.{NeedPlan};
+ghost use Rattle.j39_network.specs.declared.plan.Plan.{Plan};
+ghost use Rattle.j39_network.specs.declared.plan.flow_plan.FlowPlan.{FlowPlan};
+ghost use Rattle.j39_network.specs.declared.plan.need_plan.NeedPlan.{NeedPlan};
 ghost use Rattle.j39_findings.specs.Findings.{Clean};
-ghost use Rattle.j39_findings.specs.PlannedRequests.{AreAnsweredWell, AreRequestsServed, ComesByItself, IsWithoutRequests};
+ghost use Rattle.j39_network.specs.PlannedRequests.{AreAnsweredWell, AreRequestsServed, ComesByItself};
+ghost use Rattle.j39_findings.specs.WithoutRequests.{IsWithoutRequests};
 
 /// In a clean plan some flow answers each request (`served`): one unit that is asked for messages that can name a receiver answers to the
 /// one that asks, and where all are asked, some unit answers to all (`answers`).

@@ -1,7 +1,7 @@
 //! The law of a plan's signals.
-ghost use Rattle.j39_findings.specs.declared.plan.Plan.{Plan};
+ghost use Rattle.j39_network.specs.declared.plan.Plan.{Plan};
 ghost use Rattle.j39_findings.specs.Findings.{Clean};
-ghost use Rattle.j39_findings.specs.SoundSignals.{SoundSignals};
+ghost use Rattle.j39_network.specs.SoundSignals.{SoundSignals};
 
 /// The signals of a clean plan are sound, those of each record too. Each group's payload that begins blank and is written signal after
 /// signal, by raw numbers of values or by all ones, ends with the raw number last put for each signal, all ones where there

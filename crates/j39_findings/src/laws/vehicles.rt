@@ -1,8 +1,9 @@
 //! The law of serial numbers.
-ghost use Rattle.j39_findings.specs.declared.plan.Plan.{Plan};
+ghost use Rattle.j39_network.specs.declared.plan.Plan.{Plan};
 ghost use Rattle.j39_findings.specs.Findings.{Clean};
-ghost use Rattle.j39_findings.specs.Kinds.{AreToldApart};
-ghost use Rattle.j39_findings.specs.VehiclePlans.{IsVehicleOf, AreFoundAlike};
+ghost use Rattle.j39_network.specs.Kinds.{AreToldApart};
+ghost use Rattle.j39_network.specs.VehiclePlans.{IsVehicleOf};
+ghost use Rattle.j39_findings.specs.FoundInVehicles.{AreFoundAlike};
 
 /// The same is found in the plan of each vehicle, whatever the serial numbers of its boxes are, where no two units of the
 /// plan may be one: of a clean plan each vehicle's is clean.

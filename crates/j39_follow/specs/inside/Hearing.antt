@@ -3,7 +3,7 @@ use Rattle.std.specs.Prelude.{◌≡◌, ◌<◌, ◌&&◌, ◌||◌, ◌==◌, 
 use Rattle.std.specs.Prelude.{◌++◌, Option}
 use Rattle.std.specs.Option.{option_eq}
 use Rattle.j39_id.specs.declared.frame.Frame.{Frame}
-use Rattle.j39_findings.specs.declared.plan.Plan.{Plan}
+use Rattle.j39_network.specs.declared.plan.Plan.{Plan}
 use Rattle.j39_log.specs.LogPairs.{Seen, heard_of}
 use Rattle.j39_log.specs.declared.listeners.Listeners.{Listeners}
 use Rattle.j39_log.specs.inside.Listening.{after_all, listener_of_pair}

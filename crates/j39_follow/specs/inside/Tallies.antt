@@ -1,8 +1,8 @@
 -- What a tally counts.
 use Rattle.std.specs.Prelude.{◌≡◌, ◌<◌, ℕ, true, List, Some, count_by, length, slice_index_or}
 use Rattle.std.specs.List.{slice_get}
-use Rattle.j39_findings.specs.declared.plan.Plan.{Plan}
-use Rattle.j39_findings.specs.declared.plan.group_plan.GroupPlan.{GroupPlan}
+use Rattle.j39_network.specs.declared.plan.Plan.{Plan}
+use Rattle.j39_network.specs.declared.plan.group_plan.GroupPlan.{GroupPlan}
 use Rattle.j39_follow.specs.FollowText.{is_first_of, is_of_flow, is_other, is_without_flow}
 use Rattle.j39_follow.specs.declared.message.Sort.{Sort}
 use Rattle.j39_follow.specs.declared.tally.Tally.{Tally}

@@ -9,7 +9,7 @@ use Rattle.j39_claim.specs.declared.item.Say.TheVariants.{Claim}
 use Rattle.j39_claim.specs.declared.item.Item.{Item}
 use Rattle.j39_claim.specs.declared.item.Item.TheVariants.{Told, Request}
 use Rattle.j39_claim.specs.ClaimRule.{PlannedUnit, ClaimState, claim_of, off, started}
-use Rattle.j39_findings.specs.PlannedUnits.{unit_at}
+use Rattle.j39_network.specs.PlannedUnits.{unit_at}
 use Rattle.j39_world.specs.World.{Stations, Undelivered, changed, changed_pair}
 use Rattle.j39_world.specs.Sound.{IsClaimUndelivered}
 use Rattle.j39_world.specs.ClaimSteps.{told_to_others, without_lists_to, answer_items}

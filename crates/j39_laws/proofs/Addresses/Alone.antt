@@ -7,10 +7,10 @@ use Rattle.j39_claim.specs.declared.item.Say.TheVariants.{Claim}
 use Rattle.j39_claim.specs.declared.item.Item.TheVariants.{Told}
 use Rattle.j39_id.specs.Name.{is_arbitrary}
 use Rattle.j39_findings.specs.Findings.{Clean}
-use Rattle.j39_findings.specs.declared.plan.Plan.{Plan}
-use Rattle.j39_findings.specs.PlannedUnits.{units_of, unit_at}
+use Rattle.j39_network.specs.declared.plan.Plan.{Plan}
+use Rattle.j39_network.specs.PlannedUnits.{units_of, unit_at}
 use Rattle.j39_world.specs.SoundPlan.{Always}
-use Rattle.j39_findings.specs.Staying.{EachOther, IsAloneThere, IsFirstThere}
+use Rattle.j39_network.specs.Staying.{EachOther, IsAloneThere, IsFirstThere}
 use Rattle.j39_world.specs.HeldAddresses.{HoldsAlone, HoldsPlanned}
 use Rattle.j39_laws.proofs.Addresses.CleanUnits.{clean_units, unkept}
 use Rattle.j39_laws.proofs.Addresses.SoundAddresses.{addresses_sound, kept_free, kept_unclaimed}

@@ -14,20 +14,21 @@ use Rattle.j39_findings.proofs.CleanLaws.{parts_of}
 use Rattle.j39_findings.proofs.Deciding.{Decides-needs_pool_address, meeting_pass}
 use Rattle.j39_findings.specs.Findings.{AreNeeded, AreOneFlow, AskTheSame, CannotGoToOne, Clean, EndsOutside, GoesToItsSender, GoesUnanswered, GoesUnheard, HasBadPgn}
 use Rattle.j39_findings.specs.Findings.{HasRecordsOver, HaveSamePgn, HaveSameFixedAddress, HaveSilentAddress, IsAloneInPlan, IsAnsweredAstray, IsFlowContested, IsOutside}
-use Rattle.j39_findings.specs.Findings.{IsPrivateUnsent, IsSelectorInside, IsSilentInPool, IsUnmet, PrefersKept}
+use Rattle.j39_findings.specs.Findings.{IsPrivateUnsent, IsSilentInPool, IsUnmet, PrefersKept}
+use Rattle.j39_network.specs.PlannedGroups.{IsSelectorInside}
 use Rattle.j39_findings.specs.Found.{needs_pool_address}
 use Rattle.j39_rules.specs.ListPlaces.{PairAt, ValueAt}
 use Rattle.j39_findings.specs.declared.checking.finding.Finding.TheVariants as found
-use Rattle.j39_findings.specs.declared.plan.Plan.{Plan}
-use Rattle.j39_findings.specs.declared.plan.flow_plan.FlowPlan.{FlowPlan}
-use Rattle.j39_findings.specs.declared.plan.group_plan.GroupPlan.{GroupPlan}
-use Rattle.j39_findings.specs.declared.plan.need_plan.NeedPlan.{NeedPlan}
-use Rattle.j39_findings.specs.declared.plan.request_plan.RequestPlan.{RequestPlan}
-use Rattle.j39_findings.specs.declared.plan.to.To.TheVariants.{One}
-use Rattle.j39_findings.specs.declared.plan.unit_plan.UnitPlan.{UnitPlan}
+use Rattle.j39_network.specs.declared.plan.Plan.{Plan}
+use Rattle.j39_network.specs.declared.plan.flow_plan.FlowPlan.{FlowPlan}
+use Rattle.j39_network.specs.declared.plan.group_plan.GroupPlan.{GroupPlan}
+use Rattle.j39_network.specs.declared.plan.need_plan.NeedPlan.{NeedPlan}
+use Rattle.j39_network.specs.declared.plan.request_plan.RequestPlan.{RequestPlan}
+use Rattle.j39_network.specs.declared.plan.to.To.TheVariants.{One}
+use Rattle.j39_network.specs.declared.plan.unit_plan.UnitPlan.{UnitPlan}
 use Rattle.j39_signal.specs.Places.{SharesBit, WidthFits}
-use Rattle.j39_findings.specs.PlannedUnits.{planned_unit, units_of, unit_at}
-use Rattle.j39_findings.specs.Staying.{IsOutsidePool}
+use Rattle.j39_network.specs.PlannedUnits.{planned_unit, units_of, unit_at}
+use Rattle.j39_network.specs.Staying.{IsOutsidePool}
 use Rattle.j39_world.specs.Strangers.{ComeBesideLive, ComesClaiming, ComesSilent}
 use Rattle.j39_laws.proofs.Addresses.CleanUnits.{stands}
 use Rattle.j39_laws.proofs.Addresses.Strangers.{room_for_few, same_at}

@@ -4,13 +4,13 @@ use Rattle.std.proofs.lemmas.Option.{get_or_from_slice_get, slice_get-map, slice
 use Rattle.std.specs.List.{slice_get}
 use Rattle.j39_findings.specs.Findings.{Clean, IsAloneInPlan}
 use Rattle.j39_findings.proofs.CleanLaws.{parts_of}
-use Rattle.j39_findings.specs.declared.plan.Plan.{Plan}
-use Rattle.j39_findings.specs.declared.plan.flow_plan.FlowPlan.{FlowPlan}
-use Rattle.j39_findings.specs.declared.plan.to.To.TheVariants.{One}
+use Rattle.j39_network.specs.declared.plan.Plan.{Plan}
+use Rattle.j39_network.specs.declared.plan.flow_plan.FlowPlan.{FlowPlan}
+use Rattle.j39_network.specs.declared.plan.to.To.TheVariants.{One}
 use Rattle.j39_world.specs.Flows.{flow_of}
 use Rattle.j39_world.specs.LiveEnds.{AreEndsAlone}
-use Rattle.j39_findings.specs.PlannedUnits.{units_of}
-use Rattle.j39_findings.specs.Staying.{IsAloneThere}
+use Rattle.j39_network.specs.PlannedUnits.{units_of}
+use Rattle.j39_network.specs.Staying.{IsAloneThere}
 use Rattle.j39_world.specs.declared.flow.Flow.{Flow}
 
 -- what holds of each planned flow holds of one

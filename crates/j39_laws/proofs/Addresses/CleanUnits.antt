@@ -14,10 +14,10 @@ use Rattle.j39_findings.specs.Findings.{Clean, Holds}
 use Rattle.j39_findings.specs.Found.{needed_addresses, needs_pool_address}
 use Rattle.j39_findings.proofs.Deciding.{Decides-needs_pool_address, passing_meet}
 use Rattle.j39_findings.specs.declared.checking.finding.Finding.TheVariants.{SameName, SameFixedAddress, TooFewAddresses, KeptAddress, SilentAddress, SilentInPool}
-use Rattle.j39_findings.specs.Kinds.{kind_of_name}
-use Rattle.j39_findings.specs.declared.plan.Plan.{Plan}
-use Rattle.j39_findings.specs.declared.plan.unit_plan.UnitPlan.{UnitPlan}
-use Rattle.j39_findings.specs.PlannedUnits.{planned_unit, units_of, unit_at}
+use Rattle.j39_network.specs.Kinds.{kind_of_name}
+use Rattle.j39_network.specs.declared.plan.Plan.{Plan}
+use Rattle.j39_network.specs.declared.plan.unit_plan.UnitPlan.{UnitPlan}
+use Rattle.j39_network.specs.PlannedUnits.{planned_unit, units_of, unit_at}
 use Rattle.j39_world.specs.Opening.{AreNamesDistinct}
 
 -- it may hold an address of 128..247 that isn't kept free

@@ -10,7 +10,7 @@ use Rattle.std.specs.FinSet.{FinSet, contains}
 use Rattle.j39_id.specs.Addresses.{in_pool}
 use Rattle.j39_claim.specs.AddressSets.{is_free, free_count}
 use Rattle.j39_claim.specs.ClaimRule.{PlannedUnit}
-use Rattle.j39_findings.specs.PlannedUnits.{unit_at}
+use Rattle.j39_network.specs.PlannedUnits.{unit_at}
 use Rattle.j39_laws.proofs.Addresses.CleanUnits.{needs_pool}
 
 -- b is in the list

@@ -7,9 +7,9 @@ use Rattle.j39_id.specs.Name.{is_arbitrary}
 use Rattle.j39_claim.specs.ClaimRule.{PlannedUnit}
 use Rattle.j39_findings.specs.Findings.{Holds}
 use Rattle.j39_findings.specs.declared.checking.finding.Finding.TheVariants.{SameFixedAddress, SilentAddress}
-use Rattle.j39_findings.specs.declared.plan.Plan.{Plan}
-use Rattle.j39_findings.specs.PlannedUnits.{units_of, unit_at}
-use Rattle.j39_findings.specs.Staying.{IsFirstThere, Stays}
+use Rattle.j39_network.specs.declared.plan.Plan.{Plan}
+use Rattle.j39_network.specs.PlannedUnits.{units_of, unit_at}
+use Rattle.j39_network.specs.Staying.{IsFirstThere, Stays}
 use Rattle.j39_world.specs.HeldAddresses.{ArePlannedApart, ArePlannedApartTo}
 use Rattle.j39_laws.proofs.Addresses.CleanUnits.{names_in_range, fixed_in_order}
 use Rattle.j39_laws.proofs.Addresses.Turns.{addresses_differ, fixed_below}

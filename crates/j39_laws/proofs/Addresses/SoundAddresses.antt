@@ -13,10 +13,10 @@ use Rattle.j39_claim.specs.declared.item.Say.TheVariants.{Claim}
 use Rattle.j39_claim.specs.declared.item.Say.{Say}
 use Rattle.j39_claim.specs.ClaimRule.{PlannedUnit, ClaimState, Answers, started}
 use Rattle.j39_id.specs.Name.{is_arbitrary}
-use Rattle.j39_findings.specs.declared.plan.Plan.{Plan}
-use Rattle.j39_findings.specs.declared.plan.unit_plan.UnitPlan.{UnitPlan}
+use Rattle.j39_network.specs.declared.plan.Plan.{Plan}
+use Rattle.j39_network.specs.declared.plan.unit_plan.UnitPlan.{UnitPlan}
 use Rattle.j39_world.specs.ClaimSteps.{told_to_others, without_lists_to}
-use Rattle.j39_findings.specs.PlannedUnits.{planned_unit, units_of, unit_at}
+use Rattle.j39_network.specs.PlannedUnits.{planned_unit, units_of, unit_at}
 use Rattle.j39_world.specs.Sound.{AreAddressesSound, AreAddressesDifferent, AreKeptFree, IsQuiet}
 use Rattle.j39_world.specs.SoundPlan.{Always}
 use Rattle.j39_world.specs.HeldAddresses.{HoldsAlone}

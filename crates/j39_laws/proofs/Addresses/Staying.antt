@@ -10,11 +10,11 @@ use Rattle.j39_claim.specs.declared.item.Say.TheVariants.{Claim, Cannot}
 use Rattle.j39_claim.specs.declared.item.Item.{Item}
 use Rattle.j39_claim.specs.declared.item.Item.TheVariants.{Told, Request}
 use Rattle.j39_claim.specs.ClaimRule.{PlannedUnit, ClaimState, Answers, claim_of, off, started}
-use Rattle.j39_findings.specs.declared.plan.Plan.{Plan}
-use Rattle.j39_findings.specs.PlannedUnits.{units_of, unit_at}
+use Rattle.j39_network.specs.declared.plan.Plan.{Plan}
+use Rattle.j39_network.specs.PlannedUnits.{units_of, unit_at}
 use Rattle.j39_world.specs.ClaimSteps.{without_lists_to, answer_items}
 use Rattle.j39_world.specs.SoundPlan.{Always}
-use Rattle.j39_findings.specs.Staying.{EachSmaller, IsFirstThere, Stays}
+use Rattle.j39_network.specs.Staying.{EachSmaller, IsFirstThere, Stays}
 use Rattle.j39_world.specs.HeldAddresses.{HoldsPlanned, StaysByOthers}
 use Rattle.j39_world.specs.World.{Stations, Undelivered, all_off, changed}
 use Rattle.j39_laws.proofs.Addresses.Notes.{claim_cases}

@@ -17,12 +17,12 @@ use Rattle.j39_claim.specs.ClaimRule.{ClaimState, IsFree, PlannedUnit}
 use Rattle.j39_findings.specs.Findings.{Clean}
 use Rattle.j39_findings.specs.Found.{is_fixed, needs_pool_address}
 use Rattle.j39_findings.specs.declared.checking.finding.Finding.TheVariants.{SameFixedAddress, SilentAddress}
-use Rattle.j39_findings.specs.declared.plan.Plan.{Plan}
-use Rattle.j39_findings.specs.declared.plan.unit_plan.UnitPlan.{UnitPlan}
-use Rattle.j39_findings.specs.PlannedUnits.{planned_unit, units_of, unit_at}
+use Rattle.j39_network.specs.declared.plan.Plan.{Plan}
+use Rattle.j39_network.specs.declared.plan.unit_plan.UnitPlan.{UnitPlan}
+use Rattle.j39_network.specs.PlannedUnits.{planned_unit, units_of, unit_at}
 use Rattle.j39_world.specs.Sound.{AreAddressesDifferent, AreAddressesSound, IsQuiet}
 use Rattle.j39_world.specs.SoundPlan.{AlwaysBeside}
-use Rattle.j39_findings.specs.Staying.{Stays, StaysBeside}
+use Rattle.j39_network.specs.Staying.{Stays, StaysBeside}
 use Rattle.j39_world.specs.HeldAddresses.{HoldsPlanned}
 use Rattle.j39_world.specs.Strangers.{HasStrangers}
 use Rattle.j39_laws.proofs.Addresses.AddressInvariant.{AllNoted, IsOwn}

@@ -8,13 +8,13 @@ use Rattle.std.specs.FinSet.{FinSet, contains-empty, empty}
 use Rattle.std.specs.Ordering.{nat_cmp}
 use Rattle.j39_id.specs.Limits.{unit_limit}
 use Rattle.j39_id.specs.Name.{is_arbitrary}
-use Rattle.j39_findings.specs.LabelForm.{is_label, is_label_byte, is_unit_label}
-use Rattle.j39_findings.specs.declared.plan.Plan.{Plan}
-use Rattle.j39_findings.specs.declared.plan.queue.Queue.TheVariants.{Priority}
-use Rattle.j39_findings.specs.declared.plan.unit_plan.UnitPlan.{UnitPlan}
-use Rattle.j39_findings.specs.declared.plan.way.Way.TheVariants.{Lowest}
+use Rattle.j39_network.specs.LabelForm.{is_label, is_label_byte, is_unit_label}
+use Rattle.j39_network.specs.declared.plan.Plan.{Plan}
+use Rattle.j39_network.specs.declared.plan.queue.Queue.TheVariants.{Priority}
+use Rattle.j39_network.specs.declared.plan.unit_plan.UnitPlan.{UnitPlan}
+use Rattle.j39_network.specs.declared.plan.way.Way.TheVariants.{Lowest}
 use Rattle.j39_world.specs.Opening.{AreNamesDistinct}
-use Rattle.j39_findings.specs.PlannedUnits.{planned_unit, unit_at, units_of}
+use Rattle.j39_network.specs.PlannedUnits.{planned_unit, unit_at, units_of}
 use Rattle.j39_world.specs.Strangers.{HasStrangers}
 use Rattle.j39_laws.proofs.Addresses.FreeAddress.{has, passing, spare}
 use Rattle.j39_laws.proofs.Addresses.Strangers.{same_at, same_but_kept}

@@ -13,7 +13,7 @@ use Rattle.j39_claim.specs.declared.item.Item.{Item}
 use Rattle.j39_claim.specs.declared.item.Item.TheVariants.{Told, Request}
 use Rattle.j39_claim.specs.AddressSets.{is_free}
 use Rattle.j39_claim.specs.ClaimRule.{PlannedUnit, ClaimState, Answers, IsFree, claim_of}
-use Rattle.j39_findings.specs.PlannedUnits.{unit_at}
+use Rattle.j39_network.specs.PlannedUnits.{unit_at}
 use Rattle.j39_laws.proofs.Addresses.CleanUnits.{IsClean, AreFixedApart, needs_pool}
 use Rattle.j39_laws.proofs.Addresses.AddressInvariant.{IsOwn, IsSaid, IsHeld, AllNoted}
 use Rattle.j39_laws.proofs.Addresses.FreeAddress.{one_left}

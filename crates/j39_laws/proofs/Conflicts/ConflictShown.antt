@@ -11,16 +11,16 @@ use Rattle.j39_claim.specs.declared.item.Say.TheVariants.{Claim, Cannot}
 use Rattle.j39_claim.specs.declared.item.Item.{Item}
 use Rattle.j39_claim.specs.declared.item.Item.TheVariants.{Told}
 use Rattle.j39_claim.specs.ClaimRule.{PlannedUnit, ClaimState, Answers, holds_address, started}
-use Rattle.j39_findings.specs.Findings.{IsFixed}
+use Rattle.j39_network.specs.UnitAddresses.{IsFixed}
 use Rattle.j39_findings.specs.ConflictRuns.{IsConflictRun, conflict_steps}
 use Rattle.j39_findings.specs.declared.checking.finding.Finding.TheVariants.{SameFixedAddress}
-use Rattle.j39_findings.specs.declared.plan.Plan.{Plan}
-use Rattle.j39_findings.specs.declared.plan.unit_plan.UnitPlan.{UnitPlan}
+use Rattle.j39_network.specs.declared.plan.Plan.{Plan}
+use Rattle.j39_network.specs.declared.plan.unit_plan.UnitPlan.{UnitPlan}
 use Rattle.j39_findings.specs.declared.checking.finding.Finding.{Finding}
-use Rattle.j39_findings.specs.declared.steps.Step.{Step}
-use Rattle.j39_findings.specs.declared.steps.Step.TheVariants.{Up, Give}
+use Rattle.j39_network.specs.declared.steps.Step.{Step}
+use Rattle.j39_network.specs.declared.steps.Step.TheVariants.{Up, Give}
 use Rattle.j39_world.specs.declared.wired.Wired.{Wired}
-use Rattle.j39_findings.specs.PlannedUnits.{units_of, unit_at}
+use Rattle.j39_network.specs.PlannedUnits.{units_of, unit_at}
 use Rattle.j39_world.specs.ClaimSteps.{GivenFrom, switched_on, heard_and_answered, told_to_others, without_lists_to, answer_items, first_items}
 use Rattle.j39_world.specs.Conflict.{IsLeftWithoutAddress, LeavesWithoutAddress}
 use Rattle.j39_world.specs.Run.{count_of, is_a_transfer_open, is_on, is_none_sending, is_nothing_undelivered, is_no_transfer_open, refusal, Run, RunsThrough}

@@ -16,8 +16,8 @@ use Rattle.j39_tp.specs.declared.sending.reaction.Reaction.TheVariants as reacti
 use Rattle.j39_tp.specs.declared.sending.stage.Stage.{Stage}
 use Rattle.j39_tp.specs.declared.sending.stage.Stage.TheVariants.{Resting}
 use Rattle.j39_tp.proofs.Answering.{IsAside, IsAnswer, TellsNothing, TellsMessage, RepliesAside, Acknowledges, IsAckedBy, sender_aside, sender_acked}
-use Rattle.j39_findings.specs.declared.plan.to.To.{To}
-use Rattle.j39_findings.specs.declared.plan.to.To.TheVariants as tos
+use Rattle.j39_network.specs.declared.plan.to.To.{To}
+use Rattle.j39_network.specs.declared.plan.to.To.TheVariants as tos
 use Rattle.j39_world.specs.Flows.{dest_of}
 use Rattle.j39_world.specs.Transfers.{Outgoing, is_among, closed_if_complete}
 use Rattle.j39_world.specs.TransferSteps.{outgoing_hears, reaction_of, receiver_replies, sender_replies, packets_in}

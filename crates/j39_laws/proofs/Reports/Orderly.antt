@@ -4,9 +4,9 @@ use Rattle.std.proofs.lemmas.Bool.{eqb-true, and_parts, not-false}
 use Rattle.std.specs.List.{list_all, range_with_len}
 use Rattle.std.specs.Option.{is_some}
 use Rattle.j39_claim.specs.declared.item.Item.{Item}
-use Rattle.j39_findings.specs.declared.plan.Plan.{Plan}
-use Rattle.j39_findings.specs.declared.plan.to.To.{To}
-use Rattle.j39_findings.specs.declared.plan.to.To.TheVariants.{One}
+use Rattle.j39_network.specs.declared.plan.Plan.{Plan}
+use Rattle.j39_network.specs.declared.plan.to.To.{To}
+use Rattle.j39_network.specs.declared.plan.to.To.TheVariants.{One}
 use Rattle.j39_world.specs.Run.{both, count_of, is_nothing_undelivered}
 use Rattle.j39_laws.proofs.Runs.Conditions.{is_unit}
 use Rattle.j39_world.specs.Transfers.{Outgoing, Sessions, is_among}

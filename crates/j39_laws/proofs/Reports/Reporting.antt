@@ -5,8 +5,8 @@ use Rattle.std.specs.List.{filter}
 use Rattle.j39_tp.specs.declared.sending.outcome.Outcome.TheVariants.{Acked}
 use Rattle.j39_tp.specs.declared.packet.Packet.{Packet}
 use Rattle.j39_tp.specs.declared.sending.stage.Stage.TheVariants.{Resting}
-use Rattle.j39_findings.specs.declared.plan.to.To.{To}
-use Rattle.j39_findings.specs.declared.plan.to.To.TheVariants.{One}
+use Rattle.j39_network.specs.declared.plan.to.To.{To}
+use Rattle.j39_network.specs.declared.plan.to.To.TheVariants.{One}
 use Rattle.j39_world.specs.Transfers.{Outgoing, Begun, Reported, Sessions, is_among}
 use Rattle.j39_world.specs.TransferSteps.{alone_report, flow_in, session_after}
 use Rattle.j39_world.specs.World.{changed}

@@ -1,7 +1,7 @@
 -- What each step keeps of messages.
 use Rattle.std.proofs.Common.{◌≡◌, ℕ, List, ◌∷◌, ◌++◌, sym, subst, Option}
 use Rattle.std.specs.List.{AllByRecursion}
-use Rattle.j39_findings.specs.declared.plan.Plan.{Plan}
+use Rattle.j39_network.specs.declared.plan.Plan.{Plan}
 use Rattle.j39_world.specs.declared.wired.Wired.{Wired}
 use Rattle.j39_world.specs.Transfers.{Begun, Reported, Wire}
 use Rattle.j39_world.specs.World.{World, changed_pair}

@@ -2,8 +2,8 @@
 use Rattle.std.proofs.Common.{◌≡◌, List, [], ◌∷◌, ◌++◌, refl, sym, subst, Option, Some, None}
 use Rattle.std.specs.Bool.{MatchBool}
 use Rattle.std.specs.Option.{is_some}
-use Rattle.j39_findings.specs.declared.plan.Plan.{Plan}
-use Rattle.j39_findings.specs.declared.steps.Step.{Step}
+use Rattle.j39_network.specs.declared.plan.Plan.{Plan}
+use Rattle.j39_network.specs.declared.steps.Step.{Step}
 use Rattle.j39_world.specs.declared.step_error.StepError.{StepError}
 use Rattle.j39_world.specs.World.{World, all_off}
 use Rattle.j39_world.specs.Run.{refusal, StepsTo, Follows, Run, RunsThrough}

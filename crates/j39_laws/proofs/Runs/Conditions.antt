@@ -2,8 +2,8 @@
 use Rattle.std.proofs.Common.{◌≡◌, ℕ, Bool, true, false, None}
 use Rattle.std.proofs.lemmas.Bool.{not-false, not_from_true, or_from, or_parts}
 use Rattle.std.specs.Prelude.{nat_lt}
-use Rattle.j39_findings.specs.declared.plan.Plan.{Plan}
-use Rattle.j39_findings.specs.declared.steps.Step.{Step}
+use Rattle.j39_network.specs.declared.plan.Plan.{Plan}
+use Rattle.j39_network.specs.declared.steps.Step.{Step}
 use Rattle.j39_world.proofs.Refusals.{NoneHold, none_hold, none_first}
 use Rattle.j39_world.specs.Flows.{flows_of}
 use Rattle.j39_world.specs.Run.{count_of, either, is_unknown, refusal, step_refusals}

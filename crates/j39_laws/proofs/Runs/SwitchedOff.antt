@@ -7,8 +7,8 @@ use Rattle.j39_tp.specs.declared.sending.outcome.Outcome.{Outcome}
 use Rattle.j39_tp.specs.declared.sending.outcome.Outcome.TheVariants.{GaveUp}
 use Rattle.j39_tp.specs.declared.sending.stage.Stage.{Stage}
 use Rattle.j39_tp.specs.declared.sending.stage.Stage.TheVariants.{Sending, Waiting, Resting}
-use Rattle.j39_findings.specs.declared.plan.to.To.{To}
-use Rattle.j39_findings.specs.declared.plan.to.To.TheVariants as tos
+use Rattle.j39_network.specs.declared.plan.to.To.{To}
+use Rattle.j39_network.specs.declared.plan.to.To.TheVariants as tos
 use Rattle.j39_world.specs.ClaimSteps.{without_lists_to}
 use Rattle.j39_world.specs.SwitchingOff.{is_either, sessions_without, session_without, stage_without, without_lists_of}
 use Rattle.j39_world.specs.Transfers.{Outgoing, Sessions, is_among}

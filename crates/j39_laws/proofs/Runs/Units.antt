@@ -6,8 +6,8 @@ use Rattle.std.proofs.lemmas.List.{length-map}
 use Rattle.std.specs.List.{list_all, range_with_len}
 use Rattle.j39_claim.specs.declared.item.Item.{Item}
 use Rattle.j39_claim.specs.ClaimRule.{PlannedUnit, ClaimState}
-use Rattle.j39_findings.specs.declared.plan.Plan.{Plan}
-use Rattle.j39_findings.specs.PlannedUnits.{units_of, unit_at, planned_unit}
+use Rattle.j39_network.specs.declared.plan.Plan.{Plan}
+use Rattle.j39_network.specs.PlannedUnits.{units_of, unit_at, planned_unit}
 use Rattle.j39_world.specs.ClaimSteps.{told_to_others, without_lists_to}
 use Rattle.j39_world.specs.Opening.{AreNamesDistinct}
 use Rattle.j39_world.specs.Run.{count_of, both}

@@ -8,7 +8,7 @@ use Rattle.j39_claim.specs.declared.item.Say.{Say}
 use Rattle.j39_claim.specs.declared.item.Item.{Item}
 use Rattle.j39_claim.specs.declared.item.Item.TheVariants.{Told, Request}
 use Rattle.j39_claim.specs.ClaimRule.{PlannedUnit}
-use Rattle.j39_findings.specs.PlannedUnits.{unit_at}
+use Rattle.j39_network.specs.PlannedUnits.{unit_at}
 use Rattle.j39_world.specs.World.{Stations, Undelivered}
 use Rattle.j39_world.specs.ClaimSteps.{answer_items}
 use Rattle.j39_laws.proofs.Settling.Totals.{total, part-le, weight, below, weight-is, weight-le, weight-below}

@@ -13,10 +13,10 @@ use Rattle.j39_claim.specs.ClaimRule.{PlannedUnit, ClaimState, Answers, Reacts, 
 use Rattle.j39_claim.specs.ExactAnswer.{Pick, IsLawful, said_after, state_after}
 use Rattle.j39_claim.proofs.FreeAddresses.{lowest_free_in}
 use Rattle.j39_claim.proofs.Hearing.{lawful_follows}
-use Rattle.j39_findings.specs.declared.plan.Plan.{Plan}
-use Rattle.j39_findings.specs.declared.steps.Step.{Step}
-use Rattle.j39_findings.specs.declared.steps.Step.TheVariants.{Up, Down, Give, Ask, Begin, Send, Emit, Take, Lose, LateSender, LateReceiver, Rest}
-use Rattle.j39_findings.specs.PlannedUnits.{units_of, unit_at}
+use Rattle.j39_network.specs.declared.plan.Plan.{Plan}
+use Rattle.j39_network.specs.declared.steps.Step.{Step}
+use Rattle.j39_network.specs.declared.steps.Step.TheVariants.{Up, Down, Give, Ask, Begin, Send, Emit, Take, Lose, LateSender, LateReceiver, Rest}
+use Rattle.j39_network.specs.PlannedUnits.{units_of, unit_at}
 use Rattle.j39_world.specs.ClaimSteps.{GivenFrom, heard_and_answered}
 use Rattle.j39_world.specs.Opening.{AreNamesDistinct}
 use Rattle.j39_world.specs.Run.{both, is_on, refusal, StepsTo, RunsThrough}

@@ -31,7 +31,7 @@ use Rattle.j39_world.specs.ClaimSteps.{without_lists_to}
 use Rattle.j39_world.specs.SwitchingOff.{session_without, sessions_without}
 use Rattle.j39_world.specs.World.{World, Stations, Undelivered, changed}
 use Rattle.j39_claim.specs.ClaimRule.{ClaimState, off}
-use Rattle.j39_findings.specs.declared.plan.Plan.{Plan}
+use Rattle.j39_network.specs.declared.plan.Plan.{Plan}
 use Rattle.j39_laws.proofs.Runs.SwitchedOff.{targets_less, targets_same}
 use Rattle.j39_laws.proofs.Runs.Units.{without_lists_empty}
 use Rattle.j39_laws.proofs.Runs.Changed.{changed_each, changed_elsewhere}

@@ -13,11 +13,11 @@ use Rattle.j39_tp.specs.declared.sending.stage.Stage.{Stage}
 use Rattle.j39_tp.proofs.Answering.{IsAnswer, timed_out_aside}
 use Rattle.j39_claim.specs.declared.item.Item.{Item}
 use Rattle.j39_claim.specs.ClaimRule.{off, started}
-use Rattle.j39_findings.specs.declared.plan.Plan.{Plan}
-use Rattle.j39_findings.specs.declared.plan.to.To.{To}
-use Rattle.j39_findings.specs.declared.plan.to.To.TheVariants.{All, One}
-use Rattle.j39_findings.specs.declared.steps.Step.{Step}
-use Rattle.j39_findings.specs.declared.steps.Step.TheVariants.{Up, Down, Give, Ask, Begin, Send, Emit, Take, Lose, LateSender, LateReceiver, Rest}
+use Rattle.j39_network.specs.declared.plan.Plan.{Plan}
+use Rattle.j39_network.specs.declared.plan.to.To.{To}
+use Rattle.j39_network.specs.declared.plan.to.To.TheVariants.{All, One}
+use Rattle.j39_network.specs.declared.steps.Step.{Step}
+use Rattle.j39_network.specs.declared.steps.Step.TheVariants.{Up, Down, Give, Ask, Begin, Send, Emit, Take, Lose, LateSender, LateReceiver, Rest}
 use Rattle.j39_world.proofs.Refusals.{none_hold}
 use Rattle.j39_world.specs.declared.flow.Flow.{Flow}
 use Rattle.j39_world.specs.declared.wired.Wired.{Wired}
@@ -25,7 +25,7 @@ use Rattle.j39_world.specs.declared.wired.Wired.TheVariants as wired
 use Rattle.j39_world.specs.ClaimSteps.{GivenFrom, without_lists_to}
 use Rattle.j39_world.specs.SwitchingOff.{sessions_without}
 use Rattle.j39_world.specs.Flows.{flows_of, windows_of, window_at, dest_of, is_short}
-use Rattle.j39_findings.specs.PlannedUnits.{units_of, unit_at}
+use Rattle.j39_network.specs.PlannedUnits.{units_of, unit_at}
 use Rattle.j39_world.specs.Resting.{is_of_sender, is_of_receiver, is_over_with, can_rest}
 use Rattle.j39_world.specs.Run.{count_of, is_on, at_ends, begin_refusal, begin_refusals, send_refusal, send_refusals, refusal, StepsTo}
 use Rattle.j39_world.specs.Run.{is_a_transfer_open, is_none_sending, is_no_transfer_open, is_nothing_undelivered}

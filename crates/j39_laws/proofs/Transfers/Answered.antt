@@ -13,9 +13,9 @@ use Rattle.j39_tp.specs.declared.receiving.progress.Progress.TheVariants.{Closed
 use Rattle.j39_tp.specs.declared.sending.dest.Dest.{Dest}
 use Rattle.j39_tp.specs.declared.sending.dest.Dest.TheVariants as dests
 use Rattle.j39_tp.specs.declared.sending.stage.Stage.{Stage}
-use Rattle.j39_findings.specs.declared.plan.Plan.{Plan}
-use Rattle.j39_findings.specs.declared.steps.Step.TheVariants.{Lose}
-use Rattle.j39_findings.specs.declared.plan.to.To.TheVariants as tos
+use Rattle.j39_network.specs.declared.plan.Plan.{Plan}
+use Rattle.j39_network.specs.declared.steps.Step.TheVariants.{Lose}
+use Rattle.j39_network.specs.declared.plan.to.To.TheVariants as tos
 use Rattle.j39_world.proofs.Refusals.{none_hold}
 use Rattle.j39_world.specs.declared.flow.Flow.{Flow}
 use Rattle.j39_world.specs.declared.wired.Wired.{Wired}

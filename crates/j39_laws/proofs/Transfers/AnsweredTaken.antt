@@ -15,8 +15,8 @@ use Rattle.j39_tp.specs.declared.sending.reaction.Reaction.{Reaction}
 use Rattle.j39_tp.specs.declared.sending.reaction.Reaction.TheVariants as reactions
 use Rattle.j39_tp.specs.declared.sending.stage.Stage.{Stage}
 use Rattle.j39_tp.proofs.Answering.{TellsNothing}
-use Rattle.j39_findings.specs.declared.plan.Plan.{Plan}
-use Rattle.j39_findings.specs.declared.plan.to.To.TheVariants as tos
+use Rattle.j39_network.specs.declared.plan.Plan.{Plan}
+use Rattle.j39_network.specs.declared.plan.to.To.TheVariants as tos
 use Rattle.j39_world.specs.declared.wired.Wired.{Wired}
 use Rattle.j39_world.specs.declared.wired.Wired.TheVariants as wired
 use Rattle.j39_world.specs.Arriving.{oldest_passes, SendsOther}

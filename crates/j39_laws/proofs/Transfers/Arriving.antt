@@ -10,11 +10,11 @@ use Rattle.j39_tp.specs.Sender as sender
 use Rattle.j39_tp.specs.declared.sending.outcome.Outcome.TheVariants.{Sent}
 use Rattle.j39_tp.specs.declared.sending.stage.Stage.{Stage}
 use Rattle.j39_tp.specs.declared.sending.stage.Stage.TheVariants.{Sending, Waiting, Resting}
-use Rattle.j39_findings.specs.declared.plan.Plan.{Plan}
-use Rattle.j39_findings.specs.declared.plan.to.To.{To}
-use Rattle.j39_findings.specs.declared.plan.to.To.TheVariants as tos
-use Rattle.j39_findings.specs.declared.steps.Step.{Step}
-use Rattle.j39_findings.specs.declared.steps.Step.TheVariants.{Up, Down, Give, Ask, Begin, Send, Emit, Take, Lose, LateSender, LateReceiver, Rest}
+use Rattle.j39_network.specs.declared.plan.Plan.{Plan}
+use Rattle.j39_network.specs.declared.plan.to.To.{To}
+use Rattle.j39_network.specs.declared.plan.to.To.TheVariants as tos
+use Rattle.j39_network.specs.declared.steps.Step.{Step}
+use Rattle.j39_network.specs.declared.steps.Step.TheVariants.{Up, Down, Give, Ask, Begin, Send, Emit, Take, Lose, LateSender, LateReceiver, Rest}
 use Rattle.j39_world.proofs.Refusals.{none_hold}
 use Rattle.j39_world.specs.declared.flow.Flow.{Flow}
 use Rattle.j39_world.specs.declared.step_error.StepError.{StepError}
@@ -23,7 +23,7 @@ use Rattle.j39_world.specs.declared.wired.Wired.TheVariants as wired
 use Rattle.j39_world.specs.Arriving.{IsUnanswered, Spares, RunSparing, IsThrough, HasArrived, ArrivesUnanswered}
 use Rattle.j39_claim.specs.declared.item.Item.{Item}
 use Rattle.j39_world.specs.ClaimSteps.{GivenFrom, asked, heard_and_answered, switched_on}
-use Rattle.j39_findings.specs.PlannedUnits.{units_of}
+use Rattle.j39_network.specs.PlannedUnits.{units_of}
 use Rattle.j39_world.specs.Flows.{flows_of, windows_of, dest_of}
 use Rattle.j39_world.specs.Run.{count_of, begin_refusal, begin_refusals, refusal, StepsTo, Follows}
 use Rattle.j39_world.specs.Sound.{reported}

@@ -10,8 +10,8 @@ use Rattle.j39_tp.specs.declared.receiving.manner.Manner.TheVariants.{Answering}
 use Rattle.j39_tp.specs.declared.receiving.progress.Progress.{Progress}
 use Rattle.j39_tp.specs.declared.sending.stage.Stage.{Stage}
 use Rattle.j39_tp.proofs.Answering.{IsAnswer, TellsMessage, timed_out_aside}
-use Rattle.j39_findings.specs.declared.plan.Plan.{Plan}
-use Rattle.j39_findings.specs.declared.plan.to.To.TheVariants as tos
+use Rattle.j39_network.specs.declared.plan.Plan.{Plan}
+use Rattle.j39_network.specs.declared.plan.to.To.TheVariants as tos
 use Rattle.j39_world.specs.declared.wired.Wired.{Wired}
 use Rattle.j39_world.specs.declared.wired.Wired.TheVariants as wired
 use Rattle.j39_world.specs.Arriving.{oldest_passes}

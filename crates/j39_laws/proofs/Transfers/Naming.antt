@@ -23,9 +23,9 @@ use Rattle.j39_tp.specs.declared.sending.reaction.Reaction.{Reaction}
 use Rattle.j39_tp.specs.declared.sending.reaction.Reaction.TheVariants as reactions
 use Rattle.j39_tp.specs.declared.sending.stage.Stage.{Stage}
 use Rattle.j39_tp.specs.declared.sending.stage.Stage.TheVariants.{Sending, Waiting, Resting}
-use Rattle.j39_findings.specs.declared.plan.Plan.{Plan}
-use Rattle.j39_findings.specs.declared.plan.to.To.{To}
-use Rattle.j39_findings.specs.declared.plan.to.To.TheVariants as tos
+use Rattle.j39_network.specs.declared.plan.Plan.{Plan}
+use Rattle.j39_network.specs.declared.plan.to.To.{To}
+use Rattle.j39_network.specs.declared.plan.to.To.TheVariants as tos
 use Rattle.j39_world.specs.declared.flow.Flow.{Flow}
 use Rattle.j39_world.specs.declared.wired.Wired.{Wired}
 use Rattle.j39_world.specs.declared.wired.Wired.TheVariants as wired

@@ -3,16 +3,16 @@ use Rattle.std.proofs.Common.{◌≡◌, ℕ, Bool, true, false, cond, not, ◌&
 use Rattle.std.proofs.lemmas.Bool.{cond_both}
 use Rattle.std.specs.Prelude.{slice_get}
 use Rattle.j39_claim.specs.declared.item.Item.{Item}
-use Rattle.j39_findings.specs.declared.plan.Plan.{Plan}
-use Rattle.j39_findings.specs.declared.steps.Step.{Step}
-use Rattle.j39_findings.specs.declared.steps.Step.TheVariants.{Up, Down, Give, Ask, Begin, Send, Emit, Take, Lose, LateSender, LateReceiver, Rest}
+use Rattle.j39_network.specs.declared.plan.Plan.{Plan}
+use Rattle.j39_network.specs.declared.steps.Step.{Step}
+use Rattle.j39_network.specs.declared.steps.Step.TheVariants.{Up, Down, Give, Ask, Begin, Send, Emit, Take, Lose, LateSender, LateReceiver, Rest}
 use Rattle.j39_tp.specs.Receiver.{is_open_at, timed_out}
 use Rattle.j39_tp.specs.declared.receiving.manner.Manner.TheVariants.{Answering}
 use Rattle.j39_tp.specs.declared.receiving.progress.Progress.{Progress}
 use Rattle.j39_tp.specs.declared.receiving.progress.Progress.TheVariants.{Closed, Open, Complete}
 use Rattle.j39_world.specs.ClaimSteps.{GivenFrom, without_lists_to}
 use Rattle.j39_world.specs.Flows.{flows_of, window_at, windows_of}
-use Rattle.j39_findings.specs.PlannedUnits.{units_of}
+use Rattle.j39_network.specs.PlannedUnits.{units_of}
 use Rattle.j39_world.specs.Run.{StepsTo, count_of, is_a_transfer_open, refusal, Run}
 use Rattle.j39_world.specs.SoundPlan.{Always}
 use Rattle.j39_world.specs.SwitchingOff.{is_either, session_without, sessions_without, stopped, switched_off, without_lists_of, without_receivers_of}

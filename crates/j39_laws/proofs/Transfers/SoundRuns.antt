@@ -2,7 +2,7 @@
 -- sent; of a plan that isn't live nothing is undelivered that could move an address while a message is sent or such a frame lies.
 use Rattle.std.proofs.Common.{◌≡◌, false}
 use Rattle.std.proofs.lemmas.List.Elements.{All-contains, All-from_recursion}
-use Rattle.j39_findings.specs.declared.plan.Plan.{Plan}
+use Rattle.j39_network.specs.declared.plan.Plan.{Plan}
 use Rattle.j39_world.specs.declared.wired.Wired.TheVariants.{Alone}
 use Rattle.j39_world.specs.Sound.{AreAllDelivered, AreReportsSound, AreSentFramesSound, DoesOneLie, IsAcknowledgedReported}
 use Rattle.j39_world.specs.SoundPlan.{Always, IsSending}

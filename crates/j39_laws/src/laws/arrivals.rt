@@ -1,7 +1,7 @@
 //! The laws of messages that arrive.
 ghost use Rattle.std.specs.Prelude.{List};
-ghost use Rattle.j39_findings.specs.declared.plan.Plan.{Plan as Plans};
-ghost use Rattle.j39_findings.specs.declared.steps.Step.{Step as Steps};
+ghost use Rattle.j39_network.specs.declared.plan.Plan.{Plan as Plans};
+ghost use Rattle.j39_network.specs.declared.steps.Step.{Step as Steps};
 ghost use Rattle.j39_world.specs.Arriving.{ArrivesUnanswered, Answered, CanArriveAnswered, CanArriveUnanswered, HasArrivedAnswered, IsAlone};
 ghost use Rattle.j39_world.specs.Run.{Run};
 ghost use Rattle.j39_world.specs.SentArriving.{SentFramesArrive, SentFramesCanArrive};

@@ -1,8 +1,8 @@
 //! The law of what units need.
 ghost use Rattle.std.specs.Prelude.{List};
 ghost use Rattle.j39_findings.specs.Findings.{Clean};
-ghost use Rattle.j39_findings.specs.declared.plan.Plan.{Plan as Plans};
-ghost use Rattle.j39_findings.specs.declared.steps.Step.{Step as Steps};
+ghost use Rattle.j39_network.specs.declared.plan.Plan.{Plan as Plans};
+ghost use Rattle.j39_network.specs.declared.steps.Step.{Step as Steps};
 ghost use Rattle.j39_world.specs.Needed.{Delivered, ReportsNeeded, LastWrite, ReadsAsWritten, bytes_of};
 ghost use Rattle.j39_world.specs.Run.{Run};
 ghost use Rattle.j39_world.specs.SentArriving.{HasArrivedAlone, NeededAlone};

@@ -5,13 +5,13 @@ ghost use Rattle.j39_id.specs.Limits.{unit_limit};
 ghost use Rattle.j39_id.specs.Name.{is_arbitrary};
 ghost use Rattle.j39_claim.specs.ClaimRule.{IsFree};
 ghost use Rattle.j39_findings.specs.Findings.{Clean};
-ghost use Rattle.j39_findings.specs.declared.plan.Plan.{Plan as Plans};
-ghost use Rattle.j39_findings.specs.declared.plan.unit_plan.UnitPlan.{UnitPlan as PlannedUnits};
+ghost use Rattle.j39_network.specs.declared.plan.Plan.{Plan as Plans};
+ghost use Rattle.j39_network.specs.declared.plan.unit_plan.UnitPlan.{UnitPlan as PlannedUnits};
 ghost use Rattle.j39_world.specs.Opening.{AreNamesDistinct};
-ghost use Rattle.j39_findings.specs.PlannedUnits.{units_of, unit_at};
+ghost use Rattle.j39_network.specs.PlannedUnits.{units_of, unit_at};
 ghost use Rattle.j39_world.specs.Sound.{AreAddressesDifferent, AreAddressesSound, IsQuiet};
 ghost use Rattle.j39_world.specs.SoundPlan.{AlwaysBeside};
-ghost use Rattle.j39_findings.specs.Staying.{StaysBeside};
+ghost use Rattle.j39_network.specs.Staying.{StaysBeside};
 ghost use Rattle.j39_world.specs.HeldAddresses.{HoldsPlanned};
 ghost use Rattle.j39_world.specs.Strangers.{ComeBesideLive, HasStrangers};
 

@@ -1,8 +1,8 @@
 //! A law of units that are switched off.
 ghost use Rattle.std.specs.Prelude.{◌≡◌, ℕ, List, None, false};
-ghost use Rattle.j39_findings.specs.declared.plan.Plan.{Plan as Plans};
-ghost use Rattle.j39_findings.specs.declared.steps.Step.{Step as Steps};
-ghost use Rattle.j39_findings.specs.declared.steps.Step.TheVariants.{Down};
+ghost use Rattle.j39_network.specs.declared.plan.Plan.{Plan as Plans};
+ghost use Rattle.j39_network.specs.declared.steps.Step.{Step as Steps};
+ghost use Rattle.j39_network.specs.declared.steps.Step.TheVariants.{Down};
 ghost use Rattle.j39_world.specs.Run.{Run, refusal};
 ghost use Rattle.j39_world.specs.SwitchingOff.{stopped, switched_off};
 ghost use Rattle.j39_world.specs.World.{World, all_off};

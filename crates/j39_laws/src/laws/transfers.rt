@@ -1,14 +1,14 @@
 //! Laws of steps, and of how messages go on.
 ghost use Rattle.std.specs.Prelude.{◌≡◌, ◌≢◌, ℕ, List, false, true};
 ghost use Rattle.j39_findings.specs.Findings.{Clean};
-ghost use Rattle.j39_findings.specs.declared.plan.Plan.{Plan as Plans};
-ghost use Rattle.j39_findings.specs.declared.steps.Step.{Step as Steps};
+ghost use Rattle.j39_network.specs.declared.plan.Plan.{Plan as Plans};
+ghost use Rattle.j39_network.specs.declared.steps.Step.{Step as Steps};
 ghost use Rattle.j39_world.specs.Ending.{TransfersEnd};
 ghost use Rattle.j39_world.specs.Leading.{LeadsOn};
 ghost use Rattle.j39_world.specs.LiveEnds.{AreEndsUndisturbed, StandsAlone};
-ghost use Rattle.j39_findings.specs.PlannedUnits.{units_of};
-ghost use Rattle.j39_findings.specs.Staying.{IsAloneThere};
-ghost use Rattle.j39_findings.specs.declared.steps.Step.TheVariants.{Down};
+ghost use Rattle.j39_network.specs.PlannedUnits.{units_of};
+ghost use Rattle.j39_network.specs.Staying.{IsAloneThere};
+ghost use Rattle.j39_network.specs.declared.steps.Step.TheVariants.{Down};
 ghost use Rattle.j39_world.specs.Run.{Follows, Run};
 ghost use Rattle.j39_world.specs.Sound.{AreAllDelivered, AreSentFramesSound, DoesOneLie};
 ghost use Rattle.j39_world.specs.World.{World, all_off};

@@ -1,6 +1,6 @@
 -- The least and the greatest of the addresses that a unit may come to hold, by one word.
 use Rattle.std.specs.Prelude.{ℕ, Bool}
-use Rattle.j39_findings.specs.declared.plan.unit_plan.UnitPlan.{UnitPlan}
+use Rattle.j39_network.specs.declared.plan.unit_plan.UnitPlan.{UnitPlan}
 use Rattle.j39_load.specs.Loads.{greatest_address, least_address}
 use Rattle.j39_load.specs.declared.extreme.Extreme.{Extreme}
 use Rattle.j39_load.specs.declared.extreme.Extreme.TheVariants.{Greatest, Least}

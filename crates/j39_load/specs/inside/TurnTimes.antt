@@ -1,7 +1,7 @@
 -- The times of the units' broadcasts as a list, and the delay of a flow by it.
 use Rattle.std.specs.Prelude.{◌≡◌, ℕ, ◌^◌, ◌<◌, List, length, slice_index_or, Option, None, All}
 use Rattle.std.specs.Option.{ForSome}
-use Rattle.j39_findings.specs.declared.plan.timing.Timing.{Timing}
+use Rattle.j39_network.specs.declared.plan.timing.Timing.{Timing}
 use Rattle.j39_load.specs.declared.delay.Delay.{Delay}
 use Rattle.j39_load.specs.declared.delay.Delay.TheVariants.{Long, Whole}
 use Rattle.j39_load.specs.declared.messages.Messages.{Messages}

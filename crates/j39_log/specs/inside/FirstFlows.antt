@@ -1,8 +1,8 @@
 -- Where the flows of a group begin.
 use Rattle.std.specs.Prelude.{◌≡◌, ◌==◌, ◌<◌, ℕ, Bool, List, slice_index_or}
 use Rattle.std.specs.List.{position_or_len}
-use Rattle.j39_findings.specs.PlanLimits.{group_limit}
-use Rattle.j39_findings.specs.declared.plan.flow_plan.FlowPlan.{FlowPlan}
+use Rattle.j39_network.specs.PlanLimits.{group_limit}
+use Rattle.j39_network.specs.declared.plan.flow_plan.FlowPlan.{FlowPlan}
 
 abbrev pub is_flow_of : ℕ → FlowPlan → Bool
 is_flow_of group flow = flow.group == group

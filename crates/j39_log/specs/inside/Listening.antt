@@ -4,15 +4,15 @@ use Rattle.std.specs.declared.alloc.Global.{Global}
 use Rattle.std.specs.declared.vec.Vec.{Vec}
 use Rattle.std.specs.HashMap.{HashMap, get}
 use Rattle.std.specs.List.{slice_get}
-use Rattle.j39_findings.specs.declared.plan.Plan.{Plan}
-use Rattle.j39_findings.specs.declared.plan.group_plan.GroupPlan.{GroupPlan}
+use Rattle.j39_network.specs.declared.plan.Plan.{Plan}
+use Rattle.j39_network.specs.declared.plan.group_plan.GroupPlan.{GroupPlan}
 use Rattle.j39_tp.specs.Carried.{listened}
 use Rattle.j39_tp.specs.Packets.{InRange}
 use Rattle.j39_tp.specs.Receiver.{Receiving, fresh, hears, is_complete, pgn_at, receives}
 use Rattle.j39_tp.specs.declared.receiving.manner.Manner.TheVariants.{Listening}
 use Rattle.j39_tp.specs.declared.packet.Packet.{Packet}
 use Rattle.j39_log.specs.LogPairs.{Seen, heard}
-use Rattle.j39_findings.specs.PlannedGroups.{IsFirstRefused, layout_of}
+use Rattle.j39_network.specs.PlannedGroups.{IsFirstRefused, layout_of}
 use Rattle.j39_log.specs.declared.catalog.CatalogError.{CatalogError}
 use Rattle.j39_log.specs.declared.catalog.CatalogError.TheVariants.{BadGroup, Memory}
 use Rattle.j39_log.specs.declared.catalog.Catalog.{Catalog}

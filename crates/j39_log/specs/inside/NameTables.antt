@@ -6,9 +6,9 @@ use Rattle.std.specs.HashMap.{get}
 use Rattle.std.specs.List.{list_all, zip}
 use Rattle.std.specs.Option.{option_or}
 use Rattle.j39_signal.specs.Parts.{SignalParts}
-use Rattle.j39_findings.specs.declared.plan.Plan.{Plan}
-use Rattle.j39_findings.specs.declared.plan.group_plan.GroupPlan.{GroupPlan}
-use Rattle.j39_findings.specs.declared.plan.meaning.Meaning.{Meaning}
+use Rattle.j39_network.specs.declared.plan.Plan.{Plan}
+use Rattle.j39_network.specs.declared.plan.group_plan.GroupPlan.{GroupPlan}
+use Rattle.j39_network.specs.declared.plan.meaning.Meaning.{Meaning}
 use Rattle.j39_log.specs.LogReports.{reading_lines}
 use Rattle.j39_log.specs.NamedReports.{HasNoMeanings, NamedSignal, NumberNames, named_lines, meaning_names, parameter_names}
 use Rattle.j39_log.specs.declared.name_table.NameTable.{NameTable}

@@ -3,7 +3,7 @@ use Rattle.std.specs.Prelude.{◌≡◌, ◌+◌, ℕ, List, ◌++◌, length}
 use Rattle.j39_log.specs.inside.Listening.{AreAllInRange, HaveHeard}
 use Rattle.j39_log.specs.ReadText.{Past, ReadsLines, nothing_yet}
 use Rattle.j39_id.specs.Lines.{Line}
-use Rattle.j39_findings.specs.declared.plan.Plan.{Plan}
+use Rattle.j39_network.specs.declared.plan.Plan.{Plan}
 use Rattle.j39_log.specs.declared.log_reading.Reading.{Reading}
 
 -- what was read so far is this

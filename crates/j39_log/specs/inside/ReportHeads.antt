@@ -2,7 +2,7 @@
 use Rattle.std.specs.Prelude.{ℕ, ◌++◌, ◌∷◌, [], List, codes, decimal}
 use Rattle.hex.specs.Hex.{encode_upper}
 use Rattle.j39_id.specs.declared.ident.Ident.{Ident}
-use Rattle.j39_findings.specs.declared.plan.group_plan.GroupPlan.{GroupPlan}
+use Rattle.j39_network.specs.declared.plan.group_plan.GroupPlan.{GroupPlan}
 use Rattle.j39_text.specs.FrameText.{destination_text}
 
 -- up to the address that it comes from

@@ -8,7 +8,7 @@ ghost use Rattle.j39_paths.specs.FoundPaths.{copies_other_layout, has_other_reco
 use crate::buses::group_at;
 use crate::finding::VehicleFinding;
 use crate::forwards::copies;
-use j39_findings::GroupPlan;
+use j39_network::GroupPlan;
 use j39_rules::{Rule, push_if};
 use j39_signal::Selector;
 use j39_vehicle::{Forward, Vehicle};

@@ -1,7 +1,7 @@
 //! Which needs no flow meets.
 ghost use Rattle.std.specs.Prelude.{◌≡◌};
 ghost use Rattle.j39_rules.specs.Adding.{Adds};
-ghost use Rattle.j39_findings.specs.Found.{meets};
+ghost use Rattle.j39_network.specs.Serving.{meets};
 ghost use Rattle.j39_rules.specs.ListPlaces.{found_if, each};
 ghost use Rattle.j39_paths.specs.FoundPaths.{is_need_flow, is_need_unmet, need_findings, some_at};
 ghost use Rattle.j39_paths.specs.PathTables.{AreTables};
@@ -11,7 +11,7 @@ use crate::buses::{flows_on, requests_on};
 use crate::finding::VehicleFinding;
 use crate::tables::PathTables;
 use crate::traces::is_from_origin;
-use j39_findings::{FlowPlan, NeedPlan, RequestPlan, meets};
+use j39_network::{FlowPlan, NeedPlan, RequestPlan, meets};
 use j39_rules::{Rule, find_each, push_if};
 use j39_vehicle::{Vehicle, VehicleNeed};
 use std::alloc::AllocError;

@@ -6,7 +6,7 @@ ghost use Rattle.j39_paths.specs.FoundPaths.{are_at_odds, are_two_forwards, feed
 
 use crate::finding::VehicleFinding;
 use crate::forwards::{copies, is_direct, is_output, output_flows, write_one_signal};
-use j39_findings::FlowPlan;
+use j39_network::FlowPlan;
 use j39_rules::PairRule;
 use j39_vehicle::{Forward, Vehicle};
 

@@ -2,13 +2,13 @@
 ghost use Rattle.std.specs.Prelude.{◌≡◌, ◌==◌, count_by, nat_lt, false};
 ghost use Rattle.std.specs.List.{list_any, slice_get};
 ghost use Rattle.std.specs.Option.{option_map_or};
-ghost use Rattle.j39_findings.specs.declared.plan.unit_plan.UnitPlan.{UnitPlan as APlannedUnit};
+ghost use Rattle.j39_network.specs.declared.plan.unit_plan.UnitPlan.{UnitPlan as APlannedUnit};
 ghost use Rattle.j39_rules.specs.Adding.{Adds};
 ghost use Rattle.j39_rules.specs.ListPlaces.{found_if, in_each};
 ghost use Rattle.j39_paths.specs.FoundPaths.{has_any_queue, has_timing, is_any, may_share_queue, queue_findings, shared_queues};
 
 use crate::finding::VehicleFinding;
-use j39_findings::{Queue, UnitPlan};
+use j39_network::{Queue, UnitPlan};
 use j39_rules::{Rule, find_each, push_if};
 use j39_vehicle::{BusPlan, Gateway, UnitAt, Vehicle};
 use std::alloc::AllocError;

@@ -10,7 +10,7 @@ use crate::finding::VehicleFinding;
 use crate::forwards::{copies, listed};
 use crate::matching::{are_alike, has};
 use crate::traces::first_agreeing;
-use j39_findings::GroupPlan;
+use j39_network::GroupPlan;
 use j39_rules::{Rule, find_each, push_if};
 use j39_signal::{Selector, Signal};
 use j39_vehicle::{Forward, ForwardedSignal, Vehicle};

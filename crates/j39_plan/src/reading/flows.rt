@@ -12,7 +12,7 @@ use super::labels::{Labelled, place_of};
 use super::tables::{only_known, table_of};
 use super::values::{any_text, flag, has_key, number, optional_number, refused};
 use super::{Cause, Key, PlanError, Table, Version};
-use j39_findings::{FlowPlan, GroupPlan, Pace, To, UnitPlan};
+use j39_network::{FlowPlan, GroupPlan, Pace, To, UnitPlan};
 use std::alloc::Global;
 use toml::Value;
 

@@ -11,7 +11,7 @@ use super::signals::PlannedSignal;
 use super::text_kind::TextKind;
 use super::values::refused;
 use super::{Cause, Key, PlanError, Table};
-use j39_findings::{GroupPlan, TextPlan, UnitPlan};
+use j39_network::{GroupPlan, TextPlan, UnitPlan};
 use j39_signal::Signal;
 
 /// What has a label.

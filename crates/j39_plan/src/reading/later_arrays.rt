@@ -8,7 +8,7 @@ ghost use Rattle.j39_plan.specs.PlanFaults.{later_array_rules, need_tables_of, r
 
 use super::tables::array;
 use super::{Key, PlanError, Table, Version};
-use j39_findings::limits::{NEED_LIMIT, REQUEST_LIMIT};
+use j39_network::limits::{NEED_LIMIT, REQUEST_LIMIT};
 use toml::Value;
 
 /// The tables of needs and those of requests.

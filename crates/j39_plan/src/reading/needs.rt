@@ -12,7 +12,7 @@ use super::labels::Labelled;
 use super::tables::{only, table_of};
 use super::values::{any_text, optional_number, optional_text};
 use super::{Key, PlanError, Table};
-use j39_findings::{GroupPlan, NeedPlan, UnitPlan};
+use j39_network::{GroupPlan, NeedPlan, UnitPlan};
 use j39_signal::Signal;
 use std::alloc::Global;
 use toml::Value;

@@ -9,7 +9,7 @@ use super::flows::{milliseconds, place, to};
 use super::tables::{only, table_of};
 use super::values::{any_text, optional_number};
 use super::{Key, PlanError, Table};
-use j39_findings::{GroupPlan, RequestPlan, UnitPlan};
+use j39_network::{GroupPlan, RequestPlan, UnitPlan};
 use std::alloc::Global;
 use toml::Value;
 

@@ -1,7 +1,7 @@
 //! Kinds of texts.
 ghost use Rattle.std.specs.Prelude.{◌≡◌};
 ghost use Rattle.std.specs.List.{list_all};
-ghost use Rattle.j39_findings.specs.LabelForm.{is_label_byte, is_label};
+ghost use Rattle.j39_network.specs.LabelForm.{is_label_byte, is_label};
 ghost use Rattle.j39_plan.specs.TextKinds.{is_first_kind, is_printable};
 
 /// Which texts a key takes.

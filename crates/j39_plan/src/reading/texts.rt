@@ -9,7 +9,7 @@ use super::tables::{only, table_of};
 use super::text_kind::TextKind;
 use super::values::{number, optional_number, short_text};
 use super::{Key, PlanError, Table};
-use j39_findings::TextPlan;
+use j39_network::TextPlan;
 use j39_id::limits::MESSAGE_BYTES;
 use j39_signal::Signal;
 use std::alloc::Global;

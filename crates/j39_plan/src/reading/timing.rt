@@ -14,7 +14,7 @@ ghost use Rattle.j39_plan.specs.Outcome.{Gives};
 use super::tables::{only, only_known, optional_inner};
 use super::values::{bitrate_number, number};
 use super::{Key, PlanError, Table, Version};
-use j39_findings::{Bitrate, ErrorRate, Timing};
+use j39_network::{Bitrate, ErrorRate, Timing};
 
 const KEYS: [(Key, Version); 7] = [
     (Key::Bitrate, Version::Third),

@@ -17,7 +17,7 @@ use super::tables::{inner, only_known, table_of};
 use super::text_kind::TextKind;
 use super::values::{flag, number, refused, short_text, text};
 use super::{Cause, Key, PlanError, Table, Version};
-use j39_findings::{Queue, UnitPlan, Way};
+use j39_network::{Queue, UnitPlan, Way};
 use j39_id::{Address, Name};
 use std::alloc::Global;
 use toml::Value;

@@ -1,8 +1,8 @@
 -- How far a run of a schedule has come, and what a step and a line do.
 use Rattle.std.specs.Prelude.{◌≡◌, ℕ, ◌+◌, ◌≤◌, List, [], ◌∷◌, ◌++◌, length, map, Option, Some, None, Ok, Err}
 use Rattle.j39_id.specs.Lines.{Line}
-use Rattle.j39_findings.specs.declared.plan.Plan.{Plan}
-use Rattle.j39_findings.specs.declared.steps.Step.{Step}
+use Rattle.j39_network.specs.declared.plan.Plan.{Plan}
+use Rattle.j39_network.specs.declared.steps.Step.{Step}
 use Rattle.j39_bus.specs.BusState.{BusState}
 use Rattle.j39_world.specs.Run.{RunsThrough, StepsTo, refusal}
 use Rattle.j39_bus.specs.Stands.{Stands}

@@ -1,5 +1,5 @@
 -- The words of the code, as the orders of a schedule.
-use Rattle.j39_findings.specs.declared.steps.Step.TheVariants.{Up, Down, Give, Ask, Emit, Take, Lose, LateSender, LateReceiver, Rest}
+use Rattle.j39_network.specs.declared.steps.Step.TheVariants.{Up, Down, Give, Ask, Emit, Take, Lose, LateSender, LateReceiver, Rest}
 use Rattle.j39_schedule.specs.Schedule.{Order, begins, sends, of_unit, of_units, of_unit_or_units, of_message}
 use Rattle.j39_schedule.specs.declared.order_word.OrderWord.{OrderWord}
 use Rattle.j39_schedule.specs.declared.order_word.OrderWord.TheVariants as words

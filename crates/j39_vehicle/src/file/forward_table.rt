@@ -1,7 +1,7 @@
 //! The table of a forward.
 ghost use Rattle.std.specs.Prelude.{◌≤◌, length};
 ghost use Rattle.std.specs.Option.{ForSome};
-ghost use Rattle.j39_findings.specs.PlanLimits.{signal_limit};
+ghost use Rattle.j39_network.specs.PlanLimits.{signal_limit};
 
 use super::{NameOnBus, SignalTable};
 use crate::vehicle::Mode;

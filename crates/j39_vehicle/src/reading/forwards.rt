@@ -2,7 +2,7 @@
 ghost use Rattle.std.specs.Prelude.{◌≡◌, ◌≤◌, [], map, length, option_map, Some, string_bytes, IfOk, IfErr, IfSome};
 ghost use Rattle.std.specs.Option.{ForSome};
 ghost use Rattle.toml.specs.View.{items_view, table_view};
-ghost use Rattle.j39_findings.specs.PlanLimits.{signal_limit};
+ghost use Rattle.j39_network.specs.PlanLimits.{signal_limit};
 ghost use Rattle.j39_vehicle.specs.declared.reading.vehicle_error.VehicleError.TheVariants.{Memory};
 ghost use Rattle.j39_vehicle.specs.Schema.{array_at, number_at, text_at};
 ghost use Rattle.j39_vehicle.specs.Outcome.{Gives, GivesGrowing};

@@ -1,6 +1,6 @@
 //! What forwards name.
 ghost use Rattle.std.specs.Prelude.{◌≡◌, ◌≤◌, length, option_and_then, option_map, Some, string_bytes, IfOk, IfSome};
-ghost use Rattle.j39_findings.specs.PlanLimits.{signal_limit};
+ghost use Rattle.j39_network.specs.PlanLimits.{signal_limit};
 ghost use Rattle.j39_vehicle.specs.Outcome.{Gives, GivesGrowing};
 ghost use Rattle.j39_vehicle.specs.Found as found;
 ghost use Rattle.j39_vehicle.specs.Resolved as spec;
@@ -12,7 +12,7 @@ use super::signals::Signals;
 use crate::file::{ForwardTable, GatewayTable, NameOnBus, SignalTable};
 use crate::reading::{Key, Table, VehicleError, refused};
 use crate::vehicle::{BusPlan, Forward, ForwardedSignal, GroupAt};
-use j39_findings::To;
+use j39_network::To;
 use j39_plan::Cause;
 use std::alloc::Global;
 

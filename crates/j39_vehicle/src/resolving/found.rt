@@ -5,7 +5,7 @@ ghost use Rattle.j39_vehicle.specs.Found as spec;
 
 use crate::file::{before_point, behind_point};
 use crate::vehicle::{BusPlan, GroupAt, UnitAt};
-use j39_findings::{GroupPlan, To, UnitPlan};
+use j39_network::{GroupPlan, To, UnitPlan};
 use j39_signal::Signal;
 
 /// The place of the bus of a label.

@@ -10,7 +10,7 @@ use super::found::{receivers_on, signal_place, unit_place};
 use crate::file::{GatewayTable, NameOnBus};
 use crate::reading::{Key, Table, VehicleError, refused};
 use crate::vehicle::{BusPlan, GroupAt};
-use j39_findings::To;
+use j39_network::To;
 use j39_plan::Cause;
 
 /// The place of the gateway of a label.

@@ -1,5 +1,5 @@
 //! A bus of a vehicle.
-use j39_findings::Plan;
+use j39_network::Plan;
 use j39_id::Label;
 
 /// A bus: its label in the vehicle, and its plan.

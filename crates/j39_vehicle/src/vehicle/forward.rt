@@ -1,10 +1,10 @@
 //! What a gateway sends on.
 ghost use Rattle.std.specs.Prelude.{◌≤◌, length};
 ghost use Rattle.std.specs.Option.{ForSome};
-ghost use Rattle.j39_findings.specs.PlanLimits.{signal_limit};
+ghost use Rattle.j39_network.specs.PlanLimits.{signal_limit};
 
 use super::GroupAt;
-use j39_findings::To;
+use j39_network::To;
 
 /// When a gateway sends what it heard.
 #[derive(Clone, Copy, Debug, PartialEq, Eq)]

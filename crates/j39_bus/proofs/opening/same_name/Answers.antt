@@ -1,7 +1,7 @@
 use Rattle.std.proofs.Common.{◌≡◌, ◌<◌, ℕ, length, sym, subst, inl, inr, arith}
 use Rattle.std.proofs.lemmas.Bool.{cases_lt}
 use Rattle.std.proofs.lemmas.Option.{slice_get_within}
-use Rattle.j39_findings.specs.Kinds.{MayBeOneAt}
+use Rattle.j39_network.specs.Kinds.{MayBeOneAt}
 use Rattle.j39_bus.proofs.opening.same_name.Goals as goal
 
 pub loop-first-preserved : goal.loop-first-preserved

@@ -1,7 +1,7 @@
 use Rattle.std.proofs.Common.{◌<◌, ◌≤◌, All, length, get_or, take, sym, subst, arith}
 use Rattle.std.proofs.lemmas.List.{take_all, take_more}
 use Rattle.std.proofs.lemmas.List.Elements.{All-push}
-use Rattle.j39_findings.specs.PlannedGroups.{IsSendable}
+use Rattle.j39_network.specs.PlannedGroups.{IsSendable}
 use Rattle.j39_bus.proofs.Opened.{got}
 use Rattle.j39_bus.proofs.opening.try_groups.Goals as goal
 use Rattle.j39_bus.proofs.opening.try_groups.Goals.{in-Ok, in-Err-Memory}

@@ -1,5 +1,5 @@
 use Rattle.std.proofs.Common.{take, All}
-use Rattle.j39_findings.specs.PlannedGroups.{IsSendable}
+use Rattle.j39_network.specs.PlannedGroups.{IsSendable}
 use Rattle.j39_bus.proofs.opening.try_groups.Given as goal
 
 abbrev pub invariant-loop-place : goal.invariant-loop-place

@@ -1,5 +1,5 @@
 use Rattle.std.proofs.Common.{◌≡◌, ◌<◌, ◌≤◌, length, map, take, All, vec_len, vec_capacity}
-use Rattle.j39_findings.specs.declared.plan.unit_plan.UnitPlan.{UnitPlan}
+use Rattle.j39_network.specs.declared.plan.unit_plan.UnitPlan.{UnitPlan}
 use Rattle.j39_bus.proofs.receivers.windows_of.Given as goal
 
 abbrev pub invariant-loop-unit : goal.invariant-loop-unit

@@ -1,4 +1,4 @@
-use Rattle.j39_findings.specs.declared.plan.Plan.{Plan}
+use Rattle.j39_network.specs.declared.plan.Plan.{Plan}
 use Rattle.j39_check.specs.AddressesText.{StayingHolds}
 use Rattle.j39_check.proofs.VehicleReports.{reported_alike}
 use Rattle.j39_check.proofs.laws.serial_numbers_change_no_text.Goals as goal

@@ -1,5 +1,5 @@
 use Rattle.std.proofs.Common.{◌++◌, ℕ, List, take, append_assoc, sym, ap, ◌∙◌}
-use Rattle.j39_findings.specs.declared.plan.need_plan.NeedPlan.{NeedPlan}
+use Rattle.j39_network.specs.declared.plan.need_plan.NeedPlan.{NeedPlan}
 use Rattle.j39_check.specs.LoadLines.{need_line}
 use Rattle.j39_load.proofs.Before.{more}
 use Rattle.j39_load.specs.LineLists.{lines_of_each}

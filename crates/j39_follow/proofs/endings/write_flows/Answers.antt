@@ -1,6 +1,6 @@
 use Rattle.std.proofs.Common.{sym, ◌∙◌, arith, ap, ◌++◌, List}
 use Rattle.std.proofs.lemmas.List.{drop_all}
-use Rattle.j39_findings.specs.declared.plan.flow_plan.FlowPlan.{FlowPlan}
+use Rattle.j39_network.specs.declared.plan.flow_plan.FlowPlan.{FlowPlan}
 use Rattle.j39_follow.specs.FollowText.{flow_ends}
 use Rattle.j39_follow.proofs.EndLines.{no_flows, one_more_flow}
 use Rattle.j39_follow.proofs.endings.write_flows.Goals as goal

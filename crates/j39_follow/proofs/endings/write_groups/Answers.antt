@@ -1,6 +1,6 @@
 use Rattle.std.proofs.Common.{sym, ◌∙◌, arith, ap, ◌++◌, List}
 use Rattle.std.proofs.lemmas.List.{drop_all}
-use Rattle.j39_findings.specs.declared.plan.group_plan.GroupPlan.{GroupPlan}
+use Rattle.j39_network.specs.declared.plan.group_plan.GroupPlan.{GroupPlan}
 use Rattle.j39_follow.specs.FollowText.{group_ends}
 use Rattle.j39_follow.proofs.EndLines.{no_groups, one_more_group}
 use Rattle.j39_follow.proofs.endings.write_groups.Goals as goal

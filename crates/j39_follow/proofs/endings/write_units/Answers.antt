@@ -1,6 +1,6 @@
 use Rattle.std.proofs.Common.{◌++◌, ◌∷◌, [], List, ℕ, ◌+◌, sym, subst, ap, ◌∙◌, arith, append_assoc, length, take, ◌≡◌}
 use Rattle.std.proofs.lemmas.List.{length-take-le, take_more}
-use Rattle.j39_findings.specs.declared.plan.unit_plan.UnitPlan.{UnitPlan}
+use Rattle.j39_network.specs.declared.plan.unit_plan.UnitPlan.{UnitPlan}
 use Rattle.j39_follow.specs.FollowText.{AreUnitLines, IsUnitLine}
 use Rattle.j39_follow.proofs.EndLines.{one_more_unit}
 use Rattle.j39_follow.proofs.endings.write_units.Goals as goal

@@ -1,5 +1,5 @@
 use Rattle.std.proofs.Common.{Bool, [], refl, sym, subst}
-use Rattle.j39_findings.specs.declared.plan.Plan.{Plan}
+use Rattle.j39_network.specs.declared.plan.Plan.{Plan}
 use Rattle.j39_stream.proofs.Answering.{not_begun, put_unread, said_of}
 use Rattle.j39_follow.specs.FollowText.{IsFollowedLog, nothing_followed}
 use Rattle.j39_follow.specs.inside.FollowedSoFar.{RecallsPast}

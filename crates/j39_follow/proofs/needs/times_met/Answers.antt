@@ -1,8 +1,8 @@
 use Rattle.std.proofs.Common.{◌≡◌, ◌<◌, ◌∙◌, arith, ap, ℕ, List, if◌then◌else◌, length, drop}
 use Rattle.std.proofs.lemmas.List.{drop_all}
-use Rattle.j39_findings.specs.Found.{meets}
-use Rattle.j39_findings.specs.declared.plan.flow_plan.FlowPlan.{FlowPlan}
-use Rattle.j39_findings.specs.declared.plan.request_plan.RequestPlan.{RequestPlan}
+use Rattle.j39_network.specs.Serving.{meets}
+use Rattle.j39_network.specs.declared.plan.flow_plan.FlowPlan.{FlowPlan}
+use Rattle.j39_network.specs.declared.plan.request_plan.RequestPlan.{RequestPlan}
 use Rattle.j39_follow.specs.FollowText.{met_by, times_met}
 use Rattle.j39_follow.specs.inside.Tallies.{tally_at}
 use Rattle.j39_follow.proofs.EndLines.{none_met, one_more_met}

@@ -1,6 +1,6 @@
 use Rattle.std.proofs.Common.{sym, ◌∙◌, arith, ap, ◌++◌, List}
 use Rattle.std.proofs.lemmas.List.{drop_all}
-use Rattle.j39_findings.specs.declared.plan.need_plan.NeedPlan.{NeedPlan}
+use Rattle.j39_network.specs.declared.plan.need_plan.NeedPlan.{NeedPlan}
 use Rattle.j39_follow.specs.FollowText.{need_ends}
 use Rattle.j39_follow.proofs.EndLines.{no_needs, one_more_need}
 use Rattle.j39_follow.proofs.needs.write_needs.Goals as goal

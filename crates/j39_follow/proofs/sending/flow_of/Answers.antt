@@ -1,7 +1,7 @@
 use Rattle.std.proofs.Common.{◌≡◌, Option, ℕ, List, None, get_or, sym, ap, ◌∙◌}
 use Rattle.std.specs.List.{position}
 use Rattle.std.specs.Option.{option_or}
-use Rattle.j39_findings.specs.declared.plan.flow_plan.FlowPlan.{FlowPlan}
+use Rattle.j39_network.specs.declared.plan.flow_plan.FlowPlan.{FlowPlan}
 use Rattle.j39_log.proofs.Indexes.{no_place}
 use Rattle.j39_follow.specs.Fits.{fits, fits_all}
 use Rattle.j39_follow.proofs.ToAll.{none_fits, none_for_all, unfit_for_all}

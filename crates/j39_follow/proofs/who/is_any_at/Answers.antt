@@ -1,7 +1,7 @@
 use Rattle.std.proofs.Common.{Option, false, length, refl, sym, ap, arith}
 use Rattle.std.specs.Option.{option_map_or}
 use Rattle.std.proofs.lemmas.Option.{slice_get_past, slice_get_read}
-use Rattle.j39_findings.specs.declared.plan.unit_plan.UnitPlan.{UnitPlan}
+use Rattle.j39_network.specs.declared.plan.unit_plan.UnitPlan.{UnitPlan}
 use Rattle.j39_follow.proofs.who.is_any_at.Goals as goal
 
 pub returns-then-place-len : goal.returns-then-place-len

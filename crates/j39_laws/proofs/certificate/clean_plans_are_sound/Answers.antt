@@ -1,6 +1,6 @@
 use Rattle.std.proofs.Common.{rules}
 use Rattle.j39_findings.specs.Findings.{Clean}
-use Rattle.j39_findings.specs.declared.plan.Plan.{Plan}
+use Rattle.j39_network.specs.declared.plan.Plan.{Plan}
 use Rattle.j39_world.specs.SoundPlan.{IsSound}
 use Rattle.j39_laws.proofs.Certified.{sound_by_laws}
 use Rattle.j39_laws.proofs.certificate.clean_plans_are_sound.Goals as goal

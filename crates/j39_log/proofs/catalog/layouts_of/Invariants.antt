@@ -1,5 +1,5 @@
 use Rattle.std.proofs.Common.{◌≡◌, All, map, take}
-use Rattle.j39_findings.specs.PlannedGroups.{IsSendable, layout_of}
+use Rattle.j39_network.specs.PlannedGroups.{IsSendable, layout_of}
 use Rattle.j39_log.proofs.catalog.layouts_of.Given as goal
 
 abbrev pub invariant-loop-place : goal.invariant-loop-place

@@ -1,5 +1,5 @@
 use Rattle.std.proofs.Common.{◌≡◌, ◌+◌, ◌<◌, ◌≤◌, ℕ, drop, length}
-use Rattle.j39_findings.specs.PlanLimits.{group_limit}
+use Rattle.j39_network.specs.PlanLimits.{group_limit}
 use Rattle.j39_log.specs.inside.FirstFlows.{first_flow, start_at}
 use Rattle.j39_log.proofs.first_flows.first_flows.Given as goal
 

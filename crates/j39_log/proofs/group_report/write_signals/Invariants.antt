@@ -1,5 +1,5 @@
 use Rattle.std.proofs.Common.{◌≡◌, ◌++◌, drop, length}
-use Rattle.j39_findings.specs.Records.{single_signals}
+use Rattle.j39_network.specs.Records.{single_signals}
 use Rattle.j39_log.specs.LogReports.{signal_lines}
 use Rattle.j39_log.proofs.group_report.write_signals.Given as goal
 

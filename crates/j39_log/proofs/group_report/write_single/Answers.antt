@@ -5,7 +5,7 @@ use Rattle.j39_signal.specs.Bits.{raw_of}
 use Rattle.j39_signal.specs.Parts.{SignalParts}
 use Rattle.j39_signal.specs.Places.{IsThere, is_there}
 use Rattle.j39_signal.specs.State.{state_of}
-use Rattle.j39_findings.specs.Records.{stands_once}
+use Rattle.j39_network.specs.Records.{stands_once}
 use Rattle.j39_log.specs.LogReports.{signal_line}
 use Rattle.j39_log.proofs.group_report.write_single.Goals as goal
 

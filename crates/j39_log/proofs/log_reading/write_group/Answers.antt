@@ -1,7 +1,7 @@
 use Rattle.std.proofs.Common.{ℕ, List, ◌++◌, ap, ◌∙◌, arith}
 use Rattle.std.proofs.lemmas.Result.{IfOk-weaker}
 use Rattle.j39_signal.specs.LayoutParts.{LayoutParts}
-use Rattle.j39_findings.specs.PlannedGroups.{layout_of}
+use Rattle.j39_network.specs.PlannedGroups.{layout_of}
 use Rattle.j39_log.specs.LogReports.{group_line}
 use Rattle.j39_log.specs.NamedReports.{named_report}
 use Rattle.j39_log.proofs.NamedLists.{has_tables}

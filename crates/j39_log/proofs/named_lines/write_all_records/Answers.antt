@@ -1,7 +1,7 @@
 use Rattle.std.proofs.Common.{◌≡◌, ◌<◌, ◌*◌, ◌+◌, ◌++◌, ℕ, List, length, sym, ap, ◌∙◌, append_assoc, arith}
 use Rattle.std.proofs.lemmas.List.{append-nil}
-use Rattle.j39_findings.specs.Records.{record_count}
-use Rattle.j39_findings.proofs.RecordCounts.{records_counted}
+use Rattle.j39_network.specs.Records.{record_count}
+use Rattle.j39_network.proofs.RecordCounts.{records_counted}
 use Rattle.j39_log.specs.NamedReports.{NamedSignal, NumberNames, named_record_lines, named_record_signals, named_records_lines}
 use Rattle.j39_log.specs.inside.NameTables.{named_by, names_in}
 use Rattle.j39_log.proofs.NamedLists.{record_more}

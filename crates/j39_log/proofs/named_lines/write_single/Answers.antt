@@ -6,7 +6,7 @@ use Rattle.j39_signal.specs.Parts.{SignalParts}
 use Rattle.j39_signal.specs.Places.{IsThere, is_there}
 use Rattle.j39_signal.specs.State.{shown_of}
 use Rattle.j39_signal.specs.declared.state.Shown.{Shown}
-use Rattle.j39_findings.specs.Records.{stands_once}
+use Rattle.j39_network.specs.Records.{stands_once}
 use Rattle.j39_log.specs.LogReports.{signal_state_text}
 use Rattle.j39_log.specs.NamedReports.{raw_text, named_signal_line, named_state_text}
 use Rattle.j39_log.specs.inside.NameTables.{names_in}

@@ -1,5 +1,5 @@
 use Rattle.std.proofs.Common.{◌≡◌, ◌+◌, ◌<◌, ◌++◌, ◌∷◌, [], ℕ, List, length, take, get_or, sym, ap, subst, ◌∙◌, arith, append_assoc}
-use Rattle.j39_findings.specs.declared.plan.meaning.Meaning.{Meaning}
+use Rattle.j39_network.specs.declared.plan.meaning.Meaning.{Meaning}
 use Rattle.j39_log.specs.NamedReports.{NumberNames, Numbered, first_names, numbered_as, numbered_signals}
 use Rattle.j39_log.specs.inside.NameTables.{names_in, signal_name, with_name}
 use Rattle.j39_log.proofs.Naming.{numbered_all, numbered_more, signal_passed, signal_pushed}

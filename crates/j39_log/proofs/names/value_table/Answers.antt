@@ -1,6 +1,6 @@
 use Rattle.std.proofs.Common.{◌≡◌, ◌++◌, ◌∷◌, [], ℕ, List, take, sym, ap, ◌∙◌}
 use Rattle.std.proofs.lemmas.List.{take_more}
-use Rattle.j39_findings.specs.declared.plan.meaning.ValueName.{ValueName}
+use Rattle.j39_network.specs.declared.plan.meaning.ValueName.{ValueName}
 use Rattle.j39_log.specs.NamedReports.{NumberNames, value_names}
 use Rattle.j39_log.specs.inside.NameTables.{names_in, with_name}
 use Rattle.j39_log.proofs.Naming.{value_pushed}

@@ -2,8 +2,8 @@ use Rattle.std.proofs.Common.{◌≡◌, ℕ, ◌≤◌, ◌++◌, List, length,
 use Rattle.std.proofs.lemmas.Option.{get_or_from_slice_get, slice_get_within}
 use Rattle.std.proofs.lemmas.Result.{IfOk-weaker}
 use Rattle.j39_signal.specs.LayoutParts.{LayoutParts}
-use Rattle.j39_findings.specs.PlannedGroups.{layout_of}
-use Rattle.j39_findings.specs.declared.plan.group_plan.GroupPlan.{GroupPlan}
+use Rattle.j39_network.specs.PlannedGroups.{layout_of}
+use Rattle.j39_network.specs.declared.plan.group_plan.GroupPlan.{GroupPlan}
 use Rattle.j39_log.specs.inside.ValueLines.{value_lines_of}
 use Rattle.j39_log.specs.NamedReports.{named_reading_lines}
 use Rattle.j39_log.proofs.FoundGroups.{lines_there, named_there, of_group}

@@ -1,7 +1,7 @@
 use Rattle.std.proofs.Common.{◌≡◌, ◌<◌, ◌*◌, ◌+◌, ◌++◌, ℕ, List, length, sym, ap, ◌∙◌, append_assoc, arith}
 use Rattle.std.proofs.lemmas.List.{append-nil}
-use Rattle.j39_findings.specs.Records.{record_count, record_signals}
-use Rattle.j39_findings.proofs.RecordCounts.{records_counted}
+use Rattle.j39_network.specs.Records.{record_count, record_signals}
+use Rattle.j39_network.proofs.RecordCounts.{records_counted}
 use Rattle.j39_log.specs.LogReports.{record_lines, records_lines}
 use Rattle.j39_log.proofs.RecordLists.{record_more}
 use Rattle.j39_log.proofs.record_lines.write_all_records.Goals as goal

@@ -1,5 +1,5 @@
 use Rattle.std.proofs.Common.{◌≡◌, ◌++◌, drop}
-use Rattle.j39_findings.specs.Records.{record_signals}
+use Rattle.j39_network.specs.Records.{record_signals}
 use Rattle.j39_log.specs.LogReports.{record_lines}
 use Rattle.j39_log.proofs.record_lines.write_record.Given as goal
 

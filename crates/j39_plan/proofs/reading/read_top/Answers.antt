@@ -2,7 +2,7 @@ use Rattle.std.proofs.Common.{◌≡◌, [], refl, inl, inr}
 use Rattle.std.proofs.lemmas.Result.{err_from_is_err_and}
 use Rattle.toml.specs.View.{items_view}
 use Rattle.j39_id.specs.Limits.{unit_limit}
-use Rattle.j39_findings.specs.PlanLimits.{flow_limit, group_limit}
+use Rattle.j39_network.specs.PlanLimits.{flow_limit, group_limit}
 use Rattle.j39_plan.specs.declared.reading.key.Key.TheVariants as key
 use Rattle.j39_plan.specs.Elements.{each_faults, Each}
 use Rattle.j39_plan.specs.Growing.{NeverGrows, EachGrows}

@@ -1,5 +1,5 @@
 use Rattle.std.proofs.Common.{rules, [], length, sym, subst}
-use Rattle.j39_findings.specs.declared.plan.Plan.{Plan}
+use Rattle.j39_network.specs.declared.plan.Plan.{Plan}
 use Rattle.j39_stream.proofs.Answering.{not_begun, said_of}
 use Rattle.j39_run.specs.inside.Doing.{HasRun}
 use Rattle.j39_run.proofs.Runs.{so_far}

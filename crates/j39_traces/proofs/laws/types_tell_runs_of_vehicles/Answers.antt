@@ -1,4 +1,4 @@
-use Rattle.j39_findings.specs.Kinds.{AreToldApart}
+use Rattle.j39_network.specs.Kinds.{AreToldApart}
 use Rattle.j39_findings.specs.declared.checking.finding.Finding.TheVariants.{SameName}
 use Rattle.j39_findings.proofs.Vehicles.{clean_vehicle}
 use Rattle.j39_traces.proofs.Between.{messages_go}

@@ -1,6 +1,6 @@
 use Rattle.std.proofs.Common.{◌≡◌, ◌<◌, ◌≤◌, true, length, ◌∙◌, subst, arith, None}
-use Rattle.j39_findings.specs.declared.plan.Plan.{Plan}
-use Rattle.j39_findings.specs.declared.steps.Step.{Step}
+use Rattle.j39_network.specs.declared.plan.Plan.{Plan}
+use Rattle.j39_network.specs.declared.steps.Step.{Step}
 use Rattle.j39_world.specs.declared.step_error.StepError.TheVariants.{Memory}
 use Rattle.j39_world.specs.Run.{cause_of, refusal, takes_memory, StepsTo}
 use Rattle.j39_bus.specs.Stands.{Stands}

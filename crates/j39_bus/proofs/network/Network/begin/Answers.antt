@@ -1,5 +1,5 @@
 use Rattle.std.proofs.Common.{◌≡◌, length, sym, ap, ◌∙◌, subst, arith}
-use Rattle.j39_findings.specs.declared.steps.Step.TheVariants.{Begin}
+use Rattle.j39_network.specs.declared.steps.Step.TheVariants.{Begin}
 use Rattle.j39_bus.specs.BusState.{Histories}
 use Rattle.j39_bus.specs.Stands.{HoldTaken}
 use Rattle.j39_bus.specs.inside.Network.{has_begun, world_in}

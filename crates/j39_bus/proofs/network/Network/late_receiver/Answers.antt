@@ -1,5 +1,5 @@
 use Rattle.std.proofs.Common.{ap, ◌∙◌}
-use Rattle.j39_findings.specs.declared.steps.Step.TheVariants.{LateReceiver}
+use Rattle.j39_network.specs.declared.steps.Step.TheVariants.{LateReceiver}
 use Rattle.j39_bus.specs.inside.Network.{world_in}
 use Rattle.j39_world.specs.TransferSteps.{receiver_timed_out}
 use Rattle.j39_bus.proofs.Steady.{plan_kept, plan_same, steps_after}

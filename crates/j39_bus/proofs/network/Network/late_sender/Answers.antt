@@ -1,5 +1,5 @@
 use Rattle.std.proofs.Common.{sym, subst}
-use Rattle.j39_findings.specs.declared.steps.Step.TheVariants.{LateSender}
+use Rattle.j39_network.specs.declared.steps.Step.TheVariants.{LateSender}
 use Rattle.j39_bus.specs.Stands.{HoldTaken}
 use Rattle.j39_bus.proofs.Steady.{steps_after}
 use Rattle.j39_bus.proofs.network.Network.late_sender.Goals as goal

@@ -1,5 +1,5 @@
 use Rattle.std.proofs.Common.{refl}
-use Rattle.j39_findings.specs.declared.steps.Step.TheVariants.{Lose}
+use Rattle.j39_network.specs.declared.steps.Step.TheVariants.{Lose}
 use Rattle.j39_bus.proofs.Lost.{lost_from}
 use Rattle.j39_bus.proofs.Steady.{steps_same}
 use Rattle.j39_bus.proofs.network.Network.lose.Goals as goal

@@ -1,5 +1,5 @@
 use Rattle.std.proofs.Common.{◌≡◌, length, sym, ap, ◌∙◌, subst, arith}
-use Rattle.j39_findings.specs.declared.steps.Step.TheVariants.{Send}
+use Rattle.j39_network.specs.declared.steps.Step.TheVariants.{Send}
 use Rattle.j39_bus.specs.BusState.{Histories}
 use Rattle.j39_bus.specs.Stands.{HoldTaken}
 use Rattle.j39_bus.specs.inside.Network.{has_sent, world_in}

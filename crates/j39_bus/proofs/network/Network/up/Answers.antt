@@ -1,5 +1,5 @@
 use Rattle.std.proofs.Common.{ap, ◌∙◌}
-use Rattle.j39_findings.specs.declared.steps.Step.TheVariants.{Up}
+use Rattle.j39_network.specs.declared.steps.Step.TheVariants.{Up}
 use Rattle.j39_world.specs.ClaimSteps.{switched_on}
 use Rattle.j39_bus.specs.inside.Network.{world_in}
 use Rattle.j39_bus.specs.declared.network.Network.{Network}

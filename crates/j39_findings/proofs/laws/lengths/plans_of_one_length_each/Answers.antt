@@ -1,4 +1,4 @@
-use Rattle.j39_findings.proofs.Lengths.{found_by_lengths}
+use Rattle.j39_findings.proofs.FoundByLengths.{found_by_lengths}
 use Rattle.j39_findings.proofs.laws.lengths.plans_of_one_length_each.Goals as goal
 
 pub returns : goal.returns

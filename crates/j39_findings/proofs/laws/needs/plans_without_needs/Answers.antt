@@ -1,7 +1,7 @@
 use Rattle.std.proofs.Common.{◌≡◌, Some, List, subst}
 use Rattle.std.proofs.lemmas.Option.{none-some}
 use Rattle.std.specs.List.{slice_get}
-use Rattle.j39_findings.specs.declared.plan.need_plan.NeedPlan.{NeedPlan}
+use Rattle.j39_network.specs.declared.plan.need_plan.NeedPlan.{NeedPlan}
 use Rattle.j39_findings.proofs.laws.needs.plans_without_needs.Goals as goal
 
 pub returns : goal.returns

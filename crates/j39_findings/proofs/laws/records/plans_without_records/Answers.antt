@@ -1,4 +1,4 @@
-use Rattle.j39_findings.proofs.RecordCounts.{without_records}
+use Rattle.j39_findings.proofs.WithoutRecords.{without_records}
 use Rattle.j39_findings.proofs.laws.records.plans_without_records.Goals as goal
 
 pub returns : goal.returns

@@ -2,11 +2,12 @@ use Rattle.std.proofs.Common.{◌≡◌, ◌∙◌, sym, Some, List, [], ℕ, su
 use Rattle.std.specs.List.{slice_get}
 use Rattle.std.proofs.lemmas.Bool.{false≢true}
 use Rattle.std.proofs.lemmas.Option.{none-some}
-use Rattle.j39_findings.specs.PlannedRequests.{ComesByItself, IsWithoutRequests}
-use Rattle.j39_findings.specs.declared.plan.Plan.{Plan}
-use Rattle.j39_findings.specs.declared.plan.flow_plan.FlowPlan.{FlowPlan}
-use Rattle.j39_findings.specs.declared.plan.need_plan.NeedPlan.{NeedPlan}
-use Rattle.j39_findings.specs.declared.plan.request_plan.RequestPlan.{RequestPlan}
+use Rattle.j39_network.specs.PlannedRequests.{ComesByItself}
+use Rattle.j39_findings.specs.WithoutRequests.{IsWithoutRequests}
+use Rattle.j39_network.specs.declared.plan.Plan.{Plan}
+use Rattle.j39_network.specs.declared.plan.flow_plan.FlowPlan.{FlowPlan}
+use Rattle.j39_network.specs.declared.plan.need_plan.NeedPlan.{NeedPlan}
+use Rattle.j39_network.specs.declared.plan.request_plan.RequestPlan.{RequestPlan}
 use Rattle.j39_findings.proofs.laws.requests.plans_without_requests.Goals as goal
 
 none_there : (requests : List RequestPlan) → requests ≡ [] → (r : ℕ) (request : RequestPlan) → ¬ (slice_get requests r ≡ Some request)

@@ -5,10 +5,10 @@ use Rattle.j39_signal.specs.Parts.{SignalParts}
 use Rattle.j39_signal.specs.Places.{WidthFits}
 use Rattle.j39_signal.specs.State.{state_of}
 use Rattle.j39_signal.specs.declared.selector.Selector.{Selector}
-use Rattle.j39_findings.specs.declared.plan.Plan.{Plan}
+use Rattle.j39_network.specs.declared.plan.Plan.{Plan}
 use Rattle.j39_findings.specs.Findings.{Clean}
-use Rattle.j39_findings.specs.Records.{signals_in}
-use Rattle.j39_findings.specs.SoundSignals.{IsBlankOf, ReadsBack}
+use Rattle.j39_network.specs.Records.{signals_in}
+use Rattle.j39_network.specs.SoundSignals.{IsBlankOf, ReadsBack}
 use Rattle.j39_findings.proofs.CleanLaws.{lays_out_each, parts_of}
 use Rattle.j39_findings.proofs.LastWrites.{reads_last}
 use Rattle.j39_findings.proofs.laws.signals.signals_are_sound.Goals as goal

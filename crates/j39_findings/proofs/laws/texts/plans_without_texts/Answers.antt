@@ -1,10 +1,10 @@
 use Rattle.std.proofs.Common.{◌≡◌, ℕ, [], ap, sym, ◌∙◌}
 use Rattle.std.specs.List.{slice_get}
 use Rattle.std.proofs.lemmas.Option.{none-some}
-use Rattle.j39_findings.specs.declared.plan.Plan.{Plan}
+use Rattle.j39_network.specs.declared.plan.Plan.{Plan}
 use Rattle.j39_findings.specs.declared.checking.finding.Finding.TheVariants.{TextOutside}
 use Rattle.j39_findings.specs.Findings.{Holds}
-use Rattle.j39_findings.specs.TextPlaces.{HasNoTexts}
+use Rattle.j39_network.specs.TextPlaces.{HasNoTexts}
 use Rattle.j39_rules.proofs.Members.{all_at}
 use Rattle.j39_findings.proofs.laws.texts.plans_without_texts.Goals as goal
 

@@ -1,6 +1,6 @@
 use Rattle.std.proofs.Common.{rules, ◌≡◌, ◌<◌, length, refl, subst, arith}
 use Rattle.std.proofs.lemmas.Option.{slice_get_read, slice_get_within}
-use Rattle.j39_findings.specs.declared.plan.request_plan.RequestPlan.{RequestPlan}
+use Rattle.j39_network.specs.declared.plan.request_plan.RequestPlan.{RequestPlan}
 use Rattle.j39_follow.specs.declared.exchange.Exchange.{Exchange}
 use Rattle.j39_follow.specs.inside.Exchanging.{IsAfter}
 use Rattle.j39_follow.proofs.Exchanged.{none_heard, one_heard}

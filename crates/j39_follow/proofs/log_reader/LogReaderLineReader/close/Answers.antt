@@ -1,5 +1,5 @@
 use Rattle.std.proofs.Common.{ℕ, List, ◌++◌, ◌≡◌, refl, subst}
-use Rattle.j39_findings.specs.declared.plan.Plan.{Plan}
+use Rattle.j39_network.specs.declared.plan.Plan.{Plan}
 use Rattle.j39_follow.specs.FollowText.{AreUnitLines, FollowedPast, frames_seen}
 use Rattle.j39_follow.specs.declared.reading.Reading.{Reading}
 use Rattle.j39_follow.specs.inside.FollowedSoFar.{RecallsPast, behind_reports}

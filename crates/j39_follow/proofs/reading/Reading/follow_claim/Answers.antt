@@ -1,6 +1,6 @@
 use Rattle.std.proofs.Common.{◌≡◌, ◌∙◌, ◌+◌, ◌<◌, ◌^◌, ◌∷◌, ◌++◌, [], ℕ, List, Option, length, sym, subst, arith}
 use Rattle.std.proofs.lemmas.List.{length-map}
-use Rattle.j39_findings.specs.declared.plan.Plan.{Plan}
+use Rattle.j39_network.specs.declared.plan.Plan.{Plan}
 use Rattle.j39_log.specs.LogPairs.{Seen}
 use Rattle.j39_follow.specs.FollowText.{frames_seen, lines_with}
 use Rattle.j39_follow.specs.declared.directory.Directory.{Directory}

@@ -1,7 +1,7 @@
 use Rattle.std.proofs.Common.{List, None, sym, subst}
 use Rattle.std.proofs.lemmas.Result.{IfOk-weaker}
 use Rattle.j39_id.specs.declared.ident.Ident.{Ident}
-use Rattle.j39_findings.specs.declared.plan.Plan.{Plan}
+use Rattle.j39_network.specs.declared.plan.Plan.{Plan}
 use Rattle.j39_follow.specs.Contests.{Timed, frames_of}
 use Rattle.j39_follow.specs.declared.directory.Directory.{Directory}
 use Rattle.j39_follow.specs.declared.known_parties.Parties.{Parties}

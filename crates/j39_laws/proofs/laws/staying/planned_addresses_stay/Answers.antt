@@ -1,4 +1,4 @@
-use Rattle.j39_findings.specs.PlannedUnits.{units_of}
+use Rattle.j39_network.specs.PlannedUnits.{units_of}
 use Rattle.j39_laws.proofs.Addresses.PlannedApart.{all_stay}
 use Rattle.j39_laws.proofs.Addresses.Staying.{stay}
 use Rattle.j39_laws.proofs.laws.staying.planned_addresses_stay.Goals as goal

@@ -1,4 +1,4 @@
-use Rattle.j39_findings.specs.PlannedUnits.{units_of}
+use Rattle.j39_network.specs.PlannedUnits.{units_of}
 use Rattle.j39_laws.proofs.Addresses.PlannedApart.{smaller_stay}
 use Rattle.j39_laws.proofs.Addresses.Staying.{stay}
 use Rattle.j39_laws.proofs.laws.staying.smaller_names_are_undisturbed.Goals as goal

@@ -2,8 +2,8 @@ use Rattle.std.proofs.Common.{◌≡◌, [], IsTrue, false, is_some, refl, inl, 
 use Rattle.std.proofs.lemmas.List.{length-map}
 use Rattle.std.proofs.lemmas.Result.{err_from_is_err_and}
 use Rattle.toml.specs.View.{items_view}
-use Rattle.j39_findings.specs.LabelForm.{is_label}
-use Rattle.j39_findings.specs.PlanLimits.{signal_limit}
+use Rattle.j39_network.specs.LabelForm.{is_label}
+use Rattle.j39_network.specs.PlanLimits.{signal_limit}
 use Rattle.j39_signal.specs.Parts.{IsSignal}
 use Rattle.j39_plan.specs.declared.reading.key.Key.TheVariants as key
 use Rattle.j39_plan.specs.Elements.{each_faults, Each, label_in}

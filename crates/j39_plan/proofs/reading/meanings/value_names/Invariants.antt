@@ -1,6 +1,6 @@
 use Rattle.std.proofs.Common.{◌≡◌, ◌+◌, ◌++◌, List, length, true}
 use Rattle.toml.specs.View.{members_view, table_view}
-use Rattle.j39_findings.specs.declared.plan.meaning.ValueName.{ValueName}
+use Rattle.j39_network.specs.declared.plan.meaning.ValueName.{ValueName}
 use Rattle.j39_plan.specs.MeaningTables.{AreValueNames}
 use Rattle.j39_plan.specs.TableFaults.{has_labels, has_numbers}
 use Rattle.j39_plan.proofs.reading.meanings.value_names.Given as goal

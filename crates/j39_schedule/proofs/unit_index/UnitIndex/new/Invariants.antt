@@ -1,6 +1,6 @@
 use Rattle.std.proofs.Common.{◌≡◌, ℕ, ◌<◌, [], length, get_or, Some}
 use Rattle.std.specs.List.{slice_get}
-use Rattle.j39_findings.specs.declared.plan.unit_plan.UnitPlan.{UnitPlan}
+use Rattle.j39_network.specs.declared.plan.unit_plan.UnitPlan.{UnitPlan}
 use Rattle.j39_schedule.specs.inside.UnitIndexes.{Has}
 use Rattle.j39_schedule.specs.inside.Checksums.{checksum}
 use Rattle.j39_schedule.proofs.unit_index.UnitIndex.new.Given as goal
