@@ -10,7 +10,7 @@ use Rattle.j39_paths.specs.declared.point.FlowAt.{FlowAt}
 use Rattle.j39_timing.specs.Gateways.{HasBegun, IsIts, end_time, queue_time, time_of}
 use Rattle.j39_timing.specs.Traffic.{delay_of}
 use Rattle.j39_ages.specs.declared.bus_delays.Delays.{Delays}
-use Rattle.j39_ages.specs.Times.{behind_by, behind_moment, delay_at, direct_feeder, input_at, jitter_of, own, queued_behind, sum_known, timed, us_of_ms, within_of}
+use Rattle.j39_ages.specs.Times.{behind_by, behind_moment, delay_at, direct_feeder, first_input_at, jitter_ms, own, queued_behind, sum_known, timed, us_of_ms, within_of}
 use Rattle.j39_ages.specs.BusDelays.{AreDelays}
 use Rattle.j39_age_laws.specs.Prompt.{IsSentDirectly, IsSentOn}
 use Rattle.j39_age_laws.specs.Seen.{SeenBuses, clock_on, frames_at, unit_on}
@@ -24,7 +24,7 @@ use Rattle.j39_age_laws.proofs.Parts.{and_then_some, some_cases, sum_some}
 -- of what a direct forward feeds, where the source is known for so many steps
 pub record IsFed (v : Vehicle) (delays : Delays) (steps : ℕ) (n : Forward) (at : FlowAt) (time : ℕ) : Type 0 where
   pub source : FlowAt
-  pub source_is : input_at v n ≡ Some source
+  pub source_is : first_input_at v n ≡ Some source
   pub before : ℕ
   pub before_is : behind_by v delays steps source ≡ Some before
   pub within : ℕ
@@ -57,8 +57,8 @@ fed_parts v delays steps at time n feeder is =
     subst (λ (o : Option Forward). option_map_or (λ n. sum_known (queued_behind v n (behind_by v delays steps)) (own v delays at)) o
     (behind_moment v delays at) ≡ Some time) feeder is in
     let (until, own_time, of_queued, owns, more) = sum_some (queued_behind v n (behind_by v delays steps)) (own v delays at) time here in
-    let (before, within, of_source, promised, sum) = sum_some (option_and_then (behind_by v delays steps) (input_at v n)) (within_of n) until of_queued in
-    let (source, source_is, known) = and_then_some (behind_by v delays steps) (input_at v n) before of_source in
+    let (before, within, of_source, promised, sum) = sum_some (option_and_then (behind_by v delays steps) (first_input_at v n)) (within_of n) until of_queued in
+    let (source, source_is, known) = and_then_some (behind_by v delays steps) (first_input_at v n) before of_source in
     record {
       source = source;
       source_is = source_is;
@@ -74,8 +74,8 @@ fed_parts v delays steps at time n feeder is =
 -- what no direct forward feeds isn't sent on
 pub not_sent_on : (v : Vehicle) (delays : Delays) (at : FlowAt) → direct_feeder v at ≡ None → ¬ IsSentOn v delays at
 not_sent_on v delays at none (from, is) =
-    let (bits, told, rest) = and_then_some (λ (bits : ℕ). option_and_then (input_at v) (direct_feeder v at)) (delay_at delays at) from is in
-    let (n, feeder, input) = and_then_some (input_at v) (direct_feeder v at) from rest in
+    let (bits, told, rest) = and_then_some (λ (bits : ℕ). option_and_then (first_input_at v) (direct_feeder v at)) (delay_at delays at) from is in
+    let (n, feeder, input) = and_then_some (first_input_at v) (direct_feeder v at) from rest in
     none-some n (sym none ∙ feeder)
 
 -- ---- messages of one flow
@@ -219,11 +219,11 @@ module _ (v : Vehicle) (delays : Delays) (told : AreDelays v delays) (seen : See
 
   own_of_moment : (at : FlowAt) (time : ℕ) → behind_moment v delays at ≡ Some time → (n : ℕ) × (own v delays at ≡ Some n)
   own_of_moment at time known =
-      let (n, jitter, owns, late, sum) = sum_some (own v delays at) (timed v at (λ timing flow. Some (us_of_ms (jitter_of flow)))) time known in
+      let (n, jitter, owns, late, sum) = sum_some (own v delays at) (timed v at (λ timing flow. Some (us_of_ms (jitter_ms flow)))) time known in
       (n, owns)
 
   -- what a direct forward sends, by its place
-  pub sends_directly : (at : FlowAt) (n : Forward) (source : FlowAt) (within before own_time : ℕ) → direct_feeder v at ≡ Some n → input_at v n ≡ Some source
+  pub sends_directly : (at : FlowAt) (n : Forward) (source : FlowAt) (within before own_time : ℕ) → direct_feeder v at ≡ Some n → first_input_at v n ≡ Some source
       → within_of n ≡ Some within → IsOneFlow v delays seen at own_time → IsBehind v delays seen by source before
       → (place : ℕ) × IsFeederAt v at n place × IsSentDirectly v seen place source at within
   sends_directly at n source within before own_time feeder source_is promised one input =

@@ -18,7 +18,7 @@ use Rattle.j39_vehicle.specs.declared.vehicle.forward.Forward.{Forward}
 use Rattle.j39_paths.specs.declared.point.FlowAt.{FlowAt}
 use Rattle.j39_ages.specs.BusDelays.{AreDelays}
 use Rattle.j39_ages.specs.declared.bus_delays.Delays.{Delays}
-use Rattle.j39_ages.specs.Times.{behind, behind_by, behind_moment, bit_time, delay_at, direct_feeder, flow_at, input_at, jitter_of, own, own_of, queued_behind, queued_of, sum_known, timing_on, us_of_ms, within_of}
+use Rattle.j39_ages.specs.Times.{behind_at, behind_by, behind_moment, us_of_bit, delay_at, direct_feeder, flow_at, first_input_at, jitter_ms, own, own_of, queued_behind, queued_of, sum_known, timing_on, us_of_ms, within_of}
 use Rattle.j39_age_laws.specs.ForwardedStreams.{streams_of}
 use Rattle.j39_age_laws.specs.KeptBuses.{IsToldBus, asked_on}
 use Rattle.j39_age_laws.specs.Prompt.{sent_from}
@@ -32,7 +32,7 @@ use Rattle.j39_age_laws.proofs.Parts.{some_cases, some_unit, unit_of_ms}
 pub unit_positive : (v : Vehicle) (b : ℕ) → 0 < unit_on v b
 unit_positive v b = go (timing_on v.buses.items b)
   where
-    go : (o : Option Timing) → 0 < option_map_or (λ (timing : Timing). bit_time timing.bitrate) o 1
+    go : (o : Option Timing) → 0 < option_map_or (λ (timing : Timing). us_of_bit timing.bitrate) o 1
     go None = omega arith
     go (Some timing) = let some = some_unit timing.bitrate in omega (arith, some)
 
@@ -48,7 +48,7 @@ is_some_false (Some y) is (x, at) = true≢false is
 
 pub fed_make : (v : Vehicle) (delays : Delays) (steps : ℕ) (at : FlowAt) (n : Forward) (source : FlowAt) (before within own_time : ℕ)
     → direct_feeder v at ≡ Some n
-    → input_at v n ≡ Some source → behind_by v delays steps source ≡ Some before → within_of n ≡ Some within → own v delays at ≡ Some own_time
+    → first_input_at v n ≡ Some source → behind_by v delays steps source ≡ Some before → within_of n ≡ Some within → own v delays at ≡ Some own_time
     → behind_by v delays (suc steps) at ≡ Some (before + within + own_time)
 unfolding behind_by
 fed_make v delays steps at n source before within own_time feeder input known promised owns =
@@ -218,7 +218,7 @@ module _ (v : Vehicle) (delays : Delays) (told : AreDelays v delays) (seen : See
         ∙ ap (λ (x : Stream). unit_on v b * delay_of x bounded_here.wait) stream_is))
 
     -- its jitter, and its period, in microseconds
-    pub late_value : unit_on v b * (stream_of t i).late ≡ us_of_ms (jitter_of is.flow)
+    pub late_value : unit_on v b * (stream_of t i).late ≡ us_of_ms (jitter_ms is.flow)
     late_value =
         ap (λ (x : Stream). unit_on v b * x.late) stream_is
         ∙ jitter_bits v delays told (at_of b i) (own_of t.timing is.flow is.bits) has
@@ -230,14 +230,14 @@ module _ (v : Vehicle) (delays : Delays) (told : AreDelays v delays) (seen : See
         ∙ (ap (λ (u : ℕ). u * bits_of_ms t.timing streamed.period) (unit_here v delays told (at_of b i) (own_of t.timing is.flow is.bits) has)
         ∙ unit_of_ms t.timing.bitrate streamed.period))
 
-  -- what is known to come behind its moment is what is reckoned with here
-  pub behind_value : (b i : ℕ) (t : TimedBus v b) (is : IsTold b i t) (total : ℕ) → behind v delays (at_of b i) ≡ Some total → behind_with b i (Some t) ≡ total
+  -- what is known to come behind_at its moment is what is reckoned with here
+  pub behind_value : (b i : ℕ) (t : TimedBus v b) (is : IsTold b i t) (total : ℕ) → behind_at v delays (at_of b i) ≡ Some total → behind_with b i (Some t) ≡ total
   behind_value b i t is total known = some_cases (direct_feeder v (at_of b i)) (behind_with b i (Some t) ≡ total)
       (λ none.
       let moment = unfed_moment v delays (length v.forwards.items) (at_of b i) total none known in
-      let nothing : sent_from v delays (at_of b i) ≡ None = ap (λ (o : Option ℕ). option_and_then (λ (bits : ℕ). option_and_then (input_at v) (direct_feeder v
+      let nothing : sent_from v delays (at_of b i) ≡ None = ap (λ (o : Option ℕ). option_and_then (λ (bits : ℕ). option_and_then (first_input_at v) (direct_feeder v
       (at_of b i))) o) is.delayed
-      ∙ ap (option_and_then (input_at v)) none in
+      ∙ ap (option_and_then (first_input_at v)) none in
       ap (λ (o : Option FlowAt). cond (is_some o) (queued_value b i + unit_on v b * (wait_with b i (Some t) + (stream_of t i).bits))
       (unit_on v b * delay_of (stream_of t i) (wait_with b i (Some t)))) nothing
       ∙ same_Some _ _ (sym (moment_value b i t is) ∙ moment))
@@ -249,13 +249,13 @@ module _ (v : Vehicle) (delays : Delays) (told : AreDelays v delays) (seen : See
       by_feeder n feeder zero all known = absurd (fed_never v delays (at_of b i) total n feeder known)
       by_feeder n feeder (suc steps) all known =
           let fed = fed_parts v delays steps (at_of b i) total n feeder known in
-          let more : behind v delays fed.source ≡ Some fed.before =
+          let more : behind_at v delays fed.source ≡ Some fed.before =
           subst (λ (k : ℕ). behind_by v delays k fed.source ≡ Some fed.before) all (known_on v delays steps fed.source fed.before fed.before_is) in
           let from : sent_from v delays (at_of b i) ≡ Some fed.source =
-          ap (λ (o : Option ℕ). option_and_then (λ (bits : ℕ). option_and_then (input_at v) (direct_feeder v (at_of b i))) o) is.delayed
-          ∙ (ap (option_and_then (input_at v)) feeder ∙ fed.source_is) in
+          ap (λ (o : Option ℕ). option_and_then (λ (bits : ℕ). option_and_then (first_input_at v) (direct_feeder v (at_of b i))) o) is.delayed
+          ∙ (ap (option_and_then (first_input_at v)) feeder ∙ fed.source_is) in
           let until : queued_of v delays n ≡ Some (fed.before + fed.within) =
-          ap (λ (o : Option ℕ). sum_known o (within_of n)) (ap (option_and_then (behind v delays)) fed.source_is ∙ more)
+          ap (λ (o : Option ℕ). sum_known o (within_of n)) (ap (option_and_then (behind_at v delays)) fed.source_is ∙ more)
           ∙ ap (λ (o : Option ℕ). sum_known (Some fed.before) o) fed.promised in
           let queue : queued_value b i ≡ fed.before + fed.within =
           ap (λ (o : Option Forward). option_map_or (λ m. unwrap_or (queued_of v delays m) 0) o 0) feeder ∙ ap (λ (o : Option ℕ). unwrap_or o 0) until in

@@ -10,7 +10,7 @@ use Rattle.j39_network.specs.declared.plan.flow_plan.FlowPlan.{FlowPlan}
 use Rattle.j39_vehicle.specs.declared.vehicle.Vehicle.{Vehicle}
 use Rattle.j39_vehicle.specs.declared.vehicle.forward.Forward.{Forward}
 use Rattle.j39_paths.specs.Buses.{flows_on}
-use Rattle.j39_paths.specs.Forwards.{output_flows}
+use Rattle.j39_paths.specs.ForwardEnds.{output_flows}
 use Rattle.j39_paths.specs.ForwardTests.{feeds, is_direct, is_output}
 use Rattle.j39_paths.specs.Traces.{behind_forward, carries, first_input, goes_into, goes_on, next_forward, point_on}
 use Rattle.j39_paths.specs.VehicleFindings.{AreFindings, AreTwoForwards}
@@ -18,7 +18,7 @@ use Rattle.j39_paths.specs.declared.finding.VehicleFinding.TheVariants.{TwoForwa
 use Rattle.j39_paths.specs.declared.point.FlowAt.{FlowAt}
 use Rattle.j39_paths.specs.declared.point.Point.{Point}
 use Rattle.j39_paths.proofs.Deciding.{Decides-is_direct, Decides-is_output}
-use Rattle.j39_ages.specs.Times.{direct_feeder, forward_at, input_at}
+use Rattle.j39_ages.specs.Times.{direct_feeder, forward_at, first_input_at}
 use Rattle.j39_age_laws.proofs.Parts.{and_then_some, map_some, some_cases}
 
 -- ---- the direct forward of a flow
@@ -150,7 +150,7 @@ some_feeder v p n forward next there direct none = fed_by v p.at n forward (next
 
 -- ---- the first input
 
-put_on : (v : Vehicle) (forward : Forward) (t : Option ℕ) (q : Point) → behind_forward v t forward ≡ Some q → input_at v forward ≡ Some q.at
+put_on : (v : Vehicle) (forward : Forward) (t : Option ℕ) (q : Point) → behind_forward v t forward ≡ Some q → first_input_at v forward ≡ Some q.at
 put_on v forward None q is =
     let (i, first, made) = map_some (λ (f : ℕ). point_on forward.input.bus f None) (first_input v forward) q is in
     ap (option_map (λ (f : ℕ). record { bus = forward.input.bus; flow = f })) first ∙ ap (λ (p : Point). Some p.at) made
@@ -161,7 +161,7 @@ put_on v forward (Some t) q is =
     ap (option_map (λ (f : ℕ). record { bus = forward.input.bus; flow = f })) first ∙ ap (λ (p : Point). Some p.at) made
 
 pub goes_on_input : (v : Vehicle) (p q : Point) (n : ℕ) (forward : Forward) → forward_at v n ≡ Some forward → goes_on v p n ≡ Some q
-    → input_at v forward ≡ Some q.at
+    → first_input_at v forward ≡ Some q.at
 goes_on_input v p q n forward there is =
     let (one, its, behind) = and_then_some (behind_forward v p.signal) (slice_get v.forwards.items n) q is in
     let same : one ≡ forward = same_Some _ _ (sym its ∙ there) in

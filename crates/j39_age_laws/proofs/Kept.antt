@@ -21,8 +21,8 @@ use Rattle.j39_vehicle.specs.declared.vehicle.forward.Forward.{Forward}
 use Rattle.j39_paths.specs.declared.point.FlowAt.{FlowAt}
 use Rattle.j39_ages.specs.BusDelays.{AreDelays, delays_on}
 use Rattle.j39_ages.specs.declared.bus_delays.Delays.{Delays}
-use Rattle.j39_ages.specs.TimeFindings.{period_of}
-use Rattle.j39_ages.specs.Times.{behind, behind_by, delay_at, direct_feeder, flow_at, input_at, jitter_of, own, queued_of, sum_known, timed, timing_on, us_of_ms, within_of}
+use Rattle.j39_ages.specs.TimeFindings.{period_ms}
+use Rattle.j39_ages.specs.Times.{behind_at, behind_by, delay_at, direct_feeder, flow_at, first_input_at, jitter_ms, own, queued_of, sum_known, timed, timing_on, us_of_ms, within_of}
 use Rattle.j39_age_laws.specs.ForwardedStreams.{AreForwardsTimely, AreOtherwiseKept, AreStreamsKept, IsOtherwiseKept, streams_of}
 use Rattle.j39_age_laws.specs.KeptBuses.{AreKeptBuses, IsToldBus, asked_on}
 use Rattle.j39_age_laws.specs.Prompt.{ArePrompt, HaveOwnMoments, IsSentDirectly, sent_from}
@@ -35,12 +35,12 @@ use Rattle.j39_age_laws.proofs.Parts.{and_then_some, some_cases, sum_some}
 use Rattle.j39_age_laws.proofs.Starts.{starts_within}
 use Rattle.j39_age_laws.proofs.Until.{frames_then, with_streams}
 
--- what comes so long behind its moment has a time of its own
+-- what comes so long behind_at its moment has a time of its own
 behind_own : (v : Vehicle) (delays : Delays) (steps : ℕ) (at : FlowAt) (total : ℕ) → behind_by v delays steps at ≡ Some total → (n : ℕ)
     × (own v delays at ≡ Some n)
 behind_own v delays steps at total known = some_cases (direct_feeder v at) ((n : ℕ) × (own v delays at ≡ Some n))
     (λ none.
-    let (n, late, owns, jitter, sum) = sum_some (own v delays at) (timed v at (λ timing flow. Some (us_of_ms (jitter_of flow)))) total
+    let (n, late, owns, jitter, sum) = sum_some (own v delays at) (timed v at (λ timing flow. Some (us_of_ms (jitter_ms flow)))) total
     (unfed_moment v delays steps at total none known) in
     (n, owns))
     (λ n feeder. by_steps n feeder steps known)
@@ -89,7 +89,7 @@ module _ (v : Vehicle) (delays : Delays) (told : AreDelays v delays) (seen : See
     from_stream = λ b i. flow_value (sent_from v delays (at_of b i));
     within = λ b i. within_value v delays told seen b i;
     wait = λ b i. wait_with v delays told seen b i (view v b);
-    behind = λ b i. behind_with v delays told seen b i (view v b);
+    behind_at = λ b i. behind_with v delays told seen b i (view v b);
     apart = λ b i. unit_on v b * ((bus_with v delays told seen b (view v b)).traffic.stream i).period;
   }
 
@@ -106,28 +106,28 @@ module _ (v : Vehicle) (delays : Delays) (told : AreDelays v delays) (seen : See
     from : sent_from v delays (at_of b i) ≡ Some x
     n : Forward
     feeder : direct_feeder v (at_of b i) ≡ Some n
-    input : input_at v n ≡ Some x
+    input : first_input_at v n ≡ Some x
     tx : TimedBus v x.bus
     view_x : view v x.bus ≡ Some tx
     there : IsTold v delays told seen x.bus x.flow tx
     before : ℕ
-    before_is : behind v delays x ≡ Some before
+    before_is : behind_at v delays x ≡ Some before
     within : ℕ
     promised : within_of n ≡ Some within
-    in_jitter : before + within ≤ us_of_ms (jitter_of here.flow)
-    no_nearer : (p : ℕ) → period_of here.flow ≡ Some p → (q : ℕ) × (period_of there.flow ≡ Some q) × (p ≤ q)
+    in_jitter : before + within ≤ us_of_ms (jitter_ms here.flow)
+    no_nearer : (p : ℕ) → period_ms here.flow ≡ Some p → (q : ℕ) × (period_ms there.flow ≡ Some q) × (p ≤ q)
 
   link_of : (b i : ℕ) (t : TimedBus v b) → view v b ≡ Some t → (x : FlowAt) → sent_from v delays (at_of b i) ≡ Some x → Link b i
   link_of b i t view_is x from =
-      let (bits, delayed, rest) = and_then_some (λ (bits : ℕ). option_and_then (input_at v) (direct_feeder v (at_of b i))) (delay_at delays
+      let (bits, delayed, rest) = and_then_some (λ (bits : ℕ). option_and_then (first_input_at v) (direct_feeder v (at_of b i))) (delay_at delays
       (at_of b i)) x from in
-      let (n, feeder, input) = and_then_some (input_at v) (direct_feeder v (at_of b i)) x rest in
+      let (n, feeder, input) = and_then_some (first_input_at v) (direct_feeder v (at_of b i)) x rest in
       let tm = timely (at_of b i) bits n delayed feeder in
-      let (before, within, of_source, promised, sum) = sum_some (option_and_then (behind v delays) (input_at v n)) (within_of n) tm.queued tm.queued_is in
-      let (y, of_input, known) = and_then_some (behind v delays) (input_at v n) before of_source in
+      let (before, within, of_source, promised, sum) = sum_some (option_and_then (behind_at v delays) (first_input_at v n)) (within_of n) tm.queued tm.queued_is in
+      let (y, of_input, known) = and_then_some (behind_at v delays) (first_input_at v n) before of_source in
       let same : y ≡ x = same_Some _ _ (sym of_input ∙ input) in
       let same_input : tm.input ≡ x = same_Some _ _ (sym tm.input_is ∙ input) in
-      let known_x : behind v delays x ≡ Some before = subst (λ (f : FlowAt). behind v delays f ≡ Some before) same known in
+      let known_x : behind_at v delays x ≡ Some before = subst (λ (f : FlowAt). behind_at v delays f ≡ Some before) same known in
       let (own_x, owns_x) = behind_own v delays (length v.forwards.items) x before known_x in
       let parts = own_parts v delays x own_x owns_x in
       let (tx, view_x) = viewed v x.bus parts.timing parts.timed in
@@ -150,7 +150,7 @@ module _ (v : Vehicle) (delays : Delays) (told : AreDelays v delays) (seen : See
         within = within;
         promised = promised;
         in_jitter = let most = tm.in_jitter in omega (arith, most, sum);
-        no_nearer = λ p is. let (q, its, le) = tm.no_nearer p is in (q, subst (λ (f : FlowPlan). period_of f ≡ Some q) other its, le);
+        no_nearer = λ p is. let (q, its, le) = tm.no_nearer p is in (q, subst (λ (f : FlowPlan). period_ms f ≡ Some q) other its, le);
       }
 
   link : (b i : ℕ) → direct_with v delays told seen b i (view v b) ≡ true → Link b i
@@ -178,7 +178,7 @@ module _ (v : Vehicle) (delays : Delays) (told : AreDelays v delays) (seen : See
     queued_is : queued_value v delays told seen b i ≡ l.before + l.within
     queued_is =
         ap (λ (o : Option Forward). option_map_or (λ n. unwrap_or (queued_of v delays n) 0) o 0) l.feeder
-        ∙ ap (λ (o : Option ℕ). unwrap_or o 0) (ap (λ (o : Option ℕ). sum_known o (within_of l.n)) (ap (option_and_then (behind v delays)) l.input
+        ∙ ap (λ (o : Option ℕ). unwrap_or o 0) (ap (λ (o : Option ℕ). sum_known o (within_of l.n)) (ap (option_and_then (behind_at v delays)) l.input
         ∙ l.before_is)
         ∙ ap (λ (o : Option ℕ). sum_known (Some l.before) o) l.promised)
 
@@ -261,8 +261,8 @@ module _ (v : Vehicle) (delays : Delays) (told : AreDelays v delays) (seen : See
         let one = source_behind in
         let two = within_is in
         let most = l.in_jitter in
-        let late : unit_on v b * ((with_bus b (view v b)).traffic.stream i).late ≡ us_of_ms (jitter_of l.here.flow) =
-        at_bus (λ o. unit_on v b * ((with_bus b o).traffic.stream i).late ≡ us_of_ms (jitter_of l.here.flow)) (late_value v delays told seen b i l.t l.here) in
+        let late : unit_on v b * ((with_bus b (view v b)).traffic.stream i).late ≡ us_of_ms (jitter_ms l.here.flow) =
+        at_bus (λ o. unit_on v b * ((with_bus b o).traffic.stream i).late ≡ us_of_ms (jitter_ms l.here.flow)) (late_value v delays told seen b i l.t l.here) in
         omega (arith, one, two, most, late)
 
     behind_is : behind_with v delays told seen b i (Some l.t)

@@ -13,7 +13,7 @@ use Rattle.j39_paths.specs.declared.point.FlowAt.{FlowAt}
 use Rattle.j39_paths.specs.declared.point.Point.{Point}
 use Rattle.j39_timing.specs.Gateways.{HasBegun, IsIts, end_time, queue_time}
 use Rattle.j39_ages.specs.declared.bus_delays.Delays.{Delays}
-use Rattle.j39_ages.specs.Times.{age_with, behind, behind_by, direct_feeder, forward_at, input_at, old_behind, old_by, silent, sum_known, timing_on, within_of}
+use Rattle.j39_ages.specs.Times.{age_with, behind_at, behind_by, direct_feeder, forward_at, first_input_at, old_behind, old_by, silent, sum_known, timing_on, within_of}
 use Rattle.j39_ages.specs.BusDelays.{AreDelays}
 use Rattle.j39_age_laws.specs.Prompt.{IsSentDirectly}
 use Rattle.j39_age_laws.specs.Seen.{SeenBuses, frames_at}
@@ -86,7 +86,7 @@ record IsPeriodicOld (v : Vehicle) (delays : Delays) (forward : Forward) (at : F
   pause : ℕ
   pause_is : silent v at ≡ Some pause
   before : ℕ
-  before_is : behind v delays at ≡ Some before
+  before_is : behind_at v delays at ≡ Some before
   within : ℕ
   within_is : within_of forward ≡ Some within
   sum : total ≡ old + (pause + before) + within
@@ -97,8 +97,8 @@ periodic_old v delays at known forward periodic total is =
     let here : sum_known (age_with v delays at known) (within_of forward) ≡ Some total =
     subst (λ (b : Bool). (if b then known else sum_known (age_with v delays at known) (within_of forward)) ≡ Some total) periodic is in
     let (age, within, of_age, promised, one) = sum_some (age_with v delays at known) (within_of forward) total here in
-    let (old, rest, of_old, of_rest, two) = sum_some known (sum_known (silent v at) (behind v delays at)) age of_age in
-    let (pause, before, of_pause, of_behind, three) = sum_some (silent v at) (behind v delays at) rest of_rest in
+    let (old, rest, of_old, of_rest, two) = sum_some known (sum_known (silent v at) (behind_at v delays at)) age of_age in
+    let (pause, before, of_pause, of_behind, three) = sum_some (silent v at) (behind_at v delays at) rest of_rest in
     record {
       old = old;
       old_is = of_old;
@@ -145,7 +145,7 @@ old_there from old pause before within m r c time late near order so = omega ari
 
 module _ (v : Vehicle) (delays : Delays) (none : AreFindings v []) (told : AreDelays v delays) (seen : SeenBuses) (by : ℕ) (is : IsSeenVehicle v delays seen by)
     (start : Point) (from : ℕ) (pauses : KeepPauses v seen start from by) where
-  -- each message that has ended says what was so no more than `old` before its moment, where this is so much behind the time from which on pauses
+  -- each message that has ended says what was so no more than `old` before its moment, where this is so much behind_at the time from which on pauses
   -- are kept
   abbrev pub IsOldAtMost : Point → ℕ → Type 0
   IsOldAtMost p old = (q : ℕ) → IsIts (frames_at v seen p.at) q → end_time (frames_at v seen p.at) q ≤ by → from + old ≤ (seen p.at.bus).moment q
@@ -175,7 +175,7 @@ module _ (v : Vehicle) (delays : Delays) (none : AreFindings v []) (told : AreDe
           fed.promised behind_p.one behind_x in
           let same : n ≡ place = one_feeder v none p n place forward feeder next its direct found in
           let one : forward ≡ feeder = same_Some _ _ (sym its ∙ (ap (forward_at v) same ∙ found.its)) in
-          let there : fed.source ≡ x.at = same_Some _ _ (sym fed.source_is ∙ (ap (input_at v) (sym one) ∙ goes_on_input v p x n forward its on)) in
+          let there : fed.source ≡ x.at = same_Some _ _ (sym fed.source_is ∙ (ap (first_input_at v) (sym one) ∙ goes_on_input v p x n forward its on)) in
           let before : behind_by v delays steps x.at ≡ Some fed.before = subst (λ
           (f : FlowAt). behind_by v delays steps f ≡ Some fed.before) there fed.before_is in
           let sent : IsSentDirectly v seen n x.at p.at fed.within =
@@ -193,7 +193,7 @@ module _ (v : Vehicle) (delays : Delays) (none : AreFindings v []) (told : AreDe
   -- by one that has its own moments
   at_its_beat : (p x : Point) (n : ℕ) (forward : Forward) (old pause before within : ℕ) → IsOnTheWay v start x → next_forward v p ≡ Some n
       → goes_on v p n ≡ Some x
-      → forward_at v n ≡ Some forward → is_direct forward ≡ false → silent v x.at ≡ Some pause → behind v delays x.at ≡ Some before
+      → forward_at v n ≡ Some forward → is_direct forward ≡ false → silent v x.at ≡ Some pause → behind_at v delays x.at ≡ Some before
       → within_of forward ≡ Some within
       → (steps time : ℕ) → behind_by v delays steps p.at ≡ Some time → IsOldAtMost x old → IsOldAtMost p (old + (pause + before) + within)
   at_its_beat p x n forward old pause before within way next on its periodic pauses_x behind_x promised steps time known input =

@@ -37,7 +37,7 @@ use Rattle.j39_vehicle.specs.declared.vehicle.forward.Forward.{Forward}
 use Rattle.j39_paths.specs.ForwardTests.{feeds, is_direct}
 use Rattle.j39_paths.specs.declared.point.FlowAt.{FlowAt}
 use Rattle.j39_ages.specs.BusDelays.{AreDelays, delays_on}
-use Rattle.j39_ages.specs.Times.{bit_time, bits_within, delay_at, direct_feeder, forward_at, input_at, timing_on, us_of_ms, within_of}
+use Rattle.j39_ages.specs.Times.{us_of_bit, bits_within, delay_at, direct_feeder, forward_at, first_input_at, timing_on, us_of_ms, within_of}
 use Rattle.j39_ages.specs.declared.bus_delays.Delays.{Delays}
 use Rattle.j39_age_laws.specs.ForwardedStreams.{AreOtherwiseKept, IsOtherwiseKept, KeepsOtherwise, streams_of}
 use Rattle.j39_age_laws.specs.KeptBuses.{IsToldBus, asked_on}
@@ -224,13 +224,13 @@ none_kept v delays b timing all by = record {
 unit_small : (v : Vehicle) (b : ℕ) → unit_on v b ≤ 8
 unit_small v b = go (timing_on v.buses.items b)
   where
-    by_rate : (bitrate : Bitrate) → bit_time bitrate ≤ 8
+    by_rate : (bitrate : Bitrate) → us_of_bit bitrate ≤ 8
     by_rate Kbit125 = omega arith
     by_rate Kbit250 = omega arith
     by_rate Kbit500 = omega arith
     by_rate Mbit1 = omega arith
 
-    go : (o : Option Timing) → option_map_or (λ (timing : Timing). bit_time timing.bitrate) o 1 ≤ 8
+    go : (o : Option Timing) → option_map_or (λ (timing : Timing). us_of_bit timing.bitrate) o 1 ≤ 8
     go None = omega arith
     go (Some timing) = by_rate timing.bitrate
 
@@ -323,8 +323,8 @@ module _ (v : Vehicle) (delays : Delays) (told : AreDelays v delays) (n : ℕ) (
   is_sent_on : IsSentOn v delays y
   is_sent_on = (
     x,
-    ap (λ (o : Option ℕ). option_and_then (λ (bits : ℕ). option_and_then (input_at v) (direct_feeder v y)) o) lone.told_y.1
-        ∙ (ap (option_and_then (input_at v)) lone.fed ∙ lone.sends.input),
+    ap (λ (o : Option ℕ). option_and_then (λ (bits : ℕ). option_and_then (first_input_at v) (direct_feeder v y)) o) lone.told_y.1
+        ∙ (ap (option_and_then (first_input_at v)) lone.fed ∙ lone.sends.input),
   )
 
   kept : AreOtherwiseKept v delays seen
@@ -416,11 +416,11 @@ module _ (v : Vehicle) (delays : Delays) (told : AreDelays v delays) (n : ℕ) (
       record { handed = whole.handed; each = whole.each; says = λ s t leads q its. whole.says q s t }
 
   -- any other has no message to send on
-  not_heard : (m : ℕ) (other : Forward) (z : FlowAt) (p : ℕ) → m ≢ n → forward_at v m ≡ Some other → input_at v other ≡ Some z → IsIts (frames_at v seen z) p
+  not_heard : (m : ℕ) (other : Forward) (z : FlowAt) (p : ℕ) → m ≢ n → forward_at v m ≡ Some other → first_input_at v other ≡ Some z → IsIts (frames_at v seen z) p
       → ⊥
   not_heard m other z p differ its input is = elim (occupied z p is) [
-    | inl same ↦ differ (lone.heard m other its (subst (λ (f : FlowAt). input_at v other ≡ Some f) same input))
-    | inr same ↦ lone.last m other its (subst (λ (f : FlowAt). input_at v other ≡ Some f) same input)
+    | inl same ↦ differ (lone.heard m other its (subst (λ (f : FlowAt). first_input_at v other ≡ Some f) same input))
+    | inr same ↦ lone.last m other its (subst (λ (f : FlowAt). first_input_at v other ≡ Some f) same input)
   ]
 
   not_sent : (m : ℕ) (other : Forward) (z : FlowAt) (q : ℕ) → m ≢ n → forward_at v m ≡ Some other → is_direct other ≡ true → feeds v z other ≡ true
@@ -435,7 +435,7 @@ module _ (v : Vehicle) (delays : Delays) (told : AreDelays v delays) (n : ℕ) (
     direct = λ m other a b time sends direct told_a told_b. elim (cases_eq m n) [
       | inl same ↦
           let one : other ≡ forward = same_Some _ _ (sym sends.its ∙ (ap (forward_at v) same ∙ lone.sends.its)) in
-          let heard : a ≡ x = same_Some _ _ (sym (subst (λ (f : Forward). input_at v f ≡ Some a) one sends.input) ∙ lone.sends.input) in
+          let heard : a ≡ x = same_Some _ _ (sym (subst (λ (f : Forward). first_input_at v f ≡ Some a) one sends.input) ∙ lone.sends.input) in
           let sent : b ≡ y = lone.only b (subst (λ (f : Forward). feeds v b f ≡ true) one sends.output) in
           let promised : time ≡ within = same_Some _ _ (sym (subst (λ (f : Forward). within_of f ≡ Some time) one sends.promised) ∙ lone.sends.promised) in
           subst (λ (k : ℕ). IsSentDirectly v seen k a b time) (sym same)

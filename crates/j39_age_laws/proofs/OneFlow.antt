@@ -32,8 +32,8 @@ use Rattle.j39_vehicle.specs.declared.vehicle.Vehicle.{Vehicle}
 use Rattle.j39_vehicle.specs.declared.vehicle.bus_plan.BusPlan.{BusPlan}
 use Rattle.j39_paths.specs.declared.point.FlowAt.{FlowAt}
 use Rattle.j39_ages.specs.declared.bus_delays.Delays.{Delays}
-use Rattle.j39_ages.specs.TimeFindings.{period_of}
-use Rattle.j39_ages.specs.Times.{behind_moment, bit_time, bits_within, delay_at, flow_at, jitter_of, own, own_of, sum_known, timing_on, us_of_ms}
+use Rattle.j39_ages.specs.TimeFindings.{period_ms}
+use Rattle.j39_ages.specs.Times.{behind_moment, us_of_bit, bits_within, delay_at, flow_at, jitter_ms, own, own_of, sum_known, timing_on, us_of_ms}
 use Rattle.j39_ages.specs.BusDelays.{AreDelays, AreDelaysOn, delays_on}
 use Rattle.j39_age_laws.specs.KeptBuses.{AreKeptBuses, IsKeptBus, IsToldBus, asked_on}
 use Rattle.j39_age_laws.specs.Seen.{SeenBuses, frames_at, unit_on}
@@ -72,9 +72,9 @@ told_bus v delays told b timing timed =
 pub record HasStream (timing : Timing) (flow : FlowPlan) (frames : FlowFrames) (limit : ℕ) : Type 0 where
   pub single : IsSingle frames.stream
   pub limited : limit ≤ frames.stream.period
-  pub late : frames.stream.late ≡ bits_of_ms timing (jitter_of flow)
+  pub late : frames.stream.late ≡ bits_of_ms timing (jitter_ms flow)
   pub period : ℕ
-  pub period_is : period_of flow ≡ Some period
+  pub period_is : period_ms flow ≡ Some period
   pub apart : frames.stream.period ≡ bits_of_ms timing period
 
 short_is : (a b : FlowFrames) → Short a ≡ Short b → a ≡ b
@@ -191,33 +191,33 @@ module _ (v : Vehicle) (delays : Delays) (told : AreDelays v delays) (at : FlowA
   pub short_group : (group : GroupPlan) × (slice_get of_bus.bus.plan.groups.items has.flow.group ≡ Some group) × (group.most ≤ 8)
   short_group = group_of has.timing of_bus.bus.plan of_bus.stays at.flow has.flow flow_here bound.load bound.its bound.frames bound.short
 
-  pub unit_here : unit_on v at.bus ≡ bit_time has.timing.bitrate
-  unit_here = ap (λ (o : Option Timing). option_map_or (λ (t : Timing). bit_time t.bitrate) o 1) has.timed
+  pub unit_here : unit_on v at.bus ≡ us_of_bit has.timing.bitrate
+  unit_here = ap (λ (o : Option Timing). option_map_or (λ (t : Timing). us_of_bit t.bitrate) o 1) has.timed
 
   pub placed : planned_at (frames_asked asked ++ damage_frames has.timing) at.flow ≡ bound.frames
   placed = with_damage has.timing (frames_asked asked) at.flow bound.frames
       (own_read asked.flows asked.units asked.requests at.flow bound.load bound.frames bound.its bound.short)
 
-  pub jitter_bits : unit_on v at.bus * bound.frames.stream.late ≡ 1000 * jitter_of has.flow
-  jitter_bits = ap (λ (n : ℕ). unit_on v at.bus * n) its_stream.late ∙ (ap (λ (u : ℕ). u * bits_of_ms has.timing (jitter_of has.flow)) unit_here
-      ∙ unit_of_ms has.timing.bitrate (jitter_of has.flow))
+  pub jitter_bits : unit_on v at.bus * bound.frames.stream.late ≡ 1000 * jitter_ms has.flow
+  jitter_bits = ap (λ (n : ℕ). unit_on v at.bus * n) its_stream.late ∙ (ap (λ (u : ℕ). u * bits_of_ms has.timing (jitter_ms has.flow)) unit_here
+      ∙ unit_of_ms has.timing.bitrate (jitter_ms has.flow))
 
   pub own_is : time ≡ unit_on v at.bus * (bound.wait + bound.frames.stream.bits)
   own_is =
       let total = bound.sum in
       let late = its_stream.late in
-      let rest : has.bits - bits_of_ms has.timing (jitter_of has.flow) ≡ bound.wait + bound.frames.stream.bits = omega (arith, total, late) in
-      has.sum ∙ (ap (λ (n : ℕ). bit_time has.timing.bitrate * n) rest ∙ ap (λ (u : ℕ). u * (bound.wait + bound.frames.stream.bits)) (sym unit_here))
+      let rest : has.bits - bits_of_ms has.timing (jitter_ms has.flow) ≡ bound.wait + bound.frames.stream.bits = omega (arith, total, late) in
+      has.sum ∙ (ap (λ (n : ℕ). us_of_bit has.timing.bitrate * n) rest ∙ ap (λ (u : ℕ). u * (bound.wait + bound.frames.stream.bits)) (sym unit_here))
 
   pub moment_is : own v delays at ≡ Some time → behind_moment v delays at ≡ Some (unit_on v at.bus * delay_of bound.frames.stream bound.wait)
   moment_is is =
-      let jitter : (Rattle.j39_ages.specs.Times.timed v at (λ timing flow. Some (us_of_ms (jitter_of flow)))) ≡ Some (us_of_ms (jitter_of has.flow)) =
+      let jitter : (Rattle.j39_ages.specs.Times.timed v at (λ timing flow. Some (us_of_ms (jitter_ms flow)))) ≡ Some (us_of_ms (jitter_ms has.flow)) =
       ap (λ (o : Option Timing). Rattle.std.specs.Option.option_and_then (λ (t : Timing). Rattle.std.specs.Option.option_and_then (λ (f : FlowPlan). Some
-      (us_of_ms (jitter_of f))) (flow_at v.buses.items at)) o) has.timed
-      ∙ ap (λ (o : Option FlowPlan). Rattle.std.specs.Option.option_and_then (λ (f : FlowPlan). Some (us_of_ms (jitter_of f))) o) has.its in
+      (us_of_ms (jitter_ms f))) (flow_at v.buses.items at)) o) has.timed
+      ∙ ap (λ (o : Option FlowPlan). Rattle.std.specs.Option.option_and_then (λ (f : FlowPlan). Some (us_of_ms (jitter_ms f))) o) has.its in
       let bits = own_is in
       let late = jitter_bits in
-      ap (λ (o : Option ℕ). sum_known o (Rattle.j39_ages.specs.Times.timed v at (λ timing flow. Some (us_of_ms (jitter_of flow))))) is
+      ap (λ (o : Option ℕ). sum_known o (Rattle.j39_ages.specs.Times.timed v at (λ timing flow. Some (us_of_ms (jitter_ms flow))))) is
       ∙ (ap (λ (o : Option ℕ). sum_known (Some time) o) jitter ∙ ap (λ (n : ℕ). Some n) (omega (arith, bits, late)))
 
   module _ (seen : SeenBuses) (kept : AreKeptBuses v delays seen) where

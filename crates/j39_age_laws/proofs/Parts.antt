@@ -7,7 +7,7 @@ use Rattle.j39_network.specs.declared.plan.timing.Bitrate.TheVariants.{Kbit125, 
 use Rattle.j39_load.specs.Loads.{bits_per_ms}
 use Rattle.j39_load.specs.declared.delay.Delay.{Delay}
 use Rattle.j39_load.specs.declared.delay.Delay.TheVariants.{Within, Late, Long, Whole}
-use Rattle.j39_ages.specs.Times.{bit_time, bits_within, sum_known}
+use Rattle.j39_ages.specs.Times.{us_of_bit, bits_within, sum_known}
 
 pub and_then_some : {A B : Type 0} (f : A → Option B) (o : Option A) (b : B) → option_and_then f o ≡ Some b → (a : A) × (o ≡ Some a) × (f a ≡ Some b)
 and_then_some f None b is = absurd (none-some b is)
@@ -33,13 +33,13 @@ pub some_cases : {A : Type 0} (o : Option A) → (P : Type 0) → (o ≡ None �
 some_cases None P none some = none refl
 some_cases (Some a) P none some = some a refl
 
-pub unit_of_ms : (bitrate : Bitrate) (ms : ℕ) → bit_time bitrate * (ms * bits_per_ms bitrate) ≡ 1000 * ms
+pub unit_of_ms : (bitrate : Bitrate) (ms : ℕ) → us_of_bit bitrate * (ms * bits_per_ms bitrate) ≡ 1000 * ms
 unit_of_ms Kbit125 ms = omega arith
 unit_of_ms Kbit250 ms = omega arith
 unit_of_ms Kbit500 ms = omega arith
 unit_of_ms Mbit1 ms = omega arith
 
-pub some_unit : (bitrate : Bitrate) → 1 ≤ bit_time bitrate
+pub some_unit : (bitrate : Bitrate) → 1 ≤ us_of_bit bitrate
 some_unit Kbit125 = omega arith
 some_unit Kbit250 = omega arith
 some_unit Kbit500 = omega arith

@@ -9,7 +9,7 @@ use Rattle.j39_paths.specs.declared.point.FlowAt.{FlowAt}
 use Rattle.j39_paths.specs.declared.point.Point.{Point}
 use Rattle.j39_timing.specs.Gateways.{IsIts}
 use Rattle.j39_ages.specs.declared.bus_delays.Delays.{Delays}
-use Rattle.j39_ages.specs.Times.{behind_by, direct_feeder, input_at, pause_of, silent, silent_by, unasked_at, within_of}
+use Rattle.j39_ages.specs.Times.{behind_by, direct_feeder, first_input_at, pause_us, silent, silent_by, unasked_at, within_of}
 use Rattle.j39_ages.specs.BusDelays.{AreDelays}
 use Rattle.j39_age_laws.specs.Seen.{SeenBuses, frames_at}
 use Rattle.j39_age_laws.specs.YoungValues.{ComesDirectly, IsOnTheWay, IsSeenVehicle, KeepPauses, pause_at, by_itself, sent_on}
@@ -21,9 +21,9 @@ use Rattle.j39_age_laws.proofs.Parts.{and_then_some, some_cases}
 unfed_pause : (v : Vehicle) (steps : ℕ) (at : FlowAt) (pause : ℕ) → direct_feeder v at ≡ None → silent_by v steps at ≡ Some pause → pause_at v at ≡ Some pause
 unfolding silent_by
 unfed_pause v zero at pause none is =
-    subst (λ (o : Option Forward). option_and_then (λ flow. option_map_or (λ n. None) o (pause_of flow)) (unasked_at v at) ≡ Some pause) none is
+    subst (λ (o : Option Forward). option_and_then (λ flow. option_map_or (λ n. None) o (pause_us flow)) (unasked_at v at) ≡ Some pause) none is
 unfed_pause v (suc steps) at pause none is =
-    subst (λ (o : Option Forward). option_and_then (λ flow. option_map_or (λ n. option_and_then (silent_by v steps) (input_at v n)) o (pause_of flow))
+    subst (λ (o : Option Forward). option_and_then (λ flow. option_map_or (λ n. option_and_then (silent_by v steps) (first_input_at v n)) o (pause_us flow))
     (unasked_at v at) ≡ Some pause)
     none is
 
@@ -31,18 +31,18 @@ fed_silent_never : (v : Vehicle) (at : FlowAt) (pause : ℕ) (n : Forward) → d
 unfolding silent_by
 fed_silent_never v at pause n feeder is =
     let (flow, its, none) = and_then_some (λ (flow : FlowPlan). None) (unasked_at v at) pause
-    (subst (λ (o : Option Forward). option_and_then (λ flow. option_map_or (λ n. None) o (pause_of flow)) (unasked_at v at) ≡ Some pause) feeder is) in
+    (subst (λ (o : Option Forward). option_and_then (λ flow. option_map_or (λ n. None) o (pause_us flow)) (unasked_at v at) ≡ Some pause) feeder is) in
     none-some pause none
 
 fed_silent : (v : Vehicle) (steps : ℕ) (at : FlowAt) (pause : ℕ) (n : Forward) → direct_feeder v at ≡ Some n → silent_by v (suc steps) at ≡ Some pause
-    → (x : FlowAt) × (input_at v n ≡ Some x) × (silent_by v steps x ≡ Some pause)
+    → (x : FlowAt) × (first_input_at v n ≡ Some x) × (silent_by v steps x ≡ Some pause)
 unfolding silent_by
 fed_silent v steps at pause n feeder is =
-    let (flow, its, known) = and_then_some (λ (flow : FlowPlan). option_and_then (silent_by v steps) (input_at v n)) (unasked_at v at) pause
-    (subst (λ (o : Option Forward). option_and_then (λ flow. option_map_or (λ n. option_and_then (silent_by v steps) (input_at v n)) o (pause_of flow))
+    let (flow, its, known) = and_then_some (λ (flow : FlowPlan). option_and_then (silent_by v steps) (first_input_at v n)) (unasked_at v at) pause
+    (subst (λ (o : Option Forward). option_and_then (λ flow. option_map_or (λ n. option_and_then (silent_by v steps) (first_input_at v n)) o (pause_us flow))
     (unasked_at v at) ≡ Some pause)
     feeder is) in
-    and_then_some (silent_by v steps) (input_at v n) pause known
+    and_then_some (silent_by v steps) (first_input_at v n) pause known
 
 -- ---- moments
 
@@ -60,7 +60,7 @@ shorter t before within own time to sum high = omega arith
 module _ (v : Vehicle) (delays : Delays) (told : AreDelays v delays) (seen : SeenBuses) (by : ℕ) (is : IsSeenVehicle v delays seen by)
     (start : Point) (from : ℕ) (pauses : KeepPauses v seen start from by) where
   -- of what is sent on directly
-  passed_on : (x y : FlowAt) (pause : ℕ) (n : Forward) → direct_feeder v y ≡ Some n → input_at v n ≡ Some x → (steps time : ℕ)
+  passed_on : (x y : FlowAt) (pause : ℕ) (n : Forward) → direct_feeder v y ≡ Some n → first_input_at v n ≡ Some x → (steps time : ℕ)
       → behind_by v delays steps y ≡ Some time
       → ((k before : ℕ) → behind_by v delays k x ≡ Some before → KeepsOn v seen x pause before from by) → KeepsOn v seen y pause time from by
   passed_on x y pause n feeder source zero time known keeps = absurd (fed_never v delays y time n feeder known)
@@ -72,7 +72,7 @@ module _ (v : Vehicle) (delays : Delays) (told : AreDelays v delays) (seen : See
       (is_behind v delays told seen by is steps x fed.before before) (is_behind v delays told seen by is (suc steps) y time known)
       (keeps steps fed.before before)
     where
-      sends_moments : (x y : FlowAt) (pause : ℕ) (n : Forward) → direct_feeder v y ≡ Some n → input_at v n ≡ Some x → (within before own time : ℕ)
+      sends_moments : (x y : FlowAt) (pause : ℕ) (n : Forward) → direct_feeder v y ≡ Some n → first_input_at v n ≡ Some x → (within before own time : ℕ)
           → within_of n ≡ Some within → time ≡ before + (within + own) → IsBehind v delays seen by x before → IsBehind v delays seen by y time
           → KeepsOn v seen x pause before from by → KeepsOn v seen y pause time from by
       sends_moments x y pause n feeder source within before own time promised sum input output keeps t low high =
@@ -104,7 +104,7 @@ module _ (v : Vehicle) (delays : Delays) (told : AreDelays v delays) (seen : See
     keeps_on steps pause silent k time known = comes steps point.at pause by_itself silent k time known
 
     -- and of what it is sent on from
-    pub source_keeps_on : (x : FlowAt) (pause : ℕ) (n : Forward) → direct_feeder v point.at ≡ Some n → input_at v n ≡ Some x → silent v x ≡ Some pause
+    pub source_keeps_on : (x : FlowAt) (pause : ℕ) (n : Forward) → direct_feeder v point.at ≡ Some n → first_input_at v n ≡ Some x → silent v x ≡ Some pause
         → (k time : ℕ) → behind_by v delays k point.at ≡ Some time → KeepsOn v seen point.at pause time from by
     source_keeps_on x pause n feeder source its k time known =
         passed_on x point.at pause n feeder source k time known

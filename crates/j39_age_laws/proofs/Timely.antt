@@ -14,7 +14,7 @@ use Rattle.j39_vehicle.specs.declared.vehicle.Vehicle.{Vehicle}
 use Rattle.j39_vehicle.specs.declared.vehicle.bus_plan.BusPlan.{BusPlan}
 use Rattle.j39_vehicle.specs.declared.vehicle.forward.Forward.{Forward}
 use Rattle.j39_paths.specs.Buses.{flows_on, groups_on}
-use Rattle.j39_paths.specs.Forwards.{input_flows, output_flows}
+use Rattle.j39_paths.specs.ForwardEnds.{input_flows, output_flows}
 use Rattle.j39_paths.specs.ForwardTests.{is_input, is_output}
 use Rattle.j39_paths.specs.Traces.{first_input}
 use Rattle.j39_paths.specs.VehicleFindings.{AreFindings, HasNoInput}
@@ -22,8 +22,8 @@ use Rattle.j39_paths.specs.declared.finding.VehicleFinding.TheVariants.{ManyOutp
 use Rattle.j39_paths.specs.declared.point.FlowAt.{FlowAt}
 use Rattle.j39_paths.proofs.Deciding.{Decides-has_many_outputs, Decides-is_direct, Decides-is_input}
 use Rattle.j39_ages.specs.BusDelays.{AreDelays, AreDelaysOn, delays_on}
-use Rattle.j39_ages.specs.TimeFindings.{AreTimeFindings, IsDirectBetween, IsUnlimited, first_output, period_of}
-use Rattle.j39_ages.specs.Times.{behind, bits_within, delay_at, direct_feeder, flow_at, input_at, jitter_of, queued_of, silent, timing_on, us_of_ms}
+use Rattle.j39_ages.specs.TimeFindings.{AreTimeFindings, IsDirectBetween, IsUnlimited, first_output, period_ms}
+use Rattle.j39_ages.specs.Times.{behind_at, bits_within, delay_at, direct_feeder, flow_at, first_input_at, jitter_ms, queued_of, silent, timing_on, us_of_ms}
 use Rattle.j39_ages.specs.declared.bus_delays.Delays.{Delays}
 use Rattle.j39_ages.specs.declared.ends.Ends.{Ends}
 use Rattle.j39_ages.specs.declared.finding.TimeFinding.TheVariants.{TooLate, TooOften, TooRare}
@@ -117,7 +117,7 @@ module _ (v : Vehicle) (delays : Delays) (none : AreFindings v []) (told : AreDe
   source : FlowAt
   source = record { bus = n.input.bus; flow = input.flow }
 
-  source_is : input_at v n ≡ Some source
+  source_is : first_input_at v n ≡ Some source
   unfolding source
   source_is = ap (option_map (λ (f : ℕ). record { bus = n.input.bus; flow = f })) input.flow_is
 
@@ -132,8 +132,8 @@ module _ (v : Vehicle) (delays : Delays) (none : AreFindings v []) (told : AreDe
             (output_flows v n) at.flow sends.flow sends.flow its_output in
             absurd (true≢false (sym sends.passes ∙ subst (λ (f : FlowPlan). is_output n f ≡ false) here (found.2 at.flow before)))
         | inr not_before ↦ elim (cases_lt j at.flow) [
-          | inl behind ↦
-              let many = two_pass (is_output n) (output_flows v n) j at.flow (get_or (output_flows v n) j sends.flow) sends.flow behind
+          | inl behind_at ↦
+              let many = two_pass (is_output n) (output_flows v n) j at.flow (get_or (output_flows v n) j sends.flow) sends.flow behind_at
               (slice_get-get_or (output_flows v n) j sends.flow found.0) its_output found.1 sends.passes in
               let finding = none.complete (ManyOutputs place) (record {
                 value = n;
@@ -208,9 +208,9 @@ module _ (v : Vehicle) (delays : Delays) (none : AreFindings v []) (told : AreDe
   record HasQueued : Type 0 where
     queued : ℕ
     queued_is : queued_of v delays n ≡ Some queued
-    in_jitter : queued ≤ us_of_ms (jitter_of sends.flow)
+    in_jitter : queued ≤ us_of_ms (jitter_ms sends.flow)
 
-  too_late : ¬ ((q : ℕ) × (queued_of v delays n ≡ Some q) × (q ≤ us_of_ms (jitter_of sends.flow))) → ⊥
+  too_late : ¬ ((q : ℕ) × (queued_of v delays n ≡ Some q) × (q ≤ us_of_ms (jitter_ms sends.flow))) → ⊥
   too_late late =
       let finding = in_time.complete (TooLate place) (record { value = n; value_is = feeding.its; meets = between _ (is_limited, late) }) in
       omega (arith, finding.1)
@@ -218,19 +218,19 @@ module _ (v : Vehicle) (delays : Delays) (none : AreFindings v []) (told : AreDe
   queued : HasQueued
   queued = some_cases (queued_of v delays n) HasQueued
       (λ unknown. absurd (too_late (λ known. none-some known.0 (sym unknown ∙ known.1))))
-      (λ q is. elim (cases_lt (us_of_ms (jitter_of sends.flow)) q) [
+      (λ q is. elim (cases_lt (us_of_ms (jitter_ms sends.flow)) q) [
         | inl above ↦ absurd (too_late (λ known. let same : known.0 ≡ q = same_Some _ _ (sym known.1
             ∙ is) in let le = known.2 in omega (arith, above, same, le)))
         | inr within ↦ record { queued = q; queued_is = is; in_jitter = omega (arith, within) }
       ])
 
-  too_often : (p : ℕ) → period_of sends.flow ≡ Some p → ¬ ((q : ℕ) × (period_of input.plan ≡ Some q) × (p ≤ q)) → ⊥
+  too_often : (p : ℕ) → period_ms sends.flow ≡ Some p → ¬ ((q : ℕ) × (period_ms input.plan ≡ Some q) × (p ≤ q)) → ⊥
   too_often p is nearer =
       let finding = in_time.complete (TooOften place) (record { value = n; value_is = feeding.its; meets = between _ (inl (p, is, nearer)) }) in
       omega (arith, finding.1)
 
-  periods : (p : ℕ) → period_of sends.flow ≡ Some p → (q : ℕ) × (period_of input.plan ≡ Some q) × (p ≤ q)
-  periods p is = some_cases (period_of input.plan) ((q : ℕ) × (period_of input.plan ≡ Some q) × (p ≤ q))
+  periods : (p : ℕ) → period_ms sends.flow ≡ Some p → (q : ℕ) × (period_ms input.plan ≡ Some q) × (p ≤ q)
+  periods p is = some_cases (period_ms input.plan) ((q : ℕ) × (period_ms input.plan ≡ Some q) × (p ≤ q))
       (λ unknown. absurd (too_often p is (λ known. none-some known.0 (sym unknown ∙ known.1))))
       (λ q its. elim (cases_lt q p) [
         | inl below ↦ absurd (too_often p is (λ known. let same : known.0 ≡ q = same_Some _ _ (sym known.1
@@ -253,7 +253,7 @@ module _ (v : Vehicle) (delays : Delays) (none : AreFindings v []) (told : AreDe
       ])
 
   -- what it comes from is silent no longer than its pause allows
-  pub keeps_rarely : (flow : FlowPlan) → flow_at v.buses.items at ≡ Some flow → (from : FlowAt) → input_at v n ≡ Some from → (ms : ℕ) → flow.pause ≡ Some ms
+  pub keeps_rarely : (flow : FlowPlan) → flow_at v.buses.items at ≡ Some flow → (from : FlowAt) → first_input_at v n ≡ Some from → (ms : ℕ) → flow.pause ≡ Some ms
       → (s : ℕ) × (silent v from ≡ Some s) × (s ≤ us_of_ms ms)
   keeps_rarely flow its from input_is ms is =
       let same : flow ≡ sends.flow = same_Some _ _ (sym its ∙ sends.its) in

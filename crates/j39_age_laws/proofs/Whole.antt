@@ -15,10 +15,10 @@ use Rattle.j39_timing.specs.Gateways.{time_of}
 use Rattle.j39_vehicle.specs.declared.vehicle.Vehicle.{Vehicle}
 use Rattle.j39_vehicle.specs.declared.vehicle.vehicle_need.VehicleNeed.{VehicleNeed}
 use Rattle.j39_paths.specs.Buses.{requests_on}
-use Rattle.j39_paths.specs.Traces.{IsNeedFlow, flows_of_need, is_from_origin, needed, point_on}
+use Rattle.j39_paths.specs.Traces.{IsNeedFlow, flows_of_need, is_from_origin, need_on_bus, point_on}
 use Rattle.j39_paths.specs.declared.finding.VehicleFinding.TheVariants.{NeedUnmet}
 use Rattle.j39_ages.specs.TimeFindings.{IsYoungFlow}
-use Rattle.j39_ages.specs.Times.{age, bit_time, delay_at, direct_feeder, input_at, us_of_ms}
+use Rattle.j39_ages.specs.Times.{age, us_of_bit, delay_at, direct_feeder, first_input_at, us_of_ms}
 use Rattle.j39_ages.specs.declared.bus_delays.Delays.{Delays}
 use Rattle.j39_ages.specs.declared.finding.TimeFinding.TheVariants.{NeedTooOld}
 use Rattle.j39_age_laws.specs.Seen.{SeenBuses, clock_on, unit_on}
@@ -72,18 +72,18 @@ module _ (v : Vehicle) (delays : Delays) (sound : IsSoundVehicle v delays) (d : 
   decide_flow : (f : ℕ) → IsFlowAt f ⊎ (¬ IsFlowAt f)
   decide_flow f = some_cases (slice_get (flows_of_need v need) f) (IsFlowAt f ⊎ (¬ IsFlowAt f))
       (λ missing. inr (λ flow. none-some flow.value (sym missing ∙ flow.value_is)))
-      (λ flow there. elim (cases_Bool (meets (requests_on v.buses.items need.unit.bus) (needed need) flow)) [
+      (λ flow there. elim (cases_Bool (meets (requests_on v.buses.items need.unit.bus) (need_on_bus need) flow)) [
         | inr fails ↦ inr (λ other.
             let same : other.value ≡ flow = same_Some _ _ (sym other.value_is ∙ there) in
-            true≢false (sym ((Decides-meets (requests_on v.buses.items need.unit.bus) (needed need) flow).1
+            true≢false (sym ((Decides-meets (requests_on v.buses.items need.unit.bus) (need_on_bus need) flow).1
             (subst (λ (x : FlowPlan). Rattle.j39_findings.specs.Findings.Meets (requests_on v.buses.items need.unit.bus)
-            (needed need) x) same other.meets.meets)) ∙ fails))
+            (need_on_bus need) x) same other.meets.meets)) ∙ fails))
         | inl brings ↦ elim (cases_Bool (is_from_origin v need f)) [
           | inr fails ↦ inr (λ other. true≢false (sym other.meets.from ∙ fails))
           | inl from ↦ inl (record {
             value = flow;
             value_is = there;
-            meets = record { meets = (Decides-meets (requests_on v.buses.items need.unit.bus) (needed need) flow).0 brings; from = from };
+            meets = record { meets = (Decides-meets (requests_on v.buses.items need.unit.bus) (need_on_bus need) flow).0 brings; from = from };
           })
         ]
       ])
@@ -178,8 +178,8 @@ ends_early phase u bit last time by unit order room = omega arith
 
 pub pauses_kept : (v : Vehicle) (delays : Delays) → IsSoundVehicle v delays → AreForwardedPausesKept v delays
 pauses_kept v delays sound seen by at timing flow ms time first last (from, sent) timed its paused known is pauses room =
-    let (bits, delayed, rest) = and_then_some (λ (bits : ℕ). option_and_then (input_at v) (direct_feeder v at)) (delay_at delays at) from sent in
-    let (n, feeder, input) = and_then_some (input_at v) (direct_feeder v at) from rest in
+    let (bits, delayed, rest) = and_then_some (λ (bits : ℕ). option_and_then (first_input_at v) (direct_feeder v at)) (delay_at delays at) from sent in
+    let (n, feeder, input) = and_then_some (first_input_at v) (direct_feeder v at) from rest in
     let whole = seen_vehicle v delays sound seen by is in
     let (silent, silent_is, few) = keeps_rarely v delays sound.paths sound.told sound.times at bits n delayed feeder flow its from input ms paused in
     let ends = is_behind v delays sound.told seen by whole (length v.forwards.items) at time known in
@@ -187,7 +187,7 @@ pauses_kept v delays sound seen by at timing flow ms time first last (from, sent
     source_keeps_on v delays sound.told seen by whole (record { at = at; signal = None }) (time_of (clock_on v seen at.bus) first) pauses
     (record { at = at; signal = None }) itself from silent n feeder input silent_is (length v.forwards.items) time known in
     let unit : 1 ≤ unit_on v at.bus = ends.one.some_unit in
-    let same_unit : unit_on v at.bus ≡ bit_time timing.bitrate = ap (λ (o : Option Timing). option_map_or (λ (t : Timing). bit_time t.bitrate) o 1) timed in
+    let same_unit : unit_on v at.bus ≡ us_of_bit timing.bitrate = ap (λ (o : Option Timing). option_map_or (λ (t : Timing). us_of_bit t.bitrate) o 1) timed in
     let whole_ms : unit_on v at.bus * bits_of_ms timing ms ≡ us_of_ms ms = ap (λ (u : ℕ). u * bits_of_ms timing ms) same_unit ∙ unit_of_ms timing.bitrate ms in
     λ bit low high.
     let order : unit_on v at.bus * first ≤ unit_on v at.bus * bit = mul-le-mul_left (unit_on v at.bus) low in

@@ -18,8 +18,8 @@ use Rattle.j39_vehicle.specs.declared.vehicle.Vehicle.{Vehicle}
 use Rattle.j39_vehicle.specs.declared.vehicle.forward.Forward.{Forward}
 use Rattle.j39_paths.specs.declared.point.FlowAt.{FlowAt}
 use Rattle.j39_ages.specs.BusDelays.{AreDelays, delays_on}
-use Rattle.j39_ages.specs.TimeFindings.{period_of}
-use Rattle.j39_ages.specs.Times.{delay_at, direct_feeder, flow_at, input_at, jitter_of, queued_of, us_of_ms}
+use Rattle.j39_ages.specs.TimeFindings.{period_ms}
+use Rattle.j39_ages.specs.Times.{delay_at, direct_feeder, flow_at, first_input_at, jitter_ms, queued_of, us_of_ms}
 use Rattle.j39_ages.specs.declared.bus_delays.Delays.{Delays}
 use Rattle.j39_age_laws.specs.KeptBuses.{AreKeptBuses, IsToldBus, asked_on}
 use Rattle.j39_age_laws.specs.Prompt.{ArePrompt, HaveOwnMoments, IsSentOn}
@@ -76,15 +76,15 @@ AreOtherwiseKept v delays seen = (b : ℕ) (timing : Timing) (of_bus : IsToldBus
 -- the jitter of a flow that is sent on has room for the time before it is queued, and its messages needn't be further apart than those of the input are
 pub record IsForwardTimely (v : Vehicle) (delays : Delays) (at : FlowAt) (n : Forward) : Type 0 where
   pub input : FlowAt
-  pub input_is : input_at v n ≡ Some input
+  pub input_is : first_input_at v n ≡ Some input
   pub flow : FlowPlan
   pub its : flow_at v.buses.items at ≡ Some flow
   pub queued : ℕ
   pub queued_is : queued_of v delays n ≡ Some queued
-  pub in_jitter : queued ≤ us_of_ms (jitter_of flow)
+  pub in_jitter : queued ≤ us_of_ms (jitter_ms flow)
   pub other : FlowPlan
   pub other_is : flow_at v.buses.items input ≡ Some other
-  pub no_nearer : (p : ℕ) → period_of flow ≡ Some p → (q : ℕ) × (period_of other ≡ Some q) × (p ≤ q)
+  pub no_nearer : (p : ℕ) → period_ms flow ≡ Some p → (q : ℕ) × (period_ms other ≡ Some q) × (p ≤ q)
 
 abbrev pub AreForwardsTimely : Vehicle → Delays → Type 0
 AreForwardsTimely v delays = (at : FlowAt) (bits : ℕ) (n : Forward) → delay_at delays at ≡ Some bits → direct_feeder v at ≡ Some n

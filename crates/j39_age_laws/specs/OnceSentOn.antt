@@ -10,7 +10,7 @@ use Rattle.j39_vehicle.specs.declared.vehicle.forward.Forward.{Forward}
 use Rattle.j39_paths.specs.ForwardTests.{feeds, is_direct}
 use Rattle.j39_paths.specs.declared.point.FlowAt.{FlowAt}
 use Rattle.j39_ages.specs.BusDelays.{AreDelays}
-use Rattle.j39_ages.specs.Times.{direct_feeder, forward_at, input_at, timing_on}
+use Rattle.j39_ages.specs.Times.{direct_feeder, forward_at, first_input_at, timing_on}
 use Rattle.j39_ages.specs.declared.bus_delays.Delays.{Delays}
 use Rattle.j39_age_laws.specs.KeptBuses.{IsToldBus, asked_on}
 use Rattle.j39_age_laws.specs.Prompt.{IsDelayTold, SendsOn}
@@ -29,8 +29,8 @@ pub record IsLoneForward (v : Vehicle) (delays : Delays) (n : ℕ) (forward : Fo
   pub other_bus : x.bus ≢ y.bus
   pub first : direct_feeder v x ≡ None
   pub fed : direct_feeder v y ≡ Some forward
-  pub heard : (m : ℕ) (other : Forward) → forward_at v m ≡ Some other → input_at v other ≡ Some x → m ≡ n
-  pub last : (m : ℕ) (other : Forward) → forward_at v m ≡ Some other → ¬ (input_at v other ≡ Some y)
+  pub heard : (m : ℕ) (other : Forward) → forward_at v m ≡ Some other → first_input_at v other ≡ Some x → m ≡ n
+  pub last : (m : ℕ) (other : Forward) → forward_at v m ≡ Some other → ¬ (first_input_at v other ≡ Some y)
   pub only : (z : FlowAt) → feeds v z forward ≡ true → z ≡ y
   pub alone : (m : ℕ) (other : Forward) → forward_at v m ≡ Some other → feeds v y other ≡ true → m ≡ n
   pub in_order : (b : ℕ) (timing : Timing) (of_bus : IsToldBus v delays b timing) (j : ℕ) → keep_order (planned_at (frames_asked (asked_on of_bus)) j) ≡ true

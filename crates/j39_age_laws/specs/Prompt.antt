@@ -9,7 +9,7 @@ use Rattle.j39_paths.specs.declared.point.FlowAt.{FlowAt}
 use Rattle.j39_paths.specs.declared.point.Point.{Point}
 use Rattle.j39_timing.specs.Gateways.{HasBegun, HasOwnMoments, IsHandedOn, IsIts, end_time, queue_time}
 use Rattle.j39_ages.specs.declared.bus_delays.Delays.{Delays}
-use Rattle.j39_ages.specs.Times.{behind, delay_at, direct_feeder, forward_at, input_at, silent, within_of}
+use Rattle.j39_ages.specs.Times.{behind_at, delay_at, direct_feeder, forward_at, first_input_at, silent, within_of}
 use Rattle.j39_age_laws.specs.Seen.{SeenBuses, frames_at}
 
 -- a delay is told of the flow: each of its messages goes in one frame
@@ -25,10 +25,10 @@ pub record LeadsTo (v : Vehicle) (n : ℕ) (x : FlowAt) (s : Option ℕ) (y : Fl
 pub record SendsOn (v : Vehicle) (n : ℕ) (forward : Forward) (x y : FlowAt) (within : ℕ) : Type 0 where
   pub its : forward_at v n ≡ Some forward
   pub output : feeds v y forward ≡ true
-  pub input : input_at v forward ≡ Some x
+  pub input : first_input_at v forward ≡ Some x
   pub promised : within_of forward ≡ Some within
 
--- each message of the output is one of the input, sent on at most `within` behind its end; each of the input that ends is sent on; and what is
+-- each message of the output is one of the input, sent on at most `within` behind_at its end; each of the input that ends is sent on; and what is
 -- said of a signal is what was said of the one that goes into it
 pub record IsSentDirectly (v : Vehicle) (seen : SeenBuses) (n : ℕ) (x y : FlowAt) (within : ℕ) : Type 0 where
   pub handed : IsHandedOn (frames_at v seen x) (frames_at v seen y) within
@@ -49,11 +49,11 @@ pub record ArePrompt (v : Vehicle) (delays : Delays) (seen : SeenBuses) : Type 0
   pub direct : (n : ℕ) (forward : Forward) (x y : FlowAt) (within : ℕ) → SendsOn v n forward x y within → is_direct forward ≡ true
       → IsDelayTold delays x → IsDelayTold delays y → IsSentDirectly v seen n x y within
   pub periodic : (n : ℕ) (forward : Forward) (x y : FlowAt) (within pause time : ℕ) → SendsOn v n forward x y within → is_direct forward ≡ false
-      → silent v x ≡ Some pause → behind v delays x ≡ Some time → IsSentAtItsBeat v seen n x y within (pause + (time + within))
+      → silent v x ≡ Some pause → behind_at v delays x ≡ Some time → IsSentAtItsBeat v seen n x y within (pause + (time + within))
 
 -- the flow that a direct forward takes for its input, for a flow of which a delay is told: each of its messages goes in one frame
 abbrev pub sent_from : Vehicle → Delays → FlowAt → Option FlowAt
-sent_from v delays at = option_and_then (λ (bits : ℕ). option_and_then (input_at v) (direct_feeder v at)) (delay_at delays at)
+sent_from v delays at = option_and_then (λ (bits : ℕ). option_and_then (first_input_at v) (direct_feeder v at)) (delay_at delays at)
 
 abbrev pub IsSentOn : Vehicle → Delays → FlowAt → Type 0
 IsSentOn v delays at = (from : FlowAt) × (sent_from v delays at ≡ Some from)

@@ -8,7 +8,7 @@ use Rattle.j39_timing.specs.AnyOrder.{Controllers}
 use Rattle.j39_timing.specs.FrameStreams.{Origins}
 use Rattle.j39_timing.specs.Gateways.{Carrier, Clock}
 use Rattle.j39_timing.specs.TimedFrames.{Schedule}
-use Rattle.j39_ages.specs.Times.{bit_time, timing_on}
+use Rattle.j39_ages.specs.Times.{us_of_bit, timing_on}
 
 -- times that buses have in common are in microseconds
 pub record SeenBus : Type 0 where
@@ -30,7 +30,7 @@ SeenBuses = ℕ → SeenBus
 
 -- the microseconds that a bit of the bus takes, where its plan has timing
 abbrev pub unit_on : Vehicle → ℕ → ℕ
-unit_on v b = option_map_or (λ (timing : Timing). bit_time timing.bitrate) (timing_on v.buses.items b) 1
+unit_on v b = option_map_or (λ (timing : Timing). us_of_bit timing.bitrate) (timing_on v.buses.items b) 1
 
 abbrev pub clock_on : Vehicle → SeenBuses → ℕ → Clock
 clock_on v seen b = record { phase = (seen b).phase; unit = unit_on v b }

@@ -16,7 +16,7 @@ use Rattle.j39_paths.specs.declared.point.FlowAt.{FlowAt}
 use Rattle.j39_paths.specs.declared.point.Point.{Point}
 use Rattle.j39_ages.specs.BusDelays.{AreDelays}
 use Rattle.j39_ages.specs.TimeFindings.{AreTimeFindings}
-use Rattle.j39_ages.specs.Times.{age, behind, flow_at, timing_on, us_of_ms}
+use Rattle.j39_ages.specs.Times.{age, behind_at, flow_at, timing_on, us_of_ms}
 use Rattle.j39_ages.specs.declared.bus_delays.Delays.{Delays}
 use Rattle.j39_age_laws.specs.ForwardedStreams.{AreOtherwiseKept}
 use Rattle.j39_age_laws.specs.KeptBuses.{AreSeenUntil}
@@ -68,7 +68,7 @@ AreVehicleNeedsKept v delays = (d : ℕ) (need : VehicleNeed) (within : ℕ) →
 abbrev pub AreForwardedPausesKept : Vehicle → Delays → Type 0
 AreForwardedPausesKept v delays = (seen : SeenBuses) (by : ℕ) (at : FlowAt) (timing : Timing) (flow : FlowPlan) (ms time first last : ℕ)
     → IsSentOn v delays at → timing_on v.buses.items at.bus ≡ Some timing → flow_at v.buses.items at ≡ Some flow → flow.pause ≡ Some ms
-    → behind v delays at ≡ Some time → IsPromptVehicle v delays seen by → KeepPauses v seen (record { at = at; signal = None }) (time_of
+    → behind_at v delays at ≡ Some time → IsPromptVehicle v delays seen by → KeepPauses v seen (record { at = at; signal = None }) (time_of
     (clock_on v seen at.bus) first) by
     → time_of (clock_on v seen at.bus) (last + 1) + time ≤ by
     → KeepsComing (seen at.bus).schedule (seen at.bus).planned (seen at.bus).of at.flow (bits_of_ms timing ms) first last

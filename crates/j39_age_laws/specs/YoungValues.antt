@@ -10,7 +10,7 @@ use Rattle.j39_paths.specs.declared.point.Point.{Point}
 use Rattle.j39_timing.specs.Gateways.{HasBegun, IsIts, end_time}
 use Rattle.j39_ages.specs.BusDelays.{AreDelays}
 use Rattle.j39_ages.specs.declared.bus_delays.Delays.{Delays}
-use Rattle.j39_ages.specs.Times.{age, direct_feeder, input_at, pause_of, unasked_at}
+use Rattle.j39_ages.specs.Times.{age, direct_feeder, first_input_at, pause_us, unasked_at}
 use Rattle.j39_age_laws.specs.KeptBuses.{AreKeptBuses, AreSeenUntil}
 use Rattle.j39_age_laws.specs.Prompt.{ArePrompt, HaveOwnMoments, SayWhatIsSo}
 use Rattle.j39_age_laws.specs.Seen.{SeenBuses, frames_at}
@@ -23,11 +23,11 @@ pub data IsOnTheWay (v : Vehicle) (p : Point) : Point → Type 0 where
 -- messages of the first flow are those of the other one, sent on directly, or their own
 pub data ComesDirectly (v : Vehicle) (at : FlowAt) : FlowAt → Type 0 where
   by_itself : ComesDirectly v at at
-  sent_on : (x y : FlowAt) (n : Forward) → ComesDirectly v at y → direct_feeder v y ≡ Some n → input_at v n ≡ Some x → ComesDirectly v at x
+  sent_on : (x y : FlowAt) (n : Forward) → ComesDirectly v at y → direct_feeder v y ≡ Some n → first_input_at v n ≡ Some x → ComesDirectly v at x
 
 -- the longest time between two moments of a flow, as its own plan has it
 abbrev pub pause_at : Vehicle → FlowAt → Option ℕ
-pause_at v at = option_and_then pause_of (unasked_at v at)
+pause_at v at = option_and_then pause_us (unasked_at v at)
 
 -- from one time to another, a message of the flow has had its moment less than its pause ago
 abbrev pub KeepsItsPause : Vehicle → SeenBuses → FlowAt → ℕ → ℕ → Type 0

@@ -18,17 +18,17 @@ use Rattle.j39_vehicle.specs.declared.vehicle.forward.Forward.{Forward}
 use Rattle.j39_vehicle.specs.declared.vehicle.vehicle_need.VehicleNeed.{VehicleNeed}
 use Rattle.j39_paths.specs.Buses.{groups_on, requests_on}
 use Rattle.j39_paths.specs.FoundPaths.{is_need_flow}
-use Rattle.j39_paths.specs.Forwards.{IsDirect}
+use Rattle.j39_paths.specs.ForwardEnds.{IsDirect}
 use Rattle.j39_paths.specs.ForwardTests.{is_direct}
-use Rattle.j39_paths.specs.Traces.{IsNeedFlow, flows_of_need, is_from_origin, needed, point_on}
+use Rattle.j39_paths.specs.Traces.{IsNeedFlow, flows_of_need, is_from_origin, need_on_bus, point_on}
 use Rattle.j39_paths.specs.declared.point.FlowAt.{FlowAt}
 use Rattle.j39_paths.proofs.Deciding.{Decides-is_direct}
 use Rattle.j39_ages.specs.declared.bus_delays.Delays.{Delays}
 use Rattle.j39_ages.specs.declared.ends.Ends.{Ends}
 use Rattle.j39_ages.specs.declared.needs.NeedFlow.{NeedFlow}
-use Rattle.j39_ages.specs.TimeFindings.{IsDirectBetween, IsNearer, IsNeedTooOld, IsTooLate, IsTooOften, IsTooRare, IsUnlimited, IsWithin, IsYoungFlow, deadline_of, first_output, period_of}
-use Rattle.j39_ages.specs.FoundTimes.{direct_ends, ends_of, flow_of_need, is_long, is_nearer, is_need_too_old, is_older, is_timed_bus, is_to_all, is_too_late, is_too_often, is_too_rare, is_unlimited, is_within, need_flow_at, need_flows_at}
-use Rattle.j39_ages.specs.Times.{age, flow_at, input_at, jitter_of, queued_of, silent, timing_on, us_of_ms}
+use Rattle.j39_ages.specs.TimeFindings.{IsDirectBetween, IsNearer, IsNeedTooOld, IsTooLate, IsTooOften, IsTooRare, IsUnlimited, IsKnownWithin, IsYoungFlow, written_deadline, first_output, period_ms}
+use Rattle.j39_ages.specs.FoundTimes.{direct_ends, ends_of, flow_of_need, is_long, is_nearer, is_need_too_old, is_older, is_timed_bus, goes_to_all, is_too_late, is_too_often, is_too_rare, is_unlimited, is_known_within, need_flow_at, need_flows_at}
+use Rattle.j39_ages.specs.Times.{age, flow_at, first_input_at, jitter_ms, queued_of, silent, timing_on, us_of_ms}
 use Rattle.j39_ages.proofs.Youngest.{IsLeast, youngest_among, youngest_least, youngest_some}
 
 leb_decides : (a b : ℕ) → Decides (nat_le a b) (a ≤ b)
@@ -55,7 +55,7 @@ none_decides : {A : Type 0} (o : Option A) → Decides (not (option_map_or (λ x
 none_decides None = (λ e. refl, λ e. refl)
 none_decides (Some x) = (λ e. absurd (false≢true e), λ e. absurd (none-some _ (sym e)))
 
-within_decides : (most : ℕ) (o : Option ℕ) → Decides (is_within most o) (IsWithin most o)
+within_decides : (most : ℕ) (o : Option ℕ) → Decides (is_known_within most o) (IsKnownWithin most o)
 within_decides most o = some_decides (λ n. n ≤ most) (λ n. leb_decides n most) o
 
 -- ---- direct forwards
@@ -74,7 +74,7 @@ of_if false o a is = absurd (none-some _ is)
 
 -- the ends of a forward
 record HasEnds (v : Vehicle) (n : Forward) (ends : Ends) : Type 0 where
-  pub at : input_at v n ≡ Some ends.at
+  pub at : first_input_at v n ≡ Some ends.at
   pub input : flow_at v.buses.items ends.at ≡ Some ends.input
   pub output : first_output v n ≡ Some ends.output
 
@@ -86,7 +86,7 @@ with_input v n at = option_and_then (with_output v n at) (flow_at v.buses.items 
 
 ends_told : (v : Vehicle) (n : Forward) (ends : Ends) → ends_of v n ≡ Some ends → HasEnds v n ends
 ends_told v n ends is =
-    let a = of_and_then (with_input v n) (input_at v n) ends is in
+    let a = of_and_then (with_input v n) (first_input_at v n) ends is in
     let i = of_and_then (with_output v n a.0) (flow_at v.buses.items a.0) ends a.2 in
     let f = of_map (λ (f : FlowPlan). record { at = a.0; input = i.0; output = f }) (first_output v n) ends i.2 in
     let same_at : a.0 ≡ ends.at = ap (λ (e : Ends). e.at) f.2 in
@@ -134,8 +134,8 @@ between_decides v n P by =
 
 nearer_decides : (i f : FlowPlan) → Decides (is_nearer i f) (IsNearer i f)
 nearer_decides i f =
-    some_decides (λ p. ¬ ((q : ℕ) × (period_of i ≡ Some q) × (p ≤ q)))
-    (λ p. Decides-not _ (some_decides (λ q. p ≤ q) (λ q. leb_decides p q) (period_of i))) (period_of f)
+    some_decides (λ p. ¬ ((q : ℕ) × (period_ms i ≡ Some q) × (p ≤ q)))
+    (λ p. Decides-not _ (some_decides (λ q. p ≤ q) (λ q. leb_decides p q) (period_ms i))) (period_ms f)
 
 pub Decides-is_too_often : (v : Vehicle) (n : Forward) → Decides (is_too_often v n) (IsTooOften v n)
 Decides-is_too_often v n =
@@ -143,7 +143,7 @@ Decides-is_too_often v n =
     (λ ends. Decides-or _ _ (nearer_decides ends.input ends.output)
     (Decides-and _ _ (it_is ends.output.on_request) (it_isnt ends.input.on_request)))
 
-to_all_decides : (to : To) → Decides (is_to_all to) (to ≡ All)
+to_all_decides : (to : To) → Decides (goes_to_all to) (to ≡ All)
 to_all_decides All = (λ e. refl, λ e. refl)
 to_all_decides (One u) = (λ e. absurd (false≢true e), λ e. cc)
 
@@ -156,18 +156,18 @@ unlimited_decides : (v : Vehicle) (n : Forward) (f : FlowPlan) → Decides (is_u
 unlimited_decides v n f =
     Decides-like _ (λ h. record { to = h.0; limit = h.1.0; long = h.1.1 }) (λ m. (m.to, (m.limit, m.long)))
     (Decides-and _ _ (to_all_decides f.to)
-    (Decides-and _ _ (none_decides (deadline_of f)) (long_decides (groups_on v.buses.items n.output.bus) f.group)))
+    (Decides-and _ _ (none_decides (written_deadline f)) (long_decides (groups_on v.buses.items n.output.bus) f.group)))
 
 pub Decides-is_too_late : (v : Vehicle) (delays : Delays) (n : Forward) → Decides (is_too_late v delays n) (IsTooLate v delays n)
 Decides-is_too_late v delays n =
-    between_decides v n (λ ends. (¬ IsUnlimited v n ends.output) × (¬ IsWithin (us_of_ms (jitter_of ends.output)) (queued_of v delays n)))
+    between_decides v n (λ ends. (¬ IsUnlimited v n ends.output) × (¬ IsKnownWithin (us_of_ms (jitter_ms ends.output)) (queued_of v delays n)))
     (λ ends. Decides-and _ _ (Decides-not _ (unlimited_decides v n ends.output))
-    (Decides-not _ (within_decides (us_of_ms (jitter_of ends.output)) (queued_of v delays n))))
+    (Decides-not _ (within_decides (us_of_ms (jitter_ms ends.output)) (queued_of v delays n))))
 
 pub Decides-is_too_rare : (v : Vehicle) (n : Forward) → Decides (is_too_rare v n) (IsTooRare v n)
 Decides-is_too_rare v n =
-    between_decides v n (λ ends. (ms : ℕ) × (ends.output.pause ≡ Some ms) × (¬ IsWithin (us_of_ms ms) (silent v ends.at)))
-    (λ ends. some_decides (λ ms. ¬ IsWithin (us_of_ms ms) (silent v ends.at))
+    between_decides v n (λ ends. (ms : ℕ) × (ends.output.pause ≡ Some ms) × (¬ IsKnownWithin (us_of_ms ms) (silent v ends.at)))
+    (λ ends. some_decides (λ ms. ¬ IsKnownWithin (us_of_ms ms) (silent v ends.at))
     (λ ms. Decides-not _ (within_decides (us_of_ms ms) (silent v ends.at))) ends.output.pause)
 
 -- ---- needs
@@ -175,7 +175,7 @@ Decides-is_too_rare v n =
 need_flow_decides : (v : Vehicle) (d : VehicleNeed) (f : ℕ) (flow : FlowPlan) → Decides (is_need_flow v d f flow) (IsNeedFlow v d f flow)
 need_flow_decides v d f flow =
     Decides-like _ (λ h. record { meets = h.0; from = h.1 }) (λ m. (m.meets, m.from))
-    (Decides-and _ _ (Decides-meets (requests_on v.buses.items d.unit.bus) (needed d) flow) (it_is (is_from_origin v d f)))
+    (Decides-and _ _ (Decides-meets (requests_on v.buses.items d.unit.bus) (need_on_bus d) flow) (it_is (is_from_origin v d f)))
 
 abbrev IsFlowOf : Vehicle → VehicleNeed → ℕ → Type 0
 IsFlowOf v d f = ValueAt (IsNeedFlow v d f) (flows_of_need v d) f
@@ -216,23 +216,23 @@ some_or_none (Some a) = inr (a, refl)
 abbrev IsOlder : Vehicle → Delays → VehicleNeed → ℕ → Type 0
 IsOlder v delays d ms = ((f : ℕ) × IsFlowOf v d f) × ((f : ℕ) → ¬ IsYoungFlow v delays d (us_of_ms ms) f)
 
-least_within : (most : ℕ) (r : Option ℕ) (a : ℕ) → a ≤ most → IsLeast r a → IsWithin most r
+least_within : (most : ℕ) (r : Option ℕ) (a : ℕ) → a ≤ most → IsLeast r a → IsKnownWithin most r
 least_within most r a less least = let low = least.less in (least.age, least.age_is, omega arith)
 
 none_younger : (v : Vehicle) (delays : Delays) (d : VehicleNeed) (most : ℕ) (r : NeedFlow) → flow_of_need v delays d ≡ Some r
-    → ¬ IsWithin most r.age → (f : ℕ) → ¬ IsYoungFlow v delays d most f
+    → ¬ IsKnownWithin most r.age → (f : ℕ) → ¬ IsYoungFlow v delays d most f
 none_younger v delays d most r is older f young =
     let a = young.age in
     older (least_within most r.age a.0 a.2
     (youngest_least (flows_told v delays d) r (need_flow_at v delays d f) a.0 is (told_flow v delays d f young.flow) a.1))
 
 older_from : (v : Vehicle) (delays : Delays) (d : VehicleNeed) (ms : ℕ) → IsOlder v delays d ms
-    → (r : NeedFlow) × (flow_of_need v delays d ≡ Some r) × (¬ IsWithin (us_of_ms ms) r.age)
+    → (r : NeedFlow) × (flow_of_need v delays d ≡ Some r) × (¬ IsKnownWithin (us_of_ms ms) r.age)
 older_from v delays d ms h = elim (some_or_none (flow_of_need v delays d)) [
   | inl none ↦ absurd (youngest_some (flows_told v delays d) (need_flow_at v delays d h.0.0) (told_flow v delays d h.0.0 h.0.1) none)
   | inr (r, is) ↦
       let told = flow_told v delays d r (youngest_among (flows_told v delays d) r is) in
-      (r, is, λ within. h.1 r.flow (record { flow = told.flow; age = subst (IsWithin (us_of_ms ms)) told.age within }))
+      (r, is, λ within. h.1 r.flow (record { flow = told.flow; age = subst (IsKnownWithin (us_of_ms ms)) told.age within }))
 ]
 
 older_decides : (v : Vehicle) (delays : Delays) (d : VehicleNeed) (ms : ℕ) → Decides (is_older v delays d ms) (IsOlder v delays d ms)
@@ -243,7 +243,7 @@ older_decides v delays d ms =
       none_younger v delays d (us_of_ms ms) h.0 h.1 h.2,
     ))
     (older_from v delays d ms)
-    (some_decides (λ (told : NeedFlow). ¬ IsWithin (us_of_ms ms) told.age) (λ told. Decides-not _ (within_decides (us_of_ms ms) told.age))
+    (some_decides (λ (told : NeedFlow). ¬ IsKnownWithin (us_of_ms ms) told.age) (λ told. Decides-not _ (within_decides (us_of_ms ms) told.age))
     (flow_of_need v delays d))
 
 pub Decides-is_need_too_old : (v : Vehicle) (delays : Delays) (d : VehicleNeed) → Decides (is_need_too_old v delays d) (IsNeedTooOld v delays d)

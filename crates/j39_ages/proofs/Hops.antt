@@ -10,7 +10,7 @@ use Rattle.j39_paths.specs.Traces.{goes_on, next_forward}
 use Rattle.j39_paths.specs.declared.point.FlowAt.{FlowAt}
 use Rattle.j39_paths.specs.declared.point.Point.{Point}
 use Rattle.j39_ages.specs.declared.bus_delays.Delays.{Delays}
-use Rattle.j39_ages.specs.Times.{age_with, behind, behind_by, behind_moment, direct_feeder, forward_at, input_at, old_behind, old_by, own, pause_of, queued_behind, silent, silent_by, sum_known, timing_on, unasked_at, within_of}
+use Rattle.j39_ages.specs.Times.{age_with, behind_at, behind_by, behind_moment, direct_feeder, forward_at, first_input_at, old_behind, old_by, own, pause_us, queued_behind, silent, silent_by, sum_known, timing_on, unasked_at, within_of}
 use Rattle.j39_ages.specs.inside.Aging.{aged_by, aged_of, ends_here}
 use Rattle.j39_ages.proofs.Sums.{sum_more, sum_none, sum_swap, sum_swapped, sum_turned, sum_zero}
 
@@ -20,7 +20,7 @@ one_more n i less = omega arith
 less_none : (n : ℕ) → n - 0 ≡ n
 less_none n = omega arith
 
--- ---- behind
+-- ---- behind_at
 
 pub behind_here : (v : Vehicle) (delays : Delays) (steps : ℕ) (at : FlowAt) → direct_feeder v at ≡ None
     → behind_by v delays steps at ≡ behind_moment v delays at
@@ -38,18 +38,18 @@ behind_step v delays steps at n some =
 -- with what the forward heard, and how long it and what it sends take
 behind_hop : (v : Vehicle) (delays : Delays) (steps : ℕ) (at : FlowAt) (n : Forward) → direct_feeder v at ≡ Some n
     → behind_by v delays (suc steps) at
-    ≡ sum_known (sum_known (within_of n) (own v delays at)) (option_and_then (behind_by v delays steps) (input_at v n))
+    ≡ sum_known (sum_known (within_of n) (own v delays at)) (option_and_then (behind_by v delays steps) (first_input_at v n))
 behind_hop v delays steps at n some =
-    behind_step v delays steps at n some ∙ sum_turned (option_and_then (behind_by v delays steps) (input_at v n)) (within_of n) (own v delays at)
+    behind_step v delays steps at n some ∙ sum_turned (option_and_then (behind_by v delays steps) (first_input_at v n)) (within_of n) (own v delays at)
 
 pub behind_further : (v : Vehicle) (delays : Delays) (all i hops hop : ℕ) (at source : FlowAt) (n : Forward) → i < all → direct_feeder v at ≡ Some n
-    → sum_known (within_of n) (own v delays at) ≡ Some hop → input_at v n ≡ Some source
+    → sum_known (within_of n) (own v delays at) ≡ Some hop → first_input_at v n ≡ Some source
     → sum_known (Some (hops + hop)) (behind_by v delays (all - (i + 1)) source) ≡ sum_known (Some hops) (behind_by v delays (all - i) at)
 behind_further v delays all i hops hop at source n less some takes from =
     let k = all - (i + 1) in
     sym (ap (λ m. sum_known (Some hops) (behind_by v delays m at)) (one_more all i less)
     ∙ ap (sum_known (Some hops)) (behind_hop v delays k at n some)
-    ∙ ap (λ h. sum_known (Some hops) (sum_known h (option_and_then (behind_by v delays k) (input_at v n)))) takes
+    ∙ ap (λ h. sum_known (Some hops) (sum_known h (option_and_then (behind_by v delays k) (first_input_at v n)))) takes
     ∙ ap (λ s. sum_known (Some hops) (sum_known (Some hop) (option_and_then (behind_by v delays k) s))) from
     ∙ sum_more hops hop (behind_by v delays k source))
 
@@ -59,10 +59,10 @@ behind_without_hop v delays all i hops at n less some none =
     let k = all - (i + 1) in
     ap (λ m. sum_known (Some hops) (behind_by v delays m at)) (one_more all i less)
     ∙ ap (sum_known (Some hops)) (behind_hop v delays k at n some)
-    ∙ ap (λ h. sum_known (Some hops) (sum_known h (option_and_then (behind_by v delays k) (input_at v n)))) none
+    ∙ ap (λ h. sum_known (Some hops) (sum_known h (option_and_then (behind_by v delays k) (first_input_at v n)))) none
 
 pub behind_without_input : (v : Vehicle) (delays : Delays) (all i hops : ℕ) (at : FlowAt) (n : Forward) → i < all → direct_feeder v at ≡ Some n
-    → input_at v n ≡ None → sum_known (Some hops) (behind_by v delays (all - i) at) ≡ None
+    → first_input_at v n ≡ None → sum_known (Some hops) (behind_by v delays (all - i) at) ≡ None
 behind_without_input v delays all i hops at n less some none =
     let k = all - (i + 1) in
     let hop = sum_known (within_of n) (own v delays at) in
@@ -78,37 +78,37 @@ behind_first v delays all at = ap (λ k. sum_known (Some 0) (behind_by v delays 
 -- ---- silent
 
 pub silent_here : (v : Vehicle) (steps : ℕ) (at : FlowAt) (flow : FlowPlan) → unasked_at v at ≡ Some flow → direct_feeder v at ≡ None
-    → silent_by v steps at ≡ pause_of flow
+    → silent_by v steps at ≡ pause_us flow
 unfolding silent_by
 silent_here v zero at flow is none =
-    ap (λ o. option_and_then (λ f. option_map_or (λ n. None) (direct_feeder v at) (pause_of f)) o) is
-    ∙ ap (λ d. option_map_or (λ n. None) d (pause_of flow)) none
+    ap (λ o. option_and_then (λ f. option_map_or (λ n. None) (direct_feeder v at) (pause_us f)) o) is
+    ∙ ap (λ d. option_map_or (λ n. None) d (pause_us flow)) none
 silent_here v (suc steps) at flow is none =
-    ap (λ o. option_and_then (λ f. option_map_or (λ n. option_and_then (silent_by v steps) (input_at v n)) (direct_feeder v at) (pause_of f)) o) is
-    ∙ ap (λ d. option_map_or (λ n. option_and_then (silent_by v steps) (input_at v n)) d (pause_of flow)) none
+    ap (λ o. option_and_then (λ f. option_map_or (λ n. option_and_then (silent_by v steps) (first_input_at v n)) (direct_feeder v at) (pause_us f)) o) is
+    ∙ ap (λ d. option_map_or (λ n. option_and_then (silent_by v steps) (first_input_at v n)) d (pause_us flow)) none
 
 pub silent_unknown : (v : Vehicle) (steps : ℕ) (at : FlowAt) → unasked_at v at ≡ None → silent_by v steps at ≡ None
 unfolding silent_by
 silent_unknown v zero at none =
-    ap (λ o. option_and_then (λ f. option_map_or (λ n. None) (direct_feeder v at) (pause_of f)) o) none
+    ap (λ o. option_and_then (λ f. option_map_or (λ n. None) (direct_feeder v at) (pause_us f)) o) none
 silent_unknown v (suc steps) at none =
-    ap (λ o. option_and_then (λ f. option_map_or (λ n. option_and_then (silent_by v steps) (input_at v n)) (direct_feeder v at) (pause_of f)) o) none
+    ap (λ o. option_and_then (λ f. option_map_or (λ n. option_and_then (silent_by v steps) (first_input_at v n)) (direct_feeder v at) (pause_us f)) o) none
 
 silent_step : (v : Vehicle) (steps : ℕ) (at : FlowAt) (flow : FlowPlan) (n : Forward) → unasked_at v at ≡ Some flow → direct_feeder v at ≡ Some n
-    → silent_by v (suc steps) at ≡ option_and_then (silent_by v steps) (input_at v n)
+    → silent_by v (suc steps) at ≡ option_and_then (silent_by v steps) (first_input_at v n)
 unfolding silent_by
 silent_step v steps at flow n is some =
-    ap (λ o. option_and_then (λ f. option_map_or (λ n. option_and_then (silent_by v steps) (input_at v n)) (direct_feeder v at) (pause_of f)) o) is
-    ∙ ap (λ d. option_map_or (λ n. option_and_then (silent_by v steps) (input_at v n)) d (pause_of flow)) some
+    ap (λ o. option_and_then (λ f. option_map_or (λ n. option_and_then (silent_by v steps) (first_input_at v n)) (direct_feeder v at) (pause_us f)) o) is
+    ∙ ap (λ d. option_map_or (λ n. option_and_then (silent_by v steps) (first_input_at v n)) d (pause_us flow)) some
 
 pub silent_further : (v : Vehicle) (all i : ℕ) (at source : FlowAt) (flow : FlowPlan) (n : Forward) → i < all → unasked_at v at ≡ Some flow
-    → direct_feeder v at ≡ Some n → input_at v n ≡ Some source → silent_by v (all - (i + 1)) source ≡ silent_by v (all - i) at
+    → direct_feeder v at ≡ Some n → first_input_at v n ≡ Some source → silent_by v (all - (i + 1)) source ≡ silent_by v (all - i) at
 silent_further v all i at source flow n less is some from =
     sym (ap (λ m. silent_by v m at) (one_more all i less) ∙ silent_step v (all - (i + 1)) at flow n is some
     ∙ ap (option_and_then (silent_by v (all - (i + 1)))) from)
 
 pub silent_without_input : (v : Vehicle) (all i : ℕ) (at : FlowAt) (flow : FlowPlan) (n : Forward) → i < all → unasked_at v at ≡ Some flow
-    → direct_feeder v at ≡ Some n → input_at v n ≡ None → silent_by v (all - i) at ≡ None
+    → direct_feeder v at ≡ Some n → first_input_at v n ≡ None → silent_by v (all - i) at ≡ None
 silent_without_input v all i at flow n less is some none =
     ap (λ m. silent_by v m at) (one_more all i less) ∙ silent_step v (all - (i + 1)) at flow n is some
     ∙ ap (option_and_then (silent_by v (all - (i + 1)))) none
@@ -124,7 +124,7 @@ at_forward : (v : Vehicle) (delays : Delays) (at : FlowAt) (old : Option ℕ) (n
     → option_map_or (λ forward. if is_direct forward then old else sum_known (age_with v delays at old) (within_of forward)) n None
     ≡ sum_known (option_map_or (aged_of v delays at) n None) old
 at_forward v delays at old None = refl
-at_forward v delays at old (Some n) = by_mode (is_direct n) old (sum_known (silent v at) (behind v delays at)) (within_of n)
+at_forward v delays at old (Some n) = by_mode (is_direct n) old (sum_known (silent v at) (behind_at v delays at)) (within_of n)
 
 aged_from : (v : Vehicle) (delays : Delays) (n : ℕ) (at : FlowAt) (old : Option ℕ)
     → old_behind v delays n at old ≡ sum_known (aged_by v delays n at) old

@@ -21,18 +21,18 @@ use Rattle.j39_ages.specs.declared.ends.Ends.{Ends}
 use Rattle.j39_ages.specs.declared.finding.TimeFinding.{TimeFinding}
 use Rattle.j39_ages.specs.declared.finding.TimeFinding.TheVariants.{TooOften, TooLate, TooRare, NeedTooOld}
 use Rattle.j39_ages.specs.declared.needs.NeedFlow.{NeedFlow}
-use Rattle.j39_ages.specs.TimeFindings.{deadline_of, first_output, period_of}
-use Rattle.j39_ages.specs.Times.{age, flow_at, forward_at, input_at, jitter_of, queued_of, silent, timing_on, us_of_ms}
+use Rattle.j39_ages.specs.TimeFindings.{written_deadline, first_output, period_ms}
+use Rattle.j39_ages.specs.Times.{age, flow_at, forward_at, first_input_at, jitter_ms, queued_of, silent, timing_on, us_of_ms}
 
-abbrev pub is_within : ℕ → Option ℕ → Bool
-is_within most number = option_map_or (λ n. nat_le n most) number false
+abbrev pub is_known_within : ℕ → Option ℕ → Bool
+is_known_within most number = option_map_or (λ n. nat_le n most) number false
 
 -- ---- direct forwards
 
 -- the first input and the first output, where there are both
 abbrev pub ends_of : Vehicle → Forward → Option Ends
 ends_of v n = option_and_then (λ at. option_and_then (λ i. option_map (λ f. record { at = at; input = i; output = f }) (first_output v n))
-    (flow_at v.buses.items at)) (input_at v n)
+    (flow_at v.buses.items at)) (first_input_at v n)
 
 abbrev pub is_timed_bus : Vehicle → ℕ → Bool
 is_timed_bus v b = option_map_or (λ (timing : Timing). true) (timing_on v.buses.items b) false
@@ -42,10 +42,10 @@ abbrev pub direct_ends : Vehicle → Forward → Option Ends
 direct_ends v n = if is_direct n && is_timed_bus v n.output.bus then ends_of v n else None
 
 abbrev pub has_such_a_period : FlowPlan → ℕ → Bool
-has_such_a_period i p = option_map_or (λ q. nat_le p q) (period_of i) false
+has_such_a_period i p = option_map_or (λ q. nat_le p q) (period_ms i) false
 
 abbrev pub is_nearer : FlowPlan → FlowPlan → Bool
-is_nearer i f = option_map_or (λ p. not (has_such_a_period i p)) (period_of f) false
+is_nearer i f = option_map_or (λ p. not (has_such_a_period i p)) (period_ms f) false
 
 abbrev pub is_more_often : FlowPlan → FlowPlan → Bool
 is_more_often i f = is_nearer i f || (f.on_request && not i.on_request)
@@ -53,18 +53,18 @@ is_more_often i f = is_nearer i f || (f.on_request && not i.on_request)
 abbrev pub is_too_often : Vehicle → Forward → Bool
 is_too_often v n = option_map_or (λ (ends : Ends). is_more_often ends.input ends.output) (direct_ends v n) false
 
-abbrev pub is_to_all : To → Bool
-is_to_all All = true
-is_to_all (One v) = false
+abbrev pub goes_to_all : To → Bool
+goes_to_all All = true
+goes_to_all (One v) = false
 
 abbrev pub has_deadline : FlowPlan → Bool
-has_deadline f = option_map_or (λ (ms : ℕ). true) (deadline_of f) false
+has_deadline f = option_map_or (λ (ms : ℕ). true) (written_deadline f) false
 
 abbrev pub is_long : List GroupPlan → ℕ → Bool
 is_long groups g = option_map_or (λ (group : GroupPlan). nat_lt 8 group.length) (slice_get groups g) false
 
 abbrev pub is_unlimited : Vehicle → Forward → FlowPlan → Bool
-is_unlimited v n f = is_to_all f.to && (not (has_deadline f) && is_long (groups_on v.buses.items n.output.bus) f.group)
+is_unlimited v n f = goes_to_all f.to && (not (has_deadline f) && is_long (groups_on v.buses.items n.output.bus) f.group)
 
 abbrev pub is_asked : Vehicle → Forward → FlowPlan → Bool
 is_asked v n f = not (is_unlimited v n f)
@@ -76,13 +76,13 @@ abbrev pub is_late_asked : Vehicle → ℕ → Bool
 is_late_asked v n = option_map_or (is_late_asked_of v) (forward_at v n) false
 
 abbrev pub is_later : Vehicle → Delays → Forward → FlowPlan → Bool
-is_later v delays n f = is_asked v n f && not (is_within (us_of_ms (jitter_of f)) (queued_of v delays n))
+is_later v delays n f = is_asked v n f && not (is_known_within (us_of_ms (jitter_ms f)) (queued_of v delays n))
 
 abbrev pub is_too_late : Vehicle → Delays → Forward → Bool
 is_too_late v delays n = option_map_or (λ (ends : Ends). is_later v delays n ends.output) (direct_ends v n) false
 
 abbrev pub is_rarer : Vehicle → FlowAt → FlowPlan → Bool
-is_rarer v at f = option_map_or (λ ms. not (is_within (us_of_ms ms) (silent v at))) f.pause false
+is_rarer v at f = option_map_or (λ ms. not (is_known_within (us_of_ms ms) (silent v at))) f.pause false
 
 abbrev pub is_too_rare : Vehicle → Forward → Bool
 is_too_rare v n = option_map_or (λ (ends : Ends). is_rarer v ends.at ends.output) (direct_ends v n) false
@@ -118,7 +118,7 @@ abbrev pub flow_of_need : Vehicle → Delays → VehicleNeed → Option NeedFlow
 flow_of_need v delays d = youngest (in_each (need_flows_at v delays d) 0 (flows_of_need v d))
 
 abbrev pub is_older : Vehicle → Delays → VehicleNeed → ℕ → Bool
-is_older v delays d ms = option_map_or (λ (told : NeedFlow). not (is_within (us_of_ms ms) told.age)) (flow_of_need v delays d) false
+is_older v delays d ms = option_map_or (λ (told : NeedFlow). not (is_known_within (us_of_ms ms) told.age)) (flow_of_need v delays d) false
 
 abbrev pub is_need_too_old : Vehicle → Delays → VehicleNeed → Bool
 is_need_too_old v delays d = option_map_or (is_older v delays d) d.within false

@@ -13,18 +13,18 @@ use Rattle.j39_vehicle.specs.declared.vehicle.Vehicle.{Vehicle}
 use Rattle.j39_vehicle.specs.declared.vehicle.forward.Forward.{Forward}
 use Rattle.j39_vehicle.specs.declared.vehicle.vehicle_need.VehicleNeed.{VehicleNeed}
 use Rattle.j39_paths.specs.Buses.{groups_on}
-use Rattle.j39_paths.specs.Forwards.{IsDirect, output_flows}
+use Rattle.j39_paths.specs.ForwardEnds.{IsDirect, output_flows}
 use Rattle.j39_paths.specs.ForwardTests.{is_output}
 use Rattle.j39_paths.specs.Traces.{IsNeedFlow, flows_of_need, point_on}
 use Rattle.j39_ages.specs.declared.bus_delays.Delays.{Delays}
 use Rattle.j39_ages.specs.declared.ends.Ends.{Ends}
 use Rattle.j39_ages.specs.declared.finding.TimeFinding.{TimeFinding}
 use Rattle.j39_ages.specs.declared.finding.TimeFinding.TheVariants.{TooOften, TooLate, TooRare, NeedTooOld}
-use Rattle.j39_ages.specs.Times.{age, flow_at, input_at, jitter_of, queued_of, silent, timing_on, us_of_ms}
+use Rattle.j39_ages.specs.Times.{age, flow_at, first_input_at, jitter_ms, queued_of, silent, timing_on, us_of_ms}
 
 -- a number is known, and at most so large
-abbrev pub IsWithin : ℕ → Option ℕ → Type 0
-IsWithin most number = (n : ℕ) × (number ≡ Some n) × (n ≤ most)
+abbrev pub IsKnownWithin : ℕ → Option ℕ → Type 0
+IsKnownWithin most number = (n : ℕ) × (number ≡ Some n) × (n ≤ most)
 
 -- ---- direct forwards
 
@@ -36,48 +36,48 @@ pub record IsDirectBetween (v : Vehicle) (n : Forward) (R : Ends → Type 0) : T
   pub direct : IsDirect n
   pub timing : ¬ (timing_on v.buses.items n.output.bus ≡ None)
   pub ends : Ends
-  pub at : input_at v n ≡ Some ends.at
+  pub at : first_input_at v n ≡ Some ends.at
   pub input : flow_at v.buses.items ends.at ≡ Some ends.input
   pub output : first_output v n ≡ Some ends.output
   pub related : R ends
 
-abbrev pub period_of : FlowPlan → Option ℕ
-period_of flow = option_map (λ (pace : Pace). pace.period) flow.pace
+abbrev pub period_ms : FlowPlan → Option ℕ
+period_ms flow = option_map (λ (pace : Pace). pace.period) flow.pace
 
 -- the input's messages needn't be as far apart as those of the output have to be
 abbrev pub IsNearer : FlowPlan → FlowPlan → Type 0
-IsNearer i f = (p : ℕ) × (period_of f ≡ Some p) × (¬ ((q : ℕ) × (period_of i ≡ Some q) × (p ≤ q)))
+IsNearer i f = (p : ℕ) × (period_ms f ≡ Some p) × (¬ ((q : ℕ) × (period_ms i ≡ Some q) × (p ≤ q)))
 
 -- so it is, or these are sent only where they are asked for, and those aren't
 abbrev pub IsTooOften : Vehicle → Forward → Type 0
 IsTooOften v n = IsDirectBetween v n (λ ends.
     IsNearer ends.input ends.output ⊎ ((ends.output.on_request ≡ true) × (ends.input.on_request ≡ false)))
 
-abbrev pub deadline_of : FlowPlan → Option ℕ
-deadline_of flow = option_and_then (λ (pace : Pace). pace.deadline) flow.pace
+abbrev pub written_deadline : FlowPlan → Option ℕ
+written_deadline flow = option_and_then (λ (pace : Pace). pace.deadline) flow.pace
 
 -- a flow to all that has no written deadline, and each of whose messages goes in packets (SAE J1939-21): nothing is asked of its jitter
 pub record IsUnlimited (v : Vehicle) (n : Forward) (f : FlowPlan) : Type 0 where
   pub to : f.to ≡ All
-  pub limit : deadline_of f ≡ None
+  pub limit : written_deadline f ≡ None
   pub long : ValueAt (λ (group : GroupPlan). 8 < group.length) (groups_on v.buses.items n.output.bus) f.group
 
 -- of any other the forward has to queue each message within the jitter
 abbrev pub IsTooLate : Vehicle → Delays → Forward → Type 0
 IsTooLate v delays n = IsDirectBetween v n (λ ends.
-    (¬ IsUnlimited v n ends.output) × (¬ IsWithin (us_of_ms (jitter_of ends.output)) (queued_of v delays n)))
+    (¬ IsUnlimited v n ends.output) × (¬ IsKnownWithin (us_of_ms (jitter_ms ends.output)) (queued_of v delays n)))
 
 -- a message of the output has its moment in each of its pauses, and none of the input need have
 abbrev pub IsTooRare : Vehicle → Forward → Type 0
 IsTooRare v n = IsDirectBetween v n (λ ends.
-    (ms : ℕ) × (ends.output.pause ≡ Some ms) × (¬ IsWithin (us_of_ms ms) (silent v ends.at)))
+    (ms : ℕ) × (ends.output.pause ≡ Some ms) × (¬ IsKnownWithin (us_of_ms ms) (silent v ends.at)))
 
 -- ---- needs
 
 -- the flow at a place is one of the need's, and what it brings is at most so old
 pub record IsYoungFlow (v : Vehicle) (delays : Delays) (d : VehicleNeed) (most f : ℕ) : Type 0 where
   pub flow : ValueAt (IsNeedFlow v d f) (flows_of_need v d) f
-  pub age : IsWithin most (age v delays (point_on d.unit.bus f d.signal))
+  pub age : IsKnownWithin most (age v delays (point_on d.unit.bus f d.signal))
 
 -- it has flows, and none that is as young as it asks
 pub record IsNeedTooOld (v : Vehicle) (delays : Delays) (d : VehicleNeed) : Type 0 where

@@ -25,11 +25,11 @@ use Rattle.j39_ages.specs.declared.bus_delays.Delays.{Delays}
 -- ---- numbers
 
 -- how many microseconds a bit takes
-abbrev pub bit_time : Bitrate → ℕ
-bit_time Kbit125 = 8
-bit_time Kbit250 = 4
-bit_time Kbit500 = 2
-bit_time Mbit1 = 1
+abbrev pub us_of_bit : Bitrate → ℕ
+us_of_bit Kbit125 = 8
+us_of_bit Kbit250 = 4
+us_of_bit Kbit500 = 2
+us_of_bit Mbit1 = 1
 
 -- how many microseconds so many milliseconds are
 abbrev pub us_of_ms : ℕ → ℕ
@@ -53,8 +53,8 @@ flow_at buses at = slice_get (flows_on buses at.bus) at.flow
 abbrev pub timed : Vehicle → FlowAt → (Timing → FlowPlan → Option ℕ) → Option ℕ
 timed v at f = option_and_then (λ timing. option_and_then (f timing) (flow_at v.buses.items at)) (timing_on v.buses.items at.bus)
 
-abbrev pub jitter_of : FlowPlan → ℕ
-jitter_of flow = option_map_or (λ (pace : Pace). pace.jitter) flow.pace 0
+abbrev pub jitter_ms : FlowPlan → ℕ
+jitter_ms flow = option_map_or (λ (pace : Pace). pace.jitter) flow.pace 0
 
 -- a delay in bits, where it is told so
 abbrev pub bits_within : Option Delay → Option ℕ
@@ -64,9 +64,9 @@ bits_within _ = None
 abbrev pub delay_at : Delays → FlowAt → Option ℕ
 delay_at delays at = option_and_then bits_within (slice_get (delays_on delays at.bus) at.flow)
 
--- how long a frame takes that was queued: its delay counts from the moment of the message, and it was queued within the jitter behind this
+-- how long a frame takes that was queued: its delay counts from the moment of the message, and it was queued within the jitter behind_at this
 abbrev pub own_of : Timing → FlowPlan → ℕ → ℕ
-own_of timing flow delay = bit_time timing.bitrate * (delay - bits_of_ms timing (jitter_of flow))
+own_of timing flow delay = us_of_bit timing.bitrate * (delay - bits_of_ms timing (jitter_ms flow))
 
 abbrev pub own : Vehicle → Delays → FlowAt → Option ℕ
 own v delays at = timed v at (λ timing flow. option_map (own_of timing flow) (delay_at delays at))
@@ -81,8 +81,8 @@ abbrev pub direct_feeder : Vehicle → FlowAt → Option Forward
 direct_feeder v at = option_and_then (forward_at v) (position (λ n. feeds v at n && is_direct n) v.forwards.items)
 
 -- its first input
-abbrev pub input_at : Vehicle → Forward → Option FlowAt
-input_at v n = option_map (λ flow. record { bus = n.input.bus; flow = flow }) (first_input v n)
+abbrev pub first_input_at : Vehicle → Forward → Option FlowAt
+first_input_at v n = option_map (λ flow. record { bus = n.input.bus; flow = flow }) (first_input v n)
 
 abbrev pub within_of : Forward → Option ℕ
 within_of n = option_map us_of_ms n.within
@@ -91,11 +91,11 @@ within_of n = option_map us_of_ms n.within
 
 -- of a flow that has moments of its own
 abbrev pub behind_moment : Vehicle → Delays → FlowAt → Option ℕ
-behind_moment v delays at = sum_known (own v delays at) (timed v at (λ timing flow. Some (us_of_ms (jitter_of flow))))
+behind_moment v delays at = sum_known (own v delays at) (timed v at (λ timing flow. Some (us_of_ms (jitter_ms flow))))
 
 -- until a forward has queued what it sends, where that which it heard took so long
 abbrev pub queued_behind : Vehicle → Forward → (FlowAt → Option ℕ) → Option ℕ
-queued_behind v n behind = sum_known (option_and_then behind (input_at v n)) (within_of n)
+queued_behind v n behind_at = sum_known (option_and_then behind_at (first_input_at v n)) (within_of n)
 
 -- of any flow, where so many direct forwards come one after another at most
 unfoldable pub behind_by : Vehicle → Delays → ℕ → FlowAt → Option ℕ
@@ -104,19 +104,19 @@ behind_by v delays (suc steps) at =
     option_map_or (λ n. sum_known (queued_behind v n (behind_by v delays steps)) (own v delays at)) (direct_feeder v at) (behind_moment v delays at)
 
 -- no more of them do than there are, unless they go round in a circle
-abbrev pub behind : Vehicle → Delays → FlowAt → Option ℕ
-behind v delays at = behind_by v delays (length v.forwards.items) at
+abbrev pub behind_at : Vehicle → Delays → FlowAt → Option ℕ
+behind_at v delays at = behind_by v delays (length v.forwards.items) at
 
 abbrev pub queued_of : Vehicle → Delays → Forward → Option ℕ
-queued_of v delays n = queued_behind v n (behind v delays)
+queued_of v delays n = queued_behind v n (behind_at v delays)
 
 abbrev pub queued : Vehicle → Delays → ℕ → Option ℕ
 queued v delays n = option_and_then (queued_of v delays) (forward_at v n)
 
 -- ---- from one moment to the next
 
-abbrev pub pause_of : FlowPlan → Option ℕ
-pause_of flow = option_map us_of_ms flow.pause
+abbrev pub pause_us : FlowPlan → Option ℕ
+pause_us flow = option_map us_of_ms flow.pause
 
 -- a flow that isn't sent only where it is asked for, on a bus of which something is known
 abbrev pub unasked_at : Vehicle → FlowAt → Option FlowPlan
@@ -124,9 +124,9 @@ unasked_at v at = option_and_then (λ (timing : Timing). option_and_then (λ (fl
     (flow_at v.buses.items at)) (timing_on v.buses.items at.bus)
 
 unfoldable pub silent_by : Vehicle → ℕ → FlowAt → Option ℕ
-silent_by v zero at = option_and_then (λ flow. option_map_or (λ n. None) (direct_feeder v at) (pause_of flow)) (unasked_at v at)
+silent_by v zero at = option_and_then (λ flow. option_map_or (λ n. None) (direct_feeder v at) (pause_us flow)) (unasked_at v at)
 silent_by v (suc steps) at =
-    option_and_then (λ flow. option_map_or (λ n. option_and_then (silent_by v steps) (input_at v n)) (direct_feeder v at) (pause_of flow)) (unasked_at v at)
+    option_and_then (λ flow. option_map_or (λ n. option_and_then (silent_by v steps) (first_input_at v n)) (direct_feeder v at) (pause_us flow)) (unasked_at v at)
 
 abbrev pub silent : Vehicle → FlowAt → Option ℕ
 silent v at = silent_by v (length v.forwards.items) at
@@ -135,7 +135,7 @@ silent v at = silent_by v (length v.forwards.items) at
 
 -- where a message is received whose value was so old at its moment
 abbrev pub age_with : Vehicle → Delays → FlowAt → Option ℕ → Option ℕ
-age_with v delays at old = sum_known old (sum_known (silent v at) (behind v delays at))
+age_with v delays at old = sum_known old (sum_known (silent v at) (behind_at v delays at))
 
 -- at the moment of what a forward sends of a point: of a direct one as old as it was at that of what it heard; of a periodic one as old as it
 -- may have grown where it was heard, and waited

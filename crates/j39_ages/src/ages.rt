@@ -1,6 +1,6 @@
 //! How old the values are that flows bring.
 ghost use Rattle.std.specs.Prelude.{◌≡◌, ◌<◌, ◌^◌, Some, IfSome};
-ghost use Rattle.j39_ages.specs.Times.{age, behind, old, silent, sum_known};
+ghost use Rattle.j39_ages.specs.Times.{age, behind_at, old, silent, sum_known};
 ghost use Rattle.j39_ages.specs.inside.Aging.{aged_by, aged_of, ends_here};
 
 use crate::bus_delays::Delays;
@@ -11,7 +11,7 @@ use j39_vehicle::{Forward, Vehicle};
 
 // How much older a value becomes than at the moment of the message that brings it, until the next one has ended.
 fn grown(vehicle: &Vehicle, delays: &Delays, at: FlowAt) -> Option<u64>
-    ensures value { result ≡ sum_known (silent vehicle.now at) (behind vehicle.now delays.now at) }
+    ensures value { result ≡ sum_known (silent vehicle.now at) (behind_at vehicle.now delays.now at) }
     ensures few { IfSome result (λ grown. grown < 2 ^ 47) }
 {
     let Some(silent) = silent(vehicle, at) else {

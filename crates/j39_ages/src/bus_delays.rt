@@ -4,8 +4,8 @@ ghost use Rattle.std.specs.Option.{option_copied};
 ghost use Rattle.j39_ages.specs.BusDelays.{AreDelays, AreDelaysOn, delays_on};
 ghost use Rattle.j39_ages.specs.Times.{bits_within, delay_at};
 
-use j39_network::Plan;
 use j39_load::{Delay, Loads};
+use j39_network::Plan;
 use j39_paths::FlowAt;
 use j39_vehicle::Vehicle;
 use std::alloc::{AllocError, Global};

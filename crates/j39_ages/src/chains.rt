@@ -1,6 +1,6 @@
 //! How long what comes along direct forwards takes, and how often it comes.
 ghost use Rattle.std.specs.Prelude.{◌≡◌, ◌<◌, ◌≤◌, ◌^◌, Some, IfSome};
-ghost use Rattle.j39_ages.specs.Times.{behind, behind_by, behind_moment, own, queued, queued_of, silent, silent_by, sum_known, unasked_at, within_of};
+ghost use Rattle.j39_ages.specs.Times.{behind_at, behind_by, behind_moment, own, queued, queued_of, silent, silent_by, sum_known, unasked_at, within_of};
 
 use crate::bus_delays::{Delays, delay_at};
 use crate::flows::{
@@ -14,7 +14,7 @@ use j39_vehicle::{Forward, Vehicle};
 // How long a message of the flow takes from its moment until it has ended, if no direct forward feeds it.
 fn behind_moment(vehicle: &Vehicle, delays: &Delays, at: FlowAt) -> Option<u64>
     ensures value { result ≡ behind_moment vehicle.now delays.now at }
-    ensures few { IfSome result (λ behind. behind < 2 ^ 36) }
+    ensures few { IfSome result (λ behind_at. behind_at < 2 ^ 36) }
 {
     let Some(timing) = timing_on(&vehicle.buses, at.bus) else {
         return None;
@@ -46,7 +46,7 @@ fn hop(vehicle: &Vehicle, delays: &Delays, forward: &Forward, at: FlowAt) -> Opt
 fn first_behind(vehicle: &Vehicle, delays: &Delays, hops: u64, at: FlowAt) -> Option<u64>
     requires { hops ≤ 2 ^ 45 }
     ensures value { result ≡ sum_known (Some hops) (behind_moment vehicle.now delays.now at) }
-    ensures few { IfSome result (λ behind. behind < 2 ^ 46) }
+    ensures few { IfSome result (λ behind_at. behind_at < 2 ^ 46) }
 {
     match behind_moment(vehicle, delays, at) {
         Some(behind) => Some(hops + behind),
@@ -59,7 +59,7 @@ fn first_behind(vehicle: &Vehicle, delays: &Delays, hops: u64, at: FlowAt) -> Op
 fn last_behind(vehicle: &Vehicle, delays: &Delays, hops: u64, at: FlowAt) -> Option<u64>
     requires { hops ≤ 2 ^ 45 }
     ensures value { result ≡ sum_known (Some hops) (behind_by vehicle.now delays.now 0 at) }
-    ensures few { IfSome result (λ behind. behind < 2 ^ 46) }
+    ensures few { IfSome result (λ behind_at. behind_at < 2 ^ 46) }
 {
     match direct_feeder(vehicle, at) {
         None => first_behind(vehicle, delays, hops, at),
@@ -69,8 +69,8 @@ fn last_behind(vehicle: &Vehicle, delays: &Delays, hops: u64, at: FlowAt) -> Opt
 
 /// How long a message of the flow takes until it has ended: from its moment, which is that of the first one where direct forwards sent it on.
 pub fn behind(vehicle: &Vehicle, delays: &Delays, start: FlowAt) -> Option<u64>
-    ensures value { result ≡ behind vehicle.now delays.now start }
-    ensures few { IfSome result (λ behind. behind < 2 ^ 46) }
+    ensures value { result ≡ behind_at vehicle.now delays.now start }
+    ensures few { IfSome result (λ behind_at. behind_at < 2 ^ 46) }
 {
     let mut at = start;
     let mut hops = 0;

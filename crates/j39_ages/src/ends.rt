@@ -4,9 +4,9 @@ ghost use Rattle.std.specs.List.{position};
 ghost use Rattle.std.specs.Option.{option_copied};
 ghost use Rattle.j39_paths.specs.Buses.{groups_on};
 ghost use Rattle.j39_paths.specs.ForwardTests.{is_output};
-ghost use Rattle.j39_paths.specs.Forwards.{output_flows};
-ghost use Rattle.j39_ages.specs.TimeFindings.{first_output, period_of};
-ghost use Rattle.j39_ages.specs.FoundTimes.{direct_ends, ends_of, has_deadline, has_such_a_period, is_asked, is_late_asked, is_late_asked_of, is_later, is_long, is_more_often, is_nearer, is_rarer, is_timed_bus, is_to_all, is_too_late, is_too_often, is_too_rare, is_unlimited, is_within};
+ghost use Rattle.j39_paths.specs.ForwardEnds.{output_flows};
+ghost use Rattle.j39_ages.specs.TimeFindings.{first_output, period_ms};
+ghost use Rattle.j39_ages.specs.FoundTimes.{direct_ends, ends_of, has_deadline, has_such_a_period, is_asked, is_late_asked, is_late_asked_of, is_later, is_long, is_more_often, is_nearer, is_rarer, is_timed_bus, goes_to_all, is_too_late, is_too_often, is_too_rare, is_unlimited, is_known_within};
 
 use crate::bus_delays::Delays;
 use crate::chains::{queued_of, silent};
@@ -17,7 +17,7 @@ use j39_vehicle::{Forward, GroupAt, Vehicle};
 
 /// Whether a number is known, and at most so large.
 pub fn is_within(most: u64, number: Option<u64>) -> bool
-    ensures { result ≡ is_within most number }
+    ensures { result ≡ is_known_within most number }
 {
     match number {
         Some(number) => number <= most,
@@ -87,7 +87,7 @@ fn direct_ends(vehicle: &Vehicle, forward: &Forward) -> Option<Ends>
 }
 
 fn period_of(flow: &FlowPlan) -> Option<u16>
-    ensures { result ≡ period_of flow.now }
+    ensures { result ≡ period_ms flow.now }
 {
     match flow.pace {
         Some(pace) => Some(pace.period),
@@ -151,7 +151,7 @@ fn is_long(vehicle: &Vehicle, place: GroupAt) -> bool
 }
 
 fn is_to_all(to: To) -> bool
-    ensures { result ≡ is_to_all to }
+    ensures { result ≡ goes_to_all to }
 {
     match to {
         To::All => true,

@@ -3,17 +3,17 @@ ghost use Rattle.std.specs.Prelude.{◌≡◌, ◌≤◌, ◌<◌, ◌^◌, ◌&
 ghost use Rattle.std.specs.List.{position};
 ghost use Rattle.std.specs.Option.{option_copied};
 ghost use Rattle.j39_paths.specs.ForwardTests.{feeds, is_direct};
-ghost use Rattle.j39_ages.specs.Times.{bit_time, direct_feeder, flow_at, input_at, jitter_of, own, own_of, pause_of, timed, timing_on, us_of_ms, within_of};
+ghost use Rattle.j39_ages.specs.Times.{us_of_bit, direct_feeder, flow_at, first_input_at, jitter_ms, own, own_of, pause_us, timed, timing_on, us_of_ms, within_of};
 
 use crate::bus_delays::{Delays, delay_at};
-use j39_network::{Bitrate, FlowPlan, Timing};
 use j39_load::bits_of_ms;
+use j39_network::{Bitrate, FlowPlan, Timing};
 use j39_paths::{FlowAt, feeds, first_input, flows_on, is_direct};
 use j39_vehicle::{BusPlan, Forward, Vehicle};
 
 // How many microseconds a bit takes.
 fn bit_time(bitrate: Bitrate) -> u64
-    ensures value { result ≡ bit_time bitrate }
+    ensures value { result ≡ us_of_bit bitrate }
     ensures few { result ≤ 8 }
 {
     match bitrate {
@@ -34,7 +34,7 @@ pub fn us_of_ms(ms: u16) -> u64
 
 /// How many milliseconds behind its moment a message of the flow is queued at most.
 pub fn jitter_of(flow: &FlowPlan) -> u16
-    ensures { result ≡ jitter_of flow.now }
+    ensures { result ≡ jitter_ms flow.now }
 {
     match flow.pace {
         Some(pace) => pace.jitter,
@@ -44,7 +44,7 @@ pub fn jitter_of(flow: &FlowPlan) -> u16
 
 /// In how many microseconds a message of the flow has its moment, however they lie.
 pub fn pause_of(flow: &FlowPlan) -> Option<u64>
-    ensures value { result ≡ pause_of flow.now }
+    ensures value { result ≡ pause_us flow.now }
     ensures few { IfSome result (λ pause. pause < 2 ^ 26) }
 {
     match flow.pause {
@@ -114,7 +114,7 @@ pub fn direct_feeder(vehicle: &Vehicle, at: FlowAt) -> Option<&Forward>
 
 /// The first input of the forward.
 pub fn input_at(vehicle: &Vehicle, forward: &Forward) -> Option<FlowAt>
-    ensures { result ≡ input_at vehicle.now forward.now }
+    ensures { result ≡ first_input_at vehicle.now forward.now }
 {
     match first_input(vehicle, forward) {
         Some(flow) => Some(FlowAt {

@@ -9,8 +9,8 @@ ghost use Rattle.j39_vehicle_check.specs.VehicleFileText.{IsBusPlanText, IsVehic
 ghost use Rattle.j39_vehicle_check.specs.VehicleText.{IsVehicleText};
 
 use crate::{Fault, Folder, Sink, Verdict, bus_plan, vehicle_file, vehicle_text};
-use j39_network::Plan;
 use j39_id::Label;
+use j39_network::Plan;
 use j39_vehicle::{BusPlan, BusTable, VehicleFile, plan_file};
 use std::alloc::{AllocError, Global};
 

@@ -5,8 +5,8 @@ ghost use Rattle.j39_world.specs.Flows.{flow_of, flows_of};
 ghost use Rattle.j39_bus.specs.inside.KeptMessages.{IsFlow};
 ghost use Rattle.j39_network.specs.PlannedGroups.{IsSendable};
 
-use j39_network::{FlowPlan, GroupPlan, Plan};
 use j39_id::Pgn;
+use j39_network::{FlowPlan, GroupPlan, Plan};
 use j39_world::Flow;
 use std::alloc::{AllocError, Global};
 

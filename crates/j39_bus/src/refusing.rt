@@ -12,8 +12,8 @@ ghost use Rattle.j39_queues.specs.Queued.{pair_in};
 
 use crate::network::Network;
 use crate::{StepError, sessions};
-use j39_network::{Step, To};
 use j39_id::limits::FRAME_BYTES;
+use j39_network::{Step, To};
 use j39_signal::is_selected;
 use j39_world::Flow;
 

@@ -11,9 +11,9 @@ ghost use Rattle.j39_world.specs.TransferSteps.{begun_stage, first_item, outgoin
 ghost use Rattle.j39_world.specs.SwitchingOff.{without_target};
 ghost use Rattle.j39_world.specs.Transfers.{is_among};
 
-use j39_network::To;
 use j39_id::Pgn;
 use j39_id::limits::FRAME_BYTES;
+use j39_network::To;
 use j39_tp::{Dest, Message, Outcome, Packet, Phase, Reaction, Transfer};
 use j39_world::{Flow, Short, Wired};
 use std::marker::Model;

@@ -5,7 +5,6 @@ ghost use Rattle.j39_findings.specs.declared.checking.finding.Finding.TheVariant
 ghost use Rattle.j39_check.specs.FindingLines.{finding_line, finding_lines, finding_part, finding_report, finding_text, is_between, run_lines, signal_text};
 
 use j39_findings::{Finding, bad_run};
-
 use j39_network::Plan;
 use j39_schedule::write_steps;
 use j39_text::{

@@ -7,10 +7,10 @@ ghost use Rattle.j39_load.specs.Asked.{asked_by};
 ghost use Rattle.j39_load.specs.LineLists.{lines_of_each};
 
 use crate::finding_lines::is_between;
-use j39_network::{Bitrate, FlowPlan, NeedPlan, Plan, Timing, To, is_met};
 use j39_load::{
     Delay, FlowLoad, LoadFinding, Loads, WholeTime, bits_of_ms, bits_of_second, least_age,
 };
+use j39_network::{Bitrate, FlowPlan, NeedPlan, Plan, Timing, To, is_met};
 use j39_text::{TextBuffer, group_label, signal_label, unit_label};
 use std::alloc::AllocError;
 

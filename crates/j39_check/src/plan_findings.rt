@@ -5,9 +5,8 @@ ghost use Rattle.j39_check.specs.FoundInPlan.{ArePlanFindings, are_of_times, is_
 ghost use Rattle.j39_load.specs.LoadFindings.{load_finding_number};
 
 use j39_findings::{Findings, check};
-
-use j39_network::Plan;
 use j39_load::{LoadFinding, check_load};
+use j39_network::Plan;
 use std::alloc::{AllocError, Global};
 
 /// Everything that is wrong with a plan: with what it says, and with what it asks of its bus.

@@ -4,7 +4,6 @@ ghost use Rattle.j39_check.specs.AddressesText.{stays_text, stays_word, staying_
 ghost use Rattle.j39_findings.specs.Standing.{stays_of};
 
 use j39_findings::Standing;
-
 use j39_network::UnitPlan;
 use j39_text::TextBuffer;
 use std::alloc::AllocError;

@@ -5,9 +5,9 @@ ghost use Rattle.j39_check.specs.AddressesText.{IsAddressesReport, is_of_address
 use crate::plan_report::write_findings;
 use crate::stays_lines::write_stays;
 use j39_findings::{Finding, Standing, check};
-use j39_network::Plan;
 use j39_laws::{who_stays, who_stays_with_strangers};
 use j39_load::check_load;
+use j39_network::Plan;
 use j39_stream::Verdict;
 use j39_text::TextBuffer;
 use std::alloc::{AllocError, Global};

@@ -3,9 +3,9 @@ ghost use Rattle.std.specs.Prelude.{◌≡◌, length};
 ghost use Rattle.j39_findings.specs.Standing.{AreFirsts, TellsAtEach, AreTwoThere, TellsWhoIsAlone, TellsWhoStays, IsMover, alone_of, is_alone_by, is_first_by, is_least, is_mover_by, is_settled, smaller, stays_by, stays_of};
 
 use j39_claim::AddressSet;
-use j39_network::{Plan, UnitPlan};
 use j39_id::Name;
 use j39_id::addresses::is_in_pool;
+use j39_network::{Plan, UnitPlan};
 
 /// The smallest NAME that is planned at each address.
 type Firsts = [Option<Name>; 256];

@@ -11,9 +11,9 @@ ghost use Rattle.j39_follow.specs.inside.Reporting.{front_of};
 use crate::known_parties::Parties;
 use crate::party_text::write_answer_way;
 use crate::stamp::{Stamp, write_stamp};
-use j39_network::Plan;
 use j39_id::services::ACKNOWLEDGEMENT;
 use j39_id::{Frame, number_of_bytes};
+use j39_network::Plan;
 use j39_text::TextBuffer;
 use std::alloc::AllocError;
 

@@ -10,8 +10,8 @@ use crate::claimants::Claimant;
 use crate::contest::{Contention, Contest, contest_left, running};
 use crate::directory::Directory;
 use crate::who::{Who, likely_named};
-use j39_network::Plan;
 use j39_id::addresses::is_in_pool;
+use j39_network::Plan;
 
 /// A claim: the NAME, what is known of it, the address that it claims, and the time of the line, if it has one.
 #[derive(Clone, Copy)]

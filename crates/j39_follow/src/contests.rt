@@ -14,8 +14,8 @@ use crate::directory::Directory;
 use crate::known_parties::ADDRESSES;
 use crate::moment::moment;
 use crate::who::Who;
-use j39_network::Plan;
 use j39_id::{Frame, Ident, carried_name, claims_address};
+use j39_network::Plan;
 use std::alloc::{AllocError, Global};
 
 /// What is known of the contests for each address, and of the NAMEs that claimed any.

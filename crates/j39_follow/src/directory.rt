@@ -10,8 +10,8 @@ use crate::holders::Holders;
 use crate::known_parties::{ADDRESSES, Parties};
 use crate::naming::names_of;
 use crate::who::{Who, who_at};
-use j39_network::Plan;
 use j39_id::Frame;
+use j39_network::Plan;
 use j39_text::TextBuffer;
 use std::alloc::Global;
 

@@ -16,9 +16,9 @@ use crate::message::{Arrival, Sort};
 use crate::party_text::{is_to_all, write_parties};
 use crate::sending::{Aim, Sending, flow_of, group_of};
 use crate::stamp::{Stamp, write_stamp};
-use j39_network::{GroupPlan, Plan};
 use j39_id::{PDU2_FIRST, pf_of};
 use j39_log::{Groups, write_digits, write_group_readings};
+use j39_network::{GroupPlan, Plan};
 use j39_text::TextBuffer;
 use std::alloc::AllocError;
 

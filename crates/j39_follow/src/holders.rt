@@ -11,10 +11,10 @@ ghost use Rattle.j39_follow.specs.Who.{is_name_of as is_of_unit, unit_of_name};
 ghost use Rattle.j39_follow.specs.inside.Recounting.{HasNameAt, IsHeldByUnit, IsLatestBelow, IsLeft, IsMarked, IsMoved, Recounts, claimed_at, is_marked};
 
 use crate::who::unit_named;
-use j39_network::{Plan, UnitPlan};
 use j39_id::addresses::NULL_ADDRESS;
 use j39_id::limits::UNIT_LIMIT;
 use j39_id::{Frame, cannot_claim, carried_name, claims_address};
+use j39_network::{Plan, UnitPlan};
 
 // The addresses that units hold: 0 to 253.
 const ADDRESSES: usize = NULL_ADDRESS as usize;

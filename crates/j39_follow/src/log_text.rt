@@ -5,8 +5,8 @@ ghost use Rattle.j39_stream.specs.Streams.{log_limits};
 
 use crate::log_reader::LogReader;
 use crate::reading::Reading;
-use j39_network::Plan;
 use j39_log::{CatalogError, Groups, refuse};
+use j39_network::Plan;
 use j39_stream::{Fault, LOG_LIMITS, Sink, Source, Verdict, read_lines};
 use std::alloc::Global;
 

@@ -12,8 +12,8 @@ use crate::known_parties::Parties;
 use crate::message::in_frame;
 use crate::party_text::{write_identity, write_named, write_way};
 use crate::stamp::{Stamp, write_stamp};
-use j39_network::Plan;
 use j39_id::{Frame, cannot_claim, carried_name, claims_address, requested_group, requests_group};
+use j39_network::Plan;
 use j39_text::TextBuffer;
 use std::alloc::AllocError;
 

@@ -8,9 +8,9 @@ ghost use Rattle.j39_follow.specs.inside.Recounting.{HasNames, party_at};
 
 use crate::known_parties::Parties;
 use crate::who::{Who, is_of_any, unit_named};
-use j39_network::Plan;
 use j39_id::Ident;
 use j39_id::addresses::GLOBAL_ADDRESS;
+use j39_network::Plan;
 use j39_text::{TextBuffer, unit_label};
 use std::alloc::AllocError;
 

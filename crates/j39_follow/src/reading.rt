@@ -35,9 +35,9 @@ use crate::request_ends::write_requests;
 use crate::stamp::Stamp;
 use crate::taking::taken;
 use crate::tally::Tally;
-use j39_network::Plan;
 use j39_id::{Cut, Frame, LineError, cannot_claim, claims_address, read_frame};
 use j39_log::{Groups, Listeners};
+use j39_network::Plan;
 use j39_text::TextBuffer;
 use std::alloc::{AllocError, Global};
 

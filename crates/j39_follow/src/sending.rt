@@ -6,8 +6,8 @@ ghost use Rattle.j39_log.specs.inside.Listening.{HasAllOf};
 ghost use Rattle.j39_follow.specs.inside.Reporting.{is_all};
 ghost use Rattle.j39_follow.specs.Fits.{IsSentGroup, MayBeGroup, fits, fits_all, fitting_flow, is_for_all as goes_to_all, may_have_bytes, is_unit, reaches as is_reached};
 
-use j39_network::{FlowPlan, GroupPlan, To};
 use j39_log::{Groups, Span};
+use j39_network::{FlowPlan, GroupPlan, To};
 use j39_signal::is_selected;
 
 /// Whom a message went to. Units are given by their places, from 0.

@@ -9,9 +9,9 @@ ghost use Rattle.j39_follow.specs.inside.Tallies.{IsTally, tally_at};
 ghost use Rattle.j39_follow.specs.declared.message.Sort.{Sort as ASort};
 
 use crate::message::Sort;
+use j39_log::Groups;
 use j39_network::Plan;
 use j39_network::limits::{FLOW_LIMIT, GROUP_LIMIT};
-use j39_log::Groups;
 
 /// How often each flow was sent, each group without a flow, and at the first group of a number what else there was of the number.
 #[derive(Drop)]

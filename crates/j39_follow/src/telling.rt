@@ -21,9 +21,9 @@ use crate::known_parties::Parties;
 use crate::message::{Sort, in_frame};
 use crate::sending::{Aim, Sending};
 use crate::who::Who;
-use j39_network::Plan;
 use j39_id::addresses::GLOBAL_ADDRESS;
 use j39_id::{Frame, requested_group, requests_group};
+use j39_network::Plan;
 
 // Whom a message is for that is for this one.
 fn aim_at(who: Who) -> Aim

@@ -9,8 +9,8 @@ ghost use Rattle.j39_follow.specs.inside.Likeliest.{IsBelowBest, IsBestOf, IsNot
 ghost use Rattle.j39_follow.specs.inside.Recounting.{Recounts};
 
 use crate::holders::Holders;
-use j39_network::{Plan, kind_of_name};
 use j39_id::Name;
+use j39_network::{Plan, kind_of_name};
 
 /// Who stands behind an address of a log. Units are given by their places, from 0.
 #[derive(Clone, Copy, Debug, PartialEq, Eq)]

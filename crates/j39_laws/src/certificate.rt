@@ -10,7 +10,10 @@ use crate::laws::{
     quiet_notes_are_right, reports_are_sound, sent_frames_are_sound, sent_frames_arrive,
     silent_units_are_undisturbed, strangers_keep_addresses, unanswered_messages_arrive,
 };
-use j39_findings::{CheckedPlan, needs_are_met, requests_are_served, serial_numbers_change_nothing, signals_are_sound};
+use j39_findings::{
+    CheckedPlan, needs_are_met, requests_are_served, serial_numbers_change_nothing,
+    signals_are_sound,
+};
 
 /// A plan in which nothing is wrong is sound: in every world of every run of it, with all lawful choices and whatever is lost, addresses and
 /// reports are sound, addresses also with strangers, planned addresses stay where they differ, a unit that is alone at its own is undisturbed, and so

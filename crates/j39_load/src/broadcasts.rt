@@ -15,10 +15,10 @@ use crate::messages::Messages;
 use crate::network::Network;
 use crate::streams::{bits_each, spaced_stream};
 use crate::unit_load::UnitLoad;
-use j39_network::Timing;
 use j39_id::Pgn;
 use j39_id::limits::UNIT_LIMIT;
 use j39_id::services::{CONNECTION_MANAGEMENT, DATA_TRANSFER};
+use j39_network::Timing;
 use std::alloc::{AllocError, Global};
 
 // The flow's long messages to all, where the unit at this place sends them.

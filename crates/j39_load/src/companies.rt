@@ -13,8 +13,8 @@ use crate::ages::smaller;
 use crate::damage::add_damage;
 use crate::flow_frames::FlowFrames;
 use crate::streams::bits_of_ms;
-use j39_network::Timing;
 use j39_id::limits::UNIT_LIMIT;
+use j39_network::Timing;
 use j39_timing::{Stream, Wanted, frame_bits, least_wait};
 use std::alloc::{AllocError, Global};
 

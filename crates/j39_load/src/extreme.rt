@@ -5,9 +5,8 @@ ghost use Rattle.j39_load.specs.Loads.{may_move};
 ghost use Rattle.j39_load.specs.inside.Extremes.{extreme_address};
 
 use j39_findings::Standing;
-
-use j39_network::UnitPlan;
 use j39_id::addresses::{POOL_FIRST, POOL_LAST};
+use j39_network::UnitPlan;
 
 /// One end of the addresses that a unit may come to hold.
 #[derive(Clone, Copy, PartialEq, Eq)]

@@ -17,8 +17,8 @@ use crate::identifiers::{any_unit, group_ident, packet_ident, session_ident, twi
 use crate::messages::Messages;
 use crate::network::Network;
 use crate::streams::{bits_of_ms, load, packet_stream, single_stream};
-use j39_network::{FlowPlan, GroupPlan, Pace, Timing, To};
 use j39_id::limits::FRAME_BYTES;
+use j39_network::{FlowPlan, GroupPlan, Pace, Timing, To};
 use j39_tp::Size;
 use std::alloc::{AllocError, Global};
 

@@ -9,10 +9,10 @@ ghost use Rattle.j39_load.specs.inside.Networks.{addresses_at, units_in};
 
 use crate::extreme::Extreme;
 use crate::network::Network;
-use j39_network::{FlowPlan, GroupPlan, Queue, RequestPlan, To};
 use j39_id::addresses::GLOBAL_ADDRESS;
 use j39_id::services::{CLAIM_PRIORITY, CONNECTION_MANAGEMENT, DATA_TRANSFER, REQUEST};
 use j39_id::{PDU2_FIRST, Pgn, pf_of};
+use j39_network::{FlowPlan, GroupPlan, Queue, RequestPlan, To};
 
 // The number of the identifier by which a group is sent, whose number need be no group's.
 fn identifier(priority: u8, pgn: u32, destination: u8, source: u8) -> u64

@@ -7,8 +7,8 @@ ghost use Rattle.j39_load.specs.inside.Networks.{units_in};
 ghost use Rattle.j39_timing.specs.Waits.{IsStream};
 
 use crate::network::Network;
-use j39_network::{Bitrate, GroupPlan, Pace, Timing};
 use j39_id::limits::FRAME_BYTES;
+use j39_network::{Bitrate, GroupPlan, Pace, Timing};
 use j39_timing::{Stream, frame_bits};
 
 /// How many bits the bus carries in a millisecond.

@@ -3,8 +3,8 @@ ghost use Rattle.std.specs.Prelude.{◌≡◌, ◌≢◌, [], ◌++◌, map, IfO
 ghost use Rattle.j39_log.specs.LogReports.{signal_unit_text};
 ghost use Rattle.j39_log.specs.inside.ValueLines.{items_of, value_line_of, value_lines_of};
 
-use j39_network::GroupPlan;
 use j39_id::Label;
+use j39_network::GroupPlan;
 use j39_signal::Signal;
 use j39_text::TextBuffer;
 use std::alloc::{AllocError, Global};

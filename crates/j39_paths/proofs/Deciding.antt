@@ -35,13 +35,13 @@ use Rattle.j39_vehicle.specs.declared.vehicle.gateway.Gateway.{Gateway}
 use Rattle.j39_vehicle.specs.declared.vehicle.places.UnitAt.{UnitAt}
 use Rattle.j39_vehicle.specs.declared.vehicle.vehicle_need.VehicleNeed.{VehicleNeed}
 use Rattle.j39_paths.specs.Buses.{group_at, requests_on, spn_at}
-use Rattle.j39_paths.specs.Forwards.{Copies, IsAmong, IsDirect, IsFollowed, IsInput, IsOutput, WriteOneSignal, Writes, heard, input_flows, listed, output_flows, units_of_gateway}
-use Rattle.j39_paths.specs.ForwardTests.{copies, goes_to, is_among, is_direct, is_direct_mode, is_followed, is_input, is_output, write_one_signal, writes}
-use Rattle.j39_paths.specs.Matching.{Agree, AreAlike, AreSameNumbers, AreSameUnits, Has, IsAlwaysValue, has_values_of}
-use Rattle.j39_paths.specs.MatchTests.{agree, are_alike, are_same_numbers, are_same_units, has, is_always_value, is_code, kind_number, same_flag, signal_width_fits}
-use Rattle.j39_paths.specs.Traces.{IsNeedFlow, first_agreeing, flows_of_need, is_from_origin, needed}
+use Rattle.j39_paths.specs.ForwardEnds.{Copies, IsAmong, IsDirect, IsFollowedBy, IsInput, IsOutput, WriteOneSignal, Writes, need_of_hearer, input_flows, listed, output_flows, units_of_gateway}
+use Rattle.j39_paths.specs.ForwardTests.{copies, goes_to_receiver, is_unit_among, is_direct, is_direct_mode, is_followed, is_input, is_output, write_one_signal, writes}
+use Rattle.j39_paths.specs.Matching.{Agree, AreAlike, AreSameNumbers, AreSameUnits, CanStandFor, IsAlwaysValue, has_values_of}
+use Rattle.j39_paths.specs.MatchTests.{agree, are_alike, are_same_numbers, are_same_units, has, is_always_value, is_trouble_code, kind_number, same_flag, signal_width_fits}
+use Rattle.j39_paths.specs.Traces.{IsNeedFlow, first_agreeing, flows_of_need, is_from_origin, need_on_bus}
 use Rattle.j39_paths.specs.VehicleFindings.{AreTwoForwards, AreUnlike, CopiesOtherLayout, DiffersFrom, GroupsMeet, HasAnyQueue, HasManyInputs, HasManyOutputs, HasNoInput, HasNoOutput, HaveOtherLayouts, IsCopiedOtherwise, IsNeedUnmet, IsOtherSignal, IsSelector, IsWrittenOtherwise, MayShareQueue}
-use Rattle.j39_paths.specs.FoundPaths.{are_two_forwards, are_unlike, copies_other_layout, differs_from, has_any_queue, has_many_inputs, has_many_outputs, has_no_input, has_no_output, have_other_layouts, is_any, is_copied_otherwise, is_in_selector, is_need_flow, is_need_unmet, is_other_signal, is_selector, is_written_otherwise, may_share_queue, same_byte, some_at}
+use Rattle.j39_paths.specs.FoundPaths.{are_two_forwards, are_unlike, copies_other_layout, differs_from, has_any_queue, has_many_inputs, has_many_outputs, has_no_input, has_no_output, have_other_layouts, is_any_queue, is_copied_otherwise, is_in_selector, is_need_flow, is_need_unmet, is_other_signal, is_selector, is_written_otherwise, may_share_queue, same_byte, some_at}
 
 it_is : (b : Bool) → Decides b (b ≡ true)
 it_is b = (λ e. e, λ e. e)
@@ -80,14 +80,14 @@ value_decides P by xs i (Some x) is =
 
 -- ---- inputs and outputs
 
-among_decides : (units : List UnitAt) (bus unit : ℕ) → Decides (is_among units bus unit) (IsAmong units (record { bus = bus; unit = unit }))
+among_decides : (units : List UnitAt) (bus unit : ℕ) → Decides (is_unit_among units bus unit) (IsAmong units (record { bus = bus; unit = unit }))
 among_decides units bus unit =
     some_decides (λ w. (w.bus ≡ bus) × (w.unit ≡ unit)) (λ w. Decides-and _ _ (Decides-eqb w.bus bus) (Decides-eqb w.unit unit)) units
 
 pub Decides-is_input : (v : Vehicle) (n : Forward) (f : FlowPlan) → Decides (is_input v n f) (IsInput v n f)
 Decides-is_input v n f =
     Decides-like _ (λ h. record { meets = h.0; other = h.1 }) (λ m. (m.meets, m.other))
-    (Decides-and _ _ (Decides-meets (requests_on v.buses.items n.input.bus) (heard n) f)
+    (Decides-and _ _ (Decides-meets (requests_on v.buses.items n.input.bus) (need_of_hearer n) f)
     (Decides-not _ (among_decides (units_of_gateway v n.gateway) n.input.bus f.sender)))
 
 is_to_decides : (to : To) (unit : ℕ) → Decides (is_to to unit) (to ≡ One unit)
@@ -99,7 +99,7 @@ same_receiver_decides All All = (λ e. refl, λ e. refl)
 same_receiver_decides All (One receiver) = (λ e. absurd (false≢true e), λ e. cc)
 same_receiver_decides (One receiver) other = Decides-like _ (λ e. sym e) (λ e. sym e) (is_to_decides other receiver)
 
-goes_to_decides : (o : Option To) (to : To) → Decides (goes_to o to) ((receiver : To) → o ≡ Some receiver → to ≡ receiver)
+goes_to_decides : (o : Option To) (to : To) → Decides (goes_to_receiver o to) ((receiver : To) → o ≡ Some receiver → to ≡ receiver)
 goes_to_decides None to = (λ e u is. absurd (none-some _ is), λ h. refl)
 goes_to_decides (Some receiver) to = Decides-like _ (λ e u is. e ∙ same_Some _ _ is) (λ h. h receiver refl) (same_receiver_decides to receiver)
 
@@ -128,7 +128,7 @@ mode_decides Periodic = (λ e. absurd (false≢true e), λ e. cc)
 pub Decides-is_direct : (n : Forward) → Decides (is_direct n) (IsDirect n)
 Decides-is_direct n = mode_decides n.mode
 
-pub Decides-is_followed : (v : Vehicle) (n m : Forward) → Decides (is_followed v n m) (IsFollowed v n m)
+pub Decides-is_followed : (v : Vehicle) (n m : Forward) → Decides (is_followed v n m) (IsFollowedBy v n m)
 Decides-is_followed v n m =
     Decides-like _ (λ h. record { bus = h.0; flow = h.1.1 })
     (λ followed. (followed.bus, (sym followed.flow.1.meets.0.group ∙ followed.flow.1.meets.1.meets.group, followed.flow)))
@@ -257,7 +257,7 @@ numbers_decide (Some a) (Some b) = (
   ],
 )
 
-code_decides : (k : Kind) → Decides (is_code k) (k ≡ Dtc)
+code_decides : (k : Kind) → Decides (is_trouble_code k) (k ≡ Dtc)
 code_decides Measured = (λ e. absurd (false≢true e), λ e. cc)
 code_decides Discrete = (λ e. absurd (false≢true e), λ e. cc)
 code_decides Raw = (λ e. absurd (false≢true e), λ e. cc)
@@ -274,7 +274,7 @@ pub Decides-are_alike : (s : SignalParts) (m : Option ℕ) (t : SignalParts) (n 
 Decides-are_alike s m t n =
     Decides-like _ (λ h. record { units = h.0; numbers = h.1.0; codes = h.1.1 }) (λ a. (a.units, (a.numbers, a.codes)))
     (Decides-and _ _ (units_decide s.unit.bytes t.unit.bytes)
-    (Decides-and _ _ (numbers_decide m n) (both_decide (is_code s.kind) (is_code t.kind) (code_decides s.kind) (code_decides t.kind))))
+    (Decides-and _ _ (numbers_decide m n) (both_decide (is_trouble_code s.kind) (is_trouble_code t.kind) (code_decides s.kind) (code_decides t.kind))))
 
 always_decides : (k : Kind) → Decides (is_always_value k) (IsAlwaysValue k)
 always_decides Measured = (λ e. absurd (false≢true e), λ h. elim h [ inl e ↦ cc | inr e ↦ cc ])
@@ -284,7 +284,7 @@ always_decides States = (λ e. absurd (false≢true e), λ h. elim h [ inl e ↦
 always_decides Signed = (λ e. inr refl, λ h. refl)
 always_decides Dtc = (λ e. absurd (false≢true e), λ h. elim h [ inl e ↦ cc | inr e ↦ cc ])
 
-pub Decides-has : (s t : SignalParts) → Decides (has s t) (Has s t)
+pub Decides-has : (s t : SignalParts) → Decides (has s t) (CanStandFor s t)
 Decides-has s t =
     Decides-like _ (λ h. record { s_width = h.0; t_width = h.1.0; unset = h.1.1.0; values = h.1.1.1 })
     (λ m. (m.s_width, (m.t_width, (m.unset, m.values))))
@@ -320,7 +320,7 @@ selector_shares t (Some w) =
 source_decides : (g h : GroupPlan) (j : ℕ) (t : SignalParts) (f : ForwardedSignal) → Decides (differs_from g h j t f) (DiffersFrom g h j t f)
 source_decides g h j t f =
     Decides-or _ _
-    (value_decides (λ s. AreUnlike g f.read s h j t ⊎ ((f.exact ≡ true) × (¬ Has s t)))
+    (value_decides (λ s. AreUnlike g f.read s h j t ⊎ ((f.exact ≡ true) × (¬ CanStandFor s t)))
     (λ s. Decides-or _ _ (unlike_decides g f.read s h j t) (Decides-and _ _ (it_is f.exact) (Decides-not _ (Decides-has s t))))
     g.signals.items f.read (slice_get g.signals.items f.read) refl) (selector_shares t h.when)
 
@@ -387,7 +387,7 @@ to_first P xs k v = let at : k ≡ 0 + k = omega arith in record { value = v.val
 need_flow_decides : (v : Vehicle) (d : VehicleNeed) (f : ℕ) (flow : FlowPlan) → Decides (is_need_flow v d f flow) (IsNeedFlow v d f flow)
 need_flow_decides v d f flow =
     Decides-like _ (λ h. record { meets = h.0; from = h.1 }) (λ m. (m.meets, m.from))
-    (Decides-and _ _ (Decides-meets (requests_on v.buses.items d.unit.bus) (needed d) flow) (it_is (is_from_origin v d f)))
+    (Decides-and _ _ (Decides-meets (requests_on v.buses.items d.unit.bus) (need_on_bus d) flow) (it_is (is_from_origin v d f)))
 
 pub Decides-is_need_unmet : (v : Vehicle) (d : VehicleNeed) → Decides (is_need_unmet v d) (IsNeedUnmet v d)
 Decides-is_need_unmet v d =
@@ -397,7 +397,7 @@ Decides-is_need_unmet v d =
 
 -- ---- queues
 
-queue_decides : (q : Queue) → Decides (is_any q) (q ≡ Any)
+queue_decides : (q : Queue) → Decides (is_any_queue q) (q ≡ Any)
 queue_decides Any = (λ e. refl, λ e. refl)
 queue_decides Priority = (λ e. absurd (false≢true e), λ e. cc)
 

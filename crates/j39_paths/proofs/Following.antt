@@ -10,7 +10,7 @@ use Rattle.std.proofs.lemmas.Option.{same_Some, slice_get-map, slice_get_within}
 use Rattle.j39_vehicle.specs.declared.vehicle.Vehicle.{Vehicle}
 use Rattle.j39_vehicle.specs.declared.vehicle.forward.Forward.{Forward}
 use Rattle.j39_rules.specs.ListPlaces.{ValueAt}
-use Rattle.j39_paths.specs.Forwards.{ComesAfter, Follows, IsFollowed, at_once, later}
+use Rattle.j39_paths.specs.ForwardEnds.{ComesAfter, FollowsAt, IsFollowedBy, at_once, later}
 use Rattle.j39_paths.specs.Loops.{AreFollowers, followers}
 use Rattle.j39_paths.specs.PathTables.{row_at}
 use Rattle.j39_paths.specs.inside.Spreading.{IsOneStep, IsWayTo, Rows, StayInside, further, straight}
@@ -28,20 +28,20 @@ row_is v rows n are =
     or_map (λ row. row.items) (slice_get rows n) [] ∙ ap (λ o. unwrap_or o []) same ∙ sym (or_map (followers v) (slice_get v.forwards.items n) [])
 
 follows_in : (v : Vehicle) (n m : ℕ) (o : Option Forward) → slice_get v.forwards.items n ≡ o → Contains (option_map_or (followers v) o []) m
-    → Follows v n m
+    → FollowsAt v n m
 follows_in v n m None is h = absurd (omega arith)
 follows_in v n m (Some first) is h =
-    let there = of_passing (IsFollowed v first) (Decides-is_followed v first) v.forwards.items m h in
+    let there = of_passing (IsFollowedBy v first) (Decides-is_followed v first) v.forwards.items m h in
     record { first = first; first_is = is; second = there.value; second_is = there.value_is; followed = there.meets }
 
-leads_follows : (v : Vehicle) (rows : Rows) (n m : ℕ) → AreFollowers v rows → IsOneStep rows n m → Follows v n m
+leads_follows : (v : Vehicle) (rows : Rows) (n m : ℕ) → AreFollowers v rows → IsOneStep rows n m → FollowsAt v n m
 leads_follows v rows n m are h =
     follows_in v n m (slice_get v.forwards.items n) refl (subst (λ xs. Contains xs m) (row_is v rows n are) h)
 
-follows_leads : (v : Vehicle) (rows : Rows) (n m : ℕ) → AreFollowers v rows → Follows v n m → IsOneStep rows n m
+follows_leads : (v : Vehicle) (rows : Rows) (n m : ℕ) → AreFollowers v rows → FollowsAt v n m → IsOneStep rows n m
 follows_leads v rows n m are f =
     let among : Contains (followers v f.first) m =
-    passing_of (IsFollowed v f.first) (Decides-is_followed v f.first) v.forwards.items m
+    passing_of (IsFollowedBy v f.first) (Decides-is_followed v f.first) v.forwards.items m
     (record { value = f.second; value_is = f.second_is; meets = f.followed }) in
     let row : row_at rows n ≡ followers v f.first = row_is v rows n are ∙ ap (λ o. option_map_or (followers v) o []) f.first_is in
     subst (λ xs. Contains xs m) (sym row) among

@@ -10,7 +10,7 @@ use Rattle.j39_rules.proofs.Members.{of_in_each, in_each_of, of_found_if, found_
 use Rattle.j39_rules.proofs.Rising.{AllPairs-from_Rises, Rises-found_if, Rises-in_each}
 use Rattle.j39_vehicle.specs.declared.vehicle.Vehicle.{Vehicle}
 use Rattle.j39_vehicle.specs.declared.vehicle.forward.Forward.{Forward}
-use Rattle.j39_paths.specs.Forwards.{ComesAfter, at_once, later}
+use Rattle.j39_paths.specs.ForwardEnds.{ComesAfter, at_once, later}
 use Rattle.j39_paths.specs.Loops.{TellLoops}
 use Rattle.j39_paths.specs.VehicleFindings.{AreFindings, AreTwoForwards, CopiesOtherLayout, HasManyInputs, HasManyOutputs, HasNoInput, HasNoOutput, Holds, IsBefore, IsNeedUnmet, finding_number}
 use Rattle.j39_paths.specs.FoundPaths.{are_two_forwards, content_findings, copies_other_layout, differences, end_findings, has_many_inputs, has_many_outputs, has_no_input, has_no_output, is_need_unmet, loop_findings, need_findings, path_findings, queue_findings, shared_queues, vehicle_findings}

@@ -14,7 +14,7 @@ use Rattle.j39_paths.specs.declared.point.FlowAt.{FlowAt}
 use Rattle.j39_paths.specs.declared.point.Point.{Point}
 use Rattle.j39_paths.specs.declared.tables.PathTables.{PathTables}
 use Rattle.j39_paths.specs.Buses.{flows_on}
-use Rattle.j39_paths.specs.Forwards.{output_flows}
+use Rattle.j39_paths.specs.ForwardEnds.{output_flows}
 use Rattle.j39_paths.specs.ForwardTests.{feeds, is_output}
 use Rattle.j39_paths.specs.PathTables.{AreTables, carries_at, feeders, row_at, row_of}
 use Rattle.j39_paths.specs.Traces.{carries, first_input, next_forward}

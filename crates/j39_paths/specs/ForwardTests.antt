@@ -13,21 +13,21 @@ use Rattle.j39_vehicle.specs.declared.vehicle.forward.Mode.TheVariants.{Direct, 
 use Rattle.j39_vehicle.specs.declared.vehicle.places.UnitAt.{UnitAt}
 use Rattle.j39_paths.specs.Buses.{requests_on}
 use Rattle.j39_paths.specs.declared.point.FlowAt.{FlowAt}
-use Rattle.j39_paths.specs.Forwards.{heard, listed, output_flows, units_of_gateway}
+use Rattle.j39_paths.specs.ForwardEnds.{need_of_hearer, listed, output_flows, units_of_gateway}
 
-abbrev pub is_among : List UnitAt → ℕ → ℕ → Bool
-is_among units bus unit = list_any (λ w. w.bus == bus && w.unit == unit) units
+abbrev pub is_unit_among : List UnitAt → ℕ → ℕ → Bool
+is_unit_among units bus unit = list_any (λ w. w.bus == bus && w.unit == unit) units
 
 abbrev pub is_input : Vehicle → Forward → FlowPlan → Bool
-is_input v forward flow = meets (requests_on v.buses.items forward.input.bus) (heard forward) flow
-    && not (is_among (units_of_gateway v forward.gateway) forward.input.bus flow.sender)
+is_input v forward flow = meets (requests_on v.buses.items forward.input.bus) (need_of_hearer forward) flow
+    && not (is_unit_among (units_of_gateway v forward.gateway) forward.input.bus flow.sender)
 
-abbrev pub goes_to : Option To → To → Bool
-goes_to None to = true
-goes_to (Some receiver) to = have_same_receiver to receiver
+abbrev pub goes_to_receiver : Option To → To → Bool
+goes_to_receiver None to = true
+goes_to_receiver (Some receiver) to = have_same_receiver to receiver
 
 abbrev pub is_output : Forward → FlowPlan → Bool
-is_output forward flow = flow.group == forward.output.group && (flow.sender == forward.sender && goes_to forward.to flow.to)
+is_output forward flow = flow.group == forward.output.group && (flow.sender == forward.sender && goes_to_receiver forward.to flow.to)
 
 abbrev pub feeds : Vehicle → FlowAt → Forward → Bool
 feeds v at forward = forward.output.bus == at.bus && option_map_or (is_output forward) (slice_get (output_flows v forward) at.flow) false
@@ -49,9 +49,9 @@ abbrev pub is_direct : Forward → Bool
 is_direct forward = is_direct_mode forward.mode
 
 -- the flow is an output of the one and an input of the other
-abbrev pub is_between : Vehicle → Forward → Forward → FlowPlan → Bool
-is_between v n m flow = is_output n flow && is_input v m flow
+abbrev pub is_between_units : Vehicle → Forward → Forward → FlowPlan → Bool
+is_between_units v n m flow = is_output n flow && is_input v m flow
 
 abbrev pub is_followed : Vehicle → Forward → Forward → Bool
 is_followed v n m =
-    n.output.bus == m.input.bus && (n.output.group == m.input.group && list_any (is_between v n m) (output_flows v n))
+    n.output.bus == m.input.bus && (n.output.group == m.input.group && list_any (is_between_units v n m) (output_flows v n))

@@ -21,10 +21,10 @@ use Rattle.j39_vehicle.specs.declared.vehicle.gateway.Gateway.{Gateway}
 use Rattle.j39_vehicle.specs.declared.vehicle.places.UnitAt.{UnitAt}
 use Rattle.j39_vehicle.specs.declared.vehicle.vehicle_need.VehicleNeed.{VehicleNeed}
 use Rattle.j39_paths.specs.Buses.{group_at, requests_on, spn_at}
-use Rattle.j39_paths.specs.Forwards.{input_flows, listed, output_flows}
+use Rattle.j39_paths.specs.ForwardEnds.{input_flows, listed, output_flows}
 use Rattle.j39_paths.specs.ForwardTests.{copies, is_direct, is_input, is_output, write_one_signal}
 use Rattle.j39_paths.specs.MatchTests.{are_alike, has}
-use Rattle.j39_paths.specs.Traces.{first_agreeing, flows_of_need, is_from_origin, needed}
+use Rattle.j39_paths.specs.Traces.{first_agreeing, flows_of_need, is_from_origin, need_on_bus}
 use Rattle.j39_paths.specs.declared.finding.VehicleFinding.{VehicleFinding}
 use Rattle.j39_paths.specs.declared.finding.VehicleFinding.TheVariants.{NoInput, ManyInputs, NoOutput, ManyOutputs, LayoutDiffers, SignalDiffers, TwoForwards, ForwardLoop, NeedUnmet, SharedQueue}
 
@@ -121,7 +121,7 @@ are_two_forwards v n m = feed_one_flow v n m && are_at_odds n m
 -- ---- needs
 
 abbrev pub is_need_flow : Vehicle → VehicleNeed → ℕ → FlowPlan → Bool
-is_need_flow v d f flow = meets (requests_on v.buses.items d.unit.bus) (needed d) flow && is_from_origin v d f
+is_need_flow v d f flow = meets (requests_on v.buses.items d.unit.bus) (need_on_bus d) flow && is_from_origin v d f
 
 -- some value from this place on passes the test
 unfoldable pub some_at : {A : Type 0} → (ℕ → A → Bool) → ℕ → List A → Bool
@@ -133,13 +133,13 @@ is_need_unmet v d = not (some_at (is_need_flow v d) 0 (flows_of_need v d))
 
 -- ---- queues
 
-abbrev pub is_any : Queue → Bool
-is_any Any = true
-is_any Priority = false
+abbrev pub is_any_queue : Queue → Bool
+is_any_queue Any = true
+is_any_queue Priority = false
 
 abbrev pub has_any_queue : Gateway → ℕ → BusPlan → Bool
 has_any_queue gateway b bus =
-    list_any (λ (u : UnitAt). u.bus == b && option_map_or (λ (w : UnitPlan). is_any w.queue) (slice_get bus.plan.units.items u.unit) false) gateway.units.items
+    list_any (λ (u : UnitAt). u.bus == b && option_map_or (λ (w : UnitPlan). is_any_queue w.queue) (slice_get bus.plan.units.items u.unit) false) gateway.units.items
 
 abbrev pub has_timing : BusPlan → Bool
 has_timing bus = option_map_or (λ (timing : Timing). true) bus.plan.timing false

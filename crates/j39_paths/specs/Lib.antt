@@ -1,5 +1,5 @@
 pub mod Buses
-pub mod Forwards
+pub mod ForwardEnds
 pub mod ForwardTests
 pub mod FoundPaths
 pub mod inside

@@ -6,7 +6,7 @@ use Rattle.std.specs.declared.alloc.Global.{Global}
 use Rattle.std.specs.declared.vec.Vec.{Vec}
 use Rattle.j39_vehicle.specs.declared.vehicle.Vehicle.{Vehicle}
 use Rattle.j39_vehicle.specs.declared.vehicle.forward.Forward.{Forward}
-use Rattle.j39_paths.specs.Forwards.{ComesAfter}
+use Rattle.j39_paths.specs.ForwardEnds.{ComesAfter}
 use Rattle.j39_paths.specs.ForwardTests.{is_followed}
 use Rattle.j39_paths.specs.PassingPlaces.{passing}
 

@@ -8,9 +8,9 @@ use Rattle.j39_signal.specs.declared.kind.Kind.{Kind}
 use Rattle.j39_signal.specs.declared.kind.Kind.TheVariants.{Measured, Discrete, Raw, States, Signed, Dtc}
 use Rattle.j39_paths.specs.Matching.{has_values_of}
 
-abbrev pub is_code : Kind → Bool
-is_code Dtc = true
-is_code _ = false
+abbrev pub is_trouble_code : Kind → Bool
+is_trouble_code Dtc = true
+is_trouble_code _ = false
 
 -- each kind by a number of its own
 abbrev pub kind_number : Kind → ℕ
@@ -43,7 +43,7 @@ are_same_numbers (Some a) (Some b) = a == b
 
 abbrev pub are_alike : SignalParts → Option ℕ → SignalParts → Option ℕ → Bool
 are_alike s s_number t t_number =
-    are_same_units s.unit.bytes t.unit.bytes && (are_same_numbers s_number t_number && same_flag (is_code s.kind) (is_code t.kind))
+    are_same_units s.unit.bytes t.unit.bytes && (are_same_numbers s_number t_number && same_flag (is_trouble_code s.kind) (is_trouble_code t.kind))
 
 -- ---- values
 

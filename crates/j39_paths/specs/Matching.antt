@@ -77,7 +77,7 @@ abbrev pub MayBeUnset : SignalParts → Type 0
 MayBeUnset s = (¬ IsAlwaysValue s.kind) ⊎ (s.optional ≡ true)
 
 -- t has s: whatever s says as a value, t can say
-pub record Has (s t : SignalParts) : Type 0 where
+pub record CanStandFor (s t : SignalParts) : Type 0 where
   pub s_width : WidthFits s
   pub t_width : WidthFits t
   pub unset : ¬ (IsAlwaysValue t.kind × MayBeUnset s)

@@ -15,7 +15,7 @@ use Rattle.j39_vehicle.specs.declared.vehicle.places.UnitAt.{UnitAt}
 use Rattle.j39_vehicle.specs.declared.vehicle.vehicle_need.VehicleNeed.{VehicleNeed}
 use Rattle.j39_paths.specs.Buses.{flows_on, group_at, requests_on}
 use Rattle.j39_paths.specs.declared.point.Point.{Point}
-use Rattle.j39_paths.specs.Forwards.{input_flows, listed}
+use Rattle.j39_paths.specs.ForwardEnds.{input_flows, listed}
 use Rattle.j39_paths.specs.ForwardTests.{copies, feeds, is_input, writes}
 use Rattle.j39_paths.specs.MatchTests.{agree}
 
@@ -78,8 +78,8 @@ is_sent_by v u p = p.at.bus == u.bus && option_map_or (λ (f : FlowPlan). f.send
 -- ---- needs
 
 -- the need as one of the bus of its unit, from any unit
-abbrev pub needed : VehicleNeed → NeedPlan
-needed d = record {
+abbrev pub need_on_bus : VehicleNeed → NeedPlan
+need_on_bus d = record {
   unit = d.unit.unit;
   group = d.group;
   signal = None;
@@ -97,5 +97,5 @@ is_from_origin v d f = option_map_or (is_sent_by v d.from) (origin v (point_on d
 
 -- a flow of the need: it brings the unit what it needs, and comes from that unit
 pub record IsNeedFlow (v : Vehicle) (d : VehicleNeed) (f : ℕ) (flow : FlowPlan) : Type 0 where
-  pub meets : Meets (requests_on v.buses.items d.unit.bus) (needed d) flow
+  pub meets : Meets (requests_on v.buses.items d.unit.bus) (need_on_bus d) flow
   pub from : is_from_origin v d f ≡ true

@@ -17,8 +17,8 @@ use Rattle.j39_vehicle.specs.declared.vehicle.forward.ForwardedSignal.{Forwarded
 use Rattle.j39_vehicle.specs.declared.vehicle.gateway.Gateway.{Gateway}
 use Rattle.j39_vehicle.specs.declared.vehicle.vehicle_need.VehicleNeed.{VehicleNeed}
 use Rattle.j39_paths.specs.Buses.{group_at, spn_at}
-use Rattle.j39_paths.specs.Forwards.{ComesAfter, Copies, IsDirect, IsInput, IsOutput, WriteOneSignal, input_flows, listed, output_flows}
-use Rattle.j39_paths.specs.Matching.{AreAlike, Has}
+use Rattle.j39_paths.specs.ForwardEnds.{ComesAfter, Copies, IsDirect, IsInput, IsOutput, WriteOneSignal, input_flows, listed, output_flows}
+use Rattle.j39_paths.specs.Matching.{AreAlike, CanStandFor}
 use Rattle.j39_paths.specs.Traces.{IsNeedFlow, first_agreeing, flows_of_need}
 use Rattle.j39_paths.specs.declared.finding.VehicleFinding.{VehicleFinding}
 use Rattle.j39_paths.specs.declared.finding.VehicleFinding.TheVariants.{NoInput, ManyInputs, NoOutput, ManyOutputs, LayoutDiffers, SignalDiffers, TwoForwards, ForwardLoop, NeedUnmet, SharedQueue}
@@ -78,7 +78,7 @@ IsInSelector h t = (w : Selector) × (h.when ≡ Some w) × SharesBit t (record 
 
 -- what goes into t differs: it isn't alike, or has to be exact and t hasn't what it says, or t has a bit of the selector
 abbrev pub DiffersFrom : GroupPlan → GroupPlan → ℕ → SignalParts → ForwardedSignal → Type 0
-DiffersFrom g h j t f = ValueAt (λ s. AreUnlike g f.read s h j t ⊎ ((f.exact ≡ true) × (¬ Has s t))) g.signals.items f.read ⊎ IsInSelector h t
+DiffersFrom g h j t f = ValueAt (λ s. AreUnlike g f.read s h j t ⊎ ((f.exact ≡ true) × (¬ CanStandFor s t))) g.signals.items f.read ⊎ IsInSelector h t
 
 -- some signal goes into t, and differs
 abbrev pub IsWrittenOtherwise : Forward → GroupPlan → GroupPlan → ℕ → SignalParts → Type 0

@@ -2,8 +2,8 @@
 ghost use Rattle.std.specs.Prelude.{◌≡◌};
 ghost use Rattle.std.specs.List.{list_any};
 ghost use Rattle.j39_network.specs.Serving.{meets};
-ghost use Rattle.j39_paths.specs.Forwards.{heard, input_flows, listed, output_flows, units_of_gateway};
-ghost use Rattle.j39_paths.specs.ForwardTests.{copies, feeds, goes_to, is_among, is_direct, is_between, is_followed, is_input, is_output, write_one_signal, writes};
+ghost use Rattle.j39_paths.specs.ForwardEnds.{need_of_hearer, input_flows, listed, output_flows, units_of_gateway};
+ghost use Rattle.j39_paths.specs.ForwardTests.{copies, feeds, goes_to_receiver, is_unit_among, is_direct, is_between_units, is_followed, is_input, is_output, write_one_signal, writes};
 ghost use Rattle.j39_paths.specs.Traces.{first_input};
 
 use crate::buses::{flows_on, requests_on};
@@ -21,7 +21,7 @@ fn units_of_gateway(vehicle: &Vehicle, gateway: usize) -> &[UnitAt]
 }
 
 fn is_among(units: &[UnitAt], bus: usize, unit: usize) -> bool
-    ensures { result ≡ is_among units.now bus unit }
+    ensures { result ≡ is_unit_among units.now bus unit }
 {
     units
         .iter()
@@ -30,7 +30,7 @@ fn is_among(units: &[UnitAt], bus: usize, unit: usize) -> bool
 
 // Whether the flow brings the gateway's unit what it has to hear for the forward.
 fn is_heard(requests: &[RequestPlan], forward: &Forward, flow: &FlowPlan) -> bool
-    ensures { result ≡ meets requests.now (heard forward.now) flow.now }
+    ensures { result ≡ meets requests.now (need_of_hearer forward.now) flow.now }
 {
     let need = NeedPlan {
         unit: forward.hearer,
@@ -72,7 +72,7 @@ pub fn is_input(vehicle: &Vehicle, forward: &Forward, flow: &FlowPlan) -> bool
 
 // Whether a flow to these is meant.
 fn goes_to(receiver: Option<To>, to: To) -> bool
-    ensures { result ≡ goes_to receiver to }
+    ensures { result ≡ goes_to_receiver receiver to }
 {
     match receiver {
         None => true,
@@ -158,14 +158,14 @@ pub fn is_direct(forward: &Forward) -> bool
 
 // Whether the flow is an output of the one and an input of the other.
 fn is_between(vehicle: &Vehicle, one: &Forward, other: &Forward, flow: &FlowPlan) -> bool
-    ensures { result ≡ is_between vehicle.now one.now other.now flow.now }
+    ensures { result ≡ is_between_units vehicle.now one.now other.now flow.now }
 {
     is_output(one, flow) && is_input(vehicle, other, flow)
 }
 
 // Whether some flow of the one's outputs is.
 fn some_is_between(vehicle: &Vehicle, one: &Forward, other: &Forward) -> bool
-    ensures { result ≡ list_any (is_between vehicle.now one.now other.now) (output_flows vehicle.now one.now) }
+    ensures { result ≡ list_any (is_between_units vehicle.now one.now other.now) (output_flows vehicle.now one.now) }
 {
     output_flows(vehicle, one)
         .iter()

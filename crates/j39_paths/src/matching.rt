@@ -2,7 +2,7 @@
 ghost use Rattle.std.specs.Prelude.{◌≡◌, ◌==◌, ◌&&◌, ◌-◌, ◌*◌, ◌%◌, ◌≤◌, ◌*ℤ◌, pos};
 ghost use Rattle.j39_signal.specs.Places.{WidthFits};
 ghost use Rattle.j39_paths.specs.Matching.{first_value, has_value, has_values_of, is_on_steps, last_value, steps_above, steps_below};
-ghost use Rattle.j39_paths.specs.MatchTests.{agree, are_alike, are_same_numbers, are_same_units, has, is_always_value, is_code, kind_number, may_be_unset, same_scale};
+ghost use Rattle.j39_paths.specs.MatchTests.{agree, are_alike, are_same_numbers, are_same_units, has, is_always_value, is_trouble_code, kind_number, may_be_unset, same_scale};
 
 use j39_id::Label;
 use j39_signal::{Kind, Signal};
@@ -50,7 +50,7 @@ fn are_same_numbers(one: Option<u32>, other: Option<u32>) -> bool
 }
 
 fn is_code(kind: Kind) -> bool
-    ensures { result ≡ is_code kind }
+    ensures { result ≡ is_trouble_code kind }
 {
     match kind {
         Kind::Dtc => true,

@@ -2,7 +2,7 @@
 ghost use Rattle.std.specs.Prelude.{◌≡◌, ◌==◌};
 ghost use Rattle.std.specs.List.{position};
 ghost use Rattle.std.specs.Option.{option_copied};
-ghost use Rattle.j39_paths.specs.Forwards.{listed};
+ghost use Rattle.j39_paths.specs.ForwardEnds.{listed};
 ghost use Rattle.j39_paths.specs.Traces as spec;
 ghost use Rattle.j39_paths.specs.Traces.{agreeing_in, behind_forward, carries, copied_into, first_agreeing, goes_into, goes_on, is_from_origin, is_sent_by, next_forward, origin, put_into};
 

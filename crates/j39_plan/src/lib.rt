@@ -4,9 +4,14 @@
 mod laws;
 mod reading;
 
-pub use j39_findings::{CheckedPlan, Finding, Findings, Refused, RefusedCause, bad_run, check, checked, clean_parts, clean_where_none, conflict_runs_are_exact, found_exactly, signals_are_sound};
-
-pub use j39_network::{Bitrate, ErrorRate, FlowPlan, GroupFault, GroupPlan, NeedPlan, Pace, Plan, Queue, RequestPlan, Step, TextPlan, Timing, To, UnitPlan, Way, layout_of};
+pub use j39_findings::{
+    CheckedPlan, Finding, Findings, Refused, RefusedCause, bad_run, check, checked, clean_parts,
+    clean_where_none, conflict_runs_are_exact, found_exactly, signals_are_sound,
+};
+pub use j39_network::{
+    Bitrate, ErrorRate, FlowPlan, GroupFault, GroupPlan, NeedPlan, Pace, Plan, Queue, RequestPlan,
+    Step, TextPlan, Timing, To, UnitPlan, Way, layout_of,
+};
 pub use laws::{
     a_file_describes_one_plan, older_versions_know_what_they_knew, plans_without_later_keys,
 };

@@ -10,8 +10,8 @@ ghost use Rattle.j39_run.specs.RunText.{halt_lines, line_cause, refused_line, re
 use crate::halt::Halt;
 use crate::unit_state::{UnitState, state_of};
 use j39_bus::{Bus, Report, StepError};
-use j39_network::Plan;
 use j39_id::{Frame, print_frame};
+use j39_network::Plan;
 use j39_schedule::LineFault;
 use j39_text::{TextBuffer, unit_label};
 use std::alloc::AllocError;

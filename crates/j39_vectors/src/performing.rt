@@ -4,8 +4,8 @@ use j39_app::{
     Fault, Sink, Source, Verdict, addresses_text, bus_plan, check_text, follow_text, input_text,
     load_text, plan_text, read_text, run_planned, show_text, vehicle_file, vehicle_text,
 };
-use j39_network::Plan;
 use j39_id::Label;
+use j39_network::Plan;
 use j39_vehicle::BusPlan;
 use j39_vehicle::limits::BUS_LIMIT;
 use std::alloc::{AllocError, Global};

@@ -26,7 +26,7 @@ use Rattle.j39_vehicle.specs.declared.vehicle.places.UnitAt.{UnitAt}
 use Rattle.j39_vehicle.specs.declared.vehicle.places.GroupAt.{GroupAt}
 use Rattle.j39_vehicle.specs.VehiclePlaces.{HasUnit, HasGroup, HasForward, HasNeed, unit_count, group_count, signals_at}
 use Rattle.j39_vehicle.specs.TextKinds.{name_of}
-use Rattle.j39_vehicle.specs.Found.{bus_place, units_on, groups_on, signals_of, unit_place, group_place, signal_place, unit_named, group_named, receivers_on, own_label, units_by}
+use Rattle.j39_vehicle.specs.LabelsFound.{bus_place, units_on, groups_of_bus, signals_in_group, unit_place, group_place, signal_place, unit_labelled, group_named, receivers_on, own_label, units_by}
 
 pub place_below : {X : Type 0} (p : X → Bool) (xs : List X) (i : ℕ) → position p xs ≡ Some i → i < length xs
 place_below p [] i is = cc
@@ -46,7 +46,7 @@ unit_there buses b label u is =
 
 pub group_there : (buses : List BusPlan) (b : ℕ) (label : List ℕ) (g : ℕ) → group_place buses b label ≡ Some g → g < group_count buses b
 group_there buses b label g is =
-    subst (λ n. g < n) (groups_counted (slice_get buses b)) (place_below (λ x. bytes_eq x.label.bytes label) (groups_on buses b) g is)
+    subst (λ n. g < n) (groups_counted (slice_get buses b)) (place_below (λ x. bytes_eq x.label.bytes label) (groups_of_bus buses b) g is)
 
 at_bus : (buses : List BusPlan) (label : List ℕ) (place : Option ℕ) (b : ℕ) (u : UnitAt) → place ≡ unit_place buses b label
     → option_map (λ n. record { bus = b; unit = n }) place ≡ Some u → HasUnit buses u
@@ -59,7 +59,7 @@ unit_on : (buses : List BusPlan) (label : List ℕ) (bus : Option ℕ) (u : Unit
 unit_on buses label None u found = cc
 unit_on buses label (Some b) u found = at_bus buses label (unit_place buses b label) b u refl found
 
-pub unit_found : (buses : List BusPlan) (t : List ℕ) (u : UnitAt) → unit_named buses t ≡ Some u → HasUnit buses u
+pub unit_found : (buses : List BusPlan) (t : List ℕ) (u : UnitAt) → unit_labelled buses t ≡ Some u → HasUnit buses u
 unit_found buses t u found = unit_on buses (name_of t).label (bus_place buses (name_of t).bus) u found
 
 group_at_bus : (buses : List BusPlan) (label : List ℕ) (place : Option ℕ) (b : ℕ) (g : GroupAt) → place ≡ group_place buses b label
@@ -106,7 +106,7 @@ signals_counted (Some bus) g = counted (slice_get bus.plan.groups.items g)
 pub signal_there : (buses : List BusPlan) (g : GroupAt) (label : List ℕ) (s : ℕ) → signal_place buses g label ≡ Some s → s < signals_at buses g
 signal_there buses g label s is =
     subst (λ n. s < n) (signals_counted (slice_get buses g.bus) g.group)
-    (place_below (λ x. bytes_eq x.label.bytes label && not x.repeated) (signals_of buses g) s is)
+    (place_below (λ x. bytes_eq x.label.bytes label && not x.repeated) (signals_in_group buses g) s is)
 
 pub given_signal_there : (buses : List BusPlan) (g : GroupAt) (given : Option (List ℕ)) (s : ℕ)
     → option_and_then (signal_place buses g) given ≡ Some s → s < signals_at buses g

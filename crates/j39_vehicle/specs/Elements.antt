@@ -27,9 +27,9 @@ each_faults faults name i seen no_items = []
 each_faults faults name i seen (item d ds) = faults i seen d ++ each_faults faults name (suc i) (seen ++ name d ∷ []) ds
 
 -- what the elements have
-unfoldable pub names_of : (Data → Named) → Items → List Named
-names_of name no_items = []
-names_of name (item d ds) = name d ∷ names_of name ds
+unfoldable pub labels_named : (Data → Named) → Items → List Named
+labels_named name no_items = []
+labels_named name (item d ds) = name d ∷ labels_named name ds
 
 abbrev pub is_label_among : List Named → List ℕ → Bool
 is_label_among seen t = list_any (λ n. bytes_eq n.label t) seen

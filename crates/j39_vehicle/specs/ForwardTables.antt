@@ -17,10 +17,10 @@ use Rattle.j39_vehicle.specs.declared.vehicle.forward.Mode.TheVariants.{Direct, 
 use Rattle.j39_vehicle.specs.declared.file.forward_table.ForwardTable.{ForwardTable}
 use Rattle.j39_vehicle.specs.declared.file.signal_table.SignalTable.{SignalTable}
 use Rattle.j39_vehicle.specs.TextKinds.{name_of}
-use Rattle.j39_vehicle.specs.Schema.{Rule, needed, optional, number, text_of, array_up_to, text_at, number_at, array_at, elements_at}
+use Rattle.j39_vehicle.specs.Schema.{Rule, needed, optional, number, text_of, array_up_to, text_at, number_under, array_at, elements_at}
 use Rattle.j39_vehicle.specs.TableFaults.{table_faults, table_only_faults, label_faults}
 use Rattle.j39_vehicle.specs.Elements.{Named, each_faults, is_label_among}
-use Rattle.j39_vehicle.specs.SignalTables.{IsSignalOf, signal_name, signal_faults}
+use Rattle.j39_vehicle.specs.SignalTables.{IsSignalOf, forwarded_name, signal_faults}
 
 -- what is sent, by whom to whom, when, and which signals of it are written
 abbrev pub sent_rules : List Rule
@@ -49,8 +49,8 @@ abbrev pub gateway_place : List Named → List ℕ → Option ℕ
 gateway_place gateways label = position (λ g. bytes_eq g.label label) gateways
 
 -- the units of the gateway of this label: none where there is none
-abbrev pub units_of : List Named → Option (List ℕ) → List (List ℕ)
-units_of gateways label =
+abbrev pub units_of_named : List Named → Option (List ℕ) → List (List ℕ)
+units_of_named gateways label =
     option_map_or (λ g. g.units) (option_and_then (slice_get gateways) (option_and_then (gateway_place gateways) label)) []
 
 -- one of the units is on this bus, and is called so there
@@ -71,7 +71,7 @@ is_unit_beside units group unit =
 
 -- a gateway that isn't there, groups on buses where it has no unit, and units that it doesn't have there
 unfoldable pub known_faults : Table → List Named → (gateway heard at_unit sent by_unit : Option (List ℕ)) → List Fault
-known_faults at gateways gateway heard at_unit sent by_unit = let units = units_of gateways gateway in
+known_faults at gateways gateway heard at_unit sent by_unit = let units = units_of_named gateways gateway in
     label_faults at key.Gateway (option_map_or (is_label_among gateways) gateway false)
     ++ (label_faults at key.Group (is_group_on units heard)
     ++ (label_faults at key.At (is_unit_beside units heard at_unit)
@@ -108,7 +108,7 @@ pub record TellsForward (ms : Members) (f : ForwardTable) : Type 0 where
   pub has_by : text_at key.By ms ≡ option_map string_bytes f.by
   pub has_to : text_at key.To ms ≡ option_map string_bytes f.to
   pub has_mode : f.mode ≡ mode_of (text_at key.Mode ms)
-  pub has_within : f.within ≡ number_at key.Within ms
+  pub has_within : f.within ≡ number_under key.Within ms
   pub has_signals : TellsSignals (array_at key.Signal ms) (option_map (λ v. v.items) f.signals)
 
 abbrev pub IsForwardOf : Data → ForwardTable → Type 0
@@ -118,7 +118,7 @@ abbrev pub forward_keys_faults : ℕ → Members → List Fault
 forward_keys_faults i ms = table_faults (at.Forward i) forward_rules ms
 
 abbrev pub forward_signals_faults : ℕ → Members → List Fault
-forward_signals_faults i ms = each_faults (signal_faults i) signal_name 0 [] (elements_at key.Signal ms)
+forward_signals_faults i ms = each_faults (signal_faults i) forwarded_name 0 [] (elements_at key.Signal ms)
 
 -- the keys, the signals, and then the labels
 unfoldable pub forward_table_faults : List Named → ℕ → Members → List Fault

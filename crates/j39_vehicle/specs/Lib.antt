@@ -2,7 +2,7 @@ pub mod BusTables
 pub mod Described
 pub mod Elements
 pub mod ForwardTables
-pub mod Found
+pub mod LabelsFound
 pub mod GatewayTables
 pub mod Growing
 pub mod NeedTables

@@ -10,7 +10,7 @@ use Rattle.j39_vehicle.specs.declared.reading.fault.Fault.{Fault}
 use Rattle.j39_vehicle.specs.declared.reading.text_kind.TextKind.TheVariants as texts
 use Rattle.j39_vehicle.specs.declared.file.need_table.NeedTable.{NeedTable}
 use Rattle.j39_vehicle.specs.TextKinds.{name_of}
-use Rattle.j39_vehicle.specs.Schema.{Rule, needed, optional, number, text_of, text_at, number_at}
+use Rattle.j39_vehicle.specs.Schema.{Rule, needed, optional, number, text_of, text_at, number_under}
 use Rattle.j39_vehicle.specs.TableFaults.{table_faults, table_only_faults, label_faults}
 use Rattle.j39_vehicle.specs.Elements.{Named, is_label_among}
 
@@ -33,7 +33,7 @@ pub record TellsNeed (ms : Members) (d : NeedTable) : Type 0 where
   pub has_group : text_at key.Group ms ≡ Some (string_bytes d.group)
   pub has_signal : text_at key.Signal ms ≡ option_map string_bytes d.signal
   pub has_from : text_at key.From ms ≡ Some (string_bytes d.from.text)
-  pub has_within : d.within ≡ number_at key.Within ms
+  pub has_within : d.within ≡ number_under key.Within ms
 
 abbrev pub IsNeedOf : Data → NeedTable → Type 0
 IsNeedOf d need = TellsNeed (inside d) need

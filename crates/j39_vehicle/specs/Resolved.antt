@@ -23,7 +23,7 @@ use Rattle.j39_vehicle.specs.declared.vehicle.forward.Forward.{Forward}
 use Rattle.j39_vehicle.specs.declared.vehicle.forward.ForwardedSignal.{ForwardedSignal}
 use Rattle.j39_vehicle.specs.declared.vehicle.vehicle_need.VehicleNeed.{VehicleNeed}
 use Rattle.j39_vehicle.specs.TableFaults.{fault, label_faults}
-use Rattle.j39_vehicle.specs.Found.{unit_named, unit_place, group_named, group_place, signal_place, receivers_on, gateway_labelled, units_by, own_unit, is_given_found}
+use Rattle.j39_vehicle.specs.LabelsFound.{unit_labelled, unit_place, group_named, group_place, signal_place, receivers_on, gateway_labelled, units_by, own_unit, is_given_found}
 
 -- the faults of all tables of a kind from the i-th on
 unfoldable pub each_found : {S : Type 0} → (ℕ → S → List Fault) → ℕ → List S → List Fault
@@ -34,14 +34,14 @@ each_found faults i (x ∷ xs) = faults i x ++ each_found faults (suc i) xs
 
 -- the faults of a unit of the i-th gateway
 unfoldable pub unit_found : List BusPlan → ℕ → ℕ → NameOnBus → List Fault
-unit_found buses i j n = label_faults (at.Gateway i) key.Unit (is_some (unit_named buses (string_bytes n.text)))
+unit_found buses i j n = label_faults (at.Gateway i) key.Unit (is_some (unit_labelled buses (string_bytes n.text)))
 
 unfoldable pub gateway_found : List BusPlan → ℕ → GatewayTable → List Fault
 gateway_found buses i g = each_found (unit_found buses i) 0 g.units.items
 
 -- the unit that a name stands for
 abbrev pub StandsForName : List BusPlan → NameOnBus → UnitAt → Type 0
-StandsForName buses n u = unit_named buses (string_bytes n.text) ≡ Some u
+StandsForName buses n u = unit_labelled buses (string_bytes n.text) ≡ Some u
 
 pub record StandsForGateway (buses : List BusPlan) (g : GatewayTable) (h : Gateway) : Type 0 where
   pub label : h.label ≡ g.label
@@ -49,16 +49,16 @@ pub record StandsForGateway (buses : List BusPlan) (g : GatewayTable) (h : Gatew
 
 -- ---- forwards
 
--- what has to be found first, and what is looked for behind it
-abbrev pub behind : {X : Type 0} → Table → Key → Option X → (X → List Fault) → List Fault
-behind at key None rest = fault UnknownLabel at (Some key) ∷ []
-behind at key (Some x) rest = rest x
+-- what has to be found first, and what is looked for behind_faults it
+abbrev pub behind_faults : {X : Type 0} → Table → Key → Option X → (X → List Fault) → List Fault
+behind_faults at key None rest = fault UnknownLabel at (Some key) ∷ []
+behind_faults at key (Some x) rest = rest x
 
 -- the faults of the i-th signal of the f-th forward, by the groups that are heard and sent
 unfoldable pub signal_found : List BusPlan → ℕ → GroupAt → GroupAt → ℕ → SignalTable → List Fault
 signal_found buses f heard sent i s =
-    behind (at.Signal f i) key.Label (signal_place buses heard (string_bytes s.read)) (λ read.
-    behind (at.Signal f i) key.As (signal_place buses sent (string_bytes s.written)) (λ written. []))
+    behind_faults (at.Signal f i) key.Label (signal_place buses heard (string_bytes s.read)) (λ read.
+    behind_faults (at.Signal f i) key.As (signal_place buses sent (string_bytes s.written)) (λ written. []))
 
 unfoldable pub signals_found : List BusPlan → ℕ → Option GroupAt → Option GroupAt → Option (List SignalTable) → List Fault
 signals_found buses i (Some heard) (Some sent) (Some signals) = each_found (signal_found buses i heard sent) 0 signals
@@ -66,13 +66,13 @@ signals_found buses i _ _ _ = []
 
 -- the group that is heard, the unit that has to send it, and the gateway's that hears it
 unfoldable pub heard_found : List BusPlan → List NameOnBus → ℕ → ForwardTable → List Fault
-heard_found buses units i f = behind (at.Forward i) key.Group (group_named buses (string_bytes f.input.text)) (λ heard.
+heard_found buses units i f = behind_faults (at.Forward i) key.Group (group_named buses (string_bytes f.input.text)) (λ heard.
     label_faults (at.Forward i) key.From (is_given_found (unit_place buses heard.bus) (option_map string_bytes f.from))
     ++ label_faults (at.Forward i) key.At (is_some (own_unit buses units f.input heard.bus f.at)))
 
 -- the group that is sent, the gateway's unit that sends it, and whom it sends it to
 unfoldable pub sent_found : List BusPlan → List NameOnBus → ℕ → ForwardTable → List Fault
-sent_found buses units i f = behind (at.Forward i) key.As (group_named buses (string_bytes f.output.text)) (λ sent.
+sent_found buses units i f = behind_faults (at.Forward i) key.As (group_named buses (string_bytes f.output.text)) (λ sent.
     label_faults (at.Forward i) key.By (is_some (own_unit buses units f.output sent.bus f.by))
     ++ label_faults (at.Forward i) key.To (is_given_found (receivers_on buses sent.bus) (option_map string_bytes f.to)))
 
@@ -116,16 +116,16 @@ group_beside b g = record { bus = b; group = g }
 
 unfoldable pub need_found : List BusPlan → ℕ → NeedTable → List Fault
 need_found buses i d =
-    behind (at.Need i) key.Unit (unit_named buses (string_bytes d.unit.text)) (λ unit.
-    behind (at.Need i) key.Group (group_place buses unit.bus (string_bytes d.group)) (λ group.
+    behind_faults (at.Need i) key.Unit (unit_labelled buses (string_bytes d.unit.text)) (λ unit.
+    behind_faults (at.Need i) key.Group (group_place buses unit.bus (string_bytes d.group)) (λ group.
     label_faults (at.Need i) key.Signal (is_given_found (signal_place buses (group_beside unit.bus group)) (option_map string_bytes d.signal))
-    ++ label_faults (at.Need i) key.From (is_some (unit_named buses (string_bytes d.from.text)))))
+    ++ label_faults (at.Need i) key.From (is_some (unit_labelled buses (string_bytes d.from.text)))))
 
 pub record StandsForNeed (buses : List BusPlan) (d : NeedTable) (r : VehicleNeed) : Type 0 where
-  pub unit : unit_named buses (string_bytes d.unit.text) ≡ Some r.unit
+  pub unit : unit_labelled buses (string_bytes d.unit.text) ≡ Some r.unit
   pub group : group_place buses r.unit.bus (string_bytes d.group) ≡ Some r.group
   pub signal : r.signal ≡ option_and_then (signal_place buses (group_beside r.unit.bus r.group)) (option_map string_bytes d.signal)
-  pub from : unit_named buses (string_bytes d.from.text) ≡ Some r.from
+  pub from : unit_labelled buses (string_bytes d.from.text) ≡ Some r.from
   pub within : r.within ≡ d.within
 
 -- ---- the vehicle
@@ -143,7 +143,7 @@ pub record StandsForFile (buses : List BusPlan) (file : VehicleFile) (v : Vehicl
   pub has_forwards : AllZip (StandsForForward buses file.gateways.items) file.forwards.items v.forwards.items
   pub has_needs : AllZip (StandsForNeed buses) file.needs.items v.needs.items
 
--- ---- where room is asked for: behind a table without a fault, or in one
+-- ---- where room is asked for: behind_faults a table without a fault, or in one
 
 abbrev pub FoundGrows : {S : Type 0} → (ℕ → S → List Fault) → (ℕ → S → Type 0) → List S → Type 0
 FoundGrows faults Grows [] = ⊥
@@ -170,7 +170,7 @@ abbrev pub ForwardFoundGrows : List BusPlan → ℕ → ForwardTable → Type 0
 ForwardFoundGrows buses i f = GroupsGrow buses i (group_named buses (string_bytes f.input.text))
     (group_named buses (string_bytes f.output.text)) (option_map (λ v. v.items) f.signals)
 
--- among the gateways, behind these among the forwards, or behind these among the needs
+-- among the gateways, behind_faults these among the forwards, or behind_faults these among the needs
 abbrev pub VehicleGrows : List BusPlan → VehicleFile → Type 0
 VehicleGrows buses file = FoundGrows (gateway_found buses) (GatewayFoundGrows buses) file.gateways.items
     ⊎ ((each_found (gateway_found buses) 0 file.gateways.items ≡ [])

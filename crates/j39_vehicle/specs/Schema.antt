@@ -32,8 +32,8 @@ abbrev pub number : ℕ → ℕ → Kind
 number low high = integer_in (pos low) (pos high)
 
 -- what stands at a key, where it is of that type
-unfoldable pub number_at : Key → Members → Option ℕ
-number_at k ms = option_map natural (option_and_then as_integer (get_member (word_of k) ms))
+unfoldable pub number_under : Key → Members → Option ℕ
+number_under k ms = option_map natural (option_and_then as_integer (get_member (word_of k) ms))
 
 unfoldable pub truth_at : Key → Members → Option Bool
 truth_at k ms = option_and_then as_bool (get_member (word_of k) ms)

@@ -20,8 +20,8 @@ signal_rules = needed key.Label (text_of texts.Any) ∷ optional key.As (text_of
 abbrev pub written_text : Members → List ℕ
 written_text ms = unwrap_or (option_or (text_at key.As ms) (text_at key.Label ms)) []
 
-abbrev pub signal_name : Data → Named
-signal_name d = labelled (written_text (inside d))
+abbrev pub forwarded_name : Data → Named
+forwarded_name d = labelled (written_text (inside d))
 
 -- what a signal that was read has
 abbrev pub named_signal : SignalTable → Named

@@ -8,7 +8,7 @@ use Rattle.j39_vehicle.specs.declared.reading.fault.Fault.{Fault}
 use Rattle.j39_vehicle.specs.VehicleLimits.{bus_limit, gateway_limit, forward_limit}
 use Rattle.j39_vehicle.specs.Schema.{Rule, needed, optional, number, array_up_to, elements_at}
 use Rattle.j39_vehicle.specs.TableFaults.{table_faults}
-use Rattle.j39_vehicle.specs.Elements.{Named, nameless, each_faults, names_of}
+use Rattle.j39_vehicle.specs.Elements.{Named, nameless, each_faults, labels_named}
 use Rattle.j39_vehicle.specs.BusTables.{bus_faults, bus_name}
 use Rattle.j39_vehicle.specs.GatewayTables.{gateway_faults, gateway_name}
 use Rattle.j39_vehicle.specs.ForwardTables.{forward_faults}
@@ -25,10 +25,10 @@ top_rules =
 
 -- the buses and the gateways that later tables may name
 abbrev pub buses_of : Members → List Named
-buses_of tree = names_of bus_name (elements_at key.Bus tree)
+buses_of tree = labels_named bus_name (elements_at key.Bus tree)
 
 abbrev pub gateways_of : Members → List Named
-gateways_of tree = names_of gateway_name (elements_at key.Gateway tree)
+gateways_of tree = labels_named gateway_name (elements_at key.Gateway tree)
 
 -- a forward and a need have nothing that another may not repeat
 abbrev pub no_name : Data → Named

@@ -7,8 +7,8 @@ ghost use Rattle.j39_vehicle_check.specs.VehicleBlocks.{AreBlocks, IsBlock, IsLo
 
 use crate::bus_file::write_bus;
 use j39_check::{PlanFindings, write_check, write_load};
-use j39_network::Plan;
 use j39_load::Loads;
+use j39_network::Plan;
 use j39_text::TextBuffer;
 use j39_vehicle::BusPlan;
 use std::alloc::{AllocError, Global};

@@ -5,8 +5,8 @@ ghost use Rattle.j39_stream.specs.Streams.{plan_limits};
 ghost use Rattle.j39_vehicle_check.specs.VehicleFileText.{IsBusPlanText, IsBusRefusal, IsRefusedBus, RefusesBus, bus_line};
 
 use j39_check::write_refusal;
-use j39_network::Plan;
 use j39_id::Label;
+use j39_network::Plan;
 use j39_plan::{PlanError, read_plan};
 use j39_stream::{Fault, Sink, Source, put_all, read_whole};
 use j39_text::TextBuffer;

@@ -3,10 +3,10 @@ ghost use Rattle.std.specs.Prelude.{◌≡◌, ◌++◌, Some, None, OnOk};
 ghost use Rattle.std.specs.List.{position};
 ghost use Rattle.std.specs.Option.{option_copied};
 ghost use Rattle.j39_load.specs.LineLists.{lines_of_each};
-ghost use Rattle.j39_paths.specs.Forwards.{output_flows};
+ghost use Rattle.j39_paths.specs.ForwardEnds.{output_flows};
 ghost use Rattle.j39_paths.specs.ForwardTests.{is_output};
 ghost use Rattle.j39_ages.specs.TimeFindings.{first_output};
-ghost use Rattle.j39_ages.specs.Times.{jitter_of, us_of_ms};
+ghost use Rattle.j39_ages.specs.Times.{jitter_ms, us_of_ms};
 ghost use Rattle.j39_vehicle_check.specs.ForwardLines.{queued_text_where, forward_line, forward_lines, forward_text, output_jitter, queued_text};
 
 use crate::labels::{gateway_label, write_group_at};
@@ -37,7 +37,7 @@ fn first_output<'a>(vehicle: &'a Vehicle, forward: &Forward) -> Option<&'a FlowP
 
 // How long after its moment a message of the flow may be queued, in microseconds.
 fn jitter_of(flow: &FlowPlan) -> u64
-    ensures { result ≡ us_of_ms (jitter_of flow.now) }
+    ensures { result ≡ us_of_ms (jitter_ms flow.now) }
 {
     match flow.pace {
         Some(pace) => us_of_ms(pace.jitter),

@@ -21,18 +21,18 @@ use Rattle.j39_vehicle.specs.declared.vehicle.forward.Forward.{Forward}
 use Rattle.j39_vehicle.specs.declared.vehicle.places.UnitAt.{UnitAt}
 use Rattle.j39_vehicle.specs.declared.vehicle.vehicle_need.VehicleNeed.{VehicleNeed}
 use Rattle.j39_paths.specs.Buses.{flows_on, group_at}
-use Rattle.j39_paths.specs.Forwards.{Copies, Feeds}
+use Rattle.j39_paths.specs.ForwardEnds.{Copies, Feeds}
 use Rattle.j39_paths.specs.Traces.{behind_forward, goes_on, is_sent_by, next_forward, origin, point_on, trace_end}
 use Rattle.j39_paths.specs.VehicleFindings.{AreFindings}
 use Rattle.j39_paths.specs.declared.point.FlowAt.{FlowAt}
 use Rattle.j39_paths.specs.declared.point.Point.{Point}
 use Rattle.j39_forwards.specs.Forwards.{AreOneValue}
 use Rattle.j39_forwards.proofs.Forwards.{among_whole}
-use Rattle.j39_vehicle_laws.specs.Carrying.{AreAllCopies, AreAllExact, Brings, BringsAnother, BringsNothing, EachForward, GoesBy, another, group_on, is_exact, itself, more, none, nothing, signal_at}
+use Rattle.j39_vehicle_laws.specs.Carrying.{AreAllCopies, AreAllExact, Brings, BringsAnother, BringsNothing, EachForward, GoesBy, another, group_of_point, is_exact, itself, more, none, nothing, signal_at}
 use Rattle.j39_vehicle_laws.specs.Faithful.{KeepsContents, signal_of}
 use Rattle.j39_vehicle_laws.specs.Reading.{HasNoValue, IsUnset, reading}
 use Rattle.j39_vehicle_laws.specs.Unaltered.{ComesFrom, HasDivisors, WasBegunBy, IsUnaltered, ReadsAsOrigin}
-use Rattle.j39_vehicle_laws.specs.BusRuns.{Carries, CarriesOne, WasBegun, WasHeard, WasReported, WasSent, BusMessage, VehicleRun, flow_at}
+use Rattle.j39_vehicle_laws.specs.BusRuns.{Carries, CarriesOne, WasBegun, WasHeard, WasReported, WasSent, BusMessage, VehicleRun, flow_on_bus}
 use Rattle.j39_vehicle_laws.proofs.Forwarding.{first_is_input, next_feeds, one_input}
 use Rattle.j39_vehicle_laws.proofs.Hops.{behind_at, flow_place, none_over, taken_over, value_or_none}
 use Rattle.j39_vehicle_laws.proofs.Places.{one_of_all, parts_of, passed_of}
@@ -85,7 +85,7 @@ carried_reported v clean worlds place n its signal q bytes behind c =
     let there : flow_place n.input.bus c.place ≡ q.at = ap (flow_place n.input.bus) one ∙ at in
     record {
       flow = c.flow;
-      flow_is = subst (λ a. flow_at v a ≡ Some c.flow) there c.flow_is;
+      flow_is = subst (λ a. flow_on_bus v a ≡ Some c.flow) there c.flow_is;
       so = subst (λ (a : FlowAt). WasHeard (worlds a.bus) c.flow.sender n.hearer a.flow c.before) there c.heard;
     }
 
@@ -183,9 +183,9 @@ same_bytes v worlds (another m k n o by carries rest) all x is =
 
 divisor_of : (v : Vehicle) (p : Point) (s : SignalParts) → HasDivisors v → signal_at v p ≡ Some s → 1 ≤ s.per
 divisor_of v p s divisors is =
-    let (flow, flow_is, rest) = parts_of (λ (flow : FlowPlan). option_and_then (signal_of v (group_on p.at.bus flow)) p.signal) (flow_at v p.at) s is in
-    let (j, signal, there) = parts_of (signal_of v (group_on p.at.bus flow)) p.signal s rest in
-    let (g, g_is, at) = parts_of (λ (group : GroupPlan). slice_get group.signals.items j) (group_at v.buses.items (group_on p.at.bus flow)) s there in
+    let (flow, flow_is, rest) = parts_of (λ (flow : FlowPlan). option_and_then (signal_of v (group_of_point p.at.bus flow)) p.signal) (flow_on_bus v p.at) s is in
+    let (j, signal, there) = parts_of (signal_of v (group_of_point p.at.bus flow)) p.signal s rest in
+    let (g, g_is, at) = parts_of (λ (group : GroupPlan). slice_get group.signals.items j) (group_at v.buses.items (group_of_point p.at.bus flow)) s there in
     let (bus, bus_is) = bus_of v.buses.items p.at.bus p.at.flow (slice_get v.buses.items p.at.bus) flow refl flow_is in
     let g_there : slice_get bus.plan.groups.items flow.group ≡ Some g =
     sym (ap (λ o. slice_get (option_map_or (λ (bus : BusPlan). bus.plan.groups.items) o []) flow.group) bus_is) ∙ g_is in
@@ -238,7 +238,7 @@ begun_by : (v : Vehicle) (worlds : ℕ → World) (u : UnitAt) (e : Point) (x : 
 begun_by v worlds u e x sent at begun =
     let there : is_sent_by v u x.point ≡ true = ap (is_sent_by v u) at ∙ sent in
     let parts = and_parts _ _ there in
-    let (flow, flow_is, passes) = passed_of (λ (f : FlowPlan). f.sender == u.unit) (flow_at v x.point.at) parts.1 in
+    let (flow, flow_is, passes) = passed_of (λ (f : FlowPlan). f.sender == u.unit) (flow_on_bus v x.point.at) parts.1 in
     record {
       begun = begun;
       bus = (Decides-eqb x.point.at.bus u.bus).0 parts.0;

@@ -17,9 +17,9 @@ use Rattle.j39_world.specs.World.{all_off}
 use Rattle.j39_vehicle.specs.declared.vehicle.bus_plan.BusPlan.{BusPlan}
 use Rattle.j39_vehicle.specs.declared.vehicle.forward.Forward.{Forward}
 use Rattle.j39_paths.specs.FoundPaths.{content_findings, end_findings, loop_findings, need_findings, path_findings, queue_findings, some_at, vehicle_findings}
-use Rattle.j39_paths.specs.Forwards.{ComesAfter, Follows, IsAmong, IsInput, at_once, heard, later, units_of_gateway}
+use Rattle.j39_paths.specs.ForwardEnds.{ComesAfter, FollowsAt, IsAmong, IsInput, at_once, need_of_hearer, later, units_of_gateway}
 use Rattle.j39_paths.specs.Loops.{TellLoops}
-use Rattle.j39_paths.specs.Traces.{IsNeedFlow, is_from_origin, needed, next_forward, point_on, trace_end}
+use Rattle.j39_paths.specs.Traces.{IsNeedFlow, is_from_origin, need_on_bus, next_forward, point_on, trace_end}
 use Rattle.j39_paths.specs.VehicleFindings.{AreFindings}
 use Rattle.j39_paths.proofs.PathLaws.{are_findings}
 use Rattle.j39_forwards.specs.Forwards.{Among, HasMessage}
@@ -37,7 +37,7 @@ only_forward : (k : ℕ) (n : Forward) → slice_get (forward ∷ []) k ≡ Some
 only_forward zero n is = same_Some _ _ (sym is)
 only_forward (suc k) n is = absurd (none-some _ is)
 
-none_follows : (alloc : Global) (k m : ℕ) → ¬ Follows (vehicle alloc) k m
+none_follows : (alloc : Global) (k m : ℕ) → ¬ FollowsAt (vehicle alloc) k m
 none_follows alloc k m f =
     let first = only_forward k f.first f.first_is in
     let second = only_forward m f.second f.second_is in
@@ -124,7 +124,7 @@ forwards alloc bytes are = inl (record {
   flow_is = refl;
   input = is_input alloc;
   before = payload;
-  heard = is_heard alloc;
+  need_of_hearer = is_heard alloc;
   faithful = record { copied = λ copies. are; taken = λ k f t is there. absurd (none-some _ is) };
 })
 
@@ -178,7 +178,7 @@ a_message alloc = record {
   place = 0;
   flow = flow;
   flow_is = refl;
-  needed = is_needed alloc;
+  need_on_bus = is_needed alloc;
   bytes = payload;
   reported = is_reported alloc;
   exact = is_exact_all alloc;

@@ -14,9 +14,9 @@ use Rattle.j39_vehicle.specs.declared.vehicle.Vehicle.{Vehicle}
 use Rattle.j39_vehicle.specs.declared.vehicle.forward.Forward.{Forward}
 use Rattle.j39_vehicle.specs.declared.vehicle.forward.ForwardedSignal.{ForwardedSignal}
 use Rattle.j39_paths.specs.Buses.{group_at}
-use Rattle.j39_paths.specs.Forwards.{Copies, Feeds, IsInput, IsOutput, input_flows, listed, output_flows}
+use Rattle.j39_paths.specs.ForwardEnds.{Copies, Feeds, IsInput, IsOutput, input_flows, listed, output_flows}
 use Rattle.j39_paths.specs.ForwardTests.{copies, feeds, is_input, is_output}
-use Rattle.j39_paths.specs.Matching.{Agree, Has}
+use Rattle.j39_paths.specs.Matching.{Agree, CanStandFor}
 use Rattle.j39_paths.specs.MatchTests.{agree, has}
 use Rattle.j39_paths.specs.Traces.{agreeing_in, carries, copied_into, first_agreeing, first_input, goes_into, next_forward, put_into}
 use Rattle.j39_paths.specs.VehicleFindings.{AreFindings, DiffersFrom, Holds, IsOtherSignal}
@@ -75,14 +75,14 @@ one_input v clean place n its i j x y x_is y_is first second =
 -- of what is put where it has to be exact, the one signal has the other
 pub exact_has : (v : Vehicle) → AreFindings v [] → (place : ℕ) (n : Forward) → slice_get v.forwards.items place ≡ Some n
     → (k : ℕ) (f : ForwardedSignal) (s t : SignalParts) → slice_get (listed n) k ≡ Some f → f.exact ≡ true
-    → signal_of v n.input f.read ≡ Some s → signal_of v n.output f.written ≡ Some t → Has s t
+    → signal_of v n.input f.read ≡ Some s → signal_of v n.output f.written ≡ Some t → CanStandFor s t
 exact_has v clean place n its k f s t f_is exact s_is t_is =
     let (g, g_is, s_at) = parts_of (λ (group : GroupPlan). slice_get group.signals.items f.read) (group_at v.buses.items n.input) s s_is in
     let (h, h_is, t_at) = parts_of (λ (group : GroupPlan). slice_get group.signals.items f.written) (group_at v.buses.items n.output) t t_is in
     elim (cases_Bool (has s t)) [
       | inl holds ↦ (Decides-has s t).0 holds
       | inr fails ↦
-          let hasnt : ¬ Has s t = λ h. false≢true (sym fails ∙ (Decides-has s t).1 h) in
+          let hasnt : ¬ CanStandFor s t = λ h. false≢true (sym fails ∙ (Decides-has s t).1 h) in
           let differs : DiffersFrom g h f.written t f = inl (record { value = s; value_is = s_at; meets = inr (exact, hasnt) }) in
           let written : SomeMeets (λ e. (e.written ≡ f.written) × DiffersFrom g h f.written t e) (listed n) =
           (k, record { value = f; value_is = f_is; meets = (refl, differs) }) in

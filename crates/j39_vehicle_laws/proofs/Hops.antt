@@ -14,7 +14,7 @@ use Rattle.j39_vehicle.specs.declared.vehicle.Vehicle.{Vehicle}
 use Rattle.j39_vehicle.specs.declared.vehicle.forward.Forward.{Forward}
 use Rattle.j39_vehicle.specs.declared.vehicle.forward.ForwardedSignal.{ForwardedSignal}
 use Rattle.j39_vehicle.specs.declared.vehicle.places.GroupAt.{GroupAt}
-use Rattle.j39_paths.specs.Forwards.{Copies, Feeds, IsInput, input_flows, listed}
+use Rattle.j39_paths.specs.ForwardEnds.{Copies, Feeds, IsInput, input_flows, listed}
 use Rattle.j39_paths.specs.ForwardTests.{copies}
 use Rattle.j39_paths.specs.Matching.{Agree}
 use Rattle.j39_paths.specs.Traces.{behind_forward, first_input, goes_into, point_on}
@@ -22,10 +22,10 @@ use Rattle.j39_paths.specs.VehicleFindings.{AreFindings}
 use Rattle.j39_paths.specs.declared.point.FlowAt.{FlowAt}
 use Rattle.j39_paths.specs.declared.point.Point.{Point}
 use Rattle.j39_paths.proofs.Deciding.{Decides-copies}
-use Rattle.j39_vehicle_laws.specs.Carrying.{IsTakenOver, group_on, is_exact, listed_for, signal_at}
+use Rattle.j39_vehicle_laws.specs.Carrying.{IsTakenOver, group_of_point, is_exact, listed_for, signal_at}
 use Rattle.j39_vehicle_laws.specs.Faithful.{KeepsContents, signal_of}
 use Rattle.j39_vehicle_laws.specs.Reading.{HasNoValue, IsUnset, ReadsOver, ReadsValueOf, reading}
-use Rattle.j39_vehicle_laws.specs.BusRuns.{BusMessage, flow_at}
+use Rattle.j39_vehicle_laws.specs.BusRuns.{BusMessage, flow_on_bus}
 use Rattle.j39_vehicle_laws.proofs.Forwarding.{copied_agrees, exact_has, first_is_input, put_is_listed}
 use Rattle.j39_vehicle_laws.proofs.Places.{mapped_of, parts_of}
 use Rattle.j39_vehicle_laws.proofs.Values.{each_value}
@@ -68,10 +68,10 @@ same_group b c g h same alike = ap (λ x. group_place x g) same ∙ ap (λ x. gr
 sent_signal : (v : Vehicle) (n : Forward) (p : Point) (t : SignalParts) → Feeds v n p.at → signal_at v p ≡ Some t
     → (j : ℕ) × (p.signal ≡ Some j) × (signal_of v n.output j ≡ Some t)
 sent_signal v n p t feeds is =
-    let (flow, flow_is, rest) = parts_of (λ (flow : FlowPlan). option_and_then (signal_of v (group_on p.at.bus flow)) p.signal) (flow_at v p.at) t is in
-    let (j, signal, there) = parts_of (signal_of v (group_on p.at.bus flow)) p.signal t rest in
+    let (flow, flow_is, rest) = parts_of (λ (flow : FlowPlan). option_and_then (signal_of v (group_of_point p.at.bus flow)) p.signal) (flow_on_bus v p.at) t is in
+    let (j, signal, there) = parts_of (signal_of v (group_of_point p.at.bus flow)) p.signal t rest in
     let output = feeds.1 in
-    let its : flow_at v p.at ≡ Some output.value = subst (λ b. flow_at v (flow_place b p.at.flow) ≡ Some output.value) feeds.0 output.value_is in
+    let its : flow_on_bus v p.at ≡ Some output.value = subst (λ b. flow_on_bus v (flow_place b p.at.flow) ≡ Some output.value) feeds.0 output.value_is in
     let same : flow ≡ output.value = same_Some _ _ (sym flow_is ∙ its) in
     let group : flow.group ≡ n.output.group = ap (λ f. f.group) same ∙ output.meets.group in
     let place : group_place p.at.bus flow.group ≡ n.output = same_group p.at.bus n.output.bus flow.group n.output.group (sym feeds.0) group in
@@ -83,7 +83,7 @@ heard_signal : (v : Vehicle) (n : Forward) (i j : ℕ) (s : SignalParts) → fir
 heard_signal v n i j s first is =
     let (flow, flow_is, input) = first_is_input v n i first in
     let place : group_place n.input.bus flow.group ≡ n.input = same_group n.input.bus n.input.bus flow.group n.input.group refl input.meets.group in
-    ap (option_and_then (λ (f : FlowPlan). signal_of v (group_on n.input.bus f) j)) flow_is ∙ ap (λ g. signal_of v g j) place ∙ is
+    ap (option_and_then (λ (f : FlowPlan). signal_of v (group_of_point n.input.bus f) j)) flow_is ∙ ap (λ g. signal_of v g j) place ∙ is
 
 -- ---- where traces go on
 

@@ -21,7 +21,7 @@ use Rattle.j39_vehicle.specs.declared.vehicle.Vehicle.{Vehicle}
 use Rattle.j39_vehicle.specs.declared.vehicle.bus_plan.BusPlan.{BusPlan}
 use Rattle.j39_forwards.specs.Forwards.{Among, HasMessage}
 use Rattle.j39_vehicle_laws.specs.Passing.{CrossesBus, IsPassedOn, WasReportedIn, IsSpared, IsSparedAlone, IsSparedAnswered, at_first, by_gateway}
-use Rattle.j39_vehicle_laws.specs.BusRuns.{WasHeard, BusMessage, flow_at}
+use Rattle.j39_vehicle_laws.specs.BusRuns.{WasHeard, BusMessage, flow_on_bus}
 
 -- what holds in each world of each run of each plan of the messages of which nothing is lost
 pub record MessagesArrive : Type 0 where
@@ -93,7 +93,7 @@ heard_alone plan w after arrives f flow v bytes is s =
 delivered : (v : Vehicle) → MessagesArrive → (m : BusMessage) (after : World) → CrossesBus v m after → WasReportedIn v m after
 delivered v arrive m after d =
     let plan = d.bus.plan in
-    let there : flow_at v m.point.at ≡ Some d.flow =
+    let there : flow_on_bus v m.point.at ≡ Some d.flow =
     ap (λ o. slice_get (option_map_or (λ (bus : BusPlan). bus.plan.flows.items) o []) m.point.at.flow) d.bus_is ∙ d.flow_is in
     let heard : WasHeard after d.flow.sender m.hearer m.point.at.flow m.bytes =
     elim d.spared [

@@ -14,7 +14,7 @@ use Rattle.j39_signal.specs.declared.kind.Kind.TheVariants.{Measured, Discrete, 
 use Rattle.j39_signal.specs.declared.state.State.{State}
 use Rattle.j39_signal.specs.declared.state.State.TheVariants.{Value, Specific, Reserved, Fault, Absent}
 use Rattle.j39_signal.proofs.Steps.{value_down, value_up}
-use Rattle.j39_paths.specs.Matching.{Has, first_value, has_value, has_values_of, last_value, steps_above, steps_below}
+use Rattle.j39_paths.specs.Matching.{CanStandFor, first_value, has_value, has_values_of, last_value, steps_above, steps_below}
 use Rattle.j39_forwards.specs.Forwards.{AreOneValue}
 use Rattle.j39_vehicle_laws.specs.Reading.{IsValueOf}
 use Rattle.j39_vehicle_laws.specs.Values.{HasEachValue, HavingIsOfValues, OneValueIsPassedOn}

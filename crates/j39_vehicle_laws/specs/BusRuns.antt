@@ -10,7 +10,7 @@ use Rattle.j39_vehicle.specs.declared.vehicle.Vehicle.{Vehicle}
 use Rattle.j39_vehicle.specs.declared.vehicle.bus_plan.BusPlan.{BusPlan}
 use Rattle.j39_vehicle.specs.declared.vehicle.forward.Forward.{Forward}
 use Rattle.j39_paths.specs.Buses.{flows_on}
-use Rattle.j39_paths.specs.Forwards.{Feeds, IsInput, input_flows}
+use Rattle.j39_paths.specs.ForwardEnds.{Feeds, IsInput, input_flows}
 use Rattle.j39_paths.specs.declared.point.FlowAt.{FlowAt}
 use Rattle.j39_paths.specs.declared.point.Point.{Point}
 use Rattle.j39_forwards.specs.Forwards.{HasMessage}
@@ -32,13 +32,13 @@ WasSent w u v flow bytes = HasMessage (w.begun u v) flow bytes ⊎ HasMessage (w
 abbrev pub WasHeard : World → ℕ → ℕ → ℕ → List ℕ → Type 0
 WasHeard w u v flow bytes = HasMessage (reported w.reports v u) flow bytes ⊎ HasMessage (reported_alone w.reports v u) flow bytes
 
-abbrev pub flow_at : Vehicle → FlowAt → Option FlowPlan
-flow_at v at = slice_get (flows_on v.buses.items at.bus) at.flow
+abbrev pub flow_on_bus : Vehicle → FlowAt → Option FlowPlan
+flow_on_bus v at = slice_get (flows_on v.buses.items at.bus) at.flow
 
 -- so it is between the message's sender, by its flow, and the unit that it is for, in the world of their bus
 pub record Between (v : Vehicle) (worlds : ℕ → World) (m : BusMessage) (Is : World → ℕ → ℕ → ℕ → List ℕ → Type 0) : Type 0 where
   pub flow : FlowPlan
-  pub flow_is : flow_at v m.point.at ≡ Some flow
+  pub flow_is : flow_on_bus v m.point.at ≡ Some flow
   pub so : Is (worlds m.point.at.bus) flow.sender m.hearer m.point.at.flow m.bytes
 
 abbrev pub WasBegun : Vehicle → (ℕ → World) → BusMessage → Type 0

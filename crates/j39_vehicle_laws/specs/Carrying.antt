@@ -9,21 +9,21 @@ use Rattle.j39_vehicle.specs.declared.vehicle.Vehicle.{Vehicle}
 use Rattle.j39_vehicle.specs.declared.vehicle.forward.Forward.{Forward}
 use Rattle.j39_vehicle.specs.declared.vehicle.forward.ForwardedSignal.{ForwardedSignal}
 use Rattle.j39_vehicle.specs.declared.vehicle.places.GroupAt.{GroupAt}
-use Rattle.j39_paths.specs.Forwards.{Copies, listed}
+use Rattle.j39_paths.specs.ForwardEnds.{Copies, listed}
 use Rattle.j39_paths.specs.Traces.{behind_forward, next_forward}
 use Rattle.j39_paths.specs.declared.point.Point.{Point}
 use Rattle.j39_vehicle_laws.specs.Faithful.{KeepsContents, signal_of}
 use Rattle.j39_vehicle_laws.specs.Reading.{IsUnset, ReadsOver, reading}
-use Rattle.j39_vehicle_laws.specs.BusRuns.{BusMessage, WasBegun, WasReported, flow_at}
+use Rattle.j39_vehicle_laws.specs.BusRuns.{BusMessage, WasBegun, WasReported, flow_on_bus}
 
 -- ---- the signal of a trace
 
-abbrev pub group_on : ℕ → FlowPlan → GroupAt
-group_on bus flow = record { bus = bus; group = flow.group }
+abbrev pub group_of_point : ℕ → FlowPlan → GroupAt
+group_of_point bus flow = record { bus = bus; group = flow.group }
 
 -- the signal at a point of a trace, if it follows one
 abbrev pub signal_at : Vehicle → Point → Option SignalParts
-signal_at v p = option_and_then (λ (flow : FlowPlan). option_and_then (signal_of v (group_on p.at.bus flow)) p.signal) (flow_at v p.at)
+signal_at v p = option_and_then (λ (flow : FlowPlan). option_and_then (signal_of v (group_of_point p.at.bus flow)) p.signal) (flow_on_bus v p.at)
 
 -- the first that the forward lists for this signal of the output's group
 abbrev pub listed_for : Forward → ℕ → Option ForwardedSignal

@@ -14,7 +14,7 @@ use Rattle.j39_paths.specs.Traces.{IsNeedFlow, flows_of_need, point_on}
 use Rattle.j39_forwards.specs.Forwards.{AreOneValue}
 use Rattle.j39_vehicle_laws.specs.Carrying.{AreAllCopies, AreAllExact, Brings, signal_at}
 use Rattle.j39_vehicle_laws.specs.Reading.{HasNoValue, reading}
-use Rattle.j39_vehicle_laws.specs.BusRuns.{WasBegun, WasReported, BusMessage, VehicleRun, flow_at}
+use Rattle.j39_vehicle_laws.specs.BusRuns.{WasBegun, WasReported, BusMessage, VehicleRun, flow_on_bus}
 
 -- the values of each signal are divided by 1 or more
 abbrev pub HasDivisors : Vehicle → Type 0
@@ -24,7 +24,7 @@ HasDivisors v = All (λ (bus : BusPlan). All (λ (g : GroupPlan). All (λ (s : S
 pub record WasBegunBy (v : Vehicle) (worlds : ℕ → World) (u : UnitAt) (m : BusMessage) : Type 0 where
   pub begun : WasBegun v worlds m
   pub bus : m.point.at.bus ≡ u.bus
-  pub sender : (flow : FlowPlan) → flow_at v m.point.at ≡ Some flow → flow.sender ≡ u.unit
+  pub sender : (flow : FlowPlan) → flow_on_bus v m.point.at ≡ Some flow → flow.sender ≡ u.unit
 
 -- the signal of the trace reads no value in the message, or the one that it reads in that of the origin
 abbrev pub ReadsAsOrigin : Vehicle → BusMessage → SignalParts → Option BusMessage → Type 0

@@ -3,7 +3,7 @@ use Rattle.std.specs.Prelude.{◌≡◌, ℕ, ◌≤◌, ℤ, List}
 use Rattle.j39_signal.specs.Parts.{SignalParts}
 use Rattle.j39_signal.specs.State.{state_of}
 use Rattle.j39_signal.specs.declared.state.State.TheVariants.{Value}
-use Rattle.j39_paths.specs.Matching.{Has}
+use Rattle.j39_paths.specs.Matching.{CanStandFor}
 use Rattle.j39_forwards.specs.Forwards.{AreOneValue}
 use Rattle.j39_vehicle_laws.specs.Reading.{IsValueOf}
 
@@ -13,7 +13,7 @@ HasEachValue s t = (raw : ℕ) (a : ℤ) → state_of s raw ≡ Value a → IsVa
 
 -- so it is where the tests say that t has s
 abbrev pub HavingIsOfValues : Type 0
-HavingIsOfValues = (s t : SignalParts) → Has s t → HasEachValue s t
+HavingIsOfValues = (s t : SignalParts) → CanStandFor s t → HasEachValue s t
 
 -- what is one value with a second, and this with a third one, is one with the third
 abbrev pub OneValueIsPassedOn : Type 0

@@ -1,6 +1,6 @@
 //! Flows of a plan.
-use j39_network::To;
 use j39_id::Pgn;
+use j39_network::To;
 use j39_signal::Selector;
 
 /// A flow of a plan, with the PGN, the priority, the lengths and the selector of its group.

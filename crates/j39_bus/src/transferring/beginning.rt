@@ -17,8 +17,8 @@ use crate::session::Session;
 use crate::transfer_frames::{packet_frame, short_frame};
 use crate::wire::{post_each, reserve_each};
 use j39_claim::Claimer;
-use j39_network::To;
 use j39_id::Frame;
+use j39_network::To;
 use j39_world::{Flow, Wired};
 use std::alloc::{AllocError, Global};
 

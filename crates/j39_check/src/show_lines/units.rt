@@ -5,8 +5,8 @@ ghost use Rattle.j39_check.specs.ShowText.{unit_way_lines, upper_name_lines};
 ghost use Rattle.j39_load.specs.LineLists.{lines_of_each};
 
 use super::values::{write_number, write_truth, write_word};
-use j39_network::{Plan, Queue, UnitPlan, Way};
 use j39_id::NameFields;
+use j39_network::{Plan, Queue, UnitPlan, Way};
 use j39_plan::{Key, Table};
 use j39_text::TextBuffer;
 use std::alloc::AllocError;

@@ -8,8 +8,8 @@ ghost use Rattle.j39_findings.specs.Standing.{alone_of};
 use crate::checking::finding::Finding;
 use crate::standing::Standing;
 use j39_claim::AddressSet;
-use j39_rules::{Rule, find_each, push_if};
 use j39_network::{FlowPlan, Plan, To, UnitPlan};
+use j39_rules::{Rule, find_each, push_if};
 use std::alloc::AllocError;
 
 #[derive(Clone, Copy)]

@@ -5,9 +5,9 @@ ghost use Rattle.j39_rules.specs.ListPlaces.{found_if};
 ghost use Rattle.j39_findings.specs.Found.{is_one_frame_to_all, may_be_one_frame_to_all, cannot_go_to_one, goes_to_its_sender, are_one_flow, flow_findings};
 
 use crate::checking::finding::Finding;
-use j39_network::{FlowPlan, GroupPlan, To};
 use j39_id::limits::FRAME_BYTES;
 use j39_id::{PDU2_FIRST, pf_of};
+use j39_network::{FlowPlan, GroupPlan, To};
 use j39_rules::{PairRule, Rule, find_each, find_pairs, push_if};
 use std::alloc::AllocError;
 

@@ -7,10 +7,10 @@ ghost use Rattle.j39_findings.specs.Found.{is_for_no_plan, is_wrongly_private, h
 
 use crate::checking::finding::Finding;
 use crate::checking::private::are_sent_together;
-use j39_network::{FlowPlan, GroupPlan};
 use j39_id::proprietary::is_proprietary;
 use j39_id::services::is_service;
 use j39_id::{EXTENDED_PAGE, Pgn};
+use j39_network::{FlowPlan, GroupPlan};
 use j39_rules::{PairRule, Rule, find_each, find_pairs, push_if};
 use j39_signal::Selector;
 use std::alloc::AllocError;

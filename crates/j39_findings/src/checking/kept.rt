@@ -6,8 +6,8 @@ ghost use Rattle.j39_findings.specs.Found.{prefers_kept, kept_findings};
 
 use crate::checking::finding::Finding;
 use j39_claim::AddressSet;
-use j39_rules::{Rule, find_each, push_if};
 use j39_network::UnitPlan;
+use j39_rules::{Rule, find_each, push_if};
 use std::alloc::AllocError;
 
 fn prefers_kept(kept: &AddressSet, unit: &UnitPlan) -> bool

@@ -5,8 +5,8 @@ ghost use Rattle.j39_findings.specs.Found.{is_unmet, need_findings};
 ghost use Rattle.j39_network.specs.Serving.{meets};
 
 use crate::checking::finding::Finding;
-use j39_rules::{Rule, find_each, push_if};
 use j39_network::{FlowPlan, NeedPlan, RequestPlan, is_met};
+use j39_rules::{Rule, find_each, push_if};
 use std::alloc::AllocError;
 
 #[derive(Clone, Copy)]

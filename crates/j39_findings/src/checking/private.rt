@@ -6,8 +6,8 @@ ghost use Rattle.j39_findings.specs.Found.{sends, do_receivers_meet, sends_besid
 
 use crate::checking::finding::Finding;
 use crate::checking::flows::may_be_one_frame_to_all;
-use j39_rules::{Rule, find_each, push_if};
 use j39_network::{FlowPlan, GroupPlan, To};
+use j39_rules::{Rule, find_each, push_if};
 use std::alloc::AllocError;
 
 // Whether the flow sends the group, which its label names.

@@ -5,8 +5,8 @@ ghost use Rattle.j39_rules.specs.ListPlaces.{found_if};
 ghost use Rattle.j39_findings.specs.Found.{comes_onto, do_records_meet, group_overlaps, overlaps_of, record_findings};
 
 use crate::checking::finding::Finding;
-use j39_rules::{Rule, find_each, push_if};
 use j39_network::GroupPlan;
+use j39_rules::{Rule, find_each, push_if};
 use j39_signal::Signal;
 use std::alloc::AllocError;
 

@@ -1,6 +1,5 @@
 //! Plans that are not taken as checked.
 use crate::checking::finding::Findings;
-
 use j39_network::Plan;
 /// Why a plan is not taken as checked.
 #[derive(Drop)]

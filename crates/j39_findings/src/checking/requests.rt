@@ -9,8 +9,8 @@ ghost use Rattle.j39_network.specs.Serving.{is_served, serves};
 use crate::checking::finding::Finding;
 use crate::checking::flows::is_one_frame_to_all;
 use crate::checking::groups::WhenOutside;
-use j39_rules::{PairRule, Rule, find_each, find_pairs, push_if};
 use j39_network::{FlowPlan, GroupPlan, RequestPlan, To, is_served, serves};
+use j39_rules::{PairRule, Rule, find_each, find_pairs, push_if};
 use std::alloc::AllocError;
 
 fn serves_one(request: &RequestPlan, flow: &FlowPlan) -> bool

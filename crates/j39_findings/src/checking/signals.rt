@@ -6,8 +6,8 @@ ghost use Rattle.j39_network.specs.SignalPlaces.{room_of_signal};
 ghost use Rattle.j39_findings.specs.Found.{has_other_width, ends_outside, width_findings, outside_findings, overlap_findings, signal_findings};
 
 use crate::checking::finding::Finding;
-use j39_rules::{PairRule, Rule, find_each, find_pairs, push_if};
 use j39_network::GroupPlan;
+use j39_rules::{PairRule, Rule, find_each, find_pairs, push_if};
 use j39_signal::Signal;
 use std::alloc::AllocError;
 

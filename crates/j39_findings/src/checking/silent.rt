@@ -6,8 +6,8 @@ ghost use Rattle.j39_findings.specs.Found.{have_silent_address, is_silent_in_poo
 
 use crate::checking::finding::Finding;
 use j39_claim::AddressSet;
-use j39_network::UnitPlan;
 use j39_id::addresses::is_in_pool;
+use j39_network::UnitPlan;
 use j39_rules::{PairRule, Rule, find_each, find_pairs, push_if};
 use std::alloc::AllocError;
 

@@ -5,8 +5,8 @@ ghost use Rattle.j39_rules.specs.ListPlaces.{found_if};
 ghost use Rattle.j39_findings.specs.Found.{lies_outside, outside_text_findings, text_findings};
 
 use crate::checking::finding::Finding;
-use j39_rules::{Rule, find_each, push_if};
 use j39_network::{GroupPlan, TextPlan};
+use j39_rules::{Rule, find_each, push_if};
 use std::alloc::AllocError;
 
 fn lies_outside(group: &GroupPlan, text: &TextPlan) -> bool

@@ -7,8 +7,8 @@ ghost use Rattle.j39_findings.specs.Found.{have_same_fixed_address, is_fixed, ne
 
 use crate::checking::finding::Finding;
 use j39_claim::AddressSet;
-use j39_network::{UnitPlan, may_be_one};
 use j39_id::addresses::is_in_pool;
+use j39_network::{UnitPlan, may_be_one};
 use j39_rules::{PairRule, find_pairs, push_if};
 use std::alloc::AllocError;
 

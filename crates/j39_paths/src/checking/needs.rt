@@ -5,7 +5,7 @@ ghost use Rattle.j39_network.specs.Serving.{meets};
 ghost use Rattle.j39_rules.specs.ListPlaces.{found_if, each};
 ghost use Rattle.j39_paths.specs.FoundPaths.{is_need_flow, is_need_unmet, need_findings, some_at};
 ghost use Rattle.j39_paths.specs.PathTables.{AreTables};
-ghost use Rattle.j39_paths.specs.Traces.{flows_of_need, is_from_origin, needed};
+ghost use Rattle.j39_paths.specs.Traces.{flows_of_need, is_from_origin, need_on_bus};
 
 use crate::buses::{flows_on, requests_on};
 use crate::finding::VehicleFinding;
@@ -18,7 +18,7 @@ use std::alloc::AllocError;
 
 // Whether the flow brings the need's unit the group that it needs.
 fn is_needed(requests: &[RequestPlan], need: &VehicleNeed, flow: &FlowPlan) -> bool
-    ensures { result ≡ meets requests.now (needed need.now) flow.now }
+    ensures { result ≡ meets requests.now (need_on_bus need.now) flow.now }
 {
     let on_bus = NeedPlan {
         unit: need.unit.unit,

@@ -1,7 +1,7 @@
 //! Which two forwards may say different things of one flow.
 ghost use Rattle.std.specs.Prelude.{◌≡◌};
 ghost use Rattle.std.specs.List.{list_any};
-ghost use Rattle.j39_paths.specs.Forwards.{output_flows};
+ghost use Rattle.j39_paths.specs.ForwardEnds.{output_flows};
 ghost use Rattle.j39_paths.specs.FoundPaths.{are_at_odds, are_two_forwards, feed_one_flow, is_of_both};
 
 use crate::finding::VehicleFinding;

@@ -5,7 +5,7 @@ ghost use Rattle.std.specs.Option.{option_map_or};
 ghost use Rattle.j39_network.specs.declared.plan.unit_plan.UnitPlan.{UnitPlan as APlannedUnit};
 ghost use Rattle.j39_rules.specs.Adding.{Adds};
 ghost use Rattle.j39_rules.specs.ListPlaces.{found_if, in_each};
-ghost use Rattle.j39_paths.specs.FoundPaths.{has_any_queue, has_timing, is_any, may_share_queue, queue_findings, shared_queues};
+ghost use Rattle.j39_paths.specs.FoundPaths.{has_any_queue, has_timing, is_any_queue, may_share_queue, queue_findings, shared_queues};
 
 use crate::finding::VehicleFinding;
 use j39_network::{Queue, UnitPlan};
@@ -14,7 +14,7 @@ use j39_vehicle::{BusPlan, Gateway, UnitAt, Vehicle};
 use std::alloc::AllocError;
 
 fn is_any(queue: Queue) -> bool
-    ensures { result ≡ is_any queue }
+    ensures { result ≡ is_any_queue queue }
 {
     match queue {
         Queue::Any => true,
@@ -24,7 +24,7 @@ fn is_any(queue: Queue) -> bool
 
 // Whether the unit at a place keeps no order.
 fn is_any_unit(units: &[UnitPlan], unit: usize) -> bool
-    ensures { result ≡ option_map_or (λ (w : APlannedUnit). is_any w.queue) (slice_get units.now unit) false }
+    ensures { result ≡ option_map_or (λ (w : APlannedUnit). is_any_queue w.queue) (slice_get units.now unit) false }
 {
     match units.get(unit) {
         Some(unit) => is_any(unit.queue),

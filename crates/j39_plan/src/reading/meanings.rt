@@ -20,9 +20,9 @@ use super::text_kind::TextKind;
 use super::values::{flag_if, optional_number, refused, value_at};
 use super::{Cause, Key, PlanError, Table, Version};
 use arrayvec::ArrayString;
+use j39_id::Label;
 use j39_network::limits::{SPN_MOST, VALUE_LIMIT};
 use j39_network::{Meaning, ValueName};
-use j39_id::Label;
 use std::alloc::{AllocError, Global};
 use toml::Value;
 

@@ -17,8 +17,8 @@ use super::tables::{inner, only_known, table_of};
 use super::text_kind::TextKind;
 use super::values::{flag, number, refused, short_text, text};
 use super::{Cause, Key, PlanError, Table, Version};
-use j39_network::{Queue, UnitPlan, Way};
 use j39_id::{Address, Name};
+use j39_network::{Queue, UnitPlan, Way};
 use std::alloc::Global;
 use toml::Value;
 

@@ -2,7 +2,7 @@
 ghost use Rattle.std.specs.Prelude.{◌≡◌, ℕ, List, [], map, IfOk, length};
 ghost use Rattle.toml.specs.View.{view, items_view};
 ghost use Rattle.j39_plan.specs.Elements.{Each};
-ghost use Rattle.j39_vehicle.specs.Elements.{each_faults, names_of};
+ghost use Rattle.j39_vehicle.specs.Elements.{each_faults, labels_named};
 ghost use Rattle.j39_vehicle.specs.Outcome.{GivesGrowing};
 ghost use Rattle.j39_vehicle.specs.Growing.{EachGrows};
 
@@ -52,7 +52,7 @@ pub fn read_each<T: Drop, R: ReadElement<T>>(
     ensures gives { GivesGrowing (EachGrows (R.faults reader.now) (R.Grows reader.now) (items_view values.now)) result
         (each_faults (R.faults reader.now) R.name_in 0 [] (items_view values.now))
         (λ v. Each (R.Tells reader.now) (items_view values.now) v.items) }
-    ensures names { IfOk result (λ v. map R.name v.items ≡ names_of R.name_in (items_view values.now)) }
+    ensures names { IfOk result (λ v. map R.name v.items ≡ labels_named R.name_in (items_view values.now)) }
     ensures count { IfOk result (λ v. length v.items ≡ length values.now) }
 {
     let mut items = Vec::new(alloc);

@@ -25,7 +25,7 @@ fn gateway_of<'a>(gateways: &'a [GatewayTable], label: &str) -> Option<&'a Gatew
 // Its units: none where there is none.
 #[tactic(auto, using(crate::proofs::UnitsOf::units_found))]
 fn units_of<'a>(gateways: &'a [GatewayTable], label: &str) -> &'a [NameOnBus]
-    ensures { map (λ n. string_bytes n.text) result.now ≡ spec.units_of (map named_gateway gateways.now) (Some label.now) }
+    ensures { map (λ n. string_bytes n.text) result.now ≡ spec.units_of_named (map named_gateway gateways.now) (Some label.now) }
 {
     match gateway_of(gateways, label) {
         Some(gateway) => gateway.units.as_slice(),

@@ -4,13 +4,13 @@ ghost use Rattle.std.specs.Option.{ForSome};
 ghost use Rattle.toml.specs.View.{items_view, table_view};
 ghost use Rattle.j39_network.specs.PlanLimits.{signal_limit};
 ghost use Rattle.j39_vehicle.specs.declared.reading.vehicle_error.VehicleError.TheVariants.{Memory};
-ghost use Rattle.j39_vehicle.specs.Schema.{array_at, number_at, text_at};
+ghost use Rattle.j39_vehicle.specs.Schema.{array_at, number_under, text_at};
 ghost use Rattle.j39_vehicle.specs.Outcome.{Gives, GivesGrowing};
 ghost use Rattle.j39_vehicle.specs.TableFaults.{keys_faults, table_faults};
 ghost use Rattle.j39_vehicle.specs.Elements.{each_faults};
 ghost use Rattle.j39_vehicle.specs.Growing.{EachGrows, ForwardTableGrows, SignalGrows};
 ghost use Rattle.j39_vehicle.specs.GatewayTables.{named_gateway};
-ghost use Rattle.j39_vehicle.specs.SignalTables.{signal_faults, signal_name};
+ghost use Rattle.j39_vehicle.specs.SignalTables.{signal_faults, forwarded_name};
 ghost use Rattle.j39_vehicle.specs.ForwardTables as spec;
 
 use super::elements::{ReadElement, read_each};
@@ -83,7 +83,7 @@ fn sent_keys(members: &toml::Table, table: Table) -> Result<SentKeys<'_>, Vehicl
     ensures { Gives result (keys_faults table (table_view members.now) spec.sent_rules) (λ k. let ms = table_view members.now in
         (text_at Key.As ms ≡ Some k.output.now) × (text_at Key.By ms ≡ option_map (λ t. t.now) k.by)
         × (text_at Key.To ms ≡ option_map (λ t. t.now) k.to) × (k.mode ≡ spec.mode_of (text_at Key.Mode ms))
-        × (k.within ≡ number_at Key.Within ms) × (array_at Key.Signal ms ≡ option_map (λ vs. items_view vs.now) k.signals)) }
+        × (k.within ≡ number_under Key.Within ms) × (array_at Key.Signal ms ≡ option_map (λ vs. items_view vs.now) k.signals)) }
 {
     let output = text(members, table, Key::As, TextKind::OnBus)?;
     let by = optional_text(members, table, Key::By, TextKind::Any)?;
@@ -108,7 +108,7 @@ fn keys(members: &toml::Table, table: Table) -> Result<ForwardKeys<'_>, VehicleE
         × (text_at Key.From ms ≡ option_map (λ t. t.now) k.from) × (text_at Key.At ms ≡ option_map (λ t. t.now) k.at)
         × (text_at Key.As ms ≡ Some k.sent.output.now) × (text_at Key.By ms ≡ option_map (λ t. t.now) k.sent.by)
         × (text_at Key.To ms ≡ option_map (λ t. t.now) k.sent.to) × (k.sent.mode ≡ spec.mode_of (text_at Key.Mode ms))
-        × (k.sent.within ≡ number_at Key.Within ms) × (array_at Key.Signal ms ≡ option_map (λ vs. items_view vs.now) k.sent.signals)) }
+        × (k.sent.within ≡ number_under Key.Within ms) × (array_at Key.Signal ms ≡ option_map (λ vs. items_view vs.now) k.sent.signals)) }
 {
     only(members, table, &FORWARD_KEYS)?;
     let gateway = text(members, table, Key::Gateway, TextKind::Any)?;
@@ -135,7 +135,7 @@ fn signals(
     requires { IfSome values (λ vs. length vs.now ≤ signal_limit) }
     ensures gives { let items = spec.items_or_none (option_map (λ vs. items_view vs.now) values.entry) in
         GivesGrowing (EachGrows (signal_faults forward) (SignalGrows forward) items) result
-        (each_faults (signal_faults forward) signal_name 0 [] items)
+        (each_faults (signal_faults forward) forwarded_name 0 [] items)
         (λ signals. spec.TellsSignals (option_map (λ vs. items_view vs.now) values.entry) (option_map (λ v. v.items) signals)) }
     ensures count { IfOk result (λ signals. IfSome signals (λ v. length v.items ≤ signal_limit)) }
 {

@@ -4,7 +4,7 @@ ghost use Rattle.std.specs.Option.{ForSome};
 ghost use Rattle.toml.specs.View.{table_view};
 ghost use Rattle.j39_vehicle.specs.declared.reading.vehicle_error.VehicleError.TheVariants.{Memory};
 ghost use Rattle.j39_vehicle.specs.TextKinds.{name_of};
-ghost use Rattle.j39_vehicle.specs.Schema.{number_at, text_at};
+ghost use Rattle.j39_vehicle.specs.Schema.{number_under, text_at};
 ghost use Rattle.j39_vehicle.specs.Elements.{is_label_among};
 ghost use Rattle.j39_vehicle.specs.Outcome.{Gives, GivesGrowing};
 ghost use Rattle.j39_vehicle.specs.TableFaults.{table_faults};
@@ -40,7 +40,7 @@ fn keys(members: &toml::Table, table: Table) -> Result<NeedKeys<'_>, VehicleErro
     ensures { Gives result (table_faults table spec.need_rules (table_view members.now)) (λ k. let ms = table_view members.now in
         (text_at Key.Unit ms ≡ Some k.unit.now) × (text_at Key.Group ms ≡ Some k.group.now)
         × (text_at Key.Signal ms ≡ option_map (λ t. t.now) k.signal) × (text_at Key.From ms ≡ Some k.from.now)
-        × (k.within ≡ number_at Key.Within ms)) }
+        × (k.within ≡ number_under Key.Within ms)) }
 {
     only(members, table, &NEED_KEYS)?;
     let unit = text(members, table, Key::Unit, TextKind::OnBus)?;

@@ -50,11 +50,11 @@ pub struct Signals {
 
 impl ReadElement<SignalTable> for Signals {
     ghost use Rattle.j39_vehicle.specs.Growing.{SignalGrows};
-    ghost use Rattle.j39_vehicle.specs.SignalTables.{signal_faults, signal_name, IsSignalOf};
+    ghost use Rattle.j39_vehicle.specs.SignalTables.{signal_faults, forwarded_name, IsSignalOf};
 
     ghost name = { named_signal };
 
-    ghost name_in = { signal_name };
+    ghost name_in = { forwarded_name };
 
     ghost faults = { λ r. signal_faults r.forward };
 

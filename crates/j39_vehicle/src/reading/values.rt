@@ -37,7 +37,7 @@ pub fn value_at(members: &toml::Table, key: Key) -> Option<&Value>
 }
 
 /// The number at a key, within a range, or none where the key is absent, unless it is needed.
-#[tactic(auto, unfolding(crate::specs::TableFaults::key_faults, crate::specs::Schema::number_at))]
+#[tactic(auto, unfolding(crate::specs::TableFaults::key_faults, crate::specs::Schema::number_under))]
 pub fn number(
     members: &toml::Table,
     table: Table,
@@ -47,7 +47,7 @@ pub fn number(
     is_needed: bool,
 ) -> Result<Option<u16>, VehicleError>
     ensures gives { Gives result (key_faults table (table_view members.now) (schema.rule key (schema.number low high) is_needed))
-        (λ given. given ≡ schema.number_at key (table_view members.now)) }
+        (λ given. given ≡ schema.number_under key (table_view members.now)) }
     ensures at_least { IfOk result (λ given. IfSome given (λ n. low ≤ n)) }
 {
     match value_at(members, key) {

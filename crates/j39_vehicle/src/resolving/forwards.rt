@@ -2,7 +2,7 @@
 ghost use Rattle.std.specs.Prelude.{◌≡◌, ◌≤◌, length, option_and_then, option_map, Some, string_bytes, IfOk, IfSome};
 ghost use Rattle.j39_network.specs.PlanLimits.{signal_limit};
 ghost use Rattle.j39_vehicle.specs.Outcome.{Gives, GivesGrowing};
-ghost use Rattle.j39_vehicle.specs.Found as found;
+ghost use Rattle.j39_vehicle.specs.LabelsFound as found;
 ghost use Rattle.j39_vehicle.specs.Resolved as spec;
 
 use super::each::{Resolve, resolve_each};

@@ -1,7 +1,7 @@
 //! Places in the plans of a vehicle's buses.
 ghost use Rattle.std.specs.Prelude.{◌≡◌, ◌&&◌, not, position};
 ghost use Rattle.std.specs.Str.{bytes_eq};
-ghost use Rattle.j39_vehicle.specs.Found as spec;
+ghost use Rattle.j39_vehicle.specs.LabelsFound as spec;
 
 use crate::file::{before_point, behind_point};
 use crate::vehicle::{BusPlan, GroupAt, UnitAt};
@@ -27,7 +27,7 @@ fn units_on(buses: &[BusPlan], bus: usize) -> &[UnitPlan]
 
 // The groups of the bus at a place.
 fn groups_on(buses: &[BusPlan], bus: usize) -> &[GroupPlan]
-    ensures { result.now ≡ spec.groups_on buses.now bus }
+    ensures { result.now ≡ spec.groups_of_bus buses.now bus }
 {
     match buses.get(bus) {
         Some(bus) => bus.plan.groups.as_slice(),
@@ -37,7 +37,7 @@ fn groups_on(buses: &[BusPlan], bus: usize) -> &[GroupPlan]
 
 // The signals of a group.
 fn signals_of(buses: &[BusPlan], group: GroupAt) -> &[Signal]
-    ensures { result.now ≡ spec.signals_of buses.now group }
+    ensures { result.now ≡ spec.signals_in_group buses.now group }
 {
     match groups_on(buses, group.bus).get(group.group) {
         Some(group) => group.signals.as_slice(),
@@ -88,7 +88,7 @@ pub fn signal_place(buses: &[BusPlan], group: GroupAt, label: &str) -> Option<us
 
 /// The unit that a name on a bus stands for.
 pub fn unit_named(buses: &[BusPlan], name: &str) -> Option<UnitAt>
-    ensures { result ≡ spec.unit_named buses.now name.now }
+    ensures { result ≡ spec.unit_labelled buses.now name.now }
 {
     let bus = bus_place(buses, before_point(name))?;
     let unit = unit_place(buses, bus, behind_point(name))?;

@@ -4,7 +4,7 @@ ghost use Rattle.std.specs.Str.{bytes_eq};
 ghost use Rattle.j39_vehicle.specs.TextKinds.{name_of};
 ghost use Rattle.j39_vehicle.specs.TableFaults.{label_faults};
 ghost use Rattle.j39_vehicle.specs.Outcome.{Gives};
-ghost use Rattle.j39_vehicle.specs.Found as spec;
+ghost use Rattle.j39_vehicle.specs.LabelsFound as spec;
 
 use super::found::{receivers_on, signal_place, unit_place};
 use crate::file::{GatewayTable, NameOnBus};

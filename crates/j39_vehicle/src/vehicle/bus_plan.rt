@@ -1,6 +1,6 @@
 //! A bus of a vehicle.
-use j39_network::Plan;
 use j39_id::Label;
+use j39_network::Plan;
 
 /// A bus: its label in the vehicle, and its plan.
 #[derive(Debug, Drop)]

@@ -1,5 +1,5 @@
 use Rattle.std.proofs.Common.{◌≡◌, ◌-◌, ◌<◌, length, Some, None, sym, ap, ◌∙◌, arith}
-use Rattle.j39_ages.specs.Times.{direct_feeder, input_at, silent_by, unasked_at}
+use Rattle.j39_ages.specs.Times.{direct_feeder, first_input_at, silent_by, unasked_at}
 use Rattle.j39_ages.proofs.Hops.{silent_further, silent_here, silent_unknown, silent_without_input}
 use Rattle.j39_ages.proofs.chains.silent.Goals as goal
 
@@ -24,7 +24,7 @@ returns-in_default-input_at-clause-value c =
     let n = c.in-Some-direct_feeder.forward.now in
     let is : unasked_at v c.chain.at ≡ Some flow = cc in
     let some : direct_feeder v c.chain.at ≡ Some n = sym c.in-Some-direct_feeder.ensures in
-    let none : input_at v n ≡ None = sym c.in_default-input_at.ensures in
+    let none : first_input_at v n ≡ None = sym c.in_default-first_input_at.ensures in
     let less : c.chain._step < length v.forwards.items = omega arith in
     sym (silent_without_input v (length v.forwards.items) c.chain._step c.chain.at flow n less is some none) ∙ c.chain.invariant
 
@@ -33,10 +33,10 @@ chain-preserved c =
     let v = c.args.vehicle.now in
     let flow = c.in-Some.flow in
     let n = c.in-Some-direct_feeder.forward.now in
-    let heard = c.in-Some-input_at.heard in
+    let heard = c.in-Some-first_input_at.heard in
     let is : unasked_at v c.chain.at ≡ Some flow = cc in
     let some : direct_feeder v c.chain.at ≡ Some n = sym c.in-Some-direct_feeder.ensures in
-    let from : input_at v n ≡ Some heard = sym c.in-Some-input_at.ensures in
+    let from : first_input_at v n ≡ Some heard = sym c.in-Some-first_input_at.ensures in
     let less : c.chain._step < length v.forwards.items = omega arith in
     silent_further v (length v.forwards.items) c.chain._step c.chain.at heard flow n less is some from ∙ c.chain.invariant
 

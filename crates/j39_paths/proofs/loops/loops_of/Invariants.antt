@@ -1,7 +1,7 @@
 use Rattle.std.proofs.Common.{◌≡◌, ℕ, ◌<◌, length, false}
 use Rattle.std.specs.Bool.{Decides}
 use Rattle.std.specs.List.{slice_index_or}
-use Rattle.j39_paths.specs.Forwards.{ComesAfter}
+use Rattle.j39_paths.specs.ForwardEnds.{ComesAfter}
 use Rattle.j39_paths.proofs.loops.loops_of.Given as goal
 
 abbrev pub invariant-all : goal.invariant-all

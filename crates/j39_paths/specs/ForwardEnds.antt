@@ -29,8 +29,8 @@ IsAmong units u = SomeMeets (λ w. (w.bus ≡ u.bus) × (w.unit ≡ u.unit)) uni
 -- ---- inputs and outputs
 
 -- what the gateway's unit has to hear for the forward
-abbrev pub heard : Forward → NeedPlan
-heard forward = record {
+abbrev pub need_of_hearer : Forward → NeedPlan
+need_of_hearer forward = record {
   unit = forward.hearer;
   group = forward.input.group;
   signal = None;
@@ -41,7 +41,7 @@ heard forward = record {
 
 -- a flow of the bus where the gateway hears is an input: it brings this unit what it has to hear, and no unit of the gateway sends it
 pub record IsInput (v : Vehicle) (forward : Forward) (flow : FlowPlan) : Type 0 where
-  pub meets : Meets (requests_on v.buses.items forward.input.bus) (heard forward) flow
+  pub meets : Meets (requests_on v.buses.items forward.input.bus) (need_of_hearer forward) flow
   pub other : ¬ IsAmong (units_of_gateway v forward.gateway) (record { bus = forward.input.bus; unit = flow.sender })
 
 -- a flow of the bus where the gateway sends is an output: the gateway's unit sends this group in it, to the receiver that is named, if any is
@@ -84,19 +84,19 @@ IsDirect forward = forward.mode ≡ Direct
 -- ---- loops
 
 -- an output of the one is an input of the other
-pub record IsFollowed (v : Vehicle) (n m : Forward) : Type 0 where
+pub record IsFollowedBy (v : Vehicle) (n m : Forward) : Type 0 where
   pub bus : n.output.bus ≡ m.input.bus
   pub flow : SomeMeets (λ f. IsOutput n f × IsInput v m f) (output_flows v n)
 
 -- so it is with the forwards at these places
-pub record Follows (v : Vehicle) (n m : ℕ) : Type 0 where
+pub record FollowsAt (v : Vehicle) (n m : ℕ) : Type 0 where
   pub first : Forward
   pub first_is : slice_get v.forwards.items n ≡ Some first
   pub second : Forward
   pub second_is : slice_get v.forwards.items m ≡ Some second
-  pub followed : IsFollowed v first second
+  pub followed : IsFollowedBy v first second
 
 -- m comes after n: an output of n, or of a forward after n, is an input of m
 pub data ComesAfter (v : Vehicle) (n : ℕ) : ℕ → Type 0 where
-  at_once : (m : ℕ) → Follows v n m → ComesAfter v n m
-  later : (k m : ℕ) → ComesAfter v n k → Follows v k m → ComesAfter v n m
+  at_once : (m : ℕ) → FollowsAt v n m → ComesAfter v n m
+  later : (k m : ℕ) → ComesAfter v n k → FollowsAt v k m → ComesAfter v n m

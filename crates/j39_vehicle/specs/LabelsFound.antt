@@ -24,19 +24,19 @@ bus_place buses label = position (λ b. bytes_eq b.label.bytes label) buses
 abbrev pub units_on : List BusPlan → ℕ → List UnitPlan
 units_on buses b = option_map_or (λ bus. bus.plan.units.items) (slice_get buses b) []
 
-abbrev pub groups_on : List BusPlan → ℕ → List GroupPlan
-groups_on buses b = option_map_or (λ bus. bus.plan.groups.items) (slice_get buses b) []
+abbrev pub groups_of_bus : List BusPlan → ℕ → List GroupPlan
+groups_of_bus buses b = option_map_or (λ bus. bus.plan.groups.items) (slice_get buses b) []
 
 -- those of a label, by their places
 abbrev pub unit_place : List BusPlan → ℕ → List ℕ → Option ℕ
 unit_place buses b label = position (λ u. bytes_eq u.label.bytes label) (units_on buses b)
 
 abbrev pub group_place : List BusPlan → ℕ → List ℕ → Option ℕ
-group_place buses b label = position (λ g. bytes_eq g.label.bytes label) (groups_on buses b)
+group_place buses b label = position (λ g. bytes_eq g.label.bytes label) (groups_of_bus buses b)
 
 -- the unit and the group that a name on a bus stands for
-abbrev pub unit_named : List BusPlan → List ℕ → Option UnitAt
-unit_named buses t = option_and_then
+abbrev pub unit_labelled : List BusPlan → List ℕ → Option UnitAt
+unit_labelled buses t = option_and_then
     (λ b. option_map (λ u. record { bus = b; unit = u }) (unit_place buses b (name_of t).label)) (bus_place buses (name_of t).bus)
 
 abbrev pub group_named : List BusPlan → List ℕ → Option GroupAt
@@ -44,12 +44,12 @@ group_named buses t = option_and_then
     (λ b. option_map (λ g. record { bus = b; group = g }) (group_place buses b (name_of t).label)) (bus_place buses (name_of t).bus)
 
 -- the signals of a group: none where there is no group
-abbrev pub signals_of : List BusPlan → GroupAt → List SignalParts
-signals_of buses g = option_map_or (λ group. group.signals.items) (slice_get (groups_on buses g.bus) g.group) []
+abbrev pub signals_in_group : List BusPlan → GroupAt → List SignalParts
+signals_in_group buses g = option_map_or (λ group. group.signals.items) (slice_get (groups_of_bus buses g.bus) g.group) []
 
 -- the signal of a label that isn't repeated
 abbrev pub signal_place : List BusPlan → GroupAt → List ℕ → Option ℕ
-signal_place buses g label = position (λ s. bytes_eq s.label.bytes label && not s.repeated) (signals_of buses g)
+signal_place buses g label = position (λ s. bytes_eq s.label.bytes label && not s.repeated) (signals_in_group buses g)
 
 -- whom a word names on a bus
 abbrev pub receivers_on : List BusPlan → ℕ → List ℕ → Option To
