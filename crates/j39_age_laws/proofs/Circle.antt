@@ -230,7 +230,7 @@ module _ (v : Vehicle) (delays : Delays) (told : AreDelays v delays) (seen : See
         ∙ (ap (λ (u : ℕ). u * bits_of_ms t.timing streamed.period) (unit_here v delays told (at_of b i) (own_of t.timing is.flow is.bits) has)
         ∙ unit_of_ms t.timing.bitrate streamed.period))
 
-  -- what is known to come behind_at its moment is what is reckoned with here
+  -- what is known to come behind its moment is what is reckoned with here
   pub behind_value : (b i : ℕ) (t : TimedBus v b) (is : IsTold b i t) (total : ℕ) → behind_at v delays (at_of b i) ≡ Some total → behind_with b i (Some t) ≡ total
   behind_value b i t is total known = some_cases (direct_feeder v (at_of b i)) (behind_with b i (Some t) ≡ total)
       (λ none.

@@ -35,7 +35,7 @@ use Rattle.j39_age_laws.proofs.Parts.{and_then_some, some_cases, sum_some}
 use Rattle.j39_age_laws.proofs.Starts.{starts_within}
 use Rattle.j39_age_laws.proofs.Until.{frames_then, with_streams}
 
--- what comes so long behind_at its moment has a time of its own
+-- what comes so long behind its moment has a time of its own
 behind_own : (v : Vehicle) (delays : Delays) (steps : ℕ) (at : FlowAt) (total : ℕ) → behind_by v delays steps at ≡ Some total → (n : ℕ)
     × (own v delays at ≡ Some n)
 behind_own v delays steps at total known = some_cases (direct_feeder v at) ((n : ℕ) × (own v delays at ≡ Some n))
@@ -89,7 +89,7 @@ module _ (v : Vehicle) (delays : Delays) (told : AreDelays v delays) (seen : See
     from_stream = λ b i. flow_value (sent_from v delays (at_of b i));
     within = λ b i. within_value v delays told seen b i;
     wait = λ b i. wait_with v delays told seen b i (view v b);
-    behind_at = λ b i. behind_with v delays told seen b i (view v b);
+    behind = λ b i. behind_with v delays told seen b i (view v b);
     apart = λ b i. unit_on v b * ((bus_with v delays told seen b (view v b)).traffic.stream i).period;
   }
 

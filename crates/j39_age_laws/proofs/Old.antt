@@ -145,7 +145,7 @@ old_there from old pause before within m r c time late near order so = omega ari
 
 module _ (v : Vehicle) (delays : Delays) (none : AreFindings v []) (told : AreDelays v delays) (seen : SeenBuses) (by : ℕ) (is : IsSeenVehicle v delays seen by)
     (start : Point) (from : ℕ) (pauses : KeepPauses v seen start from by) where
-  -- each message that has ended says what was so no more than `old` before its moment, where this is so much behind_at the time from which on pauses
+  -- each message that has ended says what was so no more than `old` before its moment, where this is so much behind the time from which on pauses
   -- are kept
   abbrev pub IsOldAtMost : Point → ℕ → Type 0
   IsOldAtMost p old = (q : ℕ) → IsIts (frames_at v seen p.at) q → end_time (frames_at v seen p.at) q ≤ by → from + old ≤ (seen p.at.bus).moment q

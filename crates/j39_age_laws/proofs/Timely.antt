@@ -132,8 +132,8 @@ module _ (v : Vehicle) (delays : Delays) (none : AreFindings v []) (told : AreDe
             (output_flows v n) at.flow sends.flow sends.flow its_output in
             absurd (true≢false (sym sends.passes ∙ subst (λ (f : FlowPlan). is_output n f ≡ false) here (found.2 at.flow before)))
         | inr not_before ↦ elim (cases_lt j at.flow) [
-          | inl behind_at ↦
-              let many = two_pass (is_output n) (output_flows v n) j at.flow (get_or (output_flows v n) j sends.flow) sends.flow behind_at
+          | inl behind ↦
+              let many = two_pass (is_output n) (output_flows v n) j at.flow (get_or (output_flows v n) j sends.flow) sends.flow behind
               (slice_get-get_or (output_flows v n) j sends.flow found.0) its_output found.1 sends.passes in
               let finding = none.complete (ManyOutputs place) (record {
                 value = n;

@@ -76,7 +76,7 @@ module _ (v : Vehicle) (delays : Delays) (sound : IsSoundVehicle v delays) (d : 
         | inr fails ↦ inr (λ other.
             let same : other.value ≡ flow = same_Some _ _ (sym other.value_is ∙ there) in
             true≢false (sym ((Decides-meets (requests_on v.buses.items need.unit.bus) (need_on_bus need) flow).1
-            (subst (λ (x : FlowPlan). Rattle.j39_findings.specs.Findings.Meets (requests_on v.buses.items need.unit.bus)
+            (subst (λ (x : FlowPlan). Rattle.j39_network.specs.Serving.Meets (requests_on v.buses.items need.unit.bus)
             (need_on_bus need) x) same other.meets.meets)) ∙ fails))
         | inl brings ↦ elim (cases_Bool (is_from_origin v need f)) [
           | inr fails ↦ inr (λ other. true≢false (sym other.meets.from ∙ fails))

@@ -28,7 +28,7 @@ pub record SendsOn (v : Vehicle) (n : ℕ) (forward : Forward) (x y : FlowAt) (w
   pub input : first_input_at v forward ≡ Some x
   pub promised : within_of forward ≡ Some within
 
--- each message of the output is one of the input, sent on at most `within` behind_at its end; each of the input that ends is sent on; and what is
+-- each message of the output is one of the input, sent on at most `within` behind its end; each of the input that ends is sent on; and what is
 -- said of a signal is what was said of the one that goes into it
 pub record IsSentDirectly (v : Vehicle) (seen : SeenBuses) (n : ℕ) (x y : FlowAt) (within : ℕ) : Type 0 where
   pub handed : IsHandedOn (frames_at v seen x) (frames_at v seen y) within

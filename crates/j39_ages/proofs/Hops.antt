@@ -20,7 +20,7 @@ one_more n i less = omega arith
 less_none : (n : ℕ) → n - 0 ≡ n
 less_none n = omega arith
 
--- ---- behind_at
+-- ---- behind
 
 pub behind_here : (v : Vehicle) (delays : Delays) (steps : ℕ) (at : FlowAt) → direct_feeder v at ≡ None
     → behind_by v delays steps at ≡ behind_moment v delays at

@@ -14,7 +14,7 @@ use Rattle.j39_ages.specs.TimeFindings.{AreTimeFindings, IsNeedTooOld, IsTooLate
 use Rattle.j39_ages.specs.FoundTimes.{forward_time_findings, is_need_too_old, is_too_late, is_too_often, is_too_rare, need_time_findings, time_findings}
 use Rattle.j39_ages.proofs.DecidingTimes.{Decides-is_need_too_old, Decides-is_too_late, Decides-is_too_often, Decides-is_too_rare}
 
-in_order : Order TimeFinding
+abbrev in_order : Order TimeFinding
 in_order = record { number = time_finding_number; places = time_finding_places }
 
 -- findings of numbers from low to high that hold of the vehicle, in order

@@ -1,6 +1,6 @@
 -- What can be wrong with the times of what a vehicle's gateways send on: each finding as a plain statement on its forwards and needs, by their
 -- places from 0.
-use Rattle.std.specs.Prelude.{◌≡◌, ℕ, ◌<◌, ◌≤◌, ◌⊎◌, List, Option, Some, None, true, false, Contains, AllPairs}
+use Rattle.std.specs.Prelude.{◌≡◌, ℕ, ◌<◌, ◌≤◌, ◌⊎◌, List, [], ◌∷◌, Option, Some, None, true, false, Contains, AllPairs}
 use Rattle.std.specs.List.{slice_get, position}
 use Rattle.std.specs.Option.{option_and_then, option_map}
 use Rattle.j39_rules.specs.ListPlaces.{ValueAt}

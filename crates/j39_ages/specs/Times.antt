@@ -64,7 +64,7 @@ bits_within _ = None
 abbrev pub delay_at : Delays → FlowAt → Option ℕ
 delay_at delays at = option_and_then bits_within (slice_get (delays_on delays at.bus) at.flow)
 
--- how long a frame takes that was queued: its delay counts from the moment of the message, and it was queued within the jitter behind_at this
+-- how long a frame takes that was queued: its delay counts from the moment of the message, and it was queued within the jitter behind this
 abbrev pub own_of : Timing → FlowPlan → ℕ → ℕ
 own_of timing flow delay = us_of_bit timing.bitrate * (delay - bits_of_ms timing (jitter_ms flow))
 

@@ -49,7 +49,7 @@ pub record StandsForGateway (buses : List BusPlan) (g : GatewayTable) (h : Gatew
 
 -- ---- forwards
 
--- what has to be found first, and what is looked for behind_faults it
+-- what has to be found first, and what is looked for behind it
 abbrev pub behind_faults : {X : Type 0} → Table → Key → Option X → (X → List Fault) → List Fault
 behind_faults at key None rest = fault UnknownLabel at (Some key) ∷ []
 behind_faults at key (Some x) rest = rest x
@@ -143,7 +143,7 @@ pub record StandsForFile (buses : List BusPlan) (file : VehicleFile) (v : Vehicl
   pub has_forwards : AllZip (StandsForForward buses file.gateways.items) file.forwards.items v.forwards.items
   pub has_needs : AllZip (StandsForNeed buses) file.needs.items v.needs.items
 
--- ---- where room is asked for: behind_faults a table without a fault, or in one
+-- ---- where room is asked for: behind a table without a fault, or in one
 
 abbrev pub FoundGrows : {S : Type 0} → (ℕ → S → List Fault) → (ℕ → S → Type 0) → List S → Type 0
 FoundGrows faults Grows [] = ⊥
@@ -170,7 +170,7 @@ abbrev pub ForwardFoundGrows : List BusPlan → ℕ → ForwardTable → Type 0
 ForwardFoundGrows buses i f = GroupsGrow buses i (group_named buses (string_bytes f.input.text))
     (group_named buses (string_bytes f.output.text)) (option_map (λ v. v.items) f.signals)
 
--- among the gateways, behind_faults these among the forwards, or behind_faults these among the needs
+-- among the gateways, behind these among the forwards, or behind these among the needs
 abbrev pub VehicleGrows : List BusPlan → VehicleFile → Type 0
 VehicleGrows buses file = FoundGrows (gateway_found buses) (GatewayFoundGrows buses) file.gateways.items
     ⊎ ((each_found (gateway_found buses) 0 file.gateways.items ≡ [])

@@ -124,7 +124,7 @@ forwards alloc bytes are = inl (record {
   flow_is = refl;
   input = is_input alloc;
   before = payload;
-  need_of_hearer = is_heard alloc;
+  heard = is_heard alloc;
   faithful = record { copied = λ copies. are; taken = λ k f t is there. absurd (none-some _ is) };
 })
 
@@ -178,7 +178,7 @@ a_message alloc = record {
   place = 0;
   flow = flow;
   flow_is = refl;
-  need_on_bus = is_needed alloc;
+  needed = is_needed alloc;
   bytes = payload;
   reported = is_reported alloc;
   exact = is_exact_all alloc;

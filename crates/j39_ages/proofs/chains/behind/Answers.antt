@@ -34,7 +34,7 @@ returns-in_default-input_at-clause-value c =
     let d = c.args.delays.now in
     let n = c.in-Some.forward.now in
     let some : direct_feeder v c.chain.at ≡ Some n = sym c.in-Some.ensures in
-    let none : first_input_at v n ≡ None = sym c.in_default-first_input_at.ensures in
+    let none : first_input_at v n ≡ None = sym c.in_default-input_at.ensures in
     let less : c.chain._step < length v.forwards.items = omega arith in
     sym (behind_without_input v d (length v.forwards.items) c.chain._step c.chain.hops c.chain.at n less some none) ∙ c.chain.invariant.sum
 
@@ -44,10 +44,10 @@ chain-preserved c =
     let d = c.args.delays.now in
     let n = c.in-Some.forward.now in
     let hop = c.in-Some-hop.hop in
-    let source = c.in-Some-first_input_at.source in
+    let source = c.in-Some-input_at.source in
     let some : direct_feeder v c.chain.at ≡ Some n = sym c.in-Some.ensures in
     let takes : sum_known (within_of n) (own v d c.chain.at) ≡ Some hop = sym c.in-Some-hop.ensures.value in
-    let from : first_input_at v n ≡ Some source = sym c.in-Some-first_input_at.ensures in
+    let from : first_input_at v n ≡ Some source = sym c.in-Some-input_at.ensures in
     let less : c.chain._step < length v.forwards.items = omega arith in
     record {
       sum = behind_further v d (length v.forwards.items) c.chain._step c.chain.hops hop c.chain.at source n less some takes from

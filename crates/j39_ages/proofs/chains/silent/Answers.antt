@@ -24,7 +24,7 @@ returns-in_default-input_at-clause-value c =
     let n = c.in-Some-direct_feeder.forward.now in
     let is : unasked_at v c.chain.at ≡ Some flow = cc in
     let some : direct_feeder v c.chain.at ≡ Some n = sym c.in-Some-direct_feeder.ensures in
-    let none : first_input_at v n ≡ None = sym c.in_default-first_input_at.ensures in
+    let none : first_input_at v n ≡ None = sym c.in_default-input_at.ensures in
     let less : c.chain._step < length v.forwards.items = omega arith in
     sym (silent_without_input v (length v.forwards.items) c.chain._step c.chain.at flow n less is some none) ∙ c.chain.invariant
 
@@ -33,10 +33,10 @@ chain-preserved c =
     let v = c.args.vehicle.now in
     let flow = c.in-Some.flow in
     let n = c.in-Some-direct_feeder.forward.now in
-    let heard = c.in-Some-first_input_at.heard in
+    let heard = c.in-Some-input_at.heard in
     let is : unasked_at v c.chain.at ≡ Some flow = cc in
     let some : direct_feeder v c.chain.at ≡ Some n = sym c.in-Some-direct_feeder.ensures in
-    let from : first_input_at v n ≡ Some heard = sym c.in-Some-first_input_at.ensures in
+    let from : first_input_at v n ≡ Some heard = sym c.in-Some-input_at.ensures in
     let less : c.chain._step < length v.forwards.items = omega arith in
     silent_further v (length v.forwards.items) c.chain._step c.chain.at heard flow n less is some from ∙ c.chain.invariant
 
