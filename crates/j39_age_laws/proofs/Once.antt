@@ -47,9 +47,8 @@ use Rattle.j39_age_laws.specs.Seen.{SeenBus, SeenBuses, frames_at, unit_on}
 use Rattle.j39_age_laws.specs.VehicleAges.{IsPromptVehicle}
 use Rattle.j39_age_laws.proofs.Circle.{unit_positive}
 use Rattle.j39_age_laws.proofs.Feeders.{fed_by}
-use Rattle.j39_age_laws.proofs.OneFlow.{short_frames}
+use Rattle.j39_age_laws.proofs.OneFlow.{short_frames, told_bus}
 use Rattle.j39_age_laws.proofs.Kept.{one_traffic}
-use Rattle.j39_age_laws.proofs.OneFlow.{told_bus}
 use Rattle.j39_age_laws.proofs.Parts.{and_then_some, map_some, within_some}
 
 -- ---- a bus with one frame, or none

@@ -23,7 +23,7 @@ use Rattle.j39_paths.specs.declared.point.FlowAt.{FlowAt}
 use Rattle.j39_paths.proofs.Deciding.{Decides-has_many_outputs, Decides-is_direct, Decides-is_input}
 use Rattle.j39_ages.specs.BusDelays.{AreDelays, AreDelaysOn, delays_on}
 use Rattle.j39_ages.specs.TimeFindings.{AreTimeFindings, IsDirectBetween, IsUnlimited, first_output, period_ms}
-use Rattle.j39_ages.specs.Times.{behind_at, bits_within, delay_at, direct_feeder, flow_at, first_input_at, jitter_ms, queued_of, silent, timing_on, us_of_ms}
+use Rattle.j39_ages.specs.Times.{bits_within, delay_at, direct_feeder, flow_at, first_input_at, jitter_ms, queued_of, silent, timing_on, us_of_ms}
 use Rattle.j39_ages.specs.declared.bus_delays.Delays.{Delays}
 use Rattle.j39_ages.specs.declared.ends.Ends.{Ends}
 use Rattle.j39_ages.specs.declared.finding.TimeFinding.TheVariants.{TooLate, TooOften, TooRare}

@@ -1,5 +1,5 @@
 -- From forward to forward: what a message brings from its origin.
-use Rattle.std.proofs.Common.{◌≡◌, ℕ, zero, suc, ◌==◌, ◌≤◌, ◌⊎◌, List, [], length, Bool, true, false, Option, Some, None, All, inl, inr, sym, refl, ap, ◌∙◌, subst}
+use Rattle.std.proofs.Common.{◌≡◌, ℕ, zero, suc, ◌==◌, ◌≤◌, ◌⊎◌, List, [], length, Bool, true, Option, Some, None, All, inl, inr, sym, refl, ap, ◌∙◌, subst}
 use Rattle.std.specs.Prelude.{ℤ}
 use Rattle.std.specs.List.{slice_get}
 use Rattle.std.specs.Option.{option_and_then, option_map_or}
@@ -19,7 +19,6 @@ use Rattle.j39_vehicle.specs.declared.vehicle.Vehicle.{Vehicle}
 use Rattle.j39_vehicle.specs.declared.vehicle.bus_plan.BusPlan.{BusPlan}
 use Rattle.j39_vehicle.specs.declared.vehicle.forward.Forward.{Forward}
 use Rattle.j39_vehicle.specs.declared.vehicle.places.UnitAt.{UnitAt}
-use Rattle.j39_vehicle.specs.declared.vehicle.vehicle_need.VehicleNeed.{VehicleNeed}
 use Rattle.j39_paths.specs.Buses.{flows_on, group_at}
 use Rattle.j39_paths.specs.ForwardEnds.{Copies, Feeds}
 use Rattle.j39_paths.specs.Traces.{behind_forward, goes_on, is_sent_by, next_forward, origin, point_on, trace_end}
@@ -28,11 +27,11 @@ use Rattle.j39_paths.specs.declared.point.FlowAt.{FlowAt}
 use Rattle.j39_paths.specs.declared.point.Point.{Point}
 use Rattle.j39_forwards.specs.Forwards.{AreOneValue}
 use Rattle.j39_forwards.proofs.Forwards.{among_whole}
-use Rattle.j39_vehicle_laws.specs.Carrying.{AreAllCopies, AreAllExact, Brings, BringsAnother, BringsNothing, EachForward, GoesBy, another, group_of_point, is_exact, itself, more, none, nothing, signal_at}
+use Rattle.j39_vehicle_laws.specs.Carrying.{AreAllCopies, AreAllExact, Brings, BringsAnother, EachForward, GoesBy, another, group_of_point, is_exact, itself, more, none, nothing, signal_at}
 use Rattle.j39_vehicle_laws.specs.Faithful.{KeepsContents, signal_of}
 use Rattle.j39_vehicle_laws.specs.Reading.{HasNoValue, IsUnset, reading}
-use Rattle.j39_vehicle_laws.specs.Unaltered.{ComesFrom, HasDivisors, WasBegunBy, IsUnaltered, ReadsAsOrigin}
-use Rattle.j39_vehicle_laws.specs.BusRuns.{Carries, CarriesOne, WasBegun, WasHeard, WasReported, WasSent, BusMessage, VehicleRun, flow_on_bus}
+use Rattle.j39_vehicle_laws.specs.Unaltered.{HasDivisors, WasBegunBy, IsUnaltered, ReadsAsOrigin}
+use Rattle.j39_vehicle_laws.specs.BusRuns.{CarriesOne, WasBegun, WasHeard, WasReported, WasSent, BusMessage, VehicleRun, flow_on_bus}
 use Rattle.j39_vehicle_laws.proofs.Forwarding.{first_is_input, next_feeds, one_input}
 use Rattle.j39_vehicle_laws.proofs.Hops.{behind_at, flow_place, none_over, taken_over, value_or_none}
 use Rattle.j39_vehicle_laws.proofs.Places.{one_of_all, parts_of, passed_of}

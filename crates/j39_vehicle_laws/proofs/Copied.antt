@@ -1,22 +1,18 @@
 -- Messages of copies, and what signals read in messages.
-use Rattle.std.proofs.Common.{◌≡◌, ℕ, ◌+◌, ◌*◌, ◌≤◌, ◌<◌, ◌==◌, ◌&&◌, ◌||◌, List, [], length, Bool, true, false, not, nat_le, if◌then◌else◌}
+use Rattle.std.proofs.Common.{◌≡◌, ℕ, ◌+◌, ◌*◌, ◌≤◌, ◌<◌, ◌==◌, ◌&&◌, ◌||◌, List, [], length, Bool, true, not, nat_le, if◌then◌else◌}
 use Rattle.std.proofs.Common.{Option, Some, None, inl, inr, sym, refl, ap, ◌∙◌, arith}
-use Rattle.std.specs.List.{slice_get}
 use Rattle.std.proofs.lemmas.Bool.{cases_Bool, false≢true}
 use Rattle.j39_signal.specs.Bits.{number_at, raw_of}
-use Rattle.j39_signal.specs.Parts.{SignalParts}
-use Rattle.j39_signal.specs.Places.{IsAlwaysInside, end_of}
-use Rattle.j39_signal.specs.Selectors.{has_selector, is_selected, selector_end}
-use Rattle.j39_signal.specs.State.{state_in_payload, state_of}
+use Rattle.j39_signal.specs.Places.{end_of}
+use Rattle.j39_signal.specs.Selectors.{has_selector, is_selected}
+use Rattle.j39_signal.specs.State.{state_of}
 use Rattle.j39_signal.specs.declared.selector.Selector.{Selector}
 use Rattle.j39_signal.specs.declared.state.State.TheVariants.{Absent}
 use Rattle.j39_network.specs.declared.plan.group_plan.GroupPlan.{GroupPlan}
 use Rattle.j39_vehicle.specs.declared.vehicle.Vehicle.{Vehicle}
-use Rattle.j39_vehicle.specs.declared.vehicle.forward.Forward.{Forward}
 use Rattle.j39_paths.specs.VehicleFindings.{AreFindings, HaveOtherLayouts, IsSelector}
 use Rattle.j39_paths.specs.declared.finding.VehicleFinding.TheVariants.{LayoutDiffers}
-use Rattle.j39_vehicle_laws.specs.Copied.{CanBeMessageOf, CopiesCanBeSent, ReadingsAreStates}
-use Rattle.j39_vehicle_laws.specs.Reading.{reading}
+use Rattle.j39_vehicle_laws.specs.Copied.{CopiesCanBeSent, ReadingsAreStates}
 use Rattle.j39_vehicle_laws.proofs.Forwarding.{nothing_holds}
 use Rattle.j39_vehicle_laws.proofs.Values.{within}
 

@@ -1,5 +1,5 @@
 -- The example has no findings, and in its run the need's unit reports what the gateway sends on.
-use Rattle.std.proofs.Common.{◌≡◌, ℕ, zero, suc, ◌<◌, ◌≤◌, List, [], ◌∷◌, ◌++◌, Bool, true, false, Option, Some, None, Decides, All, inl, inr, sym, refl, ap, ◌∙◌, subst, arith}
+use Rattle.std.proofs.Common.{◌≡◌, ℕ, zero, suc, ◌<◌, ◌≤◌, List, [], ◌∷◌, ◌++◌, Bool, true, false, Some, Decides, All, inl, inr, sym, refl, ap, ◌∙◌, subst, arith}
 use Rattle.std.specs.Prelude.{cond, pos}
 use Rattle.std.specs.Global.{Global}
 use Rattle.std.specs.List.{slice_get, slice_index_or}
@@ -8,7 +8,6 @@ use Rattle.std.proofs.lemmas.Option.{none-some, same_Some}
 use Rattle.j39_signal.specs.Bits.{number_at}
 use Rattle.j39_signal.specs.Parts.{SignalParts}
 use Rattle.j39_signal.specs.declared.state.State.TheVariants.{Value}
-use Rattle.j39_network.specs.Serving.{Meets}
 use Rattle.j39_rules.specs.ListPlaces.{each, in_each, pairs}
 use Rattle.j39_network.specs.declared.plan.group_plan.GroupPlan.{GroupPlan}
 use Rattle.j39_world.specs.Run.{Run}
@@ -17,18 +16,16 @@ use Rattle.j39_world.specs.World.{all_off}
 use Rattle.j39_vehicle.specs.declared.vehicle.bus_plan.BusPlan.{BusPlan}
 use Rattle.j39_vehicle.specs.declared.vehicle.forward.Forward.{Forward}
 use Rattle.j39_paths.specs.FoundPaths.{content_findings, end_findings, loop_findings, need_findings, path_findings, queue_findings, some_at, vehicle_findings}
-use Rattle.j39_paths.specs.ForwardEnds.{ComesAfter, FollowsAt, IsAmong, IsInput, at_once, need_of_hearer, later, units_of_gateway}
-use Rattle.j39_paths.specs.Loops.{TellLoops}
-use Rattle.j39_paths.specs.Traces.{IsNeedFlow, is_from_origin, need_on_bus, next_forward, point_on, trace_end}
+use Rattle.j39_paths.specs.ForwardEnds.{ComesAfter, FollowsAt, IsAmong, IsInput, at_once, later, units_of_gateway}
+use Rattle.j39_paths.specs.Traces.{IsNeedFlow, is_from_origin, point_on, trace_end}
 use Rattle.j39_paths.specs.VehicleFindings.{AreFindings}
 use Rattle.j39_paths.proofs.PathLaws.{are_findings}
-use Rattle.j39_forwards.specs.Forwards.{Among, HasMessage}
+use Rattle.j39_forwards.specs.Forwards.{HasMessage}
 use Rattle.j39_vehicle_laws.specs.Carrying.{AreAllExact, more, none}
 use Rattle.j39_vehicle_laws.specs.Reading.{reading}
-use Rattle.j39_vehicle_laws.specs.Faithful.{KeepsContents}
 use Rattle.j39_vehicle_laws.specs.Forwarding.{ForwardedMessage, needed_message}
 use Rattle.j39_vehicle_laws.specs.Unaltered.{HasDivisors}
-use Rattle.j39_vehicle_laws.specs.BusRuns.{Carries, CarriesOne, WasHeard, WasReported, WasSent, BusMessage, VehicleRun}
+use Rattle.j39_vehicle_laws.specs.BusRuns.{Carries, WasHeard, WasReported, WasSent, VehicleRun}
 use Rattle.j39_vehicle_laws.proofs.Example.{all_of_one, all_of_two, bus, buses, flow, forward, group, need, payload, runs, speed, steps, taken, unit_at, vehicle}
 
 -- ---- no findings

@@ -1,5 +1,5 @@
 -- On each bus a message of which nothing is lost is reported, and so from bus to bus.
-use Rattle.std.proofs.Common.{◌≡◌, ℕ, zero, suc, List, [], ◌∷◌, ◌++◌, map, Bool, true, false, ◌||◌, nat_eq, Option, Some, None, inl, inr, sym, refl, ap, ◌∙◌, subst}
+use Rattle.std.proofs.Common.{◌≡◌, ℕ, zero, suc, List, [], ◌∷◌, ◌++◌, map, true, false, ◌||◌, nat_eq, Some, inl, inr, sym, refl, ap, ◌∙◌, subst}
 use Rattle.std.specs.List.{slice_get}
 use Rattle.std.specs.Option.{option_map_or}
 use Rattle.std.proofs.lemmas.Bool.Decides.{Decides-eqb}
@@ -15,11 +15,10 @@ use Rattle.j39_world.specs.Sound.{reported, reported_alone}
 use Rattle.j39_world.specs.Transfers.{Begun, is_among}
 use Rattle.j39_world.specs.TransferSteps.{outgoing}
 use Rattle.j39_world.specs.World.{World, all_off}
-use Rattle.j39_world.specs.declared.flow.Flow.{Flow}
 use Rattle.j39_laws.proofs.Reports.SenderSteps.{among_one}
 use Rattle.j39_vehicle.specs.declared.vehicle.Vehicle.{Vehicle}
 use Rattle.j39_vehicle.specs.declared.vehicle.bus_plan.BusPlan.{BusPlan}
-use Rattle.j39_forwards.specs.Forwards.{Among, HasMessage}
+use Rattle.j39_forwards.specs.Forwards.{HasMessage}
 use Rattle.j39_vehicle_laws.specs.Passing.{CrossesBus, IsPassedOn, WasReportedIn, IsSpared, IsSparedAlone, IsSparedAnswered, at_first, by_gateway}
 use Rattle.j39_vehicle_laws.specs.BusRuns.{WasHeard, BusMessage, flow_on_bus}
 

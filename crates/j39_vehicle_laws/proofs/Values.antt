@@ -1,6 +1,6 @@
 -- Each value of a signal is its first one and so many steps; and what the tests of two signals say of that.
-use Rattle.std.proofs.Common.{◌≡◌, ◌≢◌, ℕ, zero, suc, ◌+◌, ◌-◌, ◌*◌, ◌^◌, ◌%◌, ◌/◌, ◌<◌, ◌≤◌, ◌==◌, ◌⊎◌, Bool, true, false, if◌then◌else◌, nat_le, nat_lt, inl, inr, sym, refl, ap, ◌∙◌, subst, arith}
-use Rattle.std.specs.Prelude.{ℤ, pos, ◌+ℤ◌, ◌-ℤ◌, ◌*ℤ◌, ◌<ℤ◌, ◌≤ℤ◌, IsTrue}
+use Rattle.std.proofs.Common.{◌≡◌, ◌≢◌, ℕ, suc, ◌+◌, ◌-◌, ◌*◌, ◌^◌, ◌%◌, ◌/◌, ◌<◌, ◌≤◌, ◌==◌, ◌⊎◌, Bool, true, false, if◌then◌else◌, nat_le, nat_lt, inl, inr, sym, refl, ap, ◌∙◌, arith}
+use Rattle.std.specs.Prelude.{ℤ, pos, ◌+ℤ◌, ◌-ℤ◌, ◌*ℤ◌, ◌<ℤ◌, ◌≤ℤ◌}
 use Rattle.std.proofs.lemmas.Int.{ints}
 use Rattle.std.proofs.Math.Nat.{mul_comm, pow-le-pow_right, two-pow-succ}
 use Rattle.std.proofs.lemmas.Nat.{pow_pos}
@@ -8,16 +8,14 @@ use Rattle.std.proofs.lemmas.Bool.{and_parts, eqb-true}
 use Rattle.std.proofs.lemmas.Bool.Decides.{Decides-eqb, Decides-ltb, leb_tells}
 use Rattle.j39_signal.specs.Parts.{SignalParts}
 use Rattle.j39_signal.specs.Places.{WidthFits, width_fits}
-use Rattle.j39_signal.specs.State.{IsRawOf, IsValue, Ranges, is_negative, ranges_of, state_in, state_of, value_of}
+use Rattle.j39_signal.specs.State.{IsRawOf, Ranges, is_negative, ranges_of, state_in, state_of, value_of}
 use Rattle.j39_signal.specs.declared.kind.Kind.{Kind}
 use Rattle.j39_signal.specs.declared.kind.Kind.TheVariants.{Measured, Discrete, Raw, States, Signed, Dtc}
 use Rattle.j39_signal.specs.declared.state.State.{State}
 use Rattle.j39_signal.specs.declared.state.State.TheVariants.{Value, Specific, Reserved, Fault, Absent}
 use Rattle.j39_signal.proofs.Steps.{value_down, value_up}
-use Rattle.j39_paths.specs.Matching.{CanStandFor, first_value, has_value, has_values_of, last_value, steps_above, steps_below}
-use Rattle.j39_forwards.specs.Forwards.{AreOneValue}
-use Rattle.j39_vehicle_laws.specs.Reading.{IsValueOf}
-use Rattle.j39_vehicle_laws.specs.Values.{HasEachValue, HavingIsOfValues, OneValueIsPassedOn}
+use Rattle.j39_paths.specs.Matching.{first_value, has_value, last_value, steps_above, steps_below}
+use Rattle.j39_vehicle_laws.specs.Values.{HavingIsOfValues, OneValueIsPassedOn}
 use Rattle.j39_vehicle_laws.proofs.Multiples.{one_factor, plus_times, times_times}
 use Rattle.j39_vehicle_laws.proofs.Indexes.{at_most, index_between, index_of, whole}
 
