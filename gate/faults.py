@@ -45,6 +45,9 @@ def inputs(tally: Tally) -> None:
     for file in ("missing", "findings", "transfers.toml/inside", "x" * 5000, ""):
         for words in (["check", file], ["run", file, "missing"], ["read", file, "missing"], ["run", plan, file], ["read", plan, file]):
             tally.expect(f"{' '.join(words):.80}", run(words), 4, DEVICE)
+    tally.expect("vehicle missing", run(["vehicle", "missing"]), 4, DEVICE)
+    tally.expect("vehicle of a plan file", run(["vehicle", plan]), 2, b"", b"refused UnknownKey top\n")
+    tally.expect("vehicle of /dev/zero", run(["vehicle", "/dev/zero"]), 2, TOO_LONG)
     feeds = run(["read", plan, "/dev/stdin"], stdin=None, input=17_000_000 * b"\n")
     tally.expect("read of a log that is longer than a plan may be", feeds, 0, b"", b"frames 0 skipped 0 bad 0\n")
     tally.expect("check of /dev/zero", run(["check", "/dev/zero"]), 2, TOO_LONG)

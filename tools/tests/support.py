@@ -1,5 +1,6 @@
 """What the tests share."""
 
+import functools
 import importlib.util
 import os
 import re
@@ -79,6 +80,17 @@ def examples(ending: str) -> list[str]:
         for name in names
         if name.endswith(ending)
     )
+
+
+def plans() -> list[str]:
+    """The file names of the plans of the examples."""
+    return [name for name in examples(".toml") if name not in vehicles()]
+
+
+@functools.cache
+def vehicles() -> list[str]:
+    """The file names of the vehicles of the examples, which name the plans of their buses."""
+    return [name for name in examples(".toml") if "\n[[bus]]\n" in text_of(name)]
 
 
 def shown_refusals() -> list[tuple[str, str]]:

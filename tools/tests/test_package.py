@@ -20,8 +20,8 @@ from j39plan import program
 from tests.support import TOOLS, TOP, InFolder, run, text_of, there
 
 PACKAGE = os.path.join(TOOLS, "package")
-COMMANDS = ["show", "check", "addresses", "load", "run", "read", "follow", "frame", "help"]
-INSTALLED = ["where", "answer", "startup", "dbc2plan", "plan2dbc", "join", "compare", "against", "fleet", "report", "signals", "plot", "tolog",
+COMMANDS = ["show", "check", "addresses", "load", "run", "read", "follow", "frame", "vehicle", "help"]
+INSTALLED = ["where", "answer", "startup", "dbc2plan", "plan2dbc", "join", "forwards", "compare", "against", "fleet", "report", "signals", "plot", "tolog",
              "check-plans"]
 PAGE = text_of(os.path.join(TOP, "docs", "TOOLS.md"))
 
@@ -112,8 +112,9 @@ class Built(InFolder):
             self.assertTrue(os.path.exists(f"{prefix}/share/bash-completion/completions/j39plan{tool}"), tool)
             self.assertTrue(os.path.exists(f"{prefix}/share/fish/vendor_completions.d/j39plan{tool}.fish"), tool)
         self.does_the_jobs_of_the_page(environment)
-        self.assertIn("/usr/share/j39plan/tools/plan.schema.json", PAGE)
-        self.assertTrue(os.path.exists(f"{prefix}/share/j39plan/tools/plan.schema.json"))
+        for schema in ("plan", "vehicle"):
+            self.assertIn(f"/usr/share/j39plan/tools/{schema}.schema.json", PAGE)
+            self.assertTrue(os.path.exists(f"{prefix}/share/j39plan/tools/{schema}.schema.json"))
 
     def test_the_python_module_is_found(self) -> None:
         """Where its package puts it, and where the tarball has it; without the commands beside it."""
@@ -261,6 +262,7 @@ class Completions(InFolder):
         self.assertEqual(self.complete_bash("j39plan", ""), COMMANDS + ["--help", "--version"])
         self.assertEqual(self.complete_bash("j39plan", "r"), ["run", "read"])
         self.assertEqual(self.complete_bash("j39plan", "check", "plan.s", cwd=os.path.join(TOOLS, "j39plan")), ["plan.schema.json"])
+        self.assertEqual(self.complete_bash("j39plan", "v"), ["vehicle"])
         self.assertEqual(self.complete_bash("j39plan", "help", "f"), ["follow", "frame"])
         self.assertEqual(self.complete_bash("j39plan", "follow", "--"), ["--all"])
 
@@ -268,10 +270,11 @@ class Completions(InFolder):
         """Those of the ending that is wanted and folders, else all."""
         for name in ("a.toml", "a.log", "a.schedule", "a.dbc"):
             self.write(name, "")
-        for words, name in ((("j39plan", "check"), "a.toml"), (("j39plan", "run", "a.toml"), "a.schedule"),
+        for words, name in ((("j39plan", "check"), "a.toml"), (("j39plan", "vehicle"), "a.toml"), (("j39plan", "run", "a.toml"), "a.schedule"),
                             (("j39plan", "read", "a.toml"), "a.log"), (("j39plan", "follow", "--all", "a.toml"), "a.log"),
                             (("j39plan-where",), "a.toml"), (("j39plan-startup",), "a.toml"),
                             (("j39plan-against", "a.toml"), "a.log"), (("j39plan-fleet", "a.toml", "a.log"), "a.log"), (("j39plan-join", "a.toml"), "a.toml"),
+                            (("j39plan-forwards", "a.toml"), "a.toml"),
                             (("j39plan-compare", "a.toml"), "a.toml"), (("j39plan-signals", "a.toml"), "a.log"),
                             (("j39plan-plot", "a.toml"), "a.log"), (("j39plan-dbc2plan",), "a.dbc"),
                             (("j39plan-check-plans", "a.toml"), "a.toml")):
@@ -295,6 +298,7 @@ class Completions(InFolder):
         self.assertEqual(self.complete_bash("j39plan-where", "--g"), ["--github", "--gitlab"])
         self.assertEqual(self.complete_bash("j39plan-dbc2plan", "--kind", ""), ["dbc", "arxml", "kcd", "sym"])
         self.assertEqual(self.complete_bash("j39plan-answer", "l"), ["load"])
+        self.assertEqual(self.complete_bash("j39plan-answer", "v"), ["vehicle"])
         self.assertEqual(self.complete_bash("j39plan-report", "plan.toml", "-o", "where."), ["where.py"])
 
     @unittest.skipUnless(shutil.which("fish"), "fish isn't there: apt-get install fish")

@@ -43,7 +43,7 @@ def blocks(text: str) -> Iterator[tuple[Any, Any]]:
 
 def missing(command: str) -> str | None:
     """What a command needs that isn't there."""
-    if re.search("vehicle|dbc2plan", command) and importlib.util.find_spec("canmatrix") is None:
+    if re.search(r"vehicle\.dbc|dbc2plan", command) and importlib.util.find_spec("canmatrix") is None:
         return "canmatrix isn't there: apt-get install python3-canmatrix"
     if "asc2log" in command and shutil.which("asc2log") is None:
         return "asc2log isn't there: apt-get install can-utils"
@@ -66,7 +66,7 @@ class Shown(InFolder):
 
     def test_commands_write_what_is_shown(self) -> None:
         least = {"README.md": 7, "docs/PROMISES.md": 3, "docs/PLAN.md": 3, "docs/TIMING.md": 8, "docs/SIMULATOR.md": 11, "docs/LOGS.md": 9,
-                 "docs/TOOLS.md": 11}
+                 "docs/TOOLS.md": 11, "docs/VEHICLES.md": 1, "docs/EXAMPLES.md": 2}
         for name in PAGES:
             commands = [(command, shown) for command, shown in blocks(page(name)) if COMMAND.search(command)]
             self.assertGreaterEqual(len(commands), least.get(name, 0), name)
@@ -90,7 +90,7 @@ class Shown(InFolder):
             self.assertEqual(program.call(["check", example(plan)])[1], answer, plan)
 
     def test_files_are_as_shown(self) -> None:
-        for name, least in (("README.md", 1), ("docs/SIMULATOR.md", 4)):
+        for name, least in (("README.md", 1), ("docs/SIMULATOR.md", 4), ("docs/VEHICLES.md", 1)):
             shown = re.findall(FILE, page(name))
             self.assertGreaterEqual(len(shown), least)
             for file, text in shown:

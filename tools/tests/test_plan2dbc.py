@@ -15,7 +15,7 @@ from typing import Any
 
 from j39plan import program
 from j39plan.dbc.reader import import_canmatrix
-from tests.support import InFolder, MARKED, NEWER, TOOLS, TOP, example, examples, needs, run, text_of, there
+from tests.support import InFolder, MARKED, NEWER, TOOLS, TOP, example, needs, plans, run, text_of, there
 
 KINDS = {
     "measured": (8, 16, 32), "discrete": (2,), "raw": (1, 2, 3, 8, 16, 31, 32), "states": (2, 3, 8), "signed": (2, 8, 13, 32),
@@ -242,7 +242,7 @@ class Multiplexed(WithPlans):
 class RoundTrip(WithPlans):
     def test_the_examples(self) -> None:
         """But those with findings, which have two messages of one identifier or widths that no kind has."""
-        plans = [plan for plan in examples(".toml") if "findings" not in plan]
+        plans = [plan for plan in plans() if "findings" not in plan]
         self.assertGreater(len(plans), 6)
         for plan in plans:
             with self.subTest(plan):

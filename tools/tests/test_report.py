@@ -12,7 +12,7 @@ from j39plan.plan import answers
 from j39plan.plan.answer_grammar import line_of
 from j39plan.plan.answers import Age, Delay
 from j39plan.plan.tables import Tables
-from tests.support import InFolder, MARKED, NEWER, TOP, example, examples, run, signal, text_of, there
+from tests.support import InFolder, MARKED, NEWER, TOP, example, plans, run, signal, text_of, there
 
 PLAN, FAULTY = example("tractor_and_implement.toml"), example("findings/several.toml")
 CHECKS = os.path.join(TOP, "crates", "examples_check", "data", "checks")
@@ -124,7 +124,7 @@ class Report(InFolder):
         return read
 
     def test_each_example_has_a_sound_page(self) -> None:
-        for plan in examples(".toml"):
+        for plan in plans():
             self.page(plan)
 
     def test_plans_in_other_words_have_one_page(self) -> None:
@@ -368,7 +368,7 @@ length = 20
 
     @unittest.skipUnless(shutil.which("tidy"), "tidy isn't there: apt-get install tidy")
     def test_tidy_has_nothing_to_say(self) -> None:
-        for plan in (*examples(".toml"), self.write("plan.toml", large_plan(20, 30)), os.path.join(CHECKS, "f06_later_kinds.toml")):
+        for plan in (*plans(), self.write("plan.toml", large_plan(20, 30)), os.path.join(CHECKS, "f06_later_kinds.toml")):
             page = self.write("page.html", run("report.py", plan)[1])
             said = subprocess.run(["tidy", "-q", "-e", page], capture_output=True, text=True, check=False)
             self.assertEqual((said.returncode, said.stderr), (0, ""), plan)

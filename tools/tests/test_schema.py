@@ -11,7 +11,7 @@ from typing import Any
 
 from j39plan import program
 from j39plan.plan import schema
-from tests.support import TOOLS, TOP, InFolder, examples, needs, shown_refusals, text_of
+from tests.support import TOOLS, TOP, InFolder, needs, plans, shown_refusals, text_of
 
 SCHEMA = json.loads(text_of(os.path.join(TOOLS, "j39plan", "plan.schema.json")))
 
@@ -157,7 +157,7 @@ class Validated(InFolder):
         jsonschema.Draft7Validator.check_schema(SCHEMA)
 
     def test_it_takes_the_examples(self) -> None:
-        for plan in examples(".toml"):
+        for plan in plans():
             self.assertEqual(self.faults(text_of(plan)), [], plan)
 
     def test_it_refuses_what_the_page_shows_as_refused(self) -> None:

@@ -10,7 +10,7 @@ from j39plan.log.serial_numbers import names_in, renumbered
 from j39plan.plan.cut import without_numbers
 from j39plan.plan.tables import Tables
 from tests.logs_against import Compared, run
-from tests.support import NEWER, InFolder, examples, text_of, there
+from tests.support import NEWER, InFolder, plans, text_of, there
 
 # Two units, of which the first one has a kind of its own by its maker, and the other one by the capability of an arbitrary address.
 PLAN = """version = %s
@@ -251,7 +251,7 @@ class Plans(unittest.TestCase):
     def test_plans_without_numbers(self) -> None:
         """Each example, and one in the words of TOML 1.1, is a plan without the number of a unit too, and the same but for that."""
         count = 0
-        for text in [NEWER, *map(text_of, examples(".toml"))]:
+        for text in [NEWER, *map(text_of, plans())]:
             with program.file_of(text) as plan:
                 before = program.shown(plan)
             if "unit 1 name identity" not in before:

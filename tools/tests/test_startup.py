@@ -4,7 +4,7 @@ import unittest
 
 from j39plan import program
 from j39plan.cli import startup
-from tests.support import MARKED, NEWER, InFolder, example, examples, run, text_of
+from tests.support import MARKED, NEWER, InFolder, example, plans, run, text_of
 
 UNIT = '[[unit]]\nlabel = "U{0}"\naddress = 200\nchooser = "{1}"\nname = {{ identity = {0}, arbitrary = true }}\n'
 
@@ -24,7 +24,7 @@ class Startup(InFolder):
         return schedule.splitlines(), shown
 
     def test_each_example_that_has_a_bus(self) -> None:
-        for plan in examples(".toml"):
+        for plan in plans():
             units, _ = program.call(["run", plan, "/dev/null"])
             if units == 0 and "f03" not in plan:
                 self.ends(plan)
@@ -110,7 +110,7 @@ class Startup(InFolder):
         self.assertEqual([" ".join(words[:1] + words[-1:]) for words in reports], ["B 1", "C 1", "B 2", "C 2", "B 3"])
 
     def test_traffic_of_each_example_that_has_a_bus(self) -> None:
-        for plan in examples(".toml"):
+        for plan in plans():
             units, _ = program.call(["run", plan, "/dev/null"])
             if units == 0 and "f03" not in plan:
                 status, schedule, said = run("startup.py", plan, "--traffic")

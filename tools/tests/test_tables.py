@@ -11,7 +11,7 @@ from j39plan import program
 from j39plan.plan.schema import keys_of
 from j39plan.plan.parts import source_in
 from j39plan.plan.tables import Flow, Need, Request, Tables
-from tests.support import InFolder, NEWER, example, examples, needs, run, text_of, there
+from tests.support import InFolder, NEWER, example, needs, plans, run, text_of, there
 
 PLAN, LOG = example("tractor_and_implement.toml"), example("tractor_and_implement.start.log")
 
@@ -87,7 +87,7 @@ class OfShow(InFolder):
 
     def test_examples(self) -> None:
         """As many units, groups and flows as `check` counts."""
-        for name in examples(".toml"):
+        for name in plans():
             tables, answer = Tables.of(name), program.call(["check", name])[1]
             counts = re.match(r"ok (\d+) units (\d+) groups (\d+) flows", answer)
             if counts:
@@ -95,7 +95,7 @@ class OfShow(InFolder):
 
     def test_the_text_tells_the_same(self) -> None:
         """What `show` answers is what the text has with the defaults of the schema, and each table is found at its place."""
-        for name in (*examples(".toml"), self.write("least.toml", LEAST), self.write("named.toml", NAMED), self.write("newer.toml", NEWER)):
+        for name in (*plans(), self.write("least.toml", LEAST), self.write("named.toml", NAMED), self.write("newer.toml", NEWER)):
             shown, source = Tables.of(name), source_in(name)
             for part in ("units", "groups", "flows", "needs", "requests", "strangers", "live", "timing"):
                 self.assertEqual(getattr(shown, part), getattr(source.tables, part), f"{name}: {part}")

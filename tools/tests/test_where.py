@@ -12,7 +12,7 @@ from j39plan import program
 from j39plan.cli import where
 from j39plan.plan import answer_places
 from j39plan.plan.parts import Source
-from tests.support import InFolder, MARKED, NEWER, TOOLS, TOP, example, examples, run, shown_refusals, text_of, there
+from tests.support import InFolder, MARKED, NEWER, TOOLS, TOP, example, plans, run, shown_refusals, text_of, there
 
 CASES = os.path.join(TOP, "crates", "examples_check", "data")
 
@@ -237,7 +237,7 @@ class Lint(InFolder):
     def test_all_examples(self) -> None:
         """Hints come before what is answered without them."""
         hints = 0
-        for plan in examples(".toml"):
+        for plan in plans():
             status, answer, _ = run("where.py", plan)
             linted = run("where.py", "--lint", plan)
             self.assertEqual((linted[0], linted[1].endswith(answer)), (status, True), plan)
@@ -261,7 +261,7 @@ class Where(InFolder):
         self.assertEqual(run("where.py", example("first_plan.toml")), (0, "ok 2 units 1 groups 1 flows\n", ""))
 
     def test_the_answers_themselves_stay(self) -> None:
-        for plan in examples(".toml"):
+        for plan in plans():
             _, answer, _ = run("where.py", plan)
             lines = [line.split(": ", 1)[-1].split("  (")[0] for line in answer.splitlines()]
             self.assertEqual("".join(f"{line}\n" for line in lines), text_of(plan[:-5] + ".check"), plan)

@@ -6,6 +6,7 @@ mod outcome;
 mod pieces;
 mod rows;
 mod stage;
+mod vehicles;
 
 use cases::run_case;
 use rows::run_rows;

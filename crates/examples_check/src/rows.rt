@@ -1,13 +1,16 @@
 //! Rows: a file that a command is run on, and beside it what the command writes.
 //!
 //! `PLAN.toml` is checked, and where `PLAN.addresses`, `PLAN.load` or `PLAN.show` stands beside it also answered as to its
-//! addresses, its load or its values; `PLAN.NAME.schedule` is run and `PLAN.NAME.log` is read by the plan beside it and,
-//! where `PLAN.NAME.follow` stands there, also followed, or `PLAN.NAME.all`, all frames of it; `NAME.line` is a frame line.
+//! addresses, its load or its values, but where `NAME.answer` stands beside it `NAME.toml` is a vehicle file, and answered
+//! as one; `PLAN.NAME.schedule` is run and `PLAN.NAME.log` is read by the plan beside it and, where `PLAN.NAME.follow`
+//! stands there, also followed, or `PLAN.NAME.all`, all frames of it; `NAME.line` is a frame line; `NAME.vehicle` has the
+//! files of a vehicle, and what is written of them.
 //! Standard error stays empty, and the status is one of the program's output.
 
 use crate::outcome::perform;
 use crate::pieces::are_as_shown;
 use crate::stage::Stage;
+use crate::vehicles::run_vehicle;
 use std::fs;
 use std::rt::Files;
 
@@ -19,11 +22,16 @@ struct Kind {
     shown: &'static str,
 }
 
-const KINDS: [Kind; 9] = [
+const KINDS: [Kind; 10] = [
     Kind {
         command: "check",
         ending: ".toml",
         shown: ".check",
+    },
+    Kind {
+        command: "vehicle",
+        ending: ".answer",
+        shown: ".answer",
     },
     Kind {
         command: "addresses",
@@ -90,7 +98,7 @@ fn words_of<R: Files + AllocGlobal>(
     }
     match kind.command {
         "check" => words.push(file.into_bytes())?,
-        "addresses" | "load" | "show" => words.push(plan_of(rt, name)?.into_bytes())?,
+        "addresses" | "load" | "show" | "vehicle" => words.push(plan_of(rt, name)?.into_bytes())?,
         "follow" | "follow --all" => {
             words.push(plan_of(rt, name)?.into_bytes())?;
             words.push(format!(in rt.alloc(); "{name}.log")?.into_bytes())?;
@@ -147,6 +155,20 @@ fn run_row<R: Files + Print + AllocGlobal>(
     Ok(())
 }
 
+// Whether a file of this name has a row of this kind. What has the answer of a vehicle beside it is no plan.
+fn has_row(kind: Kind, files: &[String], name: &str) -> bool {
+    if kind.command == "check" {
+        for file in files {
+            if let Some(vehicle) = file.strip_suffix(".answer") {
+                if vehicle == name {
+                    return false;
+                }
+            }
+        }
+    }
+    true
+}
+
 /// Runs the rows of a folder, of whose files these are the names.
 pub fn run_rows<R: Files + Print + AllocGlobal>(
     rt: &R,
@@ -156,8 +178,15 @@ pub fn run_rows<R: Files + Print + AllocGlobal>(
     for kind in KINDS {
         for file in files {
             if let Some(name) = file.strip_suffix(kind.ending) {
-                run_row(rt, folder, kind, name)?;
+                if has_row(kind, files, name) {
+                    run_row(rt, folder, kind, name)?;
+                }
             }
+        }
+    }
+    for file in files {
+        if file.ends_with(".vehicle") {
+            run_vehicle(rt, folder, file)?;
         }
     }
     Ok(())

@@ -79,6 +79,12 @@ const FOLLOW: [&str; 8] = [
     "", "flow", "group", "unit", "need", "request", "frames", "refused",
 ];
 
+// Those of vehicle, beside those of check.
+const VEHICLE: [&str; 18] = [
+    "bus", "load", "forward", "need", "G1", "G2", "G3", "G4", "G5", "G6", "G7", "G8", "G9", "G10",
+    "G11", "G12", "G13", "G14",
+];
+
 fn word(line: &str, place: usize) -> &str {
     line.split(' ').nth(place).unwrap_or("")
 }
@@ -130,6 +136,7 @@ fn is_line_of(command: Command, line: &str) -> bool {
         Command::Load => LOAD.contains(&first) || CHECK.contains(&first),
         Command::Run => RUN.contains(&first) || first.contains('#'),
         Command::Read => READ.contains(&first),
+        Command::Vehicle => VEHICLE.contains(&first) || CHECK.contains(&first),
         Command::Follow | Command::FollowAll => {
             FOLLOW.contains(&first) || first.parse::<u64>().is_ok()
         }

@@ -1,2 +1,4 @@
+pub mod BusesRead
 pub mod Ending
+pub mod VehicleEnds
 pub mod WholeInputs

@@ -1,16 +1,23 @@
 -- What the faults of an order come of, and what stands written then.
-use Rattle.std.specs.Prelude.{◌≡◌, ◌≢◌, ◌⊎◌, ℕ, List, Option, Result, Err, IfOk, OnOk, OnErr, IsErrOf, string_bytes}
+use Rattle.std.specs.Prelude.{◌≡◌, ◌≢◌, ◌⊎◌, ℕ, List, Option, Result, Err, IfOk, OnOk, OnErr, IsErrOf, option_map, string_bytes}
+use Rattle.std.specs.declared.alloc.Global.{Global}
+use Rattle.std.specs.declared.vec.Vec.{Vec}
 use Rattle.std.specs.Io.KnownBytes.{Appends}
 use Rattle.j39_app.specs.Answers.{IsAnswerOfTwo, IsOfSome}
 use Rattle.j39_app.specs.Known.{AreLeft, AreOfPlan, MayBeTooLong, Names}
+use Rattle.j39_app.specs.VehicleAnswers.{ArePlansText, IsAnswerOfVehicle, IsBusRefusedBy, IsOfBus, IsOfSomeBus, IsOfVehicleFiles, IsSomeBusRefused}
+use Rattle.j39_app.specs.VehicleAnswers.{IsTextOfBusFile, IsTextOfBuses}
 use Rattle.j39_stream.specs.Streams.{AppendsPart, HasFailed, SinkState, SourceState, log_limits, plan_limits}
 use Rattle.j39_stream.specs.declared.fault.Fault.{Fault}
 use Rattle.j39_stream.specs.declared.fault.Fault.TheVariants.{Device, TooLong}
 use Rattle.j39_stream.specs.declared.limits.Limits.{Limits}
 use Rattle.j39_stream.specs.declared.verdict.Verdict.{Verdict}
 use Rattle.j39_network.specs.declared.plan.Plan.{Plan}
+use Rattle.j39_vehicle.specs.declared.file.VehicleFile.{VehicleFile}
+use Rattle.j39_vehicle.specs.declared.file.bus_table.BusTable.{BusTable}
+use Rattle.j39_vehicle.specs.declared.vehicle.bus_plan.BusPlan.{BusPlan}
 use Rattle.j39_words.specs.declared.orders.Order.{Order}
-use Rattle.j39_words.specs.declared.orders.Order.TheVariants.{Input, Frame, Show, Check, Addresses, Load, Run, Read, Follow, Help}
+use Rattle.j39_words.specs.declared.orders.Order.TheVariants.{Input, Frame, Show, Check, Addresses, Load, Run, Read, Follow, Vehicle, Help}
 
 -- the file of a name can't be opened, or a call of it failed once it was open
 abbrev pub HasFileFailed : {File : Type 0} → (List ℕ → Type 0) → Names → (File → SourceState) → List ℕ → Type 0
@@ -22,7 +29,7 @@ HasFileFailed {File} stays_shut files state name =
 abbrev pub IsOfTwo : (Limits → List ℕ → Type 0) → Names → Limits → List ℕ → List ℕ → Type 0
 IsOfTwo IsOf files limits plan other = IsOf plan_limits plan ⊎ (AreOfPlan (files plan) × IsOf limits other)
 
--- it is so of the input, or of a file that the order reads: of the second one only once the first one describes a plan
+-- it is so of the input, or of a file that the order reads: of a second one only once those before it could be read
 abbrev pub IsOfRead : Type 0 → (Limits → List ℕ → Type 0) → Names → Order → Type 0
 IsOfRead OfInput IsOf files Input = OfInput
 IsOfRead OfInput IsOf files (Frame line) = ⊥
@@ -33,6 +40,7 @@ IsOfRead OfInput IsOf files (Load plan) = IsOf plan_limits (string_bytes plan)
 IsOfRead OfInput IsOf files (Run plan schedule) = IsOfTwo IsOf files plan_limits (string_bytes plan) (string_bytes schedule)
 IsOfRead OfInput IsOf files (Read plan log) = IsOfTwo IsOf files log_limits (string_bytes plan) (string_bytes log)
 IsOfRead OfInput IsOf files (Follow plan log all_frames) = IsOfTwo IsOf files log_limits (string_bytes plan) (string_bytes log)
+IsOfRead OfInput IsOf files (Vehicle vehicle) = IsOfVehicleFiles (IsOf plan_limits) files (string_bytes vehicle)
 IsOfRead OfInput IsOf files (Help shown) = ⊥
 
 -- what is written for it is put at once, and not while it reads
@@ -72,3 +80,35 @@ EndsByTwo IsText IsFront limits stays_shut files state_of plan other state told 
     Ends (IsAnswerOfTwo IsText (files plan) (files other)) (IsOfSome (IsAnswerOfTwo IsFront (files plan) (files other))) ⊥
     (IsOfTwo (λ most name. MayBeTooLong most (files name)) files limits plan other)
     (IsOfTwo (λ _ name. HasFileFailed stays_shut files state_of name) files limits plan other) state told ended result
+
+-- of what reads a vehicle file, and then the files of the plans that it names
+abbrev pub EndsByVehicle : {File W : Type 0} → (List ℕ → Type 0) → Names → (File → SourceState) → List ℕ → (W → SinkState) → W → W
+    → Result Verdict Fault → Type 0
+EndsByVehicle stays_shut files state_of vehicle state told ended result =
+    Ends (IsAnswerOfVehicle files vehicle) (IsOfSome (IsAnswerOfVehicle files vehicle)) (Unit {0})
+    (IsOfVehicleFiles (λ name. MayBeTooLong plan_limits (files name)) files vehicle)
+    (IsOfVehicleFiles (λ name. HasFileFailed stays_shut files state_of name) files vehicle) state told ended result
+
+-- of what reads the file of the plan of a bus
+abbrev pub EndsByBus : {File W : Type 0} → (List ℕ → Type 0) → Names → (File → SourceState) → List ℕ → BusTable → (W → SinkState) → W → W
+    → Result (Option Plan) Fault → Type 0
+EndsByBus stays_shut files state_of vehicle table state told ended result =
+    Ends (IsTextOfBusFile files vehicle table) (λ text. IsOfBus (IsBusRefusedBy files text table) vehicle table) (Unit {0})
+    (IsOfBus (λ name. MayBeTooLong plan_limits (files name)) vehicle table)
+    (IsOfBus (λ name. HasFileFailed stays_shut files state_of name) vehicle table) state told ended result
+
+-- and of what reads those of all buses
+abbrev pub EndsByBuses : {File W : Type 0} → (List ℕ → Type 0) → Names → (File → SourceState) → List ℕ → List BusTable → (W → SinkState) → W → W
+    → Result (Option (Vec BusPlan Global)) Fault → Type 0
+EndsByBuses stays_shut files state_of vehicle tables state told ended result =
+    Ends (λ text buses. ArePlansText files vehicle tables text (option_map (λ v. v.items) buses)) (IsSomeBusRefused files vehicle tables) (Unit {0})
+    (IsOfSomeBus files vehicle (λ table name. MayBeTooLong plan_limits (files name)) tables)
+    (IsOfSomeBus files vehicle (λ table name. HasFileFailed stays_shut files state_of name) tables) state told ended result
+
+-- and of what writes of a vehicle file that was read
+abbrev pub EndsByPlans : {File W : Type 0} → (List ℕ → Type 0) → Names → (File → SourceState) → List ℕ → VehicleFile → (W → SinkState) → W → W
+    → Result Verdict Fault → Type 0
+EndsByPlans stays_shut files state_of vehicle file state told ended result =
+    Ends (IsTextOfBuses files vehicle file) (IsOfSome (IsTextOfBuses files vehicle file)) (Unit {0})
+    (IsOfSomeBus files vehicle (λ table name. MayBeTooLong plan_limits (files name)) file.buses.items)
+    (IsOfSomeBus files vehicle (λ table name. HasFileFailed stays_shut files state_of name) file.buses.items) state told ended result

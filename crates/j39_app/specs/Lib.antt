@@ -2,3 +2,4 @@ pub mod Answers
 pub mod Faults
 pub mod Known
 pub mod Status
+pub mod VehicleAnswers

@@ -14,6 +14,7 @@ ghost use Rattle.j39_stream.specs.CommandEnds.{AnswersWhole, IsOfAny};
 ghost use Rattle.j39_stream.specs.Streams.{HasFailed, log_limits, plan_limits};
 ghost use Rattle.j39_text.specs.FrameText.{IsInputText};
 
+use crate::answering_vehicles::vehicle_files;
 use crate::{
     Fault, Folder, Order, Sink, Source, Verdict, addresses_text, check_text, follow_text,
     frame_text, input_text, load_text, plan_text, put_all, read_text, run_planned, show_text,
@@ -225,6 +226,7 @@ pub fn answer<F: Folder, S: Source, W: Sink>(
         Order::Follow(plan, log, all_frames) => {
             follow_files(alloc, files, plan, log, *all_frames, sink)
         }
+        Order::Vehicle(vehicle) => vehicle_files(alloc, files, vehicle, sink),
         Order::Help(text) => {
             put_all(sink, text.as_bytes())?;
             Ok(Verdict::Done)

@@ -2,6 +2,7 @@
 #![tactic(auto)]
 
 mod answering;
+mod answering_vehicles;
 mod exit_status;
 mod folder;
 mod program;
@@ -18,5 +19,6 @@ pub use j39_stream::{
     Failed, Fault, FromRead, Pieces, Sink, Source, Stop, ToWrite, Verdict, put_all, read_whole,
 };
 pub use j39_text::{frame_text, input_text};
+pub use j39_vehicle_check::{bus_plan, vehicle_file, vehicle_text};
 pub use j39_words::{Order, WordsFault, order};
 pub use program::run_program;

@@ -130,8 +130,11 @@ need_line plan timing delays place need = option_map_or
 
 -- ---- all of it
 
+-- how many bits of those that the bus carries in a second all of it takes
+unfoldable pub load_line : Timing → Asked → List ℕ
+load_line timing asked = field (codes "load ") (total_load timing asked) ++ (field (codes " of ") (bits_of_second timing.bitrate) ++ 10 ∷ [])
+
 -- each flow with its delay, each need that asks for an age with it, and the load
 unfoldable pub loads_text : Plan → Timing → Asked → List (Option Delay) → List ℕ
 loads_text plan timing asked delays = lines_of_each (flow_line plan timing.bitrate asked.flows delays) 0 plan.flows.items
-    ++ (lines_of_each (need_line plan timing delays) 0 plan.needs.items
-    ++ (field (codes "load ") (total_load timing asked) ++ (field (codes " of ") (bits_of_second timing.bitrate) ++ 10 ∷ [])))
+    ++ (lines_of_each (need_line plan timing delays) 0 plan.needs.items ++ load_line timing asked)

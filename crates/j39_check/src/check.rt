@@ -19,7 +19,7 @@ impl Report for CheckReport {
     ghost says = { IsReport };
 
     fn report(&self, alloc: Global, plan: Plan) -> Result<(TextBuffer, Verdict), AllocError> {
-        report(alloc, plan)
+        report(alloc, &plan)
     }
 }
 

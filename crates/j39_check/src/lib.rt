@@ -11,6 +11,7 @@ mod load;
 mod load_lines;
 mod load_report;
 mod plan_file;
+mod plan_findings;
 mod plan_report;
 mod report_text;
 mod show;
@@ -19,7 +20,7 @@ mod stays_lines;
 mod stays_report;
 
 pub use addresses::addresses_text;
-pub use certificate::certify_with_load;
+pub use certificate::clean_plans_are_certified;
 pub use check::check_text;
 pub use laws::{
     addresses_have_one_text, check_has_one_text, load_has_one_text, serial_numbers_change_no_text,
@@ -27,5 +28,8 @@ pub use laws::{
 };
 pub use live_identifiers::live_flows_have_different_identifiers;
 pub use load::load_text;
-pub use plan_file::plan_text;
+pub use load_lines::write_load;
+pub use plan_file::{plan_text, write_refusal};
+pub use plan_findings::PlanFindings;
+pub use plan_report::write_check;
 pub use show::show_text;

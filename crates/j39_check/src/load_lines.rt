@@ -1,7 +1,7 @@
 //! The lines of what a plan asks of its bus.
 ghost use Rattle.std.specs.Prelude.{◌≡◌, ◌+◌, ◌*◌, ◌++◌, ◌<◌, ◌^◌, length, OnOk};
 ghost use Rattle.j39_check.specs.LoadLines.{age_text, bit_microseconds, delay_text, flow_line, flow_text, known_age_text, known_delay_text, limited_text};
-ghost use Rattle.j39_check.specs.LoadLines.{load_finding_line, load_finding_lines, load_finding_part, load_finding_text, loads_text};
+ghost use Rattle.j39_check.specs.LoadLines.{load_finding_line, load_finding_lines, load_finding_part, load_finding_text, load_line, loads_text};
 ghost use Rattle.j39_check.specs.LoadLines.{microseconds_field, need_line, need_signal_text, need_text, receiver_text, time_text, whole_text, within_text};
 ghost use Rattle.j39_load.specs.Asked.{asked_by};
 ghost use Rattle.j39_load.specs.LineLists.{lines_of_each};
@@ -353,6 +353,17 @@ fn write_needs(
     Ok(())
 }
 
+/// Writes how much of the bus all flows take.
+#[tactic(auto, unfolding(crate::specs::LoadLines::load_line))]
+pub fn write_load(text: &mut TextBuffer, loads: &Loads) -> Result<(), AllocError>
+    ensures { OnOk result (text.new ≡ text.old ++ load_line loads.now.timing
+        (asked_by loads.now.flows.items loads.now.units.items loads.now.requests.items)) }
+{
+    text.field("load ", loads.total())?;
+    text.field(" of ", bits_of_second(loads.timing.bitrate))?;
+    text.end_line()
+}
+
 /// Writes each flow with its delay, each need that asks for an age with it, and the load of all.
 #[tactic(auto, unfolding(crate::specs::LoadLines::loads_text))]
 pub(super) fn write_loads(
@@ -368,7 +379,5 @@ pub(super) fn write_loads(
 {
     write_flows(text, plan, loads, delays)?;
     write_needs(text, plan, loads.timing, delays)?;
-    text.field("load ", loads.total())?;
-    text.field(" of ", bits_of_second(loads.timing.bitrate))?;
-    text.end_line()
+    write_load(text, loads)
 }

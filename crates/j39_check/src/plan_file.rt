@@ -10,6 +10,7 @@ use j39_network::Plan;
 use j39_plan::{PlanError, read_plan};
 use j39_stream::{Fault, Sink, Source, put_all, read_whole};
 use refusals::refusal;
+pub use refusals::write_refusal;
 pub(crate) use refusals::write_table;
 use std::alloc::Global;
 

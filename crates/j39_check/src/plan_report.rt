@@ -1,12 +1,14 @@
 //! What is written for a plan.
-ghost use Rattle.std.specs.Prelude.{◌≡◌, ◌++◌, OnOk, IfOk};
+ghost use Rattle.std.specs.Prelude.{◌≡◌, ◌++◌, ℕ, List, OnOk, IfOk};
 ghost use Rattle.j39_check.specs.CheckText.{IsReport, findings_text, ok_line};
+ghost use Rattle.j39_check.specs.FoundInPlan.{ArePlanFindings};
 
-use crate::certificate::certify_with_load;
+use crate::certificate::clean_plans_are_certified;
 use crate::finding_lines::write_lines;
 use crate::load_lines::write_load_findings;
-use j39_findings::{Finding, Refused, RefusedCause, checked};
-use j39_load::{LoadFinding, check_load};
+use crate::plan_findings::PlanFindings;
+use j39_findings::{Finding, clean_where_none};
+use j39_load::LoadFinding;
 use j39_network::Plan;
 use j39_stream::Verdict;
 use j39_text::TextBuffer;
@@ -41,28 +43,32 @@ pub(super) fn write_findings(
     text.end_line()
 }
 
-/// What is written for a plan, with the verdict.
-pub(super) fn report(alloc: Global, plan: Plan) -> Result<(TextBuffer, Verdict), AllocError>
-    ensures { IfOk result (λ report. IsReport plan report.0 report.1) }
+/// Writes everything that is wrong with a plan, or that nothing is.
+pub fn write_check(
+    alloc: Global,
+    text: &mut TextBuffer,
+    plan: &Plan,
+    found: &PlanFindings,
+) -> Result<Verdict, AllocError>
+    requires { ArePlanFindings plan.now found.now }
+    ensures { IfOk result (λ verdict. (report : List ℕ) × IsReport plan.now report verdict × (text.new ≡ text.old ++ report)) }
 {
-    let mut text = TextBuffer::new(alloc);
-    let others = check_load(alloc, &plan)?;
-    match checked(alloc, plan) {
-        Ok(plan) if others.is_empty() => {
-            certify_with_load(&plan);
-            write_ok(&mut text, plan.plan())?;
-            Ok((text, Verdict::Done))
-        }
-        Ok(plan) => {
-            write_findings(alloc, &mut text, plan.plan(), &[], others.as_slice())?;
-            Ok((text, Verdict::Findings))
-        }
-        Err(Refused { plan, cause }) => match cause {
-            RefusedCause::Findings(findings) => {
-                write_findings(alloc, &mut text, &plan, &findings, others.as_slice())?;
-                Ok((text, Verdict::Findings))
-            }
-            RefusedCause::Memory => Err(AllocError),
-        },
+    if found.findings.is_empty() && found.others.is_empty() {
+        clean_where_none();
+        clean_plans_are_certified();
+        write_ok(text, plan)?;
+        return Ok(Verdict::Done);
     }
+    write_findings(alloc, text, plan, &found.findings, found.others.as_slice())?;
+    Ok(Verdict::Findings)
+}
+
+/// What is written for a plan, with the verdict.
+pub(super) fn report(alloc: Global, plan: &Plan) -> Result<(TextBuffer, Verdict), AllocError>
+    ensures { IfOk result (λ report. IsReport plan.now report.0 report.1) }
+{
+    let found = PlanFindings::new(alloc, plan)?;
+    let mut text = TextBuffer::new(alloc);
+    let verdict = write_check(alloc, &mut text, plan, &found)?;
+    Ok((text, verdict))
 }

@@ -1,10 +1,43 @@
 //! Commands, by what they read.
 use crate::Command;
 use j39_app::{
-    Fault, Sink, Source, Verdict, addresses_text, check_text, follow_text, input_text, load_text,
-    plan_text, read_text, run_planned, show_text,
+    Fault, Sink, Source, Verdict, addresses_text, bus_plan, check_text, follow_text, input_text,
+    load_text, plan_text, read_text, run_planned, show_text, vehicle_file, vehicle_text,
 };
-use std::alloc::Global;
+use j39_id::Label;
+use j39_network::Plan;
+use j39_vehicle::BusPlan;
+use j39_vehicle::limits::BUS_LIMIT;
+use std::alloc::{AllocError, Global};
+
+fn add_bus(buses: &mut Vec<BusPlan>, label: Label, plan: Plan) -> Result<(), AllocError> {
+    buses.push(BusPlan { label, plan })?;
+    Ok(())
+}
+
+// Checks a vehicle. The plan of its first bus is read from the input, and nothing is left there for others.
+fn perform_vehicle<P: Source, S: Source, W: Sink>(
+    alloc: Global,
+    vehicle: &mut P,
+    input: &mut S,
+    sink: &mut W,
+) -> Result<Verdict, Fault> {
+    let Some(file) = vehicle_file(alloc, vehicle, sink)? else {
+        return Ok(Verdict::Unreadable);
+    };
+    let mut buses = Vec::new(alloc);
+    for table in &file.buses {
+        match bus_plan(alloc, &table.label, input, sink)? {
+            Some(plan) => add_bus(&mut buses, table.label, plan)?,
+            None => return Ok(Verdict::Unreadable),
+        }
+    }
+    // A file that is read lists no more of them.
+    if buses.len() > BUS_LIMIT {
+        return Ok(Verdict::Unreadable);
+    }
+    vehicle_text(alloc, &file, buses, sink)
+}
 
 /// Does a command: reads the plan and the input, as far as it needs them, and writes its text.
 pub fn perform<P: Source, S: Source, W: Sink>(
@@ -20,6 +53,7 @@ pub fn perform<P: Source, S: Source, W: Sink>(
         Command::Show => return show_text(alloc, plan, sink),
         Command::Addresses => return addresses_text(alloc, plan, sink),
         Command::Load => return load_text(alloc, plan, sink),
+        Command::Vehicle => return perform_vehicle(alloc, plan, input, sink),
         Command::Run | Command::Read | Command::Follow | Command::FollowAll => {}
     }
     let Some(plan) = plan_text(alloc, plan, sink)? else {

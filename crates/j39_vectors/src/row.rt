@@ -22,6 +22,8 @@ pub enum Command {
     Follow,
     /// Who sent which frames in a log, the input.
     FollowAll,
+    /// The check of a vehicle, the plan, each of whose buses has the plan that the input describes.
+    Vehicle,
 }
 
 /// A command with what it reads, the text that it writes then, and its verdict.

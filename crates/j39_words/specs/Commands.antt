@@ -37,6 +37,7 @@ commands =
     (with_subcommand
     (with_subcommand
     (with_subcommand
+    (with_subcommand
     (with_subcommand program (one_value (codes "frame") (codes "LINE")).top)
     (one_value (codes "show") (codes "PLAN")).top)
     (one_value (codes "check") (codes "PLAN")).top)
@@ -44,4 +45,5 @@ commands =
     (one_value (codes "load") (codes "PLAN")).top)
     (two_values (codes "run") (codes "PLAN") (codes "SCHEDULE")).top)
     (two_values (codes "read") (codes "PLAN") (codes "LOG")).top)
-    (two_values_and_flag (codes "follow") (codes "PLAN") (codes "LOG") (codes "all")).top
+    (two_values_and_flag (codes "follow") (codes "PLAN") (codes "LOG") (codes "all")).top)
+    (one_value (codes "vehicle") (codes "VEHICLE")).top

@@ -5,7 +5,7 @@ use Rattle.j39_words.specs.Commands.{commands}
 use Rattle.clap.specs.declared.error.kind.ErrorKind.{ErrorKind}
 use Rattle.clap.specs.declared.error.kind.ErrorKind.TheVariants as kind
 use Rattle.j39_words.specs.declared.orders.Order.{Order}
-use Rattle.j39_words.specs.declared.orders.Order.TheVariants.{Input, Frame, Show, Check, Addresses, Load, Run, Read, Follow, Help}
+use Rattle.j39_words.specs.declared.orders.Order.TheVariants.{Input, Frame, Show, Check, Addresses, Load, Run, Read, Follow, Vehicle, Help}
 
 -- the subcommand that was met has this name, and the value by this name is the text
 abbrev pub HasValue : Option (Text × List Row) → Text → Text → Text → Type 0
@@ -31,6 +31,7 @@ Orders met (Read plan log) =
 Orders met (Follow plan log all_frames) =
     HasValue met (codes "follow") (codes "PLAN") (string_bytes plan) × HasValue met (codes "follow") (codes "LOG") (string_bytes log)
     × HasFlag met (codes "follow") (codes "all") all_frames
+Orders met (Vehicle vehicle) = HasValue met (codes "vehicle") (codes "VEHICLE") (string_bytes vehicle)
 Orders met Input = ⊥
 Orders met (Help text) = Unit {0}
 
@@ -45,6 +46,7 @@ IsHelp (Load plan) = ⊥
 IsHelp (Run plan schedule) = ⊥
 IsHelp (Read plan log) = ⊥
 IsHelp (Follow plan log all_frames) = ⊥
+IsHelp (Vehicle vehicle) = ⊥
 
 -- what the words order: the input where there are none, and else what they name
 abbrev pub IsOrdered : List Text → Order → Type 0

@@ -34,7 +34,8 @@ fn is_given(values: &ArgMatches, flag: &str) -> bool
 
 // What a command orders whose first value is a plan.
 fn of_plan(alloc: Global, name: &str, values: &ArgMatches) -> Result<Order, WordsFault>
-    requires { name.now ≡ codes "frame" → ⊥ }
+    requires line { name.now ≡ codes "frame" → ⊥ }
+    requires vehicle { name.now ≡ codes "vehicle" → ⊥ }
     ensures ordered { IfOk result (Orders (Some (name.now, rows_of (found_of values.now)))) }
     ensures named { IfOk result (λ o. IsHelp o → ⊥) }
     ensures refused { result ≡ Err Bad → OrdersNothing (Some (name.now, rows_of (found_of values.now))) }
@@ -59,6 +60,7 @@ fn command(alloc: Global, name: &str, values: &ArgMatches) -> Result<Order, Word
 {
     match name {
         "frame" => Ok(Order::Frame(value(alloc, values, "LINE")?)),
+        "vehicle" => Ok(Order::Vehicle(value(alloc, values, "VEHICLE")?)),
         _ => of_plan(alloc, name, values),
     }
 }

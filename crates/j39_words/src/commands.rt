@@ -217,5 +217,14 @@ pub(super) fn commands<'a>(alloc: Global) -> Result<Command<'a>, AllocError>
         "The name of a file as candump -L writes it. If the last line counts bad lines, words behind the data, as R or T, \
         are the usual cause: sed -E 's/ [RT]\\r?$//' LOG takes them away",
     );
-    with(reads, follow(alloc))
+    let follows = with(reads, follow(alloc));
+    with_one(
+        follows,
+        alloc,
+        "vehicle",
+        "Shows what is wrong with the buses of a vehicle, and with what its gateways send on",
+        "VEHICLE",
+        "The name of a vehicle file, which names the plan file of each bus. A name that doesn't begin with / starts in the folder \
+        of the vehicle file",
+    )
 }

@@ -27,6 +27,8 @@ pub enum Order {
     /// `follow PLAN LOG`: who sent what in the log, by its own claims, the files of these names; with `--all`, which is
     /// true then, of all frames.
     Follow(String, String, bool),
+    /// `vehicle VEHICLE`: what is wrong with the vehicle of several buses of the file of this name.
+    Vehicle(String),
     /// The help of the program or of a command, or the program's version: this text.
     Help(String),
 }

@@ -2,7 +2,7 @@
 
 The log is one of candump -L, or several of one drive. Who sent what, and which flow it was, is what `j39plan follow` reports. Each deviation
 is told once, at its first or its worst line, with how often it was met; services of the network, and proprietary groups that aren't planned,
-are none.
+are none. Of a vehicle each bus is compared, by a log of its own or by its interface of a log of several.
 """
 
 import argparse
@@ -27,6 +27,8 @@ from j39plan.log.serial_numbers import by_kind
 from j39plan.plan.cut import bare
 from j39plan.plan.files import opened
 from j39plan.plan.tables import Tables
+from j39plan.vehicle.drives import bus_option, drives_of, events_on, refuse_buses, vehicle_in
+from j39plan.vehicle.files import Vehicle
 
 
 def periods_of(text: str) -> int:
@@ -53,8 +55,9 @@ def words_of(words: list[str] | None) -> argparse.Namespace:
     parser.add_argument("--live", action="store_true", help="each deviation as soon as it is met, with --all each time; at the end all of them")
     parser.add_argument("--json", action="store_true", help="as JSON objects, each on a line; the last one is of the whole log")
     interface_option(parser)
-    program.plan_word(parser)
-    parser.add_argument("logs", metavar="LOG", nargs="+", help="names of files as candump -L writes them, in the order of the drive")
+    bus_option(parser)
+    parser.add_argument("plan", metavar="PLAN", help="the name of a plan file, or of a vehicle file")
+    parser.add_argument("logs", metavar="LOG", nargs="+", help="names of files as candump -L writes them, in the order of the drive; BUS=LOG of a bus of a vehicle")
     return parser.parse_args(words)
 
 
@@ -133,10 +136,9 @@ def summary_of(log: Log, meter: Meter, comparison: Comparison) -> dict[str, Any]
     return {key: value for key, value in row.items() if value is not None}
 
 
-@program.command
-def main(words: list[str] | None = None) -> int:
-    """Writes the deviations; 0 where there is none, 1 where there is one."""
-    given, counts = words_of(words), Counts()
+def compared(given: argparse.Namespace) -> int:
+    """Writes the deviations of a log from a plan; how many there are."""
+    counts = Counts()
     with opened(given.plan) as plan, Log(given.logs, given.interface) as log, by_kind(plan, tables_of(plan), log.still, given.interface) as (known, tables, others):
         output, meter = Output(given, log), Meter() if given.json else None
         found = Found(given.all, output.live if given.live else None)
@@ -159,7 +161,30 @@ def main(words: list[str] | None = None) -> int:
     if given.table and not given.json:
         for row in summary_tables(comparison, log.place):
             print(row)
-    return 1 if output.whole(found, summary_of(log, meter, comparison) if meter else {}) else 0
+    return output.whole(found, summary_of(log, meter, comparison) if meter else {})
+
+
+def of_vehicle(given: argparse.Namespace, vehicle: Vehicle) -> int:
+    """Writes the deviations of the buses of which there is a log, each with its plan; how many there are."""
+    count = 0
+    for drive in drives_of(vehicle, given.logs, given.bus):
+        words = {**vars(given), "plan": drive.plan, "logs": drive.logs, "interface": drive.interface or given.interface,
+                 "events": events_on(vehicle, drive.bus, given.events)}
+        print(json.dumps({"bus": drive.bus, "plan": drive.plan}) if given.json else f"bus {drive.bus}", flush=True)
+        count += compared(argparse.Namespace(**words))
+    print(json.dumps({"vehicle": given.plan, "deviations": count}) if given.json else f"deviations {count}")
+    return count
+
+
+@program.command
+def main(words: list[str] | None = None) -> int:
+    """Writes the deviations; 0 where there is none, 1 where there is one."""
+    given = words_of(words)
+    vehicle = vehicle_in(given.plan)
+    if vehicle is not None:
+        return 1 if of_vehicle(given, vehicle) else 0
+    refuse_buses(given.plan, given.bus)
+    return 1 if compared(given) else 0
 
 
 if __name__ == "__main__":

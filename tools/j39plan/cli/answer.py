@@ -1,4 +1,4 @@
-"""Writes what j39plan check, addresses or load answers of a plan as a JSON object, each line by its parts."""
+"""Writes what j39plan check, addresses or load answers of a plan, or vehicle of a vehicle, as a JSON object, each line by its parts."""
 
 import json
 import sys
@@ -6,8 +6,19 @@ import sys
 from j39plan import program
 from j39plan.plan.answer_objects import answer_object, check_object
 from j39plan.plan.answer_places import placed
+from j39plan.vehicle.answer_objects import vehicle_object
+from j39plan.vehicle.answers import answered, readable
 
-COMMANDS = ("check", "addresses", "load")
+COMMANDS = ("check", "addresses", "load", "vehicle")
+
+
+def of_vehicle(name: str) -> int:
+    """Writes the object of a vehicle, and answers the exit status of the program."""
+    with program.copied(name) as copy:
+        with open(copy, "rb") as file:
+            status, parts, further = answered(name, readable(name, copy), file.read())
+    print(json.dumps(vehicle_object(name, status, parts, None, further), indent=1))
+    return status
 
 
 @program.command
@@ -16,8 +27,10 @@ def main(words: list[str] | None = None) -> int:
     parser = program.parser(__doc__)
     parser.epilog = "example: %(prog)s load plan.toml"
     parser.add_argument("command", metavar="COMMAND", choices=COMMANDS, help=f"which answer: {', '.join(COMMANDS)}")
-    program.plan_word(parser)
+    parser.add_argument("plan", metavar="PLAN", help="the name of a plan file, of vehicle that of a vehicle file")
     given = parser.parse_args(words)
+    if given.command == "vehicle":
+        return of_vehicle(given.plan)
     with program.copied(given.plan) as plan:
         status, answer = program.call([given.command, "--", plan])
         with open(plan, "rb") as file:

@@ -1,7 +1,7 @@
 """Compares many logs with a plan, at once: deviations, silences, loads, NAMEs, signals and trouble codes, in one table of the fleet.
 
 Each log is a task for a processor of this machine, or for a worker of a Dask cluster. A log that can't be read is named, and the others
-are done.
+are done. Of a vehicle each bus has its tables.
 """
 
 import argparse
@@ -10,6 +10,7 @@ import os
 import re
 import sys
 from collections.abc import Iterable, Iterator
+from typing import Any, NamedTuple
 
 from j39plan import program
 from j39plan.fleet.drives import Drive, answered
@@ -18,6 +19,8 @@ from j39plan.fleet.team import Task, team
 from j39plan.log.files import interface_option
 from j39plan.plan.files import opened
 from j39plan.plan.tables import Tables
+from j39plan.vehicle.drives import bus_option, drives_of, events_on, refuse_buses, vehicle_in
+from j39plan.vehicle.files import Vehicle
 
 # How wide the bar of progress is.
 WIDTH = 40
@@ -100,34 +103,86 @@ def plan_of(name: str, options: list[str]) -> tuple[str, str]:
             return file.read().decode(errors="replace"), shown
 
 
-@program.command
-def main(words: list[str] | None = None) -> int:
-    """Writes the table; 0 where no log has a deviation, 1 where one has, and the status of a log that failed where one did."""
+def words_of(words: list[str] | None) -> argparse.Namespace:
+    """The words of the command line."""
     parser = program.parser(__doc__)
     parser.epilog = "example: %(prog)s plan.toml drives/*.log"
-    program.plan_word(parser)
-    parser.add_argument("logs", metavar="LOG", nargs="+", help="the name of a file as candump -L writes it")
+    parser.add_argument("plan", metavar="PLAN", help="the name of a plan file, or of a vehicle file")
+    parser.add_argument("logs", metavar="LOG", nargs="+", help="the name of a file as candump -L writes it; BUS=LOG of a bus of a vehicle")
     parser.add_argument("--jitter", metavar="TIME", help="by how much messages may come nearer than their flow's period, as of against")
     parser.add_argument("--silence", metavar="N", help="after how many periods a flow is silent, as of against")
     parser.add_argument("--events", metavar="FLOW", action="append", default=[], help="a flow that is sent when something happens, as of against")
     interface_option(parser)
+    bus_option(parser)
     parser.add_argument("--json", action="store_true", help="as a JSON object with an array for each table")
     who = parser.add_mutually_exclusive_group()
     who.add_argument("--processes", metavar="N", type=processes_of, help="how many logs are read at once (as many as there are processors)")
     who.add_argument("--scheduler", metavar="ADDRESS", type=scheduler_of, help="the scheduler of a Dask cluster, whose workers read the logs "
                      "by the same names")
-    given = parser.parse_args(words)
+    return parser.parse_args(words)
+
+
+class Gathered(NamedTuple):
+    """The tables of logs; of how many of how many there are tables, whether no interrupt came before the end, and the exit status."""
+
+    fleet: Fleet
+    done: int
+    logs: int
+    is_whole: bool
+    status: int
+
+
+def compared(given: argparse.Namespace) -> Gathered:
+    """The logs of a plan, as they were compared with it."""
     options = [word for key in ("jitter", "silence", "interface") for value in [getattr(given, key)] if value is not None for word in (f"--{key}", value)]
     options += [word for name in given.events for word in ("--events", name)]
     plan, logs = plan_of(given.plan, options), different(given.logs)
     tasks: list[Task] = [(*plan, log, os.path.abspath(log), options) for log in largest_first(logs)]
     found, is_whole = gathered(team(given.processes, given.scheduler)(tasks), len(tasks))
-    put(Fleet(Tables.shown(plan[1]), [found[log] for log in logs if log in found]), given.json)
-    if not is_whole:
-        program.say(f"interrupted: {len(found)} of {len(logs)} logs are done, and in the table")
+    status = max((drive["status"] for drive in found.values() if drive["failed"]), default=int(any(drive["deviations"] for drive in found.values())))
+    return Gathered(Fleet(Tables.shown(plan[1]), [found[log] for log in logs if log in found]), len(found), len(logs), is_whole, status)
+
+
+def end_if_interrupted(whole: Gathered) -> None:
+    """Ends as an interrupt ends a tool, if one came."""
+    if not whole.is_whole:
+        program.say(f"interrupted: {whole.done} of {whole.logs} logs are done, and in the table")
         sys.stdout.flush()
         program.interrupted()
-    return max((drive["status"] for drive in found.values() if drive["failed"]), default=int(any(drive["deviations"] for drive in found.values())))
+
+
+def of_vehicle(given: argparse.Namespace, vehicle: Vehicle) -> int:
+    """Writes the tables of each bus of a vehicle, and answers the worst status."""
+    worst, buses = 0, dict[str, Any]()
+    for drive in drives_of(vehicle, given.logs, given.bus):
+        words = {**vars(given), "plan": drive.plan, "logs": drive.logs, "interface": drive.interface or given.interface,
+                 "events": events_on(vehicle, drive.bus, given.events)}
+        whole = compared(argparse.Namespace(**words))
+        worst = max(worst, whole.status)
+        if given.json:
+            buses[drive.bus] = whole.fleet.tables_of()
+        else:
+            print(f"bus {drive.bus}")
+            put(whole.fleet, False)
+        end_if_interrupted(whole)
+    if given.json:
+        json.dump({"vehicle": given.plan, "buses": buses}, sys.stdout, indent=1)
+        print()
+    return worst
+
+
+@program.command
+def main(words: list[str] | None = None) -> int:
+    """Writes the table; 0 where no log has a deviation, 1 where one has, and the status of a log that failed where one did."""
+    given = words_of(words)
+    vehicle = vehicle_in(given.plan)
+    if vehicle is not None:
+        return of_vehicle(given, vehicle)
+    refuse_buses(given.plan, given.bus)
+    whole = compared(given)
+    put(whole.fleet, given.json)
+    end_if_interrupted(whole)
+    return whole.status
 
 
 def put(fleet: Fleet, is_json: bool) -> None:

@@ -1,4 +1,5 @@
-"""Writes a plan as one HTML page: units and their NAMEs, groups as maps of their bytes, flows as a matrix, load, and the findings.
+"""Writes a plan as one HTML page: units and their NAMEs, groups as maps of their bytes, flows as a matrix, load, and the findings; a vehicle with its
+buses side by side, the ways over its gateways as arrows, and the pages of its plans.
 
 The page has no script and loads nothing. It follows the reader's dark or light screen, can be printed, and every table has a caption
 and headers, so that a screen reader finds its way. With --watch it is served on this machine and drawn anew as the plan is saved.
@@ -8,26 +9,58 @@ import argparse
 import os
 import re
 import sys
+from typing import NamedTuple
 
 from j39plan import program
 from j39plan.left_out import plain
 from j39plan.plan import page_server
-from j39plan.plan.answers import findings, load_of, stands
+from j39plan.plan.answers import Finding, Load, Stand, findings, load_of, stands
 from j39plan.plan.files import opened, text_of
-from j39plan.plan.page import page
-from j39plan.plan.parts import source_in
+from j39plan.plan.page import page, sections_of
+from j39plan.plan.parts import Source, source_in
 from j39plan.plan.tables import Tables
+from j39plan.vehicle.answers import answered, readable
+from j39plan.vehicle.files import Vehicle, is_vehicle
+from j39plan.vehicle.page import vehicle_page
+
+
+class Told(NamedTuple):
+    """What the program tells of a plan that can be read: its text and tables, its findings, where its units stand, and its load."""
+
+    source: Source
+    tables: Tables
+    found: list[Finding]
+    stands: dict[str, Stand]
+    load: Load | None
+
+
+def told_of(plan: str) -> Told:
+    """What the program tells of a plan's file."""
+    answer = program.checked(plan)
+    source = source_in(plan)
+    _, addresses = program.call(["addresses", "--", plan])
+    load = load_of(program.call(["load", "--", plan])[1])
+    return Told(source, Tables.of(plan), list(findings(source, answer)), stands(addresses), load)
+
+
+def version_shown() -> str:
+    """The program by its name and version."""
+    return program.call(["--version"])[1].strip()
 
 
 def page_of(plan: str, title: str) -> str:
     """The page of a plan that can be read."""
-    answer = program.checked(plan)
-    told = source_in(plan)
-    _, addresses = program.call(["addresses", "--", plan])
-    load = load_of(program.call(["load", "--", plan])[1])
-    found = list(findings(told, answer))
-    version = program.call(["--version"])[1].strip()
-    return page(title, told, Tables.of(plan), found, stands(addresses), load, version)
+    return page(title, *told_of(plan), version_shown())
+
+
+def page_of_vehicle(name: str, file: str, data: bytes) -> str:
+    """The page of a vehicle's file, which is read under another name where it can be read only once."""
+    status, parts, _ = answered(name, file, data)
+    if status not in (0, 1):
+        raise program.Refused(status, "\n".join(f"{part.file}:{part.part.line}: {part.part.text}" for part in parts if part.part.line is not None))
+    vehicle = Vehicle(Source(data.decode(errors="replace")), file)
+    plans = {plan: sections_of(title_of(plan), *told_of(plan)) for plan in dict.fromkeys(map(vehicle.file_of, vehicle.tables.buses))}
+    return vehicle_page(title_of(name), vehicle, parts, plans, version_shown())
 
 
 def title_of(name: str) -> str:
@@ -36,15 +69,36 @@ def title_of(name: str) -> str:
 
 
 def page_of_file(name: str) -> str:
-    """The page of a plan's file, which may be a pipe."""
-    with opened(name) as plan:
-        return page_of(plan, title_of(name))
+    """The page of a plan's or a vehicle's file, which may be a pipe."""
+    with opened(name) as copy:
+        data = bytes_of(copy)
+        if is_vehicle(data):
+            return page_of_vehicle(name, readable(name, copy), data)
+        return page_of(copy, title_of(name))
+
+
+def bytes_of(name: str) -> bytes:
+    """What a file holds."""
+    with open(name, "rb") as file:
+        return file.read()
 
 
 def drawn(name: str) -> str:
-    """The page of a plan's file; of one that can't be read it is said with its line why."""
+    """The page of a plan's or a vehicle's regular file; of one that can't be read it is said with its line why."""
+    data = bytes_of(name)
+    if is_vehicle(data):
+        return page_of_vehicle(name, name, data)
     with program.file_of(text_of(name)) as plan:
         return page_of(plan, title_of(name))
+
+
+def plans_beside(name: str) -> list[str]:
+    """The files of the plans that a vehicle's file names; none of a plan."""
+    data = bytes_of(name)
+    if not is_vehicle(data):
+        return []
+    vehicle = Vehicle(Source(data.decode(errors="replace")), name)
+    return [vehicle.file_of(bus) for bus in vehicle.tables.buses]
 
 
 def port_of(text: str) -> int:
@@ -59,7 +113,7 @@ def main(words: list[str] | None = None) -> int:
     """Writes the page, whatever findings the plan has."""
     parser = program.parser(__doc__)
     parser.epilog = "example: %(prog)s plan.toml -o plan.html"
-    program.plan_word(parser)
+    parser.add_argument("plan", metavar="PLAN", help="the name of a plan file, or of a vehicle file")
     forms = parser.add_mutually_exclusive_group()
     forms.add_argument("-o", "--output", metavar="FILE", help="the name of the HTML file; standard output, if none is named")
     forms.add_argument("--watch", action="store_true", help="serve the page, drawn anew as the plan is saved, and print where it is")
@@ -67,7 +121,8 @@ def main(words: list[str] | None = None) -> int:
     parser.add_argument("--port", type=port_of, help="at which port (any that is free)")
     given = parser.parse_args(words)
     if given.watch:
-        page_server.serve(given.plan, lambda: drawn(given.plan), given.address or "127.0.0.1", given.port or 0)
+        watched = page_server.Watched(given.plan, lambda: drawn(given.plan), lambda: plans_beside(given.plan))
+        page_server.serve(watched, given.address or "127.0.0.1", given.port or 0)
     elif given.address is not None or given.port is not None:
         parser.error("--address and --port go with --watch")
     text = page_of_file(given.plan)

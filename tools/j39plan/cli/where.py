@@ -1,4 +1,4 @@
-"""Checks a plan with j39plan and says where in the file each answer belongs, as FILE:LINE: ANSWER  (hint)."""
+"""Checks a plan or a vehicle with j39plan and says where in the file each answer belongs, as FILE:LINE: ANSWER  (hint)."""
 
 import argparse
 import json
@@ -11,7 +11,11 @@ from j39plan.plan.answer_objects import check_object
 from j39plan.plan.answer_places import Placed, placed
 from j39plan.plan.further_faults import further_faults
 from j39plan.plan.hints.lint import Lint
-from j39plan.plan.parts import source_in
+from j39plan.plan.parts import Source, source_in
+from j39plan.vehicle.answer_objects import vehicle_object
+from j39plan.vehicle.answer_places import InFile
+from j39plan.vehicle.answers import answered, readable
+from j39plan.vehicle.files import Vehicle, is_vehicle
 
 # How an answer with a place is written: of file, line, text and the lines that belong to it.
 Form = Callable[[str, int, str, list[str]], list[str]]
@@ -52,9 +56,9 @@ def github_notice(file: str, line: int, text: str, _: list[str]) -> list[str]:
     return [f"::notice file={escaped(file, NAME_SIGNS)},line={line}::{escaped(text, TEXT_SIGNS)}"]
 
 
-def hints_of(plan: str) -> list[Placed]:
-    """The hints at a plan that can be read."""
-    return [Placed(line, f"hint {text}", "", []) for line, text in Lint(source_in(plan)).hints()]
+def hints_of(plan: str, used: frozenset[str] = frozenset()) -> list[Placed]:
+    """The hints at a plan that can be read, and of whose units with these labels a vehicle makes use."""
+    return [Placed(line, f"hint {text}", "", []) for line, text in Lint(source_in(plan), used).hints()]
 
 
 def lines_of(name: str, hints: list[Placed], parts: list[Placed], github: bool) -> list[str]:
@@ -67,7 +71,7 @@ def words_of(words: list[str] | None) -> argparse.Namespace:
     """The words of the command line."""
     parser = program.parser(__doc__)
     parser.epilog = "example: %(prog)s --lint plan.toml"
-    program.plan_word(parser)
+    parser.add_argument("plan", metavar="PLAN", help="the name of a plan file, or of a vehicle file")
     forms = parser.add_mutually_exclusive_group()
     forms.add_argument("--github", action="store_true", help="as annotations of GitHub's CI")
     forms.add_argument("--json", action="store_true", help="as a JSON object: status, findings with their parts, lines, hints and steps")
@@ -78,18 +82,57 @@ def words_of(words: list[str] | None) -> argparse.Namespace:
     return parser.parse_args(words)
 
 
+def in_files(found: Iterable[InFile], form: Form) -> Iterator[str]:
+    """The lines of an answer's parts, each with its file."""
+    for file, _, part in found:
+        yield from annotate(file, [part], form)
+
+
+def report(given: argparse.Namespace, found: list[InFile]) -> None:
+    """Writes what was found in each file into a code quality report."""
+    for file in dict.fromkeys(one.file for one in found):
+        issues = [(part.line, part.text, part.below) for name, _, part in found if name == file and part.line is not None]
+        code_quality.write(given.gitlab, file, issues)
+
+
+def hints_at_buses(name: str, data: bytes) -> Iterator[InFile]:
+    """The hints at the plans of a vehicle that can be read, each once."""
+    vehicle = Vehicle(Source(data.decode(errors="replace")), name)
+    used: dict[str, set[str]] = {}
+    for bus in vehicle.tables.buses:
+        used.setdefault(vehicle.file_of(bus), set()).update(vehicle.tables.units_on(bus.label))
+    for file, units in used.items():
+        yield from (InFile(file, "", hint) for hint in hints_of(file, frozenset(units)))
+
+
+def of_vehicle(given: argparse.Namespace, name: str, data: bytes) -> int:
+    """Runs `j39plan vehicle` on a file of this name and answers its exit status."""
+    status, parts, further = answered(given.plan, name, data)
+    hints = list(hints_at_buses(name, data)) if status in (0, 1) and given.lint else []
+    if given.json:
+        print(json.dumps(vehicle_object(given.plan, status, parts, hints if given.lint else None, further), indent=1))
+    else:
+        notice, form = (github_notice, github_annotation) if given.github else (compiler_message, compiler_message)
+        sys.stdout.write("".join(f"{line}\n" for line in (*in_files(hints, notice), *in_files([*parts, *further], form))))
+    if given.gitlab and status in (0, 1, 2):
+        report(given, [*hints, *parts, *further])
+    return status
+
+
 @program.command
 def main(words: list[str] | None = None) -> int:
-    """Runs `j39plan check` and answers its exit status."""
+    """Runs `j39plan check`, or of a vehicle `j39plan vehicle`, and answers its exit status."""
     given = words_of(words)
     hints: list[Placed] = []
     parts: list[Placed] = []
     further: list[Placed] = []
     with program.copied(given.plan) as plan:
+        with open(plan, "rb") as file:
+            data = file.read()
+        if is_vehicle(data):
+            return of_vehicle(given, readable(given.plan, plan), data)
         status, answer = program.call(["check", "--", plan])
         if answer:
-            with open(plan, "rb") as file:
-                data = file.read()
             parts = list(placed(data, answer))
             further = further_faults(data, parts)
         if status in (0, 1) and given.lint:

@@ -89,9 +89,9 @@ class Unknown(Exception):
     """A line that no answer of the program has."""
 
 
-def line_of(text: str) -> Line:
+def line_of(text: str, lines: dict[str, list[Form]] = LINES) -> Line:
     """A line of an answer by its parts."""
-    for kind, forms in LINES.items():
+    for kind, forms in lines.items():
         for form in forms:
             if found := form.pattern.fullmatch(text):
                 said = {part: word for part, word in found.groupdict().items() if word is not None}

@@ -19,7 +19,7 @@ def severity(text: str) -> str:
 
 def name_of(text: str) -> str:
     """By what it is known: the name of a finding, the cause of a refusal, `hint`, or `also` of a further fault."""
-    found = re.match(r"F\d+ (\w+)|(refused \w+)|(hint|also) ", text)
+    found = re.match(r"[FG]\d+ (\w+)|(refused \w+)|(hint|also) ", text)
     return next(filter(None, found.groups())) if found else text.partition(" ")[0]
 
 

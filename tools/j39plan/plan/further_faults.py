@@ -6,7 +6,7 @@ none of its faults.
 
 import re
 import tomllib
-from collections.abc import Iterator
+from collections.abc import Callable, Container, Iterator
 from typing import Any, NamedTuple
 
 from j39plan.plan.answer_places import Placed
@@ -14,7 +14,7 @@ from j39plan.plan.hints.refusals import missing_key, unlisted_key, value_fault
 from j39plan.plan.hints.text_faults import Told, faulty_statement, is_no_toml, statement_fault
 from j39plan.plan.hints.wanted import listed
 from j39plan.plan.parts import Source
-from j39plan.plan.schema import VERSIONS, schema
+from j39plan.plan.schema import VERSIONS, Rule, schema
 from j39plan.plan.toml_places import MARK, Place, Places
 
 # So many statements that are no TOML are passed over.
@@ -32,8 +32,12 @@ class Fault(NamedTuple):
     cause: str
 
 
-def further_faults(data: bytes, parts: list[Placed]) -> list[Placed]:
-    """What else is wrong in a file that `check` answered so, in the order of its lines."""
+# What is wrong in a text by a schema, but for keys that were left out of it.
+BySchema = Callable[[str, set[str]], list[Told]]
+
+
+def further_faults(data: bytes, parts: list[Placed], by_schema: BySchema | None = None) -> list[Placed]:
+    """What else is wrong in a file that `check` answered so, in the order of its lines; by the schema of plans, where no other one is given."""
     first = next((part for part in parts if part.answer.startswith("refused ")), None)
     if first is None or first.answer.startswith("refused plan "):
         return []
@@ -43,7 +47,7 @@ def further_faults(data: bytes, parts: list[Placed]) -> list[Placed]:
         return []
     told, text, left_out = readable(text) if first.answer == "refused Text" else ([], text, set())
     if text:
-        told += by_schema(text, left_out)
+        told += (by_schema or by_plan_schema)(text, left_out)
     others = {subject(line, hint): (line, hint) for line, hint in reversed(told) if hint}
     others.pop(subject(first.line or 1, first.hint), None)
     return [Placed(line, f"also {hint}", "", []) for line, hint in sorted(others.values())]
@@ -70,18 +74,23 @@ def readable(text: str) -> tuple[list[Told], str, set[str]]:
     return told, text, left_out
 
 
-def by_schema(text: str, left_out: set[str]) -> list[Told]:
-    """The faults of a text by the schema, but for keys that aren't there since they were left out."""
+def errors_of(text: str, rule: Rule, versions: Container[object]) -> list[Any]:
+    """What the library finds wrong with a text of one of these versions by a schema; nothing where it isn't there."""
     try:
         from jsonschema import Draft7Validator, validators
         values = tomllib.loads(text.removeprefix(MARK))
     except (ImportError, ValueError, RecursionError):
         return []
-    if values.get("version") not in VERSIONS:
+    if values.get("version") not in versions:
         return []
-    plan, types = Source(text), Draft7Validator.TYPE_CHECKER.redefine("integer", lambda _, value: type(value) is int)  # 10.0 is none
-    validator = validators.extend(Draft7Validator, type_checker=types)(schema())
-    faults = dict.fromkeys(fault for error in validator.iter_errors(values) for fault in faults_of(error))
+    types = Draft7Validator.TYPE_CHECKER.redefine("integer", lambda _, value: type(value) is int)  # 10.0 is none
+    return list(validators.extend(Draft7Validator, type_checker=types)(rule).iter_errors(values))
+
+
+def by_plan_schema(text: str, left_out: set[str]) -> list[Told]:
+    """The faults of a text by the schema of plans, but for keys that aren't there since they were left out."""
+    plan = Source(text)
+    faults = dict.fromkeys(fault for error in errors_of(text, schema(), VERSIONS) for fault in faults_of(error))
     unlisted = {fault.table: told_of(plan, fault)[1] or "" for fault in faults if fault.cause == "UnknownKey"}
     return [told_of(plan, fault) for fault in faults if fault.cause != "Missing" or not is_explained(plan, fault, left_out, unlisted)]
 

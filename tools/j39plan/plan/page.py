@@ -330,15 +330,23 @@ def load_section(tables: Tables, load: Load) -> str:
     return section("load", "Load", parts)
 
 
-def page(title: str, source: Source, tables: Tables, found: list[Finding], stands: dict[str, Stand], load: Load | None, version: str) -> str:
-    """The whole page. The title is the name of the plan's file; a plan that says nothing of the bus has no load."""
-    heading, title = escape(os.path.basename(title)), escape(title)
+def sections_of(title: str, source: Source, tables: Tables, found: list[Finding], stands: dict[str, Stand], load: Load | None) -> dict[str, str]:
+    """The sections of a plan by their names; one that says nothing of the bus has no load."""
+    return {"findings": finding_section(escape(title), found), "units": unit_section(source, tables, stands), "flows": flow_section(tables),
+            **({"needs": need_section(tables, load)} if tables.needs else {}),
+            **({"requests": request_section(tables)} if tables.requests else {}),
+            **({"load": load_section(tables, load)} if load else {}), "groups": group_section(tables)}
+
+
+def counts_of(source: Source, tables: Tables, found: list[Finding]) -> str:
+    """How many tables a plan has, and how many findings."""
     counts = f"{len(tables.units)} units, {len(tables.groups)} groups, {len(tables.flows)} flows, findings: {len(found)}"
-    sections = {"findings": finding_section(title, found), "units": unit_section(source, tables, stands), "flows": flow_section(tables),
-                **({"needs": need_section(tables, load)} if tables.needs else {}),
-                **({"requests": request_section(tables)} if tables.requests else {}),
-                **({"load": load_section(tables, load)} if load else {}), "groups": group_section(tables)}
-    links = "".join(f'<li><a href="#{name}">{name.capitalize()}</a></li>' for name in sections)
+    return f"<p>Version {source.version} of the format: {counts}.</p>"
+
+
+def document(heading: str, facts: str, sections: dict[str, str], version: str, style: str = STYLE) -> str:
+    """A whole page of sections by their names, below a heading and what is said with it."""
+    links = "".join(f'<li><a href="#{name}">{name[0].upper() + name[1:].replace("-", " ")}</a></li>' for name in sections)
     return f"""<!DOCTYPE html>
 <html lang="en">
 <head>
@@ -346,15 +354,15 @@ def page(title: str, source: Source, tables: Tables, found: list[Finding], stand
 <meta http-equiv="Content-Security-Policy" content="default-src 'none'; style-src 'unsafe-inline'">
 <meta name="viewport" content="width=device-width, initial-scale=1">
 <meta name="color-scheme" content="light dark">
-<title>Plan {heading}</title>
+<title>{heading}</title>
 <style>
-{STYLE}</style>
+{style}</style>
 </head>
 <body>
 <a class="skip" href="#content">To the content</a>
 <header>
-<h1>Plan {heading}</h1>
-<p>Version {source.version} of the format: {counts}.</p>
+<h1>{heading}</h1>
+{facts}
 <nav aria-label="Sections"><ul>{links}</ul></nav>
 </header>
 <main id="content">
@@ -364,3 +372,9 @@ def page(title: str, source: Source, tables: Tables, found: list[Finding], stand
 </body>
 </html>
 """
+
+
+def page(title: str, source: Source, tables: Tables, found: list[Finding], stands: dict[str, Stand], load: Load | None, version: str) -> str:
+    """The whole page. The title is the name of the plan's file."""
+    heading = f"Plan {escape(os.path.basename(title))}"
+    return document(heading, counts_of(source, tables, found), sections_of(title, source, tables, found, stands, load), version)

@@ -16,7 +16,7 @@ from collections.abc import Callable
 from html import escape
 from http import HTTPStatus
 from http.server import BaseHTTPRequestHandler, ThreadingHTTPServer
-from typing import NoReturn
+from typing import NamedTuple, NoReturn
 
 from j39plan import program
 
@@ -67,23 +67,50 @@ def with_fault(page: str, fault: str) -> str:
     return page.replace(MAIN, MAIN + section, 1)
 
 
+# By what a file is known to be another one than before, None of one that isn't there.
+State = tuple[int, int, int] | None
+
+
+def state_of(file: str) -> State:
+    """The state of a file."""
+    with contextlib.suppress(OSError):
+        known = os.stat(file)
+        return known.st_mtime_ns, known.st_size, known.st_ino
+    return None
+
+
+def none_beside() -> list[str]:
+    """No files."""
+    return []
+
+
+class Watched(NamedTuple):
+    """A file, how its page is drawn, and which other files the page is drawn of, as the file names them."""
+
+    file: str
+    draw: Draw
+    beside: Callable[[], list[str]] = none_beside
+
+
 class Drawn:
     """The page that is served now, and those who wait for the next one."""
 
-    def __init__(self, file: str, draw: Draw) -> None:
-        self._file, self._draw = file, draw
+    def __init__(self, watched: Watched) -> None:
+        self._file, self._draw, self._named = watched
         self._last = EMPTY
-        self._state: tuple[int, int, int] | None = None
+        self._state: list[State] = []
+        self._beside: list[str] = []
         self._changed = threading.Condition()
         self.page, self.number = b"", ""
         self.waiting = 0  # how many browsers wait for the next page
 
     def look(self) -> None:
-        """Draws the page anew, if the file is another one than before."""
-        state: tuple[int, int, int] | None = None
-        with contextlib.suppress(OSError):
-            known = os.stat(self._file)
-            state = known.st_mtime_ns, known.st_size, known.st_ino
+        """Draws the page anew, if the file, or one that it names, is another one than before."""
+        state = [state_of(self._file)]
+        if state != self._state[:1]:
+            with contextlib.suppress(OSError):
+                self._beside = self._named()
+        state += map(state_of, self._beside)
         if self.page and state == self._state:
             return
         self._state = state
@@ -185,11 +212,11 @@ class PageServer(ThreadingHTTPServer):
         return host.rpartition(":")[0].strip("[]") in LOOPBACK
 
 
-def serve(file: str, draw: Draw, address: str, port: int) -> NoReturn:
+def serve(watched: Watched, address: str, port: int) -> NoReturn:
     """Serves the page of a file until the tool is interrupted."""
-    if not stat.S_ISREG(os.stat(file).st_mode):
-        raise program.Refused(program.UNREADABLE, f"{file}: only a regular file can be watched")
-    drawn = Drawn(file, draw)
+    if not stat.S_ISREG(os.stat(watched.file).st_mode):
+        raise program.Refused(program.UNREADABLE, f"{watched.file}: only a regular file can be watched")
+    drawn = Drawn(watched)
     drawn.look()
     with PageServer(address, port, drawn) as server:
         print(server.url, flush=True)

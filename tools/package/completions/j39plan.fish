@@ -9,19 +9,20 @@ complete -c j39plan -n __fish_use_subcommand -a run -d 'run a schedule on a simu
 complete -c j39plan -n __fish_use_subcommand -a read -d 'decode a log by the groups of a plan'
 complete -c j39plan -n __fish_use_subcommand -a follow -d 'show who sent what in a log'
 complete -c j39plan -n __fish_use_subcommand -a frame -d 'show what a frame line says'
+complete -c j39plan -n __fish_use_subcommand -a vehicle -d 'show what is wrong with a vehicle of several buses'
 complete -c j39plan -n __fish_use_subcommand -a help -d 'print the help of a command'
 complete -c j39plan -n __fish_use_subcommand -l help -s h -d 'print the help'
 complete -c j39plan -n __fish_use_subcommand -l version -s V -d 'print the version'
-complete -c j39plan -n '__fish_seen_subcommand_from show check addresses load run read follow' -F
+complete -c j39plan -n '__fish_seen_subcommand_from show check addresses load run read follow vehicle' -F
 complete -c j39plan -n '__fish_seen_subcommand_from follow' -l all -d 'show each frame of which there is no other line, too'
-complete -c j39plan -n '__fish_seen_subcommand_from help' -a 'show check addresses load run read follow frame'
+complete -c j39plan -n '__fish_seen_subcommand_from help' -a 'show check addresses load run read follow frame vehicle'
 
 # The tools.
-for tool in where answer startup dbc2plan plan2dbc join compare against fleet report signals plot tolog check-plans
+for tool in where answer startup dbc2plan plan2dbc join forwards compare against fleet report signals plot tolog check-plans
     complete -c j39plan-$tool -l help -s h -d 'print the help'
     complete -c j39plan-$tool -l version -d 'print the version'
 end
-complete -c j39plan-answer -n '__fish_is_first_arg' -x -a 'check addresses load'
+complete -c j39plan-answer -n '__fish_is_first_arg' -x -a 'check addresses load vehicle'
 complete -c j39plan-startup -l traffic -d 'then each flow sends one message'
 complete -c j39plan-where -l json -d 'as a JSON object'
 complete -c j39plan-where -l lint -d 'with hints that are no findings'
@@ -38,12 +39,18 @@ complete -c j39plan-dbc2plan -l no-needs -d 'leave out who needs what'
 complete -c j39plan-dbc2plan -l strict -d 'keep signals that lie outside or overlap'
 complete -c j39plan-dbc2plan -l kind -x -a 'dbc arxml kcd sym' -d 'of which kind the files are'
 complete -c j39plan-dbc2plan -l encoding -x -d 'in which encoding their lines are'
-for tool in dbc2plan plan2dbc
+for tool in dbc2plan plan2dbc forwards
     complete -c j39plan-$tool -l notes -r -F -d 'write the notes as JSON, too'
     complete -c j39plan-$tool -l fail-on-notes -d 'status 1 where there is a note'
 end
 complete -c j39plan-join -l first -d 'write the plan with what the earliest file says'
 complete -c j39plan-join -l same -x -d 'the units of two labels are one, as ENGINE=EMS'
+complete -c j39plan-forwards -l at -x -d 'the unit of the gateway that hears'
+complete -c j39plan-forwards -l by -x -d 'the unit of the gateway that sends'
+complete -c j39plan-forwards -l from -x -d 'only what this unit sends'
+complete -c j39plan-forwards -l group -x -d 'only this group of the first bus'
+complete -c j39plan-forwards -l periodic -d 'sent at moments of the gateway\'s own'
+complete -c j39plan-forwards -l within -x -d 'within how many ms the gateway sends on'
 complete -c j39plan-compare -l json -d 'as a JSON object'
 complete -c j39plan-report -l output -s o -r -F -d 'the name of the HTML file'
 complete -c j39plan-report -l watch -d 'serve the page, drawn anew as the plan is saved'
@@ -55,12 +62,14 @@ complete -c j39plan-against -l interface -x -d 'the interface that is read, as c
 complete -c j39plan-against -l events -x -d 'a group or flow that is sent when something happens'
 complete -c j39plan-against -l all -d 'all lines of each deviation'
 complete -c j39plan-against -l live -d 'each deviation as soon as it is met'
+complete -c j39plan-against -l bus -x -d 'the interface that is a bus of the vehicle, as can0=P'
 complete -c j39plan-against -l json -d 'as JSON objects, each on a line'
 complete -c j39plan-against -l table -d 'a table of the flows first'
 complete -c j39plan-fleet -l jitter -x -d 'by how much messages may come nearer than their period'
 complete -c j39plan-fleet -l silence -x -d 'after how many periods a flow is silent'
 complete -c j39plan-fleet -l events -x -d 'a flow that is sent when something happens'
 complete -c j39plan-fleet -l interface -x -d 'the interface that is read, as can1'
+complete -c j39plan-fleet -l bus -x -d 'the interface that is a bus of the vehicle, as can0=P'
 complete -c j39plan-fleet -l json -d 'as a JSON object with an array for each table'
 complete -c j39plan-fleet -l processes -x -d 'how many logs are read at once'
 complete -c j39plan-fleet -l scheduler -x -d 'the scheduler of a Dask cluster'

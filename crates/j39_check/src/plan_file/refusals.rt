@@ -1,5 +1,5 @@
 //! Why a plan file is refused.
-ghost use Rattle.std.specs.Prelude.{◌≡◌, ◌++◌, OnOk, IfOk};
+ghost use Rattle.std.specs.Prelude.{◌≡◌, ◌++◌, ℕ, List, OnOk, IfOk};
 ghost use Rattle.j39_check.specs.PlanText.{IsRefusalLine, fault_line, key_text, table_text};
 
 use j39_plan::{Fault, Key, PlanError, Table};
@@ -64,15 +64,22 @@ fn write_fault(text: &mut TextBuffer, fault: &Fault) -> Result<(), AllocError>
     text.end_line()
 }
 
-/// The line of a refusal. Where the plan could not be read for want of memory there is none.
+/// Writes the line of a refusal. Where the plan could not be read for want of memory there is none.
+pub fn write_refusal(text: &mut TextBuffer, error: &PlanError) -> Result<(), AllocError>
+    ensures { OnOk result ((line : List ℕ) × IsRefusalLine error.now line × (text.new ≡ text.old ++ line)) }
+{
+    match error {
+        PlanError::Text => text.word("refused Text\n"),
+        PlanError::Fault(fault) => write_fault(text, fault),
+        PlanError::Memory => Err(AllocError),
+    }
+}
+
+/// The line of a refusal.
 pub(super) fn refusal(alloc: Global, error: &PlanError) -> Result<TextBuffer, AllocError>
     ensures { IfOk result (IsRefusalLine error.now) }
 {
     let mut text = TextBuffer::new(alloc);
-    match error {
-        PlanError::Text => text.word("refused Text\n")?,
-        PlanError::Fault(fault) => write_fault(&mut text, fault)?,
-        PlanError::Memory => return Err(AllocError),
-    }
+    write_refusal(&mut text, error)?;
     Ok(text)
 }

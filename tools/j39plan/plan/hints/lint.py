@@ -33,10 +33,10 @@ class Broadcast(NamedTuple):
 
 
 class Lint:
-    """The hints at a plan's text."""
+    """The hints at a plan's text; `used` are the labels of units of which a vehicle makes use."""
 
-    def __init__(self, source: Source) -> None:
-        self.source, self.tables = source, source.tables
+    def __init__(self, source: Source, used: frozenset[str] = frozenset()) -> None:
+        self.source, self.tables, self.used = source, source.tables, used
         self.groups = {group.label: group for group in self.tables.groups}
 
     def hints(self) -> list[Hint]:
@@ -67,7 +67,7 @@ class Lint:
 
     def idle(self) -> Iterator[Hint]:
         """Units that neither send a group, nor get one that goes to them, nor need or ask for one."""
-        busy = {end for flow in self.tables.flows for end in (flow.sender, flow.to)}
+        busy = self.used | {end for flow in self.tables.flows for end in (flow.sender, flow.to)}
         busy |= {need.unit for need in self.tables.needs} | {request.sender for request in self.tables.requests}
         for unit in self.tables.units:
             if unit.label not in busy:
@@ -153,7 +153,7 @@ class Lint:
     def untaken(self) -> Iterator[Hint]:
         """Flows to one unit that it doesn't need, in a plan with needs."""
         for flow in self.tables.flows if self.tables.needs else ():
-            if flow.to != "all" and not any(need.is_met_by(flow) for need in self.tables.needs):
+            if flow.to not in self.used | {"all"} and not any(need.is_met_by(flow) for need in self.tables.needs):
                 yield self.of_flow(flow, "to", f"no need of {flow.to} takes it")
 
     def met_twice(self) -> Iterator[Hint]:

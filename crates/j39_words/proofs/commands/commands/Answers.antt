@@ -22,5 +22,7 @@ returns c =
     let reads_is = known c.with_two-runs.result c.with_two-reads.result with_runs (two_values (codes "read") (codes "PLAN") (codes "LOG")) runs_is c.with_two-reads.ensures in
     let with_reads : App = with_subcommand with_runs (two_values (codes "read") (codes "PLAN") (codes "LOG")).top in
     let follows : App = two_values_and_flag (codes "follow") (codes "PLAN") (codes "LOG") (codes "all") in
-    known c.with_two-reads.result c.with.result with_reads follows reads_is
-    (added c.with_two-reads.result c.with.result c.follow.result follows c.follow.ensures.app c.with.ensures)
+    let follows_is = known c.with_two-reads.result c.with-follows.result with_reads follows reads_is
+    (added c.with_two-reads.result c.with-follows.result c.follow.result follows c.follow.ensures.app c.with-follows.ensures) in
+    let with_follows : App = with_subcommand with_reads follows.top in
+    known c.with-follows.result c.with_one.result with_follows (one_value (codes "vehicle") (codes "VEHICLE")) follows_is c.with_one.ensures

@@ -1,0 +1,6 @@
+pub mod Behind
+pub mod BlockLists
+pub mod NoFindings
+pub mod Reporting
+pub mod WaySteps
+pub mod WholeTexts

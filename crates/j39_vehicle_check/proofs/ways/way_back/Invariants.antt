@@ -1,0 +1,7 @@
+use Rattle.std.proofs.Common.{◌≡◌, ◌-◌, ◌++◌, length}
+use Rattle.j39_vehicle_check.specs.NeedLines.{way_by}
+use Rattle.j39_vehicle_check.proofs.ways.way_back.Given as goal
+
+abbrev pub invariant-trace : goal.invariant-trace
+invariant-trace l = l.back.items ++ way_by l.vehicle (length l.vehicle.forwards.items - l._step) l.point
+    ≡ way_by l.vehicle (length l.vehicle.forwards.items) l.fn.start

@@ -1,0 +1,154 @@
+//! The lines of forwards.
+ghost use Rattle.std.specs.Prelude.{◌≡◌, ◌++◌, Some, None, OnOk};
+ghost use Rattle.std.specs.List.{position};
+ghost use Rattle.std.specs.Option.{option_copied};
+ghost use Rattle.j39_load.specs.LineLists.{lines_of_each};
+ghost use Rattle.j39_paths.specs.ForwardEnds.{output_flows};
+ghost use Rattle.j39_paths.specs.ForwardTests.{is_output};
+ghost use Rattle.j39_ages.specs.TimeFindings.{first_output};
+ghost use Rattle.j39_ages.specs.Times.{jitter_ms, us_of_ms};
+ghost use Rattle.j39_vehicle_check.specs.ForwardLines.{queued_text_where, forward_line, forward_lines, forward_text, output_jitter, queued_text};
+
+use crate::labels::{gateway_label, write_group_at};
+use crate::times::us_of_ms;
+use j39_ages::{Delays, is_late_asked, queued};
+use j39_network::FlowPlan;
+use j39_paths::{is_output, output_flows};
+use j39_text::TextBuffer;
+use j39_vehicle::{Forward, Vehicle};
+use std::alloc::AllocError;
+
+fn output_place(vehicle: &Vehicle, forward: &Forward) -> Option<usize>
+    ensures { result ≡ position (is_output forward.now) (output_flows vehicle.now forward.now) }
+{
+    output_flows(vehicle, forward)
+        .iter()
+        .position(|flow| is_output(forward, flow))
+}
+
+fn first_output<'a>(vehicle: &'a Vehicle, forward: &Forward) -> Option<&'a FlowPlan>
+    ensures { option_copied result ≡ first_output vehicle.now forward.now }
+{
+    match output_place(vehicle, forward) {
+        Some(place) => output_flows(vehicle, forward).get(place),
+        None => None,
+    }
+}
+
+// How long after its moment a message of the flow may be queued, in microseconds.
+fn jitter_of(flow: &FlowPlan) -> u64
+    ensures { result ≡ us_of_ms (jitter_ms flow.now) }
+{
+    match flow.pace {
+        Some(pace) => us_of_ms(pace.jitter),
+        None => 0,
+    }
+}
+
+// The same of the first flow that the forward feeds.
+#[tactic(auto, unfolding(crate::specs::ForwardLines::output_jitter))]
+fn output_jitter(vehicle: &Vehicle, forward: &Forward) -> u64
+    ensures { result ≡ output_jitter vehicle.now forward.now }
+{
+    match first_output(vehicle, forward) {
+        Some(flow) => jitter_of(flow),
+        None => 0,
+    }
+}
+
+// When messages are queued, of when they have to be.
+#[tactic(auto, unfolding(crate::specs::ForwardLines::queued_text))]
+fn write_within(text: &mut TextBuffer, time: u64, limit: u64) -> Result<(), AllocError>
+    ensures { OnOk result (text.new ≡ text.old ++ queued_text (Some time) limit) }
+{
+    text.field(" queued within ", time)?;
+    text.field(" of ", limit)?;
+    text.word(" us")
+}
+
+// When they have to be, where it isn't known when they are.
+#[tactic(auto, unfolding(crate::specs::ForwardLines::queued_text))]
+fn write_late(text: &mut TextBuffer, limit: u64) -> Result<(), AllocError>
+    ensures { OnOk result (text.new ≡ text.old ++ queued_text None limit) }
+{
+    text.field(" late of ", limit)?;
+    text.word(" us")
+}
+
+fn write_queued(text: &mut TextBuffer, time: Option<u64>, limit: u64) -> Result<(), AllocError>
+    ensures { OnOk result (text.new ≡ text.old ++ queued_text time limit) }
+{
+    match time {
+        Some(time) => write_within(text, time, limit),
+        None => write_late(text, limit),
+    }
+}
+
+// The same, where it is asked.
+#[tactic(auto, unfolding(crate::specs::ForwardLines::queued_text_where))]
+fn write_asked(
+    text: &mut TextBuffer,
+    is_asked: bool,
+    time: Option<u64>,
+    limit: u64,
+) -> Result<(), AllocError>
+    ensures { OnOk result (text.new ≡ text.old ++ queued_text_where is_asked time limit) }
+{
+    if is_asked {
+        write_queued(text, time, limit)
+    } else {
+        Ok(())
+    }
+}
+
+// Which group of which bus goes on as which of which, and by which gateway.
+#[tactic(auto, unfolding(crate::specs::ForwardLines::forward_text))]
+fn write_forward(
+    text: &mut TextBuffer,
+    vehicle: &Vehicle,
+    place: usize,
+    forward: &Forward,
+) -> Result<(), AllocError>
+    ensures { OnOk result (text.new ≡ text.old ++ forward_text vehicle.now place forward.now) }
+{
+    text.place("forward ", place)?;
+    text.word(" ")?;
+    text.word(gateway_label(vehicle, forward.gateway))?;
+    write_group_at(text, " ", vehicle, forward.input)?;
+    write_group_at(text, " to ", vehicle, forward.output)
+}
+
+#[tactic(auto, unfolding(crate::specs::ForwardLines::forward_line))]
+fn write_line(
+    text: &mut TextBuffer,
+    vehicle: &Vehicle,
+    delays: &Delays,
+    place: usize,
+    forward: &Forward,
+) -> Result<(), AllocError>
+    ensures { OnOk result (text.new ≡ text.old ++ forward_line vehicle.now delays.now place forward.now) }
+{
+    write_forward(text, vehicle, place, forward)?;
+    write_asked(
+        text,
+        is_late_asked(vehicle, place),
+        queued(vehicle, delays, place),
+        output_jitter(vehicle, forward),
+    )?;
+    text.end_line()
+}
+
+/// Writes a line for each forward.
+#[tactic(auto, unfolding(j39_load::specs::LineLists::lines_of_each))]
+pub(super) fn write_forwards(
+    text: &mut TextBuffer,
+    vehicle: &Vehicle,
+    delays: &Delays,
+) -> Result<(), AllocError>
+    ensures { OnOk result (text.new ≡ text.old ++ forward_lines vehicle.now delays.now) }
+{
+    for (place, forward) in vehicle.forwards.iter().enumerate() {
+        write_line(text, vehicle, delays, place, forward)?;
+    }
+    Ok(())
+}

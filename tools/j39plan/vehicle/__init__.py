@@ -1,0 +1,1 @@
+"""Vehicles of several buses: their files, the plans of their buses, and what the program answers of them."""

@@ -1,0 +1,31 @@
+"""What the program answers of a vehicle's file, with the places of what is wrong."""
+
+import os
+from typing import NamedTuple
+
+from j39plan import program
+from j39plan.vehicle.answer_places import InFile, placed
+from j39plan.vehicle.further_faults import further_faults
+
+
+class Answered(NamedTuple):
+    """The exit status of the program, the parts of its answer, and what else is wrong in a file that it refuses."""
+
+    status: int
+    parts: list[InFile]
+    further: list[InFile]
+
+
+def readable(name: str, copy: str) -> str:
+    """The name by which the program reads a vehicle's file: its own, since plans are looked for beside it; of what can be read only once that of a
+    copy."""
+    return name if os.path.isfile(name) else copy
+
+
+def answered(shown: str, name: str, data: bytes) -> Answered:
+    """What the program answers of a vehicle's file, whose name is shown as the one by which it was given."""
+    status, answer = program.call(["vehicle", "--", name])
+    parts = list(placed(name, data, answer)) if answer else []
+    further = further_faults(name, data, parts)
+    renamed = [[InFile(shown, bus, part) if file == name else InFile(file, bus, part) for file, bus, part in some] for some in (parts, further)]
+    return Answered(status, *renamed)
