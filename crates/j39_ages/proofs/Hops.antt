@@ -71,6 +71,11 @@ behind_without_input v delays all i hops at n less some none =
     ∙ ap (λ s. sum_known (Some hops) (sum_known hop (option_and_then (behind_by v delays k) s))) none
     ∙ ap (sum_known (Some hops)) (sum_none hop)
 
+pub behind_no_further : (v : Vehicle) (delays : Delays) (hops : ℕ) (at : FlowAt) (n : Forward) → direct_feeder v at ≡ Some n
+    → sum_known (Some hops) (behind_by v delays zero at) ≡ None
+unfolding behind_by
+behind_no_further v delays hops at n some = ap (λ k. sum_known (Some hops) (option_map_or (λ m. None) k (behind_moment v delays at))) some
+
 pub behind_first : (v : Vehicle) (delays : Delays) (all : ℕ) (at : FlowAt)
     → sum_known (Some 0) (behind_by v delays (all - 0) at) ≡ behind_by v delays all at
 behind_first v delays all at = ap (λ k. sum_known (Some 0) (behind_by v delays k at)) (less_none all) ∙ sum_zero (behind_by v delays all at)
@@ -112,6 +117,13 @@ pub silent_without_input : (v : Vehicle) (all i : ℕ) (at : FlowAt) (flow : Flo
 silent_without_input v all i at flow n less is some none =
     ap (λ m. silent_by v m at) (one_more all i less) ∙ silent_step v (all - (i + 1)) at flow n is some
     ∙ ap (option_and_then (silent_by v (all - (i + 1)))) none
+
+pub silent_no_further : (v : Vehicle) (at : FlowAt) (flow : FlowPlan) (n : Forward) → unasked_at v at ≡ Some flow → direct_feeder v at ≡ Some n
+    → silent_by v zero at ≡ None
+unfolding silent_by
+silent_no_further v at flow n is some =
+    ap (λ o. option_and_then (λ f. option_map_or (λ n. None) (direct_feeder v at) (pause_us f)) o) is
+    ∙ ap (λ d. option_map_or (λ n. None) d (pause_us flow)) some
 
 -- ---- old
 

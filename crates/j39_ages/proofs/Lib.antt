@@ -1,6 +1,7 @@
 pub mod DecidingTimes
+pub mod Feeding
 pub mod Hops
 pub mod Sums
-pub mod Told
 pub mod TimeLaws
+pub mod Told
 pub mod Youngest

@@ -6,32 +6,32 @@ ghost use Rattle.j39_ages.specs.inside.Aging.{aged_by, aged_of, ends_here};
 use crate::bus_delays::Delays;
 use crate::chains::{behind, silent};
 use crate::flows::{timing_on, within_of};
-use j39_paths::{FlowAt, Point, goes_on, is_direct, next_forward};
-use j39_vehicle::{Forward, Vehicle};
+use j39_paths::{FlowAt, Point, Routes, is_direct};
+use j39_vehicle::Forward;
 
 // How much older a value becomes than at the moment of the message that brings it, until the next one has ended.
-fn grown(vehicle: &Vehicle, delays: &Delays, at: FlowAt) -> Option<u64>
-    ensures value { result ≡ sum_known (silent vehicle.now at) (behind_at vehicle.now delays.now at) }
+fn grown(routes: &Routes<'_>, delays: &Delays, at: FlowAt) -> Option<u64>
+    ensures value { result ≡ sum_known (silent routes.now.vehicle.now at) (behind_at routes.now.vehicle.now delays.now at) }
     ensures few { IfSome result (λ grown. grown < 2 ^ 47) }
 {
-    let Some(silent) = silent(vehicle, at) else {
+    let Some(silent) = silent(routes, at) else {
         return None;
     };
-    match behind(vehicle, delays, at) {
+    match behind(routes, delays, at) {
         Some(behind) => Some(silent + behind),
         None => None,
     }
 }
 
 // How much older it becomes until what the forward sends has its moment: that of the message which a direct one sends on is the same.
-fn aged(vehicle: &Vehicle, delays: &Delays, forward: &Forward, heard: FlowAt) -> Option<u64>
-    ensures value { result ≡ aged_of vehicle.now delays.now heard forward.now }
+fn aged(routes: &Routes<'_>, delays: &Delays, forward: &Forward, heard: FlowAt) -> Option<u64>
+    ensures value { result ≡ aged_of routes.now.vehicle.now delays.now heard forward.now }
     ensures few { IfSome result (λ aged. aged < 2 ^ 48) }
 {
     if is_direct(forward) {
         return Some(0);
     }
-    let Some(grown) = grown(vehicle, delays, heard) else {
+    let Some(grown) = grown(routes, delays, heard) else {
         return None;
     };
     match within_of(forward) {
@@ -41,50 +41,50 @@ fn aged(vehicle: &Vehicle, delays: &Delays, forward: &Forward, heard: FlowAt) ->
 }
 
 // The same by the forward at a place.
-fn aged_by(vehicle: &Vehicle, delays: &Delays, forward: usize, heard: FlowAt) -> Option<u64>
-    ensures value { result ≡ aged_by vehicle.now delays.now forward heard }
+fn aged_by(routes: &Routes<'_>, delays: &Delays, forward: usize, heard: FlowAt) -> Option<u64>
+    ensures value { result ≡ aged_by routes.now.vehicle.now delays.now forward heard }
     ensures few { IfSome result (λ aged. aged < 2 ^ 48) }
 {
-    match vehicle.forwards.get(forward) {
-        Some(forward) => aged(vehicle, delays, forward, heard),
+    match routes.vehicle.forwards.get(forward) {
+        Some(forward) => aged(routes, delays, forward, heard),
         None => None,
     }
 }
 
 // Whether the trace ends at the point, on a bus of which something is known.
-fn ends_here(vehicle: &Vehicle, point: Point) -> bool
-    ensures { result ≡ ends_here vehicle.now point }
+fn ends_here(routes: &Routes<'_>, point: Point) -> bool
+    ensures { result ≡ ends_here routes.now.vehicle.now point }
 {
-    let Some(_timing) = timing_on(&vehicle.buses, point.at.bus) else {
+    let Some(_timing) = timing_on(&routes.vehicle.buses, point.at.bus) else {
         return false;
     };
-    next_forward(vehicle, point).is_none()
+    routes.next_forward(point).is_none()
 }
 
 /// How old a value is, in microseconds, at the moment of the message that brings it.
-pub fn old(vehicle: &Vehicle, delays: &Delays, start: Point) -> Option<u64>
-    ensures value { result ≡ old vehicle.now delays.now start }
+pub fn old(routes: &Routes<'_>, delays: &Delays, start: Point) -> Option<u64>
+    ensures value { result ≡ old routes.now.vehicle.now delays.now start }
     ensures few { IfSome result (λ old. old < 2 ^ 58) }
 {
     let mut point = start;
     let mut sum = 0;
-    'trace: for _step in 0..vehicle.forwards.len() {
-        let Some(_timing) = timing_on(&vehicle.buses, point.at.bus) else {
+    'trace: for _step in 0..routes.vehicle.forwards.len() {
+        let Some(_timing) = timing_on(&routes.vehicle.buses, point.at.bus) else {
             return None;
         };
-        let Some(forward) = next_forward(vehicle, point) else {
+        let Some(forward) = routes.next_forward(point) else {
             return Some(sum);
         };
-        let Some(before) = goes_on(vehicle, point, forward) else {
+        let Some(before) = routes.goes_on(point, forward) else {
             return None;
         };
-        let Some(aged) = aged_by(vehicle, delays, forward, before.at) else {
+        let Some(aged) = aged_by(routes, delays, forward, before.at) else {
             return None;
         };
         sum += aged;
         point = before;
     }
-    if ends_here(vehicle, point) {
+    if ends_here(routes, point) {
         Some(sum)
     } else {
         None
@@ -92,13 +92,13 @@ pub fn old(vehicle: &Vehicle, delays: &Delays, start: Point) -> Option<u64>
 }
 
 /// How old a value is where it is received, in microseconds, at most: none where this isn't known.
-pub fn age(vehicle: &Vehicle, delays: &Delays, point: Point) -> Option<u64>
-    ensures { result ≡ age vehicle.now delays.now point }
+pub fn age(routes: &Routes<'_>, delays: &Delays, point: Point) -> Option<u64>
+    ensures { result ≡ age routes.now.vehicle.now delays.now point }
 {
-    let Some(old) = old(vehicle, delays, point) else {
+    let Some(old) = old(routes, delays, point) else {
         return None;
     };
-    match grown(vehicle, delays, point.at) {
+    match grown(routes, delays, point.at) {
         Some(grown) => Some(old + grown),
         None => None,
     }

@@ -1,14 +1,15 @@
 //! How long what comes along direct forwards takes, and how often it comes.
 ghost use Rattle.std.specs.Prelude.{◌≡◌, ◌<◌, ◌≤◌, ◌^◌, Some, IfSome};
 ghost use Rattle.j39_ages.specs.Times.{behind_at, behind_by, behind_moment, own, queued, queued_of, silent, silent_by, sum_known, unasked_at, within_of};
+ghost use Rattle.j39_ages.specs.inside.Chains.{hop_by};
 
 use crate::bus_delays::{Delays, delay_at};
 use crate::flows::{
-    direct_feeder, flow_at, input_at, jitter_of, own, own_of, pause_of, timing_on, us_of_ms,
-    within_of,
+    direct_place, flow_at, input_at, input_by, jitter_of, own, own_of, pause_of, timing_on,
+    us_of_ms, within_of,
 };
 use j39_network::FlowPlan;
-use j39_paths::FlowAt;
+use j39_paths::{FlowAt, Routes};
 use j39_vehicle::{Forward, Vehicle};
 
 // How long a message of the flow takes from its moment until it has ended, if no direct forward feeds it.
@@ -42,6 +43,17 @@ fn hop(vehicle: &Vehicle, delays: &Delays, forward: &Forward, at: FlowAt) -> Opt
     }
 }
 
+// The same of the forward at a place.
+fn hop_by(vehicle: &Vehicle, delays: &Delays, forward: usize, at: FlowAt) -> Option<u64>
+    ensures value { result ≡ hop_by vehicle.now delays.now forward at }
+    ensures few { IfSome result (λ hop. hop < 2 ^ 36) }
+{
+    match vehicle.forwards.get(forward) {
+        Some(forward) => hop(vehicle, delays, forward, at),
+        None => None,
+    }
+}
+
 // How long it takes in all, where direct forwards took so long up to the flow, and none feeds this.
 fn first_behind(vehicle: &Vehicle, delays: &Delays, hops: u64, at: FlowAt) -> Option<u64>
     requires { hops ≤ 2 ^ 45 }
@@ -55,49 +67,48 @@ fn first_behind(vehicle: &Vehicle, delays: &Delays, hops: u64, at: FlowAt) -> Op
 }
 
 // The same, where no more direct forwards are followed.
-#[tactic(auto, unfolding(crate::specs::Times::behind_by))]
-fn last_behind(vehicle: &Vehicle, delays: &Delays, hops: u64, at: FlowAt) -> Option<u64>
+fn last_behind(routes: &Routes<'_>, delays: &Delays, hops: u64, at: FlowAt) -> Option<u64>
     requires { hops ≤ 2 ^ 45 }
-    ensures value { result ≡ sum_known (Some hops) (behind_by vehicle.now delays.now 0 at) }
+    ensures value { result ≡ sum_known (Some hops) (behind_by routes.now.vehicle.now delays.now 0 at) }
     ensures few { IfSome result (λ behind_at. behind_at < 2 ^ 46) }
 {
-    match direct_feeder(vehicle, at) {
-        None => first_behind(vehicle, delays, hops, at),
+    match direct_place(routes, at) {
+        None => first_behind(routes.vehicle, delays, hops, at),
         Some(_forward) => None,
     }
 }
 
 /// How long a message of the flow takes until it has ended: from its moment, which is that of the first one where direct forwards sent it on.
-pub fn behind(vehicle: &Vehicle, delays: &Delays, start: FlowAt) -> Option<u64>
-    ensures value { result ≡ behind_at vehicle.now delays.now start }
+pub fn behind(routes: &Routes<'_>, delays: &Delays, start: FlowAt) -> Option<u64>
+    ensures value { result ≡ behind_at routes.now.vehicle.now delays.now start }
     ensures few { IfSome result (λ behind_at. behind_at < 2 ^ 46) }
 {
     let mut at = start;
     let mut hops = 0;
-    'chain: for _step in 0..vehicle.forwards.len() {
-        let Some(forward) = direct_feeder(vehicle, at) else {
-            return first_behind(vehicle, delays, hops, at);
+    'chain: for _step in 0..routes.vehicle.forwards.len() {
+        let Some(forward) = direct_place(routes, at) else {
+            return first_behind(routes.vehicle, delays, hops, at);
         };
-        let Some(hop) = hop(vehicle, delays, forward, at) else {
+        let Some(hop) = hop_by(routes.vehicle, delays, forward, at) else {
             return None;
         };
-        let Some(source) = input_at(vehicle, forward) else {
+        let Some(source) = input_by(routes, forward) else {
             return None;
         };
         hops += hop;
         at = source;
     }
-    last_behind(vehicle, delays, hops, at)
+    last_behind(routes, delays, hops, at)
 }
 
 /// In how many microseconds behind the moment of the message that it sends the forward has queued it, if it is direct.
-pub fn queued_of(vehicle: &Vehicle, delays: &Delays, forward: &Forward) -> Option<u64>
-    ensures { result ≡ queued_of vehicle.now delays.now forward.now }
+pub fn queued_of(routes: &Routes<'_>, delays: &Delays, forward: &Forward) -> Option<u64>
+    ensures { result ≡ queued_of routes.now.vehicle.now delays.now forward.now }
 {
-    let Some(source) = input_at(vehicle, forward) else {
+    let Some(source) = input_at(routes.vehicle, forward) else {
         return None;
     };
-    let Some(behind) = behind(vehicle, delays, source) else {
+    let Some(behind) = behind(routes, delays, source) else {
         return None;
     };
     match within_of(forward) {
@@ -107,11 +118,11 @@ pub fn queued_of(vehicle: &Vehicle, delays: &Delays, forward: &Forward) -> Optio
 }
 
 /// The same of the forward at a place: none where it isn't known.
-pub fn queued(vehicle: &Vehicle, delays: &Delays, forward: usize) -> Option<u64>
-    ensures { result ≡ queued vehicle.now delays.now forward }
+pub fn queued(routes: &Routes<'_>, delays: &Delays, forward: usize) -> Option<u64>
+    ensures { result ≡ queued routes.now.vehicle.now delays.now forward }
 {
-    match vehicle.forwards.get(forward) {
-        Some(forward) => queued_of(vehicle, delays, forward),
+    match routes.vehicle.forwards.get(forward) {
+        Some(forward) => queued_of(routes, delays, forward),
         None => None,
     }
 }
@@ -130,37 +141,36 @@ fn unasked_at(vehicle: &Vehicle, at: FlowAt) -> Option<FlowPlan>
 }
 
 // In how many microseconds a message of the flow has its moment, where no more direct forwards are followed.
-#[tactic(auto, unfolding(crate::specs::Times::silent_by))]
-fn last_silent(vehicle: &Vehicle, at: FlowAt) -> Option<u64>
-    ensures value { result ≡ silent_by vehicle.now 0 at }
+fn last_silent(routes: &Routes<'_>, at: FlowAt) -> Option<u64>
+    ensures value { result ≡ silent_by routes.now.vehicle.now 0 at }
     ensures few { IfSome result (λ silent. silent < 2 ^ 26) }
 {
-    let Some(flow) = unasked_at(vehicle, at) else {
+    let Some(flow) = unasked_at(routes.vehicle, at) else {
         return None;
     };
-    match direct_feeder(vehicle, at) {
+    match direct_place(routes, at) {
         None => pause_of(&flow),
         Some(_forward) => None,
     }
 }
 
 /// In how many microseconds a message of the flow has its moment, however they lie.
-pub fn silent(vehicle: &Vehicle, start: FlowAt) -> Option<u64>
-    ensures value { result ≡ silent vehicle.now start }
+pub fn silent(routes: &Routes<'_>, start: FlowAt) -> Option<u64>
+    ensures value { result ≡ silent routes.now.vehicle.now start }
     ensures few { IfSome result (λ silent. silent < 2 ^ 26) }
 {
     let mut at = start;
-    'chain: for _step in 0..vehicle.forwards.len() {
-        let Some(flow) = unasked_at(vehicle, at) else {
+    'chain: for _step in 0..routes.vehicle.forwards.len() {
+        let Some(flow) = unasked_at(routes.vehicle, at) else {
             return None;
         };
-        let Some(forward) = direct_feeder(vehicle, at) else {
+        let Some(forward) = direct_place(routes, at) else {
             return pause_of(&flow);
         };
-        let Some(heard) = input_at(vehicle, forward) else {
+        let Some(heard) = input_by(routes, forward) else {
             return None;
         };
         at = heard;
     }
-    last_silent(vehicle, at)
+    last_silent(routes, at)
 }

@@ -7,6 +7,7 @@ use crate::bus_delays::Delays;
 use crate::ends::{is_too_late, is_too_often, is_too_rare};
 use crate::finding::TimeFinding;
 use crate::needs::is_need_too_old;
+use j39_paths::Routes;
 use j39_rules::{TestRule, find_tested};
 use j39_vehicle::{Forward, Vehicle, VehicleNeed};
 use std::alloc::{AllocError, Global};
@@ -37,19 +38,19 @@ impl TestRule<Forward, TimeFinding> for TooOften<'_> {
 
 #[derive(Clone, Copy)]
 struct TooLate<'a> {
-    vehicle: &'a Vehicle,
+    routes: Routes<'a>,
     delays: &'a Delays,
 }
 
 impl TestRule<Forward, TimeFinding> for TooLate<'_> {
     ghost use Rattle.j39_ages.specs.declared.finding.TimeFinding.TheVariants.{TooLate as IsTooLate};
 
-    ghost test = { λ rule. is_too_late rule.vehicle.now rule.delays.now };
+    ghost test = { λ rule. is_too_late rule.routes.vehicle.now rule.delays.now };
 
     ghost make = { λ _ n. IsTooLate n };
 
     fn holds(&self, forward: &Forward) -> bool {
-        is_too_late(self.vehicle, self.delays, forward)
+        is_too_late(&self.routes, self.delays, forward)
     }
 
     fn finding(&self, place: usize) -> TimeFinding {
@@ -59,18 +60,18 @@ impl TestRule<Forward, TimeFinding> for TooLate<'_> {
 
 #[derive(Clone, Copy)]
 struct TooRare<'a> {
-    vehicle: &'a Vehicle,
+    routes: Routes<'a>,
 }
 
 impl TestRule<Forward, TimeFinding> for TooRare<'_> {
     ghost use Rattle.j39_ages.specs.declared.finding.TimeFinding.TheVariants.{TooRare as IsTooRare};
 
-    ghost test = { λ rule. is_too_rare rule.vehicle.now };
+    ghost test = { λ rule. is_too_rare rule.routes.vehicle.now };
 
     ghost make = { λ _ n. IsTooRare n };
 
     fn holds(&self, forward: &Forward) -> bool {
-        is_too_rare(self.vehicle, forward)
+        is_too_rare(&self.routes, forward)
     }
 
     fn finding(&self, place: usize) -> TimeFinding {
@@ -80,19 +81,19 @@ impl TestRule<Forward, TimeFinding> for TooRare<'_> {
 
 #[derive(Clone, Copy)]
 struct TooOld<'a> {
-    vehicle: &'a Vehicle,
+    routes: Routes<'a>,
     delays: &'a Delays,
 }
 
 impl TestRule<VehicleNeed, TimeFinding> for TooOld<'_> {
     ghost use Rattle.j39_ages.specs.declared.finding.TimeFinding.TheVariants.{NeedTooOld as IsTooOld};
 
-    ghost test = { λ rule. is_need_too_old rule.vehicle.now rule.delays.now };
+    ghost test = { λ rule. is_need_too_old rule.routes.vehicle.now rule.delays.now };
 
     ghost make = { λ _ d. IsTooOld d };
 
     fn holds(&self, need: &VehicleNeed) -> bool {
-        is_need_too_old(self.vehicle, self.delays, need)
+        is_need_too_old(&self.routes, self.delays, need)
     }
 
     fn finding(&self, place: usize) -> TimeFinding {
@@ -104,51 +105,75 @@ impl TestRule<VehicleNeed, TimeFinding> for TooOld<'_> {
 #[tactic(auto, unfolding(crate::specs::FoundTimes::forward_time_findings))]
 fn find_in_forwards(
     findings: &mut TimeFindings,
-    vehicle: &Vehicle,
+    routes: &Routes<'_>,
     delays: &Delays,
 ) -> Result<(), AllocError>
-    ensures { Adds result findings.old.items findings.new.items (forward_time_findings vehicle.now delays.now) }
+    ensures { Adds result findings.old.items findings.new.items (forward_time_findings routes.now.vehicle.now delays.now) }
 {
-    find_tested(findings, &TooOften { vehicle }, &vehicle.forwards)?;
-    find_tested(findings, &TooLate { vehicle, delays }, &vehicle.forwards)?;
-    find_tested(findings, &TooRare { vehicle }, &vehicle.forwards)
+    find_tested(
+        findings,
+        &TooOften {
+            vehicle: routes.vehicle,
+        },
+        &routes.vehicle.forwards,
+    )?;
+    find_tested(
+        findings,
+        &TooLate {
+            routes: *routes,
+            delays,
+        },
+        &routes.vehicle.forwards,
+    )?;
+    find_tested(
+        findings,
+        &TooRare { routes: *routes },
+        &routes.vehicle.forwards,
+    )
 }
 
 // Adds the needs for what isn't shown to be young enough.
 #[tactic(auto, unfolding(crate::specs::FoundTimes::need_time_findings))]
 fn find_in_needs(
     findings: &mut TimeFindings,
-    vehicle: &Vehicle,
+    routes: &Routes<'_>,
     delays: &Delays,
 ) -> Result<(), AllocError>
-    ensures { Adds result findings.old.items findings.new.items (need_time_findings vehicle.now delays.now) }
+    ensures { Adds result findings.old.items findings.new.items (need_time_findings routes.now.vehicle.now delays.now) }
 {
-    find_tested(findings, &TooOld { vehicle, delays }, &vehicle.needs)
+    find_tested(
+        findings,
+        &TooOld {
+            routes: *routes,
+            delays,
+        },
+        &routes.vehicle.needs,
+    )
 }
 
 #[tactic(auto, unfolding(crate::specs::FoundTimes::time_findings))]
 fn find_all(
     findings: &mut TimeFindings,
-    vehicle: &Vehicle,
+    routes: &Routes<'_>,
     delays: &Delays,
 ) -> Result<(), AllocError>
-    ensures { Adds result findings.old.items findings.new.items (time_findings vehicle.now delays.now) }
+    ensures { Adds result findings.old.items findings.new.items (time_findings routes.now.vehicle.now delays.now) }
 {
-    find_in_forwards(findings, vehicle, delays)?;
-    find_in_needs(findings, vehicle, delays)
+    find_in_forwards(findings, routes, delays)?;
+    find_in_needs(findings, routes, delays)
 }
 
 /// What is wrong with the times of the forwards and of what is needed, where the buses have these delays: G10 to G13, by their numbers and then
 /// by their places in rising order.
 pub fn find_in_times(
     alloc: Global,
-    vehicle: &Vehicle,
+    routes: &Routes<'_>,
     delays: &Delays,
 ) -> Result<TimeFindings, AllocError>
-    ensures list { IfOk result (λ findings. findings.items ≡ time_findings vehicle.now delays.now) }
-    ensures memory { OnErr result (time_findings vehicle.now delays.now ≢ []) }
+    ensures list { IfOk result (λ findings. findings.items ≡ time_findings routes.now.vehicle.now delays.now) }
+    ensures memory { OnErr result (time_findings routes.now.vehicle.now delays.now ≢ []) }
 {
     let mut findings = Vec::new(alloc);
-    find_all(&mut findings, vehicle, delays)?;
+    find_all(&mut findings, routes, delays)?;
     Ok(findings)
 }

@@ -12,7 +12,7 @@ use crate::bus_delays::Delays;
 use crate::chains::{queued_of, silent};
 use crate::flows::{flow_at, input_at, jitter_of, timing_on, us_of_ms};
 use j39_network::{FlowPlan, To};
-use j39_paths::{FlowAt, group_at, is_direct, is_output, output_flows};
+use j39_paths::{FlowAt, Routes, group_at, is_direct, is_output, output_flows};
 use j39_vehicle::{Forward, GroupAt, Vehicle};
 
 /// Whether a number is known, and at most so large.
@@ -197,39 +197,40 @@ pub fn is_late_asked(vehicle: &Vehicle, forward: usize) -> bool
     }
 }
 
-fn is_later(vehicle: &Vehicle, delays: &Delays, forward: &Forward, output: &FlowPlan) -> bool
-    ensures { result ≡ is_later vehicle.now delays.now forward.now output.now }
+fn is_later(routes: &Routes<'_>, delays: &Delays, forward: &Forward, output: &FlowPlan) -> bool
+    ensures { result ≡ is_later routes.now.vehicle.now delays.now forward.now output.now }
 {
     let jitter = us_of_ms(jitter_of(output));
-    is_asked(vehicle, forward, output) && !is_within(jitter, queued_of(vehicle, delays, forward))
+    is_asked(routes.vehicle, forward, output)
+        && !is_within(jitter, queued_of(routes, delays, forward))
 }
 
 /// Whether it is, and isn't shown that it does.
-pub fn is_too_late(vehicle: &Vehicle, delays: &Delays, forward: &Forward) -> bool
-    ensures { result ≡ is_too_late vehicle.now delays.now forward.now }
+pub fn is_too_late(routes: &Routes<'_>, delays: &Delays, forward: &Forward) -> bool
+    ensures { result ≡ is_too_late routes.now.vehicle.now delays.now forward.now }
 {
-    match direct_ends(vehicle, forward) {
-        Some(ends) => is_later(vehicle, delays, forward, &ends.output),
+    match direct_ends(routes.vehicle, forward) {
+        Some(ends) => is_later(routes, delays, forward, &ends.output),
         None => false,
     }
 }
 
 // Whether messages of the input may stay away for longer than those of the output.
-fn is_rarer(vehicle: &Vehicle, at: FlowAt, output: &FlowPlan) -> bool
-    ensures { result ≡ is_rarer vehicle.now at output.now }
+fn is_rarer(routes: &Routes<'_>, at: FlowAt, output: &FlowPlan) -> bool
+    ensures { result ≡ is_rarer routes.now.vehicle.now at output.now }
 {
     match output.pause {
-        Some(ms) => !is_within(us_of_ms(ms), silent(vehicle, at)),
+        Some(ms) => !is_within(us_of_ms(ms), silent(routes, at)),
         None => false,
     }
 }
 
 /// Whether what the forward hears may stay away for longer than its output may.
-pub fn is_too_rare(vehicle: &Vehicle, forward: &Forward) -> bool
-    ensures { result ≡ is_too_rare vehicle.now forward.now }
+pub fn is_too_rare(routes: &Routes<'_>, forward: &Forward) -> bool
+    ensures { result ≡ is_too_rare routes.now.vehicle.now forward.now }
 {
-    match direct_ends(vehicle, forward) {
-        Some(ends) => is_rarer(vehicle, ends.at, &ends.output),
+    match direct_ends(routes.vehicle, forward) {
+        Some(ends) => is_rarer(routes, ends.at, &ends.output),
         None => false,
     }
 }

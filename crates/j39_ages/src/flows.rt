@@ -1,14 +1,14 @@
 //! What is known of a flow and of a forward by itself, in microseconds.
-ghost use Rattle.std.specs.Prelude.{◌≡◌, ◌≤◌, ◌<◌, ◌^◌, ◌&&◌, IfSome};
-ghost use Rattle.std.specs.List.{position};
+ghost use Rattle.std.specs.Prelude.{◌≡◌, ◌≤◌, ◌<◌, ◌^◌, IfSome};
+ghost use Rattle.std.specs.List.{find};
 ghost use Rattle.std.specs.Option.{option_copied};
-ghost use Rattle.j39_paths.specs.ForwardTests.{feeds, is_direct};
-ghost use Rattle.j39_ages.specs.Times.{us_of_bit, direct_feeder, flow_at, first_input_at, jitter_ms, own, own_of, pause_us, timed, timing_on, us_of_ms, within_of};
+ghost use Rattle.j39_ages.specs.Times.{us_of_bit, flow_at, first_input_at, jitter_ms, own, own_of, pause_us, timed, timing_on, us_of_ms, within_of};
+ghost use Rattle.j39_ages.specs.inside.Chains.{direct_place, input_by, is_direct_at};
 
 use crate::bus_delays::{Delays, delay_at};
 use j39_load::bits_of_ms;
 use j39_network::{Bitrate, FlowPlan, Timing};
-use j39_paths::{FlowAt, feeds, first_input, flows_on, is_direct};
+use j39_paths::{FlowAt, Routes, first_input, flows_on, is_direct};
 use j39_vehicle::{BusPlan, Forward, Vehicle};
 
 // How many microseconds a bit takes.
@@ -95,21 +95,31 @@ pub fn own(vehicle: &Vehicle, delays: &Delays, at: FlowAt) -> Option<u64>
     }
 }
 
-// The place of the first direct forward that feeds the flow.
-fn direct_place(vehicle: &Vehicle, at: FlowAt) -> Option<usize>
-    ensures { result ≡ position (λ n. feeds vehicle.now at n && is_direct n) vehicle.now.forwards.items }
+// Whether the forward at a place is direct.
+fn is_direct_at(vehicle: &Vehicle, place: usize) -> bool
+    ensures { result ≡ is_direct_at vehicle.now place }
 {
-    vehicle.forwards.iter().position(|forward| feeds(vehicle, at, forward) && is_direct(forward))
+    match vehicle.forwards.get(place) {
+        Some(forward) => is_direct(forward),
+        None => false,
+    }
 }
 
-/// The first direct forward that feeds the flow.
-pub fn direct_feeder(vehicle: &Vehicle, at: FlowAt) -> Option<&Forward>
-    ensures { option_copied result ≡ direct_feeder vehicle.now at }
+// The first direct one of these forwards.
+fn first_direct(vehicle: &Vehicle, places: &[usize]) -> Option<usize>
+    ensures { result ≡ find (is_direct_at vehicle.now) places.now }
 {
-    match direct_place(vehicle, at) {
-        Some(place) => vehicle.forwards.get(place),
-        None => None,
-    }
+    places
+        .iter()
+        .copied()
+        .find(|place| is_direct_at(vehicle, *place))
+}
+
+/// The place of the first direct forward that feeds the flow.
+pub fn direct_place(routes: &Routes<'_>, at: FlowAt) -> Option<usize>
+    ensures { result ≡ direct_place routes.now.vehicle.now at }
+{
+    first_direct(routes.vehicle, routes.tables.feeders(at))
 }
 
 /// The first input of the forward.
@@ -119,6 +129,22 @@ pub fn input_at(vehicle: &Vehicle, forward: &Forward) -> Option<FlowAt>
     match first_input(vehicle, forward) {
         Some(flow) => Some(FlowAt {
             bus: forward.input.bus,
+            flow,
+        }),
+        None => None,
+    }
+}
+
+/// The same of the forward at a place, by the tables.
+pub fn input_by(routes: &Routes<'_>, forward: usize) -> Option<FlowAt>
+    ensures { result ≡ input_by routes.now.vehicle.now forward }
+{
+    let Some(hears) = routes.vehicle.forwards.get(forward) else {
+        return None;
+    };
+    match routes.tables.input(forward) {
+        Some(flow) => Some(FlowAt {
+            bus: hears.input.bus,
             flow,
         }),
         None => None,

@@ -8,8 +8,8 @@ use crate::bus_delays::Delays;
 use crate::ends::is_within;
 use crate::flows::us_of_ms;
 use j39_network::FlowPlan;
-use j39_paths::{FlowAt, Point, flows_on, is_need_flow};
-use j39_vehicle::{Vehicle, VehicleNeed};
+use j39_paths::{FlowAt, Point, Routes, flows_on};
+use j39_vehicle::VehicleNeed;
 
 /// A flow that brings a need's unit what it needs, by its place on the unit's bus, and how old that is where it is received, in
 /// microseconds, at most, where this is known.
@@ -20,8 +20,8 @@ pub struct NeedFlow {
 }
 
 // The flow at a place of the need's bus.
-fn need_flow_at(vehicle: &Vehicle, delays: &Delays, need: &VehicleNeed, flow: usize) -> NeedFlow
-    ensures { result ≡ need_flow_at vehicle.now delays.now need.now flow }
+fn need_flow_at(routes: &Routes<'_>, delays: &Delays, need: &VehicleNeed, flow: usize) -> NeedFlow
+    ensures { result ≡ need_flow_at routes.now.vehicle.now delays.now need.now flow }
 {
     let at = FlowAt {
         bus: need.unit.bus,
@@ -30,7 +30,7 @@ fn need_flow_at(vehicle: &Vehicle, delays: &Delays, need: &VehicleNeed, flow: us
     let signal = need.signal;
     NeedFlow {
         flow,
-        age: age(vehicle, delays, Point { at, signal }),
+        age: age(routes, delays, Point { at, signal }),
     }
 }
 
@@ -68,67 +68,67 @@ fn joined(best: Option<NeedFlow>, next: NeedFlow) -> NeedFlow
 
 // The best one of those before and of the flow at a place of the need's bus, if this is one of the need's.
 fn joined_with(
-    vehicle: &Vehicle,
+    routes: &Routes<'_>,
     delays: &Delays,
     need: &VehicleNeed,
     best: Option<NeedFlow>,
     place: usize,
     flow: &FlowPlan,
 ) -> Option<NeedFlow>
-    ensures { result ≡ joined best (youngest (need_flows_at vehicle.now delays.now need.now place flow.now)) }
+    ensures { result ≡ joined best (youngest (need_flows_at routes.now.vehicle.now delays.now need.now place flow.now)) }
 {
-    if !is_need_flow(vehicle, need, place, flow) {
+    if !routes.is_need_flow(need, place, flow) {
         return best;
     }
-    let next = need_flow_at(vehicle, delays, need, place);
+    let next = need_flow_at(routes, delays, need, place);
     Some(joined(best, next))
 }
 
 // The first youngest one of the need's among these, which are all flows of its bus.
 fn youngest_of(
-    vehicle: &Vehicle,
+    routes: &Routes<'_>,
     delays: &Delays,
     need: &VehicleNeed,
     flows: &[FlowPlan],
 ) -> Option<NeedFlow>
-    ensures { result ≡ youngest (in_each (need_flows_at vehicle.now delays.now need.now) 0 flows.now) }
+    ensures { result ≡ youngest (in_each (need_flows_at routes.now.vehicle.now delays.now need.now) 0 flows.now) }
 {
     let mut best = None;
     for (place, flow) in flows.iter().enumerate() {
-        best = joined_with(vehicle, delays, need, best, place, flow);
+        best = joined_with(routes, delays, need, best, place, flow);
     }
     best
 }
 
 /// Of the flows that bring the need's unit what it needs, from the unit that is named, the first one of the least age, else the first. There
 /// is none where the need is unmet.
-pub fn flow_of_need(vehicle: &Vehicle, delays: &Delays, need: &VehicleNeed) -> Option<NeedFlow>
-    ensures { result ≡ flow_of_need vehicle.now delays.now need.now }
+pub fn flow_of_need(routes: &Routes<'_>, delays: &Delays, need: &VehicleNeed) -> Option<NeedFlow>
+    ensures { result ≡ flow_of_need routes.now.vehicle.now delays.now need.now }
 {
     youngest_of(
-        vehicle,
+        routes,
         delays,
         need,
-        flows_on(&vehicle.buses, need.unit.bus),
+        flows_on(&routes.vehicle.buses, need.unit.bus),
     )
 }
 
 // Whether flows bring it, and what none of them brings is shown to be at most so old.
-fn is_older(vehicle: &Vehicle, delays: &Delays, need: &VehicleNeed, ms: u16) -> bool
-    ensures { result ≡ is_older vehicle.now delays.now need.now ms }
+fn is_older(routes: &Routes<'_>, delays: &Delays, need: &VehicleNeed, ms: u16) -> bool
+    ensures { result ≡ is_older routes.now.vehicle.now delays.now need.now ms }
 {
-    match flow_of_need(vehicle, delays, need) {
+    match flow_of_need(routes, delays, need) {
         Some(told) => !is_within(us_of_ms(ms), told.age),
         None => false,
     }
 }
 
 /// Whether flows bring what is needed, and none of them what is shown to be as young as the need asks.
-pub fn is_need_too_old(vehicle: &Vehicle, delays: &Delays, need: &VehicleNeed) -> bool
-    ensures { result ≡ is_need_too_old vehicle.now delays.now need.now }
+pub fn is_need_too_old(routes: &Routes<'_>, delays: &Delays, need: &VehicleNeed) -> bool
+    ensures { result ≡ is_need_too_old routes.now.vehicle.now delays.now need.now }
 {
     match need.within {
-        Some(ms) => is_older(vehicle, delays, need, ms),
+        Some(ms) => is_older(routes, delays, need, ms),
         None => false,
     }
 }

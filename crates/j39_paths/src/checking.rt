@@ -14,12 +14,12 @@ mod turns;
 
 use crate::finding::VehicleFinding;
 use crate::loops::loops_of;
+use crate::routes::Routes;
 use crate::tables::path_tables;
 use contents::find_in_contents;
 use ends::find_in_ends;
 use j39_vehicle::Vehicle;
 use needs::find_in_needs;
-pub use needs::is_need_flow;
 use queues::find_queues;
 use std::alloc::{AllocError, Global};
 use turns::find_loops;
@@ -35,11 +35,15 @@ pub fn find_in_paths(alloc: Global, vehicle: &Vehicle) -> Result<VehicleFindings
 {
     let loops = loops_of(alloc, vehicle)?;
     let tables = path_tables(alloc, vehicle)?;
+    let routes = Routes {
+        vehicle,
+        tables: &tables,
+    };
     let mut findings = Vec::new(alloc);
     find_in_ends(&mut findings, vehicle)?;
     find_in_contents(&mut findings, vehicle)?;
     find_loops(&mut findings, &loops, vehicle)?;
-    find_in_needs(&mut findings, vehicle, &tables)?;
+    find_in_needs(&mut findings, &routes)?;
     Ok(findings)
 }
 

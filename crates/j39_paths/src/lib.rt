@@ -11,15 +11,15 @@ mod matching;
 mod passing;
 mod point;
 mod reaching;
-mod table_traces;
+mod routes;
 mod tables;
 mod traces;
 
 pub use buses::{flows_on, group_at};
-pub use checking::{VehicleFindings, find_in_paths, find_in_queues, is_need_flow};
+pub use checking::{VehicleFindings, find_in_paths, find_in_queues};
 pub use finding::VehicleFinding;
 pub use forwards::{feeds, first_input, is_direct, is_input, is_output, output_flows};
 pub use laws::vehicle_findings_are_exact;
 pub use point::{FlowAt, Point};
+pub use routes::Routes;
 pub use tables::{PathTables, path_tables};
-pub use traces::{goes_on, next_forward, origin};

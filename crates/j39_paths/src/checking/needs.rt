@@ -4,16 +4,14 @@ ghost use Rattle.j39_rules.specs.Adding.{Adds};
 ghost use Rattle.j39_network.specs.Serving.{meets};
 ghost use Rattle.j39_rules.specs.ListPlaces.{found_if, each};
 ghost use Rattle.j39_paths.specs.FoundPaths.{is_need_flow, is_need_unmet, need_findings, some_at};
-ghost use Rattle.j39_paths.specs.PathTables.{AreTables};
-ghost use Rattle.j39_paths.specs.Traces.{flows_of_need, is_from_origin, need_on_bus};
+ghost use Rattle.j39_paths.specs.Traces.{flows_of_need, need_on_bus};
 
 use crate::buses::{flows_on, requests_on};
 use crate::finding::VehicleFinding;
-use crate::tables::PathTables;
-use crate::traces::is_from_origin;
+use crate::routes::Routes;
 use j39_network::{FlowPlan, NeedPlan, RequestPlan, meets};
 use j39_rules::{Rule, find_each, push_if};
-use j39_vehicle::{Vehicle, VehicleNeed};
+use j39_vehicle::VehicleNeed;
 use std::alloc::AllocError;
 
 // Whether the flow brings the need's unit the group that it needs.
@@ -30,66 +28,44 @@ fn is_needed(requests: &[RequestPlan], need: &VehicleNeed, flow: &FlowPlan) -> b
     meets(requests, &on_bus, flow)
 }
 
-/// Whether the flow, at its place on the need's bus, brings the unit what it needs, from the unit that is named.
-pub fn is_need_flow(vehicle: &Vehicle, need: &VehicleNeed, place: usize, flow: &FlowPlan) -> bool
-    ensures { result ≡ is_need_flow vehicle.now need.now place flow.now }
-{
-    let requests = requests_on(&vehicle.buses, need.unit.bus);
-    is_needed(requests, need, flow) && is_from_origin(vehicle, need, place)
-}
-
-// The same, by the tables of the vehicle.
-fn is_told_need_flow(
-    vehicle: &Vehicle,
-    tables: &PathTables,
-    need: &VehicleNeed,
-    place: usize,
-    flow: &FlowPlan,
-) -> bool
-    requires { AreTables vehicle.now tables.now }
-    ensures { result ≡ is_need_flow vehicle.now need.now place flow.now }
-{
-    let requests = requests_on(&vehicle.buses, need.unit.bus);
-    is_needed(requests, need, flow) && tables.is_from_origin(vehicle, need, place)
+impl Routes<'_> {
+    /// Whether the flow, at its place on the need's bus, brings the unit what it needs, from the unit that is named.
+    pub fn is_need_flow(&self, need: &VehicleNeed, place: usize, flow: &FlowPlan) -> bool
+        ensures { result ≡ is_need_flow self.now.vehicle.now need.now place flow.now }
+    {
+        let requests = requests_on(&self.vehicle.buses, need.unit.bus);
+        is_needed(requests, need, flow) && self.is_from_origin(need, place)
+    }
 }
 
 // Whether one of these flows, which are all of the need's bus, does.
-fn some_is_need_flow(
-    vehicle: &Vehicle,
-    tables: &PathTables,
-    need: &VehicleNeed,
-    flows: &[FlowPlan],
-) -> bool
-    requires { AreTables vehicle.now tables.now }
-    ensures { result ≡ some_at (is_need_flow vehicle.now need.now) 0 flows.now }
+fn some_is_need_flow(routes: &Routes<'_>, need: &VehicleNeed, flows: &[FlowPlan]) -> bool
+    ensures { result ≡ some_at (is_need_flow routes.now.vehicle.now need.now) 0 flows.now }
 {
     for (place, flow) in flows.iter().enumerate() {
-        if is_told_need_flow(vehicle, tables, need, place, flow) {
+        if routes.is_need_flow(need, place, flow) {
             return true;
         }
     }
     false
 }
 
-fn is_need_met(vehicle: &Vehicle, tables: &PathTables, need: &VehicleNeed) -> bool
-    requires { AreTables vehicle.now tables.now }
-    ensures { result ≡ some_at (is_need_flow vehicle.now need.now) 0 (flows_of_need vehicle.now need.now) }
+fn is_need_met(routes: &Routes<'_>, need: &VehicleNeed) -> bool
+    ensures { result ≡ some_at (is_need_flow routes.now.vehicle.now need.now) 0 (flows_of_need routes.now.vehicle.now need.now) }
 {
-    let flows = flows_on(&vehicle.buses, need.unit.bus);
-    some_is_need_flow(vehicle, tables, need, flows)
+    let flows = flows_on(&routes.vehicle.buses, need.unit.bus);
+    some_is_need_flow(routes, need, flows)
 }
 
 #[derive(Clone, Copy)]
 struct NeedUnmet<'a> {
-    vehicle: &'a Vehicle,
-    tables: &'a PathTables,
-    ghost of_vehicle: { AreTables vehicle.now tables.now },
+    routes: Routes<'a>,
 }
 
 impl Rule<VehicleNeed, VehicleFinding> for NeedUnmet<'_> {
     ghost use Rattle.j39_paths.specs.declared.finding.VehicleFinding.TheVariants.{NeedUnmet as NeedsUnmet};
 
-    ghost gives = { λ rule d need. found_if (is_need_unmet rule.vehicle.now need) (NeedsUnmet d) };
+    ghost gives = { λ rule d need. found_if (is_need_unmet rule.routes.vehicle.now need) (NeedsUnmet d) };
 
     fn find(
         &self,
@@ -99,7 +75,7 @@ impl Rule<VehicleNeed, VehicleFinding> for NeedUnmet<'_> {
     ) -> Result<(), AllocError> {
         push_if(
             findings,
-            !is_need_met(self.vehicle, self.tables, need),
+            !is_need_met(&self.routes, need),
             VehicleFinding::NeedUnmet(place),
         )
     }
@@ -109,11 +85,13 @@ impl Rule<VehicleNeed, VehicleFinding> for NeedUnmet<'_> {
 #[tactic(auto, unfolding(crate::specs::FoundPaths::need_findings))]
 pub fn find_in_needs(
     findings: &mut Vec<VehicleFinding>,
-    vehicle: &Vehicle,
-    tables: &PathTables,
+    routes: &Routes<'_>,
 ) -> Result<(), AllocError>
-    requires { AreTables vehicle.now tables.now }
-    ensures { Adds result findings.old.items findings.new.items (need_findings vehicle.now) }
+    ensures { Adds result findings.old.items findings.new.items (need_findings routes.now.vehicle.now) }
 {
-    find_each(findings, &NeedUnmet { vehicle, tables }, &vehicle.needs)
+    find_each(
+        findings,
+        &NeedUnmet { routes: *routes },
+        &routes.vehicle.needs,
+    )
 }

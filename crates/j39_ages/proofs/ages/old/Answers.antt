@@ -7,20 +7,20 @@ use Rattle.j39_ages.proofs.ages.old.Goals as goal
 
 pub trace-init : goal.trace-init
 trace-init c = record {
-  sum = old_first c.args.vehicle.now c.args.delays.now (length c.args.vehicle.now.forwards.items) c.args.start;
+  sum = old_first c.args.routes.now.vehicle.now c.args.delays.now (length c.args.routes.now.vehicle.now.forwards.items) c.args.start;
   few = omega arith;
 }
 
 pub returns-in_default-clause-value : goal.returns-in_default-clause-value
 returns-in_default-clause-value c =
-    let v = c.args.vehicle.now in
+    let v = c.args.routes.now.vehicle.now in
     let none : timing_on v.buses.items c.trace.point.at.bus ≡ None = cc in
     sym (ap (sum_known (Some c.trace.sum)) (old_unknown v c.args.delays.now (length v.forwards.items - c.trace._step) c.trace.point none))
     ∙ c.trace.invariant.sum
 
 pub returns-in_default-next_forward-clause-value : goal.returns-in_default-next_forward-clause-value
 returns-in_default-next_forward-clause-value c =
-    let v = c.args.vehicle.now in
+    let v = c.args.routes.now.vehicle.now in
     let t = c.in-Some._timing in
     let is : timing_on v.buses.items c.trace.point.at.bus ≡ Some t = cc in
     let none : next_forward v c.trace.point ≡ None = cc in
@@ -28,7 +28,7 @@ returns-in_default-next_forward-clause-value c =
 
 pub returns-in_default-goes_on-clause-value : goal.returns-in_default-goes_on-clause-value
 returns-in_default-goes_on-clause-value c =
-    let v = c.args.vehicle.now in
+    let v = c.args.routes.now.vehicle.now in
     let t = c.in-Some._timing in
     let n = c.in-Some-next_forward.forward in
     let is : timing_on v.buses.items c.trace.point.at.bus ≡ Some t = cc in
@@ -40,7 +40,7 @@ returns-in_default-goes_on-clause-value c =
 
 pub returns-in_default-aged_by-clause-value : goal.returns-in_default-aged_by-clause-value
 returns-in_default-aged_by-clause-value c =
-    let v = c.args.vehicle.now in
+    let v = c.args.routes.now.vehicle.now in
     let t = c.in-Some._timing in
     let n = c.in-Some-next_forward.forward in
     let q = c.in-Some-goes_on.before in
@@ -54,7 +54,7 @@ returns-in_default-aged_by-clause-value c =
 
 pub trace-preserved : goal.trace-preserved
 trace-preserved c =
-    let v = c.args.vehicle.now in
+    let v = c.args.routes.now.vehicle.now in
     let t = c.in-Some._timing in
     let n = c.in-Some-next_forward.forward in
     let q = c.in-Some-goes_on.before in
@@ -72,14 +72,14 @@ trace-preserved c =
 
 pub returns-then-ends_here-clause-value : goal.returns-then-ends_here-clause-value
 returns-then-ends_here-clause-value c =
-    let v = c.args.vehicle.now in
+    let v = c.args.routes.now.vehicle.now in
     let over : length v.forwards.items - c.trace._step ≡ 0 = omega arith in
     let ends : ends_here v c.trace.point ≡ true = cc in
     sym (old_last v c.args.delays.now (length v.forwards.items - c.trace._step) c.trace.sum c.trace.point true over ends) ∙ c.trace.invariant.sum
 
 pub returns-else-ends_here-clause-value : goal.returns-else-ends_here-clause-value
 returns-else-ends_here-clause-value c =
-    let v = c.args.vehicle.now in
+    let v = c.args.routes.now.vehicle.now in
     let over : length v.forwards.items - c.trace._step ≡ 0 = omega arith in
     let ends : ends_here v c.trace.point ≡ false = cc in
     sym (old_last v c.args.delays.now (length v.forwards.items - c.trace._step) c.trace.sum c.trace.point false over ends) ∙ c.trace.invariant.sum

@@ -4,7 +4,7 @@ use Rattle.j39_ages.proofs.ages.old.Given as goal
 
 abbrev pub invariant-trace : goal.invariant-trace
 invariant-trace l = record {
-  sum : sum_known (Some l.sum) (old_by l.vehicle l.delays (length l.vehicle.forwards.items - l._step) l.point)
-      ≡ old_by l.vehicle l.delays (length l.vehicle.forwards.items) l.fn.start;
+  sum : sum_known (Some l.sum) (old_by l.routes.vehicle.now l.delays (length l.routes.vehicle.now.forwards.items - l._step) l.point)
+      ≡ old_by l.routes.vehicle.now l.delays (length l.routes.vehicle.now.forwards.items) l.fn.start;
   few : l.sum ≤ l._step * 2 ^ 48;
 }

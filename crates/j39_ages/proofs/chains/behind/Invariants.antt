@@ -4,7 +4,7 @@ use Rattle.j39_ages.proofs.chains.behind.Given as goal
 
 abbrev pub invariant-chain : goal.invariant-chain
 invariant-chain l = record {
-  sum : sum_known (Some l.hops) (behind_by l.vehicle l.delays (length l.vehicle.forwards.items - l._step) l.at)
-      ≡ behind_by l.vehicle l.delays (length l.vehicle.forwards.items) l.fn.start;
+  sum : sum_known (Some l.hops) (behind_by l.routes.vehicle.now l.delays (length l.routes.vehicle.now.forwards.items - l._step) l.at)
+      ≡ behind_by l.routes.vehicle.now l.delays (length l.routes.vehicle.now.forwards.items) l.fn.start;
   few : l.hops ≤ l._step * 2 ^ 36;
 }

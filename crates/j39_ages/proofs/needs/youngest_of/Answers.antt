@@ -7,7 +7,7 @@ use Rattle.j39_ages.proofs.needs.youngest_of.Goals as goal
 
 pub loop-place-preserved : goal.loop-place-preserved
 loop-place-preserved c =
-    let find = need_flows_at c.args.vehicle.now c.args.delays.now c.args.need.now in
+    let find = need_flows_at c.args.routes.now.vehicle.now c.args.delays.now c.args.need.now in
     let flows = c.args.flows.now in
     let place = c.loop-place.place in
     let x = c.index-flows-place.result in
@@ -21,7 +21,7 @@ loop-place-preserved c =
 
 pub returns : goal.returns
 returns c =
-    let find = need_flows_at c.args.vehicle.now c.args.delays.now c.args.need.now in
+    let find = need_flows_at c.args.routes.now.vehicle.now c.args.delays.now c.args.need.now in
     let over : length c.args.flows.now ≤ c.loop-place.place = omega arith in
     sym (joined_none c.loop-place.best)
     ∙ ap (λ xs. joined c.loop-place.best (youngest xs)) (sym (in_each_all find c.loop-place.place c.args.flows.now [] over))

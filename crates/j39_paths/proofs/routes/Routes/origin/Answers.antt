@@ -1,17 +1,17 @@
 use Rattle.std.proofs.Common.{◌≡◌, ◌-◌, ◌<◌, Some, None, length, sym, ◌∙◌, ap, arith}
 use Rattle.j39_paths.specs.Traces.{goes_on, next_forward, trace_end}
 use Rattle.j39_paths.proofs.Tracing.{breaks_off, ends_here, goes_further, goes_on_too_often}
-use Rattle.j39_paths.proofs.traces.origin.Goals as goal
+use Rattle.j39_paths.proofs.routes.Routes.origin.Goals as goal
 
 pub returns-in_default : goal.returns-in_default
 returns-in_default c =
-    let v = c.args.vehicle.now in
+    let v = c.args.self.now.vehicle.now in
     let none : next_forward v c.trace.point ≡ None = cc in
     sym (ends_here v (length v.forwards.items - c.trace._step) c.trace.point none) ∙ c.trace.invariant
 
 pub returns-in_default-goes_on : goal.returns-in_default-goes_on
 returns-in_default-goes_on c =
-    let v = c.args.vehicle.now in
+    let v = c.args.self.now.vehicle.now in
     let n = c.in-Some.forward in
     let some : next_forward v c.trace.point ≡ Some n = cc in
     let none : goes_on v c.trace.point n ≡ None = cc in
@@ -20,7 +20,7 @@ returns-in_default-goes_on c =
 
 pub trace-preserved : goal.trace-preserved
 trace-preserved c =
-    let v = c.args.vehicle.now in
+    let v = c.args.self.now.vehicle.now in
     let n = c.in-Some.forward in
     let q = c.in-Some-goes_on.before in
     let some : next_forward v c.trace.point ≡ Some n = cc in
@@ -30,13 +30,13 @@ trace-preserved c =
 
 pub returns-in-None : goal.returns-in-None
 returns-in-None c =
-    let v = c.args.vehicle.now in
+    let v = c.args.self.now.vehicle.now in
     let none : next_forward v c.trace.point ≡ None = cc in
     sym (ends_here v (length v.forwards.items - c.trace._step) c.trace.point none) ∙ c.trace.invariant
 
 pub returns-in-Some-next_forward : goal.returns-in-Some-next_forward
 returns-in-Some-next_forward c =
-    let v = c.args.vehicle.now in
+    let v = c.args.self.now.vehicle.now in
     let n = c.in-Some-next_forward._forward in
     let some : next_forward v c.trace.point ≡ Some n = cc in
     let over : length v.forwards.items - c.trace._step ≡ 0 = omega arith in
