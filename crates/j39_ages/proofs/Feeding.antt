@@ -1,13 +1,13 @@
 -- The first direct forward that feeds a flow, by its place.
-use Rattle.std.proofs.Common.{◌≡◌, ℕ, ◌<◌, ◌&&◌, List, [], ◌∷◌, Bool, false, Option, Some, None, length, get_or, ◌∙◌, ap}
+use Rattle.std.proofs.Common.{◌≡◌, ℕ, ◌<◌, ◌&&◌, List, [], ◌∷◌, Bool, false, Some, None, length, get_or, ◌∙◌, ap}
 use Rattle.std.specs.List.{find, position, slice_get}
-use Rattle.std.specs.Option.{option_and_then, option_map, option_map_or}
+use Rattle.std.specs.Option.{option_and_then, option_map_or}
 use Rattle.std.proofs.lemmas.List.Quantifiers.{position-Some}
 use Rattle.std.proofs.lemmas.Option.{none-some, slice_get-get_or}
 use Rattle.j39_vehicle.specs.declared.vehicle.Vehicle.{Vehicle}
 use Rattle.j39_vehicle.specs.declared.vehicle.forward.Forward.{Forward}
 use Rattle.j39_paths.specs.ForwardTests.{feeds, is_direct}
-use Rattle.j39_paths.specs.PathTables.{AreTables, feeders}
+use Rattle.j39_paths.specs.PathTables.{feeders}
 use Rattle.j39_paths.specs.declared.point.FlowAt.{FlowAt}
 use Rattle.j39_paths.proofs.PassingLemmas.{find_passing}
 use Rattle.j39_ages.specs.declared.bus_delays.Delays.{Delays}

@@ -1,7 +1,7 @@
 -- The list of findings of times has exactly what holds, in order.
-use Rattle.std.proofs.Common.{◌≡◌, ℕ, ◌<◌, ◌≤◌, ◌⊎◌, List, ◌++◌, Bool, Contains, Decides, refl, sym, ◌∙◌, subst, inl, inr, arith}
-use Rattle.std.proofs.lemmas.List.Elements.{Contains-append_cases, Contains-append_left, Contains-append_right}
-use Rattle.j39_rules.specs.ListPlaces.{ValueAt, each}
+use Rattle.std.proofs.Common.{ℕ, ◌⊎◌, List, ◌++◌, Contains, refl, inl, inr, arith}
+use Rattle.std.proofs.lemmas.List.Elements.{Contains-append_left, Contains-append_right}
+use Rattle.j39_rules.specs.ListPlaces.{each}
 use Rattle.j39_rules.specs.Order.{ComesBefore}
 use Rattle.j39_rules.proofs.Families.{Covers as CoversPart, Covers-append, Order, each_family}
 use Rattle.j39_rules.proofs.Members.{each_of}

@@ -1,10 +1,8 @@
 -- What each part of the list of findings has: what holds, in order.
-use Rattle.std.proofs.Common.{◌≡◌, ℕ, ◌<◌, ◌≤◌, List, [], ◌∷◌, ◌++◌, Bool, Option, None}
-use Rattle.std.proofs.Common.{Some, Contains, Decides, refl, sym, ◌∙◌, ap, subst, inl, inr, arith}
-use Rattle.std.specs.List.{slice_get}
+use Rattle.std.proofs.Common.{◌≡◌, ℕ, List, [], Option, None}
+use Rattle.std.proofs.Common.{Some, Contains, refl, sym, subst, arith}
 use Rattle.std.specs.Option.{option_map_or}
-use Rattle.std.proofs.lemmas.List.Elements.{Contains-append_cases}
-use Rattle.j39_rules.specs.ListPlaces.{found_if, in_each, each, pairs, ValueAt, PairAt}
+use Rattle.j39_rules.specs.ListPlaces.{in_each, ValueAt}
 use Rattle.j39_network.specs.declared.plan.group_plan.GroupPlan.{GroupPlan}
 use Rattle.j39_rules.proofs.Families.{Covers as CoversPart, Covers-append, Order, each_family, inside_family, named_first, of_placed, pairs_family, placed, placed_of, placed_rise}
 use Rattle.j39_rules.proofs.Rising.{Rises}

@@ -1,15 +1,12 @@
 -- The forwards that follow one another, as a graph.
-use Rattle.std.proofs.Common.{◌≡◌, ℕ, ◌+◌, ◌<◌, List, [], ◌∷◌, ◌++◌, Bool, false, Option, Some, None, map, Contains, Decides, length, length-append, inl, inr, refl, sym, ◌∙◌, ap, subst, arith}
-use Rattle.std.specs.declared.alloc.Global.{Global}
-use Rattle.std.specs.declared.vec.Vec.{Vec}
+use Rattle.std.proofs.Common.{◌≡◌, ℕ, ◌+◌, ◌<◌, List, [], ◌∷◌, ◌++◌, Bool, false, Option, Some, None, Contains, Decides, length, length-append, inl, inr, refl, sym, ◌∙◌, ap, subst, arith}
 use Rattle.std.specs.List.{slice_get, slice_index_or}
 use Rattle.std.specs.Option.{option_map, option_map_or, unwrap_or}
 use Rattle.std.proofs.lemmas.Bool.{cases_lt}
 use Rattle.std.proofs.lemmas.List.{get_or-append-add, get_or_append_left, length-map}
-use Rattle.std.proofs.lemmas.Option.{same_Some, slice_get-map, slice_get_within}
+use Rattle.std.proofs.lemmas.Option.{slice_get-map, slice_get_within}
 use Rattle.j39_vehicle.specs.declared.vehicle.Vehicle.{Vehicle}
 use Rattle.j39_vehicle.specs.declared.vehicle.forward.Forward.{Forward}
-use Rattle.j39_rules.specs.ListPlaces.{ValueAt}
 use Rattle.j39_paths.specs.ForwardEnds.{ComesAfter, FollowsAt, IsFollowedBy, at_once, later}
 use Rattle.j39_paths.specs.Loops.{AreFollowers, followers}
 use Rattle.j39_paths.specs.PathTables.{row_at}

@@ -1,23 +1,22 @@
 -- What the tables of a vehicle tell.
-use Rattle.std.proofs.Common.{◌≡◌, ℕ, zero, suc, ◌+◌, ◌<◌, ◌≤◌, ◌==◌, ◌⊎◌, ◌&&◌, List, [], ◌∷◌, ◌++◌, Bool, true, false, Option, Some, None, map, length, refl, sym, ◌∙◌, ap, inl, inr, arith}
+use Rattle.std.proofs.Common.{◌≡◌, ℕ, zero, suc, ◌+◌, ◌<◌, ◌≤◌, ◌==◌, ◌⊎◌, ◌&&◌, List, [], ◌∷◌, ◌++◌, Bool, true, false, None, length, refl, sym, ◌∙◌, ap, inl, inr, arith}
 use Rattle.std.specs.declared.alloc.Global.{Global}
 use Rattle.std.specs.declared.vec.Vec.{Vec}
 use Rattle.std.specs.List.{find, slice_get}
-use Rattle.std.specs.Option.{option_and_then, option_map, option_map_or}
+use Rattle.std.specs.Option.{option_map_or}
 use Rattle.std.proofs.lemmas.Bool.{cases_lt, eqb-true}
 use Rattle.std.proofs.lemmas.List.{nil_from_length}
-use Rattle.std.proofs.lemmas.Option.{slice_get-map, slice_get_past}
+use Rattle.std.proofs.lemmas.Option.{slice_get_past}
 use Rattle.j39_rules.specs.ListPlaces.{each, in_each}
 use Rattle.j39_vehicle.specs.declared.vehicle.Vehicle.{Vehicle}
 use Rattle.j39_vehicle.specs.declared.vehicle.forward.Forward.{Forward}
 use Rattle.j39_paths.specs.declared.point.FlowAt.{FlowAt}
 use Rattle.j39_paths.specs.declared.point.Point.{Point}
-use Rattle.j39_paths.specs.declared.tables.PathTables.{PathTables}
 use Rattle.j39_paths.specs.Buses.{flows_on}
 use Rattle.j39_paths.specs.ForwardEnds.{output_flows}
 use Rattle.j39_paths.specs.ForwardTests.{feeds, is_output}
-use Rattle.j39_paths.specs.PathTables.{AreTables, carries_at, feeders, row_at, row_of}
-use Rattle.j39_paths.specs.Traces.{carries, first_input, next_forward}
+use Rattle.j39_paths.specs.PathTables.{carries_at, feeders, row_at, row_of}
+use Rattle.j39_paths.specs.Traces.{carries, next_forward}
 use Rattle.j39_paths.proofs.PassingLemmas.{find_passing}
 
 -- ---- rows that are added
@@ -105,10 +104,3 @@ pub next_by_feeders : (v : Vehicle) (p : Point) → find (carries_at v p.signal)
 next_by_feeders v p =
     find_passing (feeds v p.at) (carries p.signal) (carries_at v p.signal) v.forwards.items
     (λ k x is. ap (λ o. option_map_or (carries p.signal) o false) is)
-
--- the first input of a forward stands in the table
-pub input_is : (v : Vehicle) (t : PathTables) (n : ℕ) (forward : Forward) → AreTables v t → slice_get v.forwards.items n ≡ Some forward
-    → option_and_then (λ i. i) (slice_get t.inputs.items n) ≡ first_input v forward
-input_is v t n forward are is =
-    ap (λ xs. option_and_then (λ i. i) (slice_get xs n)) are.inputs
-    ∙ ap (λ o. option_and_then (λ i. i) o) (slice_get-map (first_input v) v.forwards.items n ∙ ap (option_map (first_input v)) is)

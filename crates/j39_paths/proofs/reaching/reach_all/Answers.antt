@@ -1,4 +1,3 @@
-use Rattle.std.proofs.Common.{◌≡◌, length, ◌∙◌}
 use Rattle.j39_paths.proofs.Spreading.{next_spread, row_inside}
 use Rattle.j39_paths.proofs.reaching.reach_all.Goals as goal
 

@@ -1,4 +1,4 @@
-use Rattle.std.proofs.Common.{◌≡◌, ◌≤◌, ◌∙◌, ap, length, arith}
+use Rattle.std.proofs.Common.{◌≡◌, ◌∙◌, ap, length, arith}
 use Rattle.j39_paths.specs.Buses.{flows_on}
 use Rattle.j39_paths.proofs.TableRows.{all_rows}
 use Rattle.j39_paths.proofs.tables.feeders_on.Goals as goal
