@@ -4,7 +4,7 @@ ghost use Rattle.j39_vehicle_check.specs.VehicleText.{AreAllFound, IsFoundBeyond
 
 use crate::finding_lines::{write_findings, write_time_findings};
 use j39_ages::{Delays, TimeFindings, find_in_times};
-use j39_paths::{VehicleFindings, find_in_paths, find_in_queues};
+use j39_paths::{Routes, VehicleFindings, find_in_paths, find_in_queues};
 use j39_text::TextBuffer;
 use j39_vehicle::Vehicle;
 use std::alloc::{AllocError, Global};
@@ -20,13 +20,17 @@ pub struct BeyondPlans {
 
 impl BeyondPlans {
     /// All of it, where the buses have these delays.
-    pub fn with_times(alloc: Global, vehicle: &Vehicle, delays: &Delays) -> Result<Self, AllocError>
-        ensures { IfOk result (AreAllFound vehicle.now delays.now) }
+    pub fn with_times(
+        alloc: Global,
+        routes: &Routes<'_>,
+        delays: &Delays,
+    ) -> Result<Self, AllocError>
+        ensures { IfOk result (AreAllFound routes.now.vehicle.now delays.now) }
     {
         Ok(BeyondPlans {
-            paths: find_in_paths(alloc, vehicle)?,
-            times: find_in_times(alloc, vehicle, delays)?,
-            queues: find_in_queues(alloc, vehicle)?,
+            paths: find_in_paths(alloc, routes.vehicle)?,
+            times: find_in_times(alloc, routes, delays)?,
+            queues: find_in_queues(alloc, routes.vehicle)?,
         })
     }
 

@@ -13,7 +13,7 @@ use crate::labels::{gateway_label, write_group_at};
 use crate::times::us_of_ms;
 use j39_ages::{Delays, is_late_asked, queued};
 use j39_network::FlowPlan;
-use j39_paths::{is_output, output_flows};
+use j39_paths::{Routes, is_output, output_flows};
 use j39_text::TextBuffer;
 use j39_vehicle::{Forward, Vehicle};
 use std::alloc::AllocError;
@@ -121,19 +121,19 @@ fn write_forward(
 #[tactic(auto, unfolding(crate::specs::ForwardLines::forward_line))]
 fn write_line(
     text: &mut TextBuffer,
-    vehicle: &Vehicle,
+    routes: &Routes<'_>,
     delays: &Delays,
     place: usize,
     forward: &Forward,
 ) -> Result<(), AllocError>
-    ensures { OnOk result (text.new ≡ text.old ++ forward_line vehicle.now delays.now place forward.now) }
+    ensures { OnOk result (text.new ≡ text.old ++ forward_line routes.now.vehicle.now delays.now place forward.now) }
 {
-    write_forward(text, vehicle, place, forward)?;
+    write_forward(text, routes.vehicle, place, forward)?;
     write_asked(
         text,
-        is_late_asked(vehicle, place),
-        queued(vehicle, delays, place),
-        output_jitter(vehicle, forward),
+        is_late_asked(routes.vehicle, place),
+        queued(routes, delays, place),
+        output_jitter(routes.vehicle, forward),
     )?;
     text.end_line()
 }
@@ -142,13 +142,13 @@ fn write_line(
 #[tactic(auto, unfolding(j39_load::specs::LineLists::lines_of_each))]
 pub(super) fn write_forwards(
     text: &mut TextBuffer,
-    vehicle: &Vehicle,
+    routes: &Routes<'_>,
     delays: &Delays,
 ) -> Result<(), AllocError>
-    ensures { OnOk result (text.new ≡ text.old ++ forward_lines vehicle.now delays.now) }
+    ensures { OnOk result (text.new ≡ text.old ++ forward_lines routes.now.vehicle.now delays.now) }
 {
-    for (place, forward) in vehicle.forwards.iter().enumerate() {
-        write_line(text, vehicle, delays, place, forward)?;
+    for (place, forward) in routes.vehicle.forwards.iter().enumerate() {
+        write_line(text, routes, delays, place, forward)?;
     }
     Ok(())
 }

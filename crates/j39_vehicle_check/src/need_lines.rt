@@ -9,7 +9,7 @@ use crate::labels::{group_label_at, signal_label_at, write_unit_at};
 use crate::times::us_of_ms;
 use crate::ways::write_way;
 use j39_ages::{Delays, NeedFlow, flow_of_need};
-use j39_paths::{FlowAt, Point, flows_on, origin};
+use j39_paths::{FlowAt, Point, Routes, flows_on};
 use j39_text::TextBuffer;
 use j39_vehicle::{GroupAt, Vehicle, VehicleNeed};
 use std::alloc::{AllocError, Global};
@@ -95,11 +95,11 @@ fn write_origin_content(
 
 // What the origin sends, where there is one.
 #[tactic(auto, unfolding(crate::specs::NeedLines::origin_text))]
-fn write_origin(text: &mut TextBuffer, vehicle: &Vehicle, start: Point) -> Result<(), AllocError>
-    ensures { OnOk result (text.new ≡ text.old ++ origin_text vehicle.now start) }
+fn write_origin(text: &mut TextBuffer, routes: &Routes<'_>, start: Point) -> Result<(), AllocError>
+    ensures { OnOk result (text.new ≡ text.old ++ origin_text routes.now.vehicle.now start) }
 {
-    match origin(vehicle, start) {
-        Some(point) => write_origin_content(text, vehicle, point),
+    match routes.origin(start) {
+        Some(point) => write_origin_content(text, routes.vehicle, point),
         None => Ok(()),
     }
 }
@@ -160,11 +160,11 @@ fn write_age(text: &mut TextBuffer, age: Option<u64>, within: Option<u16>) -> Re
 fn write_told(
     alloc: Global,
     text: &mut TextBuffer,
-    vehicle: &Vehicle,
+    routes: &Routes<'_>,
     need: &VehicleNeed,
     told: NeedFlow,
 ) -> Result<(), AllocError>
-    ensures { OnOk result (text.new ≡ text.old ++ told_text vehicle.now need.now told) }
+    ensures { OnOk result (text.new ≡ text.old ++ told_text routes.now.vehicle.now need.now told) }
 {
     let at = FlowAt {
         bus: need.unit.bus,
@@ -172,8 +172,8 @@ fn write_told(
     };
     let signal = need.signal;
     let start = Point { at, signal };
-    write_origin(text, vehicle, start)?;
-    write_way(alloc, text, vehicle, start)?;
+    write_origin(text, routes, start)?;
+    write_way(alloc, text, routes, start)?;
     write_age(text, told.age, need.within)
 }
 
@@ -182,14 +182,14 @@ fn write_told(
 fn write_met(
     alloc: Global,
     text: &mut TextBuffer,
-    vehicle: &Vehicle,
+    routes: &Routes<'_>,
     need: &VehicleNeed,
     met: Option<NeedFlow>,
 ) -> Result<(), AllocError>
-    ensures { OnOk result (text.new ≡ text.old ++ met_text vehicle.now need.now met) }
+    ensures { OnOk result (text.new ≡ text.old ++ met_text routes.now.vehicle.now need.now met) }
 {
     match met {
-        Some(told) => write_told(alloc, text, vehicle, need, told),
+        Some(told) => write_told(alloc, text, routes, need, told),
         None => text.word(" unmet"),
     }
 }
@@ -198,20 +198,20 @@ fn write_met(
 fn write_line(
     alloc: Global,
     text: &mut TextBuffer,
-    vehicle: &Vehicle,
+    routes: &Routes<'_>,
     delays: &Delays,
     place: usize,
     need: &VehicleNeed,
 ) -> Result<(), AllocError>
-    ensures { OnOk result (text.new ≡ text.old ++ vehicle_need_line vehicle.now delays.now place need.now) }
+    ensures { OnOk result (text.new ≡ text.old ++ vehicle_need_line routes.now.vehicle.now delays.now place need.now) }
 {
-    write_need(text, vehicle, place, need)?;
+    write_need(text, routes.vehicle, place, need)?;
     write_met(
         alloc,
         text,
-        vehicle,
+        routes,
         need,
-        flow_of_need(vehicle, delays, need),
+        flow_of_need(routes, delays, need),
     )?;
     text.end_line()
 }
@@ -221,13 +221,13 @@ fn write_line(
 pub(super) fn write_needs(
     alloc: Global,
     text: &mut TextBuffer,
-    vehicle: &Vehicle,
+    routes: &Routes<'_>,
     delays: &Delays,
 ) -> Result<(), AllocError>
-    ensures { OnOk result (text.new ≡ text.old ++ vehicle_need_lines vehicle.now delays.now) }
+    ensures { OnOk result (text.new ≡ text.old ++ vehicle_need_lines routes.now.vehicle.now delays.now) }
 {
-    for (place, need) in vehicle.needs.iter().enumerate() {
-        write_line(alloc, text, vehicle, delays, place, need)?;
+    for (place, need) in routes.vehicle.needs.iter().enumerate() {
+        write_line(alloc, text, routes, delays, place, need)?;
     }
     Ok(())
 }

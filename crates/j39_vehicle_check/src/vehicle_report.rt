@@ -9,6 +9,7 @@ use crate::certificate::certify_vehicle;
 use crate::forward_lines::write_forwards;
 use crate::need_lines::write_needs;
 use j39_ages::delays_of;
+use j39_paths::{Routes, path_tables};
 use j39_stream::Verdict;
 use j39_text::TextBuffer;
 use j39_vehicle::Vehicle;
@@ -23,9 +24,14 @@ fn write_times(
     ensures { IfOk result (λ found. (lines : List ℕ) × IsFoundBeyond vehicle.now true lines found × (text.new ≡ text.old ++ lines)) }
 {
     let delays = delays_of(alloc, vehicle)?;
-    write_forwards(text, vehicle, &delays)?;
-    write_needs(alloc, text, vehicle, &delays)?;
-    BeyondPlans::with_times(alloc, vehicle, &delays)
+    let tables = path_tables(alloc, vehicle)?;
+    let routes = Routes {
+        vehicle,
+        tables: &tables,
+    };
+    write_forwards(text, &routes, &delays)?;
+    write_needs(alloc, text, &routes, &delays)?;
+    BeyondPlans::with_times(alloc, &routes, &delays)
 }
 
 // The same, where the plans of the buses have no findings but of times, and else what is wrong with forwards and needs alone.

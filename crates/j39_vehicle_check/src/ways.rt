@@ -2,24 +2,23 @@
 ghost use Rattle.std.specs.Prelude.{◌≡◌, ◌≢◌, ◌++◌, [], IfOk, OnErr, OnOk};
 ghost use Rattle.j39_vehicle_check.specs.NeedLines.{back_text, way_back, told_way_text};
 
-use j39_paths::{Point, goes_on, next_forward};
+use j39_paths::{Point, Routes};
 use j39_text::TextBuffer;
-use j39_vehicle::Vehicle;
 use std::alloc::{AllocError, Global};
 
 // The forwards by which the trace of a flow and a signal goes on, from the flow back.
-fn way_back(alloc: Global, vehicle: &Vehicle, start: Point) -> Result<Vec<usize>, AllocError>
-    ensures way { IfOk result (λ back. back.items ≡ way_back vehicle.now start) }
-    ensures memory { OnErr result (vehicle.now.forwards.items ≢ []) }
+fn way_back(alloc: Global, routes: &Routes<'_>, start: Point) -> Result<Vec<usize>, AllocError>
+    ensures way { IfOk result (λ back. back.items ≡ way_back routes.now.vehicle.now start) }
+    ensures memory { OnErr result (routes.now.vehicle.now.forwards.items ≢ []) }
 {
     let mut back = Vec::new(alloc);
     let mut point = start;
-    'trace: for _step in 0..vehicle.forwards.len() {
-        let Some(forward) = next_forward(vehicle, point) else {
+    'trace: for _step in 0..routes.vehicle.forwards.len() {
+        let Some(forward) = routes.next_forward(point) else {
             return Ok(back);
         };
         back.push(forward)?;
-        let Some(before) = goes_on(vehicle, point, forward) else {
+        let Some(before) = routes.goes_on(point, forward) else {
             return Ok(back);
         };
         point = before;
@@ -55,11 +54,11 @@ fn write_forwards(text: &mut TextBuffer, back: &[usize]) -> Result<(), AllocErro
 pub(super) fn write_way(
     alloc: Global,
     text: &mut TextBuffer,
-    vehicle: &Vehicle,
+    routes: &Routes<'_>,
     start: Point,
 ) -> Result<(), AllocError>
-    ensures { OnOk result (text.new ≡ text.old ++ told_way_text (way_back vehicle.now start)) }
+    ensures { OnOk result (text.new ≡ text.old ++ told_way_text (way_back routes.now.vehicle.now start)) }
 {
-    let back = way_back(alloc, vehicle, start)?;
+    let back = way_back(alloc, routes, start)?;
     write_forwards(text, &back)
 }

@@ -7,7 +7,7 @@ use Rattle.j39_vehicle_check.proofs.forward_lines.write_forwards.Goals as goal
 
 pub loop-place-preserved : goal.loop-place-preserved
 loop-place-preserved c =
-    let line = forward_line c.args.vehicle.now c.args.delays.now in
+    let line = forward_line c.args.routes.now.vehicle.now c.args.delays.now in
     let k = c.loop-place.place in
     let forward = c.forward-item.result in
     let step = more line k c.deref-forward-items.result.now forward c.loop-place-test.true in

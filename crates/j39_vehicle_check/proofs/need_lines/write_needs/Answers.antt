@@ -7,7 +7,7 @@ use Rattle.j39_vehicle_check.proofs.need_lines.write_needs.Goals as goal
 
 pub loop-place-preserved : goal.loop-place-preserved
 loop-place-preserved c =
-    let line = vehicle_need_line c.args.vehicle.now c.args.delays.now in
+    let line = vehicle_need_line c.args.routes.now.vehicle.now c.args.delays.now in
     let k = c.loop-place.place in
     let need = c.need-item.result in
     let step = more line k c.deref-need-items.result.now need c.loop-place-test.true in

@@ -5,13 +5,13 @@ use Rattle.j39_vehicle_check.proofs.ways.way_back.Goals as goal
 
 pub returns-in_default-clause-way : goal.returns-in_default-clause-way
 returns-in_default-clause-way c =
-    let v = c.args.vehicle.now in
+    let v = c.args.routes.now.vehicle.now in
     let none : next_forward v c.trace.point ≡ None = cc in
     ends_here v (length v.forwards.items) c.trace._step c.trace.point c.trace.back.items _ c.trace.invariant none
 
 pub returns-in_default-goes_on-clause-way : goal.returns-in_default-goes_on-clause-way
 returns-in_default-goes_on-clause-way c =
-    let v = c.args.vehicle.now in
+    let v = c.args.routes.now.vehicle.now in
     let n = c.in-Some.forward in
     let some : next_forward v c.trace.point ≡ Some n = cc in
     let none : goes_on v c.trace.point n ≡ None = cc in
@@ -21,7 +21,7 @@ returns-in_default-goes_on-clause-way c =
 
 pub trace-preserved : goal.trace-preserved
 trace-preserved c =
-    let v = c.args.vehicle.now in
+    let v = c.args.routes.now.vehicle.now in
     let n = c.in-Some.forward in
     let q = c.in-Some-goes_on.before in
     let some : next_forward v c.trace.point ≡ Some n = cc in
@@ -32,6 +32,6 @@ trace-preserved c =
 
 pub returns-clause-way : goal.returns-clause-way
 returns-clause-way c =
-    let v = c.args.vehicle.now in
+    let v = c.args.routes.now.vehicle.now in
     let over : c.trace._step ≡ length v.forwards.items = omega arith in
     ends_behind_all v (length v.forwards.items) c.trace._step c.trace.point c.trace.back.items _ c.trace.invariant over
