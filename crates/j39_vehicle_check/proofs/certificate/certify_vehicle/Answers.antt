@@ -1,4 +1,4 @@
-use Rattle.std.proofs.Common.{subst}
+use Rattle.std.proofs.Common.{[], subst}
 use Rattle.j39_vehicle.specs.declared.vehicle.Vehicle.{Vehicle}
 use Rattle.j39_age_laws.specs.VehicleAges.{IsSoundVehicle}
 use Rattle.j39_ages.specs.TimeFindings.{AreTimeFindings}
