@@ -32,12 +32,9 @@ fn part_of(lines: &str) -> Part<'_> {
 // The parts of a row, in order.
 fn parts_of(alloc: Global, row: &str) -> Result<Vec<Part<'_>>, anyhow::Error> {
     let mut parts = Vec::new(alloc);
-    let mut rest = row.strip_prefix("== ").unwrap_or("");
-    while let Some((lines, more)) = rest.split_once("\n== ") {
+    for lines in row.strip_prefix("== ").unwrap_or("").split("\n== ") {
         parts.push(part_of(lines))?;
-        rest = more;
     }
-    parts.push(part_of(rest))?;
     Ok(parts)
 }
 
