@@ -1,5 +1,5 @@
 -- The text of a vehicle file with the plans of its buses, by what is put.
-use Rattle.std.proofs.Common.{ℕ, List, Result, Ok, Err, inl, inr}
+use Rattle.std.proofs.Common.{ℕ, List, Result, Ok, Err, inr}
 use Rattle.j39_stream.specs.CommandEnds.{PutsText}
 use Rattle.j39_stream.specs.Streams.{SinkState}
 use Rattle.j39_stream.specs.declared.fault.Fault.{Fault as StreamFault}

@@ -1,5 +1,5 @@
 -- What is written of a vehicle file alone: nothing of one that says what a vehicle has, else why it is refused; and of the plan of a bus.
-use Rattle.std.specs.Prelude.{◌≡◌, ◌⊎◌, ℕ, List, [], ◌∷◌, ◌++◌, codes, Option, Some, None, Ok, Err}
+use Rattle.std.specs.Prelude.{◌≡◌, ℕ, List, [], ◌∷◌, ◌++◌, codes, Option, Some, None, Ok, Err}
 use Rattle.j39_network.specs.declared.plan.Plan.{Plan}
 use Rattle.j39_plan.specs.Words.{cause_word}
 use Rattle.j39_vehicle.specs.declared.file.VehicleFile.{VehicleFile}

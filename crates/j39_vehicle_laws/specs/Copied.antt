@@ -1,5 +1,5 @@
 -- What it is good for that copies have the layout of what is heard, and what signals read in messages.
-use Rattle.std.specs.Prelude.{◌≡◌, ℕ, ◌≤◌, true, List, [], length as count, Some}
+use Rattle.std.specs.Prelude.{◌≡◌, ℕ, ◌≤◌, true, List, length as count, Some}
 use Rattle.std.specs.List.{slice_get}
 use Rattle.j39_signal.specs.Parts.{SignalParts}
 use Rattle.j39_signal.specs.Places.{IsAlwaysInside}
