@@ -14,7 +14,7 @@ sys.dont_write_bytecode = True
 from tally import BAD_WORDS, COMMANDS, DEVICE, MEMORY, PROGRAM, TOO_LONG, Tally, is_built, run
 
 # The address space, in KiB: no program starts within the first figure, each of the commands has enough within the last.
-# With less than the least the system ends the program while it starts it: its file has 0.7 MB.
+# With less than the least the system ends the program while it starts it: its file has 0.9 MB.
 LEAST, MOST, STEP = 2_048, 8_192, 16
 
 
