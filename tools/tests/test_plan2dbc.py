@@ -242,9 +242,9 @@ class Multiplexed(WithPlans):
 class RoundTrip(WithPlans):
     def test_the_examples(self) -> None:
         """But those with findings, which have two messages of one identifier or widths that no kind has."""
-        plans = [plan for plan in plans() if "findings" not in plan]
-        self.assertGreater(len(plans), 6)
-        for plan in plans:
+        clean = [plan for plan in plans() if "findings" not in plan]
+        self.assertGreater(len(clean), 6)
+        for plan in clean:
             with self.subTest(plan):
                 self.assertEqual(said(self.back(plan)), said(tomllib.loads(text_of(plan))))
 

@@ -9,7 +9,7 @@ import json
 import os
 import re
 import sys
-from collections.abc import Iterable, Iterator
+from collections.abc import Iterable
 from typing import Any, NamedTuple
 
 from j39plan import program
@@ -62,29 +62,32 @@ def largest_first(logs: list[str]) -> list[str]:
     return sorted(logs, key=lambda log: -os.path.getsize(log) if os.path.isfile(log) else 0)
 
 
-def progressing(drives: Iterable[Drive], count: int) -> Iterator[Drive]:
-    """The tables of logs as they come, with a bar of how many are there, on a terminal alone; a log that failed is named at once."""
-    is_shown = sys.stderr.isatty()
-    for number, drive in enumerate(drives, 1):
-        if is_shown:
-            print("\r\033[K", end="", file=sys.stderr)
-        if drive["failed"]:
-            program.say(f"{drive['log']}: {drive['failed']}")
-        if is_shown:
-            done = WIDTH * number // count
-            bar = f"[{'#' * done}{'-' * (WIDTH - done)}] {number}/{count} {drive['log']}"
-            print(bar[:os.get_terminal_size(sys.stderr.fileno()).columns - 1], end="", file=sys.stderr, flush=True)
-        yield drive
-    if is_shown:
+def show_progress(drive: Drive, number: int, count: int) -> None:
+    """Names a log that failed, and draws a bar of how many are done, on a terminal alone."""
+    clear_progress()
+    if drive["failed"]:
+        program.say(f"{drive['log']}: {drive['failed']}")
+    if sys.stderr.isatty():
+        done = WIDTH * number // count
+        bar = f"[{'#' * done}{'-' * (WIDTH - done)}] {number}/{count} {drive['log']}"
+        print(bar[:os.get_terminal_size(sys.stderr.fileno()).columns - 1], end="", file=sys.stderr, flush=True)
+
+
+def clear_progress() -> None:
+    """Clears the line of the bar, on a terminal alone."""
+    if sys.stderr.isatty():
         print("\r\033[K", end="", file=sys.stderr, flush=True)
 
 
 def gathered(drives: Iterable[Drive], count: int) -> tuple[dict[str, Drive], bool]:
-    """The tables of logs by their names, and whether all are there: an interrupt keeps those that are done, if there is one."""
+    """The tables of logs by their names, and whether all are there: an interrupt keeps those that are done, if there is one. A log is kept before
+    it is shown as done."""
     found: dict[str, Drive] = {}
     try:
-        for drive in progressing(drives, count):
+        for number, drive in enumerate(drives, 1):
             found[drive["log"]] = drive
+            show_progress(drive, number, count)
+        clear_progress()
     except KeyboardInterrupt:
         if not found:
             raise
