@@ -3,6 +3,8 @@ pub mod Beginning
 pub mod Claimed
 pub mod Contested
 pub mod Contending
+pub mod ContestOrigins
+pub mod CountedOnce
 pub mod EndLines
 pub mod Exchanged
 pub mod FirstWords

@@ -1,5 +1,7 @@
 //! Laws of what frames tell of addresses, and of the text of a log.
 ghost use Rattle.j39_follow.specs.Alike.{FollowAndReadSeeAlike};
+ghost use Rattle.j39_follow.specs.ContestOrigins.{ContestsAreShort};
+ghost use Rattle.j39_follow.specs.CountedOnce.{NeedsAreMetOnce, RequestsAreAnsweredOnce};
 ghost use Rattle.j39_follow.specs.FollowText.{LogHasOneFollowText};
 ghost use Rattle.j39_follow.specs.GroupLines.{GroupsAreToldAlike};
 ghost use Rattle.j39_follow.specs.Holders.{HasOneHolder, HoldsOneAddress};
@@ -39,4 +41,17 @@ pub fn groups_are_told_alike()
 /// plan of this vehicle, with the serial numbers of boxes behind their claims and Cannots.
 pub fn types_tell_vehicles()
     ensures { TypesTellVehicles }
+{}
+
+/// Whoever `follow` takes to be behind an address stands there, or less than 250 ms ago another NAME claimed the address, and it is the party
+/// of a NAME that held the address up to there, or where none held it the unit that would claim it first.
+pub fn contests_are_short()
+    ensures { ContestsAreShort }
+{}
+
+/// No message counts twice at the end of a log. Each time that a request is asked counts one answer or one refusal at most, and each of these
+/// counts once at most (`requests`); a need was met as often as messages came of flows that meet it (`needs`).
+pub fn messages_count_once()
+    ensures requests { RequestsAreAnsweredOnce }
+    ensures needs { NeedsAreMetOnce }
 {}

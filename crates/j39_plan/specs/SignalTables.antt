@@ -7,7 +7,7 @@ use Rattle.toml.specs.Data.{Data, Members, as_table}
 use Rattle.j39_id.specs.Limits.{message_bytes}
 use Rattle.j39_signal.specs.declared.kind.Kind.{Kind}
 use Rattle.j39_signal.specs.declared.kind.Kind.TheVariants.{Measured, Discrete, Raw, States, Signed, Dtc}
-use Rattle.j39_signal.specs.Parts.{SignalParts, IsSignal}
+use Rattle.j39_signal.specs.Parts.{SignalParts, IsDivisor, IsSignal}
 use Rattle.j39_network.specs.LabelForm.{is_label}
 use Rattle.j39_network.specs.declared.plan.meaning.Meaning.{Meaning}
 use Rattle.j39_plan.specs.declared.reading.key.Key.TheVariants as key
@@ -148,6 +148,7 @@ IsMeaningOf version d m = TellsMeaning version (inside d) m
 pub record IsFit (records : Bool) (s : SignalParts) : Type 0 where
   pub label_form : IsTrue (is_label s.label.bytes)
   pub ranges : IsSignal s.start s.bits s.step s.offset
+  pub divisor : IsDivisor s.per
   pub single : records ≡ false → s.repeated ≡ false
 
 unfoldable pub signal_table_faults : Version → Bool → Table → Members → List Fault

@@ -2,7 +2,7 @@
 ghost use Rattle.std.specs.Prelude.{◌≡◌, ◌≢◌, ◌≤◌, false, None, IsTrue, length as count, All, AllPairs};
 ghost use Rattle.std.specs.Option.{ForSome};
 ghost use Rattle.j39_id.specs.Limits.{message_bytes};
-ghost use Rattle.j39_signal.specs.Parts.{IsSignal};
+ghost use Rattle.j39_signal.specs.Parts.{IsDivisor, IsSignal};
 ghost use Rattle.j39_network.specs.LabelForm.{is_label};
 ghost use Rattle.j39_network.specs.PlanLimits.{signal_limit, text_limit};
 
@@ -46,6 +46,7 @@ pub struct GroupPlan {
     pub ghost signal_count: { count signals.items ≤ signal_limit },
     pub ghost signal_forms: { All (λ s. IsTrue (is_label s.label.bytes)) signals.items },
     pub ghost signal_ranges: { All (λ s. IsSignal s.start s.bits s.step s.offset) signals.items },
+    pub ghost signal_divisors: { All (λ s. IsDivisor s.per) signals.items },
     pub ghost signal_labels: { AllPairs (λ s t. s.label.bytes ≢ t.label.bytes) signals.items },
     pub ghost meaning_count: { count meanings.items ≡ count signals.items },
     pub ghost text_count: { count texts.items ≤ text_limit },

@@ -254,6 +254,7 @@ fn signal<'a>(
         (λ k. TellsSignal reader.now.version (table_view members.now) k.signal × TellsKeys reader.now.version (table_view members.now) k.meant) }
     ensures label_form { IfOk result (λ k. IsTrue (is_label k.signal.label.bytes)) }
     ensures ranges { IfOk result (λ k. IsSignal k.signal.start k.signal.bits k.signal.step k.signal.offset) }
+    ensures divides { IfOk result (λ k. IsDivisor k.signal.per) }
     ensures single { IfOk result (λ k. reader.now.records ≡ false → k.signal.repeated ≡ false) }
     ensures spn { IfOk result (λ k. IfSome k.meant.spn (λ n. n ≤ spn_most)) }
     ensures named { IfOk result (λ k. IfSome k.meant.names (λ t. names_cause (raw_limit k.signal.bits) (table_view t.now) ≡ None)) }

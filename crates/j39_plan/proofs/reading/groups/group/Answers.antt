@@ -4,7 +4,7 @@ use Rattle.std.proofs.lemmas.Result.{err_from_is_err_and}
 use Rattle.toml.specs.View.{items_view}
 use Rattle.j39_network.specs.LabelForm.{is_label}
 use Rattle.j39_network.specs.PlanLimits.{signal_limit}
-use Rattle.j39_signal.specs.Parts.{IsSignal}
+use Rattle.j39_signal.specs.Parts.{IsDivisor, IsSignal}
 use Rattle.j39_plan.specs.declared.reading.key.Key.TheVariants as key
 use Rattle.j39_plan.specs.Elements.{each_faults, Each, label_in}
 use Rattle.j39_plan.specs.Growing.{NeverGrows, EachGrows}
@@ -33,6 +33,10 @@ invariant_of-result-clause-signal_forms c =
 pub invariant_of-result-clause-signal_ranges : goal.invariant_of-result-clause-signal_ranges
 invariant_of-result-clause-signal_ranges c =
     All-from_Each (IsRead c.args.version c.is_some-records.result) (λ s. IsSignal s.start s.bits s.step s.offset) (λ d s read. read.1.ranges) _ _ (signals_read c.args.version c.is_some-records.result _ _ _ c.in_ok-parts.ensures.signals c.in_ok-planned.ensures.1)
+
+pub invariant_of-result-clause-signal_divisors : goal.invariant_of-result-clause-signal_divisors
+invariant_of-result-clause-signal_divisors c =
+    All-from_Each (IsRead c.args.version c.is_some-records.result) (λ s. IsDivisor s.per) (λ d s read. read.1.divisor) _ _ (signals_read c.args.version c.is_some-records.result _ _ _ c.in_ok-parts.ensures.signals c.in_ok-planned.ensures.1)
 
 pub invariant_of-result-clause-signal_labels : goal.invariant_of-result-clause-signal_labels
 invariant_of-result-clause-signal_labels c = signals_apart c.args.version c.is_some-records.result c.args.index _ _ (signals_read c.args.version c.is_some-records.result _ _ _ c.in_ok-parts.ensures.signals c.in_ok-planned.ensures.1) c.in_ok-planned.ensures.0
