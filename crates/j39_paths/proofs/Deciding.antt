@@ -1,7 +1,7 @@
 -- Each test of what forwards hear, send and carry decides its statement.
 use Rattle.std.proofs.Common.{◌≡◌, ℕ, suc, zero, ◌+◌, ◌<◌, ◌==◌, ◌⊎◌, ◌↔◌, List, [], ◌∷◌, Bool, true, false, not, length}
 use Rattle.std.proofs.Common.{nat_lt, Option, Some, None, Decides, refl, sym, ◌∙◌, ap, inl, inr, subst, arith}
-use Rattle.std.specs.List.{count_by, slice_get, list_any}
+use Rattle.std.specs.List.{count_by, slice_get}
 use Rattle.std.specs.Option.{MatchOption, option_map_or}
 use Rattle.std.proofs.lemmas.Bool.{false≢true, eqb-true}
 use Rattle.std.proofs.lemmas.Bool.Decides.{Decides-eqb, Decides-and, Decides-or, Decides-not, Decides-like, Decides-ltb, Decides-int_eq}
@@ -23,7 +23,7 @@ use Rattle.j39_network.specs.declared.plan.timing.Timing.{Timing}
 use Rattle.j39_network.specs.declared.plan.to.To.{To}
 use Rattle.j39_network.specs.declared.plan.to.To.TheVariants.{All, One}
 use Rattle.j39_network.specs.declared.plan.unit_plan.UnitPlan.{UnitPlan}
-use Rattle.j39_network.proofs.Served.{Decides-meets}
+use Rattle.j39_network.proofs.Served.{Decides-meets, some_decides}
 use Rattle.j39_findings.proofs.Deciding.{Decides-shares_bit, meeting_pass, passing_meet}
 use Rattle.j39_vehicle.specs.declared.vehicle.Vehicle.{Vehicle}
 use Rattle.j39_vehicle.specs.declared.vehicle.bus_plan.BusPlan.{BusPlan}
@@ -47,18 +47,6 @@ it_is : (b : Bool) → Decides b (b ≡ true)
 it_is b = (λ e. e, λ e. e)
 
 -- ---- lists
-
-some_from : {A : Type 0} (P : A → Type 0) (x : A) (xs : List A) → P x ⊎ SomeMeets P xs → SomeMeets P (x ∷ xs)
-some_from P x xs (inl here) = (0, record { value = x; value_is = refl; meets = here })
-some_from P x xs (inr (i, v)) = (suc i, record { value = v.value; value_is = v.value_is; meets = v.meets })
-
-some_parts : {A : Type 0} (P : A → Type 0) (x : A) (xs : List A) → SomeMeets P (x ∷ xs) → P x ⊎ SomeMeets P xs
-some_parts P x xs (zero, v) = inl (subst P (sym (same_Some _ _ v.value_is)) v.meets)
-some_parts P x xs (suc i, v) = inr (i, record { value = v.value; value_is = v.value_is; meets = v.meets })
-
-pub some_decides : {A : Type 0} {test : A → Bool} (P : A → Type 0) → ((x : A) → Decides (test x) (P x)) → (xs : List A) → Decides (list_any test xs) (SomeMeets P xs)
-some_decides P by [] = (λ e. absurd (false≢true e), λ (i, v). absurd (none-some _ v.value_is))
-some_decides P by (x ∷ xs) = Decides-like _ (some_from P x xs) (some_parts P x xs) (Decides-or _ _ (by x) (some_decides P by xs))
 
 -- more than one value meets the statement
 many_decides : {A : Type 0} {test : A → Bool} (P : A → Type 0) → ((x : A) → Decides (test x) (P x)) → (xs : List A)

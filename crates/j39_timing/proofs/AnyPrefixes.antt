@@ -9,7 +9,7 @@ use Rattle.j39_timing.specs.Companies.{Company, CompanyWaits, HasRoomInCompany, 
 use Rattle.j39_timing.specs.Prefixes.{seen_until, planned_until, IsPlannedUntil, AreBegunUntil, IsCompanyUntil, HaveWaitsUntil}
 use Rattle.j39_timing.proofs.CompanyTraffic.{begun_within}
 use Rattle.j39_timing.proofs.Offered.{ordered_begun}
-use Rattle.j39_timing.proofs.Prefixes.{its_own, is_planned_then, then_is_planned, then_known}
+use Rattle.j39_timing.proofs.Prefixes.{its_own, is_planned_then, still_of_streams, then_is_planned, then_known}
 use Rattle.j39_timing.proofs.Sums.{total-le}
 
 pub still_legal_in_any_order : (s : Schedule) (controllers : Controllers) (by ident : ℕ) → IsLegalInAnyOrder s controllers → by ≤ s.now
@@ -79,18 +79,7 @@ module _ (s : Schedule) (controllers : Controllers) (traffic : Traffic) (unplann
   then_company : IsTrafficOfCompany then_seen controllers traffic unplanned longest then_planned of company
   then_company = record {
     longest_at_most = known.longest_at_most;
-    of_streams = record {
-      keeps = λ p in_p is.
-          let keeps = known.of_streams.keeps p in_p is in
-          record {
-            known = keeps.known;
-            bits_at_most = keeps.bits_at_most;
-            turns = keeps.turns;
-            moment_first = keeps.moment_first;
-            late_at_most = keeps.late_at_most;
-          };
-      spaced = known.of_streams.spaced;
-    };
+    of_streams = still_of_streams s by 0 (λ p. then_planned p ≡ true) traffic.count traffic.stream of known.of_streams;
     as_wanted = known.as_wanted;
     from_least = λ p in_p is.
         let (plain, early) = is_planned_then s planned by p is in

@@ -1,5 +1,5 @@
 //! Rows of what is said of a plan: frames, checks, values, addresses, loads.
-use super::plans::{AWAITED, CONTEST, HURRIED, NOTHING, SENDING, SHARED, TEMPERATURE};
+use crate::rows::plans::{AWAITED, CONTEST, HURRIED, NOTHING, SENDING, SHARED, TEMPERATURE};
 use crate::{Command, Row};
 use j39_app::Verdict;
 

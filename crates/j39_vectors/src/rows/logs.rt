@@ -1,5 +1,5 @@
 //! Rows of logs, read and followed.
-use super::plans::{ASKED, SENDING, TEMPERATURE};
+use crate::rows::plans::{ASKED, SENDING, TEMPERATURE};
 use crate::{Command, Row};
 use j39_app::Verdict;
 

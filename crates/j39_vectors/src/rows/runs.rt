@@ -1,5 +1,5 @@
 //! Rows of schedules.
-use super::plans::{SENDING, SHARED};
+use crate::rows::plans::{SENDING, SHARED};
 use crate::{Command, Row};
 use j39_app::Verdict;
 
