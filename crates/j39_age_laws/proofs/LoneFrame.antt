@@ -29,12 +29,12 @@ use Rattle.j39_timing.specs.Traffic.{Traffic, others_queued}
 use Rattle.j39_vehicle.specs.declared.vehicle.Vehicle.{Vehicle}
 use Rattle.j39_ages.specs.BusDelays.{delays_on}
 use Rattle.j39_ages.specs.declared.bus_delays.Delays.{Delays}
+use Rattle.j39_ages.proofs.DecidingTimes.{and_then_some, map_some}
 use Rattle.j39_age_laws.specs.ForwardedStreams.{IsOtherwiseKept, KeepsOtherwise, streams_of}
 use Rattle.j39_age_laws.specs.KeptBuses.{IsToldBus, asked_on}
 use Rattle.j39_age_laws.specs.Prompt.{IsSentOn}
 use Rattle.j39_age_laws.specs.Seen.{SeenBus}
 use Rattle.j39_age_laws.proofs.OneFlow.{short_frames}
-use Rattle.j39_age_laws.proofs.Parts.{and_then_some, map_some}
 
 -- ---- a bus with one frame, or none
 

@@ -20,6 +20,7 @@ use Rattle.j39_paths.specs.declared.point.FlowAt.{FlowAt}
 use Rattle.j39_ages.specs.BusDelays.{AreDelays, delays_on}
 use Rattle.j39_ages.specs.Times.{us_of_bit, bits_within, delay_at, direct_feeder, forward_at, first_input_at, timing_on, us_of_ms, within_of}
 use Rattle.j39_ages.specs.declared.bus_delays.Delays.{Delays}
+use Rattle.j39_ages.proofs.DecidingTimes.{and_then_some, map_some}
 use Rattle.j39_age_laws.specs.ForwardedStreams.{AreOtherwiseKept, IsOtherwiseKept, streams_of}
 use Rattle.j39_age_laws.specs.KeptBuses.{IsToldBus, asked_on}
 use Rattle.j39_age_laws.specs.OnceSentOn.{AreSentOnOnce, CanBeSentOn, IsLoneForward}
@@ -31,7 +32,7 @@ use Rattle.j39_age_laws.proofs.Feeders.{fed_by}
 use Rattle.j39_age_laws.proofs.OneFlow.{told_bus}
 use Rattle.j39_age_laws.proofs.Kept.{one_traffic}
 use Rattle.j39_age_laws.proofs.LoneFrame.{Fits, bus_with, fits, none_kept, one_kept, one_place}
-use Rattle.j39_age_laws.proofs.Parts.{and_then_some, map_some, within_some}
+use Rattle.j39_age_laws.proofs.Parts.{within_some}
 
 unit_small : (v : Vehicle) (b : ℕ) → unit_on v b ≤ 8
 unit_small v b = go (timing_on v.buses.items b)
