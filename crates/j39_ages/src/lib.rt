@@ -14,7 +14,7 @@ mod needs;
 pub use bus_delays::{Delays, delays_of};
 pub use chains::queued;
 pub use checking::{TimeFindings, find_in_times};
-pub use ends::{first_output, is_late_asked};
+pub use ends::is_late_asked;
 pub use finding::TimeFinding;
 pub use laws::time_findings_are_exact;
 pub use needs::{NeedFlow, flow_of_need};
