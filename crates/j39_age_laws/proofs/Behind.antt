@@ -12,12 +12,13 @@ use Rattle.j39_timing.specs.Traffic.{delay_of}
 use Rattle.j39_ages.specs.declared.bus_delays.Delays.{Delays}
 use Rattle.j39_ages.specs.Times.{behind_by, behind_moment, delay_at, direct_feeder, first_input_at, jitter_ms, own, queued_behind, sum_known, timed, us_of_ms, within_of}
 use Rattle.j39_ages.specs.BusDelays.{AreDelays}
+use Rattle.j39_ages.proofs.DecidingTimes.{and_then_some}
 use Rattle.j39_age_laws.specs.Prompt.{IsSentDirectly, IsSentOn}
 use Rattle.j39_age_laws.specs.Seen.{SeenBuses, clock_on, frames_at, unit_on}
 use Rattle.j39_age_laws.specs.YoungValues.{IsSeenVehicle}
 use Rattle.j39_age_laws.proofs.Feeders.{IsFeederAt, feeder_is}
 use Rattle.j39_age_laws.proofs.OneFlow.{IsOneFlow, one_flow, own_parts}
-use Rattle.j39_age_laws.proofs.Parts.{and_then_some, some_cases, sum_some}
+use Rattle.j39_age_laws.proofs.Parts.{some_cases, sum_some}
 
 -- ---- the parts of what is known
 

@@ -19,7 +19,8 @@ use Rattle.j39_paths.specs.declared.point.FlowAt.{FlowAt}
 use Rattle.j39_paths.specs.declared.point.Point.{Point}
 use Rattle.j39_paths.proofs.Deciding.{Decides-is_direct, Decides-is_output}
 use Rattle.j39_ages.specs.Times.{direct_feeder, forward_at, first_input_at}
-use Rattle.j39_age_laws.proofs.Parts.{and_then_some, map_some, some_cases}
+use Rattle.j39_ages.proofs.DecidingTimes.{and_then_some, map_some}
+use Rattle.j39_age_laws.proofs.Parts.{some_cases}
 
 -- ---- the direct forward of a flow
 

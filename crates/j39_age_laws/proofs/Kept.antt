@@ -23,6 +23,7 @@ use Rattle.j39_ages.specs.BusDelays.{AreDelays, delays_on}
 use Rattle.j39_ages.specs.declared.bus_delays.Delays.{Delays}
 use Rattle.j39_ages.specs.TimeFindings.{period_ms}
 use Rattle.j39_ages.specs.Times.{behind_at, behind_by, delay_at, direct_feeder, flow_at, first_input_at, jitter_ms, own, queued_of, sum_known, timed, timing_on, us_of_ms, within_of}
+use Rattle.j39_ages.proofs.DecidingTimes.{and_then_some}
 use Rattle.j39_age_laws.specs.ForwardedStreams.{AreForwardsTimely, AreOtherwiseKept, AreStreamsKept, IsOtherwiseKept, streams_of}
 use Rattle.j39_age_laws.specs.KeptBuses.{AreKeptBuses, IsToldBus, asked_on}
 use Rattle.j39_age_laws.specs.Prompt.{ArePrompt, HaveOwnMoments, IsSentDirectly, sent_from}
@@ -31,7 +32,7 @@ use Rattle.j39_age_laws.proofs.Behind.{fed_never, fed_parts, unfed_moment}
 use Rattle.j39_age_laws.proofs.Circle.{IsTold, TimedBus, all_of, at_of, behind_value, behind_with, bounded_here, bus_with, direct_with, is_some_false, is_some_true, late_value, of_bus, owns, period_value, queued_value, single_here, stream_of, streamed, unit_positive, view, viewed, wait_is, wait_with, within_value}
 use Rattle.j39_age_laws.proofs.Feeders.{feeder_is}
 use Rattle.j39_age_laws.proofs.OneFlow.{delay_here, own_parts}
-use Rattle.j39_age_laws.proofs.Parts.{and_then_some, some_cases, sum_some}
+use Rattle.j39_age_laws.proofs.Parts.{some_cases, sum_some}
 use Rattle.j39_age_laws.proofs.Starts.{starts_within}
 use Rattle.j39_age_laws.proofs.Until.{frames_then, with_streams}
 

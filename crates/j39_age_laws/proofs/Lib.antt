@@ -2,6 +2,7 @@ mod Behind
 mod Circle
 mod Feeders
 mod Kept
+mod LoneFrame
 mod Old
 mod Once
 mod OneFlow

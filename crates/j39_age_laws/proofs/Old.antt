@@ -15,13 +15,14 @@ use Rattle.j39_timing.specs.Gateways.{HasBegun, IsIts, end_time, queue_time}
 use Rattle.j39_ages.specs.declared.bus_delays.Delays.{Delays}
 use Rattle.j39_ages.specs.Times.{age_with, behind_at, behind_by, direct_feeder, forward_at, first_input_at, old_behind, old_by, silent, sum_known, timing_on, within_of}
 use Rattle.j39_ages.specs.BusDelays.{AreDelays}
+use Rattle.j39_ages.proofs.DecidingTimes.{and_then_some}
 use Rattle.j39_age_laws.specs.Prompt.{IsSentDirectly}
 use Rattle.j39_age_laws.specs.Seen.{SeenBuses, frames_at}
 use Rattle.j39_age_laws.specs.YoungValues.{IsOnTheWay, IsSeenVehicle, KeepPauses, behind_it}
 use Rattle.j39_age_laws.proofs.Behind.{fed_never, fed_parts, is_behind, sends_directly}
 use Rattle.j39_age_laws.proofs.Feeders.{goes_on_input, next_feeds, one_feeder, some_feeder}
 use Rattle.j39_age_laws.proofs.Order.{ends_behind, in_order, queued_till_end}
-use Rattle.j39_age_laws.proofs.Parts.{and_then_some, some_cases, sum_some}
+use Rattle.j39_age_laws.proofs.Parts.{some_cases, sum_some}
 use Rattle.j39_age_laws.proofs.Silent.{KeepsOn, keeps_on}
 
 -- ---- the parts of what is known

@@ -35,10 +35,11 @@ use Rattle.j39_ages.specs.declared.bus_delays.Delays.{Delays}
 use Rattle.j39_ages.specs.TimeFindings.{period_ms}
 use Rattle.j39_ages.specs.Times.{behind_moment, us_of_bit, bits_within, delay_at, flow_at, jitter_ms, own, own_of, sum_known, timing_on, us_of_ms}
 use Rattle.j39_ages.specs.BusDelays.{AreDelays, AreDelaysOn, delays_on}
+use Rattle.j39_ages.proofs.DecidingTimes.{and_then_some, map_some}
 use Rattle.j39_age_laws.specs.KeptBuses.{AreKeptBuses, IsKeptBus, IsToldBus, asked_on}
 use Rattle.j39_age_laws.specs.Seen.{SeenBuses, frames_at, unit_on}
 use Rattle.j39_age_laws.proofs.Starts.{starts_within}
-use Rattle.j39_age_laws.proofs.Parts.{and_then_some, map_some, some_unit, unit_of_ms, within_some}
+use Rattle.j39_age_laws.proofs.Parts.{some_unit, unit_of_ms, within_some}
 
 -- ---- what its own time has for parts
 

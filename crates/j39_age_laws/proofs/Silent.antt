@@ -11,10 +11,11 @@ use Rattle.j39_timing.specs.Gateways.{IsIts}
 use Rattle.j39_ages.specs.declared.bus_delays.Delays.{Delays}
 use Rattle.j39_ages.specs.Times.{behind_by, direct_feeder, first_input_at, pause_us, silent, silent_by, unasked_at, within_of}
 use Rattle.j39_ages.specs.BusDelays.{AreDelays}
+use Rattle.j39_ages.proofs.DecidingTimes.{and_then_some}
 use Rattle.j39_age_laws.specs.Seen.{SeenBuses, frames_at}
 use Rattle.j39_age_laws.specs.YoungValues.{ComesDirectly, IsOnTheWay, IsSeenVehicle, KeepPauses, pause_at, by_itself, sent_on}
 use Rattle.j39_age_laws.proofs.Behind.{IsBehind, fed_never, fed_parts, is_behind, sends_directly}
-use Rattle.j39_age_laws.proofs.Parts.{and_then_some, some_cases}
+use Rattle.j39_age_laws.proofs.Parts.{some_cases}
 
 -- ---- the parts of what is known
 

@@ -27,10 +27,11 @@ use Rattle.j39_ages.specs.Times.{bits_within, delay_at, direct_feeder, flow_at, 
 use Rattle.j39_ages.specs.declared.bus_delays.Delays.{Delays}
 use Rattle.j39_ages.specs.declared.ends.Ends.{Ends}
 use Rattle.j39_ages.specs.declared.finding.TimeFinding.TheVariants.{TooLate, TooOften, TooRare}
+use Rattle.j39_ages.proofs.DecidingTimes.{and_then_some}
 use Rattle.j39_age_laws.specs.ForwardedStreams.{AreForwardsTimely, IsForwardTimely}
 use Rattle.j39_age_laws.proofs.Feeders.{IsFeederAt, IsOutputAt, feeder_is, feeds_parts, none_passes}
 use Rattle.j39_age_laws.proofs.OneFlow.{HasOwn, short_group, told_bus}
-use Rattle.j39_age_laws.proofs.Parts.{and_then_some, some_cases}
+use Rattle.j39_age_laws.proofs.Parts.{some_cases}
 
 -- ---- two values that pass
 

@@ -21,12 +21,13 @@ use Rattle.j39_ages.specs.TimeFindings.{IsYoungFlow}
 use Rattle.j39_ages.specs.Times.{age, us_of_bit, delay_at, direct_feeder, first_input_at, us_of_ms}
 use Rattle.j39_ages.specs.declared.bus_delays.Delays.{Delays}
 use Rattle.j39_ages.specs.declared.finding.TimeFinding.TheVariants.{NeedTooOld}
+use Rattle.j39_ages.proofs.DecidingTimes.{and_then_some}
 use Rattle.j39_age_laws.specs.Seen.{SeenBuses, clock_on, unit_on}
 use Rattle.j39_age_laws.specs.VehicleAges.{AreAgesKept, AreForwardedPausesKept, AreVehicleNeedsKept, IsNeedKept, IsPromptVehicle, IsSoundVehicle}
 use Rattle.j39_age_laws.specs.YoungValues.{IsSeenVehicle, itself}
 use Rattle.j39_age_laws.proofs.Behind.{is_behind}
 use Rattle.j39_age_laws.proofs.Kept.{streams_are_kept}
-use Rattle.j39_age_laws.proofs.Parts.{and_then_some, some_cases, unit_of_ms}
+use Rattle.j39_age_laws.proofs.Parts.{some_cases, unit_of_ms}
 use Rattle.j39_age_laws.proofs.Silent.{KeepsOn, source_keeps_on}
 use Rattle.j39_age_laws.proofs.Timely.{are_timely, keeps_rarely}
 use Rattle.j39_age_laws.proofs.Young.{brought_young}

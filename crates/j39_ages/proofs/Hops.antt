@@ -9,13 +9,11 @@ use Rattle.j39_paths.specs.ForwardTests.{is_direct}
 use Rattle.j39_paths.specs.Traces.{goes_on, next_forward}
 use Rattle.j39_paths.specs.declared.point.FlowAt.{FlowAt}
 use Rattle.j39_paths.specs.declared.point.Point.{Point}
+use Rattle.j39_paths.proofs.Tracing.{one_more}
 use Rattle.j39_ages.specs.declared.bus_delays.Delays.{Delays}
 use Rattle.j39_ages.specs.Times.{age_with, behind_at, behind_by, behind_moment, direct_feeder, forward_at, first_input_at, old_behind, old_by, own, pause_us, queued_behind, silent, silent_by, sum_known, timing_on, unasked_at, within_of}
 use Rattle.j39_ages.specs.inside.Aging.{aged_by, aged_of, ends_here}
 use Rattle.j39_ages.proofs.Sums.{sum_more, sum_none, sum_swap, sum_swapped, sum_turned, sum_zero}
-
-one_more : (n i : ℕ) → i < n → n - i ≡ suc (n - (i + 1))
-one_more n i less = omega arith
 
 less_none : (n : ℕ) → n - 0 ≡ n
 less_none n = omega arith

@@ -3,7 +3,7 @@ ghost use Rattle.j39_check.specs.AddressesText.{IsAddressesText};
 ghost use Rattle.j39_stream.specs.CommandEnds.{AnswersWhole, IsOfAny};
 ghost use Rattle.j39_stream.specs.Streams.{plan_limits};
 
-use crate::report_text::{Report, report_text};
+use crate::report_text::{PlanReport, report_text};
 use crate::stays_report::stays_report;
 use j39_network::Plan;
 use j39_stream::{Fault, Sink, Source, Verdict};
@@ -13,7 +13,7 @@ use std::alloc::{AllocError, Global};
 // What is reported of the addresses of a plan.
 struct AddressesReport;
 
-impl Report for AddressesReport {
+impl PlanReport for AddressesReport {
     ghost use Rattle.j39_check.specs.AddressesText.{IsAddressesReport};
 
     ghost says = { IsAddressesReport };

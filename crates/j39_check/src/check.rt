@@ -4,7 +4,7 @@ ghost use Rattle.j39_stream.specs.CommandEnds.{AnswersWhole, IsOfAny};
 ghost use Rattle.j39_stream.specs.Streams.{plan_limits};
 
 use crate::plan_report::report;
-use crate::report_text::{Report, report_text};
+use crate::report_text::{PlanReport, report_text};
 use j39_network::Plan;
 use j39_stream::{Fault, Sink, Source, Verdict};
 use j39_text::TextBuffer;
@@ -13,7 +13,7 @@ use std::alloc::{AllocError, Global};
 // What is reported of everything that is wrong with a plan.
 struct CheckReport;
 
-impl Report for CheckReport {
+impl PlanReport for CheckReport {
     ghost use Rattle.j39_check.specs.CheckText.{IsReport};
 
     ghost says = { IsReport };

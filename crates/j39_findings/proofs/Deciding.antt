@@ -48,7 +48,7 @@ use Rattle.j39_network.specs.PlannedGroups.{IsSelectorInside}
 use Rattle.j39_network.proofs.Served.{not_is, Decides-is_to_one, Decides-is_to, some_decides, to_all_decides, Decides-serves, Decides-is_served}
 use Rattle.j39_network.proofs.Served.{Decides-some_meets}
 
-Decides-leb : (a b : ℕ) → Decides (nat_le a b) (a ≤ b)
+pub Decides-leb : (a b : ℕ) → Decides (nat_le a b) (a ≤ b)
 Decides-leb a b = (leb-true a b, le-leb a b)
 
 -- ---- units
@@ -174,7 +174,7 @@ Decides-lies_outside g t = Decides-or _ _ (Decides-ltb (g.length + 1) t.byte) (D
 
 -- ---- flows
 
-Decides-have_same_receiver : (to other : To) → Decides (have_same_receiver to other) (to ≡ other)
+pub Decides-have_same_receiver : (to other : To) → Decides (have_same_receiver to other) (to ≡ other)
 Decides-have_same_receiver All All = (λ e. refl, λ e. refl)
 Decides-have_same_receiver All (One receiver) = (λ e. absurd (false≢true e), λ e. cc)
 Decides-have_same_receiver (One receiver) other = Decides-like _ (λ e. sym e) (λ e. sym e) (Decides-is_to other receiver)

@@ -16,7 +16,7 @@ const LINE_FEED: u8 = b'\n';
 
 // What the bytes of a cutter are.
 #[derive(Clone, Copy, Debug, PartialEq, Eq)]
-pub(crate) enum Phase {
+pub(crate) enum CutterPhase {
     // Those of the line so far.
     Inside,
     // The first ones of a line that was told as long.
@@ -31,7 +31,7 @@ pub(crate) enum Phase {
 #[derive(Drop)]
 pub struct Cutter {
     bytes: ArrayVec<u8, LINE_LIMIT>,
-    phase: Phase,
+    phase: CutterPhase,
 }
 
 impl Model for Cutter {
@@ -53,12 +53,12 @@ fn bytes_to_feed(piece: &[u8]) -> usize
 }
 
 // Where a cutter is within a line once it answered so.
-fn phase_after(cut: Cut) -> Phase
+fn phase_after(cut: Cut) -> CutterPhase
     ensures { result ≡ phase_after cut }
 {
     match cut {
-        Cut::Long => Phase::Beyond,
-        _ => Phase::Inside,
+        Cut::Long => CutterPhase::Beyond,
+        _ => CutterPhase::Inside,
     }
 }
 
@@ -68,8 +68,8 @@ fn hold(bytes: &mut ArrayVec<u8, LINE_LIMIT>, part: &[u8]) -> (Cut, usize)
     requires none { All (λ b. is_line_feed b ≡ false) part.now }
     ensures within { result.1 ≤ length part.now }
     ensures some { 0 < result.1 }
-    ensures told { told (pending_of Phase.Inside bytes.old.items) (take result.1 part.now) ≡ tells result.0 [] }
-    ensures pending { pending_of (phase_after result.0) bytes.new.items ≡ behind_all (pending_of Phase.Inside bytes.old.items) (take result.1 part.now) }
+    ensures told { told (pending_of CutterPhase.Inside bytes.old.items) (take result.1 part.now) ≡ tells result.0 [] }
+    ensures pending { pending_of (phase_after result.0) bytes.new.items ≡ behind_all (pending_of CutterPhase.Inside bytes.old.items) (take result.1 part.now) }
     ensures line { line_in (phase_after result.0) bytes.new.items ≡ [] }
 {
     let room = LINE_LIMIT - bytes.len();
@@ -89,7 +89,7 @@ impl Cutter {
     {
         Cutter {
             bytes: ArrayVec::new(),
-            phase: Phase::Inside,
+            phase: CutterPhase::Inside,
         }
     }
 
@@ -99,7 +99,7 @@ impl Cutter {
         ensures line { self.new.line ≡ [] }
     {
         self.bytes.clear();
-        self.phase = Phase::Inside;
+        self.phase = CutterPhase::Inside;
     }
 
     /// The answer to the next byte of the stream.
@@ -109,23 +109,23 @@ impl Cutter {
         ensures line { self.new.line ≡ cutter_line result self.old.pending }
     {
         match self.phase {
-            Phase::Inside => {}
-            Phase::Beyond if byte == LINE_FEED => {
+            CutterPhase::Inside => {}
+            CutterPhase::Beyond if byte == LINE_FEED => {
                 self.start_anew();
                 return Cut::More;
             }
-            Phase::Beyond => return Cut::More,
-            Phase::Ended => {
+            CutterPhase::Beyond => return Cut::More,
+            CutterPhase::Ended => {
                 self.bytes.clear();
-                self.phase = Phase::Inside;
+                self.phase = CutterPhase::Inside;
             }
         }
         if byte == LINE_FEED {
-            self.phase = Phase::Ended;
+            self.phase = CutterPhase::Ended;
             return Cut::Line;
         }
         if self.bytes.try_push(byte).is_err() {
-            self.phase = Phase::Beyond;
+            self.phase = CutterPhase::Beyond;
             return Cut::Long;
         }
         Cut::More
@@ -136,9 +136,9 @@ impl Cutter {
         ensures { IsTrue result → self.now.pending ≡ at_start }
     {
         match self.phase {
-            Phase::Inside => self.bytes.is_empty(),
-            Phase::Beyond => false,
-            Phase::Ended => true,
+            CutterPhase::Inside => self.bytes.is_empty(),
+            CutterPhase::Beyond => false,
+            CutterPhase::Ended => true,
         }
     }
 
@@ -153,9 +153,9 @@ impl Cutter {
         ensures line { self.new.line ≡ [] }
     {
         match self.phase {
-            Phase::Inside => {}
-            Phase::Beyond => return (Cut::More, part.len()),
-            Phase::Ended => self.bytes.clear(),
+            CutterPhase::Inside => {}
+            CutterPhase::Beyond => return (Cut::More, part.len()),
+            CutterPhase::Ended => self.bytes.clear(),
         }
         let (cut, used) = hold(&mut self.bytes, part);
         self.phase = phase_after(cut);
@@ -202,11 +202,11 @@ impl Cutter {
         ensures pending { self.new.pending ≡ at_start }
         ensures line { self.new.line ≡ cutter_line result self.old.pending }
     {
-        if self.phase != Phase::Inside || self.bytes.is_empty() {
+        if self.phase != CutterPhase::Inside || self.bytes.is_empty() {
             self.start_anew();
             return Cut::More;
         }
-        self.phase = Phase::Ended;
+        self.phase = CutterPhase::Ended;
         Cut::Line
     }
 
@@ -215,7 +215,7 @@ impl Cutter {
         ensures { result.now ≡ self.now.line }
     {
         match self.phase {
-            Phase::Ended => self.bytes.as_slice(),
+            CutterPhase::Ended => self.bytes.as_slice(),
             _ => &[],
         }
     }

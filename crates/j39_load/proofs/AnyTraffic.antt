@@ -124,7 +124,7 @@ module _ (timing : Timing) (asked : List (Option FlowFrames)) (paced : All HasPe
   abbrev leasts : List (Option ℕ)
   leasts = leasts_of asked
 
-  positive : (j : ℕ) → j < (traffic_of all).count → 0 < ((traffic_of all).stream j).period
+  pub positive : (j : ℕ) → j < (traffic_of all).count → 0 < ((traffic_of all).stream j).period
   positive j below = go (get_or all j None) (paced j None below)
     where
       go : (frames : Option FlowFrames) → HasPeriod frames → 0 < (unwrap_or frames no_frames).stream.period
@@ -420,10 +420,10 @@ module _ (timing : Timing) (asked : List (Option FlowFrames)) (paced : All HasPe
   module _ (offer : Offer) (offers : IsOffer timing asked offer) (i : ℕ) (frames : FlowFrames) (at : get_or asked i None ≡ Some frames)
       (ordered : keep_order frames ≡ true) (bounded : may_be_passed offer frames.greatest_ident ≡ false) (wait : ℕ)
       (enough : need_of timing offer.frames i frames wait ≤ wait) where
-    placed : planned_at all i ≡ frames
+    pub placed : planned_at all i ≡ frames
     placed = with_damage timing asked i frames at
 
-    room : HasRoom (offered_traffic (traffic_of all) (held_at offer.waits)) (others_of timing) (longest_frame 8) i wait
+    pub room : HasRoom (offered_traffic (traffic_of all) (held_at offer.waits)) (others_of timing) (longest_frame 8) i wait
     room =
         let placed_need : need_of timing (offered offer.waits asked) i frames wait ≤ wait =
         subst (λ (xs : List (Option FlowFrames)). need_of timing xs i frames wait ≤ wait) offers.frames enough in
@@ -458,7 +458,7 @@ module _ (timing : Timing) (asked : List (Option FlowFrames)) (paced : All HasPe
 
     module _ (s : Schedule) (controllers : Controllers) (planned : ℕ → Bool) (of : Origins) (legal : IsLegalInAnyOrder s controllers)
         (known : AreFramesInAnyOrder timing asked s controllers planned of i) where
-      own_ordered : IsOrderedStream s controllers planned of i
+      pub own_ordered : IsOrderedStream s controllers planned of i
       own_ordered p in_p is source = elim (cases_Bool (controllers.keeps_order (controllers.unit p))) [
         | inl keeps ↦ keeps
         | inr un ↦
@@ -481,7 +481,7 @@ module _ (timing : Timing) (asked : List (Option FlowFrames)) (paced : All HasPe
             | inr loses ↦ both_ways (not (keep_order frames)) (ap not ordered) loses
           ]
 
-      have : HaveWaits s controllers (traffic_of all) planned of i (held_at offer.waits)
+      pub have : HaveWaits s controllers (traffic_of all) planned of i (held_at offer.waits)
       have p in_p is goes un seen =
           let j = of.source p in
           let u = controllers.unit p in

@@ -14,8 +14,8 @@ use Rattle.j39_tp.specs.declared.packet.Packet.{Packet}
 use Rattle.j39_tp.specs.declared.packet.Packet.TheVariants.{Rts, Cts, EndAck, Bam, Abort, Dt}
 use Rattle.j39_tp.specs.declared.receiving.progress.Progress.{Progress}
 use Rattle.j39_tp.specs.declared.receiving.progress.Progress.TheVariants.{Open, Closed, Complete}
-use Rattle.j39_tp.specs.declared.receiving.reception.Kind.{Kind}
-use Rattle.j39_tp.specs.declared.receiving.reception.Kind.TheVariants.{Broadcast, Directed}
+use Rattle.j39_tp.specs.declared.receiving.reception.ReceptionKind.{ReceptionKind}
+use Rattle.j39_tp.specs.declared.receiving.reception.ReceptionKind.TheVariants.{Broadcast, Directed}
 use Rattle.j39_tp.specs.declared.receiving.reception.Reception.{Reception}
 use Rattle.j39_log.specs.inside.Listening.{completed_group, completes, after_all}
 use Rattle.j39_log.specs.ReadText.{CarriesNone}
@@ -33,7 +33,7 @@ neither : (b : Bool) (x y : Progress × Heard) → (Replies x.1 → ⊥) → (Re
 neither true x y first second = first
 neither false x y first second = second
 
-later_silent : (k : Kind) (r : Reception) (number : ℕ) → Replies (takes_later Listening k r number).1 → ⊥
+later_silent : (k : ReceptionKind) (r : Reception) (number : ℕ) → Replies (takes_later Listening k r number).1 → ⊥
 later_silent Broadcast r number replies = replies
 later_silent Directed r number replies = replies
 

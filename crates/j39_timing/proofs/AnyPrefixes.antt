@@ -9,7 +9,7 @@ use Rattle.j39_timing.specs.Companies.{Company, CompanyWaits, HasRoomInCompany, 
 use Rattle.j39_timing.specs.Prefixes.{seen_until, planned_until, IsPlannedUntil, AreBegunUntil, IsCompanyUntil, HaveWaitsUntil}
 use Rattle.j39_timing.proofs.CompanyTraffic.{begun_within}
 use Rattle.j39_timing.proofs.Offered.{ordered_begun}
-use Rattle.j39_timing.proofs.Prefixes.{its_own, is_planned_then, then_is_planned, then_known}
+use Rattle.j39_timing.proofs.Prefixes.{its_own, is_planned_then, still_of_streams, then_is_planned, then_known}
 use Rattle.j39_timing.proofs.Sums.{total-le}
 
 pub still_legal_in_any_order : (s : Schedule) (controllers : Controllers) (by ident : ℕ) → IsLegalInAnyOrder s controllers → by ≤ s.now
@@ -30,6 +30,41 @@ still_legal_in_any_order s controllers by ident legal seen = record {
 
 -- ---- a company
 
+module _ (s : Schedule) (planned : ℕ → Bool) (of : Origins) (company : Company) (by ident : ℕ) where
+  abbrev seen_then : Schedule
+  seen_then = seen_until s by ident
+
+  abbrev planned_then : ℕ → Bool
+  planned_then = planned_until s planned by
+
+  pub with_company : (p : ℕ) → s.queued p < by → is_with_company (seen_until s by ident) of company p ≡ is_with_company s of company p
+  with_company p early = ap (λ c. company.has (of.source p) || ltb c company.level) (its_own s by ident p early)
+
+  pub company_before : (from to : ℕ) → CompanyWaits (seen_until s by ident) (planned_until s planned by) of company from to
+      → CompanyWaits s planned of company from to
+  company_before from to stretch t after within =
+      let (p, in_p, is, with_it, waits) = stretch t after within in
+      let (plain, early) = is_planned_then s planned by p is in
+      (p, in_p, plain, subst (λ x. x ≡ true) (with_company p early) with_it, waits)
+
+  pub fewer_unplanned : (from to : ℕ) → to < by
+      → unplanned_queued (seen_until s by ident) (planned_until s planned by) from to ≤ unplanned_queued s planned from to
+  fewer_unplanned from to before =
+      total-le s.count (λ q. cond (is_unplanned_queued seen_then planned_then from to q) 1 0) (λ q. cond (is_unplanned_queued s planned from to q) 1 0) (λ q in_q.
+      elim (cases_Bool (is_unplanned_queued seen_then planned_then from to q)) [
+        | inr fails ↦ rw (fails) (omega arith)
+        | inl it ↦
+            let one = and_parts (not (planned_then q)) (leb (s.queued q) to && ltb from (s.start q)) it in
+            let two = and_parts (leb (s.queued q) to) (ltb from (s.start q)) one.1 in
+            let until : s.queued q ≤ to = leb-true (s.queued q) to two.0 in
+            let isnt : not (planned q) ≡ true = elim (cases_Bool (planned q)) [
+              | inl is ↦ absurd (both_ways (not (planned_then q)) (ap not (then_is_planned s planned by q is (omega arith))) one.0)
+              | inr unplanned_one ↦ rw (unplanned_one) refl
+            ] in
+            let there : is_unplanned_queued s planned from to q ≡ true = and_from (not (planned q)) (leb (s.queued q) to && ltb from (s.start q)) isnt one.1 in
+            rw (it, there) (omega arith)
+      ])
+
 module _ (s : Schedule) (controllers : Controllers) (traffic : Traffic) (unplanned longest : ℕ) (planned : ℕ → Bool) (of : Origins) (company : Company)
     (by : ℕ) (seen : by ≤ s.now) (known : IsCompanyUntil s controllers traffic unplanned longest planned of company by) where
   abbrev then_seen : Schedule
@@ -41,47 +76,10 @@ module _ (s : Schedule) (controllers : Controllers) (traffic : Traffic) (unplann
   own : (p : ℕ) → s.queued p < by → then_seen.ident p ≡ s.ident p
   own p early = its_own s by 0 p early
 
-  with_company : (p : ℕ) → s.queued p < by → is_with_company then_seen of company p ≡ is_with_company s of company p
-  with_company p early = ap (λ c. company.has (of.source p) || ltb c company.level) (own p early)
-
-  company_before : (from to : ℕ) → CompanyWaits then_seen then_planned of company from to → CompanyWaits s planned of company from to
-  company_before from to stretch t after within =
-      let (p, in_p, is, with_it, waits) = stretch t after within in
-      let (plain, early) = is_planned_then s planned by p is in
-      (p, in_p, plain, subst (λ x. x ≡ true) (with_company p early) with_it, waits)
-
-  fewer : (from to : ℕ) → to < by → unplanned_queued then_seen then_planned from to ≤ unplanned_queued s planned from to
-  fewer from to before =
-      total-le s.count (λ q. cond (is_unplanned_queued then_seen then_planned from to q) 1 0) (λ q. cond (is_unplanned_queued s planned from to q) 1 0) (λ q in_q.
-      elim (cases_Bool (is_unplanned_queued then_seen then_planned from to q)) [
-        | inr fails ↦ rw (fails) (omega arith)
-        | inl it ↦
-            let one = and_parts (not (then_planned q)) (leb (s.queued q) to && ltb from (s.start q)) it in
-            let two = and_parts (leb (s.queued q) to) (ltb from (s.start q)) one.1 in
-            let until : s.queued q ≤ to = leb-true (s.queued q) to two.0 in
-            let isnt : not (planned q) ≡ true = elim (cases_Bool (planned q)) [
-              | inl is ↦ absurd (both_ways (not (then_planned q)) (ap not (then_is_planned s planned by q is (omega arith))) one.0)
-              | inr unplanned_one ↦ rw (unplanned_one) refl
-            ] in
-            let there : is_unplanned_queued s planned from to q ≡ true = and_from (not (planned q)) (leb (s.queued q) to && ltb from (s.start q)) isnt one.1 in
-            rw (it, there) (omega arith)
-      ])
-
   then_company : IsTrafficOfCompany then_seen controllers traffic unplanned longest then_planned of company
   then_company = record {
     longest_at_most = known.longest_at_most;
-    of_streams = record {
-      keeps = λ p in_p is.
-          let keeps = known.of_streams.keeps p in_p is in
-          record {
-            known = keeps.known;
-            bits_at_most = keeps.bits_at_most;
-            turns = keeps.turns;
-            moment_first = keeps.moment_first;
-            late_at_most = keeps.late_at_most;
-          };
-      spaced = known.of_streams.spaced;
-    };
+    of_streams = still_of_streams s by 0 (λ p. then_planned p ≡ true) traffic.count traffic.stream of known.of_streams;
     as_wanted = known.as_wanted;
     from_least = λ p in_p is.
         let (plain, early) = is_planned_then s planned by p is in
@@ -96,7 +94,7 @@ module _ (s : Schedule) (controllers : Controllers) (traffic : Traffic) (unplann
     closed = λ p q in_p in_q is also unit unordered with_it.
         let (plain, early) = is_planned_then s planned by p is in
         let (plain_q, _) = is_planned_then s planned by q also in
-        known.closed p q in_p in_q plain plain_q unit unordered (subst (λ x. x ≡ true) (with_company p early) with_it);
+        known.closed p q in_p in_q plain plain_q unit unordered (subst (λ x. x ≡ true) (with_company s planned of company by 0 p early) with_it);
     own_identifiers = λ p q t in_p in_q before is has at_p at_q same.
         let (plain, early) = is_planned_then s planned by p is in
         let ready : s.queued q < by = let at = at_q.0 in omega arith in
@@ -107,8 +105,9 @@ module _ (s : Schedule) (controllers : Controllers) (traffic : Traffic) (unplann
     few_unplanned = λ p from to in_p is has before waits stretch.
         let (plain, early) = is_planned_then s planned by p is in
         let most : unplanned_queued s planned from to ≤ unplanned =
-        known.few_unplanned p from to in_p plain has (omega arith) waits (company_before from to stretch) in
-        let less : unplanned_queued then_seen then_planned from to ≤ unplanned_queued s planned from to = fewer from to before in
+        known.few_unplanned p from to in_p plain has (omega arith) waits (company_before s planned of company by 0 from to stretch) in
+        let less : unplanned_queued then_seen then_planned from to ≤ unplanned_queued s planned from to =
+        fewer_unplanned s planned of company by 0 from to before in
         omega (arith, most, less);
     above_all = λ p in_p some.
         let above = known.above_all p in_p some in

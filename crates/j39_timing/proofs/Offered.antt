@@ -1,4 +1,4 @@
--- The schedule in which each frame is queued at the bit from which it is offered for good is legal; so frames of units that keep order are in
+-- The schedule in which each frame is queued at the end of its buffering delay is legal; so frames of units that keep order are in
 -- time where those of other units count from there.
 use Rattle.std.proofs.Common.{◌≡◌, ℕ, zero, suc, ◌+◌, ◌<◌, ◌≤◌, ◌⊎◌, Bool, true, false, not, cond, ◌&&◌, eqb, ltb, leb, refl, subst, ap, arith, inl, inr}
 use Rattle.std.proofs.lemmas.Bool.{and_parts, and_from, cases_lt, cases_eq, cases_Bool, le-leb, lt-ltb, leb-true, ltb-true, eqb-true, eq-eqb, both_ways}
@@ -35,7 +35,7 @@ module _ (s : Schedule) (p : ℕ) where
       (and_from (ltb (s.queued p) (s.start q)) (leb (s.start q) (s.start p) && ltb (s.start q) s.now) (lt-ltb (s.queued p) (s.start q) ready)
       (and_from (leb (s.start q) (s.start p)) (ltb (s.start q) s.now) (le-leb (s.start q) (s.start p) ahead) (lt-ltb (s.start q) s.now seen)))
 
-  -- it is offered for good from when it is ready, or from where another frame passes it
+  -- its buffering delay ends where it is ready, or where another frame passes it last
   offered_is : (n : ℕ) → (offered_from s p n ≡ s.queued p) ⊎ ((q : ℕ) × (q < n) × (is_passed_by s p q ≡ true) × (offered_from s p n ≡ s.start q))
   unfolding offered_from
   offered_is zero = inl refl

@@ -1,4 +1,5 @@
--- The frames that may go before one that waits in a unit without order: those of its company, and those that may go before these.
+-- The frames that may go before one that waits in a unit without order: those of its company, and those that may go before these. A company
+-- is what waits in one work-conserving queue (Davis, Navet, 2012), but of several units.
 use Rattle.std.specs.Prelude.{◌≡◌, ℕ, ◌+◌, ◌*◌, ◌<◌, ◌≤◌, Bool, true, not, ◌&&◌, ◌||◌, cond, nat_lt, nat_le}
 use Rattle.j39_timing.specs.Sums.{total}
 use Rattle.j39_timing.specs.TimedFrames.{Schedule, Waits}

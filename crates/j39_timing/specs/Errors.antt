@@ -50,7 +50,7 @@ pub record IsLegalWithErrors (s : Schedule) (d : Damaged) : Type 0 where
   pub in_order : (p q : ℕ) → p < s.count → q < s.count → s.start q < s.now → Waits s p (s.start q) → s.ident q ≤ s.ident p
   pub in_order_damaged : (p e : ℕ) → p < s.count → e < d.count → d.begin e < s.now → Waits s p (d.begin e) → s.ident (d.frame e) ≤ s.ident p
 
--- as `IsLegalInAnyOrder`: it has no larger identifier than one that each unit with a waiting frame offers
+-- as `IsLegalInAnyOrder`: it has no larger identifier than one with which each unit with a waiting frame may take part
 pub record IsLegalInAnyOrderWithErrors (s : Schedule) (controllers : Controllers) (d : Damaged) : Type 0 where
   pub bus : IsBusWithErrors s d
   pub in_order : (p q : ℕ) → p < s.count → q < s.count → s.start q < s.now → Waits s p (s.start q)

@@ -10,7 +10,7 @@ pub record Origins : Type 0 where
   pub source : ℕ → ℕ
   -- the frame's place in its message
   pub turn : ℕ → ℕ
-  -- the moment of its message
+  -- the moment of its message: the bit from which it may be queued
   pub since : ℕ → ℕ
 
 -- the frame keeps to its stream, which is one of so many

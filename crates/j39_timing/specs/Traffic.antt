@@ -97,14 +97,15 @@ may_go_before traffic i j = not (nat_eq j i) && (nat_lt (traffic.least j) (traff
 abbrev pub others_before : Others → ℕ → ℕ
 others_before others ident = cond (nat_le others.least ident) others.count 0
 
--- the wait has room for the frame that has begun before, for others, and for what the streams that may go before can queue in it and in
--- the bit behind
+-- the frame that has begun before, others, and what the streams that may go before can queue in the wait and in the bit behind fit in it: it
+-- bounds the queueing delay (Davis, Burns, Bril, Lukkien, Real-Time Systems 35, 2007)
 abbrev pub HasRoom : Traffic → Others → ℕ → ℕ → ℕ → Type 0
 HasRoom traffic others longest i wait =
     longest * (1 + others_before others (traffic.greatest i))
     + total traffic.count (λ j. cond (may_go_before traffic i j) (lesser_share traffic.demands (wait + 1) (traffic.stream j)) 0) ≤ wait
 
--- how many bits after its moment a frame of the stream has been sent at most, where it waits for so many
+-- the worst-case response time of a frame of the stream, from its moment until it has been sent, where it waits for so many bits at most:
+-- release jitter, queueing delay and the bits of the frame itself (Davis, Burns, Bril, Lukkien, 2007)
 abbrev pub delay_of : Stream → ℕ → ℕ
 delay_of stream wait = stream.late + (wait + stream.bits)
 

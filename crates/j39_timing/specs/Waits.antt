@@ -1,4 +1,4 @@
--- How long a frame waits: the least wait that has room for all that may go before it.
+-- How long a frame waits, its queueing delay: the least wait in which all that may go before it fits (Davis, Burns, Bril, Lukkien, 2007).
 use Rattle.std.specs.Prelude.{ℕ, ◌+◌, ◌*◌, ◌^◌, ◌<◌, ◌≤◌, min, List, All, length, sum_by, Option, Some, None}
 use Rattle.std.specs.Int.{div_ceil}
 use Rattle.std.specs.List.{slice_get}
@@ -58,10 +58,10 @@ lesser_share demands span stream = lesser span stream (demand_of demands stream)
 
 -- ---- waits
 
--- what a wait of w bits has to have room for: what is blocking, and all that can be queued in it and in the bit behind it
+-- what has to fit in a wait of w bits: what is blocking, and all that can be queued in it and in the bit behind it
 abbrev pub need : List Demand → ℕ → List Stream → ℕ → ℕ
 need demands blocking streams w = blocking + sum_by (lesser_share demands (w + 1)) streams
 
--- no shorter wait has room
+-- in no shorter wait it fits
 abbrev pub HaveNoRoom : List Demand → ℕ → List Stream → ℕ → Type 0
 HaveNoRoom demands blocking streams w = (v : ℕ) → v < w → v < need demands blocking streams v

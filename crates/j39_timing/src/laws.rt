@@ -150,8 +150,8 @@ pub fn broadcasts_can_be_sent()
         → AreSteady (in_rounds senders count) all_planned (of_rounds senders) i }
 {}
 
-/// Where units keep no order a frame waits for its whole company: in every schedule in which each unit offers one of its frames wherever a
-/// frame begins, a frame of the company begins within a wait that has room for the frame that has begun, for what isn't planned, and for all
+/// Where units keep no order a frame waits for its whole company: in every schedule in which each unit takes part with one of its frames wherever
+/// a frame begins, a frame of the company begins within a wait that has room for the frame that has begun, for what isn't planned, and for all
 /// streams of the company and those of which a frame may have a smaller identifier than its level, but for the frame itself (`begun`). So
 /// it has been sent within its delay from its moment (`in_time`), and within this wait and its own length (`sent`), however often it comes.
 pub fn frames_of_a_company_are_in_time()
@@ -169,7 +169,7 @@ pub fn frames_of_a_company_are_in_time()
         → HasRoomInCompany traffic company unplanned longest i wait → AreSentWithin s planned of i (traffic.stream i) wait }
 {}
 
-/// Beside units that keep no order each frame is one of a legal schedule from the bit on from which it is offered for good (`legal`), which is
+/// Beside units that keep no order each frame is one of a legal schedule from the end of its buffering delay on (`legal`), which is
 /// where it is ready if its unit keeps order (`ready`). So what is known of frames of such units holds, where a frame of another unit counts
 /// as queued so many bits later as it may wait: frames of a stream of single frames are in time (`in_time`), and so are
 /// those, without twins, of which each is queued after the end of the one before (`sent`). Of each stream that may go before there has to be such a wait.

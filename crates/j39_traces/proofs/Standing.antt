@@ -12,12 +12,12 @@ use Rattle.j39_network.specs.declared.plan.Plan.{Plan}
 use Rattle.j39_network.specs.PlannedUnits.{unit_at, units_of}
 use Rattle.j39_world.specs.Sent.{source_of}
 use Rattle.j39_world.specs.World.{Stations, Undelivered, all_off, changed}
-use Rattle.j39_laws.proofs.Addresses.CleanUnits.{placed}
 use Rattle.j39_laws.proofs.Addresses.Notes.{claim_cases}
 use Rattle.j39_laws.proofs.Runs.Changed.{changed_each}
 use Rattle.j39_laws.proofs.Runs.ClaimInvariants.{IsKeptByClaimSteps}
 use Rattle.j39_laws.proofs.Runs.Conditions.{is_unit}
 use Rattle.j39_laws.proofs.Runs.Units.{AreUnitsOn, in_units, units_on}
+use Rattle.j39_findings.proofs.WhoStays.{placed}
 
 -- ---- what a unit answers
 

@@ -22,7 +22,7 @@ use Rattle.j39_network.specs.declared.steps.Step.{Step}
 use Rattle.j39_network.specs.declared.steps.Step.TheVariants.{Up, Down, Give, Ask, Begin, Send, Emit, Take, Lose, LateSender, LateReceiver, Rest}
 use Rattle.j39_network.proofs.VehicleUnits.{boxes_apart}
 use Rattle.j39_findings.proofs.Vehicles.{clean_vehicle}
-use Rattle.j39_laws.proofs.Addresses.CleanUnits.{placed}
+use Rattle.j39_findings.proofs.WhoStays.{placed}
 use Rattle.j39_laws.proofs.Runs.Units.{in_units}
 use Rattle.j39_world.specs.declared.flow.Flow.{Flow}
 use Rattle.j39_world.specs.Flows.{FlowGoes, flow_of, flows_of}

@@ -50,6 +50,10 @@ pub record Response (c : PlannedUnit) (s : ClaimState) (n : ℕ) (item : Item) (
 
 -- ---- what a unit is that has noted a claim of an address
 
+pub says_held : (o : Option ℕ) → claimed_by (claim_of o) ≡ o
+says_held None = refl
+says_held (Some a) = refl
+
 module _ (c : PlannedUnit) (s : ClaimState) (unclashed : IsUnclashed c.name s) (n : ℕ) (other : n ≢ c.name) where
   -- one that it doesn't hold
   unclashed_after : (a : ℕ) → s.address ≢ Some a → IsUnclashed c.name (noted s n a)
@@ -106,10 +110,6 @@ module _ (c : PlannedUnit) (s : ClaimState) (unclashed : IsUnclashed c.name s) (
       response_with a says new (noted s n a) is refl refl (unclashed_still a larger)
       (inr (inl (record { say = Claim a; said = said; holds = sym held; address = refl; cause = inr (larger, Claim a, refl) }))))
       (λ not_held (said, is). response_with a says new (noted s n a) is refl refl (unclashed_after a not_held) (inl (said, refl)))
-
-  says_held : (o : Option ℕ) → claimed_by (claim_of o) ≡ o
-  says_held None = refl
-  says_held (Some a) = refl
 
   pub response : (item : Item) (says : Option Say) (new : ClaimState) → Answers c s n item says new → Response c s n item says new
   response (Told (Claim a)) says new answers = claimed a says new answers

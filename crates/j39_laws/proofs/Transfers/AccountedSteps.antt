@@ -4,6 +4,7 @@ use Rattle.std.specs.Prelude.{map, slice_get}
 use Rattle.std.specs.List.{AllByRecursion, list_all, range_with_len}
 use Rattle.std.specs.Option.{is_some}
 use Rattle.std.proofs.lemmas.Bool.{and_parts, cases_Bool, cond_both, eqb-true, not-false, not-true, true≢false}
+use Rattle.std.proofs.lemmas.List.{map-append}
 use Rattle.j39_tp.specs.Receiver as receiver
 use Rattle.j39_tp.specs.Receiver.{is_open_at}
 use Rattle.j39_tp.specs.Sender as sender
@@ -315,7 +316,7 @@ module _ (plan : Plan) (w : World) (inv : TransferInvariant plan w) (old : AllAc
       ] in
       let also = reacted_accounted now v u (w.sessions v) p (keeps v) in
       let all : AllByRecursion (IsAccounted now v u) (map wired.Packet (replies ++ reacted)) =
-      subst (AllByRecursion (IsAccounted now v u)) (sym (map-append replies reacted)) (all-append (IsAccounted now v u) (map wired.Packet replies) _ answered also) in
+      subst (AllByRecursion (IsAccounted now v u)) (sym (map-append wired.Packet replies reacted)) (all-append (IsAccounted now v u) (map wired.Packet replies) _ answered also) in
       record {
         wire = more now (changed_pair w.wire u v rest)
             (λ s t. still_accounted w.sessions now keeps s t (changed_pair w.wire u v rest s t) (less u v (wired.Packet p) rest is s t)) v u
@@ -323,10 +324,6 @@ module _ (plan : Plan) (w : World) (inv : TransferInvariant plan w) (old : AllAc
         alone = more_settled (changed_pair w.wire u v rest) (less_settled u v (wired.Packet p) rest is) v u (replies ++ reacted);
         ends = changed_each (AreEndsOn w.stations) w.sessions v then (ends_after w.stations v u p (w.sessions v) (old.ends v)) old.ends;
       }
-    where
-      map-append : (xs ys : List Packet) → map wired.Packet (xs ++ ys) ≡ map wired.Packet xs ++ map wired.Packet ys
-      map-append [] ys = refl
-      map-append (x ∷ xs) ys = ap (λ (zs : List Wired). wired.Packet x ∷ zs) (map-append xs ys)
 
   take_accounted : (windows : List ℕ) (u v : ℕ) (list : List Wired) → w.wire u v ≡ list → (new : World) → TakenFrom windows w u v list new → AllAccounted plan new
   take_accounted windows u v [] is new never = absurd never

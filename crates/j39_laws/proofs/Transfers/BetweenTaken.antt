@@ -13,8 +13,8 @@ use Rattle.j39_tp.specs.declared.receiving.heard.Heard.TheVariants as heards
 use Rattle.j39_tp.specs.declared.receiving.manner.Manner.TheVariants.{Answering}
 use Rattle.j39_tp.specs.declared.receiving.progress.Progress.{Progress}
 use Rattle.j39_tp.specs.declared.receiving.progress.Progress.TheVariants.{Closed, Open, Complete}
-use Rattle.j39_tp.specs.declared.receiving.reception.Kind.{Kind}
-use Rattle.j39_tp.specs.declared.receiving.reception.Kind.TheVariants.{Directed}
+use Rattle.j39_tp.specs.declared.receiving.reception.ReceptionKind.{ReceptionKind}
+use Rattle.j39_tp.specs.declared.receiving.reception.ReceptionKind.TheVariants.{Directed}
 use Rattle.j39_tp.specs.declared.receiving.reception.Reception.{Reception}
 use Rattle.j39_tp.specs.declared.sending.dest.Dest.TheVariants as dests
 use Rattle.j39_tp.specs.declared.sending.outcome.Outcome.TheVariants.{Acked}
@@ -75,13 +75,13 @@ module _ (o : Outgoing) (before : List Begun) where
       let next : receiver.takes_data (Answering window) r number ≡ receiver.takes_next (Answering window) r = cond-true (number == r.held + 1) _ _ first in
       elim (cases_Bool (r.held + 1 == packets_of r.size)) [
         | inl last ↦ inl (
-          next ∙ (cond-true (r.held + 1 == packets_of r.size) _ _ last ∙ ap (λ (k : Kind). (Complete r.pgn, receiver.completed (Answering window) k r)) kind),
+          next ∙ (cond-true (r.held + 1 == packets_of r.size) _ _ last ∙ ap (λ (k : ReceptionKind). (Complete r.pgn, receiver.completed (Answering window) k r)) kind),
           (let e = eqb-true (r.held + 1) (packets_of r.size) last in omega (arith, e)),
         )
         | inr more ↦ inr (elim (cases_Bool (r.held + 1 == r.granted)) [
           | inl granted ↦ inl (
             next ∙ (cond-false (r.held + 1 == packets_of r.size) _ _ more ∙ (cond-true (r.held + 1 == r.granted) _ _ granted
-                ∙ ap (λ (k : Kind). receiver.going_on (Answering window) k (receiver.one_more_held r)) kind)),
+                ∙ ap (λ (k : ReceptionKind). receiver.going_on (Answering window) k (receiver.one_more_held r)) kind)),
             (λ e. eqb-false (r.held + 1) (packets_of r.size) more (omega (arith, e))),
             (let e = eqb-true (r.held + 1) r.granted granted in omega (arith, e)),
           )

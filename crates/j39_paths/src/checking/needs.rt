@@ -58,11 +58,11 @@ fn is_need_met(routes: &Routes<'_>, need: &VehicleNeed) -> bool
 }
 
 #[derive(Clone, Copy)]
-struct NeedUnmet<'a> {
+struct VehicleNeedUnmet<'a> {
     routes: Routes<'a>,
 }
 
-impl Rule<VehicleNeed, VehicleFinding> for NeedUnmet<'_> {
+impl Rule<VehicleNeed, VehicleFinding> for VehicleNeedUnmet<'_> {
     ghost use Rattle.j39_paths.specs.declared.finding.VehicleFinding.TheVariants.{NeedUnmet as NeedsUnmet};
 
     ghost gives = { λ rule d need. found_if (is_need_unmet rule.routes.vehicle.now need) (NeedsUnmet d) };
@@ -91,7 +91,7 @@ pub fn find_in_needs(
 {
     find_each(
         findings,
-        &NeedUnmet { routes: *routes },
+        &VehicleNeedUnmet { routes: *routes },
         &routes.vehicle.needs,
     )
 }
