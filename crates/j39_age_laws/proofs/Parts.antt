@@ -5,8 +5,8 @@ use Rattle.std.specs.Option.{option_and_then, option_map}
 use Rattle.j39_network.specs.declared.plan.timing.Bitrate.{Bitrate}
 use Rattle.j39_network.specs.declared.plan.timing.Bitrate.TheVariants.{Kbit125, Kbit250, Kbit500, Mbit1}
 use Rattle.j39_load.specs.Loads.{bits_per_ms}
-use Rattle.j39_load.specs.declared.delay.Delay.{Delay}
-use Rattle.j39_load.specs.declared.delay.Delay.TheVariants.{Within, Late, Long, Whole}
+use Rattle.j39_load.specs.declared.waits.delay.Delay.{Delay}
+use Rattle.j39_load.specs.declared.waits.delay.Delay.TheVariants.{Within, Late, Long, Whole}
 use Rattle.j39_ages.specs.Times.{us_of_bit, bits_within, sum_known}
 
 pub and_then_some : {A B : Type 0} (f : A → Option B) (o : Option A) (b : B) → option_and_then f o ≡ Some b → (a : A) × (o ≡ Some a) × (f a ≡ Some b)

@@ -4,8 +4,8 @@ use Rattle.std.proofs.Math.Seq.{take-suc}
 use Rattle.std.proofs.lemmas.List.{append-nil}
 use Rattle.std.proofs.lemmas.List.Elements.{filter_map-append}
 use Rattle.std.specs.List.{cons_option}
-use Rattle.j39_load.specs.declared.broadcast.Broadcast.{Broadcast}
-use Rattle.j39_load.specs.declared.flow_load.FlowLoad.{FlowLoad}
+use Rattle.j39_load.specs.declared.frames.broadcast.Broadcast.{Broadcast}
+use Rattle.j39_load.specs.declared.loads.flow_load.FlowLoad.{FlowLoad}
 use Rattle.j39_load.specs.Broadcasts.{announced_packets, broadcast_by, broadcasts_by, least_announced, least_packets}
 
 least_of_more : (bs : List Broadcast) (b : Broadcast) → least_packets (bs ++ b ∷ []) ≡ min b.least_packets (least_packets bs)

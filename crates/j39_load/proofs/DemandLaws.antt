@@ -8,8 +8,8 @@ use Rattle.std.specs.List.{cons_option, filter_map, range_with_len, slice_get}
 use Rattle.std.specs.Option.{option_and_then}
 use Rattle.j39_id.specs.Limits.{unit_limit}
 use Rattle.j39_network.specs.declared.plan.timing.Timing.{Timing}
-use Rattle.j39_load.specs.declared.broadcast.Broadcast.{Broadcast}
-use Rattle.j39_load.specs.declared.flow_frames.FlowFrames.{FlowFrames}
+use Rattle.j39_load.specs.declared.frames.broadcast.Broadcast.{Broadcast}
+use Rattle.j39_load.specs.declared.frames.flow_frames.FlowFrames.{FlowFrames}
 use Rattle.j39_load.specs.AnyQueues.{held_at, later_frames, offered, offered_at}
 use Rattle.j39_load.specs.Damage.{damage_frames, damage_streams, first_of_all}
 use Rattle.j39_load.specs.Demands.{demand_by, demands_by, demands_of, most_packets, wanted_by, wants_of}

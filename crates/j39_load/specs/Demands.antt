@@ -3,8 +3,8 @@
 use Rattle.std.specs.Prelude.{ℕ, ◌+◌, ◌==◌, max, if◌then◌else◌, Bool, true, false, List, [], ◌∷◌, ◌++◌, map, Option, Some, None}
 use Rattle.std.specs.List.{filter_map, range_with_len}
 use Rattle.j39_id.specs.Limits.{unit_limit}
-use Rattle.j39_load.specs.declared.broadcast.Broadcast.{Broadcast}
-use Rattle.j39_load.specs.declared.flow_frames.FlowFrames.{FlowFrames}
+use Rattle.j39_load.specs.declared.frames.broadcast.Broadcast.{Broadcast}
+use Rattle.j39_load.specs.declared.frames.flow_frames.FlowFrames.{FlowFrames}
 use Rattle.j39_timing.specs.Waits.{Demand}
 use Rattle.j39_timing.specs.declared.wants.Want.{Want}
 

@@ -14,24 +14,26 @@ ghost use Rattle.j39_id.specs.Limits.{unit_limit};
 ghost use Rattle.std.proofs.Props.{props};
 ghost use Rattle.std.specs.Option.{option_map_or};
 
-use crate::broadcast::Broadcast;
-use crate::broadcasts::unit_loads_of;
-use crate::damage::load_of_damage;
-use crate::delay::Delay;
-use crate::delays::delay_of;
-use crate::flow_frames::FlowFrames;
-use crate::flow_load::FlowLoad;
-use crate::flow_loads::loads_of;
-use crate::messages::Messages;
-use crate::network::Network;
-use crate::offers::{Offers, offers_of};
-use crate::request_load::RequestLoad;
-use crate::requests::request_loads_of;
-use crate::unit_load::UnitLoad;
+mod broadcasts;
+mod flow_load;
+mod flow_loads;
+mod request_load;
+mod requests;
+mod unit_load;
+
+use crate::frames::{Broadcast, FlowFrames, Messages, Network, load_of_damage};
+use crate::queues::{Offers, offers_of};
+use crate::waits::{Delay, delay_of};
+use broadcasts::unit_loads_of;
+pub use flow_load::FlowLoad;
+use flow_loads::loads_of;
 use j39_findings::Standing;
 use j39_network::{Plan, Timing};
 use j39_timing::Stream;
+pub use request_load::RequestLoad;
+use requests::request_loads_of;
 use std::alloc::{AllocError, Global};
+pub use unit_load::UnitLoad;
 
 // What stands in place of frames of its own of a flow with such messages.
 fn wanting(broadcast: &Broadcast) -> FlowFrames

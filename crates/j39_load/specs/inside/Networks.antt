@@ -1,8 +1,8 @@
 -- What contracts say of a planned network.
 use Rattle.std.specs.Prelude.{ℕ, Bool, List}
 use Rattle.j39_network.specs.declared.plan.unit_plan.UnitPlan.{UnitPlan}
-use Rattle.j39_load.specs.declared.extreme.Extreme.{Extreme}
-use Rattle.j39_load.specs.declared.network.Network.{Network}
+use Rattle.j39_load.specs.declared.frames.extreme.Extreme.{Extreme}
+use Rattle.j39_load.specs.declared.frames.network.Network.{Network}
 use Rattle.j39_load.specs.Loads.{of_unit}
 use Rattle.j39_findings.specs.Standing.{stays_of}
 use Rattle.j39_load.specs.inside.Extremes.{extreme_address}

@@ -1,5 +1,5 @@
 use Rattle.std.proofs.Common.{◌≡◌, ◌∷◌, [], List, length, length-append, get_or, Option, None, sym, subst, ap, arith}
-use Rattle.j39_load.specs.declared.delay.Delay.{Delay}
+use Rattle.j39_load.specs.declared.waits.delay.Delay.{Delay}
 use Rattle.j39_load.specs.Asked.{asked_by}
 use Rattle.j39_load.specs.Delays.{HasDelay}
 use Rattle.j39_load.proofs.Offering.{one_more}
