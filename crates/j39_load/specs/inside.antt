@@ -4,6 +4,6 @@ pub mod Extremes
 pub mod FlowSearch
 pub mod FewFrames
 pub mod FramesBy
-pub mod Networks
+pub mod PlannedBuses
 pub mod Offers
 pub mod TurnTimes

@@ -6,7 +6,7 @@ mod extreme;
 mod flow_frames;
 mod identifiers;
 mod messages;
-mod network;
+mod planned_bus;
 mod streams;
 
 pub use broadcast::Broadcast;
@@ -17,7 +17,7 @@ pub(crate) use identifiers::{
     any_unit, broadcast_ident, group_ident, packet_ident, request_ident, session_ident, twin_ident,
 };
 pub use messages::Messages;
-pub(crate) use network::Network;
+pub(crate) use planned_bus::PlannedBus;
 pub use streams::bits_of_ms;
 pub(crate) use streams::{
     bits_each, bits_per_ms, frames_to_all, load, packet_stream, request_stream, single_stream,

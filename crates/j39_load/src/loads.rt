@@ -21,7 +21,7 @@ mod request_load;
 mod requests;
 mod unit_load;
 
-use crate::frames::{Broadcast, FlowFrames, Messages, Network, load_of_damage};
+use crate::frames::{Broadcast, FlowFrames, Messages, PlannedBus, load_of_damage};
 use crate::queues::{Offers, offers_of};
 use crate::waits::{Delay, delay_of};
 use broadcasts::unit_loads_of;
@@ -268,14 +268,14 @@ impl Loads {
         ensures memory { OnErr result ((plan.now.flows.items ≢ []) ⊎ (plan.now.requests.items ≢ [])) }
     {
         let standing = Standing::new(plan);
-        let network = Network {
+        let bus = PlannedBus {
             timing,
             plan,
             standing: &standing,
         };
-        let flows = loads_of(alloc, &network)?;
-        let units = unit_loads_of(alloc, &network, flows.as_slice())?;
-        let requests = request_loads_of(alloc, &network)?;
+        let flows = loads_of(alloc, &bus)?;
+        let units = unit_loads_of(alloc, &bus, flows.as_slice())?;
+        let requests = request_loads_of(alloc, &bus)?;
         Ok(Loads {
             timing,
             flows,

@@ -5,10 +5,10 @@ ghost use Rattle.j39_id.specs.Limits.{unit_limit};
 ghost use Rattle.j39_network.specs.declared.plan.to.To.TheVariants.{One};
 ghost use Rattle.j39_load.specs.Loads.{any_unit, broadcast_ident, destination_at, group_ident, packet_ident, session_ident, twin_ident};
 ghost use Rattle.j39_load.specs.RequestLoads.{request_ident};
-ghost use Rattle.j39_load.specs.inside.Networks.{addresses_at, units_in};
+ghost use Rattle.j39_load.specs.inside.PlannedBuses.{addresses_at, units_in};
 
 use crate::frames::extreme::Extreme;
-use crate::frames::network::Network;
+use crate::frames::planned_bus::PlannedBus;
 use j39_id::addresses::GLOBAL_ADDRESS;
 use j39_id::services::{CLAIM_PRIORITY, CONNECTION_MANAGEMENT, DATA_TRANSFER, REQUEST};
 use j39_id::{PDU2_FIRST, Pgn, pf_of};
@@ -26,32 +26,32 @@ fn identifier(priority: u8, pgn: u32, destination: u8, source: u8) -> u64
     u64::from(priority) * 67_108_864 + u64::from(pgn) * 256 + named + u64::from(source)
 }
 
-fn destination(network: &Network<'_>, extreme: Extreme, to: To) -> u8
-    requires { (v : ℕ) → to ≡ One v → v < length (units_in network.now) }
-    ensures { result ≡ destination_at (addresses_at extreme network.now) to }
+fn destination(bus: &PlannedBus<'_>, extreme: Extreme, to: To) -> u8
+    requires { (v : ℕ) → to ≡ One v → v < length (units_in bus.now) }
+    ensures { result ≡ destination_at (addresses_at extreme bus.now) to }
 {
     match to {
         To::All => GLOBAL_ADDRESS,
-        To::One(unit) => network.address(extreme, unit),
+        To::One(unit) => bus.address(extreme, unit),
     }
 }
 
 /// The number of the identifier of a flow's frames of its group, where its units hold their addresses at this end.
 pub(crate) fn group_ident(
-    network: &Network<'_>,
+    bus: &PlannedBus<'_>,
     extreme: Extreme,
     group: &GroupPlan,
     flow: &FlowPlan,
 ) -> u64
-    requires sender { flow.now.sender < length (units_in network.now) }
-    requires receiver { (v : ℕ) → flow.now.to ≡ One v → v < length (units_in network.now) }
-    ensures { result ≡ group_ident (addresses_at extreme network.now) group.now flow.now }
+    requires sender { flow.now.sender < length (units_in bus.now) }
+    requires receiver { (v : ℕ) → flow.now.to ≡ One v → v < length (units_in bus.now) }
+    ensures { result ≡ group_ident (addresses_at extreme bus.now) group.now flow.now }
 {
     identifier(
         group.priority,
         group.pgn,
-        destination(network, extreme, flow.to),
-        network.address(extreme, flow.sender),
+        destination(bus, extreme, flow.to),
+        bus.address(extreme, flow.sender),
     )
 }
 
@@ -85,72 +85,72 @@ pub(crate) fn twin_ident(group: &GroupPlan, flow: &FlowPlan) -> Option<u64>
 }
 
 /// That of the data packets of its long messages.
-pub(crate) fn packet_ident(network: &Network<'_>, extreme: Extreme, flow: &FlowPlan) -> u64
-    requires sender { flow.now.sender < length (units_in network.now) }
-    requires receiver { (v : ℕ) → flow.now.to ≡ One v → v < length (units_in network.now) }
-    ensures { result ≡ packet_ident network.now.timing (addresses_at extreme network.now) flow.now }
+pub(crate) fn packet_ident(bus: &PlannedBus<'_>, extreme: Extreme, flow: &FlowPlan) -> u64
+    requires sender { flow.now.sender < length (units_in bus.now) }
+    requires receiver { (v : ℕ) → flow.now.to ≡ One v → v < length (units_in bus.now) }
+    ensures { result ≡ packet_ident bus.now.timing (addresses_at extreme bus.now) flow.now }
 {
     identifier(
-        network.timing.transport_priority,
+        bus.timing.transport_priority,
         DATA_TRANSFER.number(),
-        destination(network, extreme, flow.to),
-        network.address(extreme, flow.sender),
+        destination(bus, extreme, flow.to),
+        bus.address(extreme, flow.sender),
     )
 }
 
 /// The greatest one of its long messages to the unit at a place, with what is answered.
 pub(crate) fn session_ident(
-    network: &Network<'_>,
+    bus: &PlannedBus<'_>,
     extreme: Extreme,
     flow: &FlowPlan,
     unit: usize,
 ) -> u64
-    requires sender { flow.now.sender < length (units_in network.now) }
-    requires to { unit < length (units_in network.now) }
-    ensures { result ≡ session_ident network.now.timing (addresses_at extreme network.now) flow.now unit }
+    requires sender { flow.now.sender < length (units_in bus.now) }
+    requires to { unit < length (units_in bus.now) }
+    ensures { result ≡ session_ident bus.now.timing (addresses_at extreme bus.now) flow.now unit }
 {
-    let from = network.address(extreme, flow.sender);
-    let to = network.address(extreme, unit);
+    let from = bus.address(extreme, flow.sender);
+    let to = bus.address(extreme, unit);
     let pgn = CONNECTION_MANAGEMENT.number();
-    let asked = identifier(network.timing.transport_priority, pgn, to, from);
-    let answered = identifier(network.timing.transport_priority, pgn, from, to);
+    let asked = identifier(bus.timing.transport_priority, pgn, to, from);
+    let answered = identifier(bus.timing.transport_priority, pgn, from, to);
     asked.max(answered)
 }
 
 /// The unit at a place, where its controller keeps no order.
-pub(crate) fn any_unit(network: &Network<'_>, unit: usize) -> Option<usize>
-    requires { unit < length (units_in network.now) }
-    ensures { result ≡ any_unit (units_in network.now) unit }
+pub(crate) fn any_unit(bus: &PlannedBus<'_>, unit: usize) -> Option<usize>
+    requires { unit < length (units_in bus.now) }
+    ensures { result ≡ any_unit (units_in bus.now) unit }
 {
-    match network.plan.units[unit].queue {
+    match bus.plan.units[unit].queue {
         Queue::Any => Some(unit),
         Queue::Priority => None,
     }
 }
 
 /// That of frames of a group of the transport protocol, from a unit to all.
-pub(crate) fn broadcast_ident(network: &Network<'_>, pgn: Pgn, extreme: Extreme, unit: usize) -> u64
-    requires { unit < length (units_in network.now) }
-    ensures { result ≡ broadcast_ident network.now.timing pgn (addresses_at extreme network.now) unit }
+pub(crate) fn broadcast_ident(bus: &PlannedBus<'_>, pgn: Pgn, extreme: Extreme, unit: usize) -> u64
+    requires { unit < length (units_in bus.now) }
+    ensures { result ≡ broadcast_ident bus.now.timing pgn (addresses_at extreme bus.now) unit }
 {
     identifier(
-        network.timing.transport_priority,
+        bus.timing.transport_priority,
         pgn.number(),
         GLOBAL_ADDRESS,
-        network.address(extreme, unit),
+        bus.address(extreme, unit),
     )
 }
 
 /// That of a request.
-pub(crate) fn request_ident(network: &Network<'_>, extreme: Extreme, request: &RequestPlan) -> u64
-    requires sender { request.now.sender < length (units_in network.now) }
-    requires receiver { (v : ℕ) → request.now.to ≡ One v → v < length (units_in network.now) }
-    ensures { result ≡ request_ident (addresses_at extreme network.now) request.now }
+pub(crate) fn request_ident(bus: &PlannedBus<'_>, extreme: Extreme, request: &RequestPlan) -> u64
+    requires sender { request.now.sender < length (units_in bus.now) }
+    requires receiver { (v : ℕ) → request.now.to ≡ One v → v < length (units_in bus.now) }
+    ensures { result ≡ request_ident (addresses_at extreme bus.now) request.now }
 {
     identifier(
         CLAIM_PRIORITY,
         REQUEST.number(),
-        destination(network, extreme, request.to),
-        network.address(extreme, request.sender),
+        destination(bus, extreme, request.to),
+        bus.address(extreme, request.sender),
     )
 }

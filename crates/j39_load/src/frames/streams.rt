@@ -3,10 +3,10 @@ ghost use Rattle.std.specs.Prelude.{◌≡◌, ◌<◌, ◌≤◌, ◌*◌, ◌^
 ghost use Rattle.j39_load.specs.Broadcasts.{bits_each, spaced_stream};
 ghost use Rattle.j39_load.specs.RequestLoads.{request_stream};
 ghost use Rattle.j39_load.specs.Loads.{bits_of_ms, bits_per_ms, frames_to_all, frames_to_one, load_of, most_bytes, packet_stream, single_stream};
-ghost use Rattle.j39_load.specs.inside.Networks.{units_in};
+ghost use Rattle.j39_load.specs.inside.PlannedBuses.{units_in};
 ghost use Rattle.j39_timing.specs.Waits.{IsStream};
 
-use crate::frames::network::Network;
+use crate::frames::planned_bus::PlannedBus;
 use j39_id::limits::FRAME_BYTES;
 use j39_network::{Bitrate, GroupPlan, Pace, Timing};
 use j39_timing::{Stream, frame_bits};
@@ -34,13 +34,13 @@ pub fn bits_of_ms(timing: Timing, ms: u16) -> u32
 }
 
 // The frames of a long message to the unit at a place, with so many data packets.
-fn frames_to_one(network: &Network<'_>, packets: u8, unit: usize) -> u16
-    requires { unit < length (units_in network.now) }
-    ensures frames { result ≡ frames_to_one (units_in network.now) packets unit }
+fn frames_to_one(bus: &PlannedBus<'_>, packets: u8, unit: usize) -> u16
+    requires { unit < length (units_in bus.now) }
+    ensures frames { result ≡ frames_to_one (units_in bus.now) packets unit }
     ensures few { result ≤ 512 }
 {
     let packets = u16::from(packets);
-    2 + packets + packets.div_ceil(u16::from(network.plan.units[unit].window))
+    2 + packets + packets.div_ceil(u16::from(bus.plan.units[unit].window))
 }
 
 /// The frames of a long message to all, with so many data packets.
@@ -76,19 +76,19 @@ pub(crate) fn single_stream(timing: Timing, group: &GroupPlan, pace: Pace) -> St
 }
 
 /// Long messages of so many data packets to the unit at a place.
-pub(crate) fn packet_stream(network: &Network<'_>, packets: u8, unit: usize, pace: Pace) -> Stream
-    requires receiver { unit < length (units_in network.now) }
-    ensures stream { result ≡ packet_stream network.now.timing (units_in network.now) packets unit pace }
+pub(crate) fn packet_stream(bus: &PlannedBus<'_>, packets: u8, unit: usize, pace: Pace) -> Stream
+    requires receiver { unit < length (units_in bus.now) }
+    ensures stream { result ≡ packet_stream bus.now.timing (units_in bus.now) packets unit pace }
     ensures fits { IsStream result }
     ensures late { result.late < 2 ^ 30 }
     ensures short { result.bits ≤ 160 }
     ensures few { result.frames ≤ 512 }
 {
     Stream {
-        frames: frames_to_one(network, packets, unit),
-        period: bits_of_ms(network.timing, pace.period),
+        frames: frames_to_one(bus, packets, unit),
+        period: bits_of_ms(bus.timing, pace.period),
         bits: frame_bits(FRAME_BYTES as u8),
-        late: bits_of_ms(network.timing, pace.period) + bits_of_ms(network.timing, pace.jitter),
+        late: bits_of_ms(bus.timing, pace.period) + bits_of_ms(bus.timing, pace.jitter),
         wanted: None,
     }
 }

@@ -4,10 +4,10 @@ ghost use Rattle.j39_load.specs.Broadcasts.{announced_packets, bits_each, bits_o
 ghost use Rattle.j39_load.specs.Broadcasts.{known_unit_load, least_announced, least_packets, load_of_announcements, load_of_firsts, load_of_packets, unit_loads_of};
 ghost use Rattle.j39_load.specs.SoundLoads.{AreSound, IsSoundBroadcast, IsSoundIfKnown, IsSoundIfSent};
 ghost use Rattle.j39_load.specs.inside.Broadcasting.{AreSoundBroadcasts};
-ghost use Rattle.j39_load.specs.inside.Networks.{stays_in, units_in};
+ghost use Rattle.j39_load.specs.inside.PlannedBuses.{on_bus, units_in};
 
 use crate::frames::{
-    Broadcast, Extreme, FlowFrames, Messages, Network, any_unit, bits_each, broadcast_ident,
+    Broadcast, Extreme, FlowFrames, Messages, PlannedBus, any_unit, bits_each, broadcast_ident,
     spaced_stream,
 };
 use crate::loads::flow_load::FlowLoad;
@@ -195,24 +195,23 @@ fn bits_per_second(timing: Timing, broadcasts: &[Broadcast]) -> u64
 // Frames of a group of the transport protocol, from a unit to all, which are queued at least so many gaps apart, and of which what stands at a
 // place is wanted.
 fn broadcast_frames(
-    network: &Network<'_>,
+    bus: &PlannedBus<'_>,
     pgn: Pgn,
     unit: usize,
     gaps: u8,
     place: usize,
 ) -> FlowFrames
-    requires unit { unit < length (units_in network.now) }
+    requires unit { unit < length (units_in bus.now) }
     requires gaps { 1 ≤ gaps }
-    ensures frames { result
-        ≡ broadcast_frames network.now.timing (units_in network.now) (stays_in network.now) pgn unit gaps place }
+    ensures frames { result ≡ on_bus broadcast_frames bus.now pgn unit gaps place }
     ensures fits { AreSound result }
 {
-    let greatest_ident = broadcast_ident(network, pgn, Extreme::Greatest, unit);
+    let greatest_ident = broadcast_ident(bus, pgn, Extreme::Greatest, unit);
     FlowFrames {
-        stream: spaced_stream(network.timing, gaps, place),
-        least_ident: broadcast_ident(network, pgn, Extreme::Least, unit),
+        stream: spaced_stream(bus.timing, gaps, place),
+        least_ident: broadcast_ident(bus, pgn, Extreme::Least, unit),
         greatest_ident,
-        any_sender: any_unit(network, unit),
+        any_sender: any_unit(bus, unit),
         any_receiver: None,
         last_ident: greatest_ident,
         twin_ident: None,
@@ -221,12 +220,11 @@ fn broadcast_frames(
 }
 
 // What these broadcasts of the unit at a place ask of the bus, where there are any.
-fn unit_load(network: &Network<'_>, unit: usize, broadcasts: &[Broadcast]) -> Option<UnitLoad>
-    requires unit { unit < length (units_in network.now) }
+fn unit_load(bus: &PlannedBus<'_>, unit: usize, broadcasts: &[Broadcast]) -> Option<UnitLoad>
+    requires unit { unit < length (units_in bus.now) }
     requires sound { AreSoundBroadcasts broadcasts.now }
     requires few { length broadcasts.now ≤ 2 ^ 16 }
-    ensures load { result
-        ≡ known_unit_load network.now.timing (units_in network.now) (stays_in network.now) unit broadcasts.now }
+    ensures load { result ≡ on_bus known_unit_load bus.now unit broadcasts.now }
     ensures sound { IsSoundIfSent result }
 {
     if broadcasts.is_empty() {
@@ -234,37 +232,30 @@ fn unit_load(network: &Network<'_>, unit: usize, broadcasts: &[Broadcast]) -> Op
     }
     let least = least_packets(broadcasts);
     Some(UnitLoad {
-        packets: broadcast_frames(network, DATA_TRANSFER, unit, 1, unit),
-        announcements: broadcast_frames(
-            network,
-            CONNECTION_MANAGEMENT,
-            unit,
-            least,
-            UNIT_LIMIT + unit,
-        ),
+        packets: broadcast_frames(bus, DATA_TRANSFER, unit, 1, unit),
+        announcements: broadcast_frames(bus, CONNECTION_MANAGEMENT, unit, least, UNIT_LIMIT + unit),
         flows: broadcasts.len() as u32,
         all_packets: all_packets(broadcasts),
-        bits_per_second: bits_per_second(network.timing, broadcasts),
+        bits_per_second: bits_per_second(bus.timing, broadcasts),
     })
 }
 
 // What the broadcasts of each unit ask of the bus, in order, by what the flows do.
 fn each_unit_load(
     alloc: Global,
-    network: &Network<'_>,
+    bus: &PlannedBus<'_>,
     loads: &[Option<FlowLoad>],
 ) -> Result<Vec<Option<UnitLoad>>, AllocError>
     requires sound { All IsSoundIfKnown loads.now }
     requires few { length loads.now ≤ 2 ^ 16 }
-    ensures loads { IfOk result (λ result. result.items
-        ≡ each_unit_load network.now.timing (units_in network.now) (stays_in network.now) loads.now) }
-    ensures count { IfOk result (λ result. length result.items ≡ length (units_in network.now)) }
+    ensures loads { IfOk result (λ result. result.items ≡ on_bus each_unit_load bus.now loads.now) }
+    ensures count { IfOk result (λ result. length result.items ≡ length (units_in bus.now)) }
     ensures sound { IfOk result (λ result. All IsSoundIfSent result.items) }
 {
     let mut unit_loads = Vec::new(alloc);
-    for unit in 0..network.plan.units.len() {
+    for unit in 0..bus.plan.units.len() {
         let broadcasts = broadcasts_by(alloc, unit, loads)?;
-        unit_loads.push(unit_load(network, unit, broadcasts.as_slice()))?;
+        unit_loads.push(unit_load(bus, unit, broadcasts.as_slice()))?;
     }
     Ok(unit_loads)
 }
@@ -273,19 +264,18 @@ fn each_unit_load(
 /// are none.
 pub(crate) fn unit_loads_of(
     alloc: Global,
-    network: &Network<'_>,
+    bus: &PlannedBus<'_>,
     loads: &[Option<FlowLoad>],
 ) -> Result<Vec<Option<UnitLoad>>, AllocError>
     requires sound { All IsSoundIfKnown loads.now }
     requires few { length loads.now ≤ 2 ^ 16 }
-    ensures loads { IfOk result (λ result. result.items
-        ≡ unit_loads_of network.now.timing (units_in network.now) (stays_in network.now) loads.now) }
-    ensures count { IfOk result (λ result. length result.items ≤ length (units_in network.now)) }
+    ensures loads { IfOk result (λ result. result.items ≡ on_bus unit_loads_of bus.now loads.now) }
+    ensures count { IfOk result (λ result. length result.items ≤ length (units_in bus.now)) }
     ensures sound { IfOk result (λ result. All IsSoundIfSent result.items) }
     ensures memory { OnErr result (loads.now ≢ []) }
 {
     if loads.is_empty() {
         return Ok(Vec::new(alloc));
     }
-    each_unit_load(alloc, network, loads)
+    each_unit_load(alloc, bus, loads)
 }

@@ -6,11 +6,11 @@ ghost use Rattle.j39_load.specs.Loads.{bits_of_ms as bits_in_ms, broadcast_of, f
 ghost use Rattle.j39_load.specs.Loads.{single_frames, singles_of, time_limit};
 ghost use Rattle.j39_load.specs.SoundLoads.{AreSound, AreSoundIfAny, AreSoundMessages, IsSoundBroadcast, IsSoundIfKnown, IsSoundLoad};
 ghost use Rattle.j39_load.specs.inside.FewFrames.{HaveFewFrames};
-ghost use Rattle.j39_load.specs.inside.Networks.{stays_in, units_in};
+ghost use Rattle.j39_load.specs.inside.PlannedBuses.{on_bus, stays_in, units_in};
 ghost use Rattle.j39_tp.specs.Chunks.{packets_of};
 
 use crate::frames::{
-    Broadcast, Extreme, FlowFrames, Messages, Network, any_unit, bits_of_ms, group_ident, load,
+    Broadcast, Extreme, FlowFrames, Messages, PlannedBus, any_unit, bits_of_ms, group_ident, load,
     packet_ident, packet_stream, session_ident, single_stream, twin_ident,
 };
 use crate::loads::flow_load::FlowLoad;
@@ -29,25 +29,19 @@ fn limit(timing: Timing, pace: Pace) -> u32
 }
 
 // The frames of a flow's messages that go in one frame.
-fn single_frames(
-    network: &Network<'_>,
-    flow: &FlowPlan,
-    pace: Pace,
-    group: &GroupPlan,
-) -> FlowFrames
-    requires sender { flow.now.sender < length (units_in network.now) }
-    requires receiver { (v : ℕ) → flow.now.to ≡ One v → v < length (units_in network.now) }
-    ensures frames { result
-        ≡ single_frames network.now.timing (units_in network.now) (stays_in network.now) flow.now pace group.now }
+fn single_frames(bus: &PlannedBus<'_>, flow: &FlowPlan, pace: Pace, group: &GroupPlan) -> FlowFrames
+    requires sender { flow.now.sender < length (units_in bus.now) }
+    requires receiver { (v : ℕ) → flow.now.to ≡ One v → v < length (units_in bus.now) }
+    ensures frames { result ≡ on_bus single_frames bus.now flow.now pace group.now }
     ensures fits { AreSound result }
     ensures few { result.stream.frames ≤ 512 }
 {
-    let greatest_ident = group_ident(network, Extreme::Greatest, group, flow);
+    let greatest_ident = group_ident(bus, Extreme::Greatest, group, flow);
     FlowFrames {
-        stream: single_stream(network.timing, group, pace),
-        least_ident: group_ident(network, Extreme::Least, group, flow),
+        stream: single_stream(bus.timing, group, pace),
+        least_ident: group_ident(bus, Extreme::Least, group, flow),
         greatest_ident,
-        any_sender: any_unit(network, flow.sender),
+        any_sender: any_unit(bus, flow.sender),
         any_receiver: None,
         last_ident: greatest_ident,
         twin_ident: twin_ident(group, flow),
@@ -57,27 +51,26 @@ fn single_frames(
 
 // Those of its long messages to the unit at a place, each of so many packets.
 fn packet_frames(
-    network: &Network<'_>,
+    bus: &PlannedBus<'_>,
     flow: &FlowPlan,
     unit: usize,
     pace: Pace,
     packets: u8,
 ) -> FlowFrames
-    requires sender { flow.now.sender < length (units_in network.now) }
-    requires receiver { (v : ℕ) → flow.now.to ≡ One v → v < length (units_in network.now) }
-    requires to { unit < length (units_in network.now) }
-    ensures frames { result
-        ≡ packet_frames network.now.timing (units_in network.now) (stays_in network.now) flow.now unit pace packets }
+    requires sender { flow.now.sender < length (units_in bus.now) }
+    requires receiver { (v : ℕ) → flow.now.to ≡ One v → v < length (units_in bus.now) }
+    requires to { unit < length (units_in bus.now) }
+    ensures frames { result ≡ on_bus packet_frames bus.now flow.now unit pace packets }
     ensures fits { AreSound result }
     ensures few { result.stream.frames ≤ 512 }
 {
     FlowFrames {
-        stream: packet_stream(network, packets, unit, pace),
-        least_ident: packet_ident(network, Extreme::Least, flow),
-        greatest_ident: packet_ident(network, Extreme::Greatest, flow),
-        any_sender: any_unit(network, flow.sender),
-        any_receiver: any_unit(network, unit),
-        last_ident: session_ident(network, Extreme::Greatest, flow, unit),
+        stream: packet_stream(bus, packets, unit, pace),
+        least_ident: packet_ident(bus, Extreme::Least, flow),
+        greatest_ident: packet_ident(bus, Extreme::Greatest, flow),
+        any_sender: any_unit(bus, flow.sender),
+        any_receiver: any_unit(bus, unit),
+        last_ident: session_ident(bus, Extreme::Greatest, flow, unit),
         twin_ident: None,
         want: None,
     }
@@ -135,22 +128,21 @@ fn broadcast(
 }
 
 // The messages of a flow, by the longest.
-fn messages_of(network: &Network<'_>, flow: &FlowPlan, pace: Pace, group: &GroupPlan) -> Messages
-    requires sender { flow.now.sender < length (units_in network.now) }
-    requires receiver { (v : ℕ) → flow.now.to ≡ One v → v < length (units_in network.now) }
-    ensures messages { result
-        ≡ messages_of network.now.timing (units_in network.now) (stays_in network.now) flow.now pace group.now }
+fn messages_of(bus: &PlannedBus<'_>, flow: &FlowPlan, pace: Pace, group: &GroupPlan) -> Messages
+    requires sender { flow.now.sender < length (units_in bus.now) }
+    requires receiver { (v : ℕ) → flow.now.to ≡ One v → v < length (units_in bus.now) }
+    ensures messages { result ≡ on_bus messages_of bus.now flow.now pace group.now }
     ensures sound { AreSoundMessages result }
     ensures few { HaveFewFrames result }
 {
     let Some(size) = Size::new(group.most) else {
-        return Messages::Short(single_frames(network, flow, pace, group));
+        return Messages::Short(single_frames(bus, flow, pace, group));
     };
     let packets = size.packets();
     match flow.to {
-        To::All => Messages::ToAll(broadcast(network.timing, flow, pace, group, packets)),
+        To::All => Messages::ToAll(broadcast(bus.timing, flow, pace, group, packets)),
         To::One(unit) => {
-            let frames = packet_frames(network, flow, unit, pace, packets);
+            let frames = packet_frames(bus, flow, unit, pace, packets);
             Messages::ToOne(frames)
         }
     }
@@ -158,19 +150,18 @@ fn messages_of(network: &Network<'_>, flow: &FlowPlan, pace: Pace, group: &Group
 
 // The single frames of a flow, where it has long messages too.
 fn singles_of(
-    network: &Network<'_>,
+    bus: &PlannedBus<'_>,
     flow: &FlowPlan,
     pace: Pace,
     group: &GroupPlan,
 ) -> Option<FlowFrames>
-    requires sender { flow.now.sender < length (units_in network.now) }
-    requires receiver { (v : ℕ) → flow.now.to ≡ One v → v < length (units_in network.now) }
-    ensures singles { result
-        ≡ singles_of network.now.timing (units_in network.now) (stays_in network.now) flow.now pace group.now }
+    requires sender { flow.now.sender < length (units_in bus.now) }
+    requires receiver { (v : ℕ) → flow.now.to ≡ One v → v < length (units_in bus.now) }
+    ensures singles { result ≡ on_bus singles_of bus.now flow.now pace group.now }
     ensures fits { AreSoundIfAny result }
 {
     if usize::from(group.most) > FRAME_BYTES && has_short(group) {
-        Some(single_frames(network, flow, pace, group))
+        Some(single_frames(bus, flow, pace, group))
     } else {
         None
     }
@@ -191,34 +182,33 @@ fn load_of_messages(messages: &Messages, period: u16) -> u32
     }
 }
 
-fn flow_load(network: &Network<'_>, flow: &FlowPlan, pace: Pace, group: &GroupPlan) -> FlowLoad
-    requires sender { flow.now.sender < length (units_in network.now) }
-    requires receiver { (v : ℕ) → flow.now.to ≡ One v → v < length (units_in network.now) }
-    ensures load { result
-        ≡ flow_load network.now.timing (units_in network.now) (stays_in network.now) flow.now pace group.now }
+fn flow_load(bus: &PlannedBus<'_>, flow: &FlowPlan, pace: Pace, group: &GroupPlan) -> FlowLoad
+    requires sender { flow.now.sender < length (units_in bus.now) }
+    requires receiver { (v : ℕ) → flow.now.to ≡ One v → v < length (units_in bus.now) }
+    ensures load { result ≡ on_bus flow_load bus.now flow.now pace group.now }
     ensures sound { IsSoundLoad result }
 {
-    let messages = messages_of(network, flow, pace, group);
+    let messages = messages_of(bus, flow, pace, group);
     FlowLoad {
         messages,
-        singles: singles_of(network, flow, pace, group),
-        limit: limit(network.timing, pace),
+        singles: singles_of(bus, flow, pace, group),
+        limit: limit(bus.timing, pace),
         bits_per_second: load_of_messages(&messages, pace.period),
     }
 }
 
 // What a flow asks of the bus, where it is known how often it is sent.
-fn load_of_flow(network: &Network<'_>, flow: &FlowPlan) -> Option<FlowLoad>
-    requires group { flow.now.group < length network.now.plan.now.groups.items }
-    requires sender { flow.now.sender < length (units_in network.now) }
-    requires receiver { (v : ℕ) → flow.now.to ≡ One v → v < length (units_in network.now) }
-    ensures load { result ≡ load_of_flow network.now.timing network.now.plan.now (stays_in network.now) flow.now }
+fn load_of_flow(bus: &PlannedBus<'_>, flow: &FlowPlan) -> Option<FlowLoad>
+    requires group { flow.now.group < length bus.now.plan.now.groups.items }
+    requires sender { flow.now.sender < length (units_in bus.now) }
+    requires receiver { (v : ℕ) → flow.now.to ≡ One v → v < length (units_in bus.now) }
+    ensures load { result ≡ load_of_flow bus.now.timing bus.now.plan.now (stays_in bus.now) flow.now }
     ensures sound { IsSoundIfKnown result }
 {
     match flow.pace {
         Some(pace) => {
-            let group = &network.plan.groups[flow.group];
-            Some(flow_load(network, flow, pace, group))
+            let group = &bus.plan.groups[flow.group];
+            Some(flow_load(bus, flow, pace, group))
         }
         None => None,
     }
@@ -227,17 +217,16 @@ fn load_of_flow(network: &Network<'_>, flow: &FlowPlan) -> Option<FlowLoad>
 /// What each flow of a plan asks of the bus, in order. No memory is asked for where there are none.
 pub(crate) fn loads_of(
     alloc: Global,
-    network: &Network<'_>,
+    bus: &PlannedBus<'_>,
 ) -> Result<Vec<Option<FlowLoad>>, AllocError>
-    ensures loads { IfOk result (λ loads. loads.items
-        ≡ loads_of network.now.timing network.now.plan.now (stays_in network.now)) }
-    ensures count { IfOk result (λ loads. length loads.items ≡ length network.now.plan.now.flows.items) }
+    ensures loads { IfOk result (λ loads. loads.items ≡ loads_of bus.now.timing bus.now.plan.now (stays_in bus.now)) }
+    ensures count { IfOk result (λ loads. length loads.items ≡ length bus.now.plan.now.flows.items) }
     ensures sound { IfOk result (λ loads. All IsSoundIfKnown loads.items) }
-    ensures memory { OnErr result (network.now.plan.now.flows.items ≢ []) }
+    ensures memory { OnErr result (bus.now.plan.now.flows.items ≢ []) }
 {
-    let mut loads = Vec::with_capacity(alloc, network.plan.flows.len())?;
-    for place in 0..network.plan.flows.len() {
-        loads.push_reserved(load_of_flow(network, &network.plan.flows[place]));
+    let mut loads = Vec::with_capacity(alloc, bus.plan.flows.len())?;
+    for place in 0..bus.plan.flows.len() {
+        loads.push_reserved(load_of_flow(bus, &bus.plan.flows[place]));
     }
     Ok(loads)
 }

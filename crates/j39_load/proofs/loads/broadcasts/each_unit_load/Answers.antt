@@ -12,9 +12,9 @@ use Rattle.j39_load.proofs.loads.broadcasts.each_unit_load.Goals as goal
 pub loop-unit-preserved : goal.loop-unit-preserved
 loop-unit-preserved c =
     let k = c.loop-unit.unit in
-    let timing = c.args.network.now.timing in
-    let units = c.args.network.now.plan.now.units.items in
-    let stays = stays_of c.args.network.now.standing.now in
+    let timing = c.args.bus.now.timing in
+    let units = c.args.bus.now.plan.now.units.items in
+    let stays = stays_of c.args.bus.now.standing.now in
     let old = c.loop-unit.invariant in
     let sent : c.as_slice.result.now ≡ broadcasts_by k c.args.loads.now = c.as_slice.ensures.value ∙ c.in_ok-broadcasts.ensures.broadcasts in
     let its : c.unit_load.result ≡ known_unit_load timing units stays k (broadcasts_by k c.args.loads.now) =

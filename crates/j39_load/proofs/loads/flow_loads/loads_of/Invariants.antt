@@ -6,8 +6,8 @@ use Rattle.j39_load.proofs.loads.flow_loads.loads_of.Given as goal
 
 abbrev pub invariant-loop-place : goal.invariant-loop-place
 invariant-loop-place l = record {
-  loads : l.loads.items ≡ map (load_of_flow l.network.timing l.network.plan.now (stays_of l.network.standing.now)) (take l.place l.network.plan.now.flows.items);
+  loads : l.loads.items ≡ map (load_of_flow l.bus.timing l.bus.plan.now (stays_of l.bus.standing.now)) (take l.place l.bus.plan.now.flows.items);
   len : vec_len l.loads ≡ l.place;
-  room : length l.network.plan.now.flows.items ≤ vec_capacity l.loads;
+  room : length l.bus.plan.now.flows.items ≤ vec_capacity l.loads;
   sound : All IsSoundIfKnown l.loads.items;
 }

@@ -1,6 +1,6 @@
-//! A planned network.
+//! A planned bus.
 ghost use Rattle.std.specs.Prelude.{◌≡◌, ◌<◌, length};
-ghost use Rattle.j39_load.specs.inside.Networks.{addresses_at, units_in};
+ghost use Rattle.j39_load.specs.inside.PlannedBuses.{addresses_at, units_in};
 
 use crate::frames::extreme::Extreme;
 use j39_findings::Standing;
@@ -8,13 +8,13 @@ use j39_network::{Plan, Timing};
 
 /// A plan, how its bus is timed, and which of its units stay: what the identifiers and the streams of its frames rest on.
 #[derive(Clone, Copy)]
-pub(crate) struct Network<'a> {
+pub(crate) struct PlannedBus<'a> {
     pub timing: Timing,
     pub plan: &'a Plan,
     pub standing: &'a Standing,
 }
 
-impl Network<'_> {
+impl PlannedBus<'_> {
     /// The address at this end of the unit at a place.
     pub fn address(&self, extreme: Extreme, unit: usize) -> u8
         requires { unit < length (units_in self.now) }
