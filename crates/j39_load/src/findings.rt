@@ -2,9 +2,10 @@
 
 mod ages;
 mod faults;
+mod load_answer;
 mod load_finding;
 
 pub use ages::least_age;
 pub(crate) use ages::smaller;
-pub use faults::{all_findings, bits_of_second, check_load};
+pub use load_answer::{LoadAnswer, check_load};
 pub use load_finding::LoadFinding;

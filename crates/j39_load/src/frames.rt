@@ -14,12 +14,12 @@ pub(crate) use damage::{add_damage, load_of_damage};
 pub(crate) use extreme::Extreme;
 pub use flow_frames::FlowFrames;
 pub(crate) use identifiers::{
-    any_unit, broadcast_ident, group_ident, packet_ident, request_ident, session_ident, twin_ident,
+    IDENT_END, any_unit, broadcast_ident, first_of_priority, group_ident, packet_ident,
+    request_ident, session_ident, twin_ident,
 };
 pub use messages::Messages;
 pub(crate) use planned_bus::PlannedBus;
-pub use streams::bits_of_ms;
+pub use streams::{bits_of_ms, bits_of_second};
 pub(crate) use streams::{
-    bits_each, bits_per_ms, frames_to_all, load, packet_stream, request_stream, single_stream,
-    spaced_stream,
+    bits_each, frames_to_all, load_of, packet_stream, request_stream, single_stream, spaced_stream,
 };

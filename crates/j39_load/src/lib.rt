@@ -9,8 +9,8 @@ mod loads;
 mod queues;
 mod waits;
 
-pub use findings::{LoadFinding, all_findings, bits_of_second, check_load, least_age};
-pub use frames::{Broadcast, FlowFrames, Messages, bits_of_ms};
+pub use findings::{LoadAnswer, LoadFinding, check_load, least_age};
+pub use frames::{Broadcast, FlowFrames, Messages, bits_of_ms, bits_of_second};
 pub use laws::{
     delays_are_bounds, frames_that_keep_a_plan, identifiers_lie_between, kept_plans_are_in_time,
     kept_plans_bring_values_in_time, needed_values_are_read_in_time, needs_stay_fresh,

@@ -8,6 +8,5 @@ mod twins;
 mod whole_time;
 
 pub use delay::Delay;
-pub(crate) use delays::delay_of;
-pub(crate) use demands::demands_of;
+pub(crate) use demands::{announcements_demand, demands_of, packets_demand};
 pub use whole_time::WholeTime;

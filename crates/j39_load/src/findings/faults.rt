@@ -1,21 +1,19 @@
 //! What is wrong with what a plan asks of its bus.
-ghost use Rattle.std.specs.Prelude.{◌≡◌, ◌≢◌, ◌⊎◌, ◌∷◌, ◌++◌, [], None, length, IfOk, IfSome, IfNone, OnOk, OnErr};
-ghost use Rattle.j39_load.specs.LoadFindings.{AreLoadFindings, IsFullOfDamage, all_findings, is_whole_late, load_findings};
-ghost use Rattle.j39_load.specs.Loads.{bits_of_second};
+ghost use Rattle.std.specs.Prelude.{◌≡◌, ◌≢◌, ◌∷◌, ◌++◌, [], length, IfOk, IfSome, IfNone, OnOk, OnErr};
+ghost use Rattle.j39_load.specs.LoadFindings.{all_findings, is_whole_late, load_findings};
 ghost use Rattle.j39_load.specs.LineLists.{lines_of_each};
 ghost use Rattle.j39_load.specs.inside.FlowSearch.{found_at};
 
 use crate::findings::ages::{find_old_needs, is_in_limit};
 use crate::findings::load_finding::LoadFinding;
-use crate::frames::bits_per_ms;
-use crate::loads::Loads;
+use crate::frames::bits_of_second;
 use crate::waits::{Delay, WholeTime};
-use j39_network::{Bitrate, Plan, Timing};
+use j39_network::{Plan, Timing};
 use std::alloc::{AllocError, Global};
 
 /// What is looked for at each flow.
 #[derive(Clone, Copy, PartialEq, Eq)]
-pub(crate) enum Fault {
+pub(crate) enum FlowFault {
     WithoutPeriod,
     Lateness,
 }
@@ -30,14 +28,14 @@ fn is_whole_late(whole: &WholeTime) -> bool
     }
 }
 
-fn finding_at(fault: Fault, flow: usize, delay: Option<Delay>) -> Option<LoadFinding>
+fn finding_at(fault: FlowFault, flow: usize, delay: Option<Delay>) -> Option<LoadFinding>
     ensures some { IfSome result (λ finding. found_at fault flow delay ≡ finding ∷ []) }
     ensures none { IfNone result (found_at fault flow delay ≡ []) }
 {
     match (fault, delay) {
-        (Fault::WithoutPeriod, None) => Some(LoadFinding::NoPeriod(flow)),
-        (Fault::Lateness, Some(Delay::Late)) => Some(LoadFinding::LateFlow(flow)),
-        (Fault::Lateness, Some(Delay::Whole(whole))) if is_whole_late(&whole) => {
+        (FlowFault::WithoutPeriod, None) => Some(LoadFinding::NoPeriod(flow)),
+        (FlowFault::Lateness, Some(Delay::Late)) => Some(LoadFinding::LateFlow(flow)),
+        (FlowFault::Lateness, Some(Delay::Whole(whole))) if is_whole_late(&whole) => {
             Some(LoadFinding::LateFlow(flow))
         }
         _ => None,
@@ -48,7 +46,7 @@ fn finding_at(fault: Fault, flow: usize, delay: Option<Delay>) -> Option<LoadFin
 #[tactic(auto, unfolding(crate::specs::LineLists::lines_of_each))]
 fn find_each(
     findings: &mut Vec<LoadFinding>,
-    fault: Fault,
+    fault: FlowFault,
     delays: &[Option<Delay>],
 ) -> Result<(), AllocError>
     ensures found { OnOk result (findings.new.items ≡ findings.old.items ++ lines_of_each (found_at fault) 0 delays.now) }
@@ -62,28 +60,6 @@ fn find_each(
     Ok(())
 }
 
-/// How many bits a bus carries in a second.
-pub fn bits_of_second(bitrate: Bitrate) -> u32
-    ensures { result ≡ bits_of_second bitrate }
-{
-    1_000 * u32::from(bits_per_ms(bitrate))
-}
-
-/// What is wrong with what a plan asks of its bus: nothing where nothing is known of this, and no memory is asked for
-/// then. Nor is it of a plan without flows and requests, unless damaged frames alone are too many for the bus.
-pub fn check_load(alloc: Global, plan: &Plan) -> Result<Vec<LoadFinding>, AllocError>
-    ensures findings { IfOk result (λ findings. AreLoadFindings plan.now plan.now.timing findings.items) }
-    ensures memory { OnErr result ((plan.now.timing ≢ None)
-        × ((plan.now.flows.items ≢ []) ⊎ ((plan.now.requests.items ≢ []) ⊎ IsFullOfDamage plan.now.timing))) }
-{
-    let Some(timing) = plan.timing else {
-        return Ok(Vec::new(alloc));
-    };
-    let loads = Loads::new(alloc, timing, plan)?;
-    let delays = loads.delays(alloc)?;
-    all_findings(alloc, plan, timing, loads.total(), delays.as_slice())
-}
-
 // What is wrong with a load of so many bits in a second and with these delays of the flows. Asks for memory only where something is.
 fn load_findings(
     alloc: Global,
@@ -95,16 +71,16 @@ fn load_findings(
     ensures memory { OnErr result (load_findings timing load delays.now ≢ []) }
 {
     let mut findings = Vec::new(alloc);
-    find_each(&mut findings, Fault::WithoutPeriod, delays)?;
+    find_each(&mut findings, FlowFault::WithoutPeriod, delays)?;
     if u64::from(bits_of_second(timing.bitrate)) < load {
         findings.push(LoadFinding::Overload(load))?;
     }
-    find_each(&mut findings, Fault::Lateness, delays)?;
+    find_each(&mut findings, FlowFault::Lateness, delays)?;
     Ok(findings)
 }
 
 /// With what is wrong with the ages of what the units of the plan need.
-pub fn all_findings(
+pub(crate) fn all_findings(
     alloc: Global,
     plan: &Plan,
     timing: Timing,

@@ -1,5 +1,5 @@
 //! Identifiers of the frames of a flow, and of requests.
-ghost use Rattle.std.specs.Prelude.{◌≡◌, ◌<◌, ℕ, length, max};
+ghost use Rattle.std.specs.Prelude.{◌≡◌, ◌<◌, ◌*◌, ◌^◌, ℕ, length, max};
 ghost use Rattle.j39_id.specs.Ident.{identifier_of};
 ghost use Rattle.j39_id.specs.Limits.{unit_limit};
 ghost use Rattle.j39_network.specs.declared.plan.to.To.TheVariants.{One};
@@ -14,6 +14,19 @@ use j39_id::services::{CLAIM_PRIORITY, CONNECTION_MANAGEMENT, DATA_TRANSFER, REQ
 use j39_id::{PDU2_FIRST, Pgn, pf_of};
 use j39_network::{FlowPlan, GroupPlan, Queue, RequestPlan, To};
 
+// The identifiers of a priority.
+const OF_PRIORITY: u64 = 67_108_864;
+
+/// No identifier has this number, nor a greater one.
+pub(crate) const IDENT_END: u64 = 536_870_912;
+
+/// The least identifier of a priority.
+pub(crate) fn first_of_priority(priority: u8) -> u64
+    ensures { result ≡ priority * 2 ^ 26 }
+{
+    u64::from(priority) * OF_PRIORITY
+}
+
 // The number of the identifier by which a group is sent, whose number need be no group's.
 fn identifier(priority: u8, pgn: u32, destination: u8, source: u8) -> u64
     ensures { result ≡ identifier_of priority pgn destination source }
@@ -23,7 +36,7 @@ fn identifier(priority: u8, pgn: u32, destination: u8, source: u8) -> u64
     } else {
         u64::from(destination) * 256
     };
-    u64::from(priority) * 67_108_864 + u64::from(pgn) * 256 + named + u64::from(source)
+    u64::from(priority) * OF_PRIORITY + u64::from(pgn) * 256 + named + u64::from(source)
 }
 
 fn destination(bus: &PlannedBus<'_>, extreme: Extreme, to: To) -> u8

@@ -2,7 +2,7 @@
 ghost use Rattle.std.specs.Prelude.{◌≡◌, ◌<◌, ◌≤◌, ◌*◌, ◌^◌, length};
 ghost use Rattle.j39_load.specs.Broadcasts.{bits_each, spaced_stream};
 ghost use Rattle.j39_load.specs.RequestLoads.{request_stream};
-ghost use Rattle.j39_load.specs.Loads.{bits_of_ms, bits_per_ms, frames_to_all, frames_to_one, load_of, most_bytes, packet_stream, single_stream};
+ghost use Rattle.j39_load.specs.Loads.{bits_of_ms, bits_of_second, bits_per_ms, frames_to_all, frames_to_one, load_of, most_bytes, packet_stream, single_stream};
 ghost use Rattle.j39_load.specs.inside.PlannedBuses.{units_in};
 ghost use Rattle.j39_timing.specs.Waits.{IsStream};
 
@@ -11,8 +11,8 @@ use j39_id::limits::FRAME_BYTES;
 use j39_network::{Bitrate, GroupPlan, Pace, Timing};
 use j39_timing::{Stream, frame_bits};
 
-/// How many bits the bus carries in a millisecond.
-pub(crate) fn bits_per_ms(bitrate: Bitrate) -> u16
+// How many bits the bus carries in a millisecond.
+fn bits_per_ms(bitrate: Bitrate) -> u16
     ensures bits { result ≡ bits_per_ms bitrate }
     ensures range { (125 ≤ result) × (result ≤ 1000) }
 {
@@ -22,6 +22,13 @@ pub(crate) fn bits_per_ms(bitrate: Bitrate) -> u16
         Bitrate::Kbit500 => 500,
         Bitrate::Mbit1 => 1_000,
     }
+}
+
+/// How many bits a bus carries in a second.
+pub fn bits_of_second(bitrate: Bitrate) -> u32
+    ensures { result ≡ bits_of_second bitrate }
+{
+    1_000 * u32::from(bits_per_ms(bitrate))
 }
 
 /// How many bits the bus carries in so many milliseconds.
@@ -129,7 +136,7 @@ pub(crate) fn request_stream(timing: Timing, period: u16) -> Stream
 }
 
 /// How many bits the stream takes in a second at most, of this period in milliseconds.
-pub(crate) fn load(stream: Stream, period: u16) -> u32
+pub(crate) fn load_of(stream: Stream, period: u16) -> u32
     requires period { 1 ≤ period }
     requires stream { IsStream stream }
     requires few { stream.frames ≤ 512 }

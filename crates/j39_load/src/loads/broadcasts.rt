@@ -12,8 +12,8 @@ use crate::frames::{
 };
 use crate::loads::flow_load::FlowLoad;
 use crate::loads::unit_load::UnitLoad;
+use crate::waits::{announcements_demand, packets_demand};
 use j39_id::Pgn;
-use j39_id::limits::UNIT_LIMIT;
 use j39_id::services::{CONNECTION_MANAGEMENT, DATA_TRANSFER};
 use j39_network::Timing;
 use std::alloc::{AllocError, Global};
@@ -232,7 +232,7 @@ fn unit_load(bus: &PlannedBus<'_>, unit: usize, broadcasts: &[Broadcast]) -> Opt
     }
     let least = least_packets(broadcasts);
     Some(UnitLoad {
-        packets: broadcast_frames(bus, DATA_TRANSFER, unit, 1, unit),
+        packets: broadcast_frames(bus, DATA_TRANSFER, unit, 1, packets_demand(unit)),
         announcements: broadcast_frames(bus, CONNECTION_MANAGEMENT, unit, least, UNIT_LIMIT + unit),
         flows: broadcasts.len() as u32,
         all_packets: all_packets(broadcasts),

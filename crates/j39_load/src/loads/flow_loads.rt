@@ -10,8 +10,8 @@ ghost use Rattle.j39_load.specs.inside.PlannedBuses.{on_bus, stays_in, units_in}
 ghost use Rattle.j39_tp.specs.Chunks.{packets_of};
 
 use crate::frames::{
-    Broadcast, Extreme, FlowFrames, Messages, PlannedBus, any_unit, bits_of_ms, group_ident, load,
-    packet_ident, packet_stream, session_ident, single_stream, twin_ident,
+    Broadcast, Extreme, FlowFrames, Messages, PlannedBus, any_unit, bits_of_ms, group_ident,
+    load_of, packet_ident, packet_stream, session_ident, single_stream, twin_ident,
 };
 use crate::loads::flow_load::FlowLoad;
 use j39_id::limits::FRAME_BYTES;
@@ -176,8 +176,8 @@ fn load_of_messages(messages: &Messages, period: u16) -> u32
     ensures { result ≡ load_of_messages messages.now period }
 {
     match messages {
-        Messages::Short(frames) => load(frames.stream, period),
-        Messages::ToOne(frames) => load(frames.stream, period),
+        Messages::Short(frames) => load_of(frames.stream, period),
+        Messages::ToOne(frames) => load_of(frames.stream, period),
         Messages::ToAll(_broadcast) => 0,
     }
 }

@@ -6,7 +6,7 @@ ghost use Rattle.j39_load.specs.SoundLoads.{IsSoundIfAsked};
 ghost use Rattle.j39_load.specs.inside.PlannedBuses.{on_bus, stays_in, units_in};
 
 use crate::frames::{
-    Extreme, FlowFrames, PlannedBus, any_unit, load, request_ident, request_stream,
+    Extreme, FlowFrames, PlannedBus, any_unit, load_of, request_ident, request_stream,
 };
 use crate::loads::request_load::RequestLoad;
 use j39_network::RequestPlan;
@@ -35,7 +35,7 @@ fn load_of_request(bus: &PlannedBus<'_>, request: &RequestPlan) -> Option<Reques
             twin_ident: None,
             want: None,
         },
-        bits_per_second: load(stream, period),
+        bits_per_second: load_of(stream, period),
     })
 }
 

@@ -10,7 +10,7 @@ ghost use Rattle.j39_load.specs.SoundLoads.{AreSoundIfAny};
 ghost use Rattle.j39_timing.specs.Waits.{IsStream, IsWanted, as_demand};
 
 use crate::findings::smaller;
-use crate::frames::{FlowFrames, add_damage, bits_of_ms};
+use crate::frames::{FlowFrames, IDENT_END, add_damage, bits_of_ms};
 use j39_id::limits::UNIT_LIMIT;
 use j39_network::Timing;
 use j39_timing::{Stream, Wanted, frame_bits, least_wait};
@@ -167,7 +167,7 @@ fn with_unplanned(timing: Timing, own: &FlowFrames) -> FlowFrames
     let last_ident = if timing.unplanned == 0 {
         own.last_ident
     } else {
-        536_870_912
+        IDENT_END
     };
     FlowFrames { last_ident, ..*own }
 }

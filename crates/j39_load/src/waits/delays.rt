@@ -1,15 +1,20 @@
 //! How long the frames of the flows of a plan wait.
-ghost use Rattle.std.specs.Prelude.{◌≡◌, ◌≤◌, ◌<◌, ◌^◌, ◌+◌, ◌++◌, All, length, IfOk, OnOk};
+ghost use Rattle.std.specs.Prelude.{◌≡◌, ◌≢◌, ◌≤◌, ◌<◌, ◌^◌, ◌+◌, ◌++◌, [], All, length, IfOk, OnOk, OnErr};
 ghost use Rattle.std.specs.Option.{ForSome};
-ghost use Rattle.j39_load.specs.Delays.{IsFrameDelay, IsShortDelay, IsWaitIn, IsWaitOf, any_delay, blocking, frames_before, going_before, streams_before, whole_time};
+ghost use Rattle.j39_load.specs.AnyQueues.{IsOffer};
+ghost use Rattle.j39_load.specs.Asked.{frames_asked};
+ghost use Rattle.j39_load.specs.AskedLoads.{asked_in};
+ghost use Rattle.j39_load.specs.Delays.{HasDelay, IsFrameDelay, IsShortDelay, IsWaitIn, IsWaitOf, TellDelays, any_delay, blocking, frames_before, going_before, streams_before, whole_time};
 ghost use Rattle.j39_load.specs.SoundLoads.{AreSound, FitIfAny, IsSoundBroadcast, IsSoundLoad};
 ghost use Rattle.j39_load.specs.inside.Offers.{AreFitOffers, IsShortWait, offer_of};
-ghost use Rattle.j39_load.specs.inside.TurnTimes.{AreShortTimes, IsDelayBy, IsShortTime, time_at};
+ghost use Rattle.j39_load.specs.inside.TurnTimes.{AreShortTimes, IsDelayBy, IsShortTime, TellTurnTimes, time_at};
 ghost use Rattle.j39_timing.specs.Waits.{IsStream};
 
-use crate::frames::{Broadcast, FlowFrames, Messages, add_damage, bits_of_ms, frames_to_all};
-use crate::loads::FlowLoad;
-use crate::queues::{Offers, keep_order};
+use crate::frames::{
+    Broadcast, FlowFrames, Messages, add_damage, bits_of_ms, first_of_priority, frames_to_all,
+};
+use crate::loads::{FlowLoad, Loads};
+use crate::queues::{Offers, keep_order, offers_of};
 use crate::waits::delay::Delay;
 use crate::waits::twins::may_precede;
 use crate::waits::whole_time::WholeTime;
@@ -21,7 +26,7 @@ use std::alloc::{AllocError, Global};
 fn blocking(timing: Timing, ident: u64) -> u32
     ensures { result ≡ blocking timing ident }
 {
-    let unplanned = if ident >= u64::from(timing.unplanned_priority) * 67_108_864 {
+    let unplanned = if ident >= first_of_priority(timing.unplanned_priority) {
         u32::from(timing.unplanned)
     } else {
         0
@@ -234,9 +239,9 @@ fn whole_time(broadcast: &Broadcast, time: Option<u64>) -> WholeTime
     }
 }
 
-/// The delay of the flow at this place, which asks this of the bus, among all frames of the plan where they are offered for
-/// good, where the broadcasts of the units take these times.
-pub(crate) fn delay_of(
+// The delay of the flow at this place, which asks this of the bus, among all frames of the plan where they are offered for
+// good, where the broadcasts of the units take these times.
+fn delay_of(
     alloc: Global,
     timing: Timing,
     offers: &Offers,
@@ -256,5 +261,48 @@ pub(crate) fn delay_of(
             broadcast,
             time_at(times, broadcast.sender),
         ))),
+    }
+}
+
+impl Loads {
+    // The delay of the flow at this place among all frames where they are offered for good, where the broadcasts of the
+    // units take these times, and none where it isn't known how often it is sent.
+    fn delay(
+        &self,
+        alloc: Global,
+        offers: &Offers,
+        times: &[Option<u64>],
+        flow: usize,
+    ) -> Result<Option<Delay>, AllocError>
+        requires place { flow < length self.now.flows.items }
+        requires offers { AreFitOffers offers.now }
+        requires is { IsOffer self.now.timing (frames_asked (asked_in self.now)) (offer_of offers.now) }
+        requires times { TellTurnTimes self.now.timing (asked_in self.now) (offer_of offers.now) times.now }
+        requires short { AreShortTimes times.now }
+        ensures { IfOk result (HasDelay self.now.timing (asked_in self.now) flow) }
+    {
+        match &self.flows[flow] {
+            Some(load) => Ok(Some(delay_of(alloc, self.timing, offers, times, flow, load)?)),
+            None => Ok(None),
+        }
+    }
+
+    /// The delay of each flow, in order, and none where it isn't known how often it is sent. No memory is asked for
+    /// where there are no flows.
+    pub fn delays(&self, alloc: Global) -> Result<Vec<Option<Delay>>, AllocError>
+        ensures delays { IfOk result (λ delays. TellDelays self.now.timing (asked_in self.now) delays.items) }
+        ensures memory { OnErr result (self.now.flows.items ≢ []) }
+    {
+        if self.flows.is_empty() {
+            return Ok(Vec::new(alloc));
+        }
+        let all = self.all_frames(alloc)?;
+        let offers = offers_of(alloc, self.timing, all.as_slice())?;
+        let times = self.turn_times(alloc, &offers)?;
+        let mut delays = Vec::with_capacity(alloc, self.flows.len())?;
+        for flow in 0..self.flows.len() {
+            delays.push_reserved(self.delay(alloc, &offers, times.as_slice(), flow)?);
+        }
+        Ok(delays)
     }
 }

@@ -1,6 +1,7 @@
 //! What is wanted of the broadcasts of units.
 ghost use Rattle.std.specs.Prelude.{◌≡◌, ◌≤◌, ◌<◌, ◌++◌, All, IfOk, IfSome, OnOk, length, map};
-ghost use Rattle.j39_load.specs.Demands.{demand_by, demands_by, demands_of, most_packets, under_way_of, want_of, wanted_by, wants_of};
+ghost use Rattle.j39_load.specs.Demands.{announcements_demand, demand_by, demands_by, demands_of, most_packets, packets_demand, under_way_of, want_of, wanted_by, wants_of};
+ghost use Rattle.j39_id.specs.Limits.{unit_limit};
 ghost use Rattle.j39_load.specs.SoundLoads.{AreSoundIfAny, IsSoundBroadcast};
 ghost use Rattle.j39_load.specs.inside.Broadcasting.{AreSoundBroadcasts};
 ghost use Rattle.j39_timing.specs.Waits.{IsWant, IsWanted, as_demand};
@@ -9,6 +10,21 @@ use crate::frames::{Broadcast, FlowFrames};
 use j39_id::limits::UNIT_LIMIT;
 use j39_timing::{Want, Wanted};
 use std::alloc::{AllocError, Global};
+
+/// Where what is wanted of the packets of the unit at a place stands.
+pub(crate) fn packets_demand(unit: usize) -> usize
+    ensures { result ≡ packets_demand unit }
+{
+    unit
+}
+
+/// And of its announcements.
+pub(crate) fn announcements_demand(unit: usize) -> usize
+    requires { unit < unit_limit }
+    ensures { result ≡ announcements_demand unit }
+{
+    UNIT_LIMIT + unit
+}
 
 // What the flow of these frames wants, where it is of the unit at a place.
 fn wanted_by(unit: usize, frames: &Option<FlowFrames>) -> Option<Broadcast>

@@ -1,7 +1,7 @@
 //! How long the broadcasts of units take, one of each flow.
 ghost use Rattle.std.specs.Prelude.{◌≡◌, ◌<◌, ◌^◌, length, IfOk};
 ghost use Rattle.std.specs.Option.{ForSome};
-ghost use Rattle.j39_load.specs.Asked.{asked_by};
+ghost use Rattle.j39_load.specs.AskedLoads.{asked_in};
 ghost use Rattle.j39_load.specs.Delays.{IsTurnTime, known_turn_time, packet_time, turn_time};
 ghost use Rattle.j39_load.specs.SoundLoads.{IsSoundUnit};
 ghost use Rattle.j39_load.specs.inside.Offers.{AreFitOffers, offer_of};
@@ -75,22 +75,16 @@ impl Loads {
     ) -> Result<Option<u64>, AllocError>
         requires offers { AreFitOffers offers.now }
         requires unit { unit < length self.now.units.items }
-        ensures time { IfOk result (IsTurnTime self.now.timing (asked_by self.now.flows.items self.now.units.items self.now.requests.items) (offer_of offers.now) unit) }
+        ensures time { IfOk result (IsTurnTime self.now.timing (asked_in self.now) (offer_of offers.now) unit) }
         ensures short { IfOk result IsShortTime }
     {
         let Some(load) = &self.units[unit] else {
             return Ok(None);
         };
-        let packets = 2 * self.flows.len() + unit;
-        let announcements = 2 * self.flows.len() + (self.units.len() + unit);
-        let announced = wait_in(
-            alloc,
-            self.timing,
-            offers,
-            announcements,
-            &load.announcements,
-        )?;
-        let sent = wait_in(alloc, self.timing, offers, packets, &load.packets)?;
+        let place = self.announcements_place(unit);
+        let announced = wait_in(alloc, self.timing, offers, place, &load.announcements)?;
+        let place = self.packets_place(unit);
+        let sent = wait_in(alloc, self.timing, offers, place, &load.packets)?;
         Ok(known_turn_time(self.timing, load, announced, sent))
     }
 
@@ -102,7 +96,7 @@ impl Loads {
     ) -> Result<Vec<Option<u64>>, AllocError>
         requires { AreFitOffers offers.now }
         ensures times { IfOk result (λ times.
-            TellTurnTimes self.now.timing (asked_by self.now.flows.items self.now.units.items self.now.requests.items) (offer_of offers.now) times.items) }
+            TellTurnTimes self.now.timing (asked_in self.now) (offer_of offers.now) times.items) }
         ensures short { IfOk result (λ times. AreShortTimes times.items) }
     {
         let mut times = Vec::new(alloc);
