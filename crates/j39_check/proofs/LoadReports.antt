@@ -6,10 +6,10 @@ use Rattle.j39_findings.specs.declared.checking.finding.Finding.{Finding}
 use Rattle.j39_findings.specs.Found.{found}
 use Rattle.j39_load.specs.declared.findings.load_answer.LoadAnswer.{LoadAnswer}
 use Rattle.j39_load.specs.declared.findings.load_finding.LoadFinding.{LoadFinding}
-use Rattle.j39_load.specs.Asked.{Asked}
+use Rattle.j39_load.specs.Asked.{Asked, asked_of, total_load}
 use Rattle.j39_load.specs.AskedLoads.{asked_in}
 use Rattle.j39_load.specs.LoadAnswers.{IsLoadAnswer}
-use Rattle.j39_load.specs.LoadFindings.{AreLoadFindings}
+use Rattle.j39_load.specs.LoadFindings.{AreLoadFindings, all_findings}
 use Rattle.j39_check.specs.CheckText.{IsReport, findings_text}
 use Rattle.j39_check.specs.LoadText.{IsLoadReport, TellsLoads, load_verdict, tells_times, untold_text}
 use Rattle.j39_check.specs.LoadLines.{loads_text}
@@ -38,7 +38,8 @@ module _ (plan : Plan) (timing : Timing) (is : plan.timing ≡ Some timing) (ans
       let shown : text ≡ findings_text plan (found plan) others = written ∙ ap (λ (fs : List Finding). findings_text plan fs others) listed in
       let report : IsReport plan text Findings = (others, late, none_wrong hidden, shown) in
       let here : tells_times (found plan) ≡ false = ap tells_times (sym listed) ∙ hidden in
-      of_plan text Findings (rw here report)
+      let loads : TellsLoads plan timing told.stays answer.delays.items text Findings = rw here report in
+      of_plan text Findings loads
 
   -- the loads, and the findings of which they don't tell
   pub loads_told : (text : List ℕ) (verdict : Verdict) → tells_times findings ≡ true
@@ -47,9 +48,14 @@ module _ (plan : Plan) (timing : Timing) (is : plan.timing ≡ Some timing) (ans
   loads_told text verdict shown written verdict_is =
       let delays = answer.delays.items in
       let others = answer.findings.items in
+      let asked = asked_of timing plan told.stays in
+      let all : List LoadFinding = all_findings plan timing (total_load timing asked) delays in
       let here : tells_times (found plan) ≡ true = ap tells_times (sym listed) ∙ shown in
-      let lines = written ∙ ap (λ (a : Asked). loads_text plan timing a delays ++ untold_text plan findings others) told.asked
-      ∙ ap (λ (fs : List Finding). loads_text plan timing _ delays ++ untold_text plan fs others) listed
-      ∙ ap (λ (os : List LoadFinding). loads_text plan timing _ delays ++ untold_text plan (found plan) os) told.found in
-      let ends = verdict_is ∙ ap (λ (fs : List Finding). load_verdict fs others) listed ∙ ap (load_verdict (found plan)) told.found in
-      of_plan text verdict (rw here (lines, ends))
+      let lines : text ≡ loads_text plan timing asked delays ++ untold_text plan (found plan) all =
+      written ∙ ap (λ (a : Asked). loads_text plan timing a delays ++ untold_text plan findings others) told.asked
+      ∙ ap (λ (fs : List Finding). loads_text plan timing asked delays ++ untold_text plan fs others) listed
+      ∙ ap (λ (os : List LoadFinding). loads_text plan timing asked delays ++ untold_text plan (found plan) os) told.found in
+      let ends : verdict ≡ load_verdict (found plan) all =
+      verdict_is ∙ ap (λ (fs : List Finding). load_verdict fs others) listed ∙ ap (load_verdict (found plan)) told.found in
+      let loads : TellsLoads plan timing told.stays delays text verdict = rw here (lines, ends) in
+      of_plan text verdict loads

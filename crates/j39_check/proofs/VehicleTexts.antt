@@ -32,11 +32,11 @@ use Rattle.j39_load.specs.Asked.{Asked}
 use Rattle.j39_load.specs.LineLists.{lines_of_each}
 use Rattle.j39_load.specs.Loads.{bits_of_ms}
 use Rattle.j39_schedule.specs.StepLines.{step_line, step_lines, step_text, step_unit_text}
-use Rattle.j39_text.specs.Labels.{group_label, group_pgn, group_selector_end, group_text, signal_bits, signal_end, signal_label, signals_of, text_end, text_label, texts_of, unit_address, unit_label, units_text}
+use Rattle.j39_text.specs.Labels.{group_label, group_pgn, group_selector_end, group_text, need_signal_text, need_text, signal_bits, signal_end, signal_label, signals_of, text_end, text_label, texts_of, unit_address, unit_label, units_text}
 use Rattle.j39_text.specs.Texts.{field}
 use Rattle.j39_check.specs.CheckText.{findings_text, ok_line}
 use Rattle.j39_check.specs.FindingLines.{finding_line, finding_lines, finding_part, finding_report, finding_text, run_lines, signal_text}
-use Rattle.j39_check.specs.LoadLines.{age_text, flow_line, flow_text, known_age_text, loads_text, need_line, need_signal_text, need_text, receiver_text}
+use Rattle.j39_check.specs.LoadLines.{age_text, flow_line, flow_text, known_age_text, loads_text, need_line, receiver_text}
 use Rattle.j39_check.specs.LoadText.{untold_lines, untold_text}
 
 -- the lines of each are those of two ways of telling that tell the same
