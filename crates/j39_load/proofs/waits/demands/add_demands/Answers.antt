@@ -5,7 +5,6 @@ use Rattle.std.proofs.lemmas.List.FromFn.{map-range_with_len_more}
 use Rattle.std.specs.List.{range_with_len}
 use Rattle.j39_load.specs.Demands.{demand_by, wants_of}
 use Rattle.j39_timing.specs.Waits.{Demand, IsWanted, as_demand}
-use Rattle.j39_load.proofs.DemandLaws.{map_one_more}
 use Rattle.j39_load.proofs.waits.demands.add_demands.Goals as goal
 
 pub loop-unit-init : goal.loop-unit-init
@@ -22,7 +21,7 @@ loop-unit-preserved c =
     let by = λ (u : ℕ). demand_by c.args.announcements (wants_of c.args.all.now u) in
     record {
       demands = ap (map as_demand) c.in_ok-push.ensures.items
-          ∙ map_one_more as_demand c.loop-unit.demands.items c.in_ok-demand.demand
+          ∙ map-append as_demand c.loop-unit.demands.items (c.in_ok-demand.demand ∷ [])
           ∙ ap (λ (ds : List Demand). ds ++ as_demand c.in_ok-demand.demand ∷ []) old.demands
           ∙ append_assoc before (map by (range_with_len 0 k)) (as_demand c.in_ok-demand.demand ∷ [])
           ∙ ap (λ (d : Demand). before ++ (map by (range_with_len 0 k) ++ d ∷ [])) c.in_ok-demand.ensures.demand
