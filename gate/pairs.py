@@ -71,7 +71,7 @@ PAIRS = (
     Pair("unplanned frames of the very priority go before none", "waits::delays::blocking", KEPT, (
         Turn("specs/Delays.antt", "unplanned_idents timing = timing.unplanned_priority * 2 ^ 26",
              "unplanned_idents timing = (timing.unplanned_priority + 1) * 2 ^ 26"),
-        Turn("src/waits/delays.rt", "u64::from(timing.unplanned_priority) * 67_108_864", "(u64::from(timing.unplanned_priority) + 1) * 67_108_864"),
+        Turn("src/waits/delays.rt", "ident >= first_of_priority(timing.unplanned_priority)", "ident >= first_of_priority(timing.unplanned_priority + 1)"),
     )),
     Pair("units that keep no order are taken for others", "frames::identifiers::any_unit", KEPT, (
         Turn("specs/Loads.antt", "is_any Any = true", "is_any Any = false"),
