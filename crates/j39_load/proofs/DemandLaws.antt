@@ -10,6 +10,8 @@ use Rattle.std.specs.Option.{option_and_then}
 use Rattle.j39_id.specs.Limits.{unit_limit}
 use Rattle.j39_network.specs.declared.plan.timing.Timing.{Timing}
 use Rattle.j39_load.specs.declared.frames.broadcast.Broadcast.{Broadcast}
+use Rattle.j39_load.specs.declared.frames.broadcast.BroadcastPart.{BroadcastPart}
+use Rattle.j39_load.specs.declared.frames.broadcast.BroadcastPart.TheVariants.{Announcements, Packets}
 use Rattle.j39_load.specs.declared.frames.flow_frames.FlowFrames.{FlowFrames}
 use Rattle.j39_load.specs.AnyQueues.{held_at, later_frames, offered, offered_at}
 use Rattle.j39_load.specs.Damage.{damage_frames, damage_streams, first_of_all}
@@ -26,17 +28,17 @@ use Rattle.j39_timing.proofs.Sums.{total-none}
 -- ---- of two lists in which flows want the same
 
 module _ (xs ys : List (Option FlowFrames)) (same : (u : ℕ) → wants_of xs u ≡ wants_of ys u) where
-  each_demand : (announcements : Bool) (places : List ℕ)
-      → map (λ u. demand_by announcements (wants_of xs u)) places ≡ map (λ u. demand_by announcements (wants_of ys u)) places
-  each_demand announcements [] = refl
-  each_demand announcements (u ∷ us) =
-      ap (λ (bs : List Broadcast). demand_by announcements bs ∷ map (λ v. demand_by announcements (wants_of xs v)) us) (same u)
-      ∙ ap (λ (ds : List Demand). demand_by announcements (wants_of ys u) ∷ ds) (each_demand announcements us)
+  each_demand : (part : BroadcastPart) (places : List ℕ)
+      → map (λ u. demand_by part (wants_of xs u)) places ≡ map (λ u. demand_by part (wants_of ys u)) places
+  each_demand part [] = refl
+  each_demand part (u ∷ us) =
+      ap (λ (bs : List Broadcast). demand_by part bs ∷ map (λ v. demand_by part (wants_of xs v)) us) (same u)
+      ∙ ap (λ (ds : List Demand). demand_by part (wants_of ys u) ∷ ds) (each_demand part us)
 
   same_demands : demands_of xs ≡ demands_of ys
   same_demands =
-      ap (λ (ds : List Demand). ds ++ demands_by true xs) (each_demand false (range_with_len 0 unit_limit))
-      ∙ ap (λ (ds : List Demand). demands_by false ys ++ ds) (each_demand true (range_with_len 0 unit_limit))
+      ap (λ (ds : List Demand). ds ++ demands_by Announcements xs) (each_demand Packets (range_with_len 0 unit_limit))
+      ∙ ap (λ (ds : List Demand). demands_by Packets ys ++ ds) (each_demand Announcements (range_with_len 0 unit_limit))
 
 -- ---- with what comes of damage
 

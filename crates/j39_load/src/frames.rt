@@ -10,6 +10,7 @@ mod planned_bus;
 mod streams;
 
 pub use broadcast::Broadcast;
+pub(crate) use broadcast::BroadcastPart;
 pub(crate) use damage::{add_damage, load_of_damage};
 pub(crate) use extreme::Extreme;
 pub use flow_frames::FlowFrames;

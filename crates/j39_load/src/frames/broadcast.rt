@@ -1,5 +1,12 @@
 //! Long messages to all.
 
+/// Frames of the long messages of a unit to all.
+#[derive(Clone, Copy, PartialEq, Eq)]
+pub(crate) enum BroadcastPart {
+    Packets,
+    Announcements,
+}
+
 /// The long messages of a flow to all. Their unit sends one such message at a time.
 #[derive(Clone, Copy, Debug, PartialEq, Eq)]
 pub struct Broadcast {

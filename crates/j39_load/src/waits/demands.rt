@@ -6,7 +6,7 @@ ghost use Rattle.j39_load.specs.SoundLoads.{AreSoundIfAny, IsSoundBroadcast};
 ghost use Rattle.j39_load.specs.inside.Broadcasting.{AreSoundBroadcasts};
 ghost use Rattle.j39_timing.specs.Waits.{IsWant, IsWanted, as_demand};
 
-use crate::frames::{Broadcast, FlowFrames};
+use crate::frames::{Broadcast, BroadcastPart, FlowFrames};
 use j39_id::limits::UNIT_LIMIT;
 use j39_timing::{Want, Wanted};
 use std::alloc::{AllocError, Global};
@@ -77,16 +77,15 @@ fn most_packets(broadcasts: &[Broadcast]) -> u8
 }
 
 // What a flow wants of its unit's announcements, or of its packets.
-fn want_of(announcements: bool, broadcast: &Broadcast) -> Want
+fn want_of(part: BroadcastPart, broadcast: &Broadcast) -> Want
     requires { IsSoundBroadcast broadcast.now }
-    ensures want { result ≡ want_of announcements broadcast.now }
+    ensures want { result ≡ want_of part broadcast.now }
     ensures sound { IsWant result }
 {
     Want {
-        frames: if announcements {
-            1
-        } else {
-            u16::from(broadcast.packets)
+        frames: match part {
+            BroadcastPart::Packets => u16::from(broadcast.packets),
+            BroadcastPart::Announcements => 1,
         },
         period: broadcast.apart,
         late: broadcast.late,
@@ -94,30 +93,29 @@ fn want_of(announcements: bool, broadcast: &Broadcast) -> Want
 }
 
 // The frames of the message that is under way.
-fn under_way_of(announcements: bool, broadcasts: &[Broadcast]) -> u16
-    ensures frames { result ≡ under_way_of announcements broadcasts.now }
+fn under_way_of(part: BroadcastPart, broadcasts: &[Broadcast]) -> u16
+    ensures frames { result ≡ under_way_of part broadcasts.now }
     ensures few { result < 256 }
 {
-    if announcements {
-        0
-    } else {
-        u16::from(most_packets(broadcasts))
+    match part {
+        BroadcastPart::Packets => u16::from(most_packets(broadcasts)),
+        BroadcastPart::Announcements => 0,
     }
 }
 
 // What each flow wants of them.
 fn each_want(
     alloc: Global,
-    announcements: bool,
+    part: BroadcastPart,
     broadcasts: &[Broadcast],
 ) -> Result<Vec<Want>, AllocError>
     requires { AreSoundBroadcasts broadcasts.now }
-    ensures wants { IfOk result (λ wants. wants.items ≡ map (want_of announcements) broadcasts.now) }
+    ensures wants { IfOk result (λ wants. wants.items ≡ map (want_of part) broadcasts.now) }
     ensures sound { IfOk result (λ wants. All IsWant wants.items) }
 {
     let mut wants = Vec::with_capacity(alloc, broadcasts.len())?;
     for broadcast in broadcasts {
-        wants.push_reserved(want_of(announcements, broadcast));
+        wants.push_reserved(want_of(part, broadcast));
     }
     Ok(wants)
 }
@@ -125,19 +123,19 @@ fn each_want(
 // What is wanted of the announcements of the unit at a place, or of its packets, among all frames.
 fn demand_by(
     alloc: Global,
-    announcements: bool,
+    part: BroadcastPart,
     all: &[Option<FlowFrames>],
     unit: usize,
 ) -> Result<Wanted, AllocError>
     requires sound { All AreSoundIfAny all.now }
     requires few { length all.now ≤ 2000 }
-    ensures demand { IfOk result (λ wanted. as_demand wanted ≡ demand_by announcements (wants_of all.now unit)) }
+    ensures demand { IfOk result (λ wanted. as_demand wanted ≡ demand_by part (wants_of all.now unit)) }
     ensures sound { IfOk result IsWanted }
 {
     let broadcasts = wants_of(alloc, all, unit)?;
-    let wants = each_want(alloc, announcements, broadcasts.as_slice())?;
+    let wants = each_want(alloc, part, broadcasts.as_slice())?;
     Ok(Wanted {
-        under_way: under_way_of(announcements, broadcasts.as_slice()),
+        under_way: under_way_of(part, broadcasts.as_slice()),
         wants,
     })
 }
@@ -146,17 +144,17 @@ fn demand_by(
 fn add_demands(
     demands: &mut Vec<Wanted>,
     alloc: Global,
-    announcements: bool,
+    part: BroadcastPart,
     all: &[Option<FlowFrames>],
 ) -> Result<(), AllocError>
     requires sound { All AreSoundIfAny all.now }
     requires few { length all.now ≤ 2000 }
     requires demands { All IsWanted demands.old.items }
-    ensures demands { OnOk result (map as_demand demands.new.items ≡ map as_demand demands.old.items ++ demands_by announcements all.now) }
+    ensures demands { OnOk result (map as_demand demands.new.items ≡ map as_demand demands.old.items ++ demands_by part all.now) }
     ensures sound { OnOk result (All IsWanted demands.new.items) }
 {
     for unit in 0..UNIT_LIMIT {
-        let demand = demand_by(alloc, announcements, all, unit)?;
+        let demand = demand_by(alloc, part, all, unit)?;
         demands.push(demand)?;
     }
     Ok(())
@@ -173,7 +171,7 @@ pub(crate) fn demands_of(
     ensures sound { IfOk result (λ demands. All IsWanted demands.items) }
 {
     let mut demands = Vec::new(alloc);
-    add_demands(&mut demands, alloc, false, all)?;
-    add_demands(&mut demands, alloc, true, all)?;
+    add_demands(&mut demands, alloc, BroadcastPart::Packets, all)?;
+    add_demands(&mut demands, alloc, BroadcastPart::Announcements, all)?;
     Ok(demands)
 }

@@ -18,7 +18,7 @@ loop-unit-preserved c =
     let k = c.loop-unit.unit in
     let old = c.loop-unit.invariant in
     let before = map as_demand c.args.demands.now.items in
-    let by = λ (u : ℕ). demand_by c.args.announcements (wants_of c.args.all.now u) in
+    let by = λ (u : ℕ). demand_by c.args.part (wants_of c.args.all.now u) in
     record {
       demands = ap (map as_demand) c.in_ok-push.ensures.items
           ∙ map-append as_demand c.loop-unit.demands.items (c.in_ok-demand.demand ∷ [])

@@ -7,6 +7,6 @@ use Rattle.j39_load.proofs.waits.demands.add_demands.Given as goal
 abbrev pub invariant-loop-unit : goal.invariant-loop-unit
 invariant-loop-unit l = record {
   demands : map as_demand l.demands.items
-      ≡ map as_demand l.initial.demands.items ++ map (λ u. demand_by l.announcements (wants_of l.all u)) (range_with_len 0 l.unit);
+      ≡ map as_demand l.initial.demands.items ++ map (λ u. demand_by l.part (wants_of l.all u)) (range_with_len 0 l.unit);
   sound : All IsWanted l.demands.items;
 }
