@@ -233,7 +233,13 @@ fn unit_load(bus: &PlannedBus<'_>, unit: usize, broadcasts: &[Broadcast]) -> Opt
     let least = least_packets(broadcasts);
     Some(UnitLoad {
         packets: broadcast_frames(bus, DATA_TRANSFER, unit, 1, packets_demand(unit)),
-        announcements: broadcast_frames(bus, CONNECTION_MANAGEMENT, unit, least, UNIT_LIMIT + unit),
+        announcements: broadcast_frames(
+            bus,
+            CONNECTION_MANAGEMENT,
+            unit,
+            least,
+            announcements_demand(unit),
+        ),
         flows: broadcasts.len() as u32,
         all_packets: all_packets(broadcasts),
         bits_per_second: bits_per_second(bus.timing, broadcasts),

@@ -15,7 +15,7 @@ loop-place-preserved c =
     let k = c.loop-place.place in
     let before = c.args.all.now.items in
     let here = c.frames_at.result in
-    let inside : k < length frames = omega (arith, part_length c.args.part asked, c.places_in.ensures) in
+    let inside : k < length frames = omega (arith, part_length c.args.part asked, c.places_in-place-end.ensures) in
     record {
       frames = c.in_ok-push.ensures.items ∙ ap (λ (xs : List (Option FlowFrames)). xs ++ here ∷ []) c.loop-place.invariant.frames
           ∙ append_assoc before (take k frames) (here ∷ [])
@@ -30,5 +30,5 @@ pub returns-clause-frames : goal.returns-clause-frames
 returns-clause-frames c =
     let asked = asked_in c.args.self.now in
     let frames = frames_in c.args.part asked in
-    let over : length frames ≤ c.loop-place.place = omega (arith, part_length c.args.part asked, c.places_in.ensures) in
+    let over : length frames ≤ c.loop-place.place = omega (arith, part_length c.args.part asked, c.places_in-place-end.ensures) in
     c.loop-place.invariant.frames ∙ ap (λ (xs : List (Option FlowFrames)). c.args.all.now.items ++ xs) (take_all c.loop-place.place frames over)
