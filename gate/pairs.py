@@ -43,40 +43,40 @@ class Pair:
 
 KEPT = "laws::frames_that_keep_a_plan"
 PAIRS = (
-    Pair("jitter of single frames is left out", "streams::single_stream", KEPT, (
+    Pair("jitter of single frames is left out", "frames::streams::single_stream", KEPT, (
         Turn("specs/Loads.antt", "bits = longest_frame (most_bytes group);\n  late = bits_of_ms timing pace.jitter;",
              "bits = longest_frame (most_bytes group);\n  late = 0;"),
-        Turn("src/streams.rt", "bits: frame_bits(most_bytes(group)),\n        late: bits_of_ms(timing, pace.jitter),",
+        Turn("src/frames/streams.rt", "bits: frame_bits(most_bytes(group)),\n        late: bits_of_ms(timing, pace.jitter),",
              "bits: frame_bits(most_bytes(group)),\n        late: 0,"),
     )),
-    Pair("a period is a bit longer", "streams::single_stream", KEPT, (
+    Pair("a period is a bit longer", "frames::streams::single_stream", KEPT, (
         Turn("specs/Loads.antt", "period = bits_of_ms timing pace.period;\n  bits = longest_frame (most_bytes group);",
              "period = bits_of_ms timing pace.period + 1;\n  bits = longest_frame (most_bytes group);"),
-        Turn("src/streams.rt", "period: bits_of_ms(timing, pace.period),\n        bits: frame_bits(most_bytes(group)),",
+        Turn("src/frames/streams.rt", "period: bits_of_ms(timing, pace.period),\n        bits: frame_bits(most_bytes(group)),",
              "period: bits_of_ms(timing, pace.period) + 1,\n        bits: frame_bits(most_bytes(group)),"),
     )),
-    Pair("a single frame's last identifier is its least", "flow_loads::single_frames", KEPT, (
+    Pair("a single frame's last identifier is its least", "loads::flow_loads::single_frames", KEPT, (
         Turn("specs/Loads.antt", "last_ident = group_ident (of_unit units (greatest_address stays)) group flow;",
              "last_ident = group_ident (of_unit units (least_address stays)) group flow;"),
-        Turn("src/flow_loads.rt", "last_ident: greatest_ident,", "last_ident: group_ident(network, Extreme::Least, group, flow),"),
+        Turn("src/loads/flow_loads.rt", "last_ident: greatest_ident,", "last_ident: group_ident(network, Extreme::Least, group, flow),"),
     )),
-    Pair("125 kbit are counted as 250", "streams::bits_of_ms", KEPT, (
+    Pair("125 kbit are counted as 250", "frames::streams::bits_of_ms", KEPT, (
         Turn("specs/Loads.antt", "bits_per_ms Kbit125 = 125", "bits_per_ms Kbit125 = 250"),
-        Turn("src/streams.rt", "Bitrate::Kbit125 => 125,", "Bitrate::Kbit125 => 250,"),
+        Turn("src/frames/streams.rt", "Bitrate::Kbit125 => 125,", "Bitrate::Kbit125 => 250,"),
     )),
-    Pair("one damaged attempt comes in a window", "damage::damage_stream", KEPT, (
+    Pair("one damaged attempt comes in a window", "frames::damage::damage_stream", KEPT, (
         Turn("specs/Damage.antt", "record { frames = rate.count; period", "record { frames = 1; period"),
-        Turn("src/damage.rt", "frames: rate.count,", "frames: 1,"),
+        Turn("src/frames/damage.rt", "frames: rate.count,", "frames: 1,"),
     )),
-    Pair("unplanned frames of the very priority go before none", "delays::blocking", KEPT, (
+    Pair("unplanned frames of the very priority go before none", "waits::delays::blocking", KEPT, (
         Turn("specs/Delays.antt", "unplanned_idents timing = timing.unplanned_priority * 2 ^ 26",
              "unplanned_idents timing = (timing.unplanned_priority + 1) * 2 ^ 26"),
-        Turn("src/delays.rt", "u64::from(timing.unplanned_priority) * 67_108_864", "(u64::from(timing.unplanned_priority) + 1) * 67_108_864"),
+        Turn("src/waits/delays.rt", "ident >= first_of_priority(timing.unplanned_priority)", "ident >= first_of_priority(timing.unplanned_priority + 1)"),
     )),
-    Pair("units that keep no order are taken for others", "identifiers::any_unit", KEPT, (
+    Pair("units that keep no order are taken for others", "frames::identifiers::any_unit", KEPT, (
         Turn("specs/Loads.antt", "is_any Any = true", "is_any Any = false"),
         Turn("proofs/Sending.antt", "let same : u ≡ v = eqb-true u v is in", "let same : u ≡ v = absurd (false≢true is) in"),
-        Turn("src/identifiers.rt", "Queue::Any => Some(unit),", "Queue::Any => None,"),
+        Turn("src/frames/identifiers.rt", "Queue::Any => Some(unit),", "Queue::Any => None,"),
     )),
 )
 

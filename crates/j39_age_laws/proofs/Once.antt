@@ -8,8 +8,8 @@ use Rattle.std.specs.Option.{option_and_then, option_map_or}
 use Rattle.j39_network.specs.declared.plan.timing.Bitrate.{Bitrate}
 use Rattle.j39_network.specs.declared.plan.timing.Bitrate.TheVariants.{Kbit125, Kbit250, Kbit500, Mbit1}
 use Rattle.j39_network.specs.declared.plan.timing.Timing.{Timing}
-use Rattle.j39_load.specs.declared.delay.Delay.{Delay}
-use Rattle.j39_load.specs.declared.delay.Delay.TheVariants.{Within}
+use Rattle.j39_load.specs.declared.waits.delay.Delay.{Delay}
+use Rattle.j39_load.specs.declared.waits.delay.Delay.TheVariants.{Within}
 use Rattle.j39_load.specs.Asked.{frames_asked}
 use Rattle.j39_timing.specs.Traffic.{Traffic}
 use Rattle.j39_timing.specs.Gateways.{Carrier, HasBegun, IsHandedOn, IsIts, end_time, queue_time}

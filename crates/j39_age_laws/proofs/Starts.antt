@@ -5,10 +5,10 @@ use Rattle.std.specs.List.{slice_get}
 use Rattle.j39_network.specs.declared.plan.Plan.{Plan}
 use Rattle.j39_network.specs.declared.plan.timing.Timing.{Timing}
 use Rattle.j39_network.specs.declared.plan.unit_plan.UnitPlan.{UnitPlan}
-use Rattle.j39_load.specs.declared.delay.Delay.{Delay}
-use Rattle.j39_load.specs.declared.delay.Delay.TheVariants.{Within, Late}
-use Rattle.j39_load.specs.declared.flow_frames.FlowFrames.{FlowFrames}
-use Rattle.j39_load.specs.declared.messages.Messages.TheVariants.{Short}
+use Rattle.j39_load.specs.declared.waits.delay.Delay.{Delay}
+use Rattle.j39_load.specs.declared.waits.delay.Delay.TheVariants.{Within, Late}
+use Rattle.j39_load.specs.declared.frames.flow_frames.FlowFrames.{FlowFrames}
+use Rattle.j39_load.specs.declared.frames.messages.Messages.TheVariants.{Short}
 use Rattle.j39_load.specs.Ages.{least}
 use Rattle.j39_load.specs.AnyQueues.{IsOffer, Offer, held_at, keep_order, may_be_passed}
 use Rattle.j39_load.specs.Asked.{Asked, asked_of, frames_asked}

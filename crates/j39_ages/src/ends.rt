@@ -33,7 +33,8 @@ fn output_place(vehicle: &Vehicle, forward: &Forward) -> Option<usize>
         .position(|flow| is_output(forward, flow))
 }
 
-fn first_output<'a>(vehicle: &'a Vehicle, forward: &Forward) -> Option<&'a FlowPlan>
+/// The first of the flows that the forward feeds.
+pub fn first_output<'a>(vehicle: &'a Vehicle, forward: &Forward) -> Option<&'a FlowPlan>
     ensures { option_copied result ≡ first_output vehicle.now forward.now }
 {
     match output_place(vehicle, forward) {

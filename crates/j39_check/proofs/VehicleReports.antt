@@ -13,8 +13,8 @@ use Rattle.j39_network.specs.declared.plan.timing.Timing.{Timing}
 use Rattle.j39_network.specs.declared.plan.unit_plan.UnitPlan.{UnitPlan}
 use Rattle.j39_findings.proofs.FoundLaws.{are_findings}
 use Rattle.j39_findings.proofs.Vehicles.{clean_vehicle, found_alike}
-use Rattle.j39_load.specs.declared.delay.Delay.{Delay}
-use Rattle.j39_load.specs.declared.load_finding.LoadFinding.{LoadFinding}
+use Rattle.j39_load.specs.declared.waits.delay.Delay.{Delay}
+use Rattle.j39_load.specs.declared.findings.load_finding.LoadFinding.{LoadFinding}
 use Rattle.j39_load.specs.Asked.{Asked, asked_of, total_load}
 use Rattle.j39_load.specs.LoadFindings.{AreLoadFindings, all_findings}
 use Rattle.j39_load.proofs.Vehicles.{asks_alike, loads_alike, same_findings}

@@ -24,19 +24,19 @@ use Rattle.j39_network.specs.declared.plan.unit_plan.UnitPlan.{UnitPlan}
 use Rattle.j39_network.specs.declared.steps.Step.{Step}
 use Rattle.j39_network.specs.declared.steps.Step.TheVariants.{Up, Down, Give, Ask, Begin, Send, Emit, Take, Lose, LateSender, LateReceiver, Rest}
 use Rattle.j39_network.proofs.VehicleUnits.{AreBoth, both_at}
-use Rattle.j39_load.specs.declared.delay.Delay.{Delay}
-use Rattle.j39_load.specs.declared.flow_load.FlowLoad.{FlowLoad}
-use Rattle.j39_load.specs.declared.load_finding.LoadFinding.{LoadFinding}
+use Rattle.j39_load.specs.declared.waits.delay.Delay.{Delay}
+use Rattle.j39_load.specs.declared.loads.flow_load.FlowLoad.{FlowLoad}
+use Rattle.j39_load.specs.declared.findings.load_finding.LoadFinding.{LoadFinding}
 use Rattle.j39_load.specs.Ages.{least_age}
 use Rattle.j39_load.specs.Asked.{Asked}
 use Rattle.j39_load.specs.LineLists.{lines_of_each}
 use Rattle.j39_load.specs.Loads.{bits_of_ms}
 use Rattle.j39_schedule.specs.StepLines.{step_line, step_lines, step_text, step_unit_text}
-use Rattle.j39_text.specs.Labels.{group_label, group_pgn, group_selector_end, group_text, signal_bits, signal_end, signal_label, signals_of, text_end, text_label, texts_of, unit_address, unit_label, units_text}
+use Rattle.j39_text.specs.Labels.{group_label, group_pgn, group_selector_end, group_text, need_signal_text, need_text, signal_bits, signal_end, signal_label, signals_of, text_end, text_label, texts_of, unit_address, unit_label, units_text}
 use Rattle.j39_text.specs.Texts.{field}
 use Rattle.j39_check.specs.CheckText.{findings_text, ok_line}
 use Rattle.j39_check.specs.FindingLines.{finding_line, finding_lines, finding_part, finding_report, finding_text, run_lines, signal_text}
-use Rattle.j39_check.specs.LoadLines.{age_text, flow_line, flow_text, known_age_text, loads_text, need_line, need_signal_text, need_text, receiver_text}
+use Rattle.j39_check.specs.LoadLines.{age_text, flow_line, flow_text, known_age_text, loads_text, need_line, receiver_text}
 use Rattle.j39_check.specs.LoadText.{untold_lines, untold_text}
 
 -- the lines of each are those of two ways of telling that tell the same

@@ -6,7 +6,7 @@ use crate::finding_lines::{is_between, write_lines};
 use crate::load_lines::{write_load_findings, write_loads};
 use crate::plan_report::write_findings;
 use j39_findings::{Finding, check};
-use j39_load::{LoadFinding, Loads, all_findings};
+use j39_load::{LoadAnswer, LoadFinding};
 use j39_network::Plan;
 use j39_stream::Verdict;
 use j39_text::TextBuffer;
@@ -107,15 +107,14 @@ pub(super) fn load_report(alloc: Global, plan: &Plan) -> Result<(TextBuffer, Ver
         text.word("refused plan NoTiming\n")?;
         return Ok((text, Verdict::Refused));
     };
-    let loads = Loads::new(alloc, timing, plan)?;
-    let delays = loads.delays(alloc)?;
-    let others = all_findings(alloc, plan, timing, loads.total(), delays.as_slice())?;
+    let answer = LoadAnswer::new(alloc, timing, plan)?;
+    let others = answer.findings.as_slice();
     let findings = check(alloc, plan)?;
     if tells_times(&findings) {
-        write_loads(&mut text, plan, &loads, delays.as_slice())?;
-        write_untold(alloc, &mut text, plan, &findings, others.as_slice())?;
-        return Ok((text, verdict_of(&findings, others.as_slice())));
+        write_loads(&mut text, plan, &answer.loads, answer.delays.as_slice())?;
+        write_untold(alloc, &mut text, plan, &findings, others)?;
+        return Ok((text, verdict_of(&findings, others)));
     }
-    write_findings(alloc, &mut text, plan, &findings, others.as_slice())?;
+    write_findings(alloc, &mut text, plan, &findings, others)?;
     Ok((text, Verdict::Findings))
 }

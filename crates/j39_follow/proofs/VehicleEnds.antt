@@ -15,11 +15,11 @@ use Rattle.j39_network.specs.declared.plan.to.To.{To}
 use Rattle.j39_network.specs.declared.plan.to.To.TheVariants.{All as ToAll, One as ToOne}
 use Rattle.j39_network.specs.declared.plan.unit_plan.UnitPlan.{UnitPlan}
 use Rattle.j39_log.specs.ReadText.{refused_plan_line}
-use Rattle.j39_text.specs.Labels.{group_label, signal_label, signals_of, unit_label}
+use Rattle.j39_text.specs.Labels.{group_label, need_signal_text, need_text, signal_label, signals_of, unit_label}
 use Rattle.j39_text.specs.Texts.{field}
 use Rattle.j39_follow.specs.FollowText.{AreUnitLines, HoldsForUnit, IsUnitLine, asked_ends_text, ends_text, flow_end, flow_ends, flow_sent_line, group_end}
 use Rattle.j39_follow.specs.FollowText.{group_ends}
-use Rattle.j39_follow.specs.FollowText.{is_other, is_without_flow, met_need_text, met_signal_text, need_end, need_ends, need_met_line, request_end}
+use Rattle.j39_follow.specs.FollowText.{is_other, is_without_flow, need_end, need_ends, need_met_line, request_end}
 use Rattle.j39_follow.specs.FollowText.{request_end_line, request_ends, rest_line, times_met, to_text, unit_end_line}
 use Rattle.j39_follow.specs.LoggedRequests.{answers, asks_request, asked_number, concerns, is_for_one_unit, is_of_asked, reaches_asker, refuses, replies_to}
 use Rattle.j39_follow.specs.LoggedRequests.{times_answered, times_asked, times_refused, turns}
@@ -149,21 +149,21 @@ module _ (G : ℕ → Type 0) (p q : Plan) (same : TellAlike G p q) where
 
   -- ---- needs
 
-  same_met_signal : (need : NeedPlan) → met_signal_text p need ≡ met_signal_text q need
-  unfolding met_signal_text
-  same_met_signal need = go need.signal where
+  same_need_signal : (need : NeedPlan) → need_signal_text p need ≡ need_signal_text q need
+  unfolding need_signal_text
+  same_need_signal need = go need.signal where
     go : (o : Option ℕ) → option_map_or (λ s. codes " " ++ signal_label p need.group s) o []
         ≡ option_map_or (λ s. codes " " ++ signal_label q need.group s) o []
     go None = refl
     go (Some s) = ap (λ (t : List ℕ). codes " " ++ t) (same_signal_label need.group s)
 
-  same_met_need : (n : ℕ) (need : NeedPlan) → met_need_text p n need ≡ met_need_text q n need
-  unfolding met_need_text
-  same_met_need n need = rw (label need.unit, same_group_label need.group, same_met_signal need) refl
+  same_need : (n : ℕ) (need : NeedPlan) → need_text p n need ≡ need_text q n need
+  unfolding need_text
+  same_need n need = rw (label need.unit, same_group_label need.group, same_need_signal need) refl
 
   same_need_line : (n : ℕ) (need : NeedPlan) (times : ℕ) → need_met_line p n need times ≡ need_met_line q n need times
   unfolding need_met_line
-  same_need_line n need times = rw (same_met_need n need) refl
+  same_need_line n need times = rw (same_need n need) refl
 
   same_need_end : (sent : List Sort) (n : ℕ) (need : NeedPlan) → need_end p sent n need ≡ need_end q sent n need
   same_need_end sent n need =

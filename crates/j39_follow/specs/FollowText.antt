@@ -2,7 +2,7 @@
 use Rattle.std.specs.Prelude.{◌≡◌, ℕ, ◌+◌, ◌≤◌, ◌==◌, ◌⊎◌, Bool, true, false, if◌then◌else◌, List}
 use Rattle.std.specs.Prelude.{[], ◌∷◌, ◌++◌, length, map, count_by, codes, Some, None, Option}
 use Rattle.std.specs.List.{All, position}
-use Rattle.std.specs.Option.{option_eq, option_map_or}
+use Rattle.std.specs.Option.{option_eq}
 use Rattle.j39_id.specs.FrameLine.{Spells, HasLineFault}
 use Rattle.j39_id.specs.Lines.{Line, Short, Long, lines}
 use Rattle.j39_id.specs.declared.frame.Frame.{Frame}
@@ -23,7 +23,7 @@ use Rattle.j39_log.specs.LogPairs.{Seen, heard}
 use Rattle.j39_log.specs.ReadText.{CarriesNone, refused_plan_line}
 use Rattle.j39_tp.specs.Carried.{Carried}
 use Rattle.j39_tp.specs.declared.packet.Packet.{Packet}
-use Rattle.j39_text.specs.Labels.{group_label, signal_label, unit_label}
+use Rattle.j39_text.specs.Labels.{group_label, need_text, unit_label}
 use Rattle.j39_text.specs.Texts.{field, place_field}
 use Rattle.j39_stream.specs.declared.verdict.Verdict.{Verdict}
 use Rattle.j39_stream.specs.declared.verdict.Verdict.TheVariants.{Done, Findings, Refused, Unreadable}
@@ -284,18 +284,9 @@ unfoldable pub times_met : List RequestPlan → List Sort → NeedPlan → ℕ �
 times_met requests sent need n [] = 0
 times_met requests sent need n (flow ∷ flows) = met_by requests sent need n flow + times_met requests sent need (n + 1) flows
 
--- the signal that a need names, if it names one
-unfoldable pub met_signal_text : Plan → NeedPlan → List ℕ
-met_signal_text plan need = option_map_or (λ s. codes " " ++ signal_label plan need.group s) need.signal []
-
--- a need: its place, its unit, its group, and its signal where it names one
-unfoldable pub met_need_text : Plan → ℕ → NeedPlan → List ℕ
-met_need_text plan n need = place_field (codes "need ") n ++ (codes " " ++ (unit_label plan need.unit
-    ++ (codes " " ++ (group_label plan need.group ++ met_signal_text plan need))))
-
 -- a need that was met so often
 unfoldable pub need_met_line : Plan → ℕ → NeedPlan → ℕ → List ℕ
-need_met_line plan n need times = met_need_text plan n need ++ (field (codes " met ") times ++ 10 ∷ [])
+need_met_line plan n need times = need_text plan n need ++ (field (codes " met ") times ++ 10 ∷ [])
 
 -- of each need how often it was met
 abbrev pub need_end : Plan → List Sort → ℕ → NeedPlan → List ℕ

@@ -2,13 +2,13 @@
 ghost use Rattle.std.specs.Prelude.{◌≡◌, ◌<◌, ◌^◌, ◌++◌, ℕ, List, OnOk, if◌then◌else◌};
 ghost use Rattle.j39_network.specs.Serving.{meets as brings};
 ghost use Rattle.j39_network.specs.PlanLimits.{flow_limit};
-ghost use Rattle.j39_follow.specs.FollowText.{met_need_text, met_signal_text, need_ends, need_met_line, times_met as times_sent};
+ghost use Rattle.j39_follow.specs.FollowText.{need_ends, need_met_line, times_met as times_sent};
 ghost use Rattle.j39_follow.specs.declared.message.Sort.{Sort as ASort};
 ghost use Rattle.j39_follow.specs.inside.Tallies.{IsTally, tally_at};
 
 use crate::tally::Tally;
 use j39_network::{FlowPlan, NeedPlan, Plan, RequestPlan, meets};
-use j39_text::{TextBuffer, group_label, signal_label, unit_label};
+use j39_text::{TextBuffer, write_need};
 use std::alloc::AllocError;
 
 // How often the flow at a place was sent, where it meets the need.
@@ -38,36 +38,6 @@ fn times_met(plan: &Plan, tally: &Tally, need: &NeedPlan) -> u128
         times += u128::from(met_by(tally, &plan.requests, need, place, &plan.flows[place]));
     }
     times
-}
-
-#[tactic(auto, unfolding(crate::specs::FollowText::met_signal_text))]
-fn write_signal(text: &mut TextBuffer, plan: &Plan, need: &NeedPlan) -> Result<(), AllocError>
-    ensures { OnOk result (text.new ≡ text.old ++ met_signal_text plan.now need.now) }
-{
-    match need.signal {
-        Some(signal) => {
-            text.word(" ")?;
-            text.word(signal_label(plan, need.group, signal))
-        }
-        None => Ok(()),
-    }
-}
-
-#[tactic(auto, unfolding(crate::specs::FollowText::met_need_text))]
-fn write_need(
-    text: &mut TextBuffer,
-    plan: &Plan,
-    place: usize,
-    need: &NeedPlan,
-) -> Result<(), AllocError>
-    ensures { OnOk result (text.new ≡ text.old ++ met_need_text plan.now place need.now) }
-{
-    text.place("need ", place)?;
-    text.word(" ")?;
-    text.word(unit_label(plan, need.unit))?;
-    text.word(" ")?;
-    text.word(group_label(plan, need.group))?;
-    write_signal(text, plan, need)
 }
 
 #[tactic(auto, unfolding(crate::specs::FollowText::need_met_line))]

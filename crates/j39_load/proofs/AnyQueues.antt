@@ -5,7 +5,7 @@ use Rattle.std.proofs.lemmas.List.Elements.{All-from_get_or, All-get_or}
 use Rattle.std.specs.Option.{option_map_or}
 use Rattle.std.specs.Prelude.{slice_index_or}
 use Rattle.j39_load.specs.AnyQueues.{AreAtMost, IsLevel, are_of_unit, is_member, is_of_company}
-use Rattle.j39_load.specs.declared.flow_frames.FlowFrames.{FlowFrames}
+use Rattle.j39_load.specs.declared.frames.flow_frames.FlowFrames.{FlowFrames}
 
 pub at_most_more : (leasts : List (Option ℕ)) (own : FlowFrames) (level a b : ℕ) → a ≤ b → (sent : Option FlowFrames)
     → AreAtMost leasts own level a sent → AreAtMost leasts own level b sent

@@ -9,7 +9,7 @@ use Rattle.std.specs.Bool.{MatchBool}
 use Rattle.std.specs.Option.{option_map_or}
 use Rattle.j39_id.specs.Limits.{unit_limit}
 use Rattle.j39_network.specs.declared.plan.timing.Timing.{Timing}
-use Rattle.j39_load.specs.declared.flow_frames.FlowFrames.{FlowFrames}
+use Rattle.j39_load.specs.declared.frames.flow_frames.FlowFrames.{FlowFrames}
 use Rattle.j39_load.specs.Ages.{least, smaller_known}
 use Rattle.j39_load.specs.AnyQueues.{AreAtMost, IsCompanyLevel, IsCompanyWait, IsHeldFor, IsOffer, Offer, TellWaits, are_of_unit, held_at, is_member, is_of_company, keep_order, later_frames, least_of, leasts_of, may_be_passed, offered, own_least, unheld_at, with_unplanned}
 use Rattle.j39_load.specs.Damage.{damage_frames}

@@ -8,13 +8,13 @@ use Rattle.std.specs.List.{slice_get}
 use Rattle.j39_network.specs.declared.plan.Plan.{Plan}
 use Rattle.j39_network.specs.declared.plan.timing.Timing.{Timing}
 use Rattle.j39_network.specs.declared.plan.unit_plan.UnitPlan.{UnitPlan}
-use Rattle.j39_load.specs.declared.delay.Delay.{Delay}
-use Rattle.j39_load.specs.declared.delay.Delay.TheVariants.{Within, Late, Long, Whole}
-use Rattle.j39_load.specs.declared.flow_frames.FlowFrames.{FlowFrames}
-use Rattle.j39_load.specs.declared.flow_load.FlowLoad.{FlowLoad}
-use Rattle.j39_load.specs.declared.messages.Messages.{Messages}
-use Rattle.j39_load.specs.declared.messages.Messages.TheVariants.{Short, ToAll, ToOne}
-use Rattle.j39_load.specs.declared.whole_time.WholeTime.{WholeTime}
+use Rattle.j39_load.specs.declared.waits.delay.Delay.{Delay}
+use Rattle.j39_load.specs.declared.waits.delay.Delay.TheVariants.{Within, Late, Long, Whole}
+use Rattle.j39_load.specs.declared.frames.flow_frames.FlowFrames.{FlowFrames}
+use Rattle.j39_load.specs.declared.loads.flow_load.FlowLoad.{FlowLoad}
+use Rattle.j39_load.specs.declared.frames.messages.Messages.{Messages}
+use Rattle.j39_load.specs.declared.frames.messages.Messages.TheVariants.{Short, ToAll, ToOne}
+use Rattle.j39_load.specs.declared.waits.whole_time.WholeTime.{WholeTime}
 use Rattle.j39_load.specs.AnyQueues.{IsOffer, Offer, keep_order, may_be_passed}
 use Rattle.j39_load.specs.Asked.{Asked, asked_of, frames_asked, total_load}
 use Rattle.j39_load.specs.Damage.{damage_frames}
@@ -139,44 +139,34 @@ long_within count bits is = cc
 long_late : (count : ℕ) → Long count ≡ Late → ⊥
 long_late count is = cc
 
--- no frames of single messages are told as long ones
-pub never_whole : (timing : Timing) (offer : Offer) (flow : ℕ) (frames : FlowFrames) (limit : ℕ) (whole : WholeTime)
-    → IsFrameDelay timing offer flow frames limit (Whole whole) → ⊥
-never_whole timing offer flow frames limit whole told = go (keep_order frames) (may_be_passed offer frames.greatest_ident) told
+-- the delay of frames of single messages is a bound, or none is told
+never_told : (timing : Timing) (offer : Offer) (flow : ℕ) (frames : FlowFrames) (limit : ℕ) (delay : Delay) → ((bits : ℕ) → delay ≡ Within bits → ⊥)
+    → (delay ≡ Late → ⊥) → (IsShortDelay timing offer.frames flow frames limit delay → ⊥) → IsFrameDelay timing offer flow frames limit delay → ⊥
+never_told timing offer flow frames limit delay bound none short told = go (keep_order frames) (may_be_passed offer frames.greatest_ident) told
   where
-    late : (wait : Option ℕ) → Whole whole ≡ any_delay frames limit wait → ⊥
-    late None is = whole_late whole is
+    late : (wait : Option ℕ) → delay ≡ any_delay frames limit wait → ⊥
+    late None is = none is
     late (Some w) is = by (leb (delay_of frames.stream w) limit) is
       where
-        by : (fits : Bool) → Whole whole ≡ (if fits then Within (delay_of frames.stream w) else Late) → ⊥
-        by true is = whole_within whole (delay_of frames.stream w) is
-        by false is = whole_late whole is
+        by : (fits : Bool) → delay ≡ (if fits then Within (delay_of frames.stream w) else Late) → ⊥
+        by true is = bound (delay_of frames.stream w) is
+        by false is = none is
 
-    go : (keeps passed : Bool)
-        → MatchBool keeps (MatchBool passed (Whole whole ≡ Late) (IsShortDelay timing offer.frames flow frames limit (Whole whole)))
-        (Whole whole ≡ any_delay frames limit (get_or offer.waits flow None)) → ⊥
-    go true true is = whole_late whole is
-    go true false is = is
+    go : (keeps passed : Bool) → MatchBool keeps (MatchBool passed (delay ≡ Late) (IsShortDelay timing offer.frames flow frames limit delay))
+        (delay ≡ any_delay frames limit (get_or offer.waits flow None)) → ⊥
+    go true true is = none is
+    go true false is = short is
     go false passed is = late (get_or offer.waits flow None) is
+
+pub never_whole : (timing : Timing) (offer : Offer) (flow : ℕ) (frames : FlowFrames) (limit : ℕ) (whole : WholeTime)
+    → IsFrameDelay timing offer flow frames limit (Whole whole) → ⊥
+never_whole timing offer flow frames limit whole =
+    never_told timing offer flow frames limit (Whole whole) (whole_within whole) (whole_late whole) (λ short. short)
 
 pub never_long : (timing : Timing) (offer : Offer) (flow : ℕ) (frames : FlowFrames) (limit count : ℕ)
     → IsFrameDelay timing offer flow frames limit (Long count) → ⊥
-never_long timing offer flow frames limit count told = go (keep_order frames) (may_be_passed offer frames.greatest_ident) told
-  where
-    late : (wait : Option ℕ) → Long count ≡ any_delay frames limit wait → ⊥
-    late None is = long_late count is
-    late (Some w) is = by (leb (delay_of frames.stream w) limit) is
-      where
-        by : (fits : Bool) → Long count ≡ (if fits then Within (delay_of frames.stream w) else Late) → ⊥
-        by true is = long_within count (delay_of frames.stream w) is
-        by false is = long_late count is
-
-    go : (keeps passed : Bool)
-        → MatchBool keeps (MatchBool passed (Long count ≡ Late) (IsShortDelay timing offer.frames flow frames limit (Long count)))
-        (Long count ≡ any_delay frames limit (get_or offer.waits flow None)) → ⊥
-    go true true is = long_late count is
-    go true false is = is
-    go false passed is = late (get_or offer.waits flow None) is
+never_long timing offer flow frames limit count =
+    never_told timing offer flow frames limit (Long count) (long_within count) (long_late count) (λ short. short)
 
 -- frames of a unit's broadcasts, for which a wait is told
 module _ (timing : Timing) (asked : List (Option FlowFrames)) (paced : All HasPeriod (asked ++ damage_frames timing))

@@ -1,41 +1,43 @@
 -- What is wanted of the broadcasts of units is the same where frames count from when they are offered for good, and with what comes of damage.
-use Rattle.std.proofs.Common.{◌≡◌, ℕ, suc, ◌+◌, ◌<◌, ◌≤◌, length, take, get_or, max, Bool, true, false, cond, ◌&&◌, eqb, ltb, leb, List, [], ◌∷◌, ◌++◌, map, Option, None, Some, option_map, refl, sym, ap, ◌∙◌, inl, inr, arith}
+use Rattle.std.proofs.Common.{◌≡◌, ℕ, suc, ◌+◌, ◌<◌, length, take, get_or, max, Bool, true, cond, ◌&&◌, eqb, ltb, leb, List, [], ◌∷◌, ◌++◌, map, Option, None, Some, option_map, refl, sym, ap, ◌∙◌, inl, inr, arith}
 use Rattle.std.proofs.Math.Seq.{take-suc}
 use Rattle.std.proofs.lemmas.Bool.{and_parts, cases_Bool, eqb-true}
+use Rattle.std.proofs.lemmas.List.{append-nil}
 use Rattle.std.proofs.lemmas.List.Elements.{filter_map-append}
 use Rattle.std.proofs.lemmas.Option.{none-some}
 use Rattle.std.specs.List.{cons_option, filter_map, range_with_len, slice_get}
 use Rattle.std.specs.Option.{option_and_then}
 use Rattle.j39_id.specs.Limits.{unit_limit}
 use Rattle.j39_network.specs.declared.plan.timing.Timing.{Timing}
-use Rattle.j39_load.specs.declared.broadcast.Broadcast.{Broadcast}
-use Rattle.j39_load.specs.declared.flow_frames.FlowFrames.{FlowFrames}
+use Rattle.j39_load.specs.declared.frames.broadcast.Broadcast.{Broadcast}
+use Rattle.j39_load.specs.declared.frames.broadcast.BroadcastPart.{BroadcastPart}
+use Rattle.j39_load.specs.declared.frames.broadcast.BroadcastPart.TheVariants.{Announcements, Packets}
+use Rattle.j39_load.specs.declared.frames.flow_frames.FlowFrames.{FlowFrames}
 use Rattle.j39_load.specs.AnyQueues.{held_at, later_frames, offered, offered_at}
 use Rattle.j39_load.specs.Damage.{damage_frames, damage_streams, first_of_all}
 use Rattle.j39_load.specs.Demands.{demand_by, demands_by, demands_of, most_packets, wanted_by, wants_of}
 use Rattle.j39_load.specs.LineLists.{lines_of_each}
 use Rattle.j39_timing.specs.FrameStreams.{Origins}
-use Rattle.j39_timing.specs.Sums.{total}
 use Rattle.j39_timing.specs.TimedFrames.{Schedule}
 use Rattle.j39_timing.specs.Traffic.{AreAsWanted, moments_in}
-use Rattle.j39_timing.specs.Waits.{Demand, demand_of, frames_wanted}
+use Rattle.j39_timing.specs.Waits.{Demand, demand_of}
 use Rattle.j39_timing.specs.declared.stream.Stream.{Stream}
 use Rattle.j39_timing.proofs.Sums.{total-none}
 
 -- ---- of two lists in which flows want the same
 
 module _ (xs ys : List (Option FlowFrames)) (same : (u : ℕ) → wants_of xs u ≡ wants_of ys u) where
-  each_demand : (announcements : Bool) (places : List ℕ)
-      → map (λ u. demand_by announcements (wants_of xs u)) places ≡ map (λ u. demand_by announcements (wants_of ys u)) places
-  each_demand announcements [] = refl
-  each_demand announcements (u ∷ us) =
-      ap (λ (bs : List Broadcast). demand_by announcements bs ∷ map (λ v. demand_by announcements (wants_of xs v)) us) (same u)
-      ∙ ap (λ (ds : List Demand). demand_by announcements (wants_of ys u) ∷ ds) (each_demand announcements us)
+  each_demand : (part : BroadcastPart) (places : List ℕ)
+      → map (λ u. demand_by part (wants_of xs u)) places ≡ map (λ u. demand_by part (wants_of ys u)) places
+  each_demand part [] = refl
+  each_demand part (u ∷ us) =
+      ap (λ (bs : List Broadcast). demand_by part bs ∷ map (λ v. demand_by part (wants_of xs v)) us) (same u)
+      ∙ ap (λ (ds : List Demand). demand_by part (wants_of ys u) ∷ ds) (each_demand part us)
 
   same_demands : demands_of xs ≡ demands_of ys
   same_demands =
-      ap (λ (ds : List Demand). ds ++ demands_by true xs) (each_demand false (range_with_len 0 unit_limit))
-      ∙ ap (λ (ds : List Demand). demands_by false ys ++ ds) (each_demand true (range_with_len 0 unit_limit))
+      ap (λ (ds : List Demand). ds ++ demands_by Announcements xs) (each_demand Packets (range_with_len 0 unit_limit))
+      ∙ ap (λ (ds : List Demand). demands_by Packets ys ++ ds) (each_demand Announcements (range_with_len 0 unit_limit))
 
 -- ---- with what comes of damage
 
@@ -43,15 +45,11 @@ nothing_wanted : (u : ℕ) (streams : List Stream) → filter_map (wanted_by u) 
 nothing_wanted u [] = refl
 nothing_wanted u (stream ∷ streams) = nothing_wanted u streams
 
-nothing_behind : {X : Type 0} (xs : List X) → xs ++ [] ≡ xs
-nothing_behind [] = refl
-nothing_behind (x ∷ xs) = ap (λ (ys : List _). x ∷ ys) (nothing_behind xs)
-
 pub demands_with_damage : (timing : Timing) (asked : List (Option FlowFrames)) → demands_of (asked ++ damage_frames timing) ≡ demands_of asked
 demands_with_damage timing asked = same_demands (asked ++ damage_frames timing) asked (λ u.
     filter_map-append (wanted_by u) asked (damage_frames timing)
     ∙ ap (λ (bs : List Broadcast). wants_of asked u ++ bs) (nothing_wanted u (damage_streams timing))
-    ∙ nothing_behind (wants_of asked u))
+    ∙ append-nil (wants_of asked u))
 
 -- ---- where frames are offered for good
 
@@ -93,24 +91,6 @@ never_wanted s planned of demands stream none j t span demand its =
 
 -- ---- one flow after another
 
-next_want : (u : ℕ) (all : List (Option FlowFrames)) (k : ℕ) → k < length all
-    → wants_of (take (k + 1) all) u ≡ wants_of (take k all) u ++ wants_of (get_or all k None ∷ []) u
-next_want u all k inside =
-    let next : k + 1 ≡ suc k = omega arith in
-    ap (λ (n : ℕ). wants_of (take n all) u) next ∙ ap (λ (xs : List (Option FlowFrames)). wants_of xs u) (take-suc all k None inside)
-    ∙ filter_map-append (wanted_by u) (take k all) (get_or all k None ∷ [])
-
-pub one_want_more : (u : ℕ) (all : List (Option FlowFrames)) (k : ℕ) (b : Broadcast) → k < length all → wanted_by u (get_or all k None) ≡ Some b
-    → wants_of (take (k + 1) all) u ≡ wants_of (take k all) u ++ b ∷ []
-one_want_more u all k b inside is =
-    next_want u all k inside ∙ ap (λ (x : Option Broadcast). wants_of (take k all) u ++ cons_option x []) is
-
-pub no_want_more : (u : ℕ) (all : List (Option FlowFrames)) (k : ℕ) → k < length all → wanted_by u (get_or all k None) ≡ None
-    → wants_of (take (k + 1) all) u ≡ wants_of (take k all) u
-no_want_more u all k inside is =
-    next_want u all k inside ∙ ap (λ (x : Option Broadcast). wants_of (take k all) u ++ cons_option x []) is
-    ∙ nothing_behind (wants_of (take k all) u)
-
 most_of_more : (bs : List Broadcast) (b : Broadcast) → most_packets (bs ++ b ∷ []) ≡ max b.packets (most_packets bs)
 unfolding most_packets
 most_of_more [] b = refl
@@ -125,7 +105,3 @@ pub next_most : (bs : List Broadcast) (k : ℕ) (d : Broadcast) → k < length b
 next_most bs k d inside =
     let next : k + 1 ≡ suc k = omega arith in
     ap (λ (n : ℕ). most_packets (take n bs)) next ∙ ap most_packets (take-suc bs k d inside) ∙ most_of_more (take k bs) (get_or bs k d)
-
-pub map_one_more : {X Y : Type 0} (f : X → Y) (xs : List X) (x : X) → map f (xs ++ x ∷ []) ≡ map f xs ++ f x ∷ []
-map_one_more f [] x = refl
-map_one_more f (y ∷ ys) x = ap (λ (zs : List _). f y ∷ zs) (map_one_more f ys x)

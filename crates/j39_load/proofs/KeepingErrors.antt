@@ -14,7 +14,7 @@ use Rattle.j39_network.specs.declared.plan.Plan.{Plan}
 use Rattle.j39_network.specs.declared.plan.timing.ErrorRate.{ErrorRate}
 use Rattle.j39_network.specs.declared.plan.timing.Timing.{Timing}
 use Rattle.j39_network.specs.declared.plan.unit_plan.UnitPlan.{UnitPlan}
-use Rattle.j39_load.specs.declared.flow_frames.FlowFrames.{FlowFrames}
+use Rattle.j39_load.specs.declared.frames.flow_frames.FlowFrames.{FlowFrames}
 use Rattle.j39_load.specs.AnyQueues.{keep_order}
 use Rattle.j39_load.specs.Asked.{announcements_of_unit, asked_of, frames_asked, frames_of_flow, frames_of_request, packets_of_unit, singles_of_flow}
 use Rattle.j39_load.specs.Damage.{damage_frames, damage_stream, first_frames}

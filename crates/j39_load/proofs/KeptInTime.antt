@@ -10,8 +10,8 @@ use Rattle.j39_network.specs.declared.plan.timing.Bitrate.{Bitrate}
 use Rattle.j39_network.specs.declared.plan.timing.Bitrate.TheVariants.{Kbit125, Kbit250, Kbit500, Mbit1}
 use Rattle.j39_network.specs.declared.plan.timing.Timing.{Timing}
 use Rattle.j39_network.specs.declared.plan.unit_plan.UnitPlan.{UnitPlan}
-use Rattle.j39_load.specs.declared.delay.Delay.{Delay}
-use Rattle.j39_load.specs.declared.flow_load.FlowLoad.{FlowLoad}
+use Rattle.j39_load.specs.declared.waits.delay.Delay.{Delay}
+use Rattle.j39_load.specs.declared.loads.flow_load.FlowLoad.{FlowLoad}
 use Rattle.j39_load.specs.Ages.{old_needs}
 use Rattle.j39_load.specs.Asked.{asked_of, frames_asked, total_load}
 use Rattle.j39_load.specs.KeepsErrors.{AreInTimeWithErrors, origins_with, planned_with}

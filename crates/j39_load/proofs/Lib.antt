@@ -16,8 +16,10 @@ pub mod KeepingErrors
 pub mod KeepingPlan
 pub mod KeptInTime
 pub mod LeastKnown
+pub mod LoadAnswers
 pub mod Offering
 pub mod OneLoad
+pub mod PartFrames
 pub mod PositivePeriods
 pub mod Ranks
 pub mod ReadingInTime

@@ -12,17 +12,17 @@ use Rattle.std.specs.List.{filter_map, range_with_len, slice_get}
 use Rattle.j39_network.specs.declared.plan.Plan.{Plan}
 use Rattle.j39_network.specs.declared.plan.timing.Timing.{Timing}
 use Rattle.j39_network.specs.declared.plan.unit_plan.UnitPlan.{UnitPlan}
-use Rattle.j39_load.specs.declared.broadcast.Broadcast.{Broadcast}
-use Rattle.j39_load.specs.declared.delay.Delay.{Delay}
-use Rattle.j39_load.specs.declared.delay.Delay.TheVariants.{Within, Late, Long, Whole}
-use Rattle.j39_load.specs.declared.flow_frames.FlowFrames.{FlowFrames}
-use Rattle.j39_load.specs.declared.flow_load.FlowLoad.{FlowLoad}
-use Rattle.j39_load.specs.declared.load_finding.LoadFinding.TheVariants.{LateFlow}
-use Rattle.j39_load.specs.declared.messages.Messages.{Messages}
-use Rattle.j39_load.specs.declared.messages.Messages.TheVariants.{Short, ToAll, ToOne}
-use Rattle.j39_load.specs.declared.request_load.RequestLoad.{RequestLoad}
-use Rattle.j39_load.specs.declared.unit_load.UnitLoad.{UnitLoad}
-use Rattle.j39_load.specs.declared.whole_time.WholeTime.{WholeTime}
+use Rattle.j39_load.specs.declared.frames.broadcast.Broadcast.{Broadcast}
+use Rattle.j39_load.specs.declared.waits.delay.Delay.{Delay}
+use Rattle.j39_load.specs.declared.waits.delay.Delay.TheVariants.{Within, Late, Long, Whole}
+use Rattle.j39_load.specs.declared.frames.flow_frames.FlowFrames.{FlowFrames}
+use Rattle.j39_load.specs.declared.loads.flow_load.FlowLoad.{FlowLoad}
+use Rattle.j39_load.specs.declared.findings.load_finding.LoadFinding.TheVariants.{LateFlow}
+use Rattle.j39_load.specs.declared.frames.messages.Messages.{Messages}
+use Rattle.j39_load.specs.declared.frames.messages.Messages.TheVariants.{Short, ToAll, ToOne}
+use Rattle.j39_load.specs.declared.loads.request_load.RequestLoad.{RequestLoad}
+use Rattle.j39_load.specs.declared.loads.unit_load.UnitLoad.{UnitLoad}
+use Rattle.j39_load.specs.declared.waits.whole_time.WholeTime.{WholeTime}
 use Rattle.j39_load.specs.Ages.{is_in_limit, old_needs}
 use Rattle.j39_load.specs.AnyQueues.{IsOffer, Offer}
 use Rattle.j39_load.specs.Asked.{Asked, announcements_of_unit, asked_of, frames_asked, frames_of_flow, frames_of_request, packets_of_unit, singles_of_flow, total_load}

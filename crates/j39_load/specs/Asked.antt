@@ -5,13 +5,13 @@ use Rattle.std.specs.Option.{option_and_then, option_map, option_map_or}
 use Rattle.j39_network.specs.declared.plan.Plan.{Plan}
 use Rattle.j39_network.specs.declared.plan.timing.Timing.{Timing}
 use Rattle.j39_network.specs.declared.plan.unit_plan.UnitPlan.{UnitPlan}
-use Rattle.j39_load.specs.declared.broadcast.Broadcast.{Broadcast}
-use Rattle.j39_load.specs.declared.flow_frames.FlowFrames.{FlowFrames}
-use Rattle.j39_load.specs.declared.flow_load.FlowLoad.{FlowLoad}
-use Rattle.j39_load.specs.declared.messages.Messages.{Messages}
-use Rattle.j39_load.specs.declared.messages.Messages.TheVariants.{Short, ToAll, ToOne}
-use Rattle.j39_load.specs.declared.request_load.RequestLoad.{RequestLoad}
-use Rattle.j39_load.specs.declared.unit_load.UnitLoad.{UnitLoad}
+use Rattle.j39_load.specs.declared.frames.broadcast.Broadcast.{Broadcast}
+use Rattle.j39_load.specs.declared.frames.flow_frames.FlowFrames.{FlowFrames}
+use Rattle.j39_load.specs.declared.loads.flow_load.FlowLoad.{FlowLoad}
+use Rattle.j39_load.specs.declared.frames.messages.Messages.{Messages}
+use Rattle.j39_load.specs.declared.frames.messages.Messages.TheVariants.{Short, ToAll, ToOne}
+use Rattle.j39_load.specs.declared.loads.request_load.RequestLoad.{RequestLoad}
+use Rattle.j39_load.specs.declared.loads.unit_load.UnitLoad.{UnitLoad}
 use Rattle.j39_load.specs.Broadcasts.{unit_loads_of}
 use Rattle.j39_load.specs.Damage.{load_of_damage}
 use Rattle.j39_load.specs.Loads.{loads_of}

@@ -5,7 +5,7 @@ use Rattle.std.specs.Option.{option_map_or}
 use Rattle.j39_id.specs.Limits.{frame_bytes}
 use Rattle.j39_network.specs.declared.plan.timing.ErrorRate.{ErrorRate}
 use Rattle.j39_network.specs.declared.plan.timing.Timing.{Timing}
-use Rattle.j39_load.specs.declared.flow_frames.FlowFrames.{FlowFrames}
+use Rattle.j39_load.specs.declared.frames.flow_frames.FlowFrames.{FlowFrames}
 use Rattle.j39_load.specs.Loads.{bits_of_ms}
 use Rattle.j39_timing.specs.FrameBits.{error_frame, longest_frame}
 use Rattle.j39_timing.specs.declared.stream.Stream.{Stream}

@@ -1,6 +1,7 @@
 pub mod Ages
 pub mod AnyQueues
 pub mod Asked
+pub mod AskedLoads
 pub mod Broadcasts
 pub mod Damage
 pub mod Delays
@@ -9,6 +10,7 @@ pub mod FreshNeeds
 pub mod KeepsErrors
 pub mod KeptTogether
 pub mod KeepsPlan
+pub mod LoadAnswers
 pub mod LoadFindings
 pub mod Loads
 pub mod LineLists

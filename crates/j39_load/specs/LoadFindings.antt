@@ -5,11 +5,11 @@ use Rattle.std.specs.Option.{option_map_or}
 use Rattle.j39_network.specs.declared.plan.Plan.{Plan}
 use Rattle.j39_network.specs.declared.plan.timing.Timing.{Timing}
 use Rattle.j39_network.specs.declared.plan.unit_plan.UnitPlan.{UnitPlan}
-use Rattle.j39_load.specs.declared.delay.Delay.{Delay}
-use Rattle.j39_load.specs.declared.delay.Delay.TheVariants.{Late, Whole}
-use Rattle.j39_load.specs.declared.load_finding.LoadFinding.{LoadFinding}
-use Rattle.j39_load.specs.declared.load_finding.LoadFinding.TheVariants.{NoPeriod, Overload, LateFlow, NeedTooOld}
-use Rattle.j39_load.specs.declared.whole_time.WholeTime.{WholeTime}
+use Rattle.j39_load.specs.declared.waits.delay.Delay.{Delay}
+use Rattle.j39_load.specs.declared.waits.delay.Delay.TheVariants.{Late, Whole}
+use Rattle.j39_load.specs.declared.findings.load_finding.LoadFinding.{LoadFinding}
+use Rattle.j39_load.specs.declared.findings.load_finding.LoadFinding.TheVariants.{NoPeriod, Overload, LateFlow, NeedTooOld}
+use Rattle.j39_load.specs.declared.waits.whole_time.WholeTime.{WholeTime}
 use Rattle.j39_load.specs.Ages.{is_in_limit, old_needs}
 use Rattle.j39_load.specs.Asked.{asked_of, total_load}
 use Rattle.j39_load.specs.Damage.{load_of_damage}

@@ -3,7 +3,7 @@ pub mod Broadcasting
 pub mod Extremes
 pub mod FlowSearch
 pub mod FewFrames
-pub mod FramesBy
-pub mod Networks
+pub mod FrameParts
+pub mod PlannedBuses
 pub mod Offers
 pub mod TurnTimes

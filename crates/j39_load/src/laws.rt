@@ -14,7 +14,7 @@ ghost use Rattle.j39_network.specs.declared.plan.request_plan.RequestPlan.{Reque
 ghost use Rattle.j39_network.specs.declared.plan.timing.ErrorRate.{ErrorRate as ErrorRates};
 ghost use Rattle.j39_network.specs.declared.plan.timing.Timing.{Timing as Timings};
 ghost use Rattle.j39_network.specs.declared.plan.unit_plan.UnitPlan.{UnitPlan as PlannedUnits};
-ghost use Rattle.j39_load.specs.declared.delay.Delay.{Delay as Delays};
+ghost use Rattle.j39_load.specs.declared.waits.delay.Delay.{Delay as Delays};
 ghost use Rattle.j39_load.specs.FreshNeeds.{AreNeedsFresh};
 ghost use Rattle.j39_load.specs.KeepsErrors.{AreInTimeWithErrors, KeepsErrors, origins_with, planned_with};
 ghost use Rattle.j39_load.specs.KeepsPlan.{AreFramesInTime, CanBeKept, Held, KeepsToPlan, KeepsQueues, FrameFlows, origins_of};

@@ -8,7 +8,7 @@ use Rattle.j39_network.specs.declared.plan.timing.Timing.{Timing}
 use Rattle.j39_network.specs.declared.plan.unit_plan.UnitPlan.{UnitPlan}
 use Rattle.j39_load.specs.Asked.{asked_of}
 use Rattle.j39_load.specs.LoadFindings.{AreLoadFindings}
-use Rattle.j39_load.specs.declared.load_finding.LoadFinding.{LoadFinding}
+use Rattle.j39_load.specs.declared.findings.load_finding.LoadFinding.{LoadFinding}
 use Rattle.j39_check.specs.CheckText.{IsReport}
 use Rattle.j39_check.specs.FoundInPlan.{are_of_times}
 use Rattle.j39_check.specs.LoadLines.{load_line}

@@ -1,7 +1,7 @@
 //! What is written of the plans of a vehicle's buses.
 ghost use Rattle.std.specs.Prelude.{◌≡◌, ◌+◌, ◌≤◌, ◌++◌, ◌^◌, ◌&&◌, ℕ, List, IfOk, OnOk, length};
 ghost use Rattle.j39_check.specs.FoundInPlan.{ArePlanFindings, are_of_times};
-ghost use Rattle.j39_load.specs.declared.load_finding.LoadFinding.{LoadFinding as LoadFaults};
+ghost use Rattle.j39_load.specs.declared.findings.load_finding.LoadFinding.{LoadFinding as LoadFaults};
 ghost use Rattle.j39_vehicle.specs.VehicleLimits.{bus_limit};
 ghost use Rattle.j39_vehicle_check.specs.VehicleBlocks.{AreBlocks, IsBlock, IsLoadOf, IsLoadWhere, all_are_of_times, count_of_plans};
 

@@ -12,7 +12,6 @@ mod forward_lines;
 mod labels;
 mod need_lines;
 mod refusals;
-mod times;
 mod vehicle_report;
 mod ways;
 mod whole_text;

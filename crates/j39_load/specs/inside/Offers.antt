@@ -1,7 +1,7 @@
 -- What is known of frames that are offered for good, so that waits can be computed from them.
 use Rattle.std.specs.Prelude.{◌≡◌, ℕ, map, ◌^◌, ◌<◌, ◌≤◌, length, All, Option}
 use Rattle.std.specs.Option.{ForSome}
-use Rattle.j39_load.specs.declared.offers.Offers.{Offers}
+use Rattle.j39_load.specs.declared.queues.offers.Offers.{Offers}
 use Rattle.j39_load.specs.AnyQueues.{Offer}
 use Rattle.j39_load.specs.Demands.{demands_of}
 use Rattle.j39_load.specs.SoundLoads.{FitIfAny}
