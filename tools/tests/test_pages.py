@@ -156,7 +156,7 @@ class Form(unittest.TestCase):
 PARALLEL = (("j39_plan", "j39_vehicle"), ("j39_findings", "j39_paths"))
 
 # The types that the reader of plan files and that of vehicle files each have, for tables of their own.
-READERS = ["Fault", "Key", "Needs", "Place", "ReadElement", "Signals", "Table", "TextKind"]
+READERS = ["Key", "NeedReader", "SignalReader", "Table", "TextKind"]
 
 
 def crates_of(files: list[str]) -> tuple[str, ...]:

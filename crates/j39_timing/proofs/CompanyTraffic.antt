@@ -81,7 +81,7 @@ module _ (s : Schedule) (controllers : Controllers) (traffic : Traffic) (unplann
           known.few_unplanned x from (s.queued x + wait) in_x is_planned x_has seen (omega (arith, enough), omega (arith, late))
           (as_company from (s.queued x + wait) stretch)
 
-      -- what begins while a frame of the company may be offered goes with it
+      -- what begins while a frame of the company may take part in arbitration goes with it
       by_member : (h q : ℕ) → h < s.count → q < s.count → planned h ≡ true → company.has (of.source h) ≡ true → s.start q < s.now
           → IsQueuedAt s h (s.start q) → s.ident q ≤ s.ident h → (not (planned q) || with_it q) ≡ true
       by_member h q in_h in_q is has early ready order =

@@ -139,7 +139,7 @@ module _ (s : Schedule) (controllers : Controllers) (legal : IsLegalInAnyOrder s
         ];
   }
 
-  -- a frame of a unit that keeps order is offered whenever it is ready
+  -- a frame of a unit that keeps order takes part in arbitration whenever it is ready
   pub ordered_as_ready : (p : ℕ) → p < s.count → IsFromOrdered controllers p → offered_from s p s.count ≡ s.queued p
   ordered_as_ready p in_p ordered = elim (offered_is s p s.count) [
     | inl same ↦ same
@@ -158,7 +158,7 @@ module _ (s : Schedule) (controllers : Controllers) (legal : IsLegalInAnyOrder s
       (known : IsPlannedTraffic s traffic others longest planned of i) (positive : (j : ℕ) → j < traffic.count → 0 < (traffic.stream j).period)
       (ordered : IsOrderedStream s controllers planned of i) (waits : ℕ → ℕ) (have : HaveWaits s controllers traffic planned of i waits)
       (room : HasRoom (offered_traffic traffic waits) others longest i wait) where
-    -- how much later frames of a stream may be offered: nothing is known where they don't go before
+    -- how long frames of a stream may be buffered: nothing is known where they don't go before
     abbrev more : ℕ → ℕ
     more j = cond (may_go_before traffic i j) (waits j) (cond (eqb j i) 0 s.now)
 
