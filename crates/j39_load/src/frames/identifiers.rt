@@ -2,7 +2,8 @@
 ghost use Rattle.std.specs.Prelude.{◌≡◌, ◌<◌, ◌*◌, ◌^◌, ℕ, length, max};
 ghost use Rattle.j39_id.specs.Limits.{unit_limit};
 ghost use Rattle.j39_network.specs.declared.plan.to.To.TheVariants.{One};
-ghost use Rattle.j39_load.specs.Loads.{any_unit, broadcast_ident, destination_at, group_ident, packet_ident, session_ident, twin_ident};
+ghost use Rattle.j39_load.specs.Loads.{any_unit, broadcast_ident, destination_at, group_ident, packet_ident};
+ghost use Rattle.j39_load.specs.Loads.{session_ident, twin_ident};
 ghost use Rattle.j39_load.specs.RequestLoads.{request_ident};
 ghost use Rattle.j39_load.specs.inside.PlannedBuses.{addresses_at, units_in};
 
@@ -63,8 +64,8 @@ fn destination_place(to: To) -> u8
     }
 }
 
-/// What tells the frames of a flow from all but its twins, where its group is told by its data: the number that their identifier would be if
-/// each unit's address was its place.
+/// What tells the frames of a flow from all but its twins, where its group is told by its data: the number that their
+/// identifier would be if each unit's address was its place.
 pub(crate) fn twin_ident(group: &GroupPlan, flow: &FlowPlan) -> Option<u64>
     requires sender { flow.now.sender < unit_limit }
     requires receiver { (v : ℕ) → flow.now.to ≡ One v → v < unit_limit }
