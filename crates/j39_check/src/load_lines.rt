@@ -1,8 +1,11 @@
 //! The lines of what a plan asks of its bus.
 ghost use Rattle.std.specs.Prelude.{◌≡◌, ◌+◌, ◌*◌, ◌++◌, ◌<◌, ◌^◌, length, OnOk};
-ghost use Rattle.j39_check.specs.LoadLines.{age_text, bit_microseconds, delay_text, flow_line, flow_text, known_age_text, known_delay_text, limited_text};
-ghost use Rattle.j39_check.specs.LoadLines.{load_finding_line, load_finding_lines, load_finding_part, load_finding_text, load_line, loads_text};
-ghost use Rattle.j39_check.specs.LoadLines.{microseconds_field, need_line, receiver_text, time_text, whole_text, within_text};
+ghost use Rattle.j39_check.specs.LoadLines.{age_text, bit_microseconds, delay_text, flow_line, flow_text};
+ghost use Rattle.j39_check.specs.LoadLines.{known_age_text, known_delay_text, limited_text};
+ghost use Rattle.j39_check.specs.LoadLines.{load_finding_line, load_finding_lines, load_finding_part};
+ghost use Rattle.j39_check.specs.LoadLines.{load_finding_text, load_line, loads_text};
+ghost use Rattle.j39_check.specs.LoadLines.{microseconds_field, need_line, receiver_text, time_text, whole_text};
+ghost use Rattle.j39_check.specs.LoadLines.{within_text};
 ghost use Rattle.j39_load.specs.AskedLoads.{asked_in};
 ghost use Rattle.j39_load.specs.LineLists.{lines_of_each};
 

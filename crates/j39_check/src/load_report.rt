@@ -1,6 +1,7 @@
 //! What is written of what a plan asks of its bus.
 ghost use Rattle.std.specs.Prelude.{◌≡◌, ◌+◌, ◌++◌, ◌≤◌, IfOk, OnOk, count_by, length};
-ghost use Rattle.j39_check.specs.LoadText.{IsLoadReport, hides_times, is_untold, load_verdict, tells_times, untold_count, untold_lines, untold_text};
+ghost use Rattle.j39_check.specs.LoadText.{IsLoadReport, hides_times, is_untold, load_verdict, tells_times};
+ghost use Rattle.j39_check.specs.LoadText.{untold_count, untold_lines, untold_text};
 
 use crate::finding_lines::{is_between, write_lines};
 use crate::load_lines::{write_load_findings, write_loads};

@@ -54,7 +54,8 @@ impl Ident {
         }
     }
 
-    /// The number of the identifier by which a group is sent. The group's number may be none, and the priority may be above 7.
+    /// The number of the identifier by which a group is sent. The group's number may be none, and the priority may be
+    /// above 7.
     pub fn number_of(priority: u8, pgn: u32, destination: u8, source: u8) -> u64
         ensures { result ≡ identifier_of priority pgn destination source }
     {

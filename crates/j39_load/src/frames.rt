@@ -1,4 +1,5 @@
-//! Frames of flows, of long messages to all, and of requests: how long they are, how often they come, and how urgent they are.
+//! Frames of flows, of long messages to all, and of requests: how long they are, how often they come, and how urgent
+//! they are.
 
 mod broadcast;
 mod damage;

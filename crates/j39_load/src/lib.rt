@@ -1,5 +1,5 @@
-//! What the bus carries: which units stay at their addresses, how urgent the frames of each flow are, how much of the bus they take, and how
-//! long they wait.
+//! What the bus carries: which units stay at their addresses, how urgent the frames of each flow are, how much of the
+//! bus they take, and how long they wait.
 #![tactic(auto)]
 
 mod findings;

@@ -1,6 +1,7 @@
 //! How old what units need is at most.
 ghost use Rattle.std.specs.Prelude.{◌≡◌, ◌≢◌, ◌∷◌, ◌++◌, [], length, ◌<◌, IfSome, IfNone, OnOk, OnErr};
-ghost use Rattle.j39_load.specs.Ages.{ages_for, ages_of, is_in_limit, is_too_old, least, least_age, old_needs, oldness, smaller_known};
+ghost use Rattle.j39_load.specs.Ages.{ages_for, ages_of, is_in_limit, is_too_old, least, least_age, old_needs, oldness};
+ghost use Rattle.j39_load.specs.Ages.{smaller_known};
 
 use crate::findings::load_finding::LoadFinding;
 use crate::frames::bits_of_ms;
@@ -54,7 +55,8 @@ fn age_for(
     }
 }
 
-/// How old what a unit needs is at most, in bits, by these delays of the flows: none where of no flow that brings it an age is known.
+/// How old what a unit needs is at most, in bits, by these delays of the flows: none where of no flow that brings it an
+/// age is known.
 #[tactic(auto, unfolding(crate::specs::LineLists::lines_of_each))]
 pub fn least_age(
     timing: Timing,

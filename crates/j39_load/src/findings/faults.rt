@@ -60,7 +60,8 @@ fn find_each(
     Ok(())
 }
 
-// What is wrong with a load of so many bits in a second and with these delays of the flows. Asks for memory only where something is.
+// What is wrong with a load of so many bits in a second and with these delays of the flows. Asks for memory only where
+// something is.
 fn load_findings(
     alloc: Global,
     timing: Timing,

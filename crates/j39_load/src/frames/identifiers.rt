@@ -1,9 +1,9 @@
 //! Identifiers of the frames of a flow, and of requests.
 ghost use Rattle.std.specs.Prelude.{◌≡◌, ◌<◌, ◌*◌, ◌^◌, ℕ, length, max};
-ghost use Rattle.j39_id.specs.Ident.{identifier_of};
 ghost use Rattle.j39_id.specs.Limits.{unit_limit};
 ghost use Rattle.j39_network.specs.declared.plan.to.To.TheVariants.{One};
-ghost use Rattle.j39_load.specs.Loads.{any_unit, broadcast_ident, destination_at, group_ident, packet_ident, session_ident, twin_ident};
+ghost use Rattle.j39_load.specs.Loads.{any_unit, broadcast_ident, destination_at, group_ident, packet_ident};
+ghost use Rattle.j39_load.specs.Loads.{session_ident, twin_ident};
 ghost use Rattle.j39_load.specs.RequestLoads.{request_ident};
 ghost use Rattle.j39_load.specs.inside.PlannedBuses.{addresses_at, units_in};
 
@@ -11,32 +11,17 @@ use crate::frames::extreme::Extreme;
 use crate::frames::planned_bus::PlannedBus;
 use j39_id::addresses::GLOBAL_ADDRESS;
 use j39_id::services::{CLAIM_PRIORITY, CONNECTION_MANAGEMENT, DATA_TRANSFER, REQUEST};
-use j39_id::{PDU2_FIRST, Pgn, pf_of};
+use j39_id::{IDENTIFIER_END, Ident, Pgn};
 use j39_network::{FlowPlan, GroupPlan, Queue, RequestPlan, To};
 
-// The identifiers of a priority.
-const OF_PRIORITY: u64 = 67_108_864;
-
 /// No identifier has this number, nor a greater one.
-pub(crate) const IDENT_END: u64 = 536_870_912;
+pub(crate) const IDENT_END: u64 = IDENTIFIER_END as u64;
 
 /// The least identifier of a priority.
 pub(crate) fn first_of_priority(priority: u8) -> u64
     ensures { result ≡ priority * 2 ^ 26 }
 {
-    u64::from(priority) * OF_PRIORITY
-}
-
-// The number of the identifier by which a group is sent, whose number need be no group's.
-fn identifier(priority: u8, pgn: u32, destination: u8, source: u8) -> u64
-    ensures { result ≡ identifier_of priority pgn destination source }
-{
-    let named = if pf_of(pgn) >= PDU2_FIRST {
-        0
-    } else {
-        u64::from(destination) * 256
-    };
-    u64::from(priority) * OF_PRIORITY + u64::from(pgn) * 256 + named + u64::from(source)
+    Ident::number_of(priority, 0, 0, 0)
 }
 
 fn destination(bus: &PlannedBus<'_>, extreme: Extreme, to: To) -> u8
@@ -60,7 +45,7 @@ pub(crate) fn group_ident(
     requires receiver { (v : ℕ) → flow.now.to ≡ One v → v < length (units_in bus.now) }
     ensures { result ≡ group_ident (addresses_at extreme bus.now) group.now flow.now }
 {
-    identifier(
+    Ident::number_of(
         group.priority,
         group.pgn,
         destination(bus, extreme, flow.to),
@@ -79,15 +64,15 @@ fn destination_place(to: To) -> u8
     }
 }
 
-/// What tells the frames of a flow from all but its twins, where its group is told by its data: the number that their identifier would be if
-/// each unit's address was its place.
+/// What tells the frames of a flow from all but its twins, where its group is told by its data: the number that their
+/// identifier would be if each unit's address was its place.
 pub(crate) fn twin_ident(group: &GroupPlan, flow: &FlowPlan) -> Option<u64>
     requires sender { flow.now.sender < unit_limit }
     requires receiver { (v : ℕ) → flow.now.to ≡ One v → v < unit_limit }
     ensures { result ≡ twin_ident group.now flow.now }
 {
     match group.when {
-        Some(_selector) => Some(identifier(
+        Some(_selector) => Some(Ident::number_of(
             group.priority,
             group.pgn,
             destination_place(flow.to),
@@ -103,7 +88,7 @@ pub(crate) fn packet_ident(bus: &PlannedBus<'_>, extreme: Extreme, flow: &FlowPl
     requires receiver { (v : ℕ) → flow.now.to ≡ One v → v < length (units_in bus.now) }
     ensures { result ≡ packet_ident bus.now.timing (addresses_at extreme bus.now) flow.now }
 {
-    identifier(
+    Ident::number_of(
         bus.timing.transport_priority,
         DATA_TRANSFER.number(),
         destination(bus, extreme, flow.to),
@@ -125,8 +110,8 @@ pub(crate) fn session_ident(
     let from = bus.address(extreme, flow.sender);
     let to = bus.address(extreme, unit);
     let pgn = CONNECTION_MANAGEMENT.number();
-    let asked = identifier(bus.timing.transport_priority, pgn, to, from);
-    let answered = identifier(bus.timing.transport_priority, pgn, from, to);
+    let asked = Ident::number_of(bus.timing.transport_priority, pgn, to, from);
+    let answered = Ident::number_of(bus.timing.transport_priority, pgn, from, to);
     asked.max(answered)
 }
 
@@ -146,7 +131,7 @@ pub(crate) fn broadcast_ident(bus: &PlannedBus<'_>, pgn: Pgn, extreme: Extreme, 
     requires { unit < length (units_in bus.now) }
     ensures { result ≡ broadcast_ident bus.now.timing pgn (addresses_at extreme bus.now) unit }
 {
-    identifier(
+    Ident::number_of(
         bus.timing.transport_priority,
         pgn.number(),
         GLOBAL_ADDRESS,
@@ -160,7 +145,7 @@ pub(crate) fn request_ident(bus: &PlannedBus<'_>, extreme: Extreme, request: &Re
     requires receiver { (v : ℕ) → request.now.to ≡ One v → v < length (units_in bus.now) }
     ensures { result ≡ request_ident (addresses_at extreme bus.now) request.now }
 {
-    identifier(
+    Ident::number_of(
         CLAIM_PRIORITY,
         REQUEST.number(),
         destination(bus, extreme, request.to),

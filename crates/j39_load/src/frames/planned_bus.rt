@@ -6,7 +6,8 @@ use crate::frames::extreme::Extreme;
 use j39_findings::Standing;
 use j39_network::{Plan, Timing};
 
-/// A plan, how its bus is timed, and which of its units stay: what the identifiers and the streams of its frames rest on.
+/// A plan, how its bus is timed, and which of its units stay: what the identifiers and the streams of its frames rest
+/// on.
 #[derive(Clone, Copy)]
 pub(crate) struct PlannedBus<'a> {
     pub timing: Timing,

@@ -2,7 +2,8 @@
 ghost use Rattle.std.specs.Prelude.{◌≡◌, ◌<◌, ◌≤◌, ◌*◌, ◌^◌, length};
 ghost use Rattle.j39_load.specs.Broadcasts.{bits_each, spaced_stream};
 ghost use Rattle.j39_load.specs.RequestLoads.{request_stream};
-ghost use Rattle.j39_load.specs.Loads.{bits_of_ms, bits_of_second, bits_per_ms, frames_to_all, frames_to_one, load_of, most_bytes, packet_stream, single_stream};
+ghost use Rattle.j39_load.specs.Loads.{bits_of_ms, bits_of_second, bits_per_ms, frames_to_all, frames_to_one, load_of};
+ghost use Rattle.j39_load.specs.Loads.{most_bytes, packet_stream, single_stream};
 ghost use Rattle.j39_load.specs.inside.PlannedBuses.{units_in};
 ghost use Rattle.j39_timing.specs.Waits.{IsStream};
 
@@ -100,7 +101,8 @@ pub(crate) fn packet_stream(bus: &PlannedBus<'_>, packets: u8, unit: usize, pace
     }
 }
 
-/// Single frames that are queued at least so many gaps of a broadcast apart, and of which what stands at a place is wanted.
+/// Single frames that are queued at least so many gaps of a broadcast apart, and of which what stands at a place is
+/// wanted.
 pub(crate) fn spaced_stream(timing: Timing, gaps: u8, place: usize) -> Stream
     requires { 1 ≤ gaps }
     ensures stream { result ≡ spaced_stream timing gaps place }
@@ -146,7 +148,8 @@ pub(crate) fn load_of(stream: Stream, period: u16) -> u32
     (1_000 * bits).div_ceil(u32::from(period))
 }
 
-/// How many bits so many frames of eight bytes take in a second at most, which are sent again after so many milliseconds.
+/// How many bits so many frames of eight bytes take in a second at most, which are sent again after so many
+/// milliseconds.
 pub(crate) fn bits_each(frames: u8, ms: u16) -> u32
     requires { 1 ≤ ms }
     ensures bits { result ≡ bits_each frames ms }

@@ -1,7 +1,9 @@
 //! What the broadcasts of each unit of a plan ask of the bus.
 ghost use Rattle.std.specs.Prelude.{◌≡◌, ◌≢◌, ◌+◌, ◌<◌, ◌≤◌, ◌*◌, ◌^◌, [], All, length, sum_by, IfOk, IfSome, OnErr};
-ghost use Rattle.j39_load.specs.Broadcasts.{announced_packets, bits_each, bits_of_announcements, bits_of_firsts, broadcast_by, broadcast_frames, broadcasts_by, each_unit_load};
-ghost use Rattle.j39_load.specs.Broadcasts.{known_unit_load, least_announced, least_packets, load_of_announcements, load_of_firsts, load_of_packets, unit_loads_of};
+ghost use Rattle.j39_load.specs.Broadcasts.{announced_packets, bits_each, bits_of_announcements, bits_of_firsts};
+ghost use Rattle.j39_load.specs.Broadcasts.{broadcast_by, broadcast_frames, broadcasts_by, each_unit_load};
+ghost use Rattle.j39_load.specs.Broadcasts.{known_unit_load, least_announced, least_packets, load_of_announcements};
+ghost use Rattle.j39_load.specs.Broadcasts.{load_of_firsts, load_of_packets, unit_loads_of};
 ghost use Rattle.j39_load.specs.SoundLoads.{AreSound, IsSoundBroadcast, IsSoundIfKnown, IsSoundIfSent};
 ghost use Rattle.j39_load.specs.inside.Broadcasting.{AreSoundBroadcasts};
 ghost use Rattle.j39_load.specs.inside.PlannedBuses.{on_bus, units_in};
@@ -175,8 +177,8 @@ fn all_packets(broadcasts: &[Broadcast]) -> u32
     packets
 }
 
-// How many bits these broadcasts take in a second at most: their packets, the first frames of those of which some messages go in one frame,
-// and the announcements of the others.
+// How many bits these broadcasts take in a second at most: their packets, the first frames of those of which some
+// messages go in one frame, and the announcements of the others.
 fn bits_per_second(timing: Timing, broadcasts: &[Broadcast]) -> u64
     requires sound { AreSoundBroadcasts broadcasts.now }
     requires few { length broadcasts.now ≤ 2 ^ 16 }
@@ -192,8 +194,8 @@ fn bits_per_second(timing: Timing, broadcasts: &[Broadcast]) -> u64
     packets + (firsts + announcements)
 }
 
-// Frames of a group of the transport protocol, from a unit to all, which are queued at least so many gaps apart, and of which what stands at a
-// place is wanted.
+// Frames of a group of the transport protocol, from a unit to all, which are queued at least so many gaps apart, and of
+// which what stands at a place is wanted.
 fn broadcast_frames(
     bus: &PlannedBus<'_>,
     pgn: Pgn,

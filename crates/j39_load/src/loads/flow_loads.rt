@@ -2,9 +2,11 @@
 ghost use Rattle.std.specs.Prelude.{◌≡◌, ◌≢◌, [], ◌^◌, ◌<◌, ◌≤◌, ℕ, max, All, length, IfOk, OnErr};
 ghost use Rattle.j39_network.specs.declared.plan.to.To.TheVariants.{One};
 ghost use Rattle.std.specs.Option.{option_map};
-ghost use Rattle.j39_load.specs.Loads.{bits_of_ms as bits_in_ms, broadcast_of, flow_load, has_short, load_of_flow, load_of_messages, loads_of, messages_of, packet_frames};
+ghost use Rattle.j39_load.specs.Loads.{bits_of_ms as bits_in_ms, broadcast_of, flow_load, has_short, load_of_flow};
+ghost use Rattle.j39_load.specs.Loads.{load_of_messages, loads_of, messages_of, packet_frames};
 ghost use Rattle.j39_load.specs.Loads.{single_frames, singles_of, time_limit};
-ghost use Rattle.j39_load.specs.SoundLoads.{AreSound, AreSoundIfAny, AreSoundMessages, IsSoundBroadcast, IsSoundIfKnown, IsSoundLoad};
+ghost use Rattle.j39_load.specs.SoundLoads.{AreSound, AreSoundIfAny, AreSoundMessages, IsSoundBroadcast};
+ghost use Rattle.j39_load.specs.SoundLoads.{IsSoundIfKnown, IsSoundLoad};
 ghost use Rattle.j39_load.specs.inside.FewFrames.{HaveFewFrames};
 ghost use Rattle.j39_load.specs.inside.PlannedBuses.{on_bus, stays_in, units_in};
 ghost use Rattle.j39_tp.specs.Chunks.{packets_of};
@@ -167,8 +169,8 @@ fn singles_of(
     }
 }
 
-// How many bits these messages of a flow take in a second at most, of this period in milliseconds; broadcasts count with those of their
-// unit.
+// How many bits these messages of a flow take in a second at most, of this period in milliseconds; broadcasts count
+// with those of their unit.
 fn load_of_messages(messages: &Messages, period: u16) -> u32
     requires period { 1 ≤ period }
     requires sound { AreSoundMessages messages.now }

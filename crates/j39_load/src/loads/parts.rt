@@ -1,9 +1,11 @@
 //! All frames of a plan, part by part, and where they stand.
 ghost use Rattle.std.specs.Prelude.{◌≡◌, ◌<◌, ◌≤◌, ◌++◌, All, None, length, slice_index_or, IfOk, OnOk};
-ghost use Rattle.j39_load.specs.Asked.{announcements_of_unit, frames_asked, frames_of_flow, frames_of_request, packets_of_unit, singles_of_flow, wanting};
+ghost use Rattle.j39_load.specs.Asked.{announcements_of_unit, frames_asked, frames_of_flow, frames_of_request};
+ghost use Rattle.j39_load.specs.Asked.{packets_of_unit, singles_of_flow, wanting};
 ghost use Rattle.j39_load.specs.AskedLoads.{asked_in};
 ghost use Rattle.j39_load.specs.Delays.{announcements_place, packets_place};
-ghost use Rattle.j39_load.specs.SoundLoads.{AreSound, AreSoundIfAny, IsSoundBroadcast, IsSoundIfAsked, IsSoundIfKnown, IsSoundIfSent};
+ghost use Rattle.j39_load.specs.SoundLoads.{AreSound, AreSoundIfAny, IsSoundBroadcast, IsSoundIfAsked, IsSoundIfKnown};
+ghost use Rattle.j39_load.specs.SoundLoads.{IsSoundIfSent};
 ghost use Rattle.j39_load.specs.inside.FrameParts.{frames_in, places_in};
 
 use crate::frames::{Broadcast, FlowFrames, IDENT_END, Messages};

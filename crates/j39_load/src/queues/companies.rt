@@ -1,9 +1,12 @@
 //! Which frames may go before one of a unit whose controller keeps no order, and how long these wait.
-ghost use Rattle.std.specs.Prelude.{◌≡◌, ◌≤◌, ◌<◌, ◌^◌, ◌+◌, ◌++◌, ◌==◌, ℕ, false, All, IfOk, IfSome, IfNone, OnOk, length, map, [], ◌∷◌};
+ghost use Rattle.std.specs.Prelude.{◌≡◌, ◌≤◌, ◌<◌, ◌^◌, ◌+◌, ◌++◌, ◌==◌, ℕ, false, All, IfOk, IfSome, IfNone, OnOk};
+ghost use Rattle.std.specs.Prelude.{length, map, [], ◌∷◌};
 ghost use Rattle.std.specs.List.{cons_option};
 ghost use Rattle.std.specs.Option.{ForSome, option_map_or};
 ghost use Rattle.j39_load.specs.Ages.{least};
-ghost use Rattle.j39_load.specs.AnyQueues.{AreAtMost, IsCompanyLevel, IsCompanyWait, are_of_unit, is_member, is_of_company, keep_order, least_of, leasts_of, own_least, stream_with, streams_with};
+ghost use Rattle.j39_load.specs.AnyQueues.{AreAtMost, IsCompanyLevel, IsCompanyWait, are_of_unit, is_member};
+ghost use Rattle.j39_load.specs.AnyQueues.{is_of_company, keep_order, least_of, leasts_of, own_least, stream_with};
+ghost use Rattle.j39_load.specs.AnyQueues.{streams_with};
 ghost use Rattle.j39_load.specs.AnyQueues.{with_unplanned};
 ghost use Rattle.j39_load.specs.Demands.{demands_of};
 ghost use Rattle.j39_load.specs.SoundLoads.{AreSoundIfAny};

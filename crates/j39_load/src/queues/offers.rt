@@ -1,7 +1,8 @@
 //! From when on frames are offered for good.
 ghost use Rattle.std.specs.Prelude.{◌≡◌, ◌≤◌, ◌<◌, ◌^◌, ◌∷◌, [], All, length, map, IfOk, None, slice_index_or};
 ghost use Rattle.j39_load.specs.Ages.{least};
-ghost use Rattle.j39_load.specs.AnyQueues.{IsHeldFor, IsOffer, TellWaits, later_frames, leasts_of, may_be_passed, held_at, offered, offered_at, unheld, unheld_at};
+ghost use Rattle.j39_load.specs.AnyQueues.{IsHeldFor, IsOffer, TellWaits, later_frames, leasts_of, may_be_passed};
+ghost use Rattle.j39_load.specs.AnyQueues.{held_at, offered, offered_at, unheld, unheld_at};
 ghost use Rattle.j39_load.specs.Demands.{demands_of};
 ghost use Rattle.j39_load.specs.SoundLoads.{AreSound, AreSoundIfAny, FitIfAny};
 ghost use Rattle.j39_load.specs.inside.Offers.{AreFitOffers, IsShortWait, offer_of};
@@ -15,8 +16,8 @@ use j39_network::Timing;
 use j39_timing::{Stream, Wanted};
 use std::alloc::{AllocError, Global};
 
-/// All frames of a plan where they are offered for good: frames of a unit that keeps no order as many bits later as they
-/// wait there at most.
+/// All frames of a plan where they are offered for good: frames of a unit that keeps no order as many bits later as
+/// they wait there at most.
 #[derive(Drop)]
 pub(crate) struct Offers {
     /// The frames, at their places.

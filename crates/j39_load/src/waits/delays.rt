@@ -4,7 +4,8 @@ ghost use Rattle.std.specs.Option.{ForSome};
 ghost use Rattle.j39_load.specs.AnyQueues.{IsOffer};
 ghost use Rattle.j39_load.specs.Asked.{frames_asked};
 ghost use Rattle.j39_load.specs.AskedLoads.{asked_in};
-ghost use Rattle.j39_load.specs.Delays.{HasDelay, IsFrameDelay, IsShortDelay, IsWaitIn, IsWaitOf, TellDelays, any_delay, blocking, frames_before, going_before, streams_before, whole_time};
+ghost use Rattle.j39_load.specs.Delays.{HasDelay, IsFrameDelay, IsShortDelay, IsWaitIn, IsWaitOf, TellDelays};
+ghost use Rattle.j39_load.specs.Delays.{any_delay, blocking, frames_before, going_before, streams_before, whole_time};
 ghost use Rattle.j39_load.specs.SoundLoads.{AreSound, FitIfAny, IsSoundBroadcast, IsSoundLoad};
 ghost use Rattle.j39_load.specs.inside.Offers.{AreFitOffers, IsShortWait, offer_of};
 ghost use Rattle.j39_load.specs.inside.TurnTimes.{AreShortTimes, IsDelayBy, IsShortTime, TellTurnTimes, time_at};
@@ -22,7 +23,8 @@ use j39_network::Timing;
 use j39_timing::{Stream, frame_bits, least_wait};
 use std::alloc::{AllocError, Global};
 
-// The bits of the frame that has begun before one of this identifier, and of those of no planned flow that may go before it.
+// The bits of the frame that has begun before one of this identifier, and of those of no planned flow that may go
+// before it.
 fn blocking(timing: Timing, ident: u64) -> u32
     ensures { result ≡ blocking timing ident }
 {
@@ -119,9 +121,9 @@ fn wait_of(
     }
 }
 
-/// The wait of frames at their place. Those of a unit that keeps order wait among all where they are offered for good, and
-/// no wait is known where frames of which it isn't known from when on they are may go before them; those of another wait
-/// for their company.
+/// The wait of frames at their place. Those of a unit that keeps order wait among all where they are offered for good,
+/// and no wait is known where frames of which it isn't known from when on they are may go before them; those of another
+/// wait for their company.
 pub(crate) fn wait_in(
     alloc: Global,
     timing: Timing,
@@ -239,8 +241,8 @@ fn whole_time(broadcast: &Broadcast, time: Option<u64>) -> WholeTime
     }
 }
 
-// The delay of the flow at this place, which asks this of the bus, among all frames of the plan where they are offered for
-// good, where the broadcasts of the units take these times.
+// The delay of the flow at this place, which asks this of the bus, among all frames of the plan where they are offered
+// for good, where the broadcasts of the units take these times.
 fn delay_of(
     alloc: Global,
     timing: Timing,

@@ -1,6 +1,7 @@
 //! What is wanted of the broadcasts of units.
 ghost use Rattle.std.specs.Prelude.{◌≡◌, ◌≤◌, ◌<◌, ◌++◌, All, IfOk, IfSome, OnOk, length, map};
-ghost use Rattle.j39_load.specs.Demands.{announcements_demand, demand_by, demands_by, demands_of, most_packets, packets_demand, under_way_of, want_of, wanted_by, wants_of};
+ghost use Rattle.j39_load.specs.Demands.{announcements_demand, demand_by, demands_by, demands_of, most_packets};
+ghost use Rattle.j39_load.specs.Demands.{packets_demand, under_way_of, want_of, wanted_by, wants_of};
 ghost use Rattle.j39_id.specs.Limits.{unit_limit};
 ghost use Rattle.j39_load.specs.SoundLoads.{AreSoundIfAny, IsSoundBroadcast};
 ghost use Rattle.j39_load.specs.inside.Broadcasting.{AreSoundBroadcasts};

@@ -15,11 +15,11 @@ returns-then-tells_times c =
       c.in_ok-write_loads.ensures,
       c.new-text.ensures,
       c.deref-then-tells_times.ensures.value,
+      c.as_slice-others.ensures.value,
       c.as_slice.ensures.value,
-      c.as_slice-then-tells_times.ensures.value,
       told.timed,
     ) at c.in_ok-write_untold.ensures)
-    (rw (c.deref-then-tells_times-2.ensures.value, c.as_slice.ensures.value) at c.verdict_of.ensures)
+    (rw (c.deref-then-tells_times-2.ensures.value, c.as_slice-others.ensures.value) at c.verdict_of.ensures)
 
 pub returns : goal.returns
 returns c =
@@ -27,4 +27,4 @@ returns c =
     ap tells_times (sym c.deref.ensures.value) ∙ (sym c.tells_times.ensures ∙ c.if-tells_times.false) in
     as_checked c.args.plan.now c.in-Some.timing c.in-Some.is c.in_ok-answer.answer c.in_ok-answer.ensures.answer c.in_ok-findings.findings.items
     c.in_ok-findings.ensures.list c.write_findings.new.text hidden
-    (rw (c.new-text.ensures, c.deref-2.ensures.value, c.as_slice.ensures.value) at c.in_ok-write_findings.ensures)
+    (rw (c.new-text.ensures, c.deref-2.ensures.value, c.as_slice-others.ensures.value) at c.in_ok-write_findings.ensures)
