@@ -7,7 +7,7 @@ use Rattle.j39_follow.specs.Contests.{Timed}
 use Rattle.j39_follow.specs.Fits.{IsSentGroup}
 use Rattle.j39_follow.specs.FollowReports.{IsGroupOfMessage, IsGrouped, IsSendingOf, Message, bare_text}
 use Rattle.j39_follow.specs.declared.message.Sort.{Sort}
-use Rattle.j39_follow.specs.declared.sending.Sending.{Sending}
+use Rattle.j39_follow.specs.declared.flow.sending.Sending.{Sending}
 use Rattle.j39_follow.specs.inside.Reporting.{is_grouped}
 
 false_true : false ≡ true → ⊥

@@ -10,11 +10,11 @@ use Rattle.j39_network.specs.declared.plan.unit_plan.UnitPlan.{UnitPlan}
 use Rattle.j39_text.specs.Texts.{field}
 use Rattle.j39_stream.specs.LineReading.{HasLines, IsSoFar}
 use Rattle.j39_stream.specs.declared.verdict.Verdict.TheVariants.{Done}
-use Rattle.j39_follow.specs.declared.holders.Holders.{Holders}
+use Rattle.j39_follow.specs.declared.address.holders.Holders.{Holders}
 use Rattle.j39_follow.specs.inside.Recounting.{Recounts, is_marked}
 use Rattle.j39_follow.specs.FollowText.{AreUnitLines, IsFollowedLog, IsUnitLine, FollowedPast, FollowsLines, frames_seen, nothing_followed, unit_end_line}
 use Rattle.j39_follow.specs.inside.FollowedSoFar.{HasFollowedLines, RecallsPast, behind_reports}
-use Rattle.j39_follow.proofs.Standing.{unit_lines}
+use Rattle.j39_follow.proofs.Addresses.Standing.{unit_lines}
 use Rattle.j39_follow.specs.declared.reading.Reading.{Reading}
 
 -- ---- lines after lines

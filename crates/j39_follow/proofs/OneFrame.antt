@@ -19,14 +19,14 @@ use Rattle.j39_follow.specs.FollowReports.{AreTold, IsAnswerWay, IsAsked, IsBare
 use Rattle.j39_follow.specs.FollowText.{HeardSince, IsCarriedReport, IsFollowedAs, IsPacketReport, OneChangesHands}
 use Rattle.j39_follow.specs.LoggedRequests.{asked_request, told_address}
 use Rattle.j39_follow.specs.Who.{unit_of, who_text}
-use Rattle.j39_follow.specs.declared.event.Event.{Event}
+use Rattle.j39_follow.specs.declared.request.event.Event.{Event}
 use Rattle.j39_follow.specs.declared.message.Sort.{Sort}
-use Rattle.j39_follow.specs.declared.sending.Aim.{Aim}
-use Rattle.j39_follow.specs.declared.sending.Aim.TheVariants as aims
-use Rattle.j39_follow.specs.declared.sending.Sending.{Sending}
-use Rattle.j39_follow.specs.declared.who.Who.{Who}
-use Rattle.j39_follow.proofs.Holding.{ending}
-use Rattle.j39_follow.proofs.Contested.{one_taken}
+use Rattle.j39_follow.specs.declared.flow.sending.Aim.{Aim}
+use Rattle.j39_follow.specs.declared.flow.sending.Aim.TheVariants as aims
+use Rattle.j39_follow.specs.declared.flow.sending.Sending.{Sending}
+use Rattle.j39_follow.specs.declared.address.who.Who.{Who}
+use Rattle.j39_follow.proofs.Addresses.Holding.{ending}
+use Rattle.j39_follow.proofs.Addresses.Contested.{one_taken}
 
 some_same : {A : Type 0} (x y : A) → Some x ≡ Some y → x ≡ y
 some_same x y e = cc

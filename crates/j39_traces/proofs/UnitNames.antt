@@ -16,7 +16,7 @@ use Rattle.j39_world.specs.Opening.{AreNamesDistinct}
 use Rattle.j39_network.specs.PlannedUnits.{planned_unit, unit_at, units_of}
 use Rattle.j39_world.specs.Run.{count_of}
 use Rattle.j39_follow.specs.Who.{numbered_unit, unit_of_kind, unit_of_name}
-use Rattle.j39_follow.proofs.UnitNames.{both, none_some, position_at, position_none, second_false, some_same}
+use Rattle.j39_follow.proofs.Addresses.UnitNames.{both, none_some, position_at, position_none, second_false, some_same}
 
 there_is : (ps : List UnitPlan) (u : ℕ) → u < length ps → (p : UnitPlan) × (slice_get ps u ≡ Some p)
 there_is [] u less = absurd (omega (arith, less))

@@ -5,8 +5,8 @@ use Rattle.j39_follow.specs.FollowReports.{cannot_line, cannot_text, claim_line,
 use Rattle.j39_follow.specs.LoggedRequests.{acknowledges}
 use Rattle.j39_follow.specs.inside.Reporting.{front_of}
 use Rattle.j39_id.specs.FrameMeaning.{cannot_claim, claims_address, requests_group}
-use Rattle.j39_follow.proofs.Told.{an_answer_way, an_asked}
-use Rattle.j39_follow.proofs.Ways.{a_way, if_not, if_so}
+use Rattle.j39_follow.proofs.Requests.Told.{an_answer_way, an_asked}
+use Rattle.j39_follow.proofs.Addresses.Ways.{a_way, if_not, if_so}
 use Rattle.j39_follow.proofs.notice.write_notice.Goals as goal
 
 pub returns-then-claims_address : goal.returns-then-claims_address

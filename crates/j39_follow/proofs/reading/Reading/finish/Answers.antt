@@ -1,7 +1,7 @@
 use Rattle.std.proofs.Common.{◌≡◌, ◌++◌, List, ℕ, length, refl, sym, ap, subst, ◌∙◌, append_assoc}
 use Rattle.std.proofs.lemmas.Result.{IfOk-weaker}
 use Rattle.j39_follow.specs.FollowText.{follow_counts_line, flow_ends, frames_seen, group_ends, need_ends, request_ends}
-use Rattle.j39_follow.specs.declared.holders.Holders.{Holders}
+use Rattle.j39_follow.specs.declared.address.holders.Holders.{Holders}
 use Rattle.j39_follow.specs.inside.Recounting.{Recounts}
 use Rattle.j39_follow.proofs.reading.Reading.finish.Goals as goal
 

@@ -2,16 +2,16 @@ use Rattle.std.proofs.Common.{◌+◌, ◌<◌, ◌^◌, length, sym, subst, ari
 use Rattle.std.proofs.lemmas.Result.{IfOk-weaker}
 use Rattle.j39_follow.specs.FollowText.{frames_seen, lines_with}
 use Rattle.j39_follow.specs.LogLines.{moment_of}
-use Rattle.j39_follow.specs.declared.contests.Contests.{Contests}
-use Rattle.j39_follow.specs.declared.directory.Directory.{Directory}
+use Rattle.j39_follow.specs.declared.address.contests.Contests.{Contests}
+use Rattle.j39_follow.specs.declared.address.directory.Directory.{Directory}
 use Rattle.j39_follow.specs.inside.Contesting.{AreContests}
 use Rattle.j39_follow.specs.inside.FrameWriting.{frames_with}
 use Rattle.j39_follow.specs.inside.Recounting.{Knows}
-use Rattle.j39_follow.proofs.Heard.{heard_on}
-use Rattle.j39_follow.proofs.Contested.{contests_on}
-use Rattle.j39_follow.proofs.Knowing.{frames_as_well, knows_on}
-use Rattle.j39_follow.proofs.Recounts.{or_left, silent}
-use Rattle.j39_follow.proofs.Replaced.{none_told}
+use Rattle.j39_follow.proofs.Addresses.Heard.{heard_on}
+use Rattle.j39_follow.proofs.Addresses.Contested.{contests_on}
+use Rattle.j39_follow.proofs.Addresses.Knowing.{frames_as_well, knows_on}
+use Rattle.j39_follow.proofs.Addresses.Recounts.{or_left, silent}
+use Rattle.j39_follow.proofs.Addresses.Replaced.{none_told}
 use Rattle.j39_follow.proofs.reading.Reading.follow.Goals as goal
 
 pub returns-clause-followed : goal.returns-clause-followed

@@ -3,16 +3,16 @@ use Rattle.std.proofs.lemmas.List.{length-map}
 use Rattle.j39_network.specs.declared.plan.Plan.{Plan}
 use Rattle.j39_log.specs.LogPairs.{Seen}
 use Rattle.j39_follow.specs.FollowText.{frames_seen, lines_with}
-use Rattle.j39_follow.specs.declared.directory.Directory.{Directory}
+use Rattle.j39_follow.specs.declared.address.directory.Directory.{Directory}
 use Rattle.j39_follow.specs.Contests.{Timed, frames_of}
 use Rattle.j39_follow.specs.LogLines.{moment_of}
-use Rattle.j39_follow.specs.declared.contests.Contests.{Contests}
-use Rattle.j39_follow.specs.declared.who.Who.{Who}
+use Rattle.j39_follow.specs.declared.address.contests.Contests.{Contests}
+use Rattle.j39_follow.specs.declared.address.who.Who.{Who}
 use Rattle.j39_follow.specs.inside.Contesting.{AreContests}
-use Rattle.j39_follow.proofs.Knowing.{frames_as_well}
+use Rattle.j39_follow.proofs.Addresses.Knowing.{frames_as_well}
 use Rattle.j39_follow.specs.inside.FrameWriting.{frames_with}
 use Rattle.j39_follow.specs.inside.Recounting.{ArePartiesOf, Knows}
-use Rattle.j39_follow.proofs.Heard.{heard_anew}
+use Rattle.j39_follow.proofs.Addresses.Heard.{heard_anew}
 use Rattle.j39_follow.proofs.reading.Reading.follow_claim.Goals as goal
 
 pub returns-clause-followed : goal.returns-clause-followed

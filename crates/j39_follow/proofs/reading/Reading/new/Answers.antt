@@ -1,5 +1,5 @@
 use Rattle.std.proofs.Common.{refl, arith}
-use Rattle.j39_follow.proofs.Heard.{nothing_heard_since}
+use Rattle.j39_follow.proofs.Addresses.Heard.{nothing_heard_since}
 use Rattle.j39_follow.proofs.reading.Reading.new.Goals as goal
 
 pub returns-clause-past : goal.returns-clause-past

@@ -11,9 +11,9 @@ use Rattle.j39_follow.specs.LogLines.{interface_behind}
 use Rattle.j39_follow.specs.declared.message.Sort.{Sort}
 use Rattle.j39_follow.specs.inside.FollowedSoFar.{interface_of}
 use Rattle.j39_follow.specs.inside.Recounting.{Knows}
-use Rattle.j39_follow.proofs.Heard.{frames_more}
-use Rattle.j39_follow.proofs.Told.{few_events}
-use Rattle.j39_follow.proofs.Knowing.{frames_as_well}
+use Rattle.j39_follow.proofs.Addresses.Heard.{frames_more}
+use Rattle.j39_follow.proofs.Requests.Told.{few_events}
+use Rattle.j39_follow.proofs.Addresses.Knowing.{frames_as_well}
 use Rattle.j39_follow.proofs.reading.Reading.read_frame.Goals as goal
 
 one_at_most : (o : Option Sort) → length (option_to_list o) ≤ 1

@@ -1,7 +1,7 @@
 use Rattle.std.proofs.Common.{List, sym, subst, refl}
 use Rattle.j39_follow.specs.Contests.{Timed}
 use Rattle.j39_follow.specs.FollowText.{lines_with}
-use Rattle.j39_follow.specs.declared.tally.Tally.{Tally}
+use Rattle.j39_follow.specs.declared.flow.tally.Tally.{Tally}
 use Rattle.j39_follow.specs.inside.Tallies.{IsTally}
 use Rattle.j39_follow.proofs.reading.Reading.report.Goals as goal
 

@@ -2,7 +2,7 @@ use Rattle.std.proofs.Common.{ℕ, Option, subst}
 use Rattle.std.proofs.lemmas.Result.{IfOk-weaker}
 use Rattle.j39_follow.specs.LogLines.{moment_of}
 use Rattle.j39_follow.specs.inside.Contesting.{IsDefender, contention_at}
-use Rattle.j39_follow.proofs.Contested.{defends}
+use Rattle.j39_follow.proofs.Addresses.Contested.{defends}
 use Rattle.j39_follow.proofs.reading.Reading.write.Goals as goal
 
 pub returns-then-are_calm-clause-written : goal.returns-then-are_calm-clause-written

@@ -3,12 +3,12 @@ use Rattle.std.proofs.lemmas.Result.{IfOk-weaker}
 use Rattle.j39_id.specs.declared.ident.Ident.{Ident}
 use Rattle.j39_network.specs.declared.plan.Plan.{Plan}
 use Rattle.j39_follow.specs.Contests.{Timed, frames_of}
-use Rattle.j39_follow.specs.declared.directory.Directory.{Directory}
-use Rattle.j39_follow.specs.declared.known_parties.Parties.{Parties}
+use Rattle.j39_follow.specs.declared.address.directory.Directory.{Directory}
+use Rattle.j39_follow.specs.declared.address.known_parties.Parties.{Parties}
 use Rattle.j39_follow.specs.inside.Contesting.{IsDefender, ShowsParties}
 use Rattle.j39_follow.specs.inside.Recounting.{Knows}
-use Rattle.j39_follow.proofs.Contested.{taken_so}
-use Rattle.j39_follow.proofs.Told.{asks_itself}
+use Rattle.j39_follow.proofs.Addresses.Contested.{taken_so}
+use Rattle.j39_follow.proofs.Requests.Told.{asks_itself}
 use Rattle.j39_follow.proofs.reading.Reading.write_plain.Goals as goal
 
 -- where no address is contested all stand where they are known to

@@ -4,13 +4,13 @@ use Rattle.j39_id.specs.declared.frame.Frame.{Frame}
 use Rattle.j39_network.specs.declared.plan.Plan.{Plan}
 use Rattle.j39_follow.specs.Contests.{IsNow, IsTaken, Timed, frames_of}
 use Rattle.j39_follow.specs.LoggedRequests.{told_address}
-use Rattle.j39_follow.specs.declared.contests.Contests.{Contests}
-use Rattle.j39_follow.specs.declared.directory.Directory.{Directory}
-use Rattle.j39_follow.specs.declared.known_parties.Parties.{Parties}
-use Rattle.j39_follow.specs.declared.who.Who.{Who}
+use Rattle.j39_follow.specs.declared.address.contests.Contests.{Contests}
+use Rattle.j39_follow.specs.declared.address.directory.Directory.{Directory}
+use Rattle.j39_follow.specs.declared.address.known_parties.Parties.{Parties}
+use Rattle.j39_follow.specs.declared.address.who.Who.{Who}
 use Rattle.j39_follow.specs.inside.Contesting.{AreContests, ShowsAsker, ShowsParties, contention_at, defender_at, taken_party}
 use Rattle.j39_follow.specs.inside.Recounting.{HasNames, Knows, party_at}
-use Rattle.j39_follow.proofs.Contested.{defends, taken_so}
+use Rattle.j39_follow.proofs.Addresses.Contested.{defends, taken_so}
 use Rattle.j39_follow.proofs.reading.Reading.write_taken.Goals as goal
 
 -- who is taken to be behind an address, as its contest tells
