@@ -7,6 +7,5 @@ pub mod Lines
 pub mod LinesRead
 pub mod OneFrame
 pub mod OneText
-pub mod Recalls
 pub mod Requests
 pub mod Vehicles

@@ -1,5 +1,5 @@
 -- For a plan and a log there is one text.
-use Rattle.std.proofs.Common.{◌≡◌, ◌⊎◌, ◌+◌, ℕ, Bool, List, [], ◌∷◌, ◌++◌, codes, Option, Some, None, inl, inr, refl, sym, ap, subst, ◌∙◌}
+use Rattle.std.proofs.Common.{◌≡◌, ◌⊎◌, ◌+◌, ℕ, Bool, List, [], ◌∷◌, ◌++◌, Option, Some, None, inl, inr, refl, sym, ap, subst, ◌∙◌}
 use Rattle.j39_id.proofs.LineLaws.{not_both, one_fault, one_spelled}
 use Rattle.j39_id.specs.FrameLine.{IsLastWord}
 use Rattle.j39_id.specs.Lines.{Line, Short, Long, lines}

@@ -7,12 +7,12 @@ mod flow;
 mod frame_report;
 mod laws;
 mod line;
-mod log_reader;
+mod line_report;
 mod log_text;
 mod message;
 mod notice;
-mod reading;
 mod request;
+mod unit_report;
 
 pub use address::who::Who;
 pub use flow::sending::{Aim, Sending, flow_of, group_of};

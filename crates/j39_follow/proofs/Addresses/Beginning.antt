@@ -1,6 +1,7 @@
 -- The contest that a claim begins.
 use Rattle.std.proofs.Common.{◌≡◌, ◌<◌, ℕ, ◌||◌, not, nat_lt, Bool, true, false, if◌then◌else◌, List, Option, Some, None, is_some, inl, inr, refl, sym, ap, subst, ◌∙◌}
-use Rattle.std.proofs.lemmas.Bool.{cases_Bool, or_cases, lt-ltb, ltb-true}
+use Rattle.std.proofs.lemmas.Bool.{cases_Bool, or_cases, lt-ltb, ltb-true, false≢true, not-true}
+use Rattle.std.proofs.lemmas.Option.{none-some}
 use Rattle.j39_id.specs.Addresses.{in_pool}
 use Rattle.j39_id.specs.FrameMeaning.{cannot_claim, claims_address, name_in}
 use Rattle.j39_network.specs.declared.plan.Plan.{Plan}
@@ -12,25 +13,21 @@ use Rattle.j39_follow.specs.declared.address.contest.Contention.{Contention}
 use Rattle.j39_follow.specs.declared.address.contest.Contest.{Contest}
 use Rattle.j39_follow.specs.inside.Contesting.{IsBegun, IsClaimAt, IsGuess, IsMet, contest_with, is_defended, is_place, remaining_of, running_of, smaller_of, opponent_of}
 use Rattle.j39_follow.specs.inside.Hearing.{is_same_party}
-use Rattle.j39_follow.proofs.Addresses.Contending.{defended_so, false_true, left_so, none_some, one_guess, one_met, place_some, run_so, some_place, run_then, undefended}
+use Rattle.j39_follow.proofs.Addresses.Contending.{defended_so, left_so, one_guess, one_met, place_some, run_so, some_place, run_then, undefended}
 use Rattle.j39_follow.proofs.Addresses.Heard.{party_again, party_same}
 use Rattle.j39_follow.proofs.Addresses.HolderLaws.{same_name}
 use Rattle.j39_follow.proofs.Addresses.Recounts.{or_left}
-
-not_true : (b : Bool) → not b ≡ true → b ≡ false
-not_true true e = absurd (false_true e)
-not_true false e = refl
 
 not_so : (b : Bool) → b ≡ false → not b ≡ true
 not_so true e = cc
 not_so false e = refl
 
 both_false : (a b : Bool) → (a || b) ≡ false → (a ≡ false) × (b ≡ false)
-both_false true b e = absurd (false_true (sym e))
+both_false true b e = absurd (false≢true (sym e))
 both_false false b e = (refl, e)
 
 not_below : (n m : ℕ) → nat_lt n m ≡ false → n < m → ⊥
-not_below n m e less = false_true (sym e ∙ lt-ltb n m less)
+not_below n m e less = false≢true (sym e ∙ lt-ltb n m less)
 
 module _ (plan : Plan) (before : List Timed) (x : Timed) (k : Claim) (at : IsClaimAt plan before x k) where
   -- ---- whom it meets
@@ -44,7 +41,7 @@ module _ (plan : Plan) (before : List Timed) (x : Timed) (k : Claim) (at : IsCla
           holds,
           elim (or_cases (nat_lt holder k.name) (not (is_defended kept k)) meets) [
             | inl less ↦ inl (ltb-true holder k.name less)
-            | inr against ↦ inr (undefended plan before x kept k at (not_true (is_defended kept k) against))
+            | inr against ↦ inr (undefended plan before x kept k at (not-true (is_defended kept k) against))
           ],
         ))
     | inr not_met ↦
@@ -58,7 +55,7 @@ module _ (plan : Plan) (before : List Timed) (x : Timed) (k : Claim) (at : IsCla
                 | inr against ↦
                     elim (cases_Bool (is_defended kept k)) [
                       | inl defends ↦ against (defended_so plan before x kept k at defends)
-                      | inr without ↦ false_true (sym parts.1 ∙ not_so (is_defended kept k) without)
+                      | inr without ↦ false≢true (sym parts.1 ∙ not_so (is_defended kept k) without)
                     ]
               ]
           | inr guess ↦ guess.0.0 holder holds
@@ -95,20 +92,20 @@ module _ (plan : Plan) (before : List Timed) (x : Timed) (k : Claim) (at : IsCla
   meets_so old c b = subst (λ (n : ℕ). Opposes plan (frames_of before) old.contest x.time k.address n b.opponent) (claimant_is old c b) b.opposes
 
   pub none_timed : (old : Contention) → k.time ≡ None → BeginsNone plan before old x k.address
-  none_timed old none c b = none_some c.since (sym none ∙ at.time ∙ b.since)
+  none_timed old none c b = none-some c.since (sym none ∙ at.time ∙ b.since)
 
   pub none_pooled : (old : Contention) → in_pool k.address ≡ false → BeginsNone plan before old x k.address
-  none_pooled old outside c b = false_true (sym outside ∙ b.pool)
+  none_pooled old outside c b = false≢true (sym outside ∙ b.pool)
 
   some_is : (o : Option Contest) (c : Contest) → o ≡ Some c → is_some o ≡ true
-  some_is None c e = absurd (none_some c e)
+  some_is None c e = absurd (none-some c e)
   some_is (Some d) c e = refl
 
   is_none : (o : Option Contest) → is_some o ≡ false → (c : Contest) → o ≡ Some c → ⊥
-  is_none o none c e = false_true (sym none ∙ some_is o c e)
+  is_none o none c e = false≢true (sym none ∙ some_is o c e)
 
   some_there : (o : Option Contest) → is_some o ≡ true → (c : Contest) × (o ≡ Some c)
-  some_there None e = absurd (false_true e)
+  some_there None e = absurd (false≢true e)
   some_there (Some c) e = (c, refl)
 
   pub none_free : (old : Contention) → is_some (running_of old.contest k.time) ≡ true → BeginsNone plan before old x k.address
@@ -153,7 +150,7 @@ module _ (plan : Plan) (before : List Timed) (x : Timed) (k : Claim) (at : IsCla
               (run_then old.contest k.time d (subst (λ (t : Option ℕ). Runs old.contest t d) (sym at.time) runs));
           opposes = met;
           another = λ one.
-              false_true (sym other
+              false≢true (sym other
               ∙ party_again (likely_named plan opponent) k.claimant.party (subst (IsSameParty (likely_named plan opponent)) (sym at.claimant.party) one));
           defender = refl;
           taken = refl;
@@ -187,7 +184,7 @@ module _ (plan : Plan) (before : List Timed) (x : Timed) (k : Claim) (at : IsCla
       → ¬ HoldsByFrames (frames_of before) k.name k.address
   not_held None none other holds = none k.name holds
   not_held (Some h) there other holds =
-      false_true (sym other ∙ some_place (Some h) k.name (ap Some (same_name (frames_of before) k.address h k.name there holds)))
+      false≢true (sym other ∙ some_place (Some h) k.name (ap Some (same_name (frames_of before) k.address h k.name there holds)))
 
   takes_so : ¬ HoldsByFrames (frames_of before) k.name k.address → Takes (frames_of before) x.frame k.address
   takes_so out = (

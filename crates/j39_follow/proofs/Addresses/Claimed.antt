@@ -3,6 +3,7 @@ use Rattle.std.proofs.Common.{◌≡◌, ◌⊎◌, ◌==◌, ◌||◌, ℕ, Boo
 use Rattle.std.proofs.lemmas.Bool.{cases_Bool, eqb-false}
 use Rattle.std.proofs.lemmas.List.Elements.{All-nil, All-push}
 use Rattle.std.specs.Option.{unwrap_or}
+use Rattle.std.proofs.lemmas.Option.{none-some}
 use Rattle.j39_id.specs.FrameMeaning.{cannot_claim, claims_address, name_in}
 use Rattle.j39_id.specs.declared.frame.Frame.{Frame}
 use Rattle.j39_network.specs.declared.plan.Plan.{Plan}
@@ -18,9 +19,6 @@ use Rattle.j39_follow.proofs.Addresses.Recounts.{TellsNothing, claim_new, claim_
 no_row : {A : Type 0} (front : List A) (x : A) (back : List A) → [] ≡ front ++ x ∷ back → ⊥
 no_row [] x back e = cc
 no_row (y ∷ front) x back e = cc
-
-none_some : {A : Type 0} (x : A) → None ≡ Some x → ⊥
-none_some x e = cc
 
 -- ---- what was told of a NAME last
 
@@ -64,7 +62,7 @@ none_known plan claimants none name =
     let is = ap (λ (o : Option Claimant). unwrap_or o (record { party = likely_named plan name; address = None })) (none name) in
     subst (IsClaimant plan [] name) (sym is) (record {
       party = refl;
-      claimed = λ a e. absurd (none_some a e);
+      claimed = λ a e. absurd (none-some a e);
       claims = λ a c. absurd (no_row c.before c.claim c.behind c.row);
     })
 

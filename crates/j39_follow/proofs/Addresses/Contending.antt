@@ -1,8 +1,9 @@
 -- What is known of the contests for an address, once one line more was read.
 use Rattle.std.proofs.Common.{◌≡◌, ◌+◌, ◌<◌, ◌≤◌, ℕ, ◌&&◌, ◌||◌, nat_le, nat_lt, Bool, true, false, if◌then◌else◌}
 use Rattle.std.proofs.Common.{List, [], ◌∷◌, ◌++◌, Option, Some, None, inl, inr, refl, sym, ap, subst, ◌∙◌, arith, append_assoc, eqb-true, eq-eqb}
-use Rattle.std.proofs.lemmas.Bool.{and_parts, cases_Bool, or_cases, le-leb, leb-true, lt-ltb, ltb-true}
+use Rattle.std.proofs.lemmas.Bool.{and_parts, cases_Bool, or_cases, le-leb, leb-true, lt-ltb, ltb-true, false≢true}
 use Rattle.std.proofs.lemmas.List.{append-nil}
+use Rattle.std.proofs.lemmas.Option.{none-some, same_Some}
 use Rattle.j39_id.specs.FrameMeaning.{cannot_claim, claims_address, name_in}
 use Rattle.j39_id.specs.declared.frame.Frame.{Frame}
 use Rattle.j39_network.specs.declared.plan.Plan.{Plan}
@@ -19,15 +20,6 @@ use Rattle.j39_follow.proofs.Addresses.Heard.{party_again, party_same}
 use Rattle.j39_follow.proofs.Addresses.HolderLaws.{same_name}
 use Rattle.j39_follow.proofs.Addresses.Recounts.{TellsNothing, claim_tells, or_left, or_right}
 
-pub some_same : {A : Type 0} (x y : A) → Some x ≡ Some y → x ≡ y
-some_same x y e = cc
-
-pub none_some : {A : Type 0} (x : A) → None ≡ Some x → ⊥
-none_some x e = cc
-
-pub false_true : false ≡ true → ⊥
-false_true e = cc
-
 -- ---- a contest that runs
 
 both_true : (a b : Bool) → a ≡ true → b ≡ true → (a && b) ≡ true
@@ -35,12 +27,12 @@ both_true true b x y = y
 both_true false b x y = cc
 
 pub run_so : (kept : Option Contest) (time : Option ℕ) (c : Contest) → running_of kept time ≡ Some c → Runs kept time c
-run_so None time c e = absurd (none_some c e)
-run_so (Some d) None c e = absurd (none_some c e)
+run_so None time c e = absurd (none-some c e)
+run_so (Some d) None c e = absurd (none-some c e)
 run_so (Some d) (Some now) c e = elim (cases_Bool (is_lasting d now)) [
   | inl runs ↦
       let parts = and_parts (nat_le d.since now) (nat_lt now (d.since + claim_wait)) runs in
-      let same : d ≡ c = some_same d c (sym (ap (λ (b : Bool). if b then Some d else None) runs) ∙ e) in
+      let same : d ≡ c = same_Some d c (sym (ap (λ (b : Bool). if b then Some d else None) runs) ∙ e) in
       subst (Runs (Some d) (Some now)) same (record {
         kept_is = refl;
         now = now;
@@ -48,7 +40,7 @@ run_so (Some d) (Some now) c e = elim (cases_Bool (is_lasting d now)) [
         begun = leb-true d.since now parts.0;
         lasts = ltb-true now (d.since + claim_wait) parts.1;
       })
-  | inr over ↦ absurd (none_some c (sym (ap (λ (b : Bool). if b then Some d else None) over) ∙ e))
+  | inr over ↦ absurd (none-some c (sym (ap (λ (b : Bool). if b then Some d else None) over) ∙ e))
 ]
 
 pub runs_at : (c : Contest) (now : ℕ) → c.since ≤ now → now < c.since + claim_wait → is_lasting c now ≡ true
@@ -64,15 +56,15 @@ run_then kept time c r =
 -- ---- who defends an address
 
 pub place_some : (o : Option ℕ) (a : ℕ) → is_place o a ≡ true → o ≡ Some a
-place_some None a e = absurd (false_true e)
+place_some None a e = absurd (false≢true e)
 place_some (Some b) a e = ap Some (eqb-true b a e)
 
 pub some_place : (o : Option ℕ) (a : ℕ) → o ≡ Some a → is_place o a ≡ true
-some_place None a e = absurd (none_some a e)
-some_place (Some b) a e = eq-eqb b a (some_same b a e)
+some_place None a e = absurd (none-some a e)
+some_place (Some b) a e = eq-eqb b a (same_Some b a e)
 
 defended_in : (o : Option Contest) (party : Who) → defends_in o party ≡ true → (c : Contest) × (o ≡ Some c) × IsSameParty c.defender party
-defended_in None party e = absurd (false_true e)
+defended_in None party e = absurd (false≢true e)
 defended_in (Some c) party e = (c, refl, party_same c.defender party e)
 
 in_defence : (o : Option Contest) (c : Contest) (party : Who) → o ≡ Some c → IsSameParty c.defender party → defends_in o party ≡ true
@@ -102,7 +94,7 @@ module _ (plan : Plan) (before : List Timed) (x : Timed) (kept : Option Contest)
       (subst (IsSameParty runs.0.defender) (sym at.claimant.party) runs.2))
 
   pub undefended : is_defended kept k ≡ false → ¬ Defends plan (frames_of before) kept x.time k.address k.name
-  undefended e d = false_true (sym e ∙ defended_then d)
+  undefended e d = false≢true (sym e ∙ defended_then d)
 
 -- ---- whom a claim meets
 
@@ -141,7 +133,7 @@ one_begun plan before old x a c d p q =
     (subst (λ (n : ℕ). Opposes plan (frames_of before) old.contest x.time a n p.opponent) claimant p.opposes) q.opposes in
     same_contest c d
     (p.defender ∙ ap (likely_named plan) met ∙ sym q.defender)
-    (some_same c.since d.since (sym p.since ∙ q.since))
+    (same_Some c.since d.since (sym p.since ∙ q.since))
     (p.taken
     ∙ ap (λ (n : ℕ). if nat_lt n p.opponent then old.taken else None) claimant
     ∙ ap (λ (n : ℕ). if nat_lt q.claimant n then old.taken else None) met
@@ -217,7 +209,7 @@ contention_on plan log a old new x of behind = leads_on plan a [] nothing_conten
 -- what is left where no contest begins
 module _ (plan : Plan) (before : List Timed) (old : Contention) (x : Timed) (a : ℕ) (none : BeginsNone plan before old x a) where
   kept_none : old.contest ≡ None → IsContestBehind plan before old x a None
-  kept_none is = (none, λ c some. absurd (none_some c (sym is ∙ some)))
+  kept_none is = (none, λ c some. absurd (none-some c (sym is ∙ some)))
 
   pub kept_so : (o : Option Contest) → old.contest ≡ o → ((c : Contest) → ¬ EndsContest plan x.frame c) → IsContestBehind plan before old x a o
   kept_so None is stays = kept_none is
@@ -235,14 +227,14 @@ module _ (plan : Plan) (before : List Timed) (old : Contention) (x : Timed) (a :
         ) in
         subst (λ (b : Bool). IsContestBehind plan before old x a (if b then None else Some c)) (sym same) (
           none,
-          λ d some. subst (EndsContest plan x.frame) (some_same c d (sym is ∙ some)) ends,
+          λ d some. subst (EndsContest plan x.frame) (same_Some c d (sym is ∙ some)) ends,
         )
     | inr other ↦
         subst (λ (b : Bool). IsContestBehind plan before old x a (if b then None else Some c)) (sym other)
         (inr (
           none,
           is,
-          λ ends. false_true (sym other
+          λ ends. false≢true (sym other
               ∙ party_again party c.defender
               (subst (λ (w : Who). IsSameParty w c.defender) (sym (named ∙ ap (likely_named plan) ends.1.name_is)) ends.2)),
         ))

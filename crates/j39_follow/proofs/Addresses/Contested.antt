@@ -1,8 +1,9 @@
 -- Who is taken to be behind an address within a contest.
 use Rattle.std.proofs.Common.{◌≡◌, ◌+◌, ◌≤◌, ℕ, ◌==◌, ◌&&◌, ◌||◌, nat_le, Bool, true, false, if◌then◌else◌}
 use Rattle.std.proofs.Common.{List, [], ◌∷◌, ◌++◌, length, Option, Some, None, is_some, inl, inr, refl, sym, ap, subst, ◌∙◌, eqb-true}
-use Rattle.std.proofs.lemmas.Bool.{and_parts, cases_Bool, or_cases, le-leb, leb-true, ltb-true}
+use Rattle.std.proofs.lemmas.Bool.{and_parts, cases_Bool, or_cases, le-leb, leb-true, ltb-true, false≢true}
 use Rattle.std.proofs.lemmas.List.{same_from_push}
+use Rattle.std.proofs.lemmas.Option.{none-some, same_Some}
 use Rattle.j39_id.specs.Addresses.{is_address, null_address}
 use Rattle.j39_id.specs.FrameMeaning.{cannot_claim, carries_name, claims_address}
 use Rattle.j39_id.specs.Ident.{pgn_of}
@@ -20,7 +21,7 @@ use Rattle.j39_follow.specs.declared.address.who.Who.{Who}
 use Rattle.j39_follow.specs.declared.address.who.Who.TheVariants.{Holder, Stranger, Likely, LikelyStranger, Unknown}
 use Rattle.j39_follow.specs.inside.Contesting.{AreClaimants, AreContests, IsDefender, IsGuess, IsLikelyName, IsNameAt, contention_at, defender_in, is_heard, is_lasting, taken_party}
 use Rattle.j39_follow.proofs.Addresses.Claimed.{known_still}
-use Rattle.j39_follow.proofs.Addresses.Contending.{contention_on, false_true, none_some, one_contention, runs_at, silent_behind, some_same}
+use Rattle.j39_follow.proofs.Addresses.Contending.{contention_on, one_contention, runs_at, silent_behind}
 use Rattle.j39_follow.proofs.Addresses.Knowing.{timed_more}
 use Rattle.j39_follow.proofs.Addresses.Parties.{one_who}
 use Rattle.j39_follow.proofs.Addresses.Recounts.{TellsNothing}
@@ -33,8 +34,8 @@ one_now log s t p q =
     sym p.3 ∙ ap (λ (x : Timed). x.time) same.1 ∙ q.3
 
 heard_so : (taken : Option ℕ) (now : ℕ) → is_heard taken now ≡ true → IsHeard taken now
-heard_so None now e since is = absurd (none_some since is)
-heard_so (Some t) now e since is = subst (λ (s : ℕ). s + claim_wait ≤ now) (some_same t since is) (leb-true (t + claim_wait) now e)
+heard_so None now e since is = absurd (none-some since is)
+heard_so (Some t) now e since is = subst (λ (s : ℕ). s + claim_wait ≤ now) (same_Some t since is) (leb-true (t + claim_wait) now e)
 
 heard_then : (taken : Option ℕ) (now : ℕ) → IsHeard taken now → is_heard taken now ≡ true
 heard_then None now h = refl
@@ -47,7 +48,7 @@ both_true false b x y = cc
 one_contested : (plan : Plan) (log : List Timed) (a : ℕ) (c d : Contest) → IsContested plan log a c → IsContested plan log a d → c ≡ d
 one_contested plan log a c d p q =
     let same = one_contention plan log a p.contention q.contention p.contention_is q.contention_is in
-    some_same c d (sym p.runs.kept_is ∙ ap (λ (g : Contention). g.contest) same ∙ q.runs.kept_is)
+    same_Some c d (sym p.runs.kept_is ∙ ap (λ (g : Contention). g.contest) same ∙ q.runs.kept_is)
 
 module _ (plan : Plan) (log : List Timed) (a : ℕ) (g : Contention) (time : Option ℕ) (of : IsContention plan log a g) (timed : IsNow log time) where
   -- the contest that goes on is the one that is kept, at this time
@@ -70,8 +71,8 @@ module _ (plan : Plan) (log : List Timed) (a : ℕ) (g : Contention) (time : Opt
       }
 
   defends_of : (o : Option Contest) (t : Option ℕ) → g.contest ≡ o → time ≡ t → IsDefender plan log a (defender_in o t)
-  defends_of None t kept at = λ c is. none_some c (sym kept ∙ (kept_then c is).0)
-  defends_of (Some c) None kept at = λ d is. none_some is.runs.now (sym at ∙ (kept_then d is).1)
+  defends_of None t kept at = λ c is. none-some c (sym kept ∙ (kept_then c is).0)
+  defends_of (Some c) None kept at = λ d is. none-some is.runs.now (sym at ∙ (kept_then d is).1)
   defends_of (Some c) (Some now) kept at = elim (cases_Bool (is_lasting c now && is_heard c.taken now)) [
     | inl within ↦
         let parts = and_parts (is_lasting c now) (is_heard c.taken now) within in
@@ -81,15 +82,15 @@ module _ (plan : Plan) (log : List Timed) (a : ℕ) (g : Contention) (time : Opt
         subst (λ (b : Bool). IsDefender plan log a (if b then Some c.defender else None)) (sym without)
         (λ d is.
         let there = kept_then d is in
-        let same : d ≡ c = some_same d c (sym there.0 ∙ kept) in
-        let now_is : is.runs.now ≡ now = some_same is.runs.now now (sym there.1 ∙ at) in
+        let same : d ≡ c = same_Some d c (sym there.0 ∙ kept) in
+        let now_is : is.runs.now ≡ now = same_Some is.runs.now now (sym there.1 ∙ at) in
         let runs : is_lasting c now ≡ true =
         subst (λ (e : Contest). is_lasting e now ≡ true) same
         (subst (λ (n : ℕ). is_lasting d n ≡ true) now_is (runs_at d is.runs.now is.runs.begun is.runs.lasts)) in
         let heard : is_heard c.taken now ≡ true =
         subst (λ (e : Contest). is_heard e.taken now ≡ true) same
         (subst (λ (n : ℕ). is_heard d.taken n ≡ true) now_is (heard_then d.taken is.runs.now is.heard)) in
-        false_true (sym without ∙ both_true (is_lasting c now) (is_heard c.taken now) runs heard))
+        false≢true (sym without ∙ both_true (is_lasting c now) (is_heard c.taken now) runs heard))
   ]
 
 pub defends : (plan : Plan) (log : List Timed) (a : ℕ) (g : Contention) (time : Option ℕ) → IsContention plan log a g → IsNow log time
@@ -127,15 +128,12 @@ contests_on plan contests log x silent of = record {
 
 -- ---- the NAME that is guessed at an address
 
-unit_there : (a b : UnitPlan) → Some a ≡ Some b → a ≡ b
-unit_there a b e = cc
-
 named_there : (plan : Plan) (frames : List Frame) (a u : ℕ) (o : Option ℕ) → IsHolder frames a None → IsLikeliest plan frames a u → IsNameAt plan u o
     → IsGuess plan frames a o
 named_there plan frames a u (Some n) none l at =
-    let same : l.unit ≡ at.0 = unit_there l.unit at.0 (sym l.unit_is ∙ at.1) in
+    let same : l.unit ≡ at.0 = same_Some l.unit at.0 (sym l.unit_is ∙ at.1) in
     (none, u, l, ap (λ (unit : UnitPlan). unit.name) same ∙ at.2)
-named_there plan frames a u None none l at = absurd (none_some l.unit (sym at ∙ l.unit_is))
+named_there plan frames a u None none l at = absurd (none-some l.unit (sym at ∙ l.unit_is))
 
 -- where the address is held none is
 pub held_unguessed : (plan : Plan) (frames : List Frame) (a holder : ℕ) → IsHolder frames a (Some holder) → (name : ℕ) → ¬ IsGuessed plan frames a name

@@ -1,7 +1,7 @@
 -- What a pair heard since one of its addresses last changed hands, once one frame more was sent.
 use Rattle.std.proofs.Common.{◌≡◌, ◌⊎◌, ◌<◌, ℕ, Bool, true, false, not, List, [], ◌∷◌, ◌++◌, All, Option, Some, None, inl, inr, refl, sym, ap, subst, ◌∙◌}
 use Rattle.std.proofs.Common.{append_assoc, if◌then◌else◌, ◌||◌, ◌&&◌, eq-eqb, eqb-true}
-use Rattle.std.proofs.lemmas.Bool.{cases_Bool}
+use Rattle.std.proofs.lemmas.Bool.{cases_Bool, false≢true, not-false}
 use Rattle.std.proofs.lemmas.List.{append-nil}
 use Rattle.std.proofs.lemmas.List.Elements.{All-tail}
 use Rattle.j39_id.specs.declared.frame.Frame.{Frame}
@@ -123,10 +123,6 @@ not_true : (b : Bool) → not b ≡ true → b ≡ true → ⊥
 not_true true e d = cc
 not_true false e d = cc
 
-not_false : (b : Bool) → not b ≡ false → b ≡ true
-not_false true e = refl
-not_false false e = cc
-
 one_of : (a b : Bool) → (a || b) ≡ true → (a ≡ true) ⊎ (b ≡ true)
 one_of true b e = inl refl
 one_of false b e = inr e
@@ -134,9 +130,6 @@ one_of false b e = inr e
 none_of : (a b : Bool) → (a || b) ≡ false → (a ≡ false) × (b ≡ false)
 none_of true b e = cc
 none_of false b e = (refl, e)
-
-false_true : false ≡ true → ⊥
-false_true e = cc
 
 changes : (plan : Plan) (frames : List Frame) (f : Frame) (olds news : List Who) (replaced : Option ℕ) (a : ℕ) → ArePartiesOf plan frames olds
     → ArePartiesOf plan (frames ++ f ∷ []) news → AreReplaced frames f replaced → a < 256 → differs_at olds news replaced a ≡ true
@@ -163,9 +156,9 @@ stays plan frames f olds news replaced a before after are less same ch =
     elim ch.another [
       | inl parties ↦
           parties (subst (λ (w : Who). IsSameParty w ch.new) (sym old) (subst (IsSameParty (party_at olds a)) (sym new)
-          (party_same (party_at olds a) (party_at news a) (not_false (is_same_party (party_at olds a) (party_at news a)) parts.0))))
+          (party_same (party_at olds a) (party_at news a) (not-false (is_same_party (party_at olds a) (party_at news a)) parts.0))))
       | inr names ↦
-          false_true (sym parts.1
+          false≢true (sym parts.1
           ∙ subst (λ (r : Option ℕ). is_same_number r (Some a) ≡ true) (sym (are.only a names)) (number_itself (Some a)))
     ]
 

@@ -3,22 +3,13 @@ use Rattle.std.proofs.Common.{◌≡◌, ◌==◌, ◌+◌, ◌<◌, ◌≤◌, 
 use Rattle.std.proofs.Common.{None, inl, inr, refl, sym, ap, subst, ◌∙◌, arith, eqb-true, length}
 use Rattle.std.specs.List.{slice_get}
 use Rattle.std.proofs.lemmas.Bool.{cases_Bool, eqb-false}
-use Rattle.std.proofs.lemmas.Option.{slice_get_within}
+use Rattle.std.proofs.lemmas.Option.{slice_get_within, none-some, same_Some}
 use Rattle.j39_id.specs.declared.frame.Frame.{Frame}
 use Rattle.j39_network.specs.declared.plan.Plan.{Plan}
 use Rattle.j39_network.specs.declared.plan.unit_plan.UnitPlan.{UnitPlan}
 use Rattle.j39_rules.specs.ListPlaces.{ValueAt}
 use Rattle.j39_follow.specs.Who.{IsLikeliest, MayHold}
 use Rattle.j39_follow.specs.inside.Likeliest.{IsBelowBest, IsBestOf, IsNotBelow}
-
-unit_same : (a b : UnitPlan) → Some a ≡ Some b → a ≡ b
-unit_same a b e = cc
-
-none_some : {A : Type 0} (x : A) → None ≡ Some x → ⊥
-none_some x e = cc
-
-place_same : (a b : ℕ) → Some a ≡ Some b → a ≡ b
-place_same a b e = cc
 
 -- a place below the next is this one or an earlier
 below_next : (v i : ℕ) → v < i + 1 → (v ≡ i) ⊎ (v < i)
@@ -30,7 +21,7 @@ below_next v i less = elim (cases_Bool (v == i)) [
 here : (plan : Plan) (i v : ℕ) (unit other : UnitPlan) → slice_get plan.units.items i ≡ Some unit → v ≡ i
     → slice_get plan.units.items v ≡ Some other → unit ≡ other
 here plan i v unit other at same there =
-    unit_same unit other (sym at ∙ ap (λ (j : ℕ). slice_get plan.units.items j) (sym same) ∙ there)
+    same_Some unit other (sym at ∙ ap (λ (j : ℕ). slice_get plan.units.items j) (sym same) ∙ there)
 
 holds_here : (plan : Plan) (i v : ℕ) (frames : List Frame) (address : ℕ) (unit other : UnitPlan) → slice_get plan.units.items i ≡ Some unit → v ≡ i
     → slice_get plan.units.items v ≡ Some other → MayHold plan frames address v other → MayHold plan frames address i unit
@@ -64,7 +55,7 @@ passed plan i frames address unit (Some u) at not_it of = (
 pub behind : (plan : Plan) (i : ℕ) (frames : List Frame) (address : ℕ) (unit : UnitPlan) (best : Option ℕ)
     → slice_get plan.units.items i ≡ Some unit
     → IsNotBelow plan unit.name best → IsBestOf plan i frames address best → IsBestOf plan (i + 1) frames address best
-behind plan i frames address unit None at not_below of = absurd (none_some not_below.place not_below.best_is)
+behind plan i frames address unit None at not_below of = absurd (none-some not_below.place not_below.best_is)
 behind plan i frames address unit (Some u) at not_below of = (
   omega (arith, of.0),
   record {
@@ -74,7 +65,7 @@ behind plan i frames address unit (Some u) at not_below of = (
     least = λ v other less there may. elim (below_next v i less) [
       | inl same ↦
           let best_at : slice_get plan.units.items not_below.place ≡ Some of.1.unit =
-          ap (λ (j : ℕ). slice_get plan.units.items j) (sym (place_same u not_below.place not_below.best_is)) ∙ of.1.unit_is in
+          ap (λ (j : ℕ). slice_get plan.units.items j) (sym (same_Some u not_below.place not_below.best_is)) ∙ of.1.unit_is in
           subst (λ (w : UnitPlan). of.1.unit.name ≤ w.name) (here plan i v unit other at same there) (not_below.above of.1.unit best_at)
       | inr earlier ↦ of.1.least v other earlier there may
     ];

@@ -2,6 +2,7 @@
 use Rattle.std.proofs.Common.{◌≡◌, ◌<◌, ◌≤◌, ℕ, List, Some, None, inl, inr, refl, sym, ap, ◌∙◌, arith}
 use Rattle.std.specs.List.{slice_get}
 use Rattle.std.proofs.lemmas.Bool.{cases_Bool, cases_order}
+use Rattle.std.proofs.lemmas.Option.{none-some, same_Some}
 use Rattle.j39_id.specs.declared.frame.Frame.{Frame}
 use Rattle.j39_rules.specs.ListPlaces.{ValueAt}
 use Rattle.j39_network.specs.declared.plan.Plan.{Plan}
@@ -15,15 +16,6 @@ use Rattle.j39_follow.specs.inside.Recounting.{Recounts, is_marked}
 use Rattle.j39_follow.proofs.Addresses.HolderLaws.{same_name}
 
 -- ---- one party
-
-place_same : (a b : ℕ) → Some a ≡ Some b → a ≡ b
-place_same a b e = cc
-
-none_some : {A : Type 0} (x : A) → None ≡ Some x → ⊥
-none_some x e = cc
-
-unit_same : (a b : UnitPlan) → Some a ≡ Some b → a ≡ b
-unit_same a b e = cc
 
 -- neither of two likeliest units is before the other
 not_before : (plan : Plan) (frames : List Frame) (address u v : ℕ) → IsLikeliest plan frames address u → IsLikeliest plan frames address v
@@ -48,16 +40,16 @@ likely_there plan frames address u l = record { value = l.unit; value_is = l.uni
 pub one_who : (plan : Plan) (frames : List Frame) (address : ℕ) (a b : Who) → IsWho plan frames address a → IsWho plan frames address b → a ≡ b
 one_who plan frames address (Holder u) (Holder v) x y =
     let named = same_name frames address x.0 y.0 x.1 y.1 in
-    ap Holder (place_same u v (sym x.2 ∙ ap (unit_of_name plan) named ∙ y.2))
+    ap Holder (same_Some u v (sym x.2 ∙ ap (unit_of_name plan) named ∙ y.2))
 one_who plan frames address (Holder u) (Stranger m) x y =
     let named = same_name frames address x.0 m x.1 y.0 in
-    absurd (none_some u (sym y.1 ∙ sym (ap (unit_of_name plan) named) ∙ x.2))
+    absurd (none-some u (sym y.1 ∙ sym (ap (unit_of_name plan) named) ∙ x.2))
 one_who plan frames address (Holder u) (Likely v) x y = absurd (y.0 x.0 x.1)
 one_who plan frames address (Holder u) (LikelyStranger m) x y = absurd y
 one_who plan frames address (Holder u) Unknown x y = absurd (y.0 x.0 x.1)
 one_who plan frames address (Stranger n) (Holder v) x y =
     let named = same_name frames address n y.0 x.0 y.1 in
-    absurd (none_some v (sym x.1 ∙ ap (unit_of_name plan) named ∙ y.2))
+    absurd (none-some v (sym x.1 ∙ ap (unit_of_name plan) named ∙ y.2))
 one_who plan frames address (Stranger n) (Stranger m) x y = ap Stranger (same_name frames address n m x.0 y.0)
 one_who plan frames address (Stranger n) (Likely v) x y = absurd (y.0 n x.0)
 one_who plan frames address (Stranger n) (LikelyStranger m) x y = absurd y

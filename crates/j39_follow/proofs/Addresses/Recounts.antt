@@ -1,6 +1,8 @@
 -- A table of holders, once one frame more was sent.
 use Rattle.std.proofs.Common.{◌≡◌, ◌≢◌, ◌||◌, ◌⊎◌, if◌then◌else◌, ℕ, All, length, Bool, true, false, List, [], ◌∷◌}
 use Rattle.std.proofs.Common.{◌++◌, Option, Some, None, inl, inr, refl, sym, ap, subst, ◌∙◌}
+use Rattle.std.proofs.lemmas.Option.{same_Some}
+use Rattle.std.proofs.lemmas.Bool.{true≢false}
 use Rattle.j39_id.specs.declared.frame.Frame.{Frame}
 use Rattle.j39_id.specs.FrameMeaning.{cannot_claim, claims_address, name_in}
 use Rattle.j39_follow.specs.Holders.{Claims, HoldsByFrames, TakesFrom, TellsOf}
@@ -8,18 +10,12 @@ use Rattle.j39_follow.specs.Who.{IsUnitTold, is_name_of}
 use Rattle.j39_follow.specs.declared.address.holders.Holders.{Holders}
 use Rattle.j39_network.specs.declared.plan.Plan.{Plan}
 use Rattle.j39_network.specs.declared.plan.unit_plan.UnitPlan.{UnitPlan}
-use Rattle.j39_follow.specs.inside.Recounting.{IsMoved, IsNew, Recounts, TellsPlace, claimed_at, is_marked}
+use Rattle.j39_follow.specs.inside.Recounting.{IsMoved, IsNew, Recounts, TellsPlace, is_marked}
 use Rattle.j39_follow.proofs.Addresses.Holding.{all_front, held_by, holds_new, holds_on, one_more, told_by, told_new, told_on}
 
 pub or_left : (a b : Bool) → a ≡ true → (a || b) ≡ true
 or_left true b e = refl
 or_left false b e = cc
-
-some_same : {A : Type 0} (x y : A) → Some x ≡ Some y → x ≡ y
-some_same x y e = cc
-
-none_some : {A : Type 0} (x : A) → None ≡ Some x → ⊥
-none_some x e = cc
 
 -- a claim tells of the NAME
 pub claim_tells : (f : Frame) (name address : ℕ) → Claims f name address → TellsOf f name
@@ -35,7 +31,7 @@ claim_new f name (Some b) n a t c = (ap Some (sym t.source_is ∙ c.source_is), 
 claim_new f name None n a t c = absurd (t.1 n a c)
 
 pub new_claim : (f : Frame) (name : ℕ) (place : Option ℕ) (n a : ℕ) → TellsPlace f name place → IsNew place name a n → Claims f n a
-new_claim f name (Some b) n a t is = rw (is.1, sym (some_same b a is.0)) t
+new_claim f name (Some b) n a t is = rw (is.1, sym (same_Some b a is.0)) t
 new_claim f name None n a t is = absurd (let e = is.0 in cc)
 
 -- what it takes from others
@@ -50,9 +46,6 @@ told_after false x A B first second e = second e
 untold_after : (b : Bool) (x : Bool) → (if b then true else x) ≡ false → (b ≡ false) × (x ≡ false)
 untold_after true x e = cc
 untold_after false x e = (refl, e)
-
-true_false : true ≡ false → ⊥
-true_false e = cc
 
 -- what was told of a unit stays told
 unit_told_on : (plan : Plan) (frames : List Frame) (f : Frame) (u : ℕ) (unit : UnitPlan) → IsUnitTold plan frames u unit
@@ -101,7 +94,7 @@ moved plan old new frames f name place count of t many m = record {
       elim (told_by frames f told.name told.told) [
         | inl tells ↦
             let same : told.name ≡ name = sym tells.name_is ∙ (place_tells f name place t).name_is in
-            true_false (sym (subst (λ (n : ℕ). is_name_of plan u unit n ≡ true) same told.name_of) ∙ both.0)
+            true≢false (sym (subst (λ (n : ℕ). is_name_of plan u unit n ≡ true) same told.name_of) ∙ both.0)
         | inr earlier ↦ of.untold u unit at both.1 (record { name = told.name; name_of = told.name_of; told = earlier })
       ];
   since = λ a n h. elim (claimed_by frames f n a h) [
@@ -145,7 +138,7 @@ nothing_told plan holders frames f silent of = record {
 -- ---- what a frame tells
 
 neither : (a b : Bool) → a ≡ false → b ≡ false → (a || b) ≡ false
-neither true b e d = absurd (true_false e)
+neither true b e d = absurd (true≢false e)
 neither false b e d = d
 
 pub or_right : (a b : Bool) → b ≡ true → (a || b) ≡ true
@@ -155,10 +148,10 @@ or_right false b e = e
 -- one that claims no address, and isn't of a unit that can't
 pub silent : (f : Frame) → claims_address f ≡ false → cannot_claim f ≡ false → (name : ℕ) → ¬ TellsOf f name
 silent f claims cannot name tells =
-    true_false (sym tells.told ∙ neither (claims_address f) (cannot_claim f) claims cannot)
+    true≢false (sym tells.told ∙ neither (claims_address f) (cannot_claim f) claims cannot)
 
 pub told_cannot : (f : Frame) (name : ℕ) → claims_address f ≡ false → cannot_claim f ≡ true → name_in f ≡ name → TellsPlace f name None
 told_cannot f name claims cannot is = (
   record { told = or_right (claims_address f) (cannot_claim f) cannot; name_is = is },
-  λ other address c. true_false (sym c.claim ∙ claims),
+  λ other address c. true≢false (sym c.claim ∙ claims),
 )

@@ -1,5 +1,7 @@
 -- Addresses that another NAME comes to hold.
-use Rattle.std.proofs.Common.{◌≡◌, ◌≢◌, ℕ, true, false, List, Option, Some, None, inl, inr, refl, sym, ap, subst, ◌∙◌}
+use Rattle.std.proofs.Common.{◌≡◌, ◌≢◌, ℕ, true, false, List, Some, None, inl, inr, refl, sym, ap, subst, ◌∙◌}
+use Rattle.std.proofs.lemmas.Option.{none-some, same_Some}
+use Rattle.std.proofs.lemmas.Bool.{true≢false}
 use Rattle.j39_id.specs.FrameMeaning.{claims_address, name_in}
 use Rattle.j39_id.specs.declared.frame.Frame.{Frame}
 use Rattle.j39_follow.specs.Holders.{Claims, HoldsByFrames, IsHolder}
@@ -8,15 +10,6 @@ use Rattle.j39_follow.specs.inside.Hearing.{AreReplaced}
 use Rattle.j39_follow.proofs.Addresses.HolderLaws.{same_name}
 use Rattle.j39_follow.proofs.Addresses.Holding.{held_by, holds_new}
 use Rattle.j39_follow.proofs.Addresses.Recounts.{TellsNothing, held_before}
-
-none_some : {A : Type 0} (x : A) → None ≡ Some x → ⊥
-none_some x e = cc
-
-some_same : {A : Type 0} (x y : A) → Some x ≡ Some y → x ≡ y
-some_same x y e = cc
-
-true_false : true ≡ false → ⊥
-true_false e = cc
 
 -- the frame claims each such address
 claimed : (frames : List Frame) (f : Frame) (a : ℕ) (r : IsReplaced frames f a) → Claims f r.new a
@@ -28,7 +21,7 @@ claimed frames f a r = elim (held_by frames f r.new a r.new_holds) [
 -- no address where no NAME held that of the frame
 pub none_holds : (frames : List Frame) (f : Frame) → IsHolder frames f.ident.sa None → AreReplaced frames f None
 none_holds frames f none = record {
-  one = λ a e. absurd (none_some a e);
+  one = λ a e. absurd (none-some a e);
   only = λ a r.
       let claim = claimed frames f a r in
       absurd (none r.old (subst (HoldsByFrames frames r.old) (sym claim.source_is) r.old_holds));
@@ -37,15 +30,15 @@ none_holds frames f none = record {
 -- none where the frame claims none
 pub none_claims : (frames : List Frame) (f : Frame) → claims_address f ≡ false → AreReplaced frames f None
 none_claims frames f without = record {
-  one = λ a e. absurd (none_some a e);
-  only = λ a r. let claim = claimed frames f a r in absurd (true_false (sym claim.claim ∙ without));
+  one = λ a e. absurd (none-some a e);
+  only = λ a r. let claim = claimed frames f a r in absurd (true≢false (sym claim.claim ∙ without));
 }
 
 -- none where the NAME that claims the address holds it
 pub one_holds : (frames : List Frame) (f : Frame) (holder : ℕ) → claims_address f ≡ true → IsHolder frames f.ident.sa (Some holder)
     → name_in f ≡ holder → AreReplaced frames f None
 one_holds frames f holder claims holds same = record {
-  one = λ a e. absurd (none_some a e);
+  one = λ a e. absurd (none-some a e);
   only = λ a r.
       let claim = claimed frames f a r in
       let here = subst (HoldsByFrames frames r.old) (sym claim.source_is) r.old_holds in
@@ -57,7 +50,7 @@ pub another_holds : (frames : List Frame) (f : Frame) (holder : ℕ) → claims_
     → name_in f ≢ holder → AreReplaced frames f (Some f.ident.sa)
 another_holds frames f holder claims holds other = record {
   one = λ a e.
-      let here : f.ident.sa ≡ a = some_same f.ident.sa a e in
+      let here : f.ident.sa ≡ a = same_Some f.ident.sa a e in
       subst (IsReplaced frames f) here (record {
         old = holder;
         new = name_in f;
@@ -71,6 +64,6 @@ another_holds frames f holder claims holds other = record {
 -- none at a frame that tells of no NAME
 pub none_told : (frames : List Frame) (f : Frame) → TellsNothing f → AreReplaced frames f None
 none_told frames f silent = record {
-  one = λ a e. absurd (none_some a e);
+  one = λ a e. absurd (none-some a e);
   only = λ a r. absurd (r.another (same_name frames a r.old r.new r.old_holds (held_before frames f r.new a silent r.new_holds)));
 }

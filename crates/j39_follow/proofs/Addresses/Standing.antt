@@ -1,27 +1,17 @@
 -- Where units stand, by a table of holders.
-use Rattle.std.proofs.Common.{◌≡◌, ◌≢◌, ◌⊎◌, ◌==◌, ◌<◌, ◌≤◌, ◌+◌, ℕ, zero, suc, Bool, true, false, List, [], ◌∷◌, ◌++◌, length, codes, Option, Some, None, inl, inr, refl, sym, ap, subst, ◌∙◌, arith, eqb-true}
+use Rattle.std.proofs.Common.{◌≡◌, ◌⊎◌, ◌==◌, ◌<◌, ◌≤◌, ◌+◌, ℕ, zero, suc, true, false, List, [], ◌∷◌, ◌++◌, length, codes, Option, Some, None, inl, inr, refl, sym, ap, subst, ◌∙◌, arith, eqb-true}
 use Rattle.std.specs.List.{slice_get}
-use Rattle.std.proofs.lemmas.Bool.{cases_Bool, cases_order, eqb-false}
-use Rattle.std.proofs.lemmas.Option.{slice_get_within}
+use Rattle.std.proofs.lemmas.Bool.{cases_Bool, cases_order, eqb-false, true≢false}
+use Rattle.std.proofs.lemmas.Option.{slice_get_within, none-some, same_Some}
 use Rattle.j39_id.specs.declared.frame.Frame.{Frame}
 use Rattle.j39_network.specs.declared.plan.Plan.{Plan}
 use Rattle.j39_network.specs.declared.plan.unit_plan.UnitPlan.{UnitPlan}
 use Rattle.j39_text.specs.Texts.{field}
 use Rattle.j39_follow.specs.FollowText.{AreUnitLines, HoldsForUnit, IsUnitLine, StandsAt, unit_end_line}
-use Rattle.j39_follow.specs.Holders.{HoldsByFrames}
 use Rattle.j39_follow.specs.Who.{IsUnitTold, is_name_of}
 use Rattle.j39_follow.specs.declared.address.holders.Holders.{Holders}
 use Rattle.j39_follow.specs.inside.Recounting.{HasNameAt, IsHeldByUnit, IsLatestBelow, Recounts, claimed_at, is_marked}
 use Rattle.j39_follow.proofs.Addresses.Recounts.{claim_tells}
-
-none_some : {A : Type 0} (x : A) → None ≡ Some x → ⊥
-none_some x e = cc
-
-some_same : {A : Type 0} (x y : A) → Some x ≡ Some y → x ≡ y
-some_same x y e = cc
-
-true_false : true ≡ false → ⊥
-true_false e = cc
 
 below_next : (v i : ℕ) → v < i + 1 → (v ≡ i) ⊎ (v < i)
 below_next v i less = elim (cases_Bool (v == i)) [
@@ -48,12 +38,12 @@ module _ (plan : Plan) (holders : Holders) (u : ℕ) (unit : UnitPlan) where
 
   pub earlier_next : (best : Option ℕ) (k a : ℕ) → best ≡ Some a → claimed_at holders k ≤ claimed_at holders a
       → IsLatestBelow plan holders u unit k best → IsLatestBelow plan holders u unit (k + 1) best
-  earlier_next None k a e later of = absurd (none_some a e)
+  earlier_next None k a e later of = absurd (none-some a e)
   earlier_next (Some b) k a e later of = (
     of.0,
     λ other less held. elim (below_next other k less) [
       | inl same ↦
-          let one : b ≡ a = some_same b a e in
+          let one : b ≡ a = same_Some b a e in
           subst (λ (i : ℕ). claimed_at holders i ≤ claimed_at holders b) (sym same)
           (subst (λ (i : ℕ). claimed_at holders k ≤ claimed_at holders i) (sym one) later)
       | inr earlier ↦ of.1 other earlier held
@@ -121,13 +111,13 @@ module _ (plan : Plan) (holders : Holders) (u : ℕ) (unit : UnitPlan) where
   -- ---- there is one
 
   held_or_not : (a : ℕ) (o : Option (Option ℕ)) → slice_get holders.names a ≡ o → (IsHeldByUnit plan holders u unit a) ⊎ (¬ IsHeldByUnit plan holders u unit a)
-  held_or_not a None is = inr (λ held. none_some (Some held.name) (sym is ∙ held.named))
-  held_or_not a (Some None) is = inr (λ held. none_some held.name (some_same None (Some held.name) (sym is ∙ held.named)))
+  held_or_not a None is = inr (λ held. none-some (Some held.name) (sym is ∙ held.named))
+  held_or_not a (Some None) is = inr (λ held. none-some held.name (same_Some None (Some held.name) (sym is ∙ held.named)))
   held_or_not a (Some (Some n)) is = elim (cases_Bool (is_name_of plan u unit n)) [
     | inl its ↦ inl (record { name = n; named = is; name_of = its })
     | inr other ↦ inr (λ held.
-        let same : n ≡ held.name = some_same n held.name (some_same (Some n) (Some held.name) (sym is ∙ held.named)) in
-        true_false (sym held.name_of ∙ sym (ap (is_name_of plan u unit) same) ∙ other))
+        let same : n ≡ held.name = same_Some n held.name (same_Some (Some n) (Some held.name) (sym is ∙ held.named)) in
+        true≢false (sym held.name_of ∙ sym (ap (is_name_of plan u unit) same) ∙ other))
   ]
 
   order_of : (a b : ℕ) → (a ≤ b) ⊎ (b ≤ a)
@@ -139,12 +129,12 @@ module _ (plan : Plan) (holders : Holders) (u : ℕ) (unit : UnitPlan) where
 
   with_next : (k : ℕ) (best : Option ℕ) → IsHeldByUnit plan holders u unit k → IsLatestBelow plan holders u unit k best
       → (next : Option ℕ) × IsLatestBelow plan holders u unit (k + 1) next
-  with_next k None here of = (Some k, later_next None k here (λ a e. absurd (none_some a e)) of)
+  with_next k None here of = (Some k, later_next None k here (λ a e. absurd (none-some a e)) of)
   with_next k (Some a) here of = elim (order_of (claimed_at holders a) (claimed_at holders k)) [
     | inl later ↦ (
       Some k,
       later_next (Some a) k here
-          (λ b e. subst (λ (i : ℕ). claimed_at holders i ≤ claimed_at holders k) (some_same a b e) later) of,
+          (λ b e. subst (λ (i : ℕ). claimed_at holders i ≤ claimed_at holders k) (same_Some a b e) later) of,
     )
     | inr earlier ↦ (Some a, earlier_next (Some a) k a refl earlier of)
   ]

@@ -3,9 +3,9 @@ use Rattle.std.proofs.Common.{◌≡◌, ◌≢◌, ◌==◌, ◌&&◌, ◌<◌,
 use Rattle.std.proofs.Common.{length, Option, Some, None, inl, inr, refl, sym, ap, subst, ◌∙◌, arith, eqb-true}
 use Rattle.std.specs.Prelude.{slice_set, slice_index_or, replicate, IfSome}
 use Rattle.std.specs.List.{slice_get}
-use Rattle.std.proofs.lemmas.Bool.{cases_Bool, eqb-false, lt-ltb}
+use Rattle.std.proofs.lemmas.Bool.{cases_Bool, eqb-false, lt-ltb, false≢true}
 use Rattle.std.proofs.lemmas.Bool.Decides.{nat_tests}
-use Rattle.std.proofs.lemmas.Option.{get_or_from_slice_get, slice_get-get_or, slice_get_within}
+use Rattle.std.proofs.lemmas.Option.{get_or_from_slice_get, slice_get-get_or, slice_get_within, none-some, same_Some}
 use Rattle.j39_id.specs.declared.frame.Frame.{Frame}
 use Rattle.j39_follow.specs.Holders.{IsHolder}
 use Rattle.j39_follow.specs.declared.address.holders.Holders.{Holders}
@@ -26,14 +26,8 @@ get_set_other (x ∷ xs) zero (suc j) y other = refl
 get_set_other (x ∷ xs) (suc i) zero y other = refl
 get_set_other (x ∷ xs) (suc i) (suc j) y other = get_set_other xs i j y (λ e. other (ap suc e))
 
-pub some_same : {A : Type 0} (x y : A) → Some x ≡ Some y → x ≡ y
-some_same x y e = cc
-
 pub there_same : {A : Type 0} (x y : A) → Some (Some x) ≡ Some (Some y) → x ≡ y
 there_same x y e = cc
-
-pub none_some : {A : Type 0} (x : A) → None ≡ Some x → ⊥
-none_some x e = cc
 
 empty_there : {A : Type 0} (x : A) → Some None ≡ Some (Some x) → ⊥
 empty_there x e = cc
@@ -75,16 +69,13 @@ every : (a b x : Bool) → b ≡ true → (if a && b then true else x) ≡ (if a
 every true b x e = rw e refl
 every false b x e = refl
 
-false_true : false ≡ true → ⊥
-false_true e = cc
-
 -- ---- a table without anything
 
 pub empty_recounts : (plan : Plan) (h : Holders) → ((a n : ℕ) → ¬ HasNameAt h a n) → ((u : ℕ) → is_marked h u ≡ false) → Recounts plan h []
 empty_recounts plan h vacant unmarked = record {
   held = λ a n at. absurd (vacant a n at);
   holds = λ a n h. absurd (no_row h.before h.claim h.behind h.row);
-  told = λ u unit at yes. absurd (false_true (sym (unmarked u) ∙ yes));
+  told = λ u unit at yes. absurd (false≢true (sym (unmarked u) ∙ yes));
   untold = λ u unit at no told. no_row told.told.before told.told.frame told.told.behind told.told.row;
   since = λ a n h. absurd (no_row h.before h.claim h.behind h.row);
 }
@@ -162,11 +153,11 @@ put plan old left new name address count of room names marked claimed = record {
         let before : HasNameAt left a n =
         sym (ap (λ (xs : List (Option ℕ)). slice_get xs a) names ∙ get_set_other left.names address a (Some name)
         (eqb-false address a other)) ∙ at in
-        inr ((of.left a n before).0, (λ e. eqb-false address a other (some_same address a e)), (of.left a n before).1)
+        inr ((of.left a n before).0, (λ e. eqb-false address a other (same_Some address a e)), (of.left a n before).1)
   ];
   holds = λ a n there. elim there [
     | inl is ↦
-        let same : address ≡ a = some_same address a is.0 in
+        let same : address ≡ a = same_Some address a is.0 in
         rw (sym same, is.1) (ap (λ (xs : List (Option ℕ)). slice_get xs address) names ∙ get_set_same left.names address (Some name) room)
     | inr stays ↦
         ap (λ (xs : List (Option ℕ)). slice_get xs a) names
@@ -177,7 +168,7 @@ put plan old left new name address count of room names marked claimed = record {
 }
 
 some_none : {A B : Type 0} (x : A) → None ≡ Some x → B
-some_none x e = absurd (none_some x e)
+some_none x e = absurd (none-some x e)
 
 -- the claim of an address is noted
 pub put_claimed : (old new : Holders) (address count : ℕ) → address < length old.claimed → new.claimed ≡ slice_set old.claimed address count
@@ -185,7 +176,7 @@ pub put_claimed : (old new : Holders) (address count : ℕ) → address < length
 put_claimed old new address count room claimed = record {
   here = λ a e.
       ap (λ (xs : List ℕ). slice_index_or xs a 0) claimed
-      ∙ subst (λ (i : ℕ). slice_index_or (slice_set old.claimed address count) i 0 ≡ count) (some_same address a e) (set_here old.claimed address count 0 room);
+      ∙ subst (λ (i : ℕ). slice_index_or (slice_set old.claimed address count) i 0 ≡ count) (same_Some address a e) (set_here old.claimed address count 0 room);
   there = λ a other.
       ap (λ (xs : List ℕ). slice_index_or xs a 0) claimed ∙ set_there old.claimed address a count 0 (λ e. other (ap Some e));
 }
@@ -195,7 +186,7 @@ pub put_nowhere : (plan : Plan) (old left new : Holders) (name count : ℕ) → 
 put_nowhere plan old left new name count of names marked claimed = record {
   held = λ a n at.
       let before : HasNameAt left a n = ap (λ (xs : List (Option ℕ)). slice_get xs a) (sym names) ∙ at in
-      inr ((of.left a n before).0, (λ e. none_some a e), (of.left a n before).1);
+      inr ((of.left a n before).0, (λ e. none-some a e), (of.left a n before).1);
   holds = λ a n there. elim there [
     | inl is ↦ some_none a is.0
     | inr stays ↦ ap (λ (xs : List (Option ℕ)). slice_get xs a) names ∙ of.stays a n (stays.0, stays.2)
@@ -219,7 +210,7 @@ pub mark_this : (plan : Plan) (old new : List Bool) (unit : UnitPlan) (name k : 
 mark_this plan old new unit name k room here same of = λ u other there. elim (cases_Bool (k == u)) [
   | inl is ↦
       let k_is : k ≡ u = eqb-true k u is in
-      let unit_is : unit ≡ other = some_same unit other (sym here ∙ ap (slice_get plan.units.items) k_is ∙ there) in
+      let unit_is : unit ≡ other = same_Some unit other (sym here ∙ ap (slice_get plan.units.items) k_is ∙ there) in
       let named : is_name_of plan u other name ≡ true =
       subst (λ (v : UnitPlan). is_name_of plan u v name ≡ true) unit_is (subst (λ (i : ℕ). is_name_of plan i unit name ≡ true) k_is same) in
       let less : nat_lt u (k + 1) ≡ true = lt-ltb u (k + 1) (omega arith) in
@@ -237,7 +228,7 @@ pub mark_not : (plan : Plan) (old new : List Bool) (unit : UnitPlan) (name k : �
 mark_not plan old new unit name k here other of = λ u unit' there. elim (cases_Bool (k == u)) [
   | inl is ↦
       let k_is : k ≡ u = eqb-true k u is in
-      let unit_is : unit ≡ unit' = some_same unit unit' (sym here ∙ ap (slice_get plan.units.items) k_is ∙ there) in
+      let unit_is : unit ≡ unit' = same_Some unit unit' (sym here ∙ ap (slice_get plan.units.items) k_is ∙ there) in
       let named : is_name_of plan u unit' name ≡ false =
       subst (λ (v : UnitPlan). is_name_of plan u v name ≡ false) unit_is (subst (λ (i : ℕ). is_name_of plan i unit name ≡ false) k_is other) in
       of u unit' there ∙ both_false (is_name_of plan u unit' name) (nat_lt u k) (nat_lt u (k + 1)) (slice_index_or old u false) named
@@ -258,14 +249,14 @@ all_marked plan old new name k past of = λ u unit there.
 -- ---- what is looked up
 
 pub vacant : (k a n : ℕ) → slice_get (replicate k None) a ≢ Some (Some n)
-vacant zero a n e = none_some (Some n) e
+vacant zero a n e = none-some (Some n) e
 vacant (suc k) zero n e = empty_there n e
 vacant (suc k) (suc a) n e = vacant k a n e
 
 pub found : (plan : Plan) (h : Holders) (frames : List Frame) (address : ℕ) (r : Option ℕ) → Recounts plan h frames → IfSome r (λ n. HasNameAt h address n)
     → ((n : ℕ) → HasNameAt h address n → r ≡ Some n) → IsHolder frames address r
 found plan h frames address (Some n) of some only = of.held address n some
-found plan h frames address None of some only = λ name holds. none_some name (only name (of.holds address name holds))
+found plan h frames address None of some only = λ name holds. none-some name (only name (of.holds address name holds))
 
 pub unmarked : (k u : ℕ) → slice_index_or (replicate k false) u false ≡ false
 unmarked zero u = refl

@@ -2,26 +2,21 @@
 use Rattle.std.proofs.Common.{◌≡◌, ◌≢◌, ℕ, zero, suc, ◌+◌, ◌<◌, ◌==◌, ◌&&◌, Bool, true, false, not, List, [], ◌∷◌, Option, Some, None, inl, inr, refl, sym, ap, ◌∙◌, arith, eqb-true}
 use Rattle.std.specs.List.{position_from, slice_get}
 use Rattle.std.specs.Option.{option_or}
-use Rattle.std.proofs.lemmas.Bool.{cases_Bool, eq-eqb, eqb-false, ne_eqb}
+use Rattle.std.proofs.lemmas.Bool.{cases_Bool, eq-eqb, eqb-false, ne_eqb, false≢true}
 use Rattle.std.proofs.lemmas.Iterator.Adapters.{position_from-zero}
-use Rattle.j39_network.specs.Kinds.{AreToldApart, MayBeOne, MayHaveName, kind_of_name}
+use Rattle.std.proofs.lemmas.Option.{none-some, same_Some}
+use Rattle.j39_network.specs.Kinds.{AreToldApart, MayHaveName, kind_of_name}
 use Rattle.j39_network.specs.declared.plan.Plan.{Plan}
 use Rattle.j39_network.specs.declared.plan.unit_plan.UnitPlan.{UnitPlan}
 use Rattle.j39_network.proofs.Boxes.{apart_at}
 use Rattle.j39_follow.specs.UnitsOfNames.{NamesAreOfTheirUnits}
 use Rattle.j39_follow.specs.Who.{numbered_unit, unit_of_kind, unit_of_name}
 
-pub some_same : {A : Type 0} (x y : A) → Some x ≡ Some y → x ≡ y
-some_same x y e = cc
-
-pub none_some : {A : Type 0} (x : A) → None ≡ Some x → ⊥
-none_some x e = cc
-
 pub position_at : (test : UnitPlan → Bool) (n u : ℕ) (ps : List UnitPlan) (p : UnitPlan) → slice_get ps u ≡ Some p → test p ≡ true
     → ((k : ℕ) (q : UnitPlan) → k < u → slice_get ps k ≡ Some q → test q ≡ false) → position_from test n ps ≡ Some (n + u)
-position_at test n u [] p at passes none = absurd (none_some p at)
+position_at test n u [] p at passes none = absurd (none-some p at)
 position_at test n zero (q ∷ ps) p at passes none =
-    let here : test q ≡ true = ap test (some_same q p at) ∙ passes in
+    let here : test q ≡ true = ap test (same_Some q p at) ∙ passes in
     let same : n ≡ n + 0 = omega arith in
     rw here (ap Some same)
 position_at test n (suc u) (q ∷ ps) p at passes none =
@@ -43,9 +38,6 @@ both false b x y = cc
 pub second_false : (a b : Bool) → b ≡ false → (a && b) ≡ false
 second_false true b e = e
 second_false false b e = refl
-
-false_true : false ≡ true → ⊥
-false_true e = cc
 
 module _ (plan : Plan) (told : AreToldApart plan) (u : ℕ) (unit : UnitPlan) (name : ℕ) (at : slice_get plan.units.items u ≡ Some unit)
     (may : MayHaveName unit name) where
@@ -70,7 +62,7 @@ module _ (plan : Plan) (told : AreToldApart plan) (u : ℕ) (unit : UnitPlan) (n
   of_number : unit.any_identity ≡ false → unit_of_name plan name ≡ Some u
   of_number number =
       let test : UnitPlan → Bool = λ (q : UnitPlan). not q.any_identity && q.name == name in
-      let own : unit.name ≡ name = elim may.1 [ inl own ↦ own | inr any ↦ absurd (false_true (sym number ∙ any)) ] in
+      let own : unit.name ≡ name = elim may.1 [ inl own ↦ own | inr any ↦ absurd (false≢true (sym number ∙ any)) ] in
       let here : test unit ≡ true = both (not unit.any_identity) (unit.name == name) (ap not number) (eq-eqb unit.name name own) in
       let start : 0 + u ≡ u = omega arith in
       let found : numbered_unit plan name ≡ Some u =
@@ -82,7 +74,7 @@ module _ (plan : Plan) (told : AreToldApart plan) (u : ℕ) (unit : UnitPlan) (n
   no_number : unit.any_identity ≡ true → (k : ℕ) (q : UnitPlan) → slice_get plan.units.items k ≡ Some q → (not q.any_identity && q.name == name) ≡ false
   no_number any k q there = elim (cases_Bool (k == u)) [
     | inl same ↦
-        let one : q ≡ unit = some_same q unit (sym there ∙ ap (slice_get plan.units.items) (eqb-true k u same) ∙ at) in
+        let one : q ≡ unit = same_Some q unit (sym there ∙ ap (slice_get plan.units.items) (eqb-true k u same) ∙ at) in
         let there_any : q.any_identity ≡ true = ap (λ (x : UnitPlan). x.any_identity) one ∙ any in
         ap (λ (b : Bool). not b && q.name == name) there_any
     | inr other ↦ number_elsewhere k q (eqb-false k u other) there

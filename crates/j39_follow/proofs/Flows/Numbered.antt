@@ -1,8 +1,9 @@
 -- Groups of a number: what stands outside of their span is none.
-use Rattle.std.proofs.Common.{◌≡◌, ◌≤◌, ◌<◌, ◌⊎◌, ℕ, true, false, List, [], ◌∷◌, inl, arith, sym, ◌∙◌, Some, None, length, get_or, ap}
+use Rattle.std.proofs.Common.{◌≡◌, ◌≤◌, ◌<◌, ◌⊎◌, ℕ, false, List, [], ◌∷◌, inl, arith, sym, ◌∙◌, Some, None, length, get_or, ap}
 use Rattle.std.specs.List.{position}
 use Rattle.std.proofs.Common.{eq-eqb}
 use Rattle.std.proofs.lemmas.Option.{get_or_from_slice_get, slice_get_within}
+use Rattle.std.proofs.lemmas.Bool.{false≢true}
 use Rattle.j39_network.specs.declared.plan.Plan.{Plan}
 use Rattle.j39_network.specs.declared.plan.group_plan.GroupPlan.{GroupPlan}
 use Rattle.j39_log.specs.declared.catalog.Span.{Span}
@@ -10,9 +11,6 @@ use Rattle.j39_log.specs.inside.Listening.{HasAllOf, IsSpanOf, has_number}
 use Rattle.j39_log.proofs.Indexes.{first_place, no_place}
 use Rattle.j39_follow.specs.Fits.{MayBeGroup}
 use Rattle.j39_follow.specs.declared.flow.sending.Sending.{Sending}
-
-false_true : false ≡ true → ⊥
-false_true e = cc
 
 -- a group of another number
 unnumbered : (plan : Plan) (pgn : ℕ) (bytes : List ℕ) (sent : Sending) (place : ℕ)
@@ -22,7 +20,7 @@ unnumbered plan pgn bytes sent place other may =
     let groups = plan.groups.items in
     let within = slice_get_within groups place may.value may.value_is in
     let is = get_or_from_slice_get groups place may.value may.value may.value_is in
-    false_true (sym (other may.value within) ∙ ap (has_number pgn) is ∙ eq-eqb may.value.pgn pgn may.meets.number)
+    false≢true (sym (other may.value within) ∙ ap (has_number pgn) is ∙ eq-eqb may.value.pgn pgn may.meets.number)
 
 pub not_outside : (plan : Plan) (pgn : ℕ) (bytes : List ℕ) (sent : Sending) (span : Span) → HasAllOf plan.groups.items pgn span → (place : ℕ)
     → (place < span.first) ⊎ (span.end ≤ place) → ¬ MayBeGroup plan pgn bytes sent place

@@ -7,7 +7,7 @@ use Rattle.std.specs.List.{position, slice_get}
 use Rattle.std.proofs.lemmas.Bool.{cases_Bool, eqb-false, ne_eqb}
 use Rattle.std.proofs.lemmas.List.Quantifiers.{position-Some}
 use Rattle.std.proofs.lemmas.List.Sums.{count_by-le-length, sum_by_push}
-use Rattle.std.proofs.lemmas.Option.{get_or_from_slice_get, slice_get_within}
+use Rattle.std.proofs.lemmas.Option.{get_or_from_slice_get, slice_get_within, same_Some}
 use Rattle.j39_network.specs.declared.plan.Plan.{Plan}
 use Rattle.j39_network.specs.declared.plan.group_plan.GroupPlan.{GroupPlan}
 use Rattle.j39_follow.specs.FollowText.{is_first_of, is_of_flow, is_other, is_without_flow}
@@ -32,9 +32,6 @@ count_failed p xs y e =
     let more : count_by p (xs ++ y ∷ []) ≡ count_by p xs + cond (p y) 1 0 = sum_by_push (λ x. cond (p x) 1 0) xs y in
     more ∙ ap (λ (b : Bool). count_by p xs + cond b 1 0) e ∙ (let none : count_by p xs + 0 ≡ count_by p xs = omega arith in none)
 
-some_same : (a b : ℕ) → Some a ≡ Some b → a ≡ b
-some_same a b e = cc
-
 same_place : (o : Option ℕ) (g : ℕ) → option_eq (λ a b. a == b) o (Some g) ≡ true → o ≡ Some g
 same_place None g e = cc
 same_place (Some x) g e = ap Some (eqb-true x g e)
@@ -56,7 +53,7 @@ first_or_not plan pgn first g group found at leads = elim (cases_Bool (pgn == gr
       let is : pgn ≡ group.pgn = eqb-true pgn group.pgn same in
       let here : Some first ≡ Some g = sym found ∙ ap (λ (n : ℕ). position (λ (h : GroupPlan). h.pgn == n) plan.groups.items) is
       ∙ same_place (position (λ (h : GroupPlan). h.pgn == group.pgn) plan.groups.items) g leads in
-      same ∙ sym (eq-eqb first g (some_same first g here))
+      same ∙ sym (eq-eqb first g (same_Some first g here))
   | inr other ↦
       other ∙ sym (ne_eqb first g (λ e.
       let there = position-Some (λ (h : GroupPlan). h.pgn == pgn) plan.groups.items first group found in

@@ -2,11 +2,12 @@
 use Rattle.std.proofs.Common.{◌≡◌, ◌≢◌, ◌==◌, ◌≤◌, ◌<◌, ◌+◌, ◌-◌, ◌^◌, ℕ, Bool, true, false, not, ◌&&◌, ◌||◌, if◌then◌else◌, List, [], ◌∷◌, ◌++◌, drop, length, inl, inr, refl, sym, ap, ◌∙◌, arith, subst, eqb-true, Some}
 use Rattle.std.specs.Prelude.{cond, count_by, min, slice_set}
 use Rattle.std.specs.List.{filter, slice_get, zip}
-use Rattle.std.proofs.lemmas.Bool.{cases_Bool, eqb-false}
+use Rattle.std.proofs.lemmas.Bool.{cases_Bool, eqb-false, false≢true}
 use Rattle.std.proofs.lemmas.List.{append-nil, length-set}
 use Rattle.std.proofs.lemmas.List.Elements.{filter-append}
 use Rattle.std.proofs.lemmas.List.Sums.{count_by-le-length, length-filter, sum_by_push}
 use Rattle.std.proofs.lemmas.Slice.Zip.{length-zip}
+use Rattle.std.proofs.lemmas.Option.{same_Some}
 use Rattle.j39_network.specs.PlanLimits.{request_limit}
 use Rattle.j39_network.specs.declared.plan.Plan.{Plan}
 use Rattle.j39_network.specs.declared.plan.request_plan.RequestPlan.{RequestPlan}
@@ -15,9 +16,6 @@ use Rattle.j39_follow.specs.declared.request.event.Event.{Event}
 use Rattle.j39_follow.specs.declared.request.exchange.Exchange.{Exchange}
 use Rattle.j39_follow.specs.inside.Exchanging.{IsAfter, IsExchange, IsHeardBelow, ends_asking, exchange_at, nothing_asked}
 use Rattle.j39_follow.proofs.Addresses.Tables.{set_here, set_there}
-
-false_true : false ≡ true → ⊥
-false_true e = cc
 
 -- one more or none
 abbrev pub one_if : Bool → ℕ
@@ -71,7 +69,7 @@ behind_more : (place : ℕ) (q : Event → Bool) (own : List Event) (e : Event) 
     → behind_asking place q (own ++ if_it own_too e) ≡ behind_asking place q own + one_if (ends_asking place own && q e)
 behind_more place q own e true so = pushed place q own e
 behind_more place q own e false so = elim (cases_Bool (q e)) [
-  | inl passes ↦ absurd (false_true (so passes))
+  | inl passes ↦ absurd (false≢true (so passes))
   | inr fails ↦
       let none : behind_asking place q own ≡ behind_asking place q own + 0 = omega arith in
       ap (behind_asking place q) (append-nil own) ∙ none
@@ -178,9 +176,6 @@ none_heard plan e old size = record {
   rest = λ k more. refl;
 }
 
-some_same : (a b : RequestPlan) → Some a ≡ Some b → a ≡ b
-some_same a b e = cc
-
 -- what is kept of one request more is that behind the event
 pub one_heard : (plan : Plan) (e : Event) (old new : List Exchange) (k : ℕ) (r : RequestPlan) (x : Exchange) → k < request_limit
     → slice_get plan.requests.items k ≡ Some r → IsAfter plan k r e (exchange_at new k) x → IsHeardBelow plan e old new k
@@ -196,7 +191,7 @@ one_heard plan e old new k r x room here after before =
       heard = λ j s less at. elim (cases_Bool (k == j)) [
         | inl same ↦
             let is : k ≡ j = eqb-true k j same in
-            let one : r ≡ s = some_same r s (sym here ∙ ap (slice_get plan.requests.items) is ∙ at) in
+            let one : r ≡ s = same_Some r s (sym here ∙ ap (slice_get plan.requests.items) is ∙ at) in
             subst (λ (i : ℕ). IsAfter plan i s e (exchange_at old i) (exchange_at (slice_set new k x) i)) is
             (subst (λ (q : RequestPlan). IsAfter plan k q e (exchange_at old k) (exchange_at (slice_set new k x) k)) one first)
         | inr other ↦

@@ -1,13 +1,10 @@
-use Rattle.std.proofs.Common.{◌≡◌, ◌==◌, ℕ, Bool, true, false, if◌then◌else◌, refl, sym, ap, subst, ◌∙◌, inl, inr, eqb-true}
-use Rattle.std.proofs.lemmas.Bool.{cases_Bool, eqb-false}
+use Rattle.std.proofs.Common.{◌≡◌, ◌==◌, ℕ, Bool, if◌then◌else◌, refl, sym, ap, subst, ◌∙◌, inl, inr, eqb-true}
+use Rattle.std.proofs.lemmas.Bool.{cases_Bool, eqb-false, false≢true}
 use Rattle.j39_follow.specs.Contests.{IsContentionBehind, Timed, likely_named}
 use Rattle.j39_follow.specs.declared.address.contest.Contention.{Contention}
 use Rattle.j39_follow.specs.inside.Contesting.{contention_at}
 use Rattle.j39_follow.proofs.Addresses.Contending.{left_behind}
 use Rattle.j39_follow.proofs.address.contests.note_contests.Goals as goal
-
-false_true : false ≡ true → ⊥
-false_true e = cc
 
 pub returns-then-not-claims_address : goal.returns-then-not-claims_address
 returns-then-not-claims_address c = λ log a less knows of.
@@ -18,7 +15,7 @@ returns-then-not-claims_address c = λ log a less knows of.
     let named = of.party ∙ ap (likely_named plan) (sym c.requires.name) in
     subst (IsContentionBehind plan log old x a) (sym (c.leave_contests.ensures a less))
     (left_behind plan log old x a c.args.claimant.party named c.requires.told
-    (λ name claims. false_true (sym (sym c.claims_address.ensures ∙ c.if-not-claims_address.true) ∙ claims.claim)))
+    (λ name claims. false≢true (sym (sym c.claims_address.ensures ∙ c.if-not-claims_address.true) ∙ claims.claim)))
 
 pub returns : goal.returns
 returns c = λ log a less knows of.

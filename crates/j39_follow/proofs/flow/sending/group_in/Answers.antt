@@ -1,11 +1,8 @@
-use Rattle.std.proofs.Common.{◌≡◌, ◌==◌, ℕ, inl, inr, subst, sym, ◌∙◌, false, true, arith, eqb-true}
-use Rattle.std.proofs.lemmas.Bool.{cases_Bool, cases_lt, eqb-false}
+use Rattle.std.proofs.Common.{◌==◌, ℕ, inl, inr, subst, sym, ◌∙◌, arith, eqb-true}
+use Rattle.std.proofs.lemmas.Bool.{cases_Bool, cases_lt, eqb-false, false≢true}
 use Rattle.j39_follow.specs.Fits.{MayBeGroup}
 use Rattle.j39_follow.proofs.Flows.Numbered.{not_outside}
 use Rattle.j39_follow.proofs.flow.sending.group_in.Goals as goal
-
-false_true : false ≡ true → ⊥
-false_true e = cc
 
 pub returns-then-may_be_group : goal.returns-then-may_be_group
 returns-then-may_be_group c = (c.may_be_group.ensures.0 c.if-may_be_group.true, c.loop-place.invariant)
@@ -17,7 +14,7 @@ pub loop-place-preserved : goal.loop-place-preserved
 loop-place-preserved c = λ earlier less may. elim (cases_Bool (earlier == c.loop-place.place)) [
   | inl same ↦
       let is = eqb-true earlier c.loop-place.place same in
-      false_true (sym c.if-may_be_group.false
+      false≢true (sym c.if-may_be_group.false
       ∙ c.may_be_group.ensures.1 (subst (λ (i : ℕ). MayBeGroup c.args.groups.now c.args.pgn c.args.bytes.now c.args.sent i) is may))
   | inr other ↦
       let apart = eqb-false earlier c.loop-place.place other in

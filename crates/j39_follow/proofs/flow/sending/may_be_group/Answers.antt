@@ -1,6 +1,7 @@
-use Rattle.std.proofs.Common.{◌≡◌, ◌≢◌, ℕ, Option, Some, None, true, false, inl, inr, refl, sym, ap, ◌∙◌}
+use Rattle.std.proofs.Common.{◌≡◌, ◌≢◌, ℕ, Option, Some, None, true, inl, inr, refl, sym, ap, ◌∙◌}
 use Rattle.std.specs.Option.{is_some}
 use Rattle.std.proofs.lemmas.Option.{get_or_from_slice_get, slice_get-get_or}
+use Rattle.std.proofs.lemmas.Bool.{false≢true}
 use Rattle.j39_network.specs.declared.plan.group_plan.GroupPlan.{GroupPlan}
 use Rattle.j39_signal.specs.Selectors.{is_selected}
 use Rattle.j39_follow.specs.Fits.{fitting_flow}
@@ -14,17 +15,14 @@ none_or_some : (o : Option ℕ) → o ≢ None → is_some o ≡ true
 none_or_some None e = absurd (e refl)
 none_or_some (Some x) e = refl
 
-false_true : false ≡ true → ⊥
-false_true e = cc
-
 pub returns-then-not-is_selected : goal.returns-then-not-is_selected
 returns-then-not-is_selected c = (
-  λ e. absurd (false_true e),
+  λ e. absurd (false≢true e),
   λ may.
       let same : c.group-group.result.now ≡ may.value =
       sym (c.group-group.ensures c.group-group.result.now)
       ∙ get_or_from_slice_get c.args.groups.now.groups.items c.args.place may.value c.group-group.result.now may.value_is in
-      absurd (false_true (sym c.if-not-is_selected.true ∙ c.is_selected.ensures
+      absurd (false≢true (sym c.if-not-is_selected.true ∙ c.is_selected.ensures
       ∙ ap (λ (g : GroupPlan). is_selected g.when c.args.bytes.now) same ∙ may.meets.selected)),
 )
 
@@ -63,7 +61,7 @@ returns c = (
         let same : c.group-group.result.now ≡ may.value =
         sym (c.group-group.ensures c.group-group.result.now)
         ∙ get_or_from_slice_get c.args.groups.now.groups.items c.args.place may.value c.group-group.result.now may.value_is in
-        absurd (false_true (sym shared ∙ sym (ap (λ (g : GroupPlan). g.private) same) ∙ c.if-not-group.false))
+        absurd (false≢true (sym shared ∙ sym (ap (λ (g : GroupPlan). g.private) same) ∙ c.if-not-group.false))
     | inr flow ↦ c.is_some.ensures ∙ ap is_some c.flow_of.ensures ∙ none_or_some (fitting_flow c.args.groups.now c.args.place c.args.sent) flow
   ],
 )

@@ -1,16 +1,14 @@
-use Rattle.std.proofs.Common.{◌≡◌, false, true, inl, inr, refl, sym, subst}
+use Rattle.std.proofs.Common.{inl, inr, refl, sym, subst}
 use Rattle.std.specs.Prelude.{IfErr, IfOk, Result}
+use Rattle.std.proofs.lemmas.Bool.{false≢true}
 use Rattle.j39_id.proofs.LineLaws.{not_both}
 use Rattle.j39_id.specs.FrameLine.{HasLineFault, Spells}
 use Rattle.j39_id.specs.declared.frame.Frame.{Frame}
 use Rattle.j39_id.specs.declared.line_error.LineError.{LineError}
 use Rattle.j39_follow.proofs.line.log_line.is_other.Goals as goal
 
-false_true : false ≡ true → ⊥
-false_true e = cc
-
 pub returns-then-is_same : goal.returns-then-is_same
-returns-then-is_same c = (λ e. absurd (false_true e), λ there. absurd (there.0 (sym (c.is_same.ensures.same c.if-is_same.true))))
+returns-then-is_same c = (λ e. absurd (false≢true e), λ there. absurd (there.0 (sym (c.is_same.ensures.same c.if-is_same.true))))
 
 pub returns-in-Ok : goal.returns-in-Ok
 returns-in-Ok c = (

@@ -1,9 +1,7 @@
-use Rattle.std.proofs.Common.{◌≡◌, ◌<◌, ℕ, List, false, true, sym, ◌∙◌, arith}
+use Rattle.std.proofs.Common.{◌<◌, ℕ, List, sym, ◌∙◌, arith}
+use Rattle.std.proofs.lemmas.Bool.{false≢true}
 use Rattle.j39_follow.proofs.Lines.Splitting.{alone, direction_at, tells_direction}
 use Rattle.j39_follow.proofs.line.words.before_direction.Goals as goal
-
-false_true : false ≡ true → ⊥
-false_true e = cc
 
 pub returns-then-stop-eq0-clause-none : goal.returns-then-stop-eq0-clause-none
 returns-then-stop-eq0-clause-none c = λ front word s is.
@@ -16,13 +14,13 @@ pub returns-then-not-is_direction-clause-none : goal.returns-then-not-is_directi
 returns-then-not-is_direction-clause-none c = λ front word s is.
     let end = c.words_end-stop.ensures in
     let at = direction_at c.args.line.now front word c.words_end-stop.result s is end.within end.blank end.ends in
-    false_true (sym c.if-not-is_direction.true ∙ c.is_direction.ensures.1 at.letter)
+    false≢true (sym c.if-not-is_direction.true ∙ c.is_direction.ensures.1 at.letter)
 
 pub returns-then-not-is_parted-clause-none : goal.returns-then-not-is_parted-clause-none
 returns-then-not-is_parted-clause-none c = λ front word s is.
     let end = c.words_end-stop.ensures in
     let at = direction_at c.args.line.now front word c.words_end-stop.result s is end.within end.blank end.ends in
-    false_true (sym c.if-not-is_parted.true ∙ c.is_parted.ensures.1 at.parted)
+    false≢true (sym c.if-not-is_parted.true ∙ c.is_parted.ensures.1 at.parted)
 
 pub returns-clause-found : goal.returns-clause-found
 returns-clause-found c =

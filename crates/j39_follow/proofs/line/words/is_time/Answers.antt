@@ -1,16 +1,14 @@
-use Rattle.std.proofs.Common.{subst, sym, ◌∙◌, ◌≡◌, false, true}
+use Rattle.std.proofs.Common.{subst, sym, ◌∙◌}
 use Rattle.std.specs.List.{All}
+use Rattle.std.proofs.lemmas.Bool.{false≢true}
 use Rattle.j39_follow.specs.LogLines.{IsOfTime}
 use Rattle.j39_follow.proofs.Lines.Times.{enclosed_of, middle_of, time_of}
 use Rattle.j39_follow.proofs.line.words.is_time.Goals as goal
 
-false_true : false ≡ true → ⊥
-false_true e = cc
-
 pub returns-then-not-is_enclosed : goal.returns-then-not-is_enclosed
 returns-then-not-is_enclosed c = (
-  λ e. absurd (false_true e),
-  λ t. absurd (false_true (sym c.if-not-is_enclosed.true ∙ c.is_enclosed.ensures.1 (enclosed_of c.args.word.now t))),
+  λ e. absurd (false≢true e),
+  λ t. absurd (false≢true (sym c.if-not-is_enclosed.true ∙ c.is_enclosed.ensures.1 (enclosed_of c.args.word.now t))),
 )
 
 pub returns : goal.returns
