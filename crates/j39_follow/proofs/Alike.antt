@@ -13,7 +13,7 @@ use Rattle.j39_log.specs.ReadText.{Past, ReadsLine, ReadsLines, nothing_yet, pas
 use Rattle.j39_follow.specs.Alike.{FollowAndReadSeeAlike, IsUndirected, SawAlike}
 use Rattle.j39_follow.specs.FollowText.{FollowedPast, FollowsLine, FollowsLines, FollowsPart, frames_seen, line_passed_over, nothing_followed, one_line_more}
 use Rattle.j39_follow.specs.LogLines.{IsReadPart}
-use Rattle.j39_follow.proofs.Heard.{frames_more}
+use Rattle.j39_follow.proofs.Addresses.Heard.{frames_more}
 
 -- ---- lines elsewhere
 

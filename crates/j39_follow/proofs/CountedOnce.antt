@@ -14,8 +14,8 @@ use Rattle.j39_network.specs.declared.plan.request_plan.RequestPlan.{RequestPlan
 use Rattle.j39_follow.specs.CountedOnce.{NeedsAreMetOnce, RequestsAreAnsweredOnce, is_met_by}
 use Rattle.j39_follow.specs.FollowText.{is_of_flow, met_by, times_met}
 use Rattle.j39_follow.specs.LoggedRequests.{answers, asks_request, concerns, refuses}
-use Rattle.j39_follow.specs.declared.event.Event.{Event}
-use Rattle.j39_follow.specs.declared.event.Event.TheVariants.{Asked, Brought, Refused}
+use Rattle.j39_follow.specs.declared.request.event.Event.{Event}
+use Rattle.j39_follow.specs.declared.request.event.Event.TheVariants.{Asked, Brought, Refused}
 use Rattle.j39_follow.specs.declared.message.Sort.{Sort}
 use Rattle.j39_follow.specs.declared.message.Sort.TheVariants.{Grouped, Other}
 

@@ -5,7 +5,7 @@ use Rattle.std.specs.List.{All, slice_get}
 use Rattle.std.proofs.lemmas.Bool.{cases_Bool, true≢false}
 use Rattle.std.proofs.lemmas.List.{append-nil, length-append, map-append}
 use Rattle.std.proofs.lemmas.List.Elements.{All-cons, All-head, All-nil, All-tail}
-use Rattle.std.proofs.lemmas.Option.{get_or_from_slice_get, slice_get-get_or, slice_get_within}
+use Rattle.std.proofs.lemmas.Option.{get_or_from_slice_get, slice_get-get_or, slice_get_within, none-some, same_Some}
 use Rattle.j39_id.proofs.LineLaws.{not_both, one_spelled}
 use Rattle.j39_id.specs.FrameLine.{HasLineFault, Spells}
 use Rattle.j39_id.specs.Ident.{pgn_of}
@@ -34,7 +34,7 @@ use Rattle.j39_follow.specs.FollowText.{FollowedPast, FollowsFrame, FollowsLine,
 use Rattle.j39_follow.specs.FollowText.{frames_seen, line_passed_over, lines_with, nothing_followed, one_line_more}
 use Rattle.j39_follow.specs.GroupLines.{AreToldAlike, GroupsAreToldAlike, IsNoticed, IsThinned, IsWhole, LineTexts, StayInHands, TellOneMessage, all_followed, all_read}
 use Rattle.j39_follow.specs.declared.message.Sort.{Sort}
-use Rattle.j39_follow.specs.declared.sending.Sending.{Sending}
+use Rattle.j39_follow.specs.declared.flow.sending.Sending.{Sending}
 use Rattle.j39_follow.proofs.Alike.{line_grows, lines_grow, whole_part}
 
 empty_list : (t : List ℕ) → length t ≡ 0 → t ≡ []
@@ -199,12 +199,6 @@ all_since plan seen s d h since stay = elim since.anew [
 
 -- ---- a frame
 
-some_same : {A : Type 0} (x y : A) → Some x ≡ Some y → x ≡ y
-some_same x y e = cc
-
-none_some : {A : Type 0} (x : A) → None ≡ Some x → ⊥
-none_some x e = cc
-
 planned_there : (plan : Plan) → HasNoPrivate plan → (log : List Timed) (f : Frame) (group : Option ℕ) → IsGroupOfMessage plan log (in_frame f) group
     → planned_group plan f ≡ group
 planned_there plan shared log f group is = same_group plan shared (pgn_of f.ident) f.payload.items is.0 group is.2
@@ -216,7 +210,7 @@ same_packet plan shared log f (Some p) None a (inl b) = absurd (b (planned_there
 same_packet plan shared log f (Some p) None a (inr b) = absurd (b p a.1)
 same_packet plan shared log f None (Some q) (inl a) b = absurd (a q b.1)
 same_packet plan shared log f None (Some q) (inr a) b =
-    absurd (none_some a.0 (sym b.0 ∙ planned_there plan shared log f (Some a.0) a.1))
+    absurd (none-some a.0 (sym b.0 ∙ planned_there plan shared log f (Some a.0) a.1))
 same_packet plan shared log f None None a b = refl
 
 -- what both write of one message
@@ -228,7 +222,7 @@ grouped_alike : (plan : Plan) (log : List Timed) (front : List ℕ) (m : Message
 grouped_alike plan log front m sent None sort t u a b = inl (a.1, b)
 grouped_alike plan log front m sent (Some g) sort t u a b =
     let there = a.3 in
-    let same : b.value ≡ there.value = some_same b.value there.value (sym b.value_is ∙ there.value_is) in
+    let same : b.value ≡ there.value = same_Some b.value there.value (sym b.value_is ∙ there.value_is) in
     inr (record {
       place = g;
       group = there.value;
@@ -290,7 +284,7 @@ carried_alike plan shared before log front f p sorts t u (h, since, inr (none, i
 no_report : (plan : Plan) → HasNoPrivate plan → (log : List Timed) (front : List ℕ) (f : Frame) (sort : Sort) (t : List ℕ)
     → IsGroupOfMessage plan log (in_frame f) None → IsMessageReport plan log front (in_frame f) sort t → t ≡ []
 no_report plan shared log front f sort t none (sent, Some g, sending, is, report) =
-    absurd (none_some g (sym (planned_there plan shared log f None none) ∙ planned_there plan shared log f (Some g) (sent, sending, is)))
+    absurd (none-some g (sym (planned_there plan shared log f None none) ∙ planned_there plan shared log f (Some g) (sent, sending, is)))
 no_report plan shared log front f sort t none (sent, None, sending, is, report) = report.1
 
 body_alike : (plan : Plan) → HasNoPrivate plan → (before : List Seen) (log : List Timed) (front : List ℕ) (f : Frame) (p : Option Packet) (sort : Sort)

@@ -3,6 +3,7 @@ use Rattle.std.proofs.Common.{◌≡◌, ◌⊎◌, ℕ, Bool, List, [], ◌∷�
 use Rattle.std.proofs.Common.{append_assoc}
 use Rattle.std.proofs.lemmas.Bool.{cases_order}
 use Rattle.std.proofs.lemmas.List.{same_from_push}
+use Rattle.std.proofs.lemmas.Option.{none-some, same_Some}
 use Rattle.j39_id.specs.declared.frame.Frame.{Frame}
 use Rattle.j39_id.specs.declared.ident.Ident.{Ident}
 use Rattle.j39_network.specs.declared.plan.Plan.{Plan}
@@ -19,20 +20,14 @@ use Rattle.j39_follow.specs.FollowReports.{AreTold, IsAnswerWay, IsAsked, IsBare
 use Rattle.j39_follow.specs.FollowText.{HeardSince, IsCarriedReport, IsFollowedAs, IsPacketReport, OneChangesHands}
 use Rattle.j39_follow.specs.LoggedRequests.{asked_request, told_address}
 use Rattle.j39_follow.specs.Who.{unit_of, who_text}
-use Rattle.j39_follow.specs.declared.event.Event.{Event}
+use Rattle.j39_follow.specs.declared.request.event.Event.{Event}
 use Rattle.j39_follow.specs.declared.message.Sort.{Sort}
-use Rattle.j39_follow.specs.declared.sending.Aim.{Aim}
-use Rattle.j39_follow.specs.declared.sending.Aim.TheVariants as aims
-use Rattle.j39_follow.specs.declared.sending.Sending.{Sending}
-use Rattle.j39_follow.specs.declared.who.Who.{Who}
-use Rattle.j39_follow.proofs.Holding.{ending}
-use Rattle.j39_follow.proofs.Contested.{one_taken}
-
-some_same : {A : Type 0} (x y : A) → Some x ≡ Some y → x ≡ y
-some_same x y e = cc
-
-none_some : {A : Type 0} (x : A) → None ≡ Some x → ⊥
-none_some x e = cc
+use Rattle.j39_follow.specs.declared.flow.sending.Aim.{Aim}
+use Rattle.j39_follow.specs.declared.flow.sending.Aim.TheVariants as aims
+use Rattle.j39_follow.specs.declared.flow.sending.Sending.{Sending}
+use Rattle.j39_follow.specs.declared.address.who.Who.{Who}
+use Rattle.j39_follow.proofs.Addresses.Holding.{ending}
+use Rattle.j39_follow.proofs.Addresses.Contested.{one_taken}
 
 -- ---- from whom to whom
 
@@ -133,7 +128,7 @@ one_grouped : (plan : Plan) (log : List Timed) (front : List ℕ) (m : Message) 
 one_grouped plan log front m sent None s z t u a b = (a.0 ∙ sym b.0, a.1 ∙ sym b.1)
 one_grouped plan log front m sent (Some g) s z t u a b =
     let way = one_way plan log m.ident a.1 b.1 a.2 b.2 in
-    let group = some_same a.3.value b.3.value (sym a.3.value_is ∙ b.3.value_is) in (
+    let group = same_Some a.3.value b.3.value (sym a.3.value_is ∙ b.3.value_is) in (
       a.0 ∙ sym b.0,
       a.3.meets
           ∙ ap (λ (w : List ℕ). message_line a.3.value front w (fitting_flow plan g sent) m ++ named_reading_lines plan a.3.value m.bytes) way
@@ -155,10 +150,10 @@ pub one_heard_as : (plan : Plan) (log : List Timed) (f : Frame) (p q : Option Pa
 one_heard_as plan log f (Some p) (Some q) a b = ap Some (one_packet f p q a.1 b.1)
 one_heard_as plan log f (Some p) None a (inl none) = absurd (none p a.1)
 one_heard_as plan log f (Some p) None a (inr group) =
-    absurd (none_some group.0 (one_group_of_message plan log (in_frame f) None (Some group.0) a.0 group.1))
+    absurd (none-some group.0 (one_group_of_message plan log (in_frame f) None (Some group.0) a.0 group.1))
 one_heard_as plan log f None (Some q) (inl none) b = absurd (none q b.1)
 one_heard_as plan log f None (Some q) (inr group) b =
-    absurd (none_some group.0 (one_group_of_message plan log (in_frame f) None (Some group.0) b.0 group.1))
+    absurd (none-some group.0 (one_group_of_message plan log (in_frame f) None (Some group.0) b.0 group.1))
 one_heard_as plan log f None None a b = refl
 
 -- ---- what a pair heard

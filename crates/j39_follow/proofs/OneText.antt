@@ -1,5 +1,5 @@
 -- For a plan and a log there is one text.
-use Rattle.std.proofs.Common.{◌≡◌, ◌⊎◌, ◌+◌, ℕ, Bool, List, [], ◌∷◌, ◌++◌, codes, Option, Some, None, inl, inr, refl, sym, ap, subst, ◌∙◌}
+use Rattle.std.proofs.Common.{◌≡◌, ◌⊎◌, ◌+◌, ℕ, Bool, List, [], ◌∷◌, ◌++◌, Option, Some, None, inl, inr, refl, sym, ap, subst, ◌∙◌}
 use Rattle.j39_id.proofs.LineLaws.{not_both, one_fault, one_spelled}
 use Rattle.j39_id.specs.FrameLine.{IsLastWord}
 use Rattle.j39_id.specs.Lines.{Line, Short, Long, lines}
@@ -15,13 +15,13 @@ use Rattle.j39_follow.specs.Contests.{Timed}
 use Rattle.j39_follow.specs.FollowReports.{AreTold, IsBareText, in_frame, stamp}
 use Rattle.j39_follow.specs.FollowText.{AreUnitLines, IsFollowText, IsFollowedLog, IsPacketReport, FollowedPast, FollowsFrame, FollowsLine, FollowsLines, FollowsPart, FollowsShort, frames_seen, lines_with, nothing_followed, one_line_more, line_passed_over}
 use Rattle.j39_follow.specs.LogLines.{IsElsewhere, IsReadPart, IsTimeText, NamesInterface, interface_behind}
-use Rattle.j39_follow.specs.declared.event.Event.{Event}
+use Rattle.j39_follow.specs.declared.request.event.Event.{Event}
 use Rattle.j39_follow.specs.declared.message.Sort.{Sort}
 use Rattle.j39_follow.specs.inside.FollowedSoFar.{behind_reports}
-use Rattle.j39_follow.proofs.FirstWords.{one_first_word}
+use Rattle.j39_follow.proofs.Lines.FirstWords.{one_first_word}
 use Rattle.j39_follow.proofs.OneFrame.{one_bare, one_heard_as, one_message_report, one_notice, one_packet_report, one_told}
-use Rattle.j39_follow.proofs.Splitting.{one_split}
-use Rattle.j39_follow.proofs.Standing.{one_unit_lines}
+use Rattle.j39_follow.proofs.Lines.Splitting.{one_split}
+use Rattle.j39_follow.proofs.Addresses.Standing.{one_unit_lines}
 
 -- ---- a line
 

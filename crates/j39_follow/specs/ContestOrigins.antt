@@ -5,7 +5,7 @@ use Rattle.j39_network.specs.declared.plan.Plan.{Plan}
 use Rattle.j39_follow.specs.Contests.{IsGuessed, IsNow, IsTaken, Timed, claim_wait, frames_of, likely_named}
 use Rattle.j39_follow.specs.Holders.{Claims, HoldsByFrames}
 use Rattle.j39_follow.specs.Who.{IsSameParty, IsWho}
-use Rattle.j39_follow.specs.declared.who.Who.{Who}
+use Rattle.j39_follow.specs.declared.address.who.Who.{Who}
 
 -- less than 250 ms before the last of these lines an address of 128 to 247 was claimed, and the party is that of another NAME: one that held
 -- the address up to there, or, where none held it, that of the unit that would claim it first

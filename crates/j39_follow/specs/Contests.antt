@@ -9,10 +9,10 @@ use Rattle.j39_id.specs.declared.frame.Frame.{Frame}
 use Rattle.j39_network.specs.declared.plan.Plan.{Plan}
 use Rattle.j39_follow.specs.Holders.{Claims, HoldsByFrames, IsHolder, TellsOf}
 use Rattle.j39_follow.specs.Who.{IsLikeliest, IsSameParty, IsWho, unit_of_name}
-use Rattle.j39_follow.specs.declared.contest.Contention.{Contention}
-use Rattle.j39_follow.specs.declared.contest.Contest.{Contest}
-use Rattle.j39_follow.specs.declared.who.Who.{Who}
-use Rattle.j39_follow.specs.declared.who.Who.TheVariants.{Likely, LikelyStranger}
+use Rattle.j39_follow.specs.declared.address.contest.Contention.{Contention}
+use Rattle.j39_follow.specs.declared.address.contest.Contest.{Contest}
+use Rattle.j39_follow.specs.declared.address.who.Who.{Who}
+use Rattle.j39_follow.specs.declared.address.who.Who.TheVariants.{Likely, LikelyStranger}
 
 -- a frame, and the time of its line in microseconds, if it has one
 pub record Timed : Type 0 where

@@ -8,7 +8,7 @@ use Rattle.j39_network.specs.declared.plan.need_plan.NeedPlan.{NeedPlan}
 use Rattle.j39_network.specs.declared.plan.request_plan.RequestPlan.{RequestPlan}
 use Rattle.j39_follow.specs.FollowText.{times_met}
 use Rattle.j39_follow.specs.LoggedRequests.{answers, refuses, times_answered, times_asked, times_refused}
-use Rattle.j39_follow.specs.declared.event.Event.{Event}
+use Rattle.j39_follow.specs.declared.request.event.Event.{Event}
 use Rattle.j39_follow.specs.declared.message.Sort.{Sort}
 use Rattle.j39_follow.specs.declared.message.Sort.TheVariants.{Grouped}
 

@@ -19,15 +19,15 @@ use Rattle.j39_follow.specs.Contests.{IsTaken, Timed}
 use Rattle.j39_follow.specs.Fits.{IsSentGroup, fitting_flow}
 use Rattle.j39_follow.specs.LoggedRequests.{acknowledged_group, acknowledges, asked_request, asked_text, control_of, control_word, is_refusal, counted_number as number_of, told_address}
 use Rattle.j39_follow.specs.Who.{is_of_any, name_text, unit_of_name, unit_of, who_text}
-use Rattle.j39_follow.specs.declared.event.Event.{Event}
-use Rattle.j39_follow.specs.declared.event.Event.TheVariants.{Asked, Brought, Refused}
-use Rattle.j39_follow.specs.declared.event.Reply.{Reply}
+use Rattle.j39_follow.specs.declared.request.event.Event.{Event}
+use Rattle.j39_follow.specs.declared.request.event.Event.TheVariants.{Asked, Brought, Refused}
+use Rattle.j39_follow.specs.declared.request.event.Reply.{Reply}
 use Rattle.j39_follow.specs.declared.message.Sort.{Sort}
 use Rattle.j39_follow.specs.declared.message.Sort.TheVariants.{Grouped, Other}
-use Rattle.j39_follow.specs.declared.sending.Aim.{Aim}
-use Rattle.j39_follow.specs.declared.sending.Aim.TheVariants as aims
-use Rattle.j39_follow.specs.declared.sending.Sending.{Sending}
-use Rattle.j39_follow.specs.declared.who.Who.{Who}
+use Rattle.j39_follow.specs.declared.flow.sending.Aim.{Aim}
+use Rattle.j39_follow.specs.declared.flow.sending.Aim.TheVariants as aims
+use Rattle.j39_follow.specs.declared.flow.sending.Sending.{Sending}
+use Rattle.j39_follow.specs.declared.address.who.Who.{Who}
 
 -- what stands before a report: the number of the line, and its time
 unfoldable pub stamp : ℕ → List ℕ → List ℕ

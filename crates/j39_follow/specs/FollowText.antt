@@ -30,7 +30,7 @@ use Rattle.j39_stream.specs.declared.verdict.Verdict.TheVariants.{Done, Findings
 use Rattle.j39_follow.specs.Contests.{Timed}
 use Rattle.j39_follow.specs.FollowReports.{AreTold, IsBareText, IsGroupOfMessage, IsMessageReport, IsNotice, in_frame, stamp}
 use Rattle.j39_follow.specs.LoggedRequests.{times_answered, times_asked, times_refused}
-use Rattle.j39_follow.specs.declared.event.Event.{Event}
+use Rattle.j39_follow.specs.declared.request.event.Event.{Event}
 use Rattle.j39_follow.specs.declared.message.Sort.{Sort}
 use Rattle.j39_follow.specs.declared.message.Sort.TheVariants.{Grouped, Other}
 use Rattle.j39_follow.specs.Holders.{HoldsByFrames}

@@ -12,8 +12,8 @@ use Rattle.j39_rules.specs.ListPlaces.{ValueAt}
 use Rattle.j39_text.specs.Labels.{unit_label}
 use Rattle.j39_text.specs.Texts.{field}
 use Rattle.j39_follow.specs.Holders.{HoldsByFrames, IsHolder, IsTold}
-use Rattle.j39_follow.specs.declared.who.Who.{Who}
-use Rattle.j39_follow.specs.declared.who.Who.TheVariants.{Holder, Stranger, Likely, LikelyStranger, Unknown}
+use Rattle.j39_follow.specs.declared.address.who.Who.{Who}
+use Rattle.j39_follow.specs.declared.address.who.Who.TheVariants.{Holder, Stranger, Likely, LikelyStranger, Unknown}
 
 -- the first unit with a number whose NAME this is
 abbrev pub numbered_unit : Plan → ℕ → Option ℕ

@@ -5,9 +5,9 @@ ghost use Rattle.j39_follow.specs.FollowReports.{IsWay, priority_and_bytes, fram
 ghost use Rattle.j39_follow.specs.inside.Contesting.{ShowsParties};
 ghost use Rattle.j39_follow.specs.inside.Reporting.{front_of};
 
-use crate::known_parties::Parties;
-use crate::party_text::write_way;
-use crate::stamp::{Stamp, write_stamp};
+use crate::address::known_parties::Parties;
+use crate::address::party_text::write_way;
+use crate::line::stamp::{Stamp, write_stamp};
 use j39_id::Frame;
 use j39_network::Plan;
 use j39_text::TextBuffer;

@@ -5,13 +5,13 @@ ghost use Rattle.j39_follow.specs.FollowReports.{IsAsked, IsNotice, IsWay, canno
 ghost use Rattle.j39_follow.specs.inside.Contesting.{ShowsAsker, ShowsParties};
 ghost use Rattle.j39_follow.specs.inside.Reporting.{front_of};
 
-use crate::acknowledgement::{acknowledges, write_acknowledgement};
-use crate::asking::{asked_request, write_asked};
-use crate::group_line::sending_of;
-use crate::known_parties::Parties;
+use crate::address::known_parties::Parties;
+use crate::address::party_text::{write_identity, write_named, write_way};
+use crate::flow::group_line::sending_of;
+use crate::line::stamp::{Stamp, write_stamp};
 use crate::message::in_frame;
-use crate::party_text::{write_identity, write_named, write_way};
-use crate::stamp::{Stamp, write_stamp};
+use crate::request::acknowledgement::{acknowledges, write_acknowledgement};
+use crate::request::asking::{asked_request, write_asked};
 use j39_id::{Frame, cannot_claim, carried_name, claims_address, requested_group, requests_group};
 use j39_network::Plan;
 use j39_text::TextBuffer;

@@ -16,7 +16,7 @@ use Rattle.j39_claim.specs.declared.item.Say.TheVariants.{Claim, Cannot}
 use Rattle.j39_id.specs.FrameMeaning.{carries_name, name_in, requests_group}
 use Rattle.j39_world.specs.Sent.{Sent, frame_of, sent_of, source_of}
 use Rattle.j39_follow.specs.Holders.{Claims, HoldsByFrames, TakesFrom, TellsOf}
-use Rattle.j39_follow.proofs.Holding.{holds_new, holds_on}
+use Rattle.j39_follow.proofs.Addresses.Holding.{holds_new, holds_on}
 use Rattle.j39_traces.specs.Between.{tells_of_addresses}
 use Rattle.j39_traces.proofs.Identifiers.{carries_none, claim_ident, pgn_there, request_ident}
 

@@ -34,9 +34,9 @@ use Rattle.j39_world.specs.Sent.{Sent, sent_of}
 use Rattle.j39_world.specs.World.{World}
 use Rattle.j39_follow.specs.Contests.{frames_of}
 use Rattle.j39_follow.specs.VehicleLogs.{IsOfVehicle, TellOfVehicle}
-use Rattle.j39_follow.proofs.VehicleParties.{TellAll}
-use Rattle.j39_follow.proofs.VehicleReports.{same_report}
-use Rattle.j39_follow.proofs.VehicleUnits.{of_box, tell_alike, unit_kept}
+use Rattle.j39_follow.proofs.Vehicles.Parties.{TellAll}
+use Rattle.j39_follow.proofs.Vehicles.Reports.{same_report}
+use Rattle.j39_follow.proofs.Vehicles.Units.{of_box, tell_alike, unit_kept}
 use Rattle.j39_traces.specs.Between.{AreJoined, ComesTo, EachGoesBetweenUnits, GoesToHolder, HasNumberOf, IsBetweenUnits, IsKnownAt, IsOfFlow}
 use Rattle.j39_traces.specs.Between.{IsOfStep, IsSentBy, MessagesGoBetweenHolders, SendsTo, StandsBehind}
 use Rattle.j39_traces.specs.Telling.{HaveOwnNumbers}

@@ -13,15 +13,15 @@ use Rattle.j39_id.specs.FrameMeaning.{claims_address}
 use Rattle.j39_follow.specs.Contests.{Begins, BeginsNone, ClaimedLast, IsContention, IsContested, IsGuessed, IsTaken, Opposes, Timed, claim_wait, frames_of, likely_named, nothing_contended}
 use Rattle.j39_follow.specs.Holders.{Claims}
 use Rattle.j39_follow.specs.LoggedRequests.{told_address}
-use Rattle.j39_follow.specs.declared.claim.Claim.{Claim}
-use Rattle.j39_follow.specs.declared.claimants.Claimant.{Claimant}
-use Rattle.j39_follow.specs.declared.claimants.Claimants.{Claimants}
-use Rattle.j39_follow.specs.declared.contest.Contention.{Contention}
-use Rattle.j39_follow.specs.declared.contest.Contest.{Contest}
-use Rattle.j39_follow.specs.declared.contests.Contests.{Contests}
-use Rattle.j39_follow.specs.declared.known_parties.Parties.{Parties}
-use Rattle.j39_follow.specs.declared.who.Who.{Who}
-use Rattle.j39_follow.specs.declared.who.Who.TheVariants.{Likely}
+use Rattle.j39_follow.specs.declared.address.claim.Claim.{Claim}
+use Rattle.j39_follow.specs.declared.address.claimants.Claimant.{Claimant}
+use Rattle.j39_follow.specs.declared.address.claimants.Claimants.{Claimants}
+use Rattle.j39_follow.specs.declared.address.contest.Contention.{Contention}
+use Rattle.j39_follow.specs.declared.address.contest.Contest.{Contest}
+use Rattle.j39_follow.specs.declared.address.contests.Contests.{Contests}
+use Rattle.j39_follow.specs.declared.address.known_parties.Parties.{Parties}
+use Rattle.j39_follow.specs.declared.address.who.Who.{Who}
+use Rattle.j39_follow.specs.declared.address.who.Who.TheVariants.{Likely}
 use Rattle.j39_follow.specs.inside.Hearing.{is_same_party}
 use Rattle.j39_follow.specs.inside.Recounting.{HasNames, party_at}
 

@@ -8,9 +8,9 @@ use Rattle.j39_network.specs.declared.plan.request_plan.RequestPlan.{RequestPlan
 use Rattle.j39_follow.specs.Contests.{Timed}
 use Rattle.j39_follow.specs.FollowReports.{AreTold}
 use Rattle.j39_follow.specs.LoggedRequests.{asks_request as asks, concerns, times_answered, times_asked, times_refused}
-use Rattle.j39_follow.specs.declared.event.Event.{Event}
-use Rattle.j39_follow.specs.declared.exchange.Exchange.{Exchange}
-use Rattle.j39_follow.specs.declared.exchanges.Exchanges.{Exchanges}
+use Rattle.j39_follow.specs.declared.request.event.Event.{Event}
+use Rattle.j39_follow.specs.declared.request.exchange.Exchange.{Exchange}
+use Rattle.j39_follow.specs.declared.request.exchanges.Exchanges.{Exchanges}
 use Rattle.j39_follow.specs.declared.message.Sort.{Sort}
 
 -- ---- a request

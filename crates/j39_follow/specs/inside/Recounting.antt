@@ -1,5 +1,5 @@
 -- What a table of holders keeps, and what it stands for.
-use Rattle.std.specs.Prelude.{◌≡◌, ◌≢◌, ◌⊎◌, ◌==◌, ◌<◌, ◌≤◌, ℕ, Bool, true, false, List, [], length, Option, Some, None, if◌then◌else◌}
+use Rattle.std.specs.Prelude.{◌≡◌, ◌≢◌, ◌⊎◌, ◌<◌, ◌≤◌, ℕ, Bool, true, false, List, [], length, Option, Some, None, if◌then◌else◌}
 use Rattle.std.specs.Prelude.{slice_index_or}
 use Rattle.std.specs.List.{slice_get}
 use Rattle.std.specs.declared.alloc.Global.{Global}
@@ -9,10 +9,10 @@ use Rattle.j39_network.specs.declared.plan.Plan.{Plan}
 use Rattle.j39_network.specs.declared.plan.unit_plan.UnitPlan.{UnitPlan}
 use Rattle.j39_follow.specs.Holders.{Claims, HoldsByFrames, TellsOf}
 use Rattle.j39_follow.specs.Who.{IsUnitTold, IsWho, is_name_of, who_text}
-use Rattle.j39_follow.specs.declared.directory.Directory.{Directory}
-use Rattle.j39_follow.specs.declared.holders.Holders.{Holders}
-use Rattle.j39_follow.specs.declared.who.Who.{Who}
-use Rattle.j39_follow.specs.declared.who.Who.TheVariants.{Holder}
+use Rattle.j39_follow.specs.declared.address.directory.Directory.{Directory}
+use Rattle.j39_follow.specs.declared.address.holders.Holders.{Holders}
+use Rattle.j39_follow.specs.declared.address.who.Who.{Who}
+use Rattle.j39_follow.specs.declared.address.who.Who.TheVariants.{Holder}
 
 -- something was told of the unit at this place
 abbrev pub is_marked : Holders → ℕ → Bool

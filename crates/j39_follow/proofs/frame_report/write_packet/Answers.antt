@@ -7,7 +7,7 @@ use Rattle.j39_tp.specs.declared.packet.Packet.{Packet}
 use Rattle.j39_tp.specs.declared.receiving.progress.Progress.{Progress}
 use Rattle.j39_tp.specs.declared.receiving.progress.Progress.TheVariants.{Complete}
 use Rattle.j39_follow.specs.inside.Hearing.{listener_between}
-use Rattle.j39_follow.proofs.Heard.{heard_packet, since_in_range}
+use Rattle.j39_follow.proofs.Addresses.Heard.{heard_packet, since_in_range}
 use Rattle.j39_follow.proofs.frame_report.write_packet.Goals as goal
 
 pub returns-clause-heard : goal.returns-clause-heard
