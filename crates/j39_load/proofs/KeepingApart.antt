@@ -25,10 +25,11 @@ use Rattle.j39_network.specs.declared.plan.to.To.TheVariants.{All, One}
 use Rattle.j39_network.specs.declared.plan.unit_plan.UnitPlan.{UnitPlan}
 use Rattle.j39_rules.proofs.Members.{all_at}
 use Rattle.j39_load.specs.KeepsErrors.{KeepsErrors, begins_within, planned_with}
-use Rattle.j39_load.specs.KeepsPlan.{CanBeKept, Held, IsFrameOf, IsMsBehind, KeepsQueues, KeepsToPlan, FrameFlows, bit_time, goes_to}
+use Rattle.j39_load.specs.KeepsPlan.{CanBeKept, KeepsQueues, KeepsToPlan}
 use Rattle.j39_load.specs.KeptTogether.{CanBeKeptTogether}
 use Rattle.j39_load.specs.Loads.{bits_per_ms, is_any}
 use Rattle.j39_load.specs.Ranks.{AreHeldApart}
+use Rattle.j39_load.specs.SentFrames.{FrameSources, HasPeriodMs, Held, IsMsBehind, IsSingleFrame, Single, bit_time, goes_to}
 use Rattle.j39_load.proofs.DamagedFirst as damaged_first
 use Rattle.j39_findings.proofs.WhoStays.{placed}
 use Rattle.j39_timing.proofs.Rounds.{rounds_legal}
@@ -56,7 +57,7 @@ within_ms Kbit500 ms a = omega arith
 within_ms Mbit1 ms a = omega arith
 
 -- an identifier has 29 bits
-few_bits : (priority pgn d s : ℕ) → priority ≤ 7 → IsPgn pgn → d ≤ 255 → s ≤ 255 → identifier_of priority pgn d s < 2 ^ 29
+pub few_bits : (priority pgn d s : ℕ) → priority ≤ 7 → IsPgn pgn → d ≤ 255 → s ≤ 255 → identifier_of priority pgn d s < 2 ^ 29
 few_bits priority pgn d s top number few_d few_s = go (is_pdu2 pgn) refl
   where
     range : pgn < 2 ^ 18
@@ -83,10 +84,10 @@ module _ (plan : Plan) (timing : Timing) (apart : ArePlannedApart (units_of plan
     (its : slice_get plan.flows.items f ≡ Some flow) (paced : flow.pace ≡ Some pace) (of : slice_get plan.groups.items flow.group ≡ Some group)
     (short : group.most ≤ 8) (n : ℕ) where
   -- each unit holds its planned address
-  abbrev address : ℕ → ℕ
+  abbrev pub address : ℕ → ℕ
   address u = (unit_at (units_of plan) u).preferred
 
-  abbrev held : Held
+  abbrev pub held : Held
   held = record { on = λ t u. ltb u (length plan.units.items); address = λ t. address }
 
   -- from one frame to the next is a period, and a frame
@@ -106,8 +107,8 @@ module _ (plan : Plan) (timing : Timing) (apart : ArePlannedApart (units_of plan
   abbrev bus : Schedule
   bus = in_rounds alone n
 
-  abbrev sent : FrameFlows
-  sent = record { flow = λ p. f; moment = λ p. p * step }
+  abbrev sent : FrameSources
+  sent = record { source = λ p. Single f; moment = λ p. p * step }
 
   are_senders : AreSenders alone
   are_senders = record {
@@ -127,7 +128,7 @@ module _ (plan : Plan) (timing : Timing) (apart : ArePlannedApart (units_of plan
   units_on : (u : ℕ) → u < length plan.units.items → ltb u (length plan.units.items) ≡ true
   units_on u below = lt-ltb u (length plan.units.items) below
 
-  held_apart : (t : ℕ) → AreHeldApart (held.on t) (held.address t)
+  pub held_apart : (t : ℕ) → AreHeldApart (held.on t) (held.address t)
   held_apart t = record {
     range = λ u on.
         let below = ltb-true u (length plan.units.items) on in
@@ -142,14 +143,14 @@ module _ (plan : Plan) (timing : Timing) (apart : ArePlannedApart (units_of plan
         apart u v (omega (arith, below_u, size)) (omega (arith, below_v, size)) other;
   }
 
-  sender_on : ltb flow.sender (length plan.units.items) ≡ true
+  pub sender_on : ltb flow.sender (length plan.units.items) ≡ true
   sender_on = units_on flow.sender (all_at (λ (g : FlowPlan). g.sender < length plan.units.items) plan.flows.items plan.flow_senders f flow its)
 
-  receiver_on : (v : ℕ) → flow.to ≡ One v → ltb v (length plan.units.items) ≡ true
+  pub receiver_on : (v : ℕ) → flow.to ≡ One v → ltb v (length plan.units.items) ≡ true
   receiver_on v goes = units_on v
       (all_at (λ (g : FlowPlan). (u : ℕ) → g.to ≡ One u → u < length plan.units.items) plan.flows.items plan.flow_receivers f flow its v goes)
 
-  frame : (p : ℕ) → IsFrameOf plan timing bus held f (p * step) p
+  frame : (p : ℕ) → IsSingleFrame plan timing bus held f (p * step) p
   frame p = record {
     flow = flow;
     its = its;
@@ -166,17 +167,17 @@ module _ (plan : Plan) (timing : Timing) (apart : ArePlannedApart (units_of plan
     identifier = λ t queued. refl;
   }
 
-  same_period : (other : FlowPlan) (its_pace : Pace) → slice_get plan.flows.items f ≡ Some other → other.pace ≡ Some its_pace → pace ≡ its_pace
-  same_period other its_pace at told =
-      let same : flow ≡ other = same_Some _ _ (sym its ∙ at) in
-      same_Some _ _ (sym paced ∙ (ap (λ (g : FlowPlan). g.pace) same ∙ told))
+  same_period : (ms : ℕ) → HasPeriodMs plan f ms → pace.period ≡ ms
+  same_period ms every =
+      let same : flow ≡ every.flow = same_Some _ _ (sym its ∙ every.its) in
+      let paces : pace ≡ every.pace = same_Some _ _ (sym paced ∙ (ap (λ (g : FlowPlan). g.pace) same ∙ every.paced)) in
+      ap (λ (x : Pace). x.period) paces ∙ every.is
 
   keeps : KeepsToPlan plan timing bus all_planned sent held
   keeps = record {
     frames = λ p in_p is. frame p;
-    apart = λ p q other its_pace in_p in_q differ is_p is_q one_flow at told.
-        subst (λ (x : Pace). IsMsBehind timing x.period (p * step) (q * step) ⊎ IsMsBehind timing x.period (q * step) (p * step))
-        (same_period other its_pace at told)
+    apart = λ p q ms in_p in_q differ is_p is_q one_source every.
+        subst (λ (x : ℕ). IsMsBehind timing x (p * step) (q * step) ⊎ IsMsBehind timing x (q * step) (p * step)) (same_period ms every)
         (elim (cases_lt p q) [
           | inl less ↦ inl (period_behind p q less)
           | inr more ↦ inr (period_behind q p (omega (arith, more, differ)))
@@ -185,8 +186,8 @@ module _ (plan : Plan) (timing : Timing) (apart : ArePlannedApart (units_of plan
     held_apart = held_apart;
     others_length = λ p in_p is. absurd (true≢false is);
     others_priority = λ p in_p is. absurd (true≢false is);
-    others_identifier = λ p q t in_p in_q seen is_p is_q. absurd (true≢false is_q);
-    few_others = λ p from to in_p is seen waits wait. absurd (let behind = waits.0 in let before = waits.1 in omega (arith, behind, before));
+    others_identifier = λ p q t g in_p in_q seen is_p source is_q. absurd (true≢false is_q);
+    few_others = λ p g from to in_p is source seen waits wait. absurd (let behind = waits.0 in let before = waits.1 in omega (arith, behind, before));
   }
 
   pub can_be_kept : CanBeKept plan timing f n
@@ -226,15 +227,15 @@ module _ (plan : Plan) (timing : Timing) (apart : ArePlannedApart (units_of plan
   abbrev attempt : Damaged
   attempt = damaged_first.damage n long_step late (80 + 10 * group.most) ident some_bits room
 
-  abbrev late_sent : FrameFlows
-  late_sent = record { flow = λ p. f; moment = λ p. p * long_step }
+  abbrev late_sent : FrameSources
+  late_sent = record { source = λ p. Single f; moment = λ p. p * long_step }
 
   long_period_behind : (p q : ℕ) → p < q → IsMsBehind timing pace.period (p * long_step) (q * long_step)
   long_period_behind p q less =
       let more : long_step * (p + 1) ≤ long_step * q = mul-le-mul_left long_step (omega (arith, less)) in
       in_ms_behind timing.bitrate pace.period (p * long_step) (q * long_step) (omega (arith, more))
 
-  late_frame : (p : ℕ) → IsFrameOf plan timing late_bus held f (p * long_step) p
+  late_frame : (p : ℕ) → IsSingleFrame plan timing late_bus held f (p * long_step) p
   late_frame p = record {
     flow = flow;
     its = its;
@@ -254,9 +255,8 @@ module _ (plan : Plan) (timing : Timing) (apart : ArePlannedApart (units_of plan
   late_keeps : KeepsToPlan plan timing late_bus all_planned late_sent held
   late_keeps = record {
     frames = λ p in_p is. late_frame p;
-    apart = λ p q other its_pace in_p in_q differ is_p is_q one_flow at told.
-        subst (λ (x : Pace). IsMsBehind timing x.period (p * long_step) (q * long_step) ⊎ IsMsBehind timing x.period (q * long_step) (p * long_step))
-        (same_period other its_pace at told)
+    apart = λ p q ms in_p in_q differ is_p is_q one_source every.
+        subst (λ (x : ℕ). IsMsBehind timing x (p * long_step) (q * long_step) ⊎ IsMsBehind timing x (q * long_step) (p * long_step)) (same_period ms every)
         (elim (cases_lt p q) [
           | inl less ↦ inl (long_period_behind p q less)
           | inr more ↦ inr (long_period_behind q p (omega (arith, more, differ)))
@@ -265,8 +265,8 @@ module _ (plan : Plan) (timing : Timing) (apart : ArePlannedApart (units_of plan
     held_apart = held_apart;
     others_length = λ p in_p is. absurd (true≢false is);
     others_priority = λ p in_p is. absurd (true≢false is);
-    others_identifier = λ p q t in_p in_q seen is_p is_q. absurd (true≢false is_q);
-    few_others = λ p from to in_p is seen waits wait.
+    others_identifier = λ p q t g in_p in_q seen is_p source is_q. absurd (true≢false is_q);
+    few_others = λ p g from to in_p is source seen waits wait.
         let none = none_other late_bus all_planned (λ q. refl) (late_bus.ident p) from to in omega (arith, none);
   }
 
@@ -283,16 +283,17 @@ module _ (plan : Plan) (timing : Timing) (apart : ArePlannedApart (units_of plan
 
   late_queues : IsPgn group.pgn → KeepsQueues plan timing late_bus controllers all_planned late_sent
   late_queues number = record {
-    sender = λ p other in_p is at. ap (λ (g : FlowPlan). g.sender) (same_Some _ _ (sym its ∙ at));
+    sender = λ p u in_p is sends. ap (λ (g : FlowPlan). g.sender) (same_Some _ _ (sym its ∙ sends.1)) ∙ sends.2;
     order = λ u unit at keeps.
         ap (λ (o : Option UnitPlan). option_map_or (λ (x : UnitPlan). not (is_any x.queue)) o true) at ∙ ap (λ (q : Queue). not (is_any q)) keeps;
     identifiers = λ p in_p. few_bits group.priority group.pgn (goes_to address flow.to) (address flow.sender) group.priority_range number
         (destination_few flow.to refl) (let few = (held_apart 0).range flow.sender sender_on in omega (arith, few));
-    few_unplanned = λ p from to other unit in_p is at its_unit any seen waits wait.
+    others_apart = λ p q t u unit in_p in_q seen is_p is_q takes at any. absurd (true≢false is_q);
+    few_unplanned = λ p from to u unit in_p is takes at any seen waits wait.
         let none = none_unplanned late_bus from to in omega (arith, none);
   }
 
-  late_errors : (rate : ErrorRate) → timing.errors ≡ Some rate → KeepsErrors timing rate late_bus attempt all_planned
+  late_errors : (rate : ErrorRate) → timing.errors ≡ Some rate → KeepsErrors timing rate late_bus attempt all_planned late_sent
   late_errors rate told = record {
     told = told;
     in_order = λ e g before in_g. omega arith;
@@ -301,7 +302,7 @@ module _ (plan : Plan) (timing : Timing) (apart : ArePlannedApart (units_of plan
         (cond_both (begins_within timing rate.every attempt from 0) 1 0 (λ (k : ℕ). k ≤ 1) (λ _. omega arith) (λ _. omega arith)) in
         let some = rate.count_positive in
         omega (arith, once, some);
-    few_others = λ p from to in_p is seen waits wait.
+    few_others = λ p g from to in_p is source seen waits wait.
         let none = none_other (with_errors late_bus attempt) (planned_with late_bus all_planned)
         (λ q. cond_both (nat_lt q late_bus.count) true true (λ (b : Bool). b ≡ true) (λ _. refl) (λ _. refl))
         ((with_errors late_bus attempt).ident p) from to in

@@ -16,6 +16,7 @@ pub mod PlannedFrames
 pub mod Ranks
 pub mod ReadInTime
 pub mod RequestLoads
+pub mod SentFrames
 pub mod SoundLoads
 pub mod ToldBytes
 pub mod Twins
