@@ -26,7 +26,7 @@ use Rattle.j39_load.specs.KeptTogether.{CanSendAll, IsSentOn}
 use Rattle.j39_load.specs.Loads.{is_any}
 use Rattle.j39_load.specs.Ranks.{AreHeldApart}
 use Rattle.j39_load.specs.SentFrames.{FrameSources, Held, IsFrameOf, IsPart, IsSentBy, IsRequestFrame, IsSessionFrame, IsSingleFrame, Part, SendsPart, Source, bit_time, goes_to, part_identifier}
-use Rattle.j39_load.specs.SentFrames.{Single, InSession, Asking, RequestToSend, Packet, ClearToSend, EndAcknowledged}
+use Rattle.j39_load.specs.SentFrames.{Announcing, Carrying, Single, InSession, Asking, RequestToSend, Packet, ClearToSend, EndAcknowledged}
 use Rattle.j39_load.proofs.KeepingApart as alone
 use Rattle.j39_load.proofs.KeepingFrames.{one_to}
 use Rattle.j39_timing.specs.AnyOrder.{Controllers, IsLegalInAnyOrder}
@@ -95,6 +95,8 @@ slot_of packets (InSession g RequestToSend) = 2
 slot_of packets (InSession g (ClearToSend k)) = 3
 slot_of packets (InSession g (Packet k)) = 4 + k
 slot_of packets (InSession g EndAcknowledged) = 4 + packets
+slot_of packets (Announcing u m) = 0
+slot_of packets (Carrying u m k) = 0
 
 slot_told : (packets f g r p : ℕ) → p < 5 + packets → slot_of packets (source_of f g r (choice packets p)) ≡ p
 slot_told packets f g r zero below = refl
@@ -144,7 +146,7 @@ module _ (plan : Plan) (timing : Timing) (apart : ArePlannedApart (units_of plan
   moment_of p (Carries part) = 0
 
   abbrev sent : FrameSources
-  sent = record { source = λ p. source_of f g r (choice packets p); moment = λ p. moment_of p (choice packets p) }
+  sent = record { source = λ p. source_of f g r (choice packets p); moment = λ p. moment_of p (choice packets p); broadcasts = alone.no_broadcasts }
 
   sends : other.sender < length plan.units.items
   sends = all_at (λ (h : FlowPlan). h.sender < length plan.units.items) plan.flows.items plan.flow_senders g other other_is
@@ -235,7 +237,7 @@ module _ (plan : Plan) (timing : Timing) (apart : ArePlannedApart (units_of plan
     | inr more ↦ subst (λ (b : Bool). Has (if b then Carries (Packet k) else Carries EndAcknowledged)) (sym (le-ltb k packets more)) tt
   ]
 
-  frame : (p : ℕ) (c : Choice) → p < n → bus.ident p ≡ ident_of c → Has c → IsFrameOf plan timing bus held (source_of f g r c) (moment_of p c) p
+  frame : (p : ℕ) (c : Choice) → p < n → bus.ident p ≡ ident_of c → Has c → IsFrameOf plan timing bus held alone.no_broadcasts (source_of f g r c) (moment_of p c) p
   frame p Alone below is has = single p is
   frame p Asks below is has = request p is
   frame p (Carries x) below is has = part p x below is has
@@ -243,17 +245,29 @@ module _ (plan : Plan) (timing : Timing) (apart : ArePlannedApart (units_of plan
   held_apart : (t : ℕ) → AreHeldApart (held.on t) (held.address t)
   held_apart t = alone.held_apart plan timing apart f flow pace group its paced of short 0 t
 
+  never_announced : (c : Choice) (w m : ℕ) → source_of f g r c ≡ Announcing w m → ⊥
+  never_announced Alone w m same = let told = same in cc
+  never_announced Asks w m same = let told = same in cc
+  never_announced (Carries x) w m same = let told = same in cc
+
+  never_carried : (c : Choice) (w m k : ℕ) → source_of f g r c ≡ Carrying w m k → ⊥
+  never_carried Alone w m k same = let told = same in cc
+  never_carried Asks w m k same = let told = same in cc
+  never_carried (Carries x) w m k same = let told = same in cc
+
   keeps : KeepsToPlan plan timing bus all_planned sent held
   keeps = record {
     frames = λ p in_p is. frame p (choice packets p) in_p refl (chosen p);
     apart = λ p q ms in_p in_q differ is_p is_q same every.
         absurd (differ (sym (slot_told packets f g r p in_p) ∙ (ap (slot_of packets) same ∙ slot_told packets f g r q in_q)));
+    broadcasts = alone.none_sent plan timing bus all_planned sent (λ w. refl) (λ p w m same. never_announced (choice packets p) w m same)
+        (λ p w m k same. never_carried (choice packets p) w m k same);
     held_by_plan = λ t w below. inl refl;
     held_apart = held_apart;
     others_length = λ p in_p is. absurd (true≢false is);
     others_priority = λ p in_p is. absurd (true≢false is);
-    others_identifier = λ p q t h in_p in_q seen is_p source is_q. absurd (true≢false is_q);
-    few_others = λ p h from to in_p is source seen waits wait. absurd (let (behind, before) = waits in omega (arith, behind, before));
+    others_identifier = λ p q t in_p in_q seen is_p source is_q. absurd (true≢false is_q);
+    few_others = λ p from to in_p is source seen waits wait. absurd (let (behind, before) = waits in omega (arith, behind, before));
   }
 
   -- ---- who sends it

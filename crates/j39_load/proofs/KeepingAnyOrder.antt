@@ -1,6 +1,6 @@
 -- A bus with units that keep no order that keeps to a plan in the plan's own words keeps the premises of its delays.
 use Rattle.std.proofs.Common.{◌≡◌, ℕ, ◌<◌, ◌≤◌, Bool, true, false, ◌||◌, List, unwrap_or, Option}
-use Rattle.std.proofs.Common.{sym, ap, ◌∙◌, subst, inl, inr, arith}
+use Rattle.std.proofs.Common.{ap, arith, inl, inr, refl, subst, sym, ◌∙◌}
 use Rattle.std.proofs.lemmas.Bool.{cases_Bool, true≢false}
 use Rattle.std.proofs.lemmas.Option.{slice_get_cases}
 use Rattle.std.specs.Option.{option_map_or}
@@ -15,11 +15,12 @@ use Rattle.j39_load.specs.Asked.{asked_of, frames_asked}
 use Rattle.j39_load.specs.KeepsPlan.{IsSingleFlow, KeepsQueues, KeepsToPlan, origins_of, place_of}
 use Rattle.j39_load.specs.Loads.{any_unit}
 use Rattle.j39_load.specs.PlannedFrames.{AreFramesInAnyOrder, KeepToCompany, company_of, no_frames, planned_at}
-use Rattle.j39_load.specs.SentFrames.{FrameSources, Held, IsFrameOf, IsRequestFrame, IsSessionFrame, IsSingleFrame, Part, Source}
-use Rattle.j39_load.specs.SentFrames.{Single, InSession, Asking}
-use Rattle.j39_load.proofs.KeepingFrames.{IsKnown, TakesAny, any_known, own, queue_cases, read, request_frames_read, session_read}
+use Rattle.j39_load.specs.SentFrames.{FrameSources, Held, IsBroadcastFrame, IsFrameOf, IsRequestFrame, IsSessionFrame, IsSingleFrame, Part, Source}
+use Rattle.j39_load.specs.SentFrames.{Single, InSession, Asking, Announcing, Carrying}
+use Rattle.j39_load.proofs.KeepingFrames.{IsKnown, TakesAny, any_known, queue_cases}
+use Rattle.j39_load.proofs.PlacedFrames.{announcing_read, carrying_read, own, read, request_frames_read, session_read}
 use Rattle.j39_load.proofs.KeepingPlan.{keeps_premises, of_source}
-use Rattle.j39_load.proofs.SharedIdentifiers.{AreAlike, no_part, no_request, one_asks, one_or_alike, part_made, parts_between, request_made, request_or_part}
+use Rattle.j39_load.proofs.SharedIdentifiers.{AreAlike, broadcast_made, broadcast_or_part, no_broadcast, no_part, no_request, one_asks, one_or_alike, one_sends, part_made, parts_between, request_made, request_or_broadcast, request_or_part}
 use Rattle.j39_timing.specs.AnyOrder.{Controllers, IsLegalInAnyOrder, IsUnordered}
 use Rattle.j39_timing.specs.TimedFrames.{Schedule}
 use Rattle.j39_timing.specs.Traffic.{IsQueuedAt}
@@ -90,7 +91,7 @@ module _ (plan : Plan) (timing : Timing) (stays : UnitPlan → Bool) (tells : Te
         (request_frames_read plan timing stays r x.asked x.ms x.its x.paced)
 
     -- of two frames with one identifier both are of the company, or none is
-    both_of : (a b : Source) (moment other p q t : ℕ) → IsFrameOf plan timing s held a moment p → IsFrameOf plan timing s held b other q
+    both_of : (a b : Source) (moment other p q t : ℕ) → IsFrameOf plan timing s held sent.broadcasts a moment p → IsFrameOf plan timing s held sent.broadcasts b other q
         → IsQueuedAt s p t → IsQueuedAt s q t → s.ident p ≡ s.ident q → has (place_of plan a) ≡ true → has (place_of plan b) ≡ true
     both_of (Single f) (Single g) moment other p q t x y at_p at_q same is =
         elim (one_or_alike plan timing clean s held t (keeps.held_apart t) stays f g moment other p q x y at_p at_q same) [
@@ -130,6 +131,69 @@ module _ (plan : Plan) (timing : Timing) (stays : UnitPlan → Bool) (tells : Te
         (one_asks plan clean (held.on t) (held.address t) (keeps.held_apart t) (s.ident p) (s.ident q) x.asked.sender y.asked.sender x.asked.to y.asked.to
         (request_made plan timing clean s held t (keeps.held_apart t) r moment p x at_p)
         (request_made plan timing clean s held t (keeps.held_apart t) k other q y at_q) same) (sym (at_request r moment p x) ∙ is)
+
+    both_of (Single f) (Announcing u m) moment other p q t x y at_p at_q same is =
+        absurd (no_broadcast plan timing clean s held t (keeps.held_apart t) f moment p x at_p (s.ident q) 60416 u (inl refl)
+        (broadcast_made plan timing clean s held t (keeps.held_apart t) sent.broadcasts 60416 u m other q (inl refl) y at_q) same)
+    both_of (InSession f part) (Announcing u m) moment other p q t x y at_p at_q same is =
+        absurd (broadcast_or_part plan clean (held.on t) (held.address t) (keeps.held_apart t) (s.ident q) (s.ident p) u x.flow.sender x.receiver 60416
+        (broadcast_made plan timing clean s held t (keeps.held_apart t) sent.broadcasts 60416 u m other q (inl refl) y at_q)
+        (part_made plan timing clean s held t (keeps.held_apart t) f part moment p x at_p) (sym same))
+    both_of (Asking r) (Announcing u m) moment other p q t x y at_p at_q same is =
+        absurd (request_or_broadcast plan clean (held.on t) (held.address t) (keeps.held_apart t) (s.ident p) (s.ident q) x.asked.sender u 60416 x.asked.to (inl refl)
+        (request_made plan timing clean s held t (keeps.held_apart t) r moment p x at_p)
+        (broadcast_made plan timing clean s held t (keeps.held_apart t) sent.broadcasts 60416 u m other q (inl refl) y at_q) same)
+    both_of (Announcing u m) (Single g) moment other p q t x y at_p at_q same is =
+        absurd (no_broadcast plan timing clean s held t (keeps.held_apart t) g other q y at_q (s.ident p) 60416 u (inl refl)
+        (broadcast_made plan timing clean s held t (keeps.held_apart t) sent.broadcasts 60416 u m moment p (inl refl) x at_p) (sym same))
+    both_of (Announcing u m) (InSession g part) moment other p q t x y at_p at_q same is =
+        absurd (broadcast_or_part plan clean (held.on t) (held.address t) (keeps.held_apart t) (s.ident p) (s.ident q) u y.flow.sender y.receiver 60416
+        (broadcast_made plan timing clean s held t (keeps.held_apart t) sent.broadcasts 60416 u m moment p (inl refl) x at_p)
+        (part_made plan timing clean s held t (keeps.held_apart t) g part other q y at_q) same)
+    both_of (Announcing u m) (Asking r) moment other p q t x y at_p at_q same is =
+        absurd (request_or_broadcast plan clean (held.on t) (held.address t) (keeps.held_apart t) (s.ident q) (s.ident p) y.asked.sender u 60416 y.asked.to (inl refl)
+        (request_made plan timing clean s held t (keeps.held_apart t) r other q y at_q)
+        (broadcast_made plan timing clean s held t (keeps.held_apart t) sent.broadcasts 60416 u m moment p (inl refl) x at_p) (sym same))
+    both_of (Single f) (Carrying u m i) moment other p q t x y at_p at_q same is =
+        absurd (no_broadcast plan timing clean s held t (keeps.held_apart t) f moment p x at_p (s.ident q) 60160 u (inr refl)
+        (broadcast_made plan timing clean s held t (keeps.held_apart t) sent.broadcasts 60160 u m other q (inr refl) y.0 at_q) same)
+    both_of (InSession f part) (Carrying u m i) moment other p q t x y at_p at_q same is =
+        absurd (broadcast_or_part plan clean (held.on t) (held.address t) (keeps.held_apart t) (s.ident q) (s.ident p) u x.flow.sender x.receiver 60160
+        (broadcast_made plan timing clean s held t (keeps.held_apart t) sent.broadcasts 60160 u m other q (inr refl) y.0 at_q)
+        (part_made plan timing clean s held t (keeps.held_apart t) f part moment p x at_p) (sym same))
+    both_of (Asking r) (Carrying u m i) moment other p q t x y at_p at_q same is =
+        absurd (request_or_broadcast plan clean (held.on t) (held.address t) (keeps.held_apart t) (s.ident p) (s.ident q) x.asked.sender u 60160 x.asked.to (inr refl)
+        (request_made plan timing clean s held t (keeps.held_apart t) r moment p x at_p)
+        (broadcast_made plan timing clean s held t (keeps.held_apart t) sent.broadcasts 60160 u m other q (inr refl) y.0 at_q) same)
+    both_of (Carrying u m i) (Single g) moment other p q t x y at_p at_q same is =
+        absurd (no_broadcast plan timing clean s held t (keeps.held_apart t) g other q y at_q (s.ident p) 60160 u (inr refl)
+        (broadcast_made plan timing clean s held t (keeps.held_apart t) sent.broadcasts 60160 u m moment p (inr refl) x.0 at_p) (sym same))
+    both_of (Carrying u m i) (InSession g part) moment other p q t x y at_p at_q same is =
+        absurd (broadcast_or_part plan clean (held.on t) (held.address t) (keeps.held_apart t) (s.ident p) (s.ident q) u y.flow.sender y.receiver 60160
+        (broadcast_made plan timing clean s held t (keeps.held_apart t) sent.broadcasts 60160 u m moment p (inr refl) x.0 at_p)
+        (part_made plan timing clean s held t (keeps.held_apart t) g part other q y at_q) same)
+    both_of (Carrying u m i) (Asking r) moment other p q t x y at_p at_q same is =
+        absurd (request_or_broadcast plan clean (held.on t) (held.address t) (keeps.held_apart t) (s.ident q) (s.ident p) y.asked.sender u 60160 y.asked.to (inr refl)
+        (request_made plan timing clean s held t (keeps.held_apart t) r other q y at_q)
+        (broadcast_made plan timing clean s held t (keeps.held_apart t) sent.broadcasts 60160 u m moment p (inr refl) x.0 at_p) (sym same))
+    both_of (Announcing u m) (Announcing v w) moment other p q t x y at_p at_q same is =
+        subst (λ (z : ℕ). has (place_of plan (Announcing z 0)) ≡ true)
+        (one_sends plan clean (held.on t) (held.address t) (keeps.held_apart t) (s.ident p) (s.ident q) u v 60416 60416
+        (broadcast_made plan timing clean s held t (keeps.held_apart t) sent.broadcasts 60416 u m moment p (inl refl) x at_p)
+        (broadcast_made plan timing clean s held t (keeps.held_apart t) sent.broadcasts 60416 v w other q (inl refl) y at_q) same).1 is
+    both_of (Announcing u m) (Carrying v w j) moment other p q t x y at_p at_q same is =
+        absurd (let number = (one_sends plan clean (held.on t) (held.address t) (keeps.held_apart t) (s.ident p) (s.ident q) u v 60416 60160
+        (broadcast_made plan timing clean s held t (keeps.held_apart t) sent.broadcasts 60416 u m moment p (inl refl) x at_p)
+        (broadcast_made plan timing clean s held t (keeps.held_apart t) sent.broadcasts 60160 v w other q (inr refl) y.0 at_q) same).0 in omega (arith, number))
+    both_of (Carrying u m i) (Announcing v w) moment other p q t x y at_p at_q same is =
+        absurd (let number = (one_sends plan clean (held.on t) (held.address t) (keeps.held_apart t) (s.ident p) (s.ident q) u v 60160 60416
+        (broadcast_made plan timing clean s held t (keeps.held_apart t) sent.broadcasts 60160 u m moment p (inr refl) x.0 at_p)
+        (broadcast_made plan timing clean s held t (keeps.held_apart t) sent.broadcasts 60416 v w other q (inl refl) y at_q) same).0 in omega (arith, number))
+    both_of (Carrying u m i) (Carrying v w j) moment other p q t x y at_p at_q same is =
+        subst (λ (z : ℕ). has (place_of plan (Carrying z 0 0)) ≡ true)
+        (one_sends plan clean (held.on t) (held.address t) (keeps.held_apart t) (s.ident p) (s.ident q) u v 60160 60160
+        (broadcast_made plan timing clean s held t (keeps.held_apart t) sent.broadcasts 60160 u m moment p (inr refl) x.0 at_p)
+        (broadcast_made plan timing clean s held t (keeps.held_apart t) sent.broadcasts 60160 v w other q (inr refl) y.0 at_q) same).1 is
 
     -- a unit without order takes part in each message of the company
     any_of : (p : ℕ) (in_p : p < s.count) (is : planned p ≡ true) → has (place_of plan (sent.source p)) ≡ true → TakesAny plan (sent.source p)

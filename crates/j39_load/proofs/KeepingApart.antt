@@ -29,7 +29,8 @@ use Rattle.j39_load.specs.KeepsPlan.{CanBeKept, KeepsQueues, KeepsToPlan}
 use Rattle.j39_load.specs.KeptTogether.{CanBeKeptTogether}
 use Rattle.j39_load.specs.Loads.{bits_per_ms, is_any}
 use Rattle.j39_load.specs.Ranks.{AreHeldApart}
-use Rattle.j39_load.specs.SentFrames.{FrameSources, HasPeriodMs, Held, IsMsBehind, IsSingleFrame, Single, bit_time, goes_to}
+use Rattle.j39_load.specs.KeepsBroadcasts.{KeepsBroadcasts}
+use Rattle.j39_load.specs.SentFrames.{Announcing, Broadcasts, Carrying, FrameSources, HasPeriodMs, Held, IsMsBehind, IsSingleFrame, Single, bit_time, goes_to}
 use Rattle.j39_load.proofs.DamagedFirst as damaged_first
 use Rattle.j39_findings.proofs.WhoStays.{placed}
 use Rattle.j39_timing.proofs.Rounds.{rounds_legal}
@@ -75,6 +76,34 @@ none_other s planned all c from to = total-none s.count _ (λ p in_p.
 none_unplanned : (s : Schedule) (from to : ℕ) → unplanned_queued s all_planned from to ≡ 0
 none_unplanned s from to = total-none s.count _ (λ p in_p. refl)
 
+-- ---- without long messages to all
+
+abbrev pub no_broadcasts : Broadcasts
+no_broadcasts = record {
+  count = λ u. 0;
+  flow = λ u m. 0;
+  moment = λ u m. 0;
+  wanted = λ u m. 0;
+  announced = λ u m. 0;
+  packets = λ u m. 0;
+}
+
+pub none_sent : (plan : Plan) (timing : Timing) (s : Schedule) (planned : ℕ → Bool) (sent : FrameSources)
+    → ((u : ℕ) → sent.broadcasts.count u ≡ 0) → ((p u m : ℕ) → sent.source p ≡ Announcing u m → ⊥)
+    → ((p u m k : ℕ) → sent.source p ≡ Carrying u m k → ⊥) → KeepsBroadcasts plan timing s planned sent
+none_sent plan timing s planned sent none announced carried = record {
+  messages = λ u m below. absurd (let zero_is = none u in omega (arith, below, zero_is));
+  apart = λ u m n ms pair. absurd (let zero_is = none u in let below = pair.1 in omega (arith, below, zero_is));
+  one_waits = λ u m n pair. absurd (let zero_is = none u in let below = pair.1 in omega (arith, below, zero_is));
+  in_turn = λ u m n less below. absurd (let zero_is = none u in omega (arith, below, zero_is));
+  announced = λ p u m in_p is source. absurd (announced p u m source);
+  once = λ p q u m in_p in_q is_p is_q first second. absurd (announced p u m first);
+  carried = λ p q u m k in_p in_q is_p is_q first second. absurd (carried p u m k first);
+  behind = λ p u m k in_p is source. absurd (carried p u m k source);
+  before = λ p u m k n in_p is source. absurd (carried p u m k source);
+  gaps = λ p q u m n j k in_p in_q other is_p is_q first. absurd (carried p u m j first);
+}
+
 -- one attempt is no more than one
 one_at_most : (f : ℕ → ℕ) → f 0 ≤ 1 → total 1 f ≤ 1
 unfolding total
@@ -108,7 +137,7 @@ module _ (plan : Plan) (timing : Timing) (apart : ArePlannedApart (units_of plan
   bus = in_rounds alone n
 
   abbrev sent : FrameSources
-  sent = record { source = λ p. Single f; moment = λ p. p * step }
+  sent = record { source = λ p. Single f; moment = λ p. p * step; broadcasts = no_broadcasts }
 
   are_senders : AreSenders alone
   are_senders = record {
@@ -182,12 +211,13 @@ module _ (plan : Plan) (timing : Timing) (apart : ArePlannedApart (units_of plan
           | inl less ↦ inl (period_behind p q less)
           | inr more ↦ inr (period_behind q p (omega (arith, more, differ)))
         ]);
+    broadcasts = none_sent plan timing bus all_planned sent (λ u. refl) (λ p u m same. let told = same in cc) (λ p u m k same. let told = same in cc);
     held_by_plan = λ t u below. inl refl;
     held_apart = held_apart;
     others_length = λ p in_p is. absurd (true≢false is);
     others_priority = λ p in_p is. absurd (true≢false is);
-    others_identifier = λ p q t g in_p in_q seen is_p source is_q. absurd (true≢false is_q);
-    few_others = λ p g from to in_p is source seen waits wait. absurd (let behind = waits.0 in let before = waits.1 in omega (arith, behind, before));
+    others_identifier = λ p q t in_p in_q seen is_p source is_q. absurd (true≢false is_q);
+    few_others = λ p from to in_p is source seen waits wait. absurd (let behind = waits.0 in let before = waits.1 in omega (arith, behind, before));
   }
 
   pub can_be_kept : CanBeKept plan timing f n
@@ -228,7 +258,7 @@ module _ (plan : Plan) (timing : Timing) (apart : ArePlannedApart (units_of plan
   attempt = damaged_first.damage n long_step late (80 + 10 * group.most) ident some_bits room
 
   abbrev late_sent : FrameSources
-  late_sent = record { source = λ p. Single f; moment = λ p. p * long_step }
+  late_sent = record { source = λ p. Single f; moment = λ p. p * long_step; broadcasts = no_broadcasts }
 
   long_period_behind : (p q : ℕ) → p < q → IsMsBehind timing pace.period (p * long_step) (q * long_step)
   long_period_behind p q less =
@@ -261,12 +291,13 @@ module _ (plan : Plan) (timing : Timing) (apart : ArePlannedApart (units_of plan
           | inl less ↦ inl (long_period_behind p q less)
           | inr more ↦ inr (long_period_behind q p (omega (arith, more, differ)))
         ]);
+    broadcasts = none_sent plan timing late_bus all_planned late_sent (λ u. refl) (λ p u m same. let told = same in cc) (λ p u m k same. let told = same in cc);
     held_by_plan = λ t u below. inl refl;
     held_apart = held_apart;
     others_length = λ p in_p is. absurd (true≢false is);
     others_priority = λ p in_p is. absurd (true≢false is);
-    others_identifier = λ p q t g in_p in_q seen is_p source is_q. absurd (true≢false is_q);
-    few_others = λ p g from to in_p is source seen waits wait.
+    others_identifier = λ p q t in_p in_q seen is_p source is_q. absurd (true≢false is_q);
+    few_others = λ p from to in_p is source seen waits wait.
         let none = none_other late_bus all_planned (λ q. refl) (late_bus.ident p) from to in omega (arith, none);
   }
 
@@ -302,7 +333,7 @@ module _ (plan : Plan) (timing : Timing) (apart : ArePlannedApart (units_of plan
         (cond_both (begins_within timing rate.every attempt from 0) 1 0 (λ (k : ℕ). k ≤ 1) (λ _. omega arith) (λ _. omega arith)) in
         let some = rate.count_positive in
         omega (arith, once, some);
-    few_others = λ p g from to in_p is source seen waits wait.
+    few_others = λ p from to in_p is source seen waits wait.
         let none = none_other (with_errors late_bus attempt) (planned_with late_bus all_planned)
         (λ q. cond_both (nat_lt q late_bus.count) true true (λ (b : Bool). b ≡ true) (λ _. refl) (λ _. refl))
         ((with_errors late_bus attempt).ident p) from to in

@@ -23,14 +23,16 @@ use Rattle.j39_load.specs.KeepsErrors.{KeepsErrors, origins_with, planned_with}
 use Rattle.j39_load.specs.KeepsPlan.{IsSingleFlow, KeepsToPlan, origins_of, place_of, turn_of}
 use Rattle.j39_load.specs.Loads.{bits_of_ms, load_of_flow}
 use Rattle.j39_load.specs.PlannedFrames.{AreFramesOfPlan, no_frames, planned_at}
-use Rattle.j39_load.specs.SentFrames.{FrameSources, Held, IsFrameOf, IsSingleFrame, Part, Single, InSession, Asking, Source, goes_to, part_identifier}
+use Rattle.j39_load.specs.SentFrames.{FrameSources, Announcing, Carrying, HasTime, Held, IsBroadcastFrame, IsFrameOf, IsSingleFrame, Part, Single, InSession, Asking, Source, goes_to, part_identifier}
 use Rattle.j39_load.specs.SentFrames.{RequestToSend, Packet, ClearToSend, EndAcknowledged}
 use Rattle.j39_findings.specs.Standing.{TellsWhoStays}
 use Rattle.j39_load.specs.Twins.{is_same}
 use Rattle.j39_load.proofs.DemandLaws.{never_wanted}
 use Rattle.j39_load.proofs.Attempts.{a_window_apart}
-use Rattle.j39_load.proofs.KeepingFrames.{IsBelowGreatest, inside_asked, traffic}
-use Rattle.j39_load.proofs.KeepingPlan.{at_its_place, keeps_stream, of_flow, of_source, of_streams, own_identifier}
+use Rattle.j39_load.proofs.KeepingBroadcasts.{IsCopy, as_wanted}
+use Rattle.j39_load.proofs.KeepingFrames.{IsBelowGreatest, inside_asked}
+use Rattle.j39_load.proofs.PlacedFrames.{traffic}
+use Rattle.j39_load.proofs.KeepingPlan.{at_its_place, keeps_stream, of_flow, of_source, of_streams, own_identifier, told_stream}
 use Rattle.j39_load.proofs.Milliseconds.{behind_bits}
 use Rattle.j39_timing.specs.Errors.{Damaged, IsBusWithErrors, IsLegalWithErrors, with_errors}
 use Rattle.j39_timing.specs.FrameBits.{error_frame, longest_frame}
@@ -364,7 +366,15 @@ module _ (plan : Plan) (timing : Timing) (stays : UnitPlan → Bool) (tells : Te
   part_above_zero (ClearToSend k) from to = omega arith
   part_above_zero EndAcknowledged from to = omega arith
 
-  above_zero_of : (source : Source) (moment p : ℕ) → s.queued p ≤ s.start p → IsFrameOf plan timing s held source moment p → 0 < s.ident p
+  broadcast_above_zero : (number u m moment p : ℕ) → s.queued p ≤ s.start p → IsBroadcastFrame timing s held sent.broadcasts number u m moment p
+      → 0 < number → is_pdu2 number ≡ false → 0 < s.ident p
+  broadcast_above_zero number u m moment p ready one some pdu1 =
+      let is = one.identifier (s.queued p) (omega arith, ready) in
+      let parts : s.ident p ≡ timing.transport_priority * 2 ^ 26 + number * 2 ^ 8 + 255 * 2 ^ 8 + held.address (s.queued p) u =
+      is ∙ ap (λ (b : Bool). timing.transport_priority * 2 ^ 26 + number * 2 ^ 8 + (if b then 0 else 255 * 2 ^ 8) + held.address (s.queued p) u) pdu1 in
+      omega (arith, parts, some)
+
+  above_zero_of : (source : Source) (moment p : ℕ) → s.queued p ≤ s.start p → IsFrameOf plan timing s held sent.broadcasts source moment p → 0 < s.ident p
   above_zero_of (Single f) moment p ready one = elim (cases_lt 0 (s.ident p)) [
     | inl some ↦ some
     | inr none ↦ absurd (single_above_zero f moment p ready one (omega (arith, none)))
@@ -377,6 +387,9 @@ module _ (plan : Plan) (timing : Timing) (stays : UnitPlan → Bool) (tells : Te
       let is : s.ident p ≡ 6 * 2 ^ 26 + 59904 * 2 ^ 8 + goes_to (held.address (s.queued p)) one.asked.to * 2 ^ 8 + held.address (s.queued p) one.asked.sender =
       one.identifier (s.queued p) (omega arith, ready) in
       omega (arith, is)
+
+  above_zero_of (Announcing u m) moment p ready one = broadcast_above_zero 60416 u m moment p ready one (omega arith) refl
+  above_zero_of (Carrying u m k) moment p ready one = broadcast_above_zero 60160 u m moment p ready one.0 (omega arith) refl
 
   above_zero : (p : ℕ) → p < s.count → planned p ≡ true → 0 < s.ident p
   above_zero p in_p is = above_zero_of (sent.source p) (sent.moment p) p (bus.queued_first p in_p) (keeps.frames p in_p is)
@@ -440,6 +453,13 @@ module _ (plan : Plan) (timing : Timing) (stays : UnitPlan → Bool) (tells : Te
         let ident = at.ident in
         omega (arith, high, greatest, ident)
 
+    -- what isn't of damage is a frame as it was
+    copies : (p : ℕ) → p < w.count → is_planned p ≡ true → (planned_at streams (of.source p)).stream.wanted ≡ None ⊎ IsCopy plan s planned sent of p
+    copies p in_p is = elim (kinds p in_p) [
+      | inl at ↦ inr (record { below = at.below; is = sym at.plans ∙ is; place = at.source; since = at.since })
+      | inr at ↦ inl (ap (λ (f : FlowFrames). f.stream.wanted) (ap (planned_at streams) at.source ∙ damage_read at.error))
+    ]
+
     pub keeps_with_errors : AreFramesOfPlan timing asks w is_planned of i
     keeps_with_errors = record {
       longest_at_most = λ p in_p. elim (kinds p in_p) [
@@ -447,13 +467,8 @@ module _ (plan : Plan) (timing : Timing) (stays : UnitPlan → Bool) (tells : Te
         | inr at ↦ let bits = at.bits in let few = narrow at.error in omega (arith, bits, few)
       ];
       of_streams = streams_with;
-      as_wanted = never_wanted w is_planned of (traffic plan timing stays).demands (traffic plan timing stays).stream (λ p in_p is. elim (kinds p in_p) [
-        | inl at ↦
-            ap (λ (f : FlowFrames). f.stream.wanted)
-            (ap (planned_at streams) at.source ∙ at_its_place plan timing stays tells clean s bus.queued_first planned sent held keeps p at.below (sym at.plans ∙ is))
-            ∙ (of_source plan timing stays tells clean s bus.queued_first planned sent held keeps p at.below (sym at.plans ∙ is)).unwanted
-        | inr at ↦ ap (λ (f : FlowFrames). f.stream.wanted) (ap (planned_at streams) at.source ∙ damage_read at.error)
-      ]);
+      as_wanted = as_wanted plan timing stays s planned sent held keeps.frames keeps.broadcasts w is_planned of copies
+          (told_stream plan timing stays tells clean s bus.queued_first planned sent held keeps);
       from_least = λ p in_p is. elim (kinds p in_p) [
         | inl at ↦ least_with p at (sym at.plans ∙ is)
         | inr at ↦ let none = ap (λ (f : FlowFrames). f.least_ident) (ap (planned_at streams) at.source ∙ damage_read at.error) in omega (arith, none)
@@ -468,7 +483,7 @@ module _ (plan : Plan) (timing : Timing) (stays : UnitPlan → Bool) (tells : Te
         | inr at ↦ absurd (true≢false (sym (ap (λ (b : Bool). cond b (planned p) true) (le-ltb p s.count at.behind)) ∙ other))
       ];
       few_others = λ p from to in_p is source seen waits wait. elim (kinds p in_p) [
-        | inl at ↦ errors.few_others p i from to at.below (sym at.plans ∙ is) (its_source p at (sym at.plans ∙ is) source) seen waits wait
+        | inl at ↦ errors.few_others p from to at.below (sym at.plans ∙ is) (subst HasTime (sym (its_source p at (sym at.plans ∙ is) source)) tt) seen waits wait
         | inr at ↦ absurd (damage_never p at source)
       ];
     }

@@ -1,4 +1,4 @@
--- What is told of a frame by its source: the frames at its place among all that a plan asks for, and that it is one of them.
+-- What is told of a frame by its source: it is one of the frames that stand at its place among all that a plan asks for.
 use Rattle.std.proofs.Common.{◌≡◌, ℕ, ◌+◌, ◌*◌, ◌^◌, ◌<◌, ◌≤◌, ◌⊎◌, Bool, true, false, ◌||◌, eqb, List, [], ◌∷◌, ◌++◌, length, get_or, map, if◌then◌else◌, max, Option, Some, None}
 use Rattle.std.proofs.Common.{refl, sym, ap, ◌∙◌, subst, inl, inr, arith, option_map}
 use Rattle.std.proofs.lemmas.Bool.{eq-eqb, false≢true, le-leb, lt-leb, or_cases, or_right}
@@ -37,9 +37,16 @@ use Rattle.j39_load.specs.Ranks.{AreHeldApart, AreHeldByPlan, AreUnitsPlanned}
 use Rattle.j39_load.specs.RequestLoads.{load_of_request, request_ident, request_load}
 use Rattle.j39_load.specs.SentFrames.{Held, IsFrameOf, IsPart, IsRequestFrame, IsSentBy, IsSentEvery, IsSessionFrame, IsSingleFrame, Part, SendsPart, Source, TakesPart, goes_to, part_identifier}
 use Rattle.j39_load.specs.SentFrames.{Single, InSession, Asking, RequestToSend, Packet, ClearToSend, EndAcknowledged}
-use Rattle.j39_load.proofs.AskedPlaces.{flow_read, request_read}
+use Rattle.j39_load.proofs.PlacedFrames.{all, announcing_read, asked, carrying_read, fewest, in_request, in_session, own, read, request_frames_read, session_read, traffic, unit_asks, unit_planned, unit_told}
 use Rattle.j39_load.proofs.Milliseconds.{within_bits, within_both}
 use Rattle.j39_load.proofs.Ranks as ranks
+use Rattle.j39_load.specs.declared.unit_load.UnitLoad.{UnitLoad}
+use Rattle.j39_load.specs.Broadcasts.{least_packets, spaced_stream}
+use Rattle.j39_load.specs.Demands.{announcements_demand, packets_demand}
+use Rattle.j39_load.specs.KeepsBroadcasts.{IsMessageToAll}
+use Rattle.j39_load.specs.Loads.{broadcast_ident}
+use Rattle.j39_load.specs.SentFrames.{Announcing, Broadcasts, Carrying, IsBroadcastFrame}
+use Rattle.j39_timing.specs.declared.stream.Stream.{Stream}
 use Rattle.j39_load.proofs.SessionParts.{one_part, turn_below}
 use Rattle.j39_load.proofs.StreamsBefore.{get_or_inside, with_damage}
 use Rattle.j39_timing.specs.TimedFrames.{Schedule}
@@ -94,8 +101,10 @@ pub asking_ident : (plan : Plan) (s : Schedule) (held : Held) (r moment p t : �
 asking_ident plan s held r moment p t one queued = one.identifier t queued
     ∙ ap (λ (d : ℕ). identifier_of 6 59904 d (held.address t one.asked.sender)) (same_place (held.address t) one.asked.to)
 
--- a frame of a source lies below the greatest identifier where it is a single one
+-- a frame of a source lies below the greatest identifier where times are promised of it
 abbrev pub IsBelowGreatest : Source → ℕ → ℕ → Type 0
+IsBelowGreatest (Announcing u m) ident greatest = ident ≤ greatest
+IsBelowGreatest (Carrying u m k) ident greatest = ident ≤ greatest
 IsBelowGreatest (Single f) ident greatest = ident ≤ greatest
 IsBelowGreatest (InSession f part) ident greatest = Unit {0}
 IsBelowGreatest (Asking r) ident greatest = Unit {0}
@@ -109,100 +118,36 @@ pub record TakesAny (plan : Plan) (source : Source) : Type 0 where
   pub any : unit.queue ≡ Any
 
 module _ (plan : Plan) (timing : Timing) (stays : UnitPlan → Bool) where
-  abbrev pub asked : Asked
-  asked = asked_of timing plan stays
-
-  abbrev pub all : List (Option FlowFrames)
-  all = frames_asked asked ++ damage_frames timing
-
-  abbrev pub traffic : Traffic
-  traffic = traffic_of all
-
   abbrev units : List UnitPlan
   units = plan.units.items
 
-  -- ---- a flow
+  -- of what isn't a long message to all it is told how far messages are apart, and nothing is wanted less than that
+  pub record IsPacedBy (source : Source) (stream : Stream) : Type 0 where
+    pub ms : ℕ
+    pub every : IsSentEvery plan source ms
+    pub period : stream.period ≡ bits_of_ms timing ms
+    pub unwanted : stream.wanted ≡ None
 
-  module _ (f : ℕ) (flow : FlowPlan) (pace : Pace) (group : GroupPlan) (its : slice_get plan.flows.items f ≡ Some flow) (paced : flow.pace ≡ Some pace)
-      (of : slice_get plan.groups.items flow.group ≡ Some group) where
-    abbrev pub load : FlowLoad
-    load = flow_load timing units stays flow pace group
-
-    its_load : load_of_flow timing plan stays flow ≡ Some load
-    its_load = rw (paced, of) refl
-
-    pub at_place : slice_get (loads_of timing plan stays) f ≡ Some (Some load)
-    at_place = slice_get-map (load_of_flow timing plan stays) plan.flows.items f
-        ∙ (ap (option_map (load_of_flow timing plan stays)) its ∙ ap Some its_load)
-
-    -- each message of which goes in one frame
-    abbrev pub own : FlowFrames
-    own = single_frames timing units stays flow pace group
-
-    pub of_one_frame : group.most ≤ 8 → load.messages ≡ Short own
-    of_one_frame short = rw (le-leb group.most 8 short) refl
-
-    pub read : group.most ≤ 8 → get_or (frames_asked asked) f None ≡ Some own
-    read short = flow_read asked.flows asked.units asked.requests f load own at_place (ap own_frames (of_one_frame short))
-
-    -- whose messages are long, to one unit
-    abbrev pub in_session : ℕ → FlowFrames
-    in_session v = packet_frames timing units stays flow v pace (packets_of group.most)
-
-    to_one : (v : ℕ) → 8 < group.most → flow.to ≡ One v → load.messages ≡ ToOne (in_session v)
-    to_one v long goes =
-        ap (λ (b : Bool). if b then Short own else long_messages timing units stays flow pace group flow.to) (lt-leb group.most 8 long)
-        ∙ ap (long_messages timing units stays flow pace group) goes
-
-    pub session_read : (v : ℕ) → 8 < group.most → flow.to ≡ One v → get_or (frames_asked asked) f None ≡ Some (in_session v)
-    session_read v long goes =
-        flow_read asked.flows asked.units asked.requests f load (in_session v) at_place (ap own_frames (to_one v long goes))
-
-  -- ---- a request
-
-  same_units : length asked.units ≡ units_told plan.flows.items units
-  same_units = go plan.flows.items
-    where
-      go : (flows : List FlowPlan)
-          → length (unit_loads_of timing units stays (map (load_of_flow timing plan stays) flows)) ≡ units_told flows units
-      go [] = refl
-      go (flow ∷ flows) = length-map-range_with_len
-          (λ u. known_unit_load timing units stays u (broadcasts_by u (map (load_of_flow timing plan stays) (flow ∷ flows)))) 0 (length units)
-
-  module _ (r : ℕ) (request : RequestPlan) (ms : ℕ) (its : slice_get plan.requests.items r ≡ Some request) (paced : request.period ≡ Some ms) where
-    abbrev request_asks : RequestLoad
-    request_asks = request_load timing units stays request ms
-
-    abbrev pub in_request : FlowFrames
-    in_request = request_asks.frames
-
-    request_at : slice_get asked.requests r ≡ Some (Some request_asks)
-    request_at = slice_get-map (load_of_request timing units stays) plan.requests.items r
-        ∙ (ap (option_map (load_of_request timing units stays)) its ∙ ap Some (ap (option_map (request_load timing units stays request)) paced))
-
-    pub request_frames_read : get_or (frames_asked asked) (place_of plan (Asking r)) None ≡ Some in_request
-    request_frames_read =
-        let told = same_units in
-        let flows = length-map plan.flows.items (load_of_flow timing plan stays) in
-        let place : place_of plan (Asking r) ≡ 2 * length asked.flows + (2 * length asked.units + r) = omega (arith, told, flows) in
-        ap (λ (k : ℕ). get_or (frames_asked asked) k None) place
-        ∙ request_read asked.flows asked.units asked.requests r request_asks request_at
+  abbrev pub IsPaced : Source → Stream → Type 0
+  IsPaced (Single f) stream = IsPacedBy (Single f) stream
+  IsPaced (InSession f part) stream = IsPacedBy (InSession f part) stream
+  IsPaced (Asking r) stream = IsPacedBy (Asking r) stream
+  IsPaced (Announcing u m) stream =
+      stream ≡ spaced_stream timing (least_packets (broadcasts_by u (asked plan timing stays).flows)) (announcements_demand u)
+  IsPaced (Carrying u m k) stream = stream ≡ spaced_stream timing 1 (packets_demand u)
 
   -- ---- a frame
 
   -- the frames at the place of its source, and that it is one of them
   pub record IsKnown (s : Schedule) (source : Source) (moment p : ℕ) : Type 0 where
     pub frames : FlowFrames
-    pub read : get_or (frames_asked asked) (place_of plan source) None ≡ Some frames
+    pub read : get_or (frames_asked (asked plan timing stays)) (place_of plan source) None ≡ Some frames
     pub at_most : s.bits p ≤ 160
     pub bits_at_most : s.bits p ≤ frames.stream.bits
     pub turns : turn_of plan source < frames.stream.frames
     pub moment_first : moment ≤ s.queued p
     pub late_at_most : s.queued p ≤ moment + frames.stream.late
-    pub ms : ℕ
-    pub every : IsSentEvery plan source ms
-    pub period : frames.stream.period ≡ bits_of_ms timing ms
-    pub unwanted : frames.stream.wanted ≡ None
+    pub paced : IsPaced source frames.stream
     -- its identifier lies between those that are told
     pub least : frames.least_ident ≤ s.ident p
     pub last : s.ident p ≤ frames.last_ident
@@ -214,22 +159,23 @@ module _ (plan : Plan) (timing : Timing) (stays : UnitPlan → Bool) where
     pub of_sender : any_unit units sender ≡ Some sender → are_of_unit frames sender ≡ true
     pub of_any : (m : ℕ → Bool) → (option_map_or m frames.any_sender false || option_map_or m frames.any_receiver false) ≡ true → TakesAny plan source
 
-  pub here : (s : Schedule) (source : Source) (moment p : ℕ) (known : IsKnown s source moment p) → planned_at all (place_of plan source) ≡ known.frames
-  here s source moment p known = with_damage timing (frames_asked asked) (place_of plan source) known.frames known.read
+  pub here : (s : Schedule) (source : Source) (moment p : ℕ) (known : IsKnown s source moment p) → planned_at (all plan timing stays) (place_of plan source) ≡ known.frames
+  here s source moment p known = with_damage timing (frames_asked (asked plan timing stays)) (place_of plan source) known.frames known.read
 
-  pub inside_asked : (s : Schedule) (source : Source) (moment p : ℕ) → IsKnown s source moment p → place_of plan source < length (frames_asked asked)
-  inside_asked s source moment p known = get_or_inside (frames_asked asked) (place_of plan source) known.frames known.read
+  pub inside_asked : (s : Schedule) (source : Source) (moment p : ℕ) → IsKnown s source moment p → place_of plan source < length (frames_asked (asked plan timing stays))
+  inside_asked s source moment p known = get_or_inside (frames_asked (asked plan timing stays)) (place_of plan source) known.frames known.read
 
-  pub inside : (s : Schedule) (source : Source) (moment p : ℕ) → IsKnown s source moment p → place_of plan source < length all
+  pub inside : (s : Schedule) (source : Source) (moment p : ℕ) → IsKnown s source moment p → place_of plan source < length (all plan timing stays)
   inside s source moment p known =
       let below = inside_asked s source moment p known in
-      let size = length-append (frames_asked asked) (damage_frames timing) in
+      let size = length-append (frames_asked (asked plan timing stays)) (damage_frames timing) in
       omega (arith, below, size)
 
   -- ---- a frame of each source
 
   module _ (tells : TellsWhoStays plan stays) (s : Schedule) (held : Held) (by_plan : (t : ℕ) → AreHeldByPlan plan (held.address t))
-      (apart : (t : ℕ) → AreHeldApart (held.on t) (held.address t)) where
+      (apart : (t : ℕ) → AreHeldApart (held.on t) (held.address t)) (b : Broadcasts)
+      (messages : (u m : ℕ) → m < b.count u → IsMessageToAll plan timing b u m) where
     abbrev low : ℕ → ℕ
     low = of_unit units (least_address stays)
 
@@ -243,8 +189,8 @@ module _ (plan : Plan) (timing : Timing) (stays : UnitPlan → Bool) where
     }
 
     module _ (f moment p : ℕ) (ready : s.queued p ≤ s.start p) (one : IsSingleFrame plan timing s held f moment p) where
-      single_between : ((own f one.flow one.pace one.group one.its one.paced one.of).least_ident ≤ s.ident p)
-          × (s.ident p ≤ (own f one.flow one.pace one.group one.its one.paced one.of).greatest_ident)
+      single_between : ((own plan timing stays f one.flow one.pace one.group one.its one.paced one.of).least_ident ≤ s.ident p)
+          × (s.ident p ≤ (own plan timing stays f one.flow one.pace one.group one.its one.paced one.of).greatest_ident)
       single_between =
           let t = s.queued p in
           let is_ident = single_ident plan timing s held f moment p t one (omega arith, ready) in
@@ -255,17 +201,19 @@ module _ (plan : Plan) (timing : Timing) (stays : UnitPlan → Bool) where
 
       single_known : IsKnown s (Single f) moment p
       single_known = record {
-        frames = own f one.flow one.pace one.group one.its one.paced one.of;
-        read = read f one.flow one.pace one.group one.its one.paced one.of one.short;
+        frames = own plan timing stays f one.flow one.pace one.group one.its one.paced one.of;
+        read = read plan timing stays f one.flow one.pace one.group one.its one.paced one.of one.short;
         at_most = let few = one.length in let short = one.short in omega (arith, few, short);
         bits_at_most = rw (le-leb one.group.most 8 one.short) (let few = one.length in omega (arith, few));
         turns = omega arith;
         moment_first = one.moment_first;
         late_at_most = within_bits timing.bitrate one.pace.jitter moment (s.queued p) one.late_at_most;
-        ms = one.pace.period;
-        every = record { flow = one.flow; its = one.its; pace = one.pace; paced = one.paced; is = refl };
-        period = refl;
-        unwanted = refl;
+        paced = record {
+          ms = one.pace.period;
+          every = record { flow = one.flow; its = one.its; pace = one.pace; paced = one.paced; is = refl };
+          period = refl;
+          unwanted = refl;
+        };
         least = single_between.0;
         last = single_between.1;
         greatest = single_between.1;
@@ -292,17 +240,14 @@ module _ (plan : Plan) (timing : Timing) (stays : UnitPlan → Bool) where
           let few = one.length in
           let at_once = one.at_once in
           record {
-            frames = in_request r one.asked one.ms one.its one.paced;
-            read = request_frames_read r one.asked one.ms one.its one.paced;
+            frames = in_request plan timing stays r one.asked one.ms one.its one.paced;
+            read = request_frames_read plan timing stays r one.asked one.ms one.its one.paced;
             at_most = omega (arith, few);
             bits_at_most = omega (arith, few);
             turns = omega arith;
             moment_first = omega (arith, at_once);
             late_at_most = omega (arith, at_once);
-            ms = one.ms;
-            every = (one.asked, one.its, one.paced);
-            period = refl;
-            unwanted = refl;
+            paced = record { ms = one.ms; every = (one.asked, one.its, one.paced); period = refl; unwanted = refl };
             least = omega (arith, least, is_ident);
             last = omega (arith, greatest, is_ident);
             greatest = tt;
@@ -338,7 +283,7 @@ module _ (plan : Plan) (timing : Timing) (stays : UnitPlan → Bool) where
       u = one.flow.sender
 
       abbrev frames : FlowFrames
-      frames = in_session f one.flow one.pace one.group one.its one.paced one.of v
+      frames = in_session plan timing stays f one.flow one.pace one.group one.its one.paced one.of v
 
       abbrev address : ℕ → ℕ
       address = held.address (s.queued p)
@@ -447,16 +392,18 @@ module _ (plan : Plan) (timing : Timing) (stays : UnitPlan → Bool) where
           let few = one.length in
           record {
             frames = frames;
-            read = session_read f one.flow one.pace one.group one.its one.paced one.of v one.long one.to_one;
+            read = session_read plan timing stays f one.flow one.pace one.group one.its one.paced one.of v one.long one.to_one;
             at_most = one.length;
             bits_at_most = omega (arith, few);
             turns = turns_below;
             moment_first = one.moment_first;
             late_at_most = within_both timing.bitrate one.pace.period one.pace.jitter moment (s.queued p) one.late_at_most;
-            ms = one.pace.period;
-            every = record { flow = one.flow; its = one.its; pace = one.pace; paced = one.paced; is = refl };
-            period = refl;
-            unwanted = refl;
+            paced = record {
+              ms = one.pace.period;
+              every = record { flow = one.flow; its = one.its; pace = one.pace; paced = one.paced; is = refl };
+              period = refl;
+              unwanted = refl;
+            };
             least = bounds.least;
             last = bounds.last;
             greatest = tt;
@@ -474,14 +421,103 @@ module _ (plan : Plan) (timing : Timing) (stays : UnitPlan → Bool) where
             ];
           }
 
-    pub known : (source : Source) (moment p : ℕ) → s.queued p ≤ s.start p → IsFrameOf plan timing s held source moment p → IsKnown s source moment p
+    -- a frame of a unit's long message to all
+    module _ (number u m moment p : ℕ) (ready : s.queued p ≤ s.start p) (one : IsBroadcastFrame timing s held b number u m moment p) where
+      abbrev message : IsMessageToAll plan timing b u m
+      message = messages u m one.known
+
+      abbrev asks : UnitLoad
+      asks = unit_asks plan timing stays b u m message
+
+      broadcast_between : (broadcast_ident timing number low u ≤ s.ident p) × (s.ident p ≤ broadcast_ident timing number high u)
+      broadcast_between =
+          let t = s.queued p in
+          let is : s.ident p ≡ broadcast_ident timing number (held.address t) u = one.identifier t (omega arith, ready) in
+          let lies = ranks.lie_between plan stays tells (held.address t) (by_plan t) message.flow (flow_units (b.flow u m) message.flow message.its) timing message.group in
+          let least : broadcast_ident timing number low u ≤ broadcast_ident timing number (held.address t) u =
+          subst (λ (x : ℕ). broadcast_ident timing number low x ≤ broadcast_ident timing number (held.address t) x) message.from (lies.least_broadcast number) in
+          let greatest : broadcast_ident timing number (held.address t) u ≤ broadcast_ident timing number high u =
+          subst (λ (x : ℕ). broadcast_ident timing number (held.address t) x ≤ broadcast_ident timing number high x) message.from (lies.greatest_broadcast number) in
+          (subst (λ (n : ℕ). broadcast_ident timing number low u ≤ n) (sym is) least, subst (λ (n : ℕ). n ≤ broadcast_ident timing number high u) (sym is) greatest)
+
+      -- the unit sends it, and takes part in it where it keeps no order
+      of_unit_alone : (source : Source) → IsSentBy plan source u → TakesPart plan source u → (m : ℕ → Bool)
+          → (option_map_or m (any_unit units u) false || false) ≡ true → TakesAny plan source
+      of_unit_alone source sends takes m told = elim (or_cases (option_map_or m (any_unit units u) false) false told) [
+        | inl is ↦
+            let (unit, at, any) = any_told units u m is in
+            record { place = u; takes = takes; unit = unit; at = at; any = any }
+        | inr never ↦ absurd (false≢true never)
+      ]
+
+    announcing_known : (u m moment p : ℕ) (ready : s.queued p ≤ s.start p) (one : IsBroadcastFrame timing s held b 60416 u m moment p)
+        → IsKnown s (Announcing u m) moment p
+    announcing_known u m moment p ready one =
+        let between = broadcast_between 60416 u m moment p ready one in
+        let few = one.length in
+        let at_once = one.at_once in
+        record {
+          frames = (asks 60416 u m moment p ready one).announcements;
+          read = announcing_read plan timing stays b u m (message 60416 u m moment p ready one);
+          at_most = one.length;
+          bits_at_most = omega (arith, few);
+          turns = omega arith;
+          moment_first = omega (arith, at_once);
+          late_at_most = omega (arith, at_once);
+          paced = refl;
+          least = between.0;
+          last = between.1;
+          greatest = between.1;
+          sender = u;
+          sends = refl;
+          planned_sender = unit_planned plan timing stays b u m (message 60416 u m moment p ready one);
+          of_sender = λ any. rw (any, eq-eqb u u refl) refl;
+          of_any = λ counts told. of_unit_alone 60416 u m moment p ready one (Announcing u m) refl refl counts told;
+        }
+
+    carrying_known : (u m k moment p : ℕ) (ready : s.queued p ≤ s.start p) (one : IsBroadcastFrame timing s held b 60160 u m moment p)
+        → IsKnown s (Carrying u m k) moment p
+    carrying_known u m k moment p ready one =
+        let between = broadcast_between 60160 u m moment p ready one in
+        let few = one.length in
+        let at_once = one.at_once in
+        record {
+          frames = (asks 60160 u m moment p ready one).packets;
+          read = carrying_read plan timing stays b u m (message 60160 u m moment p ready one) k;
+          at_most = one.length;
+          bits_at_most = omega (arith, few);
+          turns = omega arith;
+          moment_first = omega (arith, at_once);
+          late_at_most = omega (arith, at_once);
+          paced = refl;
+          least = between.0;
+          last = between.1;
+          greatest = between.1;
+          sender = u;
+          sends = refl;
+          planned_sender = unit_planned plan timing stays b u m (message 60160 u m moment p ready one);
+          of_sender = λ any. rw (any, eq-eqb u u refl) refl;
+          of_any = λ counts told. of_unit_alone 60160 u m moment p ready one (Carrying u m k) refl refl counts told;
+        }
+
+    pub known : (source : Source) (moment p : ℕ) → s.queued p ≤ s.start p → IsFrameOf plan timing s held b source moment p → IsKnown s source moment p
     known (Single f) moment p ready one = single_known f moment p ready one
     known (InSession f part) moment p ready one = session_known f part moment p ready one
     known (Asking r) moment p ready one = request_known r moment p ready one
+    known (Announcing u m) moment p ready one = announcing_known u m moment p ready one
+    known (Carrying u m k) moment p ready one = carrying_known u m k moment p ready one.0
 
   -- ---- of two frames
 
-  module _ (s : Schedule) (held : Held) where
+  -- what isn't a long message to all comes by its own pace
+  abbrev pub HasPace : Source → Type 0
+  HasPace (Single f) = Unit {0}
+  HasPace (InSession f part) = Unit {0}
+  HasPace (Asking r) = Unit {0}
+  HasPace (Announcing u m) = ⊥
+  HasPace (Carrying u m k) = ⊥
+
+  module _ (s : Schedule) (held : Held) (b : Broadcasts) (messages : (u m : ℕ) → m < b.count u → IsMessageToAll plan timing b u m) where
     -- a flow has short messages alone or long ones
     short_or_long : (f moment other p q : ℕ) (part : Part) → IsSingleFrame plan timing s held f moment p → IsSessionFrame plan timing s held f part other q → ⊥
     short_or_long f moment other p q part one two =
@@ -515,18 +551,57 @@ module _ (plan : Plan) (timing : Timing) (stays : UnitPlan → Bool) where
         one_part one.group.most one.unit.window two.unit.window a b one.is_part (subst (λ (n : ℕ). IsPart n two.unit.window b) most two.is_part)
         (ap (λ (n : ℕ). turn_of_part n a) (sym first) ∙ (turn ∙ ap (λ (n : ℕ). turn_of_part n b) second))
 
-    -- two frames at one place with one turn are of one source
-    pub one_source : (a b : Source) (moment other p q : ℕ) → IsFrameOf plan timing s held a moment p → IsFrameOf plan timing s held b other q
-        → place_of plan a ≡ place_of plan b → turn_of plan a ≡ turn_of plan b → a ≡ b
-    one_source (Single f) (Single g) moment other p q one two place turn = ap Single place
-    one_source (Single f) (InSession g part) moment other p q one two place turn =
+    -- packets stand behind flows
+    pub of_packets : (a : Source) (u m k moment p : ℕ) → IsFrameOf plan timing s held b a moment p → m < b.count u → place_of plan a ≡ place_of plan (Carrying u m k)
+        → (n : ℕ) × (j : ℕ) × (a ≡ Carrying u n j)
+    of_packets (Single f) u m k moment p one below place = absurd (flow_first f one.flow 0 u one.its (place ∙ omega arith))
+    of_packets (InSession f part) u m k moment p one below place = absurd (flow_first f one.flow 0 u one.its (place ∙ omega arith))
+    of_packets (Asking r) u m k moment p one below place = absurd (let told = unit_told plan timing stays b u m (messages u m below) in omega (arith, place, told))
+    of_packets (Announcing v n) u m k moment p one below place = absurd (let told = unit_told plan timing stays b u m (messages u m below) in omega (arith, place, told))
+    of_packets (Carrying v n j) u m k moment p one below place = (n, j, ap (λ (x : ℕ). Carrying x n j) (omega (arith, place)))
+
+    -- and announcements behind them
+    pub of_announcements : (a : Source) (u m moment p : ℕ) → IsFrameOf plan timing s held b a moment p → m < b.count u
+        → place_of plan a ≡ place_of plan (Announcing u m) → (n : ℕ) × (a ≡ Announcing u n)
+    of_announcements (Single f) u m moment p one below place =
+        absurd (flow_first f one.flow (units_told plan.flows.items units) u one.its (place ∙ omega arith))
+    of_announcements (InSession f part) u m moment p one below place =
+        absurd (flow_first f one.flow (units_told plan.flows.items units) u one.its (place ∙ omega arith))
+    of_announcements (Asking r) u m moment p one below place = absurd (let told = unit_told plan timing stays b u m (messages u m below) in omega (arith, place, told))
+    of_announcements (Announcing v n) u m moment p one below place = (n, ap (λ (x : ℕ). Announcing x n) (omega (arith, place)))
+    of_announcements (Carrying v n j) u m moment p one below place =
+        absurd (let told = unit_told plan timing stays b v n (messages v n one.0.known) in omega (arith, place, told))
+
+    never_announced : (a : Source) (u m moment p : ℕ) → ((n : ℕ) → a ≡ Announcing u n → ⊥) → IsFrameOf plan timing s held b a moment p → m < b.count u
+        → place_of plan a ≡ place_of plan (Announcing u m) → ⊥
+    never_announced a u m moment p never one below place = let (n, is) = of_announcements a u m moment p one below place in never n is
+
+    never_packet : (a : Source) (u m k moment p : ℕ) → ((n j : ℕ) → a ≡ Carrying u n j → ⊥) → IsFrameOf plan timing s held b a moment p → m < b.count u
+        → place_of plan a ≡ place_of plan (Carrying u m k) → ⊥
+    never_packet a u m k moment p never one below place = let (n, j, is) = of_packets a u m k moment p one below place in never n j is
+
+    -- two frames at one place with one turn are of one source, but those of long messages to all
+    pub one_source : (x y : Source) (moment other p q : ℕ) → HasPace x → IsFrameOf plan timing s held b x moment p → IsFrameOf plan timing s held b y other q
+        → place_of plan x ≡ place_of plan y → turn_of plan x ≡ turn_of plan y → x ≡ y
+    one_source (Single f) (Single g) moment other p q paced one two place turn = ap Single place
+    one_source (Single f) (InSession g part) moment other p q paced one two place turn =
         absurd (short_or_long f moment other p q part one (subst (λ (h : ℕ). IsSessionFrame plan timing s held h part other q) (sym place) two))
-    one_source (Single f) (Asking r) moment other p q one two place turn = absurd (single_first f r moment p one place)
-    one_source (InSession f part) (Single g) moment other p q one two place turn =
+    one_source (Single f) (Asking r) moment other p q paced one two place turn = absurd (single_first f r moment p one place)
+    one_source (InSession f part) (Single g) moment other p q paced one two place turn =
         absurd (short_or_long g other moment q p part two (subst (λ (h : ℕ). IsSessionFrame plan timing s held h part moment p) place one))
-    one_source (InSession f a) (InSession g b) moment other p q one two place turn =
+    one_source (InSession f a) (InSession g b) moment other p q paced one two place turn =
         ap (λ (h : ℕ). InSession h a) place ∙ ap (InSession g) (parts_alike f g a b moment other p q place one two turn)
-    one_source (InSession f part) (Asking r) moment other p q one two place turn = absurd (session_first f r part moment p one place)
-    one_source (Asking r) (Single g) moment other p q one two place turn = absurd (single_first g r other q two (sym place))
-    one_source (Asking r) (InSession g part) moment other p q one two place turn = absurd (session_first g r part other q two (sym place))
-    one_source (Asking r) (Asking k) moment other p q one two place turn = ap Asking (omega (arith, place))
+    one_source (InSession f part) (Asking r) moment other p q paced one two place turn = absurd (session_first f r part moment p one place)
+    one_source (Asking r) (Single g) moment other p q paced one two place turn = absurd (single_first g r other q two (sym place))
+    one_source (Asking r) (InSession g part) moment other p q paced one two place turn = absurd (session_first g r part other q two (sym place))
+    one_source (Asking r) (Asking k) moment other p q paced one two place turn = ap Asking (omega (arith, place))
+    one_source (Announcing u m) y moment other p q paced one two place turn = absurd paced
+    one_source (Carrying u m k) y moment other p q paced one two place turn = absurd paced
+    one_source (Single f) (Announcing u m) moment other p q paced one two place turn = absurd (never_announced (Single f) u m moment p (λ n is. cc) one two.known place)
+    one_source (Single f) (Carrying u m k) moment other p q paced one two place turn = absurd (never_packet (Single f) u m k moment p (λ n j is. cc) one two.0.known place)
+    one_source (InSession f part) (Announcing u m) moment other p q paced one two place turn =
+        absurd (never_announced (InSession f part) u m moment p (λ n is. cc) one two.known place)
+    one_source (InSession f part) (Carrying u m k) moment other p q paced one two place turn =
+        absurd (never_packet (InSession f part) u m k moment p (λ n j is. cc) one two.0.known place)
+    one_source (Asking r) (Announcing u m) moment other p q paced one two place turn = absurd (never_announced (Asking r) u m moment p (λ n is. cc) one two.known place)
+    one_source (Asking r) (Carrying u m k) moment other p q paced one two place turn = absurd (never_packet (Asking r) u m k moment p (λ n j is. cc) one two.0.known place)

@@ -1,7 +1,8 @@
 -- A bus that keeps to a plan in the plan's own words keeps the premises of its delays.
-use Rattle.std.proofs.Common.{◌≡◌, ◌≢◌, ℕ, ◌+◌, ◌<◌, ◌≤◌, ◌⊎◌, Bool, true, eqb}
+use Rattle.std.proofs.Common.{◌≡◌, ◌≢◌, ℕ, ◌+◌, ◌<◌, ◌≤◌, ◌⊎◌, Bool, true, eqb, length, get_or, None, Some, ◌*◌}
 use Rattle.std.proofs.Common.{refl, sym, ap, ◌∙◌, subst, inl, inr, arith}
-use Rattle.std.proofs.lemmas.Bool.{cases_Bool, eq-eqb, eqb-true, or_cases, or_left, or_right}
+use Rattle.std.proofs.Math.Nat.{mul-le-mul_right}
+use Rattle.std.proofs.lemmas.Bool.{cases_Bool, cases_eq, cases_lt, eq-eqb, eqb-true, or_cases, or_left, or_right}
 use Rattle.std.proofs.lemmas.Option.{same_Some, slice_get_within}
 use Rattle.std.specs.List.{slice_get}
 use Rattle.j39_findings.specs.Findings.{Clean}
@@ -13,19 +14,23 @@ use Rattle.j39_network.specs.declared.plan.timing.Timing.{Timing}
 use Rattle.j39_network.specs.declared.plan.unit_plan.UnitPlan.{UnitPlan}
 use Rattle.j39_load.specs.declared.flow_frames.FlowFrames.{FlowFrames}
 use Rattle.j39_load.specs.Asked.{asked_of, frames_asked}
-use Rattle.j39_load.specs.KeepsPlan.{IsSingleFlow, KeepsToPlan, origins_of, place_of}
+use Rattle.j39_load.specs.Broadcasts.{broadcasts_by, least_packets}
+use Rattle.j39_load.specs.Loads.{bits_of_ms}
+use Rattle.j39_load.specs.KeepsPlan.{turn_of, IsSingleFlow, KeepsToPlan, origins_of, place_of, units_told}
 use Rattle.j39_load.specs.PlannedFrames.{AreFramesOfPlan, planned_at}
-use Rattle.j39_load.specs.SentFrames.{FrameSources, Held, IsFrameOf, IsSessionFrame, IsSingleFrame, Part, Source}
-use Rattle.j39_load.specs.SentFrames.{Single, InSession, Asking}
+use Rattle.j39_load.specs.SentFrames.{FrameSources, HasTime, Held, IsFrameOf, IsSessionFrame, IsSingleFrame, Part, Source}
+use Rattle.j39_load.specs.SentFrames.{Single, InSession, Asking, Announcing, Carrying}
 use Rattle.j39_load.specs.Twins.{are_twins}
-use Rattle.j39_load.proofs.DemandLaws.{never_wanted}
-use Rattle.j39_load.proofs.KeepingFrames.{IsBelowGreatest, IsKnown, all, here, in_request, in_session, inside, known, one_source, own, read, request_frames_read, session_read, traffic}
-use Rattle.j39_load.proofs.Milliseconds.{behind_bits}
-use Rattle.j39_load.proofs.SharedIdentifiers.{AreAlike, never_twin, no_part, no_request, one_or_alike, own_twin, part_made, request_made, same_twin}
+use Rattle.j39_load.proofs.KeepingBroadcasts.{as_wanted as as_wanted_of}
+use Rattle.j39_load.proofs.KeepingFrames.{HasPace, IsBelowGreatest, IsKnown, IsPaced, IsPacedBy, here, inside, known, of_announcements, of_packets, one_source}
+use Rattle.j39_load.proofs.PlacedFrames.{all, announcing_read, asked, carrying_read, fewest, in_request, in_session, own, read, request_frames_read, session_read, traffic, unit_asks}
+use Rattle.j39_load.proofs.Milliseconds.{behind_bits, gaps_bits}
+use Rattle.j39_load.proofs.SharedIdentifiers.{AreAlike, broadcast_made, never_twin, no_broadcast, no_part, no_request, one_or_alike, own_twin, part_made, request_made, same_twin}
 use Rattle.j39_load.proofs.StreamsBefore.{with_damage}
 use Rattle.j39_timing.specs.FrameStreams.{AreOfStreams, KeepsStream}
 use Rattle.j39_timing.specs.TimedFrames.{Schedule, IsLegal}
-use Rattle.j39_timing.specs.Traffic.{IsQueuedAt, may_share}
+use Rattle.j39_timing.specs.declared.stream.Stream.{Stream}
+use Rattle.j39_timing.specs.Traffic.{AreAsWanted, IsQueuedAt, may_share}
 
 module _ (plan : Plan) (timing : Timing) (stays : UnitPlan → Bool) (tells : TellsWhoStays plan stays) (clean : Clean plan) (s : Schedule)
     (queued_first : (p : ℕ) → p < s.count → s.queued p ≤ s.start p) (planned : ℕ → Bool) (sent : FrameSources) (held : Held)
@@ -34,7 +39,7 @@ module _ (plan : Plan) (timing : Timing) (stays : UnitPlan → Bool) (tells : Te
 
   module _ (p : ℕ) (in_p : p < s.count) (is : planned p ≡ true) where
     pub of_source : IsKnown plan timing stays s (sent.source p) (sent.moment p) p
-    of_source = known plan timing stays tells s held keeps.held_by_plan keeps.held_apart (sent.source p) (sent.moment p) p (queued_first p in_p)
+    of_source = known plan timing stays tells s held keeps.held_by_plan keeps.held_apart sent.broadcasts keeps.broadcasts.messages (sent.source p) (sent.moment p) p (queued_first p in_p)
         (keeps.frames p in_p is)
 
     pub at_its_place : planned_at (all plan timing stays) (place_of plan (sent.source p)) ≡ of_source.frames
@@ -51,27 +56,115 @@ module _ (plan : Plan) (timing : Timing) (stays : UnitPlan → Bool) (tells : Te
 
   -- ---- streams
 
-  spaced : (p q : ℕ) (in_p : p < s.count) → q < s.count → p ≢ q → (is_p : planned p ≡ true) → planned q ≡ true → sent.source p ≡ sent.source q
-      → (sent.moment p + (of_source p in_p is_p).frames.stream.period ≤ sent.moment q)
-      ⊎ (sent.moment q + (of_source p in_p is_p).frames.stream.period ≤ sent.moment p)
-  spaced p q in_p in_q other is_p is_q one =
-      let told = of_source p in_p is_p in
+  -- of one source, but of long messages to all, the moments are a period apart
+  by_pace : (p q : ℕ) → p < s.count → q < s.count → p ≢ q → planned p ≡ true → planned q ≡ true → sent.source p ≡ sent.source q → (stream : Stream)
+      → IsPacedBy plan timing stays (sent.source p) stream
+      → (sent.moment p + stream.period ≤ sent.moment q) ⊎ (sent.moment q + stream.period ≤ sent.moment p)
+  by_pace p q in_p in_q other is_p is_q one stream told =
       let period = told.period in
       elim (keeps.apart p q told.ms in_p in_q other is_p is_q one told.every) [
         | inl before ↦ inl (let bits = behind_bits timing.bitrate told.ms (sent.moment p) (sent.moment q) before in omega (arith, bits, period))
         | inr after ↦ inr (let bits = behind_bits timing.bitrate told.ms (sent.moment q) (sent.moment p) after in omega (arith, bits, period))
       ]
 
+  module _ (p q : ℕ) (in_p : p < s.count) (in_q : q < s.count) (other : p ≢ q) (is_p : planned p ≡ true) (is_q : planned q ≡ true) where
+    frame_p : IsFrameOf plan timing s held sent.broadcasts (sent.source p) (sent.moment p) p
+    frame_p = keeps.frames p in_p is_p
+
+    frame_q : IsFrameOf plan timing s held sent.broadcasts (sent.source q) (sent.moment q) q
+    frame_q = keeps.frames q in_q is_q
+
+    -- announcements of a unit
+    announced_apart : (u m n : ℕ) → sent.source p ≡ Announcing u m → sent.source q ≡ Announcing u n → (stream : Stream)
+        → IsPaced plan timing stays (Announcing u m) stream → (sent.moment p + stream.period ≤ sent.moment q) ⊎ (sent.moment q + stream.period ≤ sent.moment p)
+    announced_apart u m n first second stream paced =
+        let one = subst (λ (x : Source). IsFrameOf plan timing s held sent.broadcasts x (sent.moment p) p) first frame_p in
+        let two = subst (λ (x : Source). IsFrameOf plan timing s held sent.broadcasts x (sent.moment q) q) second frame_q in
+        let period = ap (λ (x : Stream). x.period) paced in
+        let at_p = keeps.broadcasts.announced p u m in_p is_p first in
+        let at_q = keeps.broadcasts.announced q u n in_q is_q second in
+        let moment_p = one.at_once in
+        let moment_q = two.at_once in
+        elim (cases_eq m n) [
+          | inl same ↦ absurd (other (keeps.broadcasts.once p q u m in_p in_q is_p is_q first (second ∙ ap (λ (k : ℕ). Announcing u k) (sym same))))
+          | inr differ ↦ elim (cases_lt m n) [
+            | inl less ↦
+                let gap = gaps_bits timing.bitrate (sent.broadcasts.packets u m) timing.broadcast_gap (sent.broadcasts.announced u m) (sent.broadcasts.announced u n)
+                (keeps.broadcasts.in_turn u m n less two.known) in
+                let few : least_packets (broadcasts_by u (asked plan timing stays).flows) * bits_of_ms timing timing.broadcast_gap
+                ≤ sent.broadcasts.packets u m * bits_of_ms timing timing.broadcast_gap =
+                mul-le-mul_right (bits_of_ms timing timing.broadcast_gap)
+                (fewest plan timing stays sent.broadcasts u m (keeps.broadcasts.messages u m one.known)) in
+                inl (omega (arith, gap, few, period, at_p, at_q, moment_p, moment_q))
+            | inr more ↦
+                let gap = gaps_bits timing.bitrate (sent.broadcasts.packets u n) timing.broadcast_gap (sent.broadcasts.announced u n) (sent.broadcasts.announced u m)
+                (keeps.broadcasts.in_turn u n m (omega (arith, more, differ)) one.known) in
+                let few : least_packets (broadcasts_by u (asked plan timing stays).flows) * bits_of_ms timing timing.broadcast_gap
+                ≤ sent.broadcasts.packets u n * bits_of_ms timing timing.broadcast_gap =
+                mul-le-mul_right (bits_of_ms timing timing.broadcast_gap)
+                (fewest plan timing stays sent.broadcasts u n (keeps.broadcasts.messages u n two.known)) in
+                inr (omega (arith, gap, few, period, at_p, at_q, moment_p, moment_q))
+          ]
+        ]
+
+    -- packets of a unit
+    carried_apart : (u m n j k : ℕ) → sent.source p ≡ Carrying u m j → sent.source q ≡ Carrying u n k → (stream : Stream)
+        → IsPaced plan timing stays (Carrying u m j) stream → (sent.moment p + stream.period ≤ sent.moment q) ⊎ (sent.moment q + stream.period ≤ sent.moment p)
+    carried_apart u m n j k first second stream paced =
+        let one = subst (λ (x : Source). IsFrameOf plan timing s held sent.broadcasts x (sent.moment p) p) first frame_p in
+        let two = subst (λ (x : Source). IsFrameOf plan timing s held sent.broadcasts x (sent.moment q) q) second frame_q in
+        let period = ap (λ (x : Stream). x.period) paced in
+        let moment_p = one.0.at_once in
+        let moment_q = two.0.at_once in
+        elim (keeps.broadcasts.gaps p q u m n j k in_p in_q other is_p is_q first second) [
+          | inl before ↦
+              inl (let gap = behind_bits timing.bitrate timing.broadcast_gap (s.queued p) (s.queued q) before in omega (arith, gap, period, moment_p, moment_q))
+          | inr after ↦
+              inr (let gap = behind_bits timing.bitrate timing.broadcast_gap (s.queued q) (s.queued p) after in omega (arith, gap, period, moment_p, moment_q))
+        ]
+
+    -- of what comes by its own pace
+    alike : (x : Source) → HasPace plan timing stays x → sent.source p ≡ x → place_of plan x ≡ place_of plan (sent.source q) → turn_of plan x ≡ turn_of plan (sent.source q)
+        → (stream : Stream) → IsPacedBy plan timing stays x stream → (sent.moment p + stream.period ≤ sent.moment q) ⊎ (sent.moment q + stream.period ≤ sent.moment p)
+    alike x pace first place turn stream paced =
+        let one : x ≡ sent.source q =
+        one_source plan timing stays s held sent.broadcasts keeps.broadcasts.messages x (sent.source q) (sent.moment p) (sent.moment q) p q pace
+        (subst (λ (y : Source). IsFrameOf plan timing s held sent.broadcasts y (sent.moment p) p) first frame_p) frame_q place turn in
+        by_pace p q in_p in_q other is_p is_q (first ∙ one) stream (subst (λ (y : Source). IsPacedBy plan timing stays y stream) (sym first) paced)
+
+    by_source : (x : Source) → sent.source p ≡ x → place_of plan x ≡ place_of plan (sent.source q) → turn_of plan x ≡ turn_of plan (sent.source q) → (stream : Stream)
+        → IsPaced plan timing stays x stream → (sent.moment p + stream.period ≤ sent.moment q) ⊎ (sent.moment q + stream.period ≤ sent.moment p)
+    by_source (Single f) first place turn stream paced = alike (Single f) tt first place turn stream paced
+    by_source (InSession f part) first place turn stream paced = alike (InSession f part) tt first place turn stream paced
+    by_source (Asking r) first place turn stream paced = alike (Asking r) tt first place turn stream paced
+    by_source (Announcing u m) first place turn stream paced =
+        let one = subst (λ (x : Source). IsFrameOf plan timing s held sent.broadcasts x (sent.moment p) p) first frame_p in
+        let (n, second) = of_announcements plan timing stays s held sent.broadcasts keeps.broadcasts.messages (sent.source q) u m (sent.moment q) q frame_q one.known
+        (sym place) in
+        announced_apart u m n first second stream paced
+    by_source (Carrying u m j) first place turn stream paced =
+        let one = subst (λ (x : Source). IsFrameOf plan timing s held sent.broadcasts x (sent.moment p) p) first frame_p in
+        let (n, k, second) = of_packets plan timing stays s held sent.broadcasts keeps.broadcasts.messages (sent.source q) u m j (sent.moment q) q frame_q one.0.known
+        (sym place) in
+        carried_apart u m n j k first second stream paced
+
+  pub told_stream : (p : ℕ) → p < s.count → planned p ≡ true
+      → IsPaced plan timing stays (sent.source p) ((traffic plan timing stays).stream (place_of plan (sent.source p)))
+  told_stream p in_p is = subst (λ (f : FlowFrames). IsPaced plan timing stays (sent.source p) f.stream) (sym (at_its_place p in_p is)) (of_source p in_p is).paced
+
   pub of_streams : AreOfStreams s (λ p. planned p ≡ true) (traffic plan timing stays).count (traffic plan timing stays).stream (origins_of plan sent)
   of_streams = record {
     keeps = λ p in_p is. keeps_stream p in_p is;
     spaced = λ p q in_p in_q other is_p is_q place turn.
-        subst (λ (f : FlowFrames). (sent.moment p + f.stream.period ≤ sent.moment q) ⊎ (sent.moment q + f.stream.period ≤ sent.moment p))
-        (sym (at_its_place p in_p is_p))
-        (spaced p q in_p in_q other is_p is_q
-        (one_source plan timing stays s held (sent.source p) (sent.source q) (sent.moment p) (sent.moment q) p q (keeps.frames p in_p is_p) (keeps.frames q in_q is_q)
-        place turn));
+        by_source p q in_p in_q other is_p is_q (sent.source p) refl place turn ((traffic plan timing stays).stream (place_of plan (sent.source p)))
+        (told_stream p in_p is_p);
   }
+
+  -- ---- what is wanted
+
+  as_wanted : AreAsWanted s planned (origins_of plan sent) (traffic plan timing stays).demands (traffic plan timing stays).stream
+  as_wanted = as_wanted_of plan timing stays s planned sent held keeps.frames keeps.broadcasts s planned (origins_of plan sent)
+      (λ p in_p is. inr (record { below = in_p; is = is; place = refl; since = refl })) told_stream
 
   -- ---- identifiers
 
@@ -114,7 +207,7 @@ module _ (plan : Plan) (timing : Timing) (stays : UnitPlan → Bool) (tells : Te
         ]
 
     -- and no request
-    no_asking : (r moment p : ℕ) → IsFrameOf plan timing s held (Asking r) moment p → may_share (traffic plan timing stays) i (place_of plan (Asking r)) ≡ true → ⊥
+    no_asking : (r moment p : ℕ) → IsFrameOf plan timing s held sent.broadcasts (Asking r) moment p → may_share (traffic plan timing stays) i (place_of plan (Asking r)) ≡ true → ⊥
     no_asking r moment p one shares =
         elim (or_cases (eqb (place_of plan (Asking r)) i) (are_twins (planned_at (all plan timing stays) i) (planned_at (all plan timing stays) (place_of plan (Asking r)))) shares) [
           | inl same ↦
@@ -128,15 +221,34 @@ module _ (plan : Plan) (timing : Timing) (stays : UnitPlan → Bool) (tells : Te
               never_twin (planned_at (all plan timing stays) i) (planned_at (all plan timing stays) (place_of plan (Asking r))) (ap (λ (x : FlowFrames). x.twin_ident) its) twin
         ]
 
+    -- and no frame that stands behind the flows and has no twins
+    no_unit : (u : ℕ) (frames : FlowFrames) (j more : ℕ) → get_or (frames_asked (asked_of timing plan stays)) j None ≡ Some frames → frames.twin_ident ≡ None
+        → j ≡ 2 * length plan.flows.items + more → may_share (traffic plan timing stays) i j ≡ true → ⊥
+    no_unit u frames j more at none behind shares =
+        elim (or_cases (eqb j i) (are_twins (planned_at (all plan timing stays) i) (planned_at (all plan timing stays) j)) shares) [
+          | inl same ↦
+              let place : j ≡ i = eqb-true j i same in
+              let below = slice_get_within plan.flows.items i single.flow single.its in
+              omega (arith, place, below, behind)
+          | inr twin ↦
+              let its = with_damage timing (frames_asked (asked_of timing plan stays)) j frames at in
+              never_twin (planned_at (all plan timing stays) i) (planned_at (all plan timing stays) j) (ap (λ (x : FlowFrames). x.twin_ident) its ∙ none) twin
+        ]
+
     -- so it is a single one
-    pub of_single : (source : Source) (moment p : ℕ) → IsFrameOf plan timing s held source moment p
+    pub of_single : (source : Source) (moment p : ℕ) → IsFrameOf plan timing s held sent.broadcasts source moment p
         → may_share (traffic plan timing stays) i (place_of plan source) ≡ true → (f : ℕ) × (source ≡ Single f)
     of_single (Single f) moment p one shares = (f, refl)
     of_single (InSession f part) moment p one shares = absurd (no_session f part moment p one shares)
     of_single (Asking r) moment p one shares = absurd (no_asking r moment p one shares)
+    of_single (Announcing u m) moment p one shares = absurd (no_unit u (unit_asks plan timing stays sent.broadcasts u m (keeps.broadcasts.messages u m one.known)).announcements
+        (place_of plan (Announcing u m)) (units_told plan.flows.items plan.units.items + u)
+        (announcing_read plan timing stays sent.broadcasts u m (keeps.broadcasts.messages u m one.known)) refl refl shares)
+    of_single (Carrying u m k) moment p one shares = absurd (no_unit u (unit_asks plan timing stays sent.broadcasts u m (keeps.broadcasts.messages u m one.0.known)).packets
+        (place_of plan (Carrying u m k)) u (carrying_read plan timing stays sent.broadcasts u m (keeps.broadcasts.messages u m one.0.known) k) refl refl shares)
 
     -- what has the identifier of such a single frame is of the flow or a twin too
-    shared_by : (f moment p other q t : ℕ) (second : Source) → IsSingleFrame plan timing s held f moment p → IsFrameOf plan timing s held second other q
+    shared_by : (f moment p other q t : ℕ) (second : Source) → IsSingleFrame plan timing s held f moment p → IsFrameOf plan timing s held sent.broadcasts second other q
         → IsQueuedAt s p t → IsQueuedAt s q t → s.ident p ≡ s.ident q → may_share (traffic plan timing stays) i f ≡ true
         → may_share (traffic plan timing stays) i (place_of plan second) ≡ true
     shared_by f moment p other q t (Single g) one two at_p at_q same shares =
@@ -153,6 +265,13 @@ module _ (plan : Plan) (timing : Timing) (stays : UnitPlan → Bool) (tells : Te
         absurd (no_request plan timing clean s held t (keeps.held_apart t) f moment p one at_p (s.ident q) two.asked.sender two.asked.to
         (request_made plan timing clean s held t (keeps.held_apart t) r other q two at_q) same)
 
+    shared_by f moment p other q t (Announcing u m) one two at_p at_q same shares =
+        absurd (no_broadcast plan timing clean s held t (keeps.held_apart t) f moment p one at_p (s.ident q) 60416 u (inl refl)
+        (broadcast_made plan timing clean s held t (keeps.held_apart t) sent.broadcasts 60416 u m other q (inl refl) two at_q) same)
+    shared_by f moment p other q t (Carrying u m k) one two at_p at_q same shares =
+        absurd (no_broadcast plan timing clean s held t (keeps.held_apart t) f moment p one at_p (s.ident q) 60160 u (inr refl)
+        (broadcast_made plan timing clean s held t (keeps.held_apart t) sent.broadcasts 60160 u m other q (inr refl) two.0 at_q) same)
+
     pub own_identifier : (p q t : ℕ) → p < s.count → q < s.count → t < s.now → planned p ≡ true
         → may_share (traffic plan timing stays) i (place_of plan (sent.source p)) ≡ true → IsQueuedAt s p t → IsQueuedAt s q t → s.ident p ≡ s.ident q
         → (planned q ≡ true) × (may_share (traffic plan timing stays) i (place_of plan (sent.source q)) ≡ true)
@@ -162,10 +281,10 @@ module _ (plan : Plan) (timing : Timing) (stays : UnitPlan → Bool) (tells : Te
           | inl is_q ↦ (
             is_q,
             shared_by f (sent.moment p) p (sent.moment q) q t (sent.source q)
-                (subst (λ (x : Source). IsFrameOf plan timing s held x (sent.moment p) p) source (keeps.frames p in_p is_p)) (keeps.frames q in_q is_q) at_p at_q same
+                (subst (λ (x : Source). IsFrameOf plan timing s held sent.broadcasts x (sent.moment p) p) source (keeps.frames p in_p is_p)) (keeps.frames q in_q is_q) at_p at_q same
                 (subst (λ (x : Source). may_share (traffic plan timing stays) i (place_of plan x) ≡ true) source shares),
           )
-          | inr not_q ↦ absurd (keeps.others_identifier p q t f in_p in_q seen is_p source not_q at_p at_q same)
+          | inr not_q ↦ absurd (keeps.others_identifier p q t in_p in_q seen is_p (subst HasTime (sym source) tt) not_q at_p at_q same)
         ]
 
     -- a frame at this place is one of the flow
@@ -184,15 +303,14 @@ module _ (plan : Plan) (timing : Timing) (stays : UnitPlan → Bool) (tells : Te
         | inr other ↦ keeps.others_length p in_p other
       ];
       of_streams = of_streams;
-      as_wanted = never_wanted s planned (origins_of plan sent) (traffic plan timing stays).demands (traffic plan timing stays).stream
-          (λ p in_p is. ap (λ (f : FlowFrames). f.stream.wanted) (at_its_place p in_p is) ∙ (of_source p in_p is).unwanted);
+      as_wanted = as_wanted;
       from_least = λ p in_p is. subst (λ (f : FlowFrames). f.least_ident ≤ s.ident p) (sym (at_its_place p in_p is)) (of_source p in_p is).least;
       to_greatest = λ p in_p is place. subst (λ (k : ℕ). s.ident p ≤ (planned_at (all plan timing stays) k).greatest_ident) place
           (subst (λ (f : FlowFrames). s.ident p ≤ f.greatest_ident) (sym (at_its_place p in_p is))
           (subst (λ (x : Source). IsBelowGreatest x (s.ident p) (of_source p in_p is).frames.greatest_ident) (of_flow p in_p is place) (of_source p in_p is).greatest));
       own_identifier = own_identifier;
       urgency_of_others = keeps.others_priority;
-      few_others = λ p from to in_p is place seen waits wait. keeps.few_others p i from to in_p is (of_flow p in_p is place) seen waits wait;
+      few_others = λ p from to in_p is place seen waits wait. keeps.few_others p from to in_p is (subst HasTime (sym (of_flow p in_p is place)) tt) seen waits wait;
     }
 
 pub keeps_in_order : (plan : Plan) (timing : Timing) (stays : UnitPlan → Bool) → Clean plan → TellsWhoStays plan stays

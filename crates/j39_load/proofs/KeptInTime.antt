@@ -23,7 +23,7 @@ use Rattle.j39_load.specs.SentFrames.{FrameSources, Held, IsFrameOf, IsMsBefore,
 use Rattle.j39_load.proofs.BoundedFlows.{short_bounded}
 use Rattle.j39_load.proofs.KeepingErrors.{frames_in_time, keeps_with_errors}
 use Rattle.j39_load.proofs.KeepingAnyOrder.{keeps_in_any_order}
-use Rattle.j39_load.proofs.KeepingFrames.{at_place, load, of_one_frame, own}
+use Rattle.j39_load.proofs.PlacedFrames.{at_place, load, of_one_frame, own}
 use Rattle.j39_load.proofs.KeepingPlan.{keeps_in_order}
 use Rattle.j39_load.proofs.Milliseconds.{in_ms}
 use Rattle.j39_load.proofs.Sending.{in_order}
@@ -85,7 +85,7 @@ module _ (plan : Plan) (timing : Timing) (stays : UnitPlan → Bool) (delays : L
       → IsStreamInTime s planned (origins_of plan sent) i bound.frames.stream bound.wait) where
     module _ (p f : ℕ) (in_p : p < s.count) (is : planned p ≡ true) (source : sent.source p ≡ Single f) where
       abbrev one : IsSingleFrame plan timing s held f (sent.moment p) p
-      one = subst (λ (x : Source). IsFrameOf plan timing s held x (sent.moment p) p) source (keeps.frames p in_p is)
+      one = subst (λ (x : Source). IsFrameOf plan timing s held sent.broadcasts x (sent.moment p) p) source (keeps.frames p in_p is)
 
       single : IsSingleFlow plan f
       single = record { flow = one.flow; its = one.its; group = one.group; of = one.of; short = one.short }

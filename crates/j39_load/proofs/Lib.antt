@@ -15,6 +15,7 @@ pub mod FoundWaits
 pub mod KeepingAll
 pub mod KeepingAnyOrder
 pub mod KeepingApart
+pub mod KeepingBroadcasts
 pub mod KeepingErrors
 pub mod KeepingFrames
 pub mod KeepingPlan
@@ -23,6 +24,7 @@ pub mod LeastKnown
 pub mod Milliseconds
 pub mod Offering
 pub mod OneLoad
+pub mod PlacedFrames
 pub mod PositivePeriods
 pub mod Ranks
 pub mod ReadingInTime
@@ -35,5 +37,6 @@ pub mod TurnTimes
 pub mod ValuesInTime
 pub mod Vehicles
 pub mod WantedMemory
+pub mod WantedPlaces
 pub mod WholeMessages
 pub mod WithoutFlows

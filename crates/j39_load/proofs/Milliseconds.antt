@@ -1,5 +1,5 @@
 -- Milliseconds in bits, at each bitrate.
-use Rattle.std.proofs.Common.{ℕ, ◌+◌, ◌*◌, ◌≤◌, arith}
+use Rattle.std.proofs.Common.{ℕ, ◌+◌, ◌*◌, ◌<◌, ◌≤◌, arith}
 use Rattle.j39_network.specs.declared.plan.timing.Bitrate.{Bitrate}
 use Rattle.j39_network.specs.declared.plan.timing.Bitrate.TheVariants.{Kbit125, Kbit250, Kbit500, Mbit1}
 use Rattle.j39_load.specs.Loads.{bits_per_ms}
@@ -24,6 +24,19 @@ behind_bits Kbit125 ms a b behind = omega arith
 behind_bits Kbit250 ms a b behind = omega arith
 behind_bits Kbit500 ms a b behind = omega arith
 behind_bits Mbit1 ms a b behind = omega arith
+
+-- so many times over
+pub gaps_bits : (bitrate : Bitrate) (n gap a b : ℕ) → a * bit_time bitrate + 1000 * (n * gap) ≤ b * bit_time bitrate → a + n * (gap * bits_per_ms bitrate) ≤ b
+gaps_bits Kbit125 n gap a b behind = omega arith
+gaps_bits Kbit250 n gap a b behind = omega arith
+gaps_bits Kbit500 n gap a b behind = omega arith
+gaps_bits Mbit1 n gap a b behind = omega arith
+
+pub some_bits : (bitrate : Bitrate) (ms : ℕ) → 1 ≤ ms → 0 < ms * bits_per_ms bitrate
+some_bits Kbit125 ms some = omega arith
+some_bits Kbit250 ms some = omega arith
+some_bits Kbit500 ms some = omega arith
+some_bits Mbit1 ms some = omega arith
 
 pub in_ms : (bitrate : Bitrate) (ms a b : ℕ) → b ≤ a + ms * bits_per_ms bitrate → b * bit_time bitrate ≤ a * bit_time bitrate + 1000 * ms
 in_ms Kbit125 ms a b within = omega arith

@@ -15,11 +15,12 @@ use Rattle.j39_load.specs.declared.flow_frames.FlowFrames.{FlowFrames}
 use Rattle.j39_load.specs.AnyQueues.{keep_order}
 use Rattle.j39_load.specs.Loads.{any_unit, destination_at, group_ident}
 use Rattle.j39_load.specs.Ranks.{AreHeldApart, IsShortFlow}
-use Rattle.j39_load.specs.SentFrames.{Held, IsRequestFrame, IsSessionFrame, IsSingleFrame, Part, part_identifier}
+use Rattle.j39_load.specs.SentFrames.{Broadcasts, Held, IsBroadcastFrame, IsRequestFrame, IsSessionFrame, IsSingleFrame, Part, part_identifier}
 use Rattle.j39_load.specs.SentFrames.{RequestToSend, Packet, ClearToSend, EndAcknowledged}
 use Rattle.j39_load.specs.Twins.{are_twins, is_same}
 use Rattle.j39_load.proofs.Different as other_idents
-use Rattle.j39_load.proofs.KeepingFrames.{asking_ident, one_to, own, single_ident}
+use Rattle.j39_load.proofs.KeepingFrames.{asking_ident, one_to, single_ident}
+use Rattle.j39_load.proofs.PlacedFrames.{own}
 use Rattle.j39_timing.specs.TimedFrames.{Schedule}
 use Rattle.j39_timing.specs.Traffic.{IsQueuedAt}
 
@@ -145,6 +146,32 @@ module _ (plan : Plan) (clean : Clean plan) (on : ℕ → Bool) (address : ℕ �
         | inr carries ↦ omega (arith, number, carries)
       ]
 
+  -- nor a frame of a long message to all
+  pub request_or_broadcast : (x y u v number : ℕ) (to : To) → (number ≡ 60416) ⊎ (number ≡ 60160) → IsMade on address x 59904 u to
+      → IsMade on address y number v ToAllUnits → x ≡ y → ⊥
+  request_or_broadcast x y u v number to either a b same =
+      let is : 59904 ≡ number = (made_alike x y 59904 number u v to ToAllUnits a b same).0 in
+      elim either [
+        | inl manages ↦ omega (arith, is, manages)
+        | inr carries ↦ omega (arith, is, carries)
+      ]
+
+  -- and no part of one to a single unit
+  pub broadcast_or_part : (x y u w z number : ℕ) → IsMade on address x number u ToAllUnits → IsPartMade on address y w z → x ≡ y → ⊥
+  broadcast_or_part x y u w z number a b same =
+      let (is, from, to) = made_alike x y number b.number u b.from ToAllUnits b.to a b.made same in
+      to_one w z b.from b.to b.ends (to (ap is_pdu2 is ∙ names_destination b.number b.either))
+    where
+      to_one : (w z from : ℕ) (to : To) → ((from ≡ w) × (to ≡ One z)) ⊎ ((from ≡ z) × (to ≡ One w)) → ToAllUnits ≡ to → ⊥
+      to_one w z from to (inl ends) all = let told = all ∙ ends.1 in cc
+      to_one w z from to (inr ends) all = let told = all ∙ ends.1 in cc
+
+  -- two of long messages to all are of one unit, and of one kind
+  pub one_sends : (x y u v n k : ℕ) → IsMade on address x n u ToAllUnits → IsMade on address y k v ToAllUnits → x ≡ y → (n ≡ k) × (u ≡ v)
+  one_sends x y u v n k a b same =
+      let (number, from, to) = made_alike x y n k u v ToAllUnits ToAllUnits a b same in
+      (number, from)
+
   -- two requests are of one unit
   pub one_asks : (x y u v : ℕ) (to other : To) → IsMade on address x 59904 u to → IsMade on address y 59904 v other → x ≡ y → u ≡ v
   one_asks x y u v to other a b same = (made_alike x y 59904 59904 u v to other a b same).1
@@ -159,6 +186,25 @@ module _ (plan : Plan) (timing : Timing) (clean : Clean plan) (s : Schedule) (he
     from_on = one.sender_on t queued;
     to_on = λ v goes. one.receiver_on t v queued goes;
     is = asking_ident plan s held r moment p t one queued;
+  }
+
+  pub broadcast_made : (b : Broadcasts) (number u m moment p : ℕ) → (number ≡ 60416) ⊎ (number ≡ 60160)
+      → IsBroadcastFrame timing s held b number u m moment p → IsQueuedAt s p t → IsMade (held.on t) (held.address t) (s.ident p) number u ToAllUnits
+  broadcast_made b number u m moment p (inl is) one queued = record {
+    priority = timing.transport_priority;
+    page = omega (arith, is);
+    low = λ _. omega (arith, is);
+    from_on = one.sender_on t queued;
+    to_on = λ v goes. absurd (let told = goes in cc);
+    is = one.identifier t queued;
+  }
+  broadcast_made b number u m moment p (inr is) one queued = record {
+    priority = timing.transport_priority;
+    page = omega (arith, is);
+    low = λ _. omega (arith, is);
+    from_on = one.sender_on t queued;
+    to_on = λ v goes. absurd (let told = goes in cc);
+    is = one.identifier t queued;
   }
 
   module _ (f : ℕ) (part : Part) (moment p : ℕ) (one : IsSessionFrame plan timing s held f part moment p) (queued : IsQueuedAt s p t) where
@@ -238,6 +284,10 @@ module _ (plan : Plan) (timing : Timing) (clean : Clean plan) (s : Schedule) (he
     -- so no request has it, and no part of a long message
     pub no_request : (y from : ℕ) (to : To) → IsMade (held.on t) (held.address t) y 59904 from to → s.ident p ≡ y → ⊥
     no_request y from to made same = no_service y 59904 from to (1, omega arith, refl) made same
+
+    pub no_broadcast : (y number from : ℕ) → (number ≡ 60416) ⊎ (number ≡ 60160) → IsMade (held.on t) (held.address t) y number from ToAllUnits → s.ident p ≡ y → ⊥
+    no_broadcast y number from (inl is) made same = no_service y number from ToAllUnits (3, omega arith, sym is) made same
+    no_broadcast y number from (inr is) made same = no_service y number from ToAllUnits (2, omega arith, sym is) made same
 
     pub no_part : (y w z : ℕ) → IsPartMade (held.on t) (held.address t) y w z → s.ident p ≡ y → ⊥
     no_part y w z part same = no_service y part.number part.from part.to (by_number part.number part.either) part.made same

@@ -4,7 +4,7 @@ use Rattle.j39_network.specs.declared.plan.Plan.{Plan}
 use Rattle.j39_network.specs.declared.plan.timing.ErrorRate.{ErrorRate}
 use Rattle.j39_network.specs.declared.plan.timing.Timing.{Timing}
 use Rattle.j39_load.specs.KeepsPlan.{AreSentInTime, KeepsAllOrder, KeepsToPlan, place_of, turn_of}
-use Rattle.j39_load.specs.SentFrames.{FrameSources, Held, Single, bit_time}
+use Rattle.j39_load.specs.SentFrames.{FrameSources, HasTime, Held, bit_time}
 use Rattle.j39_timing.specs.Errors.{Damaged, IsLegalWithErrors, at_place, with_errors}
 use Rattle.j39_timing.specs.FrameStreams.{Origins}
 use Rattle.j39_timing.specs.Sums.{total}
@@ -30,8 +30,9 @@ pub record KeepsErrors (timing : Timing) (rate : ErrorRate) (s : Schedule) (d : 
   pub in_order : (e f : ℕ) → e ≤ f → f < d.count → d.begin e ≤ d.begin f
   -- at most `count` of them begin in any `every` milliseconds
   pub seldom : (from : ℕ) → attempts_within timing rate.every d from ≤ rate.count
-  -- no more frames that aren't planned go before one of a flow with messages of one frame, also while it waits for what comes of damage
-  pub few_others : (p f from to : ℕ) → p < s.count → planned p ≡ true → sent.source p ≡ Single f → to < s.now → Waits (with_errors s d) p to
+  -- no more frames that aren't planned go before one of a flow with messages of one frame, or of a long message to all, also while it waits for what
+  -- comes of damage
+  pub few_others : (p from to : ℕ) → p < s.count → planned p ≡ true → HasTime (sent.source p) → to < s.now → Waits (with_errors s d) p to
       → PlannedFramesWait (with_errors s d) (planned_with s planned) ((with_errors s d).ident p) from to
       → others_queued (with_errors s d) (planned_with s planned) ((with_errors s d).ident p) from to ≤ timing.unplanned
 

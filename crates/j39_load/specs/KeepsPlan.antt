@@ -1,5 +1,5 @@
 -- What a bus keeps of a plan, in the plan's own words, where its planned frames are those of flows each message of which goes in one frame, of
--- long messages to one unit, and of requests: no stream stands here, and nothing that is told of what a flow asks of the bus.
+-- long messages to one unit and to all, and of requests: no stream stands here, and nothing that is told of what a flow asks of the bus.
 use Rattle.std.specs.Prelude.{◌≡◌, ◌≢◌, ℕ, ◌+◌, ◌*◌, ◌^◌, ◌<◌, ◌≤◌, ◌⊎◌, Bool, true, false, List, [], ◌∷◌, length, Some}
 use Rattle.std.specs.List.{slice_get}
 use Rattle.std.specs.Option.{option_map_or}
@@ -10,9 +10,10 @@ use Rattle.j39_network.specs.declared.plan.pace.Pace.{Pace}
 use Rattle.j39_network.specs.declared.plan.queue.Queue.TheVariants.{Any, Priority}
 use Rattle.j39_network.specs.declared.plan.timing.Timing.{Timing}
 use Rattle.j39_network.specs.declared.plan.unit_plan.UnitPlan.{UnitPlan}
+use Rattle.j39_load.specs.KeepsBroadcasts.{KeepsBroadcasts}
 use Rattle.j39_load.specs.Ranks.{AreHeldApart, AreHeldByPlan}
-use Rattle.j39_load.specs.SentFrames.{FrameSources, Held, IsFrameOf, IsMsBefore, IsMsBehind, IsSentBy, IsSentEvery, IsWithinMs, Part, Source, TakesPart}
-use Rattle.j39_load.specs.SentFrames.{Single, InSession, Asking, RequestToSend, Packet, ClearToSend, EndAcknowledged}
+use Rattle.j39_load.specs.SentFrames.{FrameSources, HasTime, Held, IsFrameOf, IsMsBefore, IsMsBehind, IsSentBy, IsSentEvery, IsWithinMs, Part, Source, TakesPart}
+use Rattle.j39_load.specs.SentFrames.{Single, InSession, Asking, Announcing, Carrying, RequestToSend, Packet, ClearToSend, EndAcknowledged}
 use Rattle.j39_timing.specs.AnyOrder.{Controllers, IsLegalInAnyOrder}
 use Rattle.j39_timing.specs.Companies.{unplanned_queued}
 use Rattle.j39_timing.specs.FrameStreams.{Origins}
@@ -23,21 +24,22 @@ use Rattle.j39_tp.specs.Chunks.{packets_of}
 
 -- the planned frames of a bus are those of flows and requests, and what else is on it keeps to what the plan tells of it
 pub record KeepsToPlan (plan : Plan) (timing : Timing) (s : Schedule) (planned : ℕ → Bool) (sent : FrameSources) (held : Held) : Type 0 where
-  pub frames : (p : ℕ) → p < s.count → planned p ≡ true → IsFrameOf plan timing s held (sent.source p) (sent.moment p) p
+  pub frames : (p : ℕ) → p < s.count → planned p ≡ true → IsFrameOf plan timing s held sent.broadcasts (sent.source p) (sent.moment p) p
   -- the moments of two messages of a flow, and of two requests, are a period apart, and a long message has each of its parts once
   pub apart : (p q ms : ℕ) → p < s.count → q < s.count → p ≢ q → planned p ≡ true → planned q ≡ true
       → sent.source p ≡ sent.source q → IsSentEvery plan (sent.source p) ms
       → IsMsBehind timing ms (sent.moment p) (sent.moment q) ⊎ IsMsBehind timing ms (sent.moment q) (sent.moment p)
+  pub broadcasts : KeepsBroadcasts plan timing s planned sent
   -- each unit holds its planned address, or one of the pool if it has to move, and no two that are on hold one
   pub held_by_plan : (t : ℕ) → AreHeldByPlan plan (held.address t)
   pub held_apart : (t : ℕ) → AreHeldApart (held.on t) (held.address t)
   -- a frame that is of none of them has eight bytes at most, and the priority that is told or a larger number; while a frame of a flow with
-  -- messages of one frame is queued too it has another identifier, and no more of them go before this one than are told
+  -- messages of one frame is queued too, or one of a long message to all, it has another identifier, and no more of them go before this one than are told
   pub others_length : (p : ℕ) → p < s.count → planned p ≡ false → s.bits p ≤ 160
   pub others_priority : (p : ℕ) → p < s.count → planned p ≡ false → timing.unplanned_priority * 2 ^ 26 ≤ s.ident p
-  pub others_identifier : (p q t f : ℕ) → p < s.count → q < s.count → t < s.now → planned p ≡ true → sent.source p ≡ Single f → planned q ≡ false
+  pub others_identifier : (p q t : ℕ) → p < s.count → q < s.count → t < s.now → planned p ≡ true → HasTime (sent.source p) → planned q ≡ false
       → IsQueuedAt s p t → IsQueuedAt s q t → s.ident p ≢ s.ident q
-  pub few_others : (p f from to : ℕ) → p < s.count → planned p ≡ true → sent.source p ≡ Single f → to < s.now → Waits s p to
+  pub few_others : (p from to : ℕ) → p < s.count → planned p ≡ true → HasTime (sent.source p) → to < s.now → Waits s p to
       → PlannedFramesWait s planned (s.ident p) from to → others_queued s planned (s.ident p) from to ≤ timing.unplanned
 
 -- ---- units that keep no order
@@ -68,11 +70,14 @@ abbrev pub units_told : List FlowPlan → List UnitPlan → ℕ
 units_told [] units = 0
 units_told (flow ∷ flows) units = length units
 
--- where the frames of a source stand among all that the plan asks for: flows at the first places, requests at the last ones
+-- where the frames of a source stand among all that the plan asks for: flows at the first places, packets and announcements of units behind them,
+-- requests at the last ones
 abbrev pub place_of : Plan → Source → ℕ
 place_of plan (Single f) = f
 place_of plan (InSession f part) = f
 place_of plan (Asking r) = 2 * length plan.flows.items + (2 * units_told plan.flows.items plan.units.items + r)
+place_of plan (Announcing u m) = 2 * length plan.flows.items + (units_told plan.flows.items plan.units.items + u)
+place_of plan (Carrying u m k) = 2 * length plan.flows.items + u
 
 -- the packets of a flow's longest messages
 abbrev pub packets_at : Plan → ℕ → ℕ
@@ -86,11 +91,13 @@ turn_of_part packets EndAcknowledged = 1
 turn_of_part packets (Packet k) = 2 + k
 turn_of_part packets (ClearToSend k) = 2 + (packets + k)
 
--- a message that goes in one frame has one part
+-- a message that goes in one frame has one part, and frames of long messages to all count as single ones
 abbrev pub turn_of : Plan → Source → ℕ
 turn_of plan (Single f) = 0
 turn_of plan (InSession f part) = turn_of_part (packets_at plan f) part
 turn_of plan (Asking r) = 0
+turn_of plan (Announcing u m) = 0
+turn_of plan (Carrying u m k) = 0
 
 -- what each frame is of its stream
 abbrev pub origins_of : Plan → FrameSources → Origins

@@ -6,6 +6,7 @@ pub mod Damage
 pub mod Delays
 pub mod Demands
 pub mod FreshNeeds
+pub mod KeepsBroadcasts
 pub mod KeepsErrors
 pub mod KeptTogether
 pub mod KeepsPlan

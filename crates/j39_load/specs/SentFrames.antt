@@ -1,4 +1,5 @@
--- A frame of what a plan has, in the plan's own words: of a flow's message that goes in one frame, of a long message to one unit, or a request.
+-- A frame of what a plan has, in the plan's own words: of a flow's message that goes in one frame, of a long message to one unit or to all, or a
+-- request.
 -- No stream stands here, and nothing that is told of what a flow asks of the bus.
 use Rattle.std.specs.Prelude.{◌≡◌, ℕ, ◌+◌, ◌*◌, ◌<◌, ◌≤◌, ◌⊎◌, Bool, true, Some}
 use Rattle.std.specs.List.{slice_get}
@@ -48,17 +49,32 @@ pub data Part : Type 0 where
   ClearToSend : ℕ → Part
   EndAcknowledged : Part
 
--- of what a frame is: of a flow, by its place, each message of which goes in one frame, of a long message of a flow to one unit, or of a request,
--- by its place
+-- of what a frame is: of a flow, by its place, each message of which goes in one frame, of a long message of a flow to one unit, of a request, by
+-- its place, or of a unit's long messages to all, by its place and the message's number: the announcement, or a packet by its number from 0
 pub data Source : Type 0 where
   Single : ℕ → Source
   InSession : ℕ → Part → Source
   Asking : ℕ → Source
+  Announcing : ℕ → ℕ → Source
+  Carrying : ℕ → ℕ → ℕ → Source
 
--- what each frame is of, by its place, and when its message had its moment
+-- the long messages to all of each unit, by its place, numbered in the order in which it sends them
+pub record Broadcasts : Type 0 where
+  pub count : ℕ → ℕ
+  -- the flow of a message
+  pub flow : ℕ → ℕ → ℕ
+  -- its moment, the bit from which it is wanted, and the one at which its announcement is queued
+  pub moment : ℕ → ℕ → ℕ
+  pub wanted : ℕ → ℕ → ℕ
+  pub announced : ℕ → ℕ → ℕ
+  -- how many packets it has
+  pub packets : ℕ → ℕ → ℕ
+
+-- what each frame is of, by its place, and when its message had its moment: a frame of a long message to all counts from where it is queued
 pub record FrameSources : Type 0 where
   pub source : ℕ → Source
   pub moment : ℕ → ℕ
+  pub broadcasts : Broadcasts
 
 -- at each bit, of each unit by its place: whether it is on, and the address that it holds
 pub record Held : Type 0 where
@@ -147,13 +163,34 @@ pub record IsRequestFrame (plan : Plan) (s : Schedule) (held : Held) (r moment p
   pub receiver_on : (t v : ℕ) → IsQueuedAt s p t → asked.to ≡ One v → held.on t v ≡ true
   pub identifier : (t : ℕ) → IsQueuedAt s p t → s.ident p ≡ identifier_of 6 59904 (goes_to (held.address t) asked.to) (held.address t asked.sender)
 
+-- ---- long messages to all
+
+-- the frame is one of a unit's message of this number to all, and has the group number of announcements or of packets
+pub record IsBroadcastFrame (timing : Timing) (s : Schedule) (held : Held) (b : Broadcasts) (number u m moment p : ℕ) : Type 0 where
+  pub known : m < b.count u
+  pub length : s.bits p ≤ 160
+  pub at_once : s.queued p ≡ moment
+  -- while it is queued its unit is on, and it has the address that this holds
+  pub sender_on : (t : ℕ) → IsQueuedAt s p t → held.on t u ≡ true
+  pub identifier : (t : ℕ) → IsQueuedAt s p t → s.ident p ≡ identifier_of timing.transport_priority number 255 (held.address t u)
+
 -- ---- all of them
 
 -- the frame is one of this source
-abbrev pub IsFrameOf : Plan → Timing → Schedule → Held → Source → ℕ → ℕ → Type 0
-IsFrameOf plan timing s held (Single f) moment p = IsSingleFrame plan timing s held f moment p
-IsFrameOf plan timing s held (InSession f part) moment p = IsSessionFrame plan timing s held f part moment p
-IsFrameOf plan timing s held (Asking r) moment p = IsRequestFrame plan s held r moment p
+abbrev pub IsFrameOf : Plan → Timing → Schedule → Held → Broadcasts → Source → ℕ → ℕ → Type 0
+IsFrameOf plan timing s held b (Single f) moment p = IsSingleFrame plan timing s held f moment p
+IsFrameOf plan timing s held b (InSession f part) moment p = IsSessionFrame plan timing s held f part moment p
+IsFrameOf plan timing s held b (Asking r) moment p = IsRequestFrame plan s held r moment p
+IsFrameOf plan timing s held b (Announcing u m) moment p = IsBroadcastFrame timing s held b 60416 u m moment p
+IsFrameOf plan timing s held b (Carrying u m k) moment p = IsBroadcastFrame timing s held b 60160 u m moment p × (k < b.packets u m)
+
+-- times are promised of it: of long messages to one unit and of requests none is
+abbrev pub HasTime : Source → Type 0
+HasTime (Single f) = Unit {0}
+HasTime (InSession f part) = ⊥
+HasTime (Asking r) = ⊥
+HasTime (Announcing u m) = Unit {0}
+HasTime (Carrying u m k) = Unit {0}
 
 -- the flow has this period, in milliseconds
 pub record HasPeriodMs (plan : Plan) (f ms : ℕ) : Type 0 where
@@ -163,11 +200,13 @@ pub record HasPeriodMs (plan : Plan) (f ms : ℕ) : Type 0 where
   pub paced : flow.pace ≡ Some pace
   pub is : pace.period ≡ ms
 
--- and so has the source
+-- and so has the source; what a unit sends to all comes by its own gaps
 abbrev pub IsSentEvery : Plan → Source → ℕ → Type 0
 IsSentEvery plan (Single f) ms = HasPeriodMs plan f ms
 IsSentEvery plan (InSession f part) ms = HasPeriodMs plan f ms
 IsSentEvery plan (Asking r) ms = (asked : RequestPlan) × (slice_get plan.requests.items r ≡ Some asked) × (asked.period ≡ Some ms)
+IsSentEvery plan (Announcing u m) ms = ⊥
+IsSentEvery plan (Carrying u m k) ms = ⊥
 
 -- the unit sends the part of a flow's long message
 abbrev pub SendsPart : FlowPlan → Part → ℕ → Type 0
@@ -181,9 +220,13 @@ abbrev pub IsSentBy : Plan → Source → ℕ → Type 0
 IsSentBy plan (Single f) u = (flow : FlowPlan) × (slice_get plan.flows.items f ≡ Some flow) × (flow.sender ≡ u)
 IsSentBy plan (InSession f part) u = (flow : FlowPlan) × (slice_get plan.flows.items f ≡ Some flow) × SendsPart flow part u
 IsSentBy plan (Asking r) u = (asked : RequestPlan) × (slice_get plan.requests.items r ≡ Some asked) × (asked.sender ≡ u)
+IsSentBy plan (Announcing v m) u = v ≡ u
+IsSentBy plan (Carrying v m k) u = v ≡ u
 
 -- the unit sends frames of the source's message: of a long one to one unit both ends do
 abbrev pub TakesPart : Plan → Source → ℕ → Type 0
 TakesPart plan (Single f) u = IsSentBy plan (Single f) u
 TakesPart plan (InSession f part) u = (flow : FlowPlan) × (slice_get plan.flows.items f ≡ Some flow) × ((flow.sender ≡ u) ⊎ (flow.to ≡ One u))
 TakesPart plan (Asking r) u = IsSentBy plan (Asking r) u
+TakesPart plan (Announcing v m) u = v ≡ u
+TakesPart plan (Carrying v m k) u = v ≡ u
