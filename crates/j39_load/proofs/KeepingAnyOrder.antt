@@ -14,11 +14,11 @@ use Rattle.j39_load.specs.AnyQueues.{are_of_unit, is_member, is_of_company, leas
 use Rattle.j39_load.specs.Asked.{asked_of, frames_asked}
 use Rattle.j39_load.specs.KeepsPlan.{IsSingleFlow, KeepsQueues, KeepsToPlan, origins_of, place_of}
 use Rattle.j39_load.specs.Loads.{any_unit}
-use Rattle.j39_load.specs.PlannedFrames.{AreFramesInAnyOrder, KeepToCompany, company_of, no_frames, planned_at}
-use Rattle.j39_load.specs.SentFrames.{FrameSources, Held, IsBroadcastFrame, IsFrameOf, IsRequestFrame, IsSessionFrame, IsSingleFrame, Part, Source}
+use Rattle.j39_load.specs.PlannedFrames.{AreFramesInAnyOrder, AreFramesOfPlan, KeepToCompany, company_of, no_frames, planned_at}
+use Rattle.j39_load.specs.SentFrames.{FrameSources, Held, IsFrameOf, IsRequestFrame, IsSessionFrame, IsSingleFrame, Part, Source}
 use Rattle.j39_load.specs.SentFrames.{Single, InSession, Asking, Announcing, Carrying}
 use Rattle.j39_load.proofs.KeepingFrames.{IsKnown, TakesAny, any_known, queue_cases}
-use Rattle.j39_load.proofs.PlacedFrames.{announcing_read, carrying_read, own, read, request_frames_read, session_read}
+use Rattle.j39_load.proofs.PlacedFrames.{own, read, request_frames_read, session_read}
 use Rattle.j39_load.proofs.KeepingPlan.{keeps_premises, of_source}
 use Rattle.j39_load.proofs.SharedIdentifiers.{AreAlike, broadcast_made, broadcast_or_part, no_broadcast, no_part, no_request, one_asks, one_or_alike, one_sends, part_made, parts_between, request_made, request_or_broadcast, request_or_part}
 use Rattle.j39_timing.specs.AnyOrder.{Controllers, IsLegalInAnyOrder, IsUnordered}
@@ -131,7 +131,6 @@ module _ (plan : Plan) (timing : Timing) (stays : UnitPlan → Bool) (tells : Te
         (one_asks plan clean (held.on t) (held.address t) (keeps.held_apart t) (s.ident p) (s.ident q) x.asked.sender y.asked.sender x.asked.to y.asked.to
         (request_made plan timing clean s held t (keeps.held_apart t) r moment p x at_p)
         (request_made plan timing clean s held t (keeps.held_apart t) k other q y at_q) same) (sym (at_request r moment p x) ∙ is)
-
     both_of (Single f) (Announcing u m) moment other p q t x y at_p at_q same is =
         absurd (no_broadcast plan timing clean s held t (keeps.held_apart t) f moment p x at_p (s.ident q) 60416 u (inl refl)
         (broadcast_made plan timing clean s held t (keeps.held_apart t) sent.broadcasts 60416 u m other q (inl refl) y at_q) same)
@@ -217,9 +216,10 @@ module _ (plan : Plan) (timing : Timing) (stays : UnitPlan → Bool) (tells : Te
           (λ t behind up. let (q, in_q, is_q, with_it, wait) = company t behind up in (q, in_q, is_q, wait));
     }
 
-  pub keeps_any : (i : ℕ) → IsSingleFlow plan i → AreFramesInAnyOrder timing asks s controllers planned (origins_of plan sent) i
-  keeps_any i single = record {
-    known = keeps_premises plan timing stays tells clean s queued_first planned sent held keeps i single;
+  pub keeps_any : (i : ℕ) → AreFramesOfPlan timing asks s planned (origins_of plan sent) i
+      → AreFramesInAnyOrder timing asks s controllers planned (origins_of plan sent) i
+  keeps_any i known = record {
+    known = known;
     of_unit = λ p in_p is un.
         subst (λ (f : FlowFrames). are_of_unit f (controllers.unit p) ≡ true) (sym (asked_there p in_p is)) (of_unit_told p in_p is un);
     to_last = λ p in_p is kept. subst (λ (f : FlowFrames). s.ident p ≤ f.last_ident) (sym (asked_there p in_p is)) (one p in_p is).last;
@@ -231,4 +231,5 @@ pub keeps_in_any_order : (plan : Plan) (timing : Timing) (stays : UnitPlan → B
     → IsLegalInAnyOrder s controllers → KeepsToPlan plan timing s planned sent held → KeepsQueues plan timing s controllers planned sent
     → AreFramesInAnyOrder timing (frames_asked (asked_of timing plan stays)) s controllers planned (origins_of plan sent) i
 keeps_in_any_order plan timing stays clean tells s controllers planned sent held i single legal keeps queues =
-    keeps_any plan timing stays tells clean s legal.queued_first planned sent held keeps controllers queues i single
+    keeps_any plan timing stays tells clean s legal.queued_first planned sent held keeps controllers queues i
+    (keeps_premises plan timing stays tells clean s legal.queued_first planned sent held keeps i single)

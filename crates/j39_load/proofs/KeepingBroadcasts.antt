@@ -1,5 +1,5 @@
 -- On a bus that keeps to a plan in the plan's own words each unit queues no more frames of long messages to all than its flows want.
-use Rattle.std.proofs.Common.{◌≡◌, ℕ, zero, suc, ◌+◌, ◌*◌, ◌<◌, ◌≤◌, ◌⊎◌, Bool, true, false, ◌&&◌, eqb, leb, ltb, cond, List, [], ◌∷◌, ◌++◌, length, get_or, map, All, Option, Some, None, IfSome}
+use Rattle.std.proofs.Common.{◌≡◌, ℕ, zero, suc, ◌+◌, ◌*◌, ◌<◌, ◌≤◌, ◌⊎◌, Bool, true, false, ◌&&◌, eqb, leb, ltb, cond, List, [], ◌∷◌, length, get_or, map, All, Option, Some, None, IfSome}
 use Rattle.std.proofs.Common.{refl, sym, ap, ◌∙◌, subst, inl, inr, arith}
 use Rattle.std.proofs.lemmas.Bool.{and_parts, cases_Bool, cases_lt, eq-eqb, eqb-true}
 use Rattle.std.proofs.lemmas.List.{get_or-map, get_or_append_left, get_or_past, length-map}
@@ -9,21 +9,16 @@ use Rattle.std.specs.List.{cons_option, slice_get}
 use Rattle.std.specs.Option.{option_and_then}
 use Rattle.j39_id.specs.Limits.{unit_limit}
 use Rattle.j39_network.specs.declared.plan.Plan.{Plan}
-use Rattle.j39_network.specs.declared.plan.flow_plan.FlowPlan.{FlowPlan}
-use Rattle.j39_network.specs.declared.plan.group_plan.GroupPlan.{GroupPlan}
-use Rattle.j39_network.specs.declared.plan.pace.Pace.{Pace}
-use Rattle.j39_network.specs.declared.plan.request_plan.RequestPlan.{RequestPlan}
 use Rattle.j39_network.specs.declared.plan.timing.Timing.{Timing}
 use Rattle.j39_network.specs.declared.plan.unit_plan.UnitPlan.{UnitPlan}
 use Rattle.j39_load.specs.declared.broadcast.Broadcast.{Broadcast}
 use Rattle.j39_load.specs.declared.flow_frames.FlowFrames.{FlowFrames}
 use Rattle.j39_load.specs.Asked.{frames_asked, own_frames, wanting}
 use Rattle.j39_load.specs.Damage.{damage_frames, damage_streams, first_of_all}
-use Rattle.j39_load.specs.Demands.{announcements_demand, demand_by, demands_of, most_packets, packets_demand, want_of, wanted_by, wanted_from, wants_of}
+use Rattle.j39_load.specs.Demands.{announcements_demand, demand_by, demands_of, packets_demand, want_of, wanted_by, wanted_from, wants_of}
 use Rattle.j39_load.specs.KeepsBroadcasts.{IsMessageToAll, KeepsBroadcasts}
 use Rattle.j39_load.specs.KeepsPlan.{place_of}
-use Rattle.j39_load.specs.PlannedFrames.{planned_at}
-use Rattle.j39_load.specs.SentFrames.{Broadcasts, FrameSources, Held, IsBroadcastFrame, IsFrameOf, Source, Single, InSession, Asking, Announcing, Carrying}
+use Rattle.j39_load.specs.SentFrames.{Broadcasts, FrameSources, Held, IsFrameOf, Source, Single, InSession, Asking, Announcing, Carrying}
 use Rattle.j39_load.proofs.AskedPlaces.{flow_read}
 use Rattle.j39_load.proofs.EachFrames.{each_fits}
 use Rattle.j39_load.proofs.KeepingFrames.{IsPaced, of_announcements, of_packets}

@@ -27,7 +27,6 @@ use Rattle.j39_load.specs.SentFrames.{FrameSources, Announcing, Carrying, HasTim
 use Rattle.j39_load.specs.SentFrames.{RequestToSend, Packet, ClearToSend, EndAcknowledged}
 use Rattle.j39_findings.specs.Standing.{TellsWhoStays}
 use Rattle.j39_load.specs.Twins.{is_same}
-use Rattle.j39_load.proofs.DemandLaws.{never_wanted}
 use Rattle.j39_load.proofs.Attempts.{a_window_apart}
 use Rattle.j39_load.proofs.KeepingBroadcasts.{IsCopy, as_wanted}
 use Rattle.j39_load.proofs.KeepingFrames.{IsBelowGreatest, inside_asked}
@@ -387,7 +386,6 @@ module _ (plan : Plan) (timing : Timing) (stays : UnitPlan → Bool) (tells : Te
       let is : s.ident p ≡ 6 * 2 ^ 26 + 59904 * 2 ^ 8 + goes_to (held.address (s.queued p)) one.asked.to * 2 ^ 8 + held.address (s.queued p) one.asked.sender =
       one.identifier (s.queued p) (omega arith, ready) in
       omega (arith, is)
-
   above_zero_of (Announcing u m) moment p ready one = broadcast_above_zero 60416 u m moment p ready one (omega arith) refl
   above_zero_of (Carrying u m k) moment p ready one = broadcast_above_zero 60160 u m moment p ready one.0 (omega arith) refl
 

@@ -1,10 +1,9 @@
 -- What is told of a frame by its source: it is one of the frames that stand at its place among all that a plan asks for.
-use Rattle.std.proofs.Common.{◌≡◌, ℕ, ◌+◌, ◌*◌, ◌^◌, ◌<◌, ◌≤◌, ◌⊎◌, Bool, true, false, ◌||◌, eqb, List, [], ◌∷◌, ◌++◌, length, get_or, map, if◌then◌else◌, max, Option, Some, None}
-use Rattle.std.proofs.Common.{refl, sym, ap, ◌∙◌, subst, inl, inr, arith, option_map}
-use Rattle.std.proofs.lemmas.Bool.{eq-eqb, false≢true, le-leb, lt-leb, or_cases, or_right}
-use Rattle.std.proofs.lemmas.List.{length-append, length-map}
-use Rattle.std.proofs.lemmas.List.FromFn.{length-map-range_with_len}
-use Rattle.std.proofs.lemmas.Option.{same_Some, slice_get-map, slice_get_within}
+use Rattle.std.proofs.Common.{◌≡◌, ℕ, ◌+◌, ◌*◌, ◌^◌, ◌<◌, ◌≤◌, ◌⊎◌, Bool, true, false, ◌||◌, eqb, List, length, get_or, if◌then◌else◌, max, Option, Some, None}
+use Rattle.std.proofs.Common.{refl, sym, ap, ◌∙◌, subst, inl, inr, arith}
+use Rattle.std.proofs.lemmas.Bool.{eq-eqb, false≢true, le-leb, or_cases, or_right}
+use Rattle.std.proofs.lemmas.List.{length-append}
+use Rattle.std.proofs.lemmas.Option.{same_Some, slice_get_within}
 use Rattle.std.specs.Int.{div_ceil}
 use Rattle.std.specs.List.{slice_get}
 use Rattle.std.specs.Option.{option_map_or}
@@ -13,7 +12,6 @@ use Rattle.j39_findings.specs.Standing.{TellsWhoStays}
 use Rattle.j39_network.specs.declared.plan.Plan.{Plan}
 use Rattle.j39_network.specs.declared.plan.flow_plan.FlowPlan.{FlowPlan}
 use Rattle.j39_network.specs.declared.plan.group_plan.GroupPlan.{GroupPlan}
-use Rattle.j39_network.specs.declared.plan.pace.Pace.{Pace}
 use Rattle.j39_network.specs.declared.plan.queue.Queue.{Queue}
 use Rattle.j39_network.specs.declared.plan.queue.Queue.TheVariants.{Any, Priority}
 use Rattle.j39_network.specs.declared.plan.request_plan.RequestPlan.{RequestPlan}
@@ -23,21 +21,18 @@ use Rattle.j39_network.specs.declared.plan.to.To.TheVariants.{All as ToAllUnits,
 use Rattle.j39_network.specs.declared.plan.unit_plan.UnitPlan.{UnitPlan}
 use Rattle.j39_rules.proofs.Members.{all_at}
 use Rattle.j39_load.specs.declared.flow_frames.FlowFrames.{FlowFrames}
-use Rattle.j39_load.specs.declared.flow_load.FlowLoad.{FlowLoad}
-use Rattle.j39_load.specs.declared.messages.Messages.TheVariants.{Short, ToOne}
-use Rattle.j39_load.specs.declared.request_load.RequestLoad.{RequestLoad}
 use Rattle.j39_load.specs.AnyQueues.{are_of_unit}
-use Rattle.j39_load.specs.Asked.{Asked, asked_of, frames_asked, own_frames}
-use Rattle.j39_load.specs.Broadcasts.{broadcasts_by, known_unit_load, unit_loads_of}
+use Rattle.j39_load.specs.Asked.{frames_asked}
+use Rattle.j39_load.specs.Broadcasts.{broadcasts_by}
 use Rattle.j39_load.specs.Damage.{damage_frames}
 use Rattle.j39_load.specs.KeepsPlan.{packets_at, place_of, turn_of, turn_of_part, units_told}
-use Rattle.j39_load.specs.Loads.{any_unit, bits_of_ms, destination_at, flow_load, greatest_address, group_ident, is_any, least_address, load_of_flow, loads_of, long_messages, of_unit, packet_frames, single_frames}
-use Rattle.j39_load.specs.PlannedFrames.{planned_at, traffic_of}
+use Rattle.j39_load.specs.Loads.{any_unit, bits_of_ms, destination_at, greatest_address, group_ident, is_any, least_address, of_unit}
+use Rattle.j39_load.specs.PlannedFrames.{planned_at}
 use Rattle.j39_load.specs.Ranks.{AreHeldApart, AreHeldByPlan, AreUnitsPlanned}
-use Rattle.j39_load.specs.RequestLoads.{load_of_request, request_ident, request_load}
+use Rattle.j39_load.specs.RequestLoads.{request_ident}
 use Rattle.j39_load.specs.SentFrames.{Held, IsFrameOf, IsPart, IsRequestFrame, IsSentBy, IsSentEvery, IsSessionFrame, IsSingleFrame, Part, SendsPart, Source, TakesPart, goes_to, part_identifier}
 use Rattle.j39_load.specs.SentFrames.{Single, InSession, Asking, RequestToSend, Packet, ClearToSend, EndAcknowledged}
-use Rattle.j39_load.proofs.PlacedFrames.{all, announcing_read, asked, carrying_read, fewest, in_request, in_session, own, read, request_frames_read, session_read, traffic, unit_asks, unit_planned, unit_told}
+use Rattle.j39_load.proofs.PlacedFrames.{all, announcing_read, asked, carrying_read, in_request, in_session, own, read, request_frames_read, session_read, unit_asks, unit_planned, unit_told}
 use Rattle.j39_load.proofs.Milliseconds.{within_bits, within_both}
 use Rattle.j39_load.proofs.Ranks as ranks
 use Rattle.j39_load.specs.declared.unit_load.UnitLoad.{UnitLoad}
@@ -50,7 +45,7 @@ use Rattle.j39_timing.specs.declared.stream.Stream.{Stream}
 use Rattle.j39_load.proofs.SessionParts.{one_part, turn_below}
 use Rattle.j39_load.proofs.StreamsBefore.{get_or_inside, with_damage}
 use Rattle.j39_timing.specs.TimedFrames.{Schedule}
-use Rattle.j39_timing.specs.Traffic.{IsQueuedAt, Traffic}
+use Rattle.j39_timing.specs.Traffic.{IsQueuedAt}
 use Rattle.j39_tp.specs.Chunks.{packets_of}
 
 -- ---- queues

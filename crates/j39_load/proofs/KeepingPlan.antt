@@ -185,6 +185,39 @@ module _ (plan : Plan) (timing : Timing) (stays : UnitPlan → Bool) (tells : Te
       (own plan timing stays f one.flow one.pace one.group one.its one.paced one.of)
       (read plan timing stays f one.flow one.pace one.group one.its one.paced one.of one.short)
 
+  -- ---- all of it
+
+  below_greatest : (x : Source) (a b : ℕ) → HasTime x → IsBelowGreatest x a b → a ≤ b
+  below_greatest (Single f) a b timed below = below
+  below_greatest (InSession f part) a b timed below = absurd timed
+  below_greatest (Asking r) a b timed below = absurd timed
+  below_greatest (Announcing u m) a b timed below = below
+  below_greatest (Carrying u m k) a b timed below = below
+
+  -- of frames at a place of which times are promised
+  pub premises_at : (i : ℕ) → ((p : ℕ) → p < s.count → planned p ≡ true → place_of plan (sent.source p) ≡ i → HasTime (sent.source p))
+      → ((p q t : ℕ) → p < s.count → q < s.count → t < s.now → planned p ≡ true
+      → may_share (traffic plan timing stays) i (place_of plan (sent.source p)) ≡ true → IsQueuedAt s p t → IsQueuedAt s q t → s.ident p ≡ s.ident q
+      → (planned q ≡ true) × (may_share (traffic plan timing stays) i (place_of plan (sent.source q)) ≡ true))
+      → AreFramesOfPlan timing (frames_asked (asked_of timing plan stays)) s planned (origins_of plan sent) i
+  premises_at i timed own = record {
+    longest_at_most = λ p in_p. elim (cases_Bool (planned p)) [
+      | inl is ↦ (of_source p in_p is).at_most
+      | inr other ↦ keeps.others_length p in_p other
+    ];
+    of_streams = of_streams;
+    as_wanted = as_wanted;
+    from_least = λ p in_p is. subst (λ (f : FlowFrames). f.least_ident ≤ s.ident p) (sym (at_its_place p in_p is)) (of_source p in_p is).least;
+    to_greatest = λ p in_p is place. subst (λ (k : ℕ). s.ident p ≤ (planned_at (all plan timing stays) k).greatest_ident) place
+        (subst (λ (f : FlowFrames). s.ident p ≤ f.greatest_ident) (sym (at_its_place p in_p is))
+        (below_greatest (sent.source p) (s.ident p) (of_source p in_p is).frames.greatest_ident (timed p in_p is place) (of_source p in_p is).greatest));
+    own_identifier = own;
+    urgency_of_others = keeps.others_priority;
+    few_others = λ p from to in_p is place seen waits wait. keeps.few_others p from to in_p is (timed p in_p is place) seen waits wait;
+  }
+
+  -- ---- of flows each message of which goes in one frame
+
   module _ (i : ℕ) (single : IsSingleFlow plan i) where
     -- no frame of a long message is of the flow, or of a twin
     no_session : (f : ℕ) (part : Part) (moment p : ℕ) → IsSessionFrame plan timing s held f part moment p → may_share (traffic plan timing stays) i f ≡ true → ⊥
@@ -222,9 +255,9 @@ module _ (plan : Plan) (timing : Timing) (stays : UnitPlan → Bool) (tells : Te
         ]
 
     -- and no frame that stands behind the flows and has no twins
-    no_unit : (u : ℕ) (frames : FlowFrames) (j more : ℕ) → get_or (frames_asked (asked_of timing plan stays)) j None ≡ Some frames → frames.twin_ident ≡ None
+    no_unit : (frames : FlowFrames) (j more : ℕ) → get_or (frames_asked (asked_of timing plan stays)) j None ≡ Some frames → frames.twin_ident ≡ None
         → j ≡ 2 * length plan.flows.items + more → may_share (traffic plan timing stays) i j ≡ true → ⊥
-    no_unit u frames j more at none behind shares =
+    no_unit frames j more at none behind shares =
         elim (or_cases (eqb j i) (are_twins (planned_at (all plan timing stays) i) (planned_at (all plan timing stays) j)) shares) [
           | inl same ↦
               let place : j ≡ i = eqb-true j i same in
@@ -241,10 +274,10 @@ module _ (plan : Plan) (timing : Timing) (stays : UnitPlan → Bool) (tells : Te
     of_single (Single f) moment p one shares = (f, refl)
     of_single (InSession f part) moment p one shares = absurd (no_session f part moment p one shares)
     of_single (Asking r) moment p one shares = absurd (no_asking r moment p one shares)
-    of_single (Announcing u m) moment p one shares = absurd (no_unit u (unit_asks plan timing stays sent.broadcasts u m (keeps.broadcasts.messages u m one.known)).announcements
+    of_single (Announcing u m) moment p one shares = absurd (no_unit (unit_asks plan timing stays sent.broadcasts u m (keeps.broadcasts.messages u m one.known)).announcements
         (place_of plan (Announcing u m)) (units_told plan.flows.items plan.units.items + u)
         (announcing_read plan timing stays sent.broadcasts u m (keeps.broadcasts.messages u m one.known)) refl refl shares)
-    of_single (Carrying u m k) moment p one shares = absurd (no_unit u (unit_asks plan timing stays sent.broadcasts u m (keeps.broadcasts.messages u m one.0.known)).packets
+    of_single (Carrying u m k) moment p one shares = absurd (no_unit (unit_asks plan timing stays sent.broadcasts u m (keeps.broadcasts.messages u m one.0.known)).packets
         (place_of plan (Carrying u m k)) u (carrying_read plan timing stays sent.broadcasts u m (keeps.broadcasts.messages u m one.0.known) k) refl refl shares)
 
     -- what has the identifier of such a single frame is of the flow or a twin too
@@ -264,7 +297,6 @@ module _ (plan : Plan) (timing : Timing) (stays : UnitPlan → Bool) (tells : Te
     shared_by f moment p other q t (Asking r) one two at_p at_q same shares =
         absurd (no_request plan timing clean s held t (keeps.held_apart t) f moment p one at_p (s.ident q) two.asked.sender two.asked.to
         (request_made plan timing clean s held t (keeps.held_apart t) r other q two at_q) same)
-
     shared_by f moment p other q t (Announcing u m) one two at_p at_q same shares =
         absurd (no_broadcast plan timing clean s held t (keeps.held_apart t) f moment p one at_p (s.ident q) 60416 u (inl refl)
         (broadcast_made plan timing clean s held t (keeps.held_apart t) sent.broadcasts 60416 u m other q (inl refl) two at_q) same)
@@ -294,24 +326,8 @@ module _ (plan : Plan) (timing : Timing) (stays : UnitPlan → Bool) (tells : Te
         let (f, source) = of_single (sent.source p) (sent.moment p) p (keeps.frames p in_p is) shares in
         source ∙ ap Single (sym (ap (place_of plan) source) ∙ place)
 
-    -- ---- all of it
-
     pub keeps_premises : AreFramesOfPlan timing (frames_asked (asked_of timing plan stays)) s planned (origins_of plan sent) i
-    keeps_premises = record {
-      longest_at_most = λ p in_p. elim (cases_Bool (planned p)) [
-        | inl is ↦ (of_source p in_p is).at_most
-        | inr other ↦ keeps.others_length p in_p other
-      ];
-      of_streams = of_streams;
-      as_wanted = as_wanted;
-      from_least = λ p in_p is. subst (λ (f : FlowFrames). f.least_ident ≤ s.ident p) (sym (at_its_place p in_p is)) (of_source p in_p is).least;
-      to_greatest = λ p in_p is place. subst (λ (k : ℕ). s.ident p ≤ (planned_at (all plan timing stays) k).greatest_ident) place
-          (subst (λ (f : FlowFrames). s.ident p ≤ f.greatest_ident) (sym (at_its_place p in_p is))
-          (subst (λ (x : Source). IsBelowGreatest x (s.ident p) (of_source p in_p is).frames.greatest_ident) (of_flow p in_p is place) (of_source p in_p is).greatest));
-      own_identifier = own_identifier;
-      urgency_of_others = keeps.others_priority;
-      few_others = λ p from to in_p is place seen waits wait. keeps.few_others p from to in_p is (subst HasTime (sym (of_flow p in_p is place)) tt) seen waits wait;
-    }
+    keeps_premises = premises_at i (λ p in_p is place. subst HasTime (sym (of_flow p in_p is place)) tt) own_identifier
 
 pub keeps_in_order : (plan : Plan) (timing : Timing) (stays : UnitPlan → Bool) → Clean plan → TellsWhoStays plan stays
     → (s : Schedule) (planned : ℕ → Bool) (sent : FrameSources) (held : Held) (i : ℕ) → IsSingleFlow plan i → IsLegal s

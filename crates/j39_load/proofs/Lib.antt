@@ -19,6 +19,7 @@ pub mod KeepingBroadcasts
 pub mod KeepingErrors
 pub mod KeepingFrames
 pub mod KeepingPlan
+pub mod KeepingTurns
 pub mod KeptInTime
 pub mod LeastKnown
 pub mod Milliseconds

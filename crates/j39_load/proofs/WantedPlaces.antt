@@ -1,17 +1,16 @@
 -- What is wanted of a unit's broadcasts, by the places of its flows: each flow has a place of its own among what is wanted.
-use Rattle.std.proofs.Common.{◌≡◌, ℕ, zero, suc, ◌+◌, ◌<◌, ◌≤◌, Bool, true, false, List, [], ◌∷◌, ◌++◌, length, get_or, map, min, Option, Some, None}
-use Rattle.std.proofs.Common.{refl, sym, ap, ◌∙◌, subst, inl, inr, arith}
+use Rattle.std.proofs.Common.{◌≡◌, ℕ, zero, suc, ◌+◌, ◌<◌, ◌≤◌, Bool, true, false, List, [], ◌∷◌, length, get_or, Option, Some, None}
+use Rattle.std.proofs.Common.{refl, sym, ap, ◌∙◌, subst, arith}
 use Rattle.std.proofs.lemmas.List.{get_or-append-add, get_or_append_left, length-append}
 use Rattle.std.proofs.lemmas.List.FromFn.{get_or-map-range_with_len, length-map-range_with_len}
-use Rattle.std.proofs.lemmas.Option.{none-some, same_Some, slice_get-get_or}
-use Rattle.std.specs.List.{cons_option, filter_map, range_with_len, slice_get}
+use Rattle.std.proofs.lemmas.Option.{none-some, slice_get-get_or}
+use Rattle.std.specs.List.{cons_option, slice_get}
 use Rattle.j39_id.specs.Limits.{unit_limit}
 use Rattle.j39_network.specs.declared.plan.timing.Timing.{Timing}
 use Rattle.j39_network.specs.declared.plan.unit_plan.UnitPlan.{UnitPlan}
 use Rattle.j39_load.specs.declared.broadcast.Broadcast.{Broadcast}
 use Rattle.j39_load.specs.declared.flow_frames.FlowFrames.{FlowFrames}
 use Rattle.j39_load.specs.declared.flow_load.FlowLoad.{FlowLoad}
-use Rattle.j39_load.specs.declared.unit_load.UnitLoad.{UnitLoad}
 use Rattle.j39_load.specs.Broadcasts.{broadcast_by, broadcasts_by, known_unit_load, least_packets, unit_load}
 use Rattle.j39_load.specs.Demands.{announcements_demand, demand_by, demands_by, demands_of, most_packets, packets_demand, wanted_by, wants_of}
 use Rattle.j39_timing.specs.Waits.{Demand}

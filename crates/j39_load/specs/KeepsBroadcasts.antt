@@ -8,7 +8,7 @@ use Rattle.j39_network.specs.declared.plan.group_plan.GroupPlan.{GroupPlan}
 use Rattle.j39_network.specs.declared.plan.pace.Pace.{Pace}
 use Rattle.j39_network.specs.declared.plan.timing.Timing.{Timing}
 use Rattle.j39_network.specs.declared.plan.to.To.TheVariants.{All}
-use Rattle.j39_load.specs.SentFrames.{Broadcasts, FrameSources, HasPeriodMs, Held, IsMsBehind, IsWithinMs, Announcing, Carrying}
+use Rattle.j39_load.specs.SentFrames.{Broadcasts, FrameSources, HasPeriodMs, Held, IsMsBehind, IsToAllBy, IsWithinMs, Announcing, Carrying}
 use Rattle.j39_timing.specs.Messages.{frame_end}
 use Rattle.j39_timing.specs.TimedFrames.{Schedule}
 use Rattle.j39_timing.specs.Traffic.{PlannedFramesWait}
@@ -61,3 +61,13 @@ pub record KeepsBroadcasts (plan : Plan) (timing : Timing) (s : Schedule) (plann
   pub gaps : (p q u m n j k : ℕ) → p < s.count → q < s.count → p ≢ q → planned p ≡ true → planned q ≡ true → sent.source p ≡ Carrying u m j
       → sent.source q ≡ Carrying u n k → IsMsBehind timing timing.broadcast_gap (s.queued p) (s.queued q)
       ⊎ IsMsBehind timing timing.broadcast_gap (s.queued q) (s.queued p)
+
+-- and what is asked for the times within which these messages are whole
+pub record KeepsTurns (s : Schedule) (planned : ℕ → Bool) (sent : FrameSources) (held : Held) : Type 0 where
+  -- of two such frames of a unit one is queued after the end of the other
+  pub one_by_one : (p q u : ℕ) → p < s.count → q < s.count → p ≢ q → planned p ≡ true → planned q ≡ true → IsToAllBy u (sent.source p)
+      → IsToAllBy u (sent.source q) → (frame_end s p ≤ s.queued q) ⊎ (frame_end s q ≤ s.queued p)
+  -- its unit keeps its address from one of them to another, while planned frames that may go before this one wait without a break
+  pub steady : (p q u : ℕ) → p < s.count → q < s.count → planned p ≡ true → planned q ≡ true → IsToAllBy u (sent.source p)
+      → IsToAllBy u (sent.source q) → s.queued p ≤ s.queued q → PlannedFramesWait s planned (s.ident q) (s.queued p) (s.queued q)
+      → held.address (s.queued p) u ≡ held.address (s.queued q) u

@@ -192,6 +192,14 @@ HasTime (Asking r) = ⊥
 HasTime (Announcing u m) = Unit {0}
 HasTime (Carrying u m k) = Unit {0}
 
+-- it is a frame of a unit's long messages to all
+abbrev pub IsToAllBy : ℕ → Source → Type 0
+IsToAllBy u (Single f) = ⊥
+IsToAllBy u (InSession f part) = ⊥
+IsToAllBy u (Asking r) = ⊥
+IsToAllBy u (Announcing v m) = v ≡ u
+IsToAllBy u (Carrying v m k) = v ≡ u
+
 -- the flow has this period, in milliseconds
 pub record HasPeriodMs (plan : Plan) (f ms : ℕ) : Type 0 where
   pub flow : FlowPlan

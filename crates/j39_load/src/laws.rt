@@ -17,13 +17,15 @@ ghost use Rattle.j39_network.specs.declared.plan.to.To.TheVariants.{One};
 ghost use Rattle.j39_network.specs.declared.plan.unit_plan.UnitPlan.{UnitPlan as PlannedUnits};
 ghost use Rattle.j39_load.specs.declared.delay.Delay.{Delay as Delays};
 ghost use Rattle.j39_load.specs.FreshNeeds.{AreNeedsFresh};
+ghost use Rattle.j39_load.specs.KeepsBroadcasts.{KeepsTurns};
 ghost use Rattle.j39_load.specs.KeepsErrors.{AreInTimeWithErrors, KeepsErrors, origins_with, planned_with};
 ghost use Rattle.j39_load.specs.KeepsPlan.{AreFramesInTime, CanBeKept, IsSingleFlow, KeepsQueues, KeepsToPlan, origins_of};
 ghost use Rattle.j39_load.specs.KeptTogether.{CanBeKeptTogether, CanSendAll};
+ghost use Rattle.j39_load.specs.Delays.{announcements_place, packets_place};
 ghost use Rattle.j39_load.specs.LoadFindings.{AreLoadFindings, AsksOfBus, load_findings};
 ghost use Rattle.j39_load.specs.Loads.{group_ident};
 ghost use Rattle.j39_load.specs.Asked.{asked_of, frames_asked, total_load};
-ghost use Rattle.j39_load.specs.PlannedFrames.{AreAllOrdered, AreDeadlinesKept, AreDelaysBounds, AreFramesInAnyOrder, AreFramesOfPlan, AreShortFlowsBounded, AreTimesBounds, ArePlannedFramesInTime};
+ghost use Rattle.j39_load.specs.PlannedFrames.{AreAllOrdered, AreDeadlinesKept, AreDelaysBounds, AreFramesInAnyOrder, AreFramesOfPlan, AreShortFlowsBounded, AreTimesBounds, ArePlannedFramesInTime, ComeInAnyOrder, ComeInTurn};
 ghost use Rattle.j39_load.specs.Ranks.{AreHeldApart, AreHeldByPlan, AreTwinFlows, AreUnitsPlanned, IsAskedBetween, IsShortFlow, LieBetween, RequestLiesBetween};
 ghost use Rattle.j39_load.specs.ReadInTime.{AreNeedsRead, AreWritten};
 ghost use Rattle.j39_load.specs.RequestLoads.{request_ident};
@@ -100,7 +102,7 @@ pub fn identifiers_lie_between()
 {}
 
 /// A bus that keeps to a clean plan in the plan's own words, whose planned frames are those of flows each message of which goes in one frame, of long
-/// messages to one unit, and of requests, keeps the premises of each delay of a flow of the first kind, where units keep order (`legal`) or don't (`any_order`), and where frames are damaged (`with_errors`): so what
+/// messages to one unit or to all, and of requests, keeps the premises of each delay of a flow of the first kind, where units keep order (`legal`) or don't (`any_order`), and where frames are damaged (`with_errors`): so what
 /// `delays_are_bounds` and `needs_stay_fresh` promise holds of it.
 pub fn frames_that_keep_a_plan()
     ensures legal { (plan : Plans) (timing : Timings) (stays : PlannedUnits → Bool) → Clean plan → TellsWhoStays plan stays
@@ -116,6 +118,25 @@ pub fn frames_that_keep_a_plan()
         → KeepsToPlan plan timing s planned sent held → KeepsErrors timing rate s d planned sent → IsSingleFlow plan i
         → AreFramesOfPlan timing (frames_asked (asked_of timing plan stays)) (with_errors s d) (planned_with s planned)
         (origins_with plan s d rate (length (frames_asked (asked_of timing plan stays))) sent) i }
+{}
+
+/// On such a bus the long messages to all of each unit that sends some come in turn, as the times within which they are whole ask for, where the unit
+/// queues each frame of them after the end of the one before and keeps its address meanwhile, whether units keep order (`legal`) or don't
+/// (`any_order`).
+pub fn broadcasts_that_keep_a_plan()
+    ensures legal { (plan : Plans) (timing : Timings) (stays : PlannedUnits → Bool) → Clean plan → TellsWhoStays plan stays
+        → (s : Schedule) (planned : ℕ → Bool) (sent : FrameSources) (held : Held) (u m : ℕ) → m < sent.broadcasts.count u → IsLegal s
+        → KeepsToPlan plan timing s planned sent held → KeepsTurns s planned sent held
+        → ComeInTurn timing (frames_asked (asked_of timing plan stays)) s planned (origins_of plan sent) (announcements_place (asked_of timing plan stays) u)
+        × ComeInTurn timing (frames_asked (asked_of timing plan stays)) s planned (origins_of plan sent) (packets_place (asked_of timing plan stays) u) }
+    ensures any_order { (plan : Plans) (timing : Timings) (stays : PlannedUnits → Bool) → Clean plan → TellsWhoStays plan stays
+        → (s : Schedule) (controllers : Controllers) (planned : ℕ → Bool) (sent : FrameSources) (held : Held) (u m : ℕ) → m < sent.broadcasts.count u
+        → IsLegalInAnyOrder s controllers → KeepsToPlan plan timing s planned sent held → KeepsQueues plan timing s controllers planned sent
+        → KeepsTurns s planned sent held
+        → ComeInAnyOrder timing (frames_asked (asked_of timing plan stays)) s controllers planned (origins_of plan sent)
+        (announcements_place (asked_of timing plan stays) u)
+        × ComeInAnyOrder timing (frames_asked (asked_of timing plan stays)) s controllers planned (origins_of plan sent)
+        (packets_place (asked_of timing plan stays) u) }
 {}
 
 /// And a bus can keep to a plan in its own words: where no two units have one planned address, each flow whose messages go in one frame and that
