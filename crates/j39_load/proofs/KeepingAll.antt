@@ -1,9 +1,9 @@
--- A bus can keep to a plan in the plan's own words on which a single frame is sent, a request, and a long message to one unit, one frame behind the
--- other.
-use Rattle.std.proofs.Common.{◌≡◌, ℕ, zero, suc, ◌+◌, ◌*◌, ◌^◌, ◌<◌, ◌≤◌, Bool, true, not, if◌then◌else◌, ltb, length, Option, Some}
+-- A bus can keep to a plan in the plan's own words on which a single frame is sent, a request, a long message to one unit and one to all, one frame
+-- behind the other.
+use Rattle.std.proofs.Common.{◌≡◌, ℕ, zero, suc, ◌+◌, ◌*◌, ◌^◌, ◌<◌, ◌≤◌, Bool, true, not, if◌then◌else◌, ltb, length, Option, Some, eqb, cond, ◌-◌, false}
 use Rattle.std.proofs.Common.{refl, sym, ap, ◌∙◌, subst, inl, inr, arith}
-use Rattle.std.proofs.Math.Nat.{mul-le-mul_right}
-use Rattle.std.proofs.lemmas.Bool.{cases_lt, le-ltb, lt-ltb, true≢false}
+use Rattle.std.proofs.Math.Nat.{mul-le-mul_left, mul-le-mul_right}
+use Rattle.std.proofs.lemmas.Bool.{cases_eq, cases_lt, eq-eqb, eqb-true, le-ltb, lt-ltb, true≢false}
 use Rattle.std.proofs.lemmas.Option.{same_Some, slice_get_within}
 use Rattle.std.specs.List.{slice_get}
 use Rattle.std.specs.Option.{option_map_or}
@@ -21,11 +21,12 @@ use Rattle.j39_network.specs.declared.plan.to.To.{To}
 use Rattle.j39_network.specs.declared.plan.to.To.TheVariants.{All, One}
 use Rattle.j39_network.specs.declared.plan.unit_plan.UnitPlan.{UnitPlan}
 use Rattle.j39_rules.proofs.Members.{all_at}
+use Rattle.j39_load.specs.KeepsBroadcasts.{KeepsBroadcasts, KeepsTurns}
 use Rattle.j39_load.specs.KeepsPlan.{KeepsQueues, KeepsToPlan}
 use Rattle.j39_load.specs.KeptTogether.{CanSendAll, IsSentOn}
-use Rattle.j39_load.specs.Loads.{is_any}
+use Rattle.j39_load.specs.Loads.{bits_per_ms, is_any}
 use Rattle.j39_load.specs.Ranks.{AreHeldApart}
-use Rattle.j39_load.specs.SentFrames.{FrameSources, Held, IsFrameOf, IsPart, IsSentBy, IsRequestFrame, IsSessionFrame, IsSingleFrame, Part, SendsPart, Source, bit_time, goes_to, part_identifier}
+use Rattle.j39_load.specs.SentFrames.{Broadcasts, IsBroadcastFrame, FrameSources, Held, IsFrameOf, IsPart, IsSentBy, IsRequestFrame, IsSessionFrame, IsSingleFrame, Part, SendsPart, Source, bit_time, goes_to, part_identifier}
 use Rattle.j39_load.specs.SentFrames.{Announcing, Carrying, Single, InSession, Asking, RequestToSend, Packet, ClearToSend, EndAcknowledged}
 use Rattle.j39_load.proofs.KeepingApart as alone
 use Rattle.j39_load.proofs.KeepingFrames.{one_to}
@@ -36,56 +37,78 @@ use Rattle.j39_world.specs.HeldAddresses.{ArePlannedApart}
 
 -- ---- frames one behind the other, none of which waits
 
-abbrev slots : ℕ → (ℕ → ℕ) → Schedule
-slots n ident = record {
+abbrev slots : ℕ → ℕ → (ℕ → ℕ) → Schedule
+slots width n ident = record {
   count = n;
-  queued = λ p. p * 160;
-  start = λ p. p * 160;
+  queued = λ p. p * width;
+  start = λ p. p * width;
   bits = λ p. 80;
   ident = ident;
-  now = n * 160;
+  now = n * width;
 }
 
-slots_legal : (n : ℕ) (ident : ℕ → ℕ) → IsLegal (slots n ident)
-slots_legal n ident = record {
+-- one slot has ended where the next one begins
+ends_before : (width p q : ℕ) → p < q → p * width + width ≤ q * width
+ends_before width p q less = let most : width * (p + 1) ≤ width * q = mul-le-mul_left width (omega (arith, less)) in omega (arith, most)
+
+one_slot : (width p q t : ℕ) → 80 ≤ width → (p * width ≤ t) × (t < p * width + 80) → (q * width ≤ t) × (t < q * width + 80) → p ≡ q
+one_slot width p q t wide on_p on_q =
+    let (a, b) = on_p in
+    let (c, d) = on_q in
+    elim (cases_lt p q) [
+      | inl less ↦ absurd (let far = ends_before width p q less in omega (arith, far, wide, b, c))
+      | inr more ↦ elim (cases_eq p q) [
+        | inl same ↦ same
+        | inr other ↦ absurd (let far = ends_before width q p (omega (arith, more, other)) in omega (arith, far, wide, a, d))
+      ]
+    ]
+
+slots_legal : (width n : ℕ) (ident : ℕ → ℕ) → 80 ≤ width → IsLegal (slots width n ident)
+slots_legal width n ident wide = record {
   positive = λ p in_p. omega arith;
   queued_first = λ p in_p. omega arith;
-  alone = λ p q t in_p in_q seen on_p on_q.
-      let (a, b) = on_p in let (c, d) = on_q in omega (arith, a, b, c, d);
+  alone = λ p q t in_p in_q seen on_p on_q. one_slot width p q t wide on_p on_q;
   never_idle = λ p t in_p seen waits. absurd (let (a, b) = waits in omega (arith, a, b));
   in_order = λ p q in_p in_q seen waits. absurd (let (a, b) = waits in omega (arith, a, b));
 }
 
-slots_any_order : (n : ℕ) (ident : ℕ → ℕ) (controllers : Controllers) → IsLegalInAnyOrder (slots n ident) controllers
-slots_any_order n ident controllers = record {
+slots_any_order : (width n : ℕ) (ident : ℕ → ℕ) (controllers : Controllers) → 80 ≤ width → IsLegalInAnyOrder (slots width n ident) controllers
+slots_any_order width n ident controllers wide = record {
   positive = λ p in_p. omega arith;
   queued_first = λ p in_p. omega arith;
-  alone = λ p q t in_p in_q seen on_p on_q.
-      let (a, b) = on_p in let (c, d) = on_q in omega (arith, a, b, c, d);
+  alone = λ p q t in_p in_q seen on_p on_q. one_slot width p q t wide on_p on_q;
   never_idle = λ p t in_p seen waits. absurd (let (a, b) = waits in omega (arith, a, b));
   in_order = λ p q in_p in_q seen waits. absurd (let (a, b) = waits in omega (arith, a, b));
 }
 
 -- ---- what is sent in a slot
 
--- the single frame, the request, or a part of the long message
+-- the single frame, the request, a part of the long message to one unit, or of the one to all the announcement or a packet
 data Choice : Type 0 where
   Alone : Choice
   Asks : Choice
   Carries : Part → Choice
+  Announces : Choice
+  Sends : ℕ → Choice
 
--- in this order: the single frame, the request, the request to send, the clear to send, the packets, and the acknowledgement
+-- behind the first five slots come the packets to one unit, the acknowledgement, and the packets to all
+abbrev last_choice : ℕ → ℕ → Choice
+last_choice packets k = if ltb k packets then Carries (Packet k) else (if ltb k (packets + 1) then Carries EndAcknowledged else Sends (k - (packets + 1)))
+
 abbrev choice : ℕ → ℕ → Choice
 choice packets zero = Alone
 choice packets (suc zero) = Asks
 choice packets (suc (suc zero)) = Carries RequestToSend
 choice packets (suc (suc (suc zero))) = Carries (ClearToSend 0)
-choice packets (suc (suc (suc (suc k)))) = if ltb k packets then Carries (Packet k) else Carries EndAcknowledged
+choice packets (suc (suc (suc (suc zero)))) = Announces
+choice packets (suc (suc (suc (suc (suc k))))) = last_choice packets k
 
-abbrev source_of : ℕ → ℕ → ℕ → Choice → Source
-source_of f g r Alone = Single f
-source_of f g r Asks = Asking r
-source_of f g r (Carries part) = InSession g part
+abbrev source_of : ℕ → ℕ → ℕ → ℕ → Choice → Source
+source_of f g r w Alone = Single f
+source_of f g r w Asks = Asking r
+source_of f g r w (Carries part) = InSession g part
+source_of f g r w Announces = Announcing w 0
+source_of f g r w (Sends k) = Carrying w 0 k
 
 -- the slot of a source
 abbrev slot_of : ℕ → Source → ℕ
@@ -93,20 +116,27 @@ slot_of packets (Single f) = 0
 slot_of packets (Asking r) = 1
 slot_of packets (InSession g RequestToSend) = 2
 slot_of packets (InSession g (ClearToSend k)) = 3
-slot_of packets (InSession g (Packet k)) = 4 + k
-slot_of packets (InSession g EndAcknowledged) = 4 + packets
-slot_of packets (Announcing u m) = 0
-slot_of packets (Carrying u m k) = 0
+slot_of packets (InSession g (Packet k)) = 5 + k
+slot_of packets (InSession g EndAcknowledged) = 5 + packets
+slot_of packets (Announcing w m) = 4
+slot_of packets (Carrying w m k) = 6 + (packets + k)
 
-slot_told : (packets f g r p : ℕ) → p < 5 + packets → slot_of packets (source_of f g r (choice packets p)) ≡ p
-slot_told packets f g r zero below = refl
-slot_told packets f g r (suc zero) below = refl
-slot_told packets f g r (suc (suc zero)) below = refl
-slot_told packets f g r (suc (suc (suc zero))) below = refl
-slot_told packets f g r (suc (suc (suc (suc k)))) below = elim (cases_lt k packets) [
-  | inl less ↦ rw (lt-ltb k packets less) (omega arith)
-  | inr more ↦ rw (le-ltb k packets more) (omega (arith, more, below))
+last_slot : (packets f g r w k : ℕ) → slot_of packets (source_of f g r w (last_choice packets k)) ≡ 5 + k
+last_slot packets f g r w k = elim (cases_lt k packets) [
+  | inl less ↦ rw (lt-ltb k packets less) refl
+  | inr more ↦ elim (cases_lt k (packets + 1)) [
+    | inl one ↦ rw (le-ltb k packets more, lt-ltb k (packets + 1) one) (omega (arith, more, one))
+    | inr rest ↦ rw (le-ltb k packets more, le-ltb k (packets + 1) rest) (omega (arith, rest))
+  ]
 ]
+
+slot_told : (packets f g r w p : ℕ) → slot_of packets (source_of f g r w (choice packets p)) ≡ p
+slot_told packets f g r w zero = refl
+slot_told packets f g r w (suc zero) = refl
+slot_told packets f g r w (suc (suc zero)) = refl
+slot_told packets f g r w (suc (suc (suc zero))) = refl
+slot_told packets f g r w (suc (suc (suc (suc zero)))) = refl
+slot_told packets f g r w (suc (suc (suc (suc (suc k))))) = last_slot packets f g r w k ∙ omega arith
 
 module _ (plan : Plan) (timing : Timing) (apart : ArePlannedApart (units_of plan)) (f : ℕ) (flow : FlowPlan) (pace : Pace) (group : GroupPlan)
     (its : slice_get plan.flows.items f ≡ Some flow) (paced : flow.pace ≡ Some pace) (of : slice_get plan.groups.items flow.group ≡ Some group)
@@ -115,7 +145,10 @@ module _ (plan : Plan) (timing : Timing) (apart : ArePlannedApart (units_of plan
     (second_is : slice_get plan.groups.items other.group ≡ Some second) (long : 8 < second.most) (v : ℕ) (to_one : other.to ≡ One v)
     (unit : UnitPlan) (receiver_is : slice_get plan.units.items v ≡ Some unit) (r : ℕ) (asked : RequestPlan) (ms : ℕ)
     (asked_is : slice_get plan.requests.items r ≡ Some asked) (asked_paced : asked.period ≡ Some ms) (packets : ℕ) (few : 7 * packets < second.most + 7)
-    (fits : (5 + packets) * 160 * bit_time timing.bitrate ≤ 1000 * its_pace.period) where
+    (h : ℕ) (to_all : FlowPlan) (h_pace : Pace) (third : GroupPlan) (h_is : slice_get plan.flows.items h ≡ Some to_all) (h_paced : to_all.pace ≡ Some h_pace)
+    (third_is : slice_get plan.groups.items to_all.group ≡ Some third) (h_long : 8 < third.most) (goes_to_all : to_all.to ≡ All) (more : ℕ) (two : 2 ≤ more)
+    (shortest : third.length ≤ 7 * more) (longest : 7 * more < third.most + 7)
+    (fits : (6 + (packets + more)) * (160 + timing.broadcast_gap * bits_per_ms timing.bitrate) * bit_time timing.bitrate ≤ 1000 * its_pace.period) where
   abbrev address : ℕ → ℕ
   address = alone.address plan timing apart f flow pace group its paced of short 0
 
@@ -125,28 +158,51 @@ module _ (plan : Plan) (timing : Timing) (apart : ArePlannedApart (units_of plan
   abbrev u : ℕ
   u = other.sender
 
-  on_where : (w : ℕ) → w < length plan.units.items → ltb w (length plan.units.items) ≡ true
-  on_where w below = lt-ltb w (length plan.units.items) below
+  -- the unit that sends to all
+  abbrev w : ℕ
+  w = to_all.sender
+
+  -- a slot has room for a frame and a gap
+  abbrev width : ℕ
+  width = 160 + timing.broadcast_gap * bits_per_ms timing.bitrate
+
+  on_where : (x : ℕ) → x < length plan.units.items → ltb x (length plan.units.items) ≡ true
+  on_where x below = lt-ltb x (length plan.units.items) below
 
   abbrev ident_of : Choice → ℕ
   ident_of Alone = identifier_of group.priority group.pgn (goes_to address flow.to) (address flow.sender)
   ident_of Asks = identifier_of 6 59904 (goes_to address asked.to) (address asked.sender)
   ident_of (Carries part) = part_identifier timing part (address u) (address v)
+  ident_of Announces = identifier_of timing.transport_priority 60416 255 (address w)
+  ident_of (Sends k) = identifier_of timing.transport_priority 60160 255 (address w)
 
   abbrev n : ℕ
-  n = 5 + packets
+  n = 6 + (packets + more)
 
   abbrev bus : Schedule
-  bus = slots n (λ p. ident_of (choice packets p))
+  bus = slots width n (λ p. ident_of (choice packets p))
+
+  -- one message to all
+  abbrev messages_to_all : Broadcasts
+  messages_to_all = record {
+    count = λ x. cond (eqb x w) 1 0;
+    flow = λ x m. h;
+    moment = λ x m. 4 * width;
+    wanted = λ x m. 4 * width;
+    announced = λ x m. 4 * width;
+    packets = λ x m. more;
+  }
 
   -- a single frame and a request have their moments where they are queued, the long message where it begins
   abbrev moment_of : ℕ → Choice → ℕ
-  moment_of p Alone = p * 160
-  moment_of p Asks = p * 160
+  moment_of p Alone = p * width
+  moment_of p Asks = p * width
   moment_of p (Carries part) = 0
+  moment_of p Announces = p * width
+  moment_of p (Sends k) = p * width
 
   abbrev sent : FrameSources
-  sent = record { source = λ p. source_of f g r (choice packets p); moment = λ p. moment_of p (choice packets p); broadcasts = alone.no_broadcasts }
+  sent = record { source = λ p. source_of f g r w (choice packets p); moment = λ p. moment_of p (choice packets p); broadcasts = messages_to_all }
 
   sends : other.sender < length plan.units.items
   sends = all_at (λ (h : FlowPlan). h.sender < length plan.units.items) plan.flows.items plan.flow_senders g other other_is
@@ -163,7 +219,7 @@ module _ (plan : Plan) (timing : Timing) (apart : ArePlannedApart (units_of plan
 
   -- ---- each frame
 
-  single : (p : ℕ) → bus.ident p ≡ ident_of Alone → IsSingleFrame plan timing bus held f (p * 160) p
+  single : (p : ℕ) → bus.ident p ≡ ident_of Alone → IsSingleFrame plan timing bus held f (p * width) p
   single p is = record {
     flow = flow;
     its = its;
@@ -180,7 +236,7 @@ module _ (plan : Plan) (timing : Timing) (apart : ArePlannedApart (units_of plan
     identifier = λ t queued. is;
   }
 
-  request : (p : ℕ) → bus.ident p ≡ ident_of Asks → IsRequestFrame plan bus held r (p * 160) p
+  request : (p : ℕ) → bus.ident p ≡ ident_of Asks → IsRequestFrame plan bus held r (p * width) p
   request p is = record {
     asked = asked;
     its = asked_is;
@@ -193,11 +249,25 @@ module _ (plan : Plan) (timing : Timing) (apart : ArePlannedApart (units_of plan
     identifier = λ t queued. is;
   }
 
-  in_time : (p : ℕ) → p < n → p * 160 * bit_time timing.bitrate ≤ 0 * bit_time timing.bitrate + 1000 * (its_pace.period + its_pace.jitter)
+  in_time : (p : ℕ) → p < n → p * width * bit_time timing.bitrate ≤ 0 * bit_time timing.bitrate + 1000 * (its_pace.period + its_pace.jitter)
   in_time p below =
-      let most : p * 160 * bit_time timing.bitrate ≤ (5 + packets) * 160 * bit_time timing.bitrate =
-      mul-le-mul_right (bit_time timing.bitrate) (omega (arith, below)) in
+      let slots : p * width ≤ n * width = mul-le-mul_right width (omega (arith, below)) in
+      let most : p * width * bit_time timing.bitrate ≤ n * width * bit_time timing.bitrate = mul-le-mul_right (bit_time timing.bitrate) slots in
       omega (arith, most, fits)
+
+  sends_to_all : w < length plan.units.items
+  sends_to_all = all_at (λ (y : FlowPlan). y.sender < length plan.units.items) plan.flows.items plan.flow_senders h to_all h_is
+
+  -- the announcement, or a packet
+  to_each : (p number : ℕ) → bus.ident p ≡ identifier_of timing.transport_priority number 255 (address w)
+      → IsBroadcastFrame timing bus held messages_to_all number w 0 (p * width) p
+  to_each p number is = record {
+    known = subst (λ (x : Bool). 0 < cond x 1 0) (sym (eq-eqb w w refl)) (omega arith);
+    length = omega arith;
+    at_once = refl;
+    sender_on = λ t queued. on_where w sends_to_all;
+    identifier = λ t queued. is;
+  }
 
   part : (p : ℕ) (x : Part) → p < n → bus.ident p ≡ ident_of (Carries x) → IsPart second.most unit.window x → IsSessionFrame plan timing bus held g x 0 p
   part p x below is has = record {
@@ -226,43 +296,105 @@ module _ (plan : Plan) (timing : Timing) (apart : ArePlannedApart (units_of plan
   Has Alone = Unit {0}
   Has Asks = Unit {0}
   Has (Carries x) = IsPart second.most unit.window x
+  Has Announces = Unit {0}
+  Has (Sends k) = k < more
 
-  chosen : (p : ℕ) → Has (choice packets p)
-  chosen zero = tt
-  chosen (suc zero) = tt
-  chosen (suc (suc zero)) = tt
-  chosen (suc (suc (suc zero))) = omega (arith, long)
-  chosen (suc (suc (suc (suc k)))) = elim (cases_lt k packets) [
-    | inl less ↦ subst (λ (b : Bool). Has (if b then Carries (Packet k) else Carries EndAcknowledged)) (sym (lt-ltb k packets less)) (omega (arith, less, few))
-    | inr more ↦ subst (λ (b : Bool). Has (if b then Carries (Packet k) else Carries EndAcknowledged)) (sym (le-ltb k packets more)) tt
+  last_chosen : (k : ℕ) → 5 + k < n → Has (last_choice packets k)
+  last_chosen k below = elim (cases_lt k packets) [
+    | inl less ↦ subst (λ (b : Bool). Has (if b then Carries (Packet k) else (if ltb k (packets + 1) then Carries EndAcknowledged else Sends (k - (packets + 1)))))
+        (sym (lt-ltb k packets less)) (omega (arith, less, few))
+    | inr past ↦ subst (λ (b : Bool). Has (if b then Carries (Packet k) else (if ltb k (packets + 1) then Carries EndAcknowledged else Sends (k - (packets + 1)))))
+        (sym (le-ltb k packets past)) (elim (cases_lt k (packets + 1)) [
+          | inl one ↦ subst (λ (b : Bool). Has (if b then Carries EndAcknowledged else Sends (k - (packets + 1)))) (sym (lt-ltb k (packets + 1) one)) tt
+          | inr rest ↦ subst (λ (b : Bool). Has (if b then Carries EndAcknowledged else Sends (k - (packets + 1)))) (sym (le-ltb k (packets + 1) rest))
+              (omega (arith, rest, below))
+        ])
   ]
 
-  frame : (p : ℕ) (c : Choice) → p < n → bus.ident p ≡ ident_of c → Has c → IsFrameOf plan timing bus held alone.no_broadcasts (source_of f g r c) (moment_of p c) p
+  chosen : (p : ℕ) → p < n → Has (choice packets p)
+  chosen zero below = tt
+  chosen (suc zero) below = tt
+  chosen (suc (suc zero)) below = tt
+  chosen (suc (suc (suc zero))) below = omega (arith, long)
+  chosen (suc (suc (suc (suc zero)))) below = tt
+  chosen (suc (suc (suc (suc (suc k))))) below = last_chosen k (omega (arith, below))
+
+  frame : (p : ℕ) (c : Choice) → p < n → bus.ident p ≡ ident_of c → Has c → IsFrameOf plan timing bus held messages_to_all (source_of f g r w c) (moment_of p c) p
   frame p Alone below is has = single p is
   frame p Asks below is has = request p is
   frame p (Carries x) below is has = part p x below is has
+  frame p Announces below is has = to_each p 60416 is
+  frame p (Sends k) below is has = (to_each p 60160 is, has)
 
   held_apart : (t : ℕ) → AreHeldApart (held.on t) (held.address t)
   held_apart t = alone.held_apart plan timing apart f flow pace group its paced of short 0 t
 
-  never_announced : (c : Choice) (w m : ℕ) → source_of f g r c ≡ Announcing w m → ⊥
-  never_announced Alone w m same = let told = same in cc
-  never_announced Asks w m same = let told = same in cc
-  never_announced (Carries x) w m same = let told = same in cc
+  -- ---- the message to all
 
-  never_carried : (c : Choice) (w m k : ℕ) → source_of f g r c ≡ Carrying w m k → ⊥
-  never_carried Alone w m k same = let told = same in cc
-  never_carried Asks w m k same = let told = same in cc
-  never_carried (Carries x) w m k same = let told = same in cc
+  same_slot : (p q : ℕ) → sent.source p ≡ sent.source q → p ≡ q
+  same_slot p q same = sym (slot_told packets f g r w p) ∙ (ap (slot_of packets) same ∙ slot_told packets f g r w q)
+
+  only_message : (x m : ℕ) → m < messages_to_all.count x → (m ≡ 0) × (x ≡ w)
+  only_message x m below = go (eqb x w) refl below
+    where
+      go : (b : Bool) → eqb x w ≡ b → m < cond b 1 0 → (m ≡ 0) × (x ≡ w)
+      go true is below = (omega (arith, below), eqb-true x w is)
+      go false is below = absurd (omega (arith, below))
+
+  never_two : (x m k : ℕ) → m < k → k < messages_to_all.count x → ⊥
+  never_two x m k less below = let none = (only_message x k below).0 in omega (arith, less, none)
+
+  broadcasts : KeepsBroadcasts plan timing bus all_planned sent
+  broadcasts = record {
+    messages = λ x m below. record {
+      flow = to_all;
+      its = h_is;
+      from = sym (only_message x m below).1;
+      to_all = goes_to_all;
+      pace = h_pace;
+      paced = h_paced;
+      group = third;
+      of = third_is;
+      long = h_long;
+      two = two;
+      shortest = shortest;
+      longest = longest;
+      moment_first = omega arith;
+      late_at_most = omega arith;
+      wanted_first = omega arith;
+    };
+    apart = λ x m k ms pair. absurd (never_two x m k pair.0 pair.1);
+    one_waits = λ x m k pair. absurd (never_two x m k pair.0 pair.1);
+    in_turn = λ x m k less below. absurd (never_two x m k less below);
+    announced = λ p x m in_p is source. ap (λ (k : ℕ). k * width) (sym (slot_told packets f g r w p) ∙ ap (slot_of packets) source);
+    once = λ p q x m in_p in_q is_p is_q first second. same_slot p q (first ∙ sym second);
+    carried = λ p q x m k in_p in_q is_p is_q first second. same_slot p q (first ∙ sym second);
+    behind = λ p x m k in_p is source.
+        let slot : p ≡ 6 + (packets + k) = sym (slot_told packets f g r w p) ∙ ap (slot_of packets) source in
+        mul-le-mul_right width (omega (arith, slot));
+    before = λ p x m k later in_p is source less below. absurd (never_two x m later less below);
+    gaps = λ p q x m later j k in_p in_q other is_p is_q first second. elim (cases_lt p q) [
+      | inl less ↦ inl (alone.in_ms_behind timing.bitrate timing.broadcast_gap (p * width) (q * width) (let far = ends_before width p q less in omega (arith, far)))
+      | inr past ↦ inr (alone.in_ms_behind timing.bitrate timing.broadcast_gap (q * width) (p * width)
+          (let far = ends_before width q p (omega (arith, past, other)) in omega (arith, far)))
+    ];
+  }
+
+  turns : KeepsTurns bus all_planned sent held
+  turns = record {
+    one_by_one = λ p q x in_p in_q other is_p is_q first second. elim (cases_lt p q) [
+      | inl less ↦ inl (let far = ends_before width p q less in omega (arith, far))
+      | inr past ↦ inr (let far = ends_before width q p (omega (arith, past, other)) in omega (arith, far))
+    ];
+    steady = λ p q x in_p in_q is_p is_q first second before waits. refl;
+  }
 
   keeps : KeepsToPlan plan timing bus all_planned sent held
   keeps = record {
-    frames = λ p in_p is. frame p (choice packets p) in_p refl (chosen p);
-    apart = λ p q ms in_p in_q differ is_p is_q same every.
-        absurd (differ (sym (slot_told packets f g r p in_p) ∙ (ap (slot_of packets) same ∙ slot_told packets f g r q in_q)));
-    broadcasts = alone.none_sent plan timing bus all_planned sent (λ w. refl) (λ p w m same. never_announced (choice packets p) w m same)
-        (λ p w m k same. never_carried (choice packets p) w m k same);
-    held_by_plan = λ t w below. inl refl;
+    frames = λ p in_p is. frame p (choice packets p) in_p refl (chosen p in_p);
+    apart = λ p q ms in_p in_q differ is_p is_q same every. absurd (differ (same_slot p q same));
+    broadcasts = broadcasts;
+    held_by_plan = λ t x below. inl refl;
     held_apart = held_apart;
     others_length = λ p in_p is. absurd (true≢false is);
     others_priority = λ p in_p is. absurd (true≢false is);
@@ -282,6 +414,8 @@ module _ (plan : Plan) (timing : Timing) (apart : ArePlannedApart (units_of plan
   sender_of Alone = flow.sender
   sender_of Asks = asked.sender
   sender_of (Carries x) = sender_of_part x
+  sender_of Announces = w
+  sender_of (Sends k) = w
 
   abbrev controllers : Controllers
   controllers = record {
@@ -289,16 +423,18 @@ module _ (plan : Plan) (timing : Timing) (apart : ArePlannedApart (units_of plan
     keeps_order = λ w. option_map_or (λ (x : UnitPlan). not (is_any x.queue)) (slice_get plan.units.items w) true;
   }
 
-  by_part : (x : Part) (w : ℕ) (h : FlowPlan) → other ≡ h → SendsPart h x w → sender_of_part x ≡ w
-  by_part RequestToSend w h same sends = ap (λ (y : FlowPlan). y.sender) same ∙ sends
-  by_part (Packet k) w h same sends = ap (λ (y : FlowPlan). y.sender) same ∙ sends
-  by_part (ClearToSend k) w h same sends = one_to v w (sym to_one ∙ (ap (λ (y : FlowPlan). y.to) same ∙ sends))
-  by_part EndAcknowledged w h same sends = one_to v w (sym to_one ∙ (ap (λ (y : FlowPlan). y.to) same ∙ sends))
+  by_part : (x : Part) (z : ℕ) (y : FlowPlan) → other ≡ y → SendsPart y x z → sender_of_part x ≡ z
+  by_part RequestToSend z y same sends = ap (λ (a : FlowPlan). a.sender) same ∙ sends
+  by_part (Packet k) z y same sends = ap (λ (a : FlowPlan). a.sender) same ∙ sends
+  by_part (ClearToSend k) z y same sends = one_to v z (sym to_one ∙ (ap (λ (a : FlowPlan). a.to) same ∙ sends))
+  by_part EndAcknowledged z y same sends = one_to v z (sym to_one ∙ (ap (λ (a : FlowPlan). a.to) same ∙ sends))
 
-  sent_by : (c : Choice) (w : ℕ) → IsSentBy plan (source_of f g r c) w → sender_of c ≡ w
-  sent_by Alone w (h, at, is) = ap (λ (y : FlowPlan). y.sender) (same_Some _ _ (sym its ∙ at)) ∙ is
-  sent_by Asks w (d, at, is) = ap (λ (y : RequestPlan). y.sender) (same_Some _ _ (sym asked_is ∙ at)) ∙ is
-  sent_by (Carries x) w (h, at, is) = by_part x w h (same_Some _ _ (sym other_is ∙ at)) is
+  sent_by : (c : Choice) (z : ℕ) → IsSentBy plan (source_of f g r w c) z → sender_of c ≡ z
+  sent_by Alone z (y, at, is) = ap (λ (a : FlowPlan). a.sender) (same_Some _ _ (sym its ∙ at)) ∙ is
+  sent_by Asks z (d, at, is) = ap (λ (a : RequestPlan). a.sender) (same_Some _ _ (sym asked_is ∙ at)) ∙ is
+  sent_by (Carries x) z (y, at, is) = by_part x z y (same_Some _ _ (sym other_is ∙ at)) is
+  sent_by Announces z is = is
+  sent_by (Sends k) z is = is
 
   few_address : (w : ℕ) → w < length plan.units.items → address w ≤ 255
   few_address w below = let low = (held_apart 0).range w (on_where w below) in omega (arith, low)
@@ -323,6 +459,8 @@ module _ (plan : Plan) (timing : Timing) (apart : ArePlannedApart (units_of plan
       let is : ident_of Asks ≡ 6 * 2 ^ 26 + 59904 * 2 ^ 8 + goes_to address asked.to * 2 ^ 8 + address asked.sender = refl in
       omega (arith, a, b, is)
   ident_few (Carries x) = part_few x
+  ident_few Announces = let a = few_address w sends_to_all in let top = timing.transport_priority_range in omega (arith, a, top)
+  ident_few (Sends k) = let a = few_address w sends_to_all in let top = timing.transport_priority_range in omega (arith, a, top)
 
   queues : KeepsQueues plan timing bus controllers all_planned sent
   queues = record {
@@ -334,31 +472,50 @@ module _ (plan : Plan) (timing : Timing) (apart : ArePlannedApart (units_of plan
     few_unplanned = λ p from to w unit in_p is takes at any seen waits wait. absurd (let (behind, before) = waits in omega (arith, behind, before));
   }
 
-  carries : (k : ℕ) → k < packets → IsSentOn bus sent (InSession g (Packet k))
-  carries k below = (suc (suc (suc (suc k))), omega (arith, below), told k below, omega (arith, below))
-    where
-      told : (k : ℕ) → k < packets → source_of f g r (choice packets (suc (suc (suc (suc k))))) ≡ InSession g (Packet k)
-      told k below = ap (λ (b : Bool). source_of f g r (if b then Carries (Packet k) else Carries EndAcknowledged)) (lt-ltb k packets below)
+  -- ---- all of it has been sent
 
-  pub can_send_all : CanSendAll plan timing f g r packets
+  -- behind the first five slots
+  is_sent : (k : ℕ) (x : Source) → k < packets + 1 + more → source_of f g r w (last_choice packets k) ≡ x → IsSentOn bus sent x
+  is_sent k x below is = (suc (suc (suc (suc (suc k)))), omega (arith, below), is, let far = ends_before width (5 + k) n (omega (arith, below)) in omega (arith, far))
+
+  first_sent : (p : ℕ) (x : Source) → p < 5 → sent.source p ≡ x → IsSentOn bus sent x
+  first_sent p x below is = (p, omega (arith, below), is, let far = ends_before width p n (omega (arith, below)) in omega (arith, far))
+
+  carries : (k : ℕ) → k < packets → IsSentOn bus sent (InSession g (Packet k))
+  carries k below = is_sent k (InSession g (Packet k)) (omega (arith, below))
+      (ap (λ (b : Bool). source_of f g r w (if b then Carries (Packet k) else (if ltb k (packets + 1) then Carries EndAcknowledged else Sends (k - (packets + 1)))))
+      (lt-ltb k packets below))
+
+  acknowledges : IsSentOn bus sent (InSession g EndAcknowledged)
+  acknowledges = is_sent packets (InSession g EndAcknowledged) (omega arith)
+      (rw (le-ltb packets packets (omega arith), lt-ltb packets (packets + 1) (omega arith)) refl)
+
+  to_all_sent : (k : ℕ) → k < more → IsSentOn bus sent (Carrying w 0 k)
+  to_all_sent k below = is_sent (packets + 1 + k) (Carrying w 0 k) (omega (arith, below)) (
+      let past = le-ltb (packets + 1 + k) packets (omega arith) in
+      let behind = le-ltb (packets + 1 + k) (packets + 1) (omega arith) in
+      let number : packets + 1 + k - (packets + 1) ≡ k = omega arith in
+      rw (past, behind, number) refl)
+
+  pub can_send_all : CanSendAll plan timing f g r w packets more
   can_send_all = record {
     s = bus;
     controllers = controllers;
     planned = all_planned;
     sent = sent;
     held = held;
-    legal = slots_legal n (λ p. ident_of (choice packets p));
-    any_order = slots_any_order n (λ p. ident_of (choice packets p)) controllers;
+    legal = slots_legal width n (λ p. ident_of (choice packets p)) (omega arith);
+    any_order = slots_any_order width n (λ p. ident_of (choice packets p)) controllers (omega arith);
     keeps = keeps;
     queues = queues;
+    turns = turns;
     all_planned = λ p. refl;
-    single = (0, omega arith, refl, omega arith);
-    request = (1, omega arith, refl, omega arith);
-    asks = (2, omega arith, refl, omega arith);
-    clears = (3, omega arith, refl, omega arith);
+    single = first_sent 0 (Single f) (omega arith) refl;
+    request = first_sent 1 (Asking r) (omega arith) refl;
+    asks = first_sent 2 (InSession g RequestToSend) (omega arith) refl;
+    clears = first_sent 3 (InSession g (ClearToSend 0)) (omega arith) refl;
     carries = carries;
-    acknowledges = (suc (suc (suc (suc packets))), omega arith, ended, omega arith);
+    acknowledges = acknowledges;
+    announces = first_sent 4 (Announcing w 0) (omega arith) refl;
+    sends_all = to_all_sent;
   }
-    where
-      ended : source_of f g r (choice packets (suc (suc (suc (suc packets))))) ≡ InSession g EndAcknowledged
-      ended = ap (λ (b : Bool). source_of f g r (if b then Carries (Packet packets) else Carries EndAcknowledged)) (le-ltb packets packets (omega arith))

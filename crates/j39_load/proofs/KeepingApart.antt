@@ -45,7 +45,7 @@ use Rattle.j39_timing.specs.Traffic.{others_queued}
 use Rattle.j39_network.specs.PlannedUnits.{planned_unit, unit_at, units_of}
 use Rattle.j39_world.specs.HeldAddresses.{ArePlannedApart}
 
-in_ms_behind : (bitrate : Bitrate) (ms a b : ℕ) → a + ms * bits_per_ms bitrate ≤ b → a * bit_time bitrate + 1000 * ms ≤ b * bit_time bitrate
+pub in_ms_behind : (bitrate : Bitrate) (ms a b : ℕ) → a + ms * bits_per_ms bitrate ≤ b → a * bit_time bitrate + 1000 * ms ≤ b * bit_time bitrate
 in_ms_behind Kbit125 ms a b behind = omega arith
 in_ms_behind Kbit250 ms a b behind = omega arith
 in_ms_behind Kbit500 ms a b behind = omega arith

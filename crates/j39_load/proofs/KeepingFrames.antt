@@ -1,5 +1,5 @@
 -- What is told of a frame by its source: it is one of the frames that stand at its place among all that a plan asks for.
-use Rattle.std.proofs.Common.{◌≡◌, ℕ, ◌+◌, ◌*◌, ◌^◌, ◌<◌, ◌≤◌, ◌⊎◌, Bool, true, false, ◌||◌, eqb, List, length, get_or, if◌then◌else◌, max, Option, Some, None}
+use Rattle.std.proofs.Common.{◌≡◌, ℕ, ◌+◌, ◌*◌, ◌^◌, ◌<◌, ◌≤◌, ◌⊎◌, Bool, true, false, ◌||◌, eqb, List, length, get_or, if◌then◌else◌, Option, Some, None}
 use Rattle.std.proofs.Common.{refl, sym, ap, ◌∙◌, subst, inl, inr, arith}
 use Rattle.std.proofs.lemmas.Bool.{eq-eqb, false≢true, le-leb, or_cases, or_right}
 use Rattle.std.proofs.lemmas.List.{length-append}
@@ -317,9 +317,6 @@ module _ (plan : Plan) (timing : Timing) (stays : UnitPlan → Bool) where
       least_is : frames.least_ident ≡ prio * 2 ^ 26 + 60160 * 2 ^ 8 + low v * 2 ^ 8 + low u
       least_is = ap (λ (to : To). identifier_of prio 60160 (destination_at low to) (low u)) one.to_one
 
-      last_is : frames.last_ident ≡ max (prio * 2 ^ 26 + 60416 * 2 ^ 8 + high v * 2 ^ 8 + high u) (prio * 2 ^ 26 + 60416 * 2 ^ 8 + high u * 2 ^ 8 + high v)
-      last_is = refl
-
       data_there : (prio * 2 ^ 26 + 60160 * 2 ^ 8 + low v * 2 ^ 8 + low u ≤ prio * 2 ^ 26 + 60160 * 2 ^ 8 + address v * 2 ^ 8 + address u)
           × (prio * 2 ^ 26 + 60160 * 2 ^ 8 + address v * 2 ^ 8 + address u ≤ prio * 2 ^ 26 + 60160 * 2 ^ 8 + high v * 2 ^ 8 + high u)
       data_there = there 60160
@@ -333,19 +330,19 @@ module _ (plan : Plan) (timing : Timing) (stays : UnitPlan → Bool) where
       asks_between : s.ident p ≡ prio * 2 ^ 26 + 60416 * 2 ^ 8 + address v * 2 ^ 8 + address u → IsPartBetween one.flow v frames (s.ident p)
       asks_between is = record {
         least = let first = least_is in let packets = data_there.0 in omega (arith, is, first, packets);
-        last = let all = last_is in let most = request_there in omega (arith, is, all, most);
+        last = let most = request_there in omega (arith, is, most);
       }
 
       answers_between : s.ident p ≡ prio * 2 ^ 26 + 60416 * 2 ^ 8 + address u * 2 ^ 8 + address v → IsPartBetween one.flow v frames (s.ident p)
       answers_between is = record {
         least = let first = least_is in let packets = data_there.0 in let (a, b) = addresses_few in omega (arith, is, first, packets, a, b);
-        last = let all = last_is in let most = answer_back in omega (arith, is, all, most);
+        last = let most = answer_back in omega (arith, is, most);
       }
 
       packet_between : s.ident p ≡ prio * 2 ^ 26 + 60160 * 2 ^ 8 + address v * 2 ^ 8 + address u → IsPartBetween one.flow v frames (s.ident p)
       packet_between is = record {
         least = let first = least_is in let packets = data_there.0 in omega (arith, is, first, packets);
-        last = let all = last_is in let most = request_there in omega (arith, is, all, most);
+        last = let most = request_there in omega (arith, is, most);
       }
 
       part_between : (part : Part) → s.ident p ≡ part_identifier timing part (address u) (address v) → IsPartBetween one.flow v frames (s.ident p)

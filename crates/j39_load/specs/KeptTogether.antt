@@ -5,10 +5,11 @@ use Rattle.j39_network.specs.declared.plan.Plan.{Plan}
 use Rattle.j39_network.specs.declared.plan.pace.Pace.{Pace}
 use Rattle.j39_network.specs.declared.plan.timing.ErrorRate.{ErrorRate}
 use Rattle.j39_network.specs.declared.plan.timing.Timing.{Timing}
+use Rattle.j39_load.specs.KeepsBroadcasts.{KeepsTurns}
 use Rattle.j39_load.specs.KeepsErrors.{KeepsErrors}
 use Rattle.j39_load.specs.KeepsPlan.{KeepsQueues, KeepsToPlan}
 use Rattle.j39_load.specs.SentFrames.{FrameSources, Held, IsMsBehind, Source}
-use Rattle.j39_load.specs.SentFrames.{Single, InSession, Asking, RequestToSend, Packet, ClearToSend, EndAcknowledged}
+use Rattle.j39_load.specs.SentFrames.{Single, InSession, Asking, Announcing, Carrying, RequestToSend, Packet, ClearToSend, EndAcknowledged}
 use Rattle.j39_timing.specs.AnyOrder.{Controllers, IsLegalInAnyOrder}
 use Rattle.j39_timing.specs.Errors.{Damaged, IsLegalInAnyOrderWithErrors, IsLegalWithErrors}
 use Rattle.j39_timing.specs.Messages.{frame_end}
@@ -40,8 +41,9 @@ pub record CanBeKeptTogether (plan : Plan) (timing : Timing) (rate : ErrorRate) 
 abbrev pub IsSentOn : Schedule → FrameSources → Source → Type 0
 IsSentOn s sent source = (p : ℕ) × (p < s.count) × (sent.source p ≡ source) × (frame_end s p ≤ s.now)
 
--- a bus on which a frame of the first flow is sent, a request, and a long message of the other flow, of so many packets, to one unit
-pub record CanSendAll (plan : Plan) (timing : Timing) (f g r packets : ℕ) : Type 0 where
+-- a bus on which a frame of the first flow is sent, a request, a long message of the second flow, of so many packets, to one unit, and one of the
+-- unit u to all
+pub record CanSendAll (plan : Plan) (timing : Timing) (f g r u packets more : ℕ) : Type 0 where
   pub s : Schedule
   pub controllers : Controllers
   pub planned : ℕ → Bool
@@ -52,6 +54,7 @@ pub record CanSendAll (plan : Plan) (timing : Timing) (f g r packets : ℕ) : Ty
   pub any_order : IsLegalInAnyOrder s controllers
   pub keeps : KeepsToPlan plan timing s planned sent held
   pub queues : KeepsQueues plan timing s controllers planned sent
+  pub turns : KeepsTurns s planned sent held
   pub all_planned : (p : ℕ) → planned p ≡ true
   -- all of it has been sent
   pub single : IsSentOn s sent (Single f)
@@ -60,3 +63,5 @@ pub record CanSendAll (plan : Plan) (timing : Timing) (f g r packets : ℕ) : Ty
   pub clears : IsSentOn s sent (InSession g (ClearToSend 0))
   pub carries : (k : ℕ) → k < packets → IsSentOn s sent (InSession g (Packet k))
   pub acknowledges : IsSentOn s sent (InSession g EndAcknowledged)
+  pub announces : IsSentOn s sent (Announcing u 0)
+  pub sends_all : (k : ℕ) → k < more → IsSentOn s sent (Carrying u 0 k)

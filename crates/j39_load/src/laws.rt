@@ -13,7 +13,7 @@ ghost use Rattle.j39_network.specs.declared.plan.queue.Queue.TheVariants.{Priori
 ghost use Rattle.j39_network.specs.declared.plan.request_plan.RequestPlan.{RequestPlan as PlannedRequests};
 ghost use Rattle.j39_network.specs.declared.plan.timing.ErrorRate.{ErrorRate as ErrorRates};
 ghost use Rattle.j39_network.specs.declared.plan.timing.Timing.{Timing as Timings};
-ghost use Rattle.j39_network.specs.declared.plan.to.To.TheVariants.{One};
+ghost use Rattle.j39_network.specs.declared.plan.to.To.TheVariants.{All as ToAllUnits, One};
 ghost use Rattle.j39_network.specs.declared.plan.unit_plan.UnitPlan.{UnitPlan as PlannedUnits};
 ghost use Rattle.j39_load.specs.declared.delay.Delay.{Delay as Delays};
 ghost use Rattle.j39_load.specs.FreshNeeds.{AreNeedsFresh};
@@ -23,7 +23,7 @@ ghost use Rattle.j39_load.specs.KeepsPlan.{AreFramesInTime, CanBeKept, IsSingleF
 ghost use Rattle.j39_load.specs.KeptTogether.{CanBeKeptTogether, CanSendAll};
 ghost use Rattle.j39_load.specs.Delays.{announcements_place, packets_place};
 ghost use Rattle.j39_load.specs.LoadFindings.{AreLoadFindings, AsksOfBus, load_findings};
-ghost use Rattle.j39_load.specs.Loads.{group_ident};
+ghost use Rattle.j39_load.specs.Loads.{bits_of_ms, group_ident};
 ghost use Rattle.j39_load.specs.Asked.{asked_of, frames_asked, total_load};
 ghost use Rattle.j39_load.specs.PlannedFrames.{AreAllOrdered, AreDeadlinesKept, AreDelaysBounds, AreFramesInAnyOrder, AreFramesOfPlan, AreShortFlowsBounded, AreTimesBounds, ArePlannedFramesInTime, ComeInAnyOrder, ComeInTurn};
 ghost use Rattle.j39_load.specs.Ranks.{AreHeldApart, AreHeldByPlan, AreTwinFlows, AreUnitsPlanned, IsAskedBetween, IsShortFlow, LieBetween, RequestLiesBetween};
@@ -155,17 +155,21 @@ pub fn plans_can_be_kept_together()
         → IsPgn group.pgn → (rate : ErrorRates) → timing.errors ≡ Some rate → (n : ℕ) → CanBeKeptTogether plan timing rate f pace n }
 {}
 
-/// And such a flow, a request and a long message to one unit on one bus: where the long message has time before the next one of its flow, all of them
-/// can be sent, and the bus keeps to the plan, whether its units keep order or not.
-pub fn requests_and_sessions_can_be_kept()
+/// And such a flow, a request, a long message to one unit and one to all on one bus: where the message to one unit has time before the next one of its
+/// flow, all of them can be sent, and the bus keeps to the plan, whether its units keep order or not.
+pub fn plans_can_be_kept_whole()
     ensures { (plan : Plans) (timing : Timings) → ArePlannedApart (units_of plan) → (f : ℕ) (flow : PlannedFlows) (pace : PlannedPaces) (group : PlannedGroups)
         → slice_get plan.flows.items f ≡ Some flow → flow.pace ≡ Some pace → slice_get plan.groups.items flow.group ≡ Some group → group.most ≤ 8
         → IsPgn group.pgn → (g : ℕ) (other : PlannedFlows) (its : PlannedPaces) (second : PlannedGroups) → slice_get plan.flows.items g ≡ Some other
         → other.pace ≡ Some its → slice_get plan.groups.items other.group ≡ Some second → 8 < second.most
         → (v : ℕ) → other.to ≡ One v → (unit : PlannedUnits) → slice_get plan.units.items v ≡ Some unit
         → (r : ℕ) (asked : PlannedRequests) (ms : ℕ) → slice_get plan.requests.items r ≡ Some asked → asked.period ≡ Some ms
-        → (packets : ℕ) → 7 * packets < second.most + 7 → (5 + packets) * 160 * bit_time timing.bitrate ≤ 1000 * its.period
-        → CanSendAll plan timing f g r packets }
+        → (packets : ℕ) → 7 * packets < second.most + 7
+        → (h : ℕ) (to_all : PlannedFlows) (third_pace : PlannedPaces) (third : PlannedGroups) → slice_get plan.flows.items h ≡ Some to_all
+        → to_all.pace ≡ Some third_pace → slice_get plan.groups.items to_all.group ≡ Some third → 8 < third.most → to_all.to ≡ ToAllUnits
+        → (more : ℕ) → 2 ≤ more → third.length ≤ 7 * more → 7 * more < third.most + 7
+        → (6 + (packets + more)) * (160 + bits_of_ms timing timing.broadcast_gap) * bit_time timing.bitrate ≤ 1000 * its.period
+        → CanSendAll plan timing f g r to_all.sender packets more }
 {}
 
 /// Of a clean plan with whose load nothing is wrong either: on each bus that keeps to it in the plan's own words, whether units keep order or not,

@@ -1,5 +1,5 @@
 use Rattle.j39_load.proofs.KeepingAll.{can_send_all}
-use Rattle.j39_load.proofs.laws.requests_and_sessions_can_be_kept.Goals as goal
+use Rattle.j39_load.proofs.laws.plans_can_be_kept_whole.Goals as goal
 
 pub returns : goal.returns
 returns c = can_send_all
