@@ -29,7 +29,7 @@ module _ (timing : Timing) (plan : Plan) (stays : UnitPlan → Bool) (P : FlowFr
     (single : (flow : FlowPlan) (pace : Pace) (group : GroupPlan) → P (single_frames timing plan.units.items stays flow pace group))
     (session : (flow : FlowPlan) (v : ℕ) (pace : Pace) (packets : ℕ) → P (packet_frames timing plan.units.items stays flow v pace packets))
     (broadcast : (pgn u gaps place : ℕ) → P (broadcast_frames timing plan.units.items stays pgn u gaps place))
-    (wants : (broadcast : Broadcast) → P (wanting broadcast))
+    (wants : (flow : FlowPlan) (pace : Pace) (group : GroupPlan) → P (wanting (broadcast_of timing flow pace group)))
     (asking : (request : RequestPlan) (period : ℕ) → P (request_load timing plan.units.items stays request period).frames) where
   abbrev Fits : Option FlowFrames → Type 0
   Fits frames = IfSome frames P
@@ -38,7 +38,7 @@ module _ (timing : Timing) (plan : Plan) (stays : UnitPlan → Bool) (P : FlowFr
 
   long : (flow : FlowPlan) (pace : Pace) (group : GroupPlan) (to : To)
       → Fits (own_frames (long_messages timing plan.units.items stays flow pace group to))
-  long flow pace group ToAllUnits = wants (broadcast_of timing flow pace group)
+  long flow pace group ToAllUnits = wants flow pace group
   long flow pace group (One v) = session flow v pace (packets_of group.most)
 
   by_lengths : (flow : FlowPlan) (pace : Pace) (group : GroupPlan) (short has : Bool)

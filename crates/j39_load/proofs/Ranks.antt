@@ -82,7 +82,7 @@ module _ (plan : Plan) (stays : UnitPlan → Bool) (tells : TellsWhoStays plan s
 
   -- from a unit to another one, or to all
   module _ (u : ℕ) (to : To) (sender : u < length units) (receiver : (v : ℕ) → to ≡ One v → v < length units) where
-    between : (priority pgn : ℕ)
+    pub between : (priority pgn : ℕ)
         → (identifier_of priority pgn (destination_at (of_unit units (least_address stays)) to) (of_unit units (least_address stays) u)
         ≤ identifier_of priority pgn (destination_at held to) (held u))
         × (identifier_of priority pgn (destination_at held to) (held u)

@@ -7,6 +7,7 @@ pub mod Damage
 pub mod Delays
 pub mod Demands
 pub mod FreshNeeds
+pub mod KeepsBroadcasts
 pub mod KeepsErrors
 pub mod KeptTogether
 pub mod KeepsPlan
@@ -18,6 +19,7 @@ pub mod PlannedFrames
 pub mod Ranks
 pub mod ReadInTime
 pub mod RequestLoads
+pub mod SentFrames
 pub mod SoundLoads
 pub mod ToldBytes
 pub mod Twins

@@ -1,5 +1,5 @@
 //! Laws of the frames of a plan's flows.
-ghost use Rattle.std.specs.Prelude.{◌≡◌, ◌≢◌, ℕ, ◌<◌, ◌≤◌, List, [], length, Bool, Option, Some};
+ghost use Rattle.std.specs.Prelude.{◌≡◌, ◌≢◌, ℕ, ◌+◌, ◌*◌, ◌<◌, ◌≤◌, List, [], length, Bool, Option, Some};
 ghost use Rattle.std.specs.List.{slice_get};
 ghost use Rattle.j39_id.specs.Pgn.{IsPgn};
 ghost use Rattle.j39_findings.specs.Findings.{Clean};
@@ -13,19 +13,23 @@ ghost use Rattle.j39_network.specs.declared.plan.queue.Queue.TheVariants.{Priori
 ghost use Rattle.j39_network.specs.declared.plan.request_plan.RequestPlan.{RequestPlan as PlannedRequests};
 ghost use Rattle.j39_network.specs.declared.plan.timing.ErrorRate.{ErrorRate as ErrorRates};
 ghost use Rattle.j39_network.specs.declared.plan.timing.Timing.{Timing as Timings};
+ghost use Rattle.j39_network.specs.declared.plan.to.To.TheVariants.{All as ToAllUnits, One};
 ghost use Rattle.j39_network.specs.declared.plan.unit_plan.UnitPlan.{UnitPlan as PlannedUnits};
 ghost use Rattle.j39_load.specs.declared.waits.delay.Delay.{Delay as Delays};
 ghost use Rattle.j39_load.specs.FreshNeeds.{AreNeedsFresh};
+ghost use Rattle.j39_load.specs.KeepsBroadcasts.{KeepsTurns};
 ghost use Rattle.j39_load.specs.KeepsErrors.{AreInTimeWithErrors, KeepsErrors, origins_with, planned_with};
-ghost use Rattle.j39_load.specs.KeepsPlan.{AreFramesInTime, CanBeKept, Held, KeepsToPlan, KeepsQueues, FrameFlows, origins_of};
-ghost use Rattle.j39_load.specs.KeptTogether.{CanBeKeptTogether};
+ghost use Rattle.j39_load.specs.KeepsPlan.{AreFramesInTime, CanBeKept, IsSingleFlow, KeepsQueues, KeepsToPlan, origins_of};
+ghost use Rattle.j39_load.specs.KeptTogether.{CanBeKeptTogether, CanSendAll};
+ghost use Rattle.j39_load.specs.Delays.{announcements_place, packets_place};
 ghost use Rattle.j39_load.specs.LoadFindings.{AreLoadFindings, AsksOfBus, load_findings};
-ghost use Rattle.j39_load.specs.Loads.{group_ident};
+ghost use Rattle.j39_load.specs.Loads.{bits_of_ms, group_ident};
 ghost use Rattle.j39_load.specs.Asked.{asked_of, frames_asked, total_load};
-ghost use Rattle.j39_load.specs.PlannedFrames.{AreAllOrdered, AreDeadlinesKept, AreDelaysBounds, AreFramesInAnyOrder, AreFramesOfPlan, AreShortFlowsBounded, AreTimesBounds, ArePlannedFramesInTime};
+ghost use Rattle.j39_load.specs.PlannedFrames.{AreAllOrdered, AreDeadlinesKept, AreDelaysBounds, AreFramesInAnyOrder, AreFramesOfPlan, AreShortFlowsBounded, AreTimesBounds, ArePlannedFramesInTime, ComeInAnyOrder, ComeInTurn};
 ghost use Rattle.j39_load.specs.Ranks.{AreHeldApart, AreHeldByPlan, AreTwinFlows, AreUnitsPlanned, IsAskedBetween, IsShortFlow, LieBetween, RequestLiesBetween};
 ghost use Rattle.j39_load.specs.ReadInTime.{AreNeedsRead, AreWritten};
 ghost use Rattle.j39_load.specs.RequestLoads.{request_ident};
+ghost use Rattle.j39_load.specs.SentFrames.{FrameSources, Held, bit_time};
 ghost use Rattle.j39_findings.specs.Standing.{TellsWhoStays};
 ghost use Rattle.j39_load.specs.ToldBytes.{IsToldOf, LeaveSelector};
 ghost use Rattle.j39_load.specs.ValuesInTime.{AreValuesInTime};
@@ -97,22 +101,42 @@ pub fn identifiers_lie_between()
         → (r : ℕ) (request : PlannedRequests) → slice_get plan.requests.items r ≡ Some request → RequestLiesBetween plan stays held request }
 {}
 
-/// A bus that keeps to a clean plan in the plan's own words, whose planned frames are those of flows each message of which goes in one frame, keeps
-/// the premises of each delay, where units keep order (`legal`) or don't (`any_order`), and where frames are damaged (`with_errors`): so what
+/// A bus that keeps to a clean plan in the plan's own words, whose planned frames are those of flows each message of which goes in one frame, of long
+/// messages to one unit or to all, and of requests, keeps the premises of each delay of a flow of the first kind, where units keep order (`legal`) or don't (`any_order`), and where frames are damaged (`with_errors`): so what
 /// `delays_are_bounds` and `needs_stay_fresh` promise holds of it.
 pub fn frames_that_keep_a_plan()
     ensures legal { (plan : Plans) (timing : Timings) (stays : PlannedUnits → Bool) → Clean plan → TellsWhoStays plan stays
-        → (s : Schedule) (planned : ℕ → Bool) (sent : FrameFlows) (held : Held) (i : ℕ) → IsLegal s → KeepsToPlan plan timing s planned sent held
-        → AreFramesOfPlan timing (frames_asked (asked_of timing plan stays)) s planned (origins_of sent) i }
+        → (s : Schedule) (planned : ℕ → Bool) (sent : FrameSources) (held : Held) (i : ℕ) → IsSingleFlow plan i
+        → IsLegal s → KeepsToPlan plan timing s planned sent held
+        → AreFramesOfPlan timing (frames_asked (asked_of timing plan stays)) s planned (origins_of plan sent) i }
     ensures any_order { (plan : Plans) (timing : Timings) (stays : PlannedUnits → Bool) → Clean plan → TellsWhoStays plan stays
-        → (s : Schedule) (controllers : Controllers) (planned : ℕ → Bool) (sent : FrameFlows) (held : Held) (i : ℕ) → IsLegalInAnyOrder s controllers
-        → KeepsToPlan plan timing s planned sent held → KeepsQueues plan timing s controllers planned sent
-        → AreFramesInAnyOrder timing (frames_asked (asked_of timing plan stays)) s controllers planned (origins_of sent) i }
+        → (s : Schedule) (controllers : Controllers) (planned : ℕ → Bool) (sent : FrameSources) (held : Held) (i : ℕ) → IsSingleFlow plan i
+        → IsLegalInAnyOrder s controllers → KeepsToPlan plan timing s planned sent held → KeepsQueues plan timing s controllers planned sent
+        → AreFramesInAnyOrder timing (frames_asked (asked_of timing plan stays)) s controllers planned (origins_of plan sent) i }
     ensures with_errors { (plan : Plans) (timing : Timings) (stays : PlannedUnits → Bool) → Clean plan → TellsWhoStays plan stays
-        → (s : Schedule) (d : Damaged) (planned : ℕ → Bool) (sent : FrameFlows) (held : Held) (rate : ErrorRates) (i : ℕ) → IsLegalWithErrors s d
-        → KeepsToPlan plan timing s planned sent held → KeepsErrors timing rate s d planned → i < length plan.flows.items
+        → (s : Schedule) (d : Damaged) (planned : ℕ → Bool) (sent : FrameSources) (held : Held) (rate : ErrorRates) (i : ℕ) → IsLegalWithErrors s d
+        → KeepsToPlan plan timing s planned sent held → KeepsErrors timing rate s d planned sent → IsSingleFlow plan i
         → AreFramesOfPlan timing (frames_asked (asked_of timing plan stays)) (with_errors s d) (planned_with s planned)
-        (origins_with s d rate (length (frames_asked (asked_of timing plan stays))) sent) i }
+        (origins_with plan s d rate (length (frames_asked (asked_of timing plan stays))) sent) i }
+{}
+
+/// On such a bus the long messages to all of each unit that sends some come in turn, as the times within which they are whole ask for, where the unit
+/// queues each frame of them after the end of the one before and keeps its address meanwhile, whether units keep order (`legal`) or don't
+/// (`any_order`).
+pub fn broadcasts_that_keep_a_plan()
+    ensures legal { (plan : Plans) (timing : Timings) (stays : PlannedUnits → Bool) → Clean plan → TellsWhoStays plan stays
+        → (s : Schedule) (planned : ℕ → Bool) (sent : FrameSources) (held : Held) (u m : ℕ) → m < sent.broadcasts.count u → IsLegal s
+        → KeepsToPlan plan timing s planned sent held → KeepsTurns s planned sent held
+        → ComeInTurn timing (frames_asked (asked_of timing plan stays)) s planned (origins_of plan sent) (announcements_place (asked_of timing plan stays) u)
+        × ComeInTurn timing (frames_asked (asked_of timing plan stays)) s planned (origins_of plan sent) (packets_place (asked_of timing plan stays) u) }
+    ensures any_order { (plan : Plans) (timing : Timings) (stays : PlannedUnits → Bool) → Clean plan → TellsWhoStays plan stays
+        → (s : Schedule) (controllers : Controllers) (planned : ℕ → Bool) (sent : FrameSources) (held : Held) (u m : ℕ) → m < sent.broadcasts.count u
+        → IsLegalInAnyOrder s controllers → KeepsToPlan plan timing s planned sent held → KeepsQueues plan timing s controllers planned sent
+        → KeepsTurns s planned sent held
+        → ComeInAnyOrder timing (frames_asked (asked_of timing plan stays)) s controllers planned (origins_of plan sent)
+        (announcements_place (asked_of timing plan stays) u)
+        × ComeInAnyOrder timing (frames_asked (asked_of timing plan stays)) s controllers planned (origins_of plan sent)
+        (packets_place (asked_of timing plan stays) u) }
 {}
 
 /// And a bus can keep to a plan in its own words: where no two units have one planned address, each flow whose messages go in one frame and that
@@ -129,6 +153,23 @@ pub fn plans_can_be_kept_together()
     ensures { (plan : Plans) (timing : Timings) → ArePlannedApart (units_of plan) → (f : ℕ) (flow : PlannedFlows) (pace : PlannedPaces) (group : PlannedGroups)
         → slice_get plan.flows.items f ≡ Some flow → flow.pace ≡ Some pace → slice_get plan.groups.items flow.group ≡ Some group → group.most ≤ 8
         → IsPgn group.pgn → (rate : ErrorRates) → timing.errors ≡ Some rate → (n : ℕ) → CanBeKeptTogether plan timing rate f pace n }
+{}
+
+/// And such a flow, a request, a long message to one unit and one to all on one bus: where the message to one unit has time before the next one of its
+/// flow, all of them can be sent, and the bus keeps to the plan, whether its units keep order or not.
+pub fn plans_can_be_kept_whole()
+    ensures { (plan : Plans) (timing : Timings) → ArePlannedApart (units_of plan) → (f : ℕ) (flow : PlannedFlows) (pace : PlannedPaces) (group : PlannedGroups)
+        → slice_get plan.flows.items f ≡ Some flow → flow.pace ≡ Some pace → slice_get plan.groups.items flow.group ≡ Some group → group.most ≤ 8
+        → IsPgn group.pgn → (g : ℕ) (other : PlannedFlows) (its : PlannedPaces) (second : PlannedGroups) → slice_get plan.flows.items g ≡ Some other
+        → other.pace ≡ Some its → slice_get plan.groups.items other.group ≡ Some second → 8 < second.most
+        → (v : ℕ) → other.to ≡ One v → (unit : PlannedUnits) → slice_get plan.units.items v ≡ Some unit
+        → (r : ℕ) (asked : PlannedRequests) (ms : ℕ) → slice_get plan.requests.items r ≡ Some asked → asked.period ≡ Some ms
+        → (packets : ℕ) → 7 * packets < second.most + 7
+        → (h : ℕ) (to_all : PlannedFlows) (third_pace : PlannedPaces) (third : PlannedGroups) → slice_get plan.flows.items h ≡ Some to_all
+        → to_all.pace ≡ Some third_pace → slice_get plan.groups.items to_all.group ≡ Some third → 8 < third.most → to_all.to ≡ ToAllUnits
+        → (more : ℕ) → 2 ≤ more → third.length ≤ 7 * more → 7 * more < third.most + 7
+        → (6 + (packets + more)) * (160 + bits_of_ms timing timing.broadcast_gap) * bit_time timing.bitrate ≤ 1000 * its.period
+        → CanSendAll plan timing f g r to_all.sender packets more }
 {}
 
 /// Of a clean plan with whose load nothing is wrong either: on each bus that keeps to it in the plan's own words, whether units keep order or not,

@@ -1,0 +1,418 @@
+-- On a bus that keeps to a plan in the plan's own words each unit queues no more frames of long messages to all than its flows want.
+use Rattle.std.proofs.Common.{◌≡◌, ℕ, zero, suc, ◌+◌, ◌*◌, ◌<◌, ◌≤◌, ◌⊎◌, Bool, true, false, ◌&&◌, eqb, leb, ltb, cond, List, [], ◌∷◌, length, get_or, map, All, Option, Some, None, IfSome}
+use Rattle.std.proofs.Common.{refl, sym, ap, ◌∙◌, subst, inl, inr, arith}
+use Rattle.std.proofs.lemmas.Bool.{and_parts, cases_Bool, cases_lt, eq-eqb, eqb-true}
+use Rattle.std.proofs.lemmas.List.{get_or-map, get_or_append_left, get_or_past, length-map}
+use Rattle.std.proofs.lemmas.List.Elements.{All-append, All-head, All-map, All-tail}
+use Rattle.std.proofs.lemmas.Option.{none-some, same_Some}
+use Rattle.std.specs.List.{cons_option, slice_get}
+use Rattle.std.specs.Option.{option_and_then}
+use Rattle.j39_id.specs.Limits.{unit_limit}
+use Rattle.j39_network.specs.declared.plan.Plan.{Plan}
+use Rattle.j39_network.specs.declared.plan.timing.Timing.{Timing}
+use Rattle.j39_network.specs.declared.plan.unit_plan.UnitPlan.{UnitPlan}
+use Rattle.j39_load.specs.declared.frames.broadcast.Broadcast.{Broadcast}
+use Rattle.j39_load.specs.declared.frames.flow_frames.FlowFrames.{FlowFrames}
+use Rattle.j39_load.specs.Asked.{frames_asked, own_frames, wanting}
+use Rattle.j39_load.specs.Damage.{damage_frames, damage_streams, first_of_all}
+use Rattle.j39_load.specs.Demands.{announcements_demand, demand_by, demands_of, packets_demand, want_of, wanted_by, wanted_from, wants_of}
+use Rattle.j39_load.specs.KeepsBroadcasts.{IsMessageToAll, KeepsBroadcasts}
+use Rattle.j39_load.specs.KeepsPlan.{place_of}
+use Rattle.j39_load.specs.SentFrames.{Broadcasts, FrameSources, Held, IsFrameOf, Source, Single, InSession, Asking, Announcing, Carrying}
+use Rattle.j39_load.proofs.AskedPlaces.{flow_read}
+use Rattle.j39_load.proofs.EachFrames.{each_fits}
+use Rattle.j39_load.proofs.KeepingFrames.{IsPaced, of_announcements, of_packets}
+use Rattle.j39_load.proofs.Milliseconds.{behind_bits, some_bits, within_bits}
+use Rattle.j39_load.proofs.PlacedFrames.{all, asked, at_place, its_broadcast, load, to_all_units, traffic, unit_planned}
+use Rattle.j39_load.proofs.StreamsBefore.{get_or_inside}
+use Rattle.j39_load.proofs.WantedPlaces.{announcements_wanted, at_spot, most_at_spot, one_spot, packets_wanted, spot}
+use Rattle.j39_timing.specs.FrameStreams.{Origins}
+use Rattle.j39_timing.specs.Messages.{IsOf}
+use Rattle.j39_timing.specs.TimedFrames.{Schedule}
+use Rattle.j39_timing.specs.Sums.{total}
+use Rattle.j39_timing.specs.Traffic.{AreAsWanted, moments_in}
+use Rattle.j39_timing.specs.Waits.{Demand, demand_of, frames_wanted}
+use Rattle.j39_timing.specs.declared.stream.Stream.{Stream}
+use Rattle.j39_timing.specs.declared.wants.Want.{Want}
+use Rattle.j39_timing.specs.WantedMessages.{AreAnnouncements, AreFramesOfMessages, AreWantedInTurn, HasLongest, HavePeriods, UnitMessages, nothing, want_at}
+use Rattle.j39_timing.proofs.AskedFrames.{announcements_asked, packets_asked}
+
+-- ---- messages of a unit are wanted after a period only
+
+abbrev IsApart : Broadcast → Type 0
+IsApart b = 0 < b.apart
+
+abbrev WantsApart : FlowFrames → Type 0
+WantsApart x = IfSome x.want IsApart
+
+module _ (plan : Plan) (timing : Timing) (stays : UnitPlan → Bool) where
+  all_apart : All (λ (o : Option FlowFrames). IfSome o WantsApart) (all plan timing stays)
+  all_apart = All-append (λ (o : Option FlowFrames). IfSome o WantsApart) (frames_asked (asked plan timing stays)) (damage_frames timing)
+      (each_fits timing plan stays WantsApart (λ flow pace group. tt) (λ flow v pace packets. tt) (λ pgn u gaps place. tt)
+      (λ flow pace group. some_bits timing.bitrate pace.period pace.period_positive) (λ request period. tt))
+      (All-map (λ (o : Option FlowFrames). IfSome o WantsApart) first_of_all (damage_streams timing) (λ k d below. tt))
+
+wants_apart : (u : ℕ) (xs : List (Option FlowFrames)) → All (λ (o : Option FlowFrames). IfSome o WantsApart) xs → (k : ℕ) (d : Broadcast) → k < length (wants_of xs u)
+    → IsApart (get_or (wants_of xs u) k d)
+wants_apart u [] each k d below = absurd (omega (arith, below))
+wants_apart u (x ∷ xs) each k d below = go (wanted_by u x) (of_one x (All-head (λ (o : Option FlowFrames). IfSome o WantsApart) x xs each))
+    (wants_apart u xs (All-tail (λ (o : Option FlowFrames). IfSome o WantsApart) x xs each)) k below
+  where
+    by_sender : (b : Broadcast) (is : Bool) → IsApart b → IfSome (cond is (Some b) None) IsApart
+    by_sender b true apart = apart
+    by_sender b false apart = tt
+
+    of_want : (want : Option Broadcast) → IfSome want IsApart → IfSome (wanted_from u want) IsApart
+    of_want None apart = tt
+    of_want (Some b) apart = by_sender b (eqb b.sender u) apart
+
+    of_one : (o : Option FlowFrames) → IfSome o WantsApart → IfSome (wanted_by u o) IsApart
+    of_one None apart = tt
+    of_one (Some frames) apart = of_want frames.want apart
+
+    go : (o : Option Broadcast) → IfSome o IsApart → ((k : ℕ) (d : Broadcast) → k < length (wants_of xs u) → IsApart (get_or (wants_of xs u) k d))
+        → (k : ℕ) → k < length (cons_option o (wants_of xs u)) → IsApart (get_or (cons_option o (wants_of xs u)) k d)
+    go None apart rest k below = rest k d below
+    go (Some b) apart rest zero below = apart
+    go (Some b) apart rest (suc k) below = rest k d (omega (arith, below))
+
+-- where something is counted something counts
+one_counts : (n : ℕ) (counts : ℕ → Bool) → 0 < total n (λ p. cond (counts p) 1 0) → (p : ℕ) × (p < n) × (counts p ≡ true)
+unfolding total
+one_counts zero counts some = absurd (omega (arith, some))
+one_counts (suc n) counts some = elim (cases_Bool (counts n)) [
+  | inl is ↦ (n, omega arith, is)
+  | inr isnt ↦
+      let rest : 0 < total n (λ p. cond (counts p) 1 0) + 0 = subst (λ (x : Bool). 0 < total n (λ p. cond (counts p) 1 0) + cond x 1 0) isnt some in
+      let before : 0 < total n (λ p. cond (counts p) 1 0) = omega (arith, rest) in
+      let (p, below, is) = one_counts n counts before in (p, omega (arith, below), is)
+]
+
+-- what a frame is of a unit's messages
+abbrev message_of : Source → ℕ
+message_of (Single f) = 0
+message_of (InSession f part) = 0
+message_of (Asking r) = 0
+message_of (Announcing u m) = m
+message_of (Carrying u m k) = m
+
+abbrev number_of : Source → ℕ
+number_of (Single f) = 0
+number_of (InSession f part) = 0
+number_of (Asking r) = 0
+number_of (Announcing u m) = 0
+number_of (Carrying u m k) = k
+
+-- a frame of a schedule is one of another one, with its place and moment
+pub record IsCopy (plan : Plan) (s : Schedule) (planned : ℕ → Bool) (sent : FrameSources) (of : Origins) (p : ℕ) : Type 0 where
+  pub below : p < s.count
+  pub is : planned p ≡ true
+  pub place : of.source p ≡ place_of plan (sent.source p)
+  pub since : of.since p ≡ sent.moment p
+
+module _ (plan : Plan) (timing : Timing) (stays : UnitPlan → Bool) (s : Schedule) (planned : ℕ → Bool) (sent : FrameSources) (held : Held)
+    (frames : (p : ℕ) → p < s.count → planned p ≡ true → IsFrameOf plan timing s held sent.broadcasts (sent.source p) (sent.moment p) p)
+    (keeps : KeepsBroadcasts plan timing s planned sent) where
+  abbrev b : Broadcasts
+  b = sent.broadcasts
+
+  abbrev whole : List (Option FlowFrames)
+  whole = all plan timing stays
+
+  -- ---- what is wanted
+
+  module _ (u m : ℕ) (below : m < b.count u) where
+    abbrev one : IsMessageToAll plan timing b u m
+    one = keeps.messages u m below
+
+    abbrev its : Broadcast
+    its = its_broadcast plan timing stays b u m one
+
+    wanted : wanted_by u (get_or whole (b.flow u m) None) ≡ Some its
+    wanted =
+        let first : get_or (frames_asked (asked plan timing stays)) (b.flow u m) None ≡ Some (wanting its) =
+        flow_read (asked plan timing stays).flows (asked plan timing stays).units (asked plan timing stays).requests (b.flow u m)
+        (load plan timing stays (b.flow u m) one.flow one.pace one.group one.its one.paced one.of) (wanting its)
+        (at_place plan timing stays (b.flow u m) one.flow one.pace one.group one.its one.paced one.of) (ap own_frames (to_all_units plan timing stays b u m one)) in
+        let there : get_or whole (b.flow u m) None ≡ Some (wanting its) =
+        get_or_append_left (frames_asked (asked plan timing stays)) (damage_frames timing) None (b.flow u m)
+        (get_or_inside (frames_asked (asked plan timing stays)) (b.flow u m) (wanting its) first) ∙ first in
+        let sender : wanted_by u (Some (wanting its)) ≡ Some its = rw (eq-eqb one.flow.sender u one.from) refl in
+        ap (wanted_by u) there ∙ sender
+
+    place_wanted : (spot u whole (b.flow u m) < length (wants_of whole u)) × (get_or (wants_of whole u) (spot u whole (b.flow u m)) its ≡ its)
+    place_wanted = at_spot u whole (b.flow u m) its its wanted
+
+    want_is : (announcements : Bool) → want_at (demand_by announcements (wants_of whole u)) (spot u whole (b.flow u m)) ≡ want_of announcements its
+    want_is announcements =
+        get_or-map (want_of announcements) (wants_of whole u) (spot u whole (b.flow u m)) its nothing place_wanted.0
+        ∙ ap (want_of announcements) place_wanted.1
+
+    few_packets : b.packets u m ≤ its.packets
+    few_packets = let longest = one.longest in omega (arith, longest)
+
+  abbrev unit_messages : ℕ → UnitMessages
+  unit_messages u = record {
+    count = b.count u;
+    flow = λ m. spot u whole (b.flow u m);
+    moment = b.moment u;
+    wanted = b.wanted u;
+    announced = b.announced u;
+    message = λ p. message_of (sent.source p);
+    place = λ p. number_of (sent.source p);
+  }
+
+  module _ (u : ℕ) (announcements : Bool) where
+    abbrev demand : Demand
+    demand = demand_by announcements (wants_of whole u)
+
+    abbrev bs : List Broadcast
+    bs = wants_of whole u
+
+    -- one that wants nothing
+    abbrev blank : Broadcast
+    blank = record { sender = 0; packets = 0; least_packets = 0; has_short = false; period = 0; apart = 1; late = 0; deadline = None }
+
+    periods : HavePeriods demand
+    periods f = elim (cases_lt f (length bs)) [
+      | inl below ↦
+          let its = wants_apart u whole (all_apart plan timing stays) f blank below in
+          let is = ap (λ (w : Want). w.period) (get_or-map (want_of announcements) bs f blank nothing below) in
+          omega (arith, its, is)
+      | inr past ↦
+          let size = length-map bs (want_of announcements) in
+          let is = ap (λ (w : Want). w.period) (get_or_past (map (want_of announcements) bs) f nothing (omega (arith, past, size))) in
+          omega (arith, is)
+    ]
+
+    in_turn : AreWantedInTurn demand (unit_messages u)
+    in_turn = record {
+      flows = λ m below. let (inside, is) = place_wanted u m below in let size = length-map bs (want_of announcements) in omega (arith, inside, size);
+      apart = λ m n pair.
+          let (less, below, same) = pair in
+          let first : m < b.count u = omega (arith, less, below) in
+          let flow : b.flow u m ≡ b.flow u n =
+          one_spot u whole (b.flow u m) (b.flow u n) (its u m first) (its u n below) (wanted u m first) (wanted u n below) same in
+          let second = one u n below in
+          let far = keeps.apart u m n second.pace.period (less, below, flow) (record {
+            flow = second.flow;
+            its = ap (slice_get plan.flows.items) flow ∙ second.its;
+            pace = second.pace;
+            paced = second.paced;
+            is = refl;
+          }) in
+          let bits = behind_bits timing.bitrate second.pace.period (b.moment u m) (b.moment u n) far in
+          let period = ap (λ (w : Want). w.period) (want_is u n below announcements) in
+          omega (arith, bits, period);
+      moment_first = λ m below. (one u m below).moment_first;
+      late_at_most = λ m below.
+          let bits = within_bits timing.bitrate (one u m below).pace.jitter (b.moment u m) (b.wanted u m) (one u m below).late_at_most in
+          let late = ap (λ (w : Want). w.late) (want_is u m below announcements) in
+          omega (arith, bits, late);
+      wanted_first = λ m below. (one u m below).wanted_first;
+      one_waits = λ m n pair.
+          let (less, below, same) = pair in
+          let first : m < b.count u = omega (arith, less, below) in
+          let flow : b.flow u m ≡ b.flow u n =
+          one_spot u whole (b.flow u m) (b.flow u n) (its u m first) (its u n below) (wanted u m first) (wanted u n below) same in
+          keeps.one_waits u m n (less, below, flow);
+    }
+
+  longest : (u : ℕ) → HasLongest (demand u false)
+  longest u f = elim (cases_lt f (length (bs u false))) [
+    | inl below ↦
+        let most = most_at_spot u (bs u false) f (blank u false) below in
+        let is = ap (λ (w : Want). w.frames) (get_or-map (want_of false) (bs u false) f (blank u false) nothing below) in
+        omega (arith, most, is)
+    | inr past ↦
+        let size = length-map (bs u false) (want_of false) in
+        let is = ap (λ (w : Want). w.frames) (get_or_past (map (want_of false) (bs u false)) f nothing (omega (arith, past, size))) in
+        omega (arith, is)
+  ]
+
+  -- ---- frames of a schedule in which these are
+
+  module _ (w : Schedule) (plans : ℕ → Bool) (of : Origins)
+      (copies : (p : ℕ) → p < w.count → plans p ≡ true
+      → ((traffic plan timing stays).stream (of.source p)).wanted ≡ None ⊎ IsCopy plan s planned sent of p) where
+    -- one of a unit's packets
+    record IsPacket (u p : ℕ) : Type 0 where
+      pub copy : IsCopy plan s planned sent of p
+      pub message : ℕ
+      pub number : ℕ
+      pub source : sent.source p ≡ Carrying u message number
+      pub known : message < b.count u
+      pub few : number < b.packets u message
+      pub queued : s.queued p ≡ of.since p
+
+    record IsAnnouncement (u p : ℕ) : Type 0 where
+      pub copy : IsCopy plan s planned sent of p
+      pub message : ℕ
+      pub source : sent.source p ≡ Announcing u message
+      pub known : message < b.count u
+      pub queued : s.queued p ≡ of.since p
+
+    wanted_none : (j k : ℕ) → ((traffic plan timing stays).stream j).wanted ≡ Some k → ((traffic plan timing stays).stream j).wanted ≡ None → ⊥
+    wanted_none j k some none = none-some k (sym none ∙ some)
+
+    packet : (u m k p : ℕ) → m < b.count u → ((traffic plan timing stays).stream (place_of plan (Carrying u m k))).wanted ≡ Some (packets_demand u)
+        → IsOf w plans of (place_of plan (Carrying u m k)) p → IsPacket u p
+    packet u m k p below some (in_p, is, place) = elim (copies p in_p is) [
+      | inl none ↦ absurd (wanted_none (place_of plan (Carrying u m k)) (packets_demand u) some
+          (subst (λ (j : ℕ). ((traffic plan timing stays).stream j).wanted ≡ None) place none))
+      | inr copy ↦
+          let (n, j, source) = of_packets plan timing stays s held b keeps.messages (sent.source p) u m k (sent.moment p) p (frames p copy.below copy.is) below
+          (sym copy.place ∙ place) in
+          let frame = subst (λ (x : Source). IsFrameOf plan timing s held b x (sent.moment p) p) source (frames p copy.below copy.is) in
+          record {
+            copy = copy;
+            message = n;
+            number = j;
+            source = source;
+            known = frame.0.known;
+            few = frame.1;
+            queued = frame.0.at_once ∙ sym copy.since;
+          }
+    ]
+
+    announcement : (u m p : ℕ) → m < b.count u
+        → ((traffic plan timing stays).stream (place_of plan (Announcing u m))).wanted ≡ Some (announcements_demand u)
+        → IsOf w plans of (place_of plan (Announcing u m)) p → IsAnnouncement u p
+    announcement u m p below some (in_p, is, place) = elim (copies p in_p is) [
+      | inl none ↦ absurd (wanted_none (place_of plan (Announcing u m)) (announcements_demand u) some
+          (subst (λ (j : ℕ). ((traffic plan timing stays).stream j).wanted ≡ None) place none))
+      | inr copy ↦
+          let (n, source) = of_announcements plan timing stays s held b keeps.messages (sent.source p) u m (sent.moment p) p (frames p copy.below copy.is) below
+          (sym copy.place ∙ place) in
+          let frame = subst (λ (x : Source). IsFrameOf plan timing s held b x (sent.moment p) p) source (frames p copy.below copy.is) in
+          record { copy = copy; message = n; source = source; known = frame.known; queued = frame.at_once ∙ sym copy.since }
+    ]
+
+    packets_most : (u m k : ℕ) → m < b.count u → ((traffic plan timing stays).stream (place_of plan (Carrying u m k))).wanted ≡ Some (packets_demand u)
+        → (t span : ℕ) → moments_in w plans of (place_of plan (Carrying u m k)) t span ≤ frames_wanted span (demand u false)
+    packets_most u m k below some t span =
+        packets_asked w plans of (place_of plan (Carrying u m k)) (demand u false) (unit_messages u) (periods u false) (in_turn u false) are t span (longest u)
+      where
+        are : AreFramesOfMessages w plans of (place_of plan (Carrying u m k)) (demand u false) (unit_messages u)
+        are = record {
+          known = λ p its. let x = packet u m k p below some its in
+              subst (λ (y : Source). message_of y < b.count u) (sym x.source) x.known;
+          behind = λ p its. let x = packet u m k p below some its in
+              let first = keeps.behind p u x.message x.number x.copy.below x.copy.is x.source in
+              let queued = x.queued in
+              subst (λ (y : Source). b.announced u (message_of y) ≤ of.since p) (sym x.source) (omega (arith, first, queued));
+          in_turn = λ p n its less last. let x = packet u m k p below some its in
+              let before = keeps.before p u x.message x.number n x.copy.below x.copy.is x.source (subst (λ (y : Source). message_of y < n) x.source less) last in
+              let queued = x.queued in
+              omega (arith, before, queued);
+          apart = λ p q its other message number.
+              let x = packet u m k p below some its in
+              let y = packet u m k q below some other in
+              let messages : y.message ≡ x.message = sym (ap message_of y.source) ∙ (sym message ∙ ap message_of x.source) in
+              let numbers : y.number ≡ x.number = sym (ap number_of y.source) ∙ (sym number ∙ ap number_of x.source) in
+              keeps.carried p q u x.message x.number x.copy.below y.copy.below x.copy.is y.copy.is x.source
+              (y.source ∙ (ap (λ (n : ℕ). Carrying u n y.number) messages ∙ ap (λ (n : ℕ). Carrying u x.message n) numbers));
+          places = λ p its. let x = packet u m k p below some its in
+              let frames = ap (λ (want : Want). want.frames) (want_is u x.message x.known false) in
+              let few = x.few in
+              let most = few_packets u x.message x.known in
+              subst (λ (y : Source). number_of y < (want_at (demand u false) (spot u whole (b.flow u (message_of y)))).frames) (sym x.source)
+              (omega (arith, frames, few, most));
+        }
+
+    announcements_most : (u m : ℕ) → m < b.count u
+        → ((traffic plan timing stays).stream (place_of plan (Announcing u m))).wanted ≡ Some (announcements_demand u)
+        → (t span : ℕ) → moments_in w plans of (place_of plan (Announcing u m)) t span ≤ frames_wanted span (demand u true)
+    announcements_most u m below some t span =
+        announcements_asked w plans of (place_of plan (Announcing u m)) (demand u true) (unit_messages u) (periods u true) (in_turn u true) are t span at_once
+      where
+        announced_at : (p : ℕ) → IsOf w plans of (place_of plan (Announcing u m)) p → of.since p ≡ b.announced u (message_of (sent.source p))
+        announced_at p its =
+            let x = announcement u m p below some its in
+            let first = keeps.announced p u x.message x.copy.below x.copy.is x.source in
+            sym x.queued ∙ (first ∙ ap (λ (y : Source). b.announced u (message_of y)) (sym x.source))
+
+        at_once : AreAnnouncements w plans of (place_of plan (Announcing u m)) (unit_messages u)
+        at_once p its = announced_at p its
+
+        are : AreFramesOfMessages w plans of (place_of plan (Announcing u m)) (demand u true) (unit_messages u)
+        are = record {
+          known = λ p its. let x = announcement u m p below some its in
+              subst (λ (y : Source). message_of y < b.count u) (sym x.source) x.known;
+          behind = λ p its. let at = announced_at p its in omega (arith, at);
+          in_turn = λ p n its less last.
+              let x = announcement u m p below some its in
+              let at = announced_at p its in
+              let message : message_of (sent.source p) ≡ x.message = ap message_of x.source in
+              let gap = behind_bits timing.bitrate (b.packets u x.message * timing.broadcast_gap) (b.announced u x.message) (b.announced u n)
+              (keeps.in_turn u x.message n (subst (λ (y : ℕ). y < n) message less) last) in
+              let there = ap (b.announced u) message in
+              omega (arith, at, gap, there);
+          apart = λ p q its other message number.
+              let x = announcement u m p below some its in
+              let y = announcement u m q below some other in
+              let messages : y.message ≡ x.message = sym (ap message_of y.source) ∙ (sym message ∙ ap message_of x.source) in
+              keeps.once p q u x.message x.copy.below y.copy.below x.copy.is y.copy.is x.source (y.source ∙ ap (λ (n : ℕ). Announcing u n) messages);
+          places = λ p its. let x = announcement u m p below some its in
+              let frames = ap (λ (want : Want). want.frames) (want_is u x.message x.known true) in
+              subst (λ (y : Source). number_of y < (want_at (demand u true) (spot u whole (b.flow u (message_of y)))).frames) (sym x.source)
+              (omega (arith, frames));
+        }
+
+    -- ---- all streams
+
+    module _ (told : (p : ℕ) → p < s.count → planned p ≡ true
+        → IsPaced plan timing stays (sent.source p) ((traffic plan timing stays).stream (place_of plan (sent.source p)))) where
+      abbrev stream : ℕ → Stream
+      stream = (traffic plan timing stays).stream
+
+      demand_none : (j : ℕ) (x : Demand) → (stream j).wanted ≡ None → demand_of (demands_of whole) (stream j) ≡ Some x → ⊥
+      demand_none j x none is = none-some x (sym (ap (option_and_then (λ (place : ℕ). slice_get (demands_of whole) place)) none) ∙ is)
+
+      demand_told : (j place : ℕ) (x y : Demand) → (stream j).wanted ≡ Some place → slice_get (demands_of whole) place ≡ Some y
+          → demand_of (demands_of whole) (stream j) ≡ Some x → y ≡ x
+      demand_told j place x y some at is =
+          same_Some y x (sym at ∙ (sym (ap (option_and_then (λ (k : ℕ). slice_get (demands_of whole) k)) some) ∙ is))
+
+      unit_few : (u m : ℕ) → m < b.count u → u < unit_limit
+      unit_few u m below =
+          let inside = unit_planned plan timing stays b u m (keeps.messages u m below) in
+          let few = plan.unit_count in
+          omega (arith, inside, few)
+
+      of_source : (x : Source) (moment p : ℕ) → IsFrameOf plan timing s held b x moment p → IsPaced plan timing stays x (stream (place_of plan x))
+          → (t span : ℕ) (demand : Demand) → demand_of (demands_of whole) (stream (place_of plan x)) ≡ Some demand
+          → moments_in w plans of (place_of plan x) t span ≤ frames_wanted span demand
+      of_source (Single f) moment p frame paced t span demand is = absurd (demand_none f demand paced.unwanted is)
+      of_source (InSession f part) moment p frame paced t span demand is = absurd (demand_none f demand paced.unwanted is)
+      of_source (Asking r) moment p frame paced t span demand is = absurd (demand_none (place_of plan (Asking r)) demand paced.unwanted is)
+      of_source (Announcing u m) moment p frame paced t span demand is =
+          let some : (stream (place_of plan (Announcing u m))).wanted ≡ Some (announcements_demand u) = ap (λ (x : Stream). x.wanted) paced in
+          subst (λ (x : Demand). moments_in w plans of (place_of plan (Announcing u m)) t span ≤ frames_wanted span x)
+          (demand_told (place_of plan (Announcing u m)) (announcements_demand u) demand (demand_by true (wants_of whole u)) some
+          (announcements_wanted u whole (unit_few u m frame.known)) is)
+          (announcements_most u m frame.known some t span)
+      of_source (Carrying u m k) moment p frame paced t span demand is =
+          let some : (stream (place_of plan (Carrying u m k))).wanted ≡ Some (packets_demand u) = ap (λ (x : Stream). x.wanted) paced in
+          subst (λ (x : Demand). moments_in w plans of (place_of plan (Carrying u m k)) t span ≤ frames_wanted span x)
+          (demand_told (place_of plan (Carrying u m k)) (packets_demand u) demand (demand_by false (wants_of whole u)) some
+          (packets_wanted u whole (unit_few u m frame.0.known)) is)
+          (packets_most u m k frame.0.known some t span)
+
+      pub as_wanted : AreAsWanted w plans of (traffic plan timing stays).demands (traffic plan timing stays).stream
+      as_wanted j t span demand is = elim (cases_lt 0 (moments_in w plans of j t span)) [
+        | inr none ↦ omega (arith, none)
+        | inl some ↦
+            let (p, in_p, counted) = one_counts w.count (λ p. plans p && (eqb (of.source p) j && (leb t (of.since p) && ltb (of.since p) (t + span)))) some in
+            let parts = and_parts (plans p) (eqb (of.source p) j && (leb t (of.since p) && ltb (of.since p) (t + span))) counted in
+            let place : of.source p ≡ j =
+            eqb-true (of.source p) j (and_parts (eqb (of.source p) j) (leb t (of.since p) && ltb (of.since p) (t + span)) parts.1).0 in
+            elim (copies p in_p parts.0) [
+              | inl none ↦ absurd (demand_none j demand (subst (λ (k : ℕ). (stream k).wanted ≡ None) place none) is)
+              | inr copy ↦
+                  let there : place_of plan (sent.source p) ≡ j = sym copy.place ∙ place in
+                  subst (λ (k : ℕ). moments_in w plans of k t span ≤ frames_wanted span demand) there
+                  (of_source (sent.source p) (sent.moment p) p (frames p copy.below copy.is) (told p copy.below copy.is) t span demand
+                  (subst (λ (k : ℕ). demand_of (demands_of whole) (stream k) ≡ Some demand) (sym there) is))
+            ]
+      ]
