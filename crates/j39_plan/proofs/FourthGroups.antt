@@ -1,5 +1,5 @@
 -- Groups of version 4 among whose signals nothing stands that it alone knows are those of version 3.
-use Rattle.std.proofs.Common.{◌≡◌, ℕ, Bool, true, false, arith, List, [], ◌∷◌, None, refl, sym, subst, ◌∙◌}
+use Rattle.std.proofs.Common.{map, ◌≡◌, ℕ, Bool, true, false, arith, List, [], ◌∷◌, None, refl, sym, subst, ◌∙◌}
 use Rattle.std.specs.Option.{option_map_or}
 use Rattle.toml.specs.Data.{Data, Members, no_members, get_member, as_table}
 use Rattle.j39_signal.specs.Parts.{SignalParts}
@@ -12,10 +12,12 @@ use Rattle.j39_plan.specs.declared.reading.place.Table.{Table}
 use Rattle.j39_plan.specs.declared.reading.place.Table.TheVariants as at
 use Rattle.j39_plan.specs.declared.reading.text_kind.TextKind.TheVariants as texts
 use Rattle.j39_plan.specs.Words.{word_of}
-use Rattle.j39_plan.specs.Schema.{number_of, flag_of, given_number, table_of, tables_of}
-use Rattle.j39_plan.specs.TableFaults.{key_faults, table_only_faults, is_key_word}
+use Rattle.j39_tables.specs.Rules.{number_of, flag_of, table_found, number_found}
+use Rattle.j39_plan.specs.Schema.{given_number, table_of, tables_of}
+use Rattle.j39_tables.specs.TableFaults.{key_faults, table_only_faults, is_key_word}
 use Rattle.j39_plan.specs.Since.{Since, since, versioned_faults}
-use Rattle.j39_plan.specs.Elements.{inside, label_in, label_rule, repeated_faults}
+use Rattle.j39_tables.specs.InOrder.{inside}
+use Rattle.j39_plan.specs.LabelsSeen.{label_in, label_rule, repeated_faults}
 use Rattle.j39_plan.specs.MeaningTables.{optional_rule, spn_rule, values_rule, meaning_rules, optional_of, spn_of, name_table, AreValueNames}
 use Rattle.j39_plan.specs.SignalTables.{byte_rule, bit_rule, bits_rule, is_code, kind_rule, step_rule, per_rule, offset_rule, unit_rule, repeated_rule, repeated_of, signal_table_faults, signal_faults, IsMeaningOf, IsSignalOf}
 use Rattle.j39_plan.specs.SelectorTables.{TellsWhen, when_rule, when_table}
@@ -47,12 +49,12 @@ unfolding key_faults
 values_unfaulted code bits at ms lacks = rw (no_values ms lacks)
 
 -- the keys of a signal in the third version, and in the fourth
-abbrev older_keys : List Key
-older_keys = key.Label ∷ key.Byte ∷ key.Bit ∷ key.Bits ∷ key.Kind ∷ key.Step ∷ key.Per ∷ key.Offset ∷ key.Unit ∷ key.Repeated ∷ []
+abbrev older_keys : List (List ℕ)
+older_keys = map word_of (key.Label ∷ key.Byte ∷ key.Bit ∷ key.Bits ∷ key.Kind ∷ key.Step ∷ key.Per ∷ key.Offset ∷ key.Unit ∷ key.Repeated ∷ [])
 
-abbrev later_keys : List Key
-later_keys = key.Label ∷ key.Byte ∷ key.Bit ∷ key.Bits ∷ key.Kind ∷ key.Step ∷ key.Per ∷ key.Offset ∷ key.Unit ∷ key.Repeated
-    ∷ key.Optional ∷ key.Spn ∷ key.Values ∷ []
+abbrev later_keys : List (List ℕ)
+later_keys = map word_of (key.Label ∷ key.Byte ∷ key.Bit ∷ key.Bits ∷ key.Kind ∷ key.Step ∷ key.Per ∷ key.Offset ∷ key.Unit ∷ key.Repeated
+    ∷ key.Optional ∷ key.Spn ∷ key.Values ∷ [])
 
 signal_words : (l : List ℕ) → IsNone (key.Optional ∷ key.Spn ∷ key.Values ∷ []) l → is_key_word later_keys l ≡ is_key_word older_keys l
 signal_words l none = rw (none 0 key.Optional (omega arith), none 1 key.Spn (omega arith), none 2 key.Values (omega arith))
@@ -88,11 +90,11 @@ unfolding flag_of
 optional_is ms lacks = rw (no_optional ms lacks)
 
 spn_is : (ms : Members) → IsThirdSignal ms → spn_of Fourth ms ≡ None
-unfolding given_number
+unfolding number_found
 spn_is ms lacks = rw (no_spn ms lacks)
 
 names_are : (ms : Members) → IsThirdSignal ms → name_table Fourth ms ≡ no_members
-unfolding table_of
+unfolding table_found
 names_are ms lacks = rw (no_values ms lacks)
 
 third_signal : (d : Data) (s : SignalParts) → IsThirdSignal (inside d) → IsSignalOf Fourth d s → IsSignalOf Third d s
@@ -151,15 +153,15 @@ unfolding key_faults
 when_unfaulted at ms third = rw (no_when ms third)
 
 when_is : (ms : Members) → IsThirdGroup ms → when_table Fourth ms ≡ None
-unfolding table_of
+unfolding table_found
 when_is ms third = rw (no_when ms third)
 
-abbrev older_group_keys : List Key
-older_group_keys = key.Label ∷ key.Pgn ∷ key.Priority ∷ key.Length ∷ key.Private ∷ key.Most ∷ key.Every ∷ key.Signal ∷ key.Text ∷ []
+abbrev older_group_keys : List (List ℕ)
+older_group_keys = map word_of (key.Label ∷ key.Pgn ∷ key.Priority ∷ key.Length ∷ key.Private ∷ key.Most ∷ key.Every ∷ key.Signal ∷ key.Text ∷ [])
 
-abbrev later_group_keys : List Key
-later_group_keys =
-    key.Label ∷ key.Pgn ∷ key.Priority ∷ key.Length ∷ key.Private ∷ key.Most ∷ key.Every ∷ key.When ∷ key.Signal ∷ key.Text ∷ []
+abbrev later_group_keys : List (List ℕ)
+later_group_keys = map word_of
+    (key.Label ∷ key.Pgn ∷ key.Priority ∷ key.Length ∷ key.Private ∷ key.Most ∷ key.Every ∷ key.When ∷ key.Signal ∷ key.Text ∷ [])
 
 group_words : (l : List ℕ) → IsNone (key.When ∷ []) l → is_key_word later_group_keys l ≡ is_key_word older_group_keys l
 group_words l none = rw (none 0 key.When (omega arith))

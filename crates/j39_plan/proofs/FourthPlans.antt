@@ -1,5 +1,5 @@
 -- A plan of version 4 in which nothing stands that it alone knows is one of version 3.
-use Rattle.std.proofs.Common.{◌≡◌, ◌≢◌, ℕ, pos, true, false, arith, List, [], ◌∷◌, Option, Some, None, IfSome, unwrap_or, refl, sym, ap, subst, ◌∙◌}
+use Rattle.std.proofs.Common.{map, ◌≡◌, ◌≢◌, ℕ, pos, true, false, arith, List, [], ◌∷◌, Option, Some, None, IfSome, unwrap_or, refl, sym, ap, subst, ◌∙◌}
 use Rattle.std.specs.Option.{option_and_then}
 use Rattle.std.proofs.lemmas.Bool.{le-ltb, ne_eqb}
 use Rattle.toml.specs.Data.{Data, string, integer, float, boolean, datetime, array, table, Members, get_member, as_integer}
@@ -11,10 +11,12 @@ use Rattle.j39_plan.specs.declared.reading.key.Key.TheVariants as key
 use Rattle.j39_plan.specs.declared.reading.place.Table.{Table}
 use Rattle.j39_plan.specs.declared.reading.place.Table.TheVariants as at
 use Rattle.j39_plan.specs.Words.{word_of}
-use Rattle.j39_plan.specs.Schema.{has_key, bitrate_of_bus, natural, standing, number_of, given_number, flag_of, table_of}
-use Rattle.j39_plan.specs.TableFaults.{is_bitrate, standing_cause, key_faults, is_key_word}
+use Rattle.j39_plan.specs.Schema.{has_key, given_number, table_of}
+use Rattle.j39_tables.specs.Rules.{natural, standing, number_of, flag_of, table_found, number_found}
+use Rattle.j39_plan.specs.ValueCauses.{is_bitrate}
+use Rattle.j39_tables.specs.TableFaults.{standing_cause, key_faults, is_key_word}
 use Rattle.j39_plan.specs.Since.{versioned_faults}
-use Rattle.j39_plan.specs.Elements.{inside}
+use Rattle.j39_tables.specs.InOrder.{inside}
 use Rattle.j39_plan.specs.FlowTables.{period_rule, given_period, jitter_rule, jitter_most, jitter_of, pause_rule, on_request_rule, on_request_of, flow_rules, flow_table_faults, flow_faults, IsFlowOf}
 use Rattle.j39_plan.specs.TimingTables.{bitrate_of, TellsErrors, bitrate_rule, unplanned_priority_rule, transport_priority_rule, gap_rule, gap_most_rule, errors_rule, timing_table_faults, errors_table, TellsBus}
 use Rattle.j39_plan.specs.Versions.{fourth_bus_keys, fourth_flow_keys, IsThirdBus, IsThirdFlow}
@@ -38,11 +40,11 @@ period_same : (ms : Members) → IsThirdFlow ms → period_rule Fourth ms ≡ pe
 period_same ms lacks = rw (no_jitter_key ms lacks)
 
 -- the keys of a flow in the third version, and in the fourth
-abbrev older_keys : Key → List Key
-older_keys period = key.Group ∷ key.From ∷ key.To ∷ period ∷ key.Deadline ∷ []
+abbrev older_keys : Key → List (List ℕ)
+older_keys period = map word_of (key.Group ∷ key.From ∷ key.To ∷ period ∷ key.Deadline ∷ [])
 
-abbrev later_keys : Key → List Key
-later_keys period = key.Group ∷ key.From ∷ key.To ∷ period ∷ key.Deadline ∷ key.Jitter ∷ key.Pause ∷ key.OnRequest ∷ []
+abbrev later_keys : Key → List (List ℕ)
+later_keys period = map word_of (key.Group ∷ key.From ∷ key.To ∷ period ∷ key.Deadline ∷ key.Jitter ∷ key.Pause ∷ key.OnRequest ∷ [])
 
 flow_words : (period : Key) (l : List ℕ) → IsNone fourth_flow_keys l → is_key_word (later_keys period) l ≡ is_key_word (older_keys period) l
 flow_words period l none = rw (none 0 key.Jitter (omega arith), none 1 key.Pause (omega arith), none 2 key.OnRequest (omega arith))
@@ -85,7 +87,7 @@ unfolding number_of
 jitter_none ms period none = rw none
 
 pause_none : (ms : Members) (period : Option ℕ) → get_member (word_of key.Pause) ms ≡ None → given_number (pause_rule period) ms ≡ None
-unfolding given_number
+unfolding number_found
 pause_none ms period none = rw none
 
 on_request_none : (ms : Members) → get_member (word_of key.OnRequest) ms ≡ None → on_request_of Fourth ms ≡ false
@@ -144,8 +146,15 @@ without ms third = record {
   errors = lacked key.Errors ms (third.keys 4 key.Errors (omega arith));
 }
 
+-- the keys of the bus in the fourth version, and in the third
+abbrev later_bus_keys : List (List ℕ)
+later_bus_keys = map word_of (key.Bitrate ∷ key.Unplanned ∷ fourth_bus_keys)
+
+abbrev older_bus_keys : List (List ℕ)
+older_bus_keys = map word_of (key.Bitrate ∷ key.Unplanned ∷ [])
+
 bus_words : (l : List ℕ) → IsNone fourth_bus_keys l
-    → is_key_word (key.Bitrate ∷ key.Unplanned ∷ fourth_bus_keys) l ≡ is_key_word (key.Bitrate ∷ key.Unplanned ∷ []) l
+    → is_key_word later_bus_keys l ≡ is_key_word older_bus_keys l
 bus_words l none = rw (
   none 0 key.UnplannedPriority (omega arith),
   none 1 key.TransportPriority (omega arith),
@@ -159,7 +168,7 @@ bitrate_same n not_slowest not_fastest = rw (ne_eqb n 125000 not_slowest, ne_eqb
 
 bitrate_cause : (found : Option Data) → natural (unwrap_or (option_and_then as_integer found) (pos 0)) ≢ 125000
     → natural (unwrap_or (option_and_then as_integer found) (pos 0)) ≢ 1000000
-    → standing_cause (bitrate_of_bus true) found ≡ standing_cause (bitrate_of_bus false) found
+    → standing_cause (bitrate_rule Fourth) found ≡ standing_cause (bitrate_rule Third) found
 bitrate_cause None a b = refl
 bitrate_cause (Some (integer z)) a b = rw (bitrate_same (natural z) a b)
 bitrate_cause (Some (string s)) a b = refl
@@ -195,7 +204,7 @@ unfaulted ms w = record {
 }
 
 no_errors : (ms : Members) → Without ms → errors_table Fourth ms ≡ None
-unfolding table_of
+unfolding table_found
 no_errors ms w = rw w.errors
 
 pub timing_alike : (ms : Members) → IsThirdBus ms → Alike (timing_table_faults Fourth ms) (timing_table_faults Third ms)
@@ -204,7 +213,7 @@ timing_alike ms third =
     let w = without ms third in
     let u = unfaulted ms w in
     alike_both _ _ _ _
-    (alike_both _ _ _ _ (alike_unknown at.Timing _ _ ms ms (only_same (key.Bitrate ∷ key.Unplanned ∷ fourth_bus_keys) (key.Bitrate ∷ key.Unplanned ∷ []) fourth_bus_keys bus_words ms third.keys))
+    (alike_both _ _ _ _ (alike_unknown at.Timing _ _ ms ms (only_same later_bus_keys older_bus_keys fourth_bus_keys bus_words ms third.keys))
     (rw (bitrate_alike ms third, u.unplanned_priority, u.transport_priority, u.gap, u.gap_most, u.errors) refl))
     (rw (no_errors ms w) refl)
 

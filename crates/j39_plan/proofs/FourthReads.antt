@@ -1,5 +1,5 @@
 -- A plan of version 4 in which nothing stands that it alone knows is read as one of version 3.
-use Rattle.std.proofs.Common.{◌≡◌, ℕ, true, false, arith, List, [], ◌∷◌, Option, Some, None, IfSome, refl, sym, ◌∙◌}
+use Rattle.std.proofs.Common.{map, ◌≡◌, ℕ, true, false, arith, List, [], ◌∷◌, Option, Some, None, IfSome, refl, sym, ◌∙◌}
 use Rattle.std.specs.Option.{option_map_or}
 use Rattle.toml.specs.Data.{no_items, Members, get_member}
 use Rattle.j39_network.specs.declared.plan.Plan.{Plan}
@@ -9,10 +9,12 @@ use Rattle.j39_plan.specs.declared.reading.key.Key.{Key}
 use Rattle.j39_plan.specs.declared.reading.key.Key.TheVariants as key
 use Rattle.j39_plan.specs.declared.reading.place.Table.TheVariants as at
 use Rattle.j39_plan.specs.Words.{word_of}
-use Rattle.j39_plan.specs.Schema.{number_of, flag_of, table_of, tables_of}
-use Rattle.j39_plan.specs.TableFaults.{key_faults, is_key_word, has_only}
+use Rattle.j39_tables.specs.Rules.{number_of, flag_of, array_found}
+use Rattle.j39_plan.specs.Schema.{table_of, tables_of}
+use Rattle.j39_tables.specs.TableFaults.{key_faults, is_key_word, has_only}
 use Rattle.j39_plan.specs.Since.{known_faults}
-use Rattle.j39_plan.specs.Elements.{each_faults, label_in}
+use Rattle.j39_tables.specs.InOrder.{each_faults}
+use Rattle.j39_plan.specs.LabelsSeen.{label_in}
 use Rattle.j39_plan.specs.UnitTables.{IsUnitOf, unit_faults, unit_label_in}
 use Rattle.j39_plan.specs.GroupTables.{IsGroupOf, group_faults}
 use Rattle.j39_plan.specs.FlowTables.{IsFlowOf, flow_faults}
@@ -31,11 +33,11 @@ use Rattle.j39_plan.proofs.FourthPlans.{flow_alike, third_flow, fourth_flow, tim
 -- ---- the top table
 
 -- the keys of the top table in both versions
-abbrev fourth_keys : List Key
-fourth_keys = key.Version ∷ key.KeepFree ∷ key.Strangers ∷ key.Live ∷ key.Timing ∷ key.Unit ∷ key.Group ∷ key.Flow ∷ key.Need ∷ key.Request ∷ []
+abbrev fourth_keys : List (List ℕ)
+fourth_keys = map word_of (key.Version ∷ key.KeepFree ∷ key.Strangers ∷ key.Live ∷ key.Timing ∷ key.Unit ∷ key.Group ∷ key.Flow ∷ key.Need ∷ key.Request ∷ [])
 
-abbrev third_keys : List Key
-third_keys = key.Version ∷ key.KeepFree ∷ key.Timing ∷ key.Unit ∷ key.Group ∷ key.Flow ∷ []
+abbrev third_keys : List (List ℕ)
+third_keys = map word_of (key.Version ∷ key.KeepFree ∷ key.Timing ∷ key.Unit ∷ key.Group ∷ key.Flow ∷ [])
 
 top_words : (l : List ℕ) → IsNone fourth_top_keys l
     → is_key_word fourth_keys l
@@ -129,7 +131,7 @@ unfolding key_faults
 needs_unfaulted s none = rw none
 
 no_need_tables : (s : Members) → get_member (word_of key.Need) s ≡ None → need_tables_of Fourth s ≡ no_items
-unfolding tables_of
+unfolding tables_of array_found
 no_need_tables s none = rw none
 
 no_requests : (s : Members) → Lacks fourth_top_keys s → get_member (word_of key.Request) s ≡ None
@@ -140,7 +142,7 @@ unfolding key_faults
 requests_unfaulted s none = rw none
 
 no_request_tables : (s : Members) → get_member (word_of key.Request) s ≡ None → request_tables_of Fourth s ≡ no_items
-unfolding tables_of
+unfolding tables_of array_found
 no_request_tables s none = rw none
 
 arrays_alike : (s : Members) → Beside s

@@ -1,5 +1,5 @@
 -- A unit of version 4 in whose table nothing stands that it alone knows is one of version 3.
-use Rattle.std.proofs.Common.{◌≡◌, ℕ, true, false, arith, List, [], ◌∷◌, Option, None, Some, is_some, unwrap_or, IfSome, refl, sym, ap, ◌∙◌}
+use Rattle.std.proofs.Common.{map, ◌≡◌, ℕ, true, false, arith, List, [], ◌∷◌, Option, None, Some, is_some, unwrap_or, IfSome, refl, sym, ap, ◌∙◌}
 use Rattle.std.specs.Option.{option_map_or}
 use Rattle.std.proofs.lemmas.Bool.{false≢true}
 use Rattle.toml.specs.Data.{Data, Members, no_members, get_member, as_table}
@@ -13,10 +13,12 @@ use Rattle.j39_plan.specs.declared.reading.place.Table.{Table}
 use Rattle.j39_plan.specs.declared.reading.place.Table.TheVariants as at
 use Rattle.j39_plan.specs.declared.reading.text_kind.TextKind.TheVariants as texts
 use Rattle.j39_plan.specs.Words.{word_of}
-use Rattle.j39_plan.specs.Schema.{flag_of, has_key, number_of, table_of, text_of}
-use Rattle.j39_plan.specs.TableFaults.{key_faults, table_only_faults, is_key_word}
+use Rattle.j39_tables.specs.Rules.{flag_of, number_of, text_of}
+use Rattle.j39_plan.specs.Schema.{has_key, table_of}
+use Rattle.j39_tables.specs.TableFaults.{key_faults, table_only_faults, is_key_word}
 use Rattle.j39_plan.specs.Since.{versioned_faults}
-use Rattle.j39_plan.specs.Elements.{inside, repeated_faults}
+use Rattle.j39_tables.specs.InOrder.{inside}
+use Rattle.j39_plan.specs.LabelsSeen.{repeated_faults}
 use Rattle.j39_plan.specs.UnitTables.{any_identity_of, lacks_identity, name_faults, name_fields_of, name_of, name_rule}
 use Rattle.j39_plan.specs.UnitTables.{claims_rule, claims_of, queue_rule, queue_of, unit_rules, unit_label_in, unit_table_faults, unit_faults, IsUnitOf}
 use Rattle.j39_plan.specs.Versions.{IsThirdUnit}
@@ -29,11 +31,11 @@ no_queue : (ms : Members) → IsThirdUnit ms → get_member (word_of key.Queue) 
 no_queue ms lacks = lacked key.Queue ms (lacks.keys 0 key.Queue (omega arith))
 
 -- the keys of a unit in the third version, and in the fourth
-abbrev older_keys : List Key
-older_keys = key.Label ∷ key.Address ∷ key.Chooser ∷ key.Window ∷ key.Name ∷ []
+abbrev older_keys : List (List ℕ)
+older_keys = map word_of (key.Label ∷ key.Address ∷ key.Chooser ∷ key.Window ∷ key.Name ∷ [])
 
-abbrev later_keys : List Key
-later_keys = key.Label ∷ key.Address ∷ key.Chooser ∷ key.Window ∷ key.Queue ∷ key.Name ∷ key.Claims ∷ []
+abbrev later_keys : List (List ℕ)
+later_keys = map word_of (key.Label ∷ key.Address ∷ key.Chooser ∷ key.Window ∷ key.Queue ∷ key.Name ∷ key.Claims ∷ [])
 
 unit_words : (l : List ℕ) → IsNone (key.Queue ∷ key.Claims ∷ []) l → is_key_word later_keys l ≡ is_key_word older_keys l
 unit_words l none = rw (none 0 key.Queue (omega arith), none 1 key.Claims (omega arith))

@@ -7,16 +7,16 @@ use Rattle.j39_plan.specs.declared.reading.key.Key.TheVariants as key
 use Rattle.j39_plan.specs.declared.reading.place.Table.TheVariants as at
 use Rattle.j39_plan.specs.declared.reading.version.Version.TheVariants.{Second, Third, Fourth}
 use Rattle.j39_plan.specs.Words.{word_of}
-use Rattle.j39_plan.specs.Schema.{integer_in, natural, number_of}
-use Rattle.j39_plan.specs.TableFaults.{standing_cause, key_faults}
-use Rattle.j39_plan.specs.Elements.{Each}
+use Rattle.j39_tables.specs.Rules.{natural, number_of}
+use Rattle.j39_tables.specs.TableFaults.{standing_cause, key_faults}
+use Rattle.j39_tables.specs.InOrder.{Each}
 use Rattle.j39_plan.specs.PlanFaults.{version_rule, version_of}
 
 no_version : (n : ℕ) → 1 ≤ n → 0 ≡ n → ⊥
 no_version n some is = omega (arith, is)
 
 version_cause : (n : ℕ) (found : Option Data) → 1 ≤ n → n ≤ 4 → natural (unwrap_or (option_and_then as_integer (option_or found None)) (pos 0)) ≡ n
-    → standing_cause (integer_in (pos 1) (pos 4)) (option_or found None) ≡ None
+    → standing_cause version_rule (option_or found None) ≡ None
 version_cause n None some few is = absurd (no_version n some is)
 version_cause n (Some (integer (pos m))) some few is =
     let same : m ≡ n = is in

@@ -1,6 +1,5 @@
 pub mod Absent
-pub mod EachElement
-pub mod FirstFaults
+pub mod EmptyTree
 pub mod FourthGroups
 pub mod FourthPlans
 pub mod FourthReads
@@ -24,4 +23,3 @@ pub mod Tables
 pub mod ThirdPlans
 pub mod ThirdReads
 pub mod ThirdSignals
-pub mod Trees

@@ -1,5 +1,5 @@
 -- Groups and flows of version 3 in whose tables nothing stands that the second doesn't know are those of version 2.
-use Rattle.std.proofs.Common.{◌≡◌, ◌≤◌, ℕ, pos, negsuc, ltb, Bool, true, false, ◌||◌, if◌then◌else◌, arith, List, [], ◌∷◌, Option, Some, None, IfSome, unwrap_or, refl, sym, subst, ◌∙◌}
+use Rattle.std.proofs.Common.{map, ◌≡◌, ◌≤◌, ℕ, pos, negsuc, ltb, Bool, true, false, ◌||◌, if◌then◌else◌, arith, List, [], ◌∷◌, Option, Some, None, IfSome, unwrap_or, refl, sym, subst, ◌∙◌}
 use Rattle.std.specs.Option.{option_map_or, option_and_then}
 use Rattle.std.proofs.lemmas.Bool.{le-ltb, ltb-false, or_parts}
 use Rattle.toml.specs.Data.{Data, string, integer, float, boolean, datetime, array, table, no_items, Members, get_member, as_integer, as_table}
@@ -9,15 +9,17 @@ use Rattle.j39_network.specs.declared.plan.group_plan.GroupPlan.{GroupPlan}
 use Rattle.j39_plan.specs.declared.reading.version.Version.TheVariants.{Second, Third}
 use Rattle.j39_plan.specs.declared.reading.key.Key.{Key}
 use Rattle.j39_plan.specs.declared.reading.key.Key.TheVariants as key
-use Rattle.j39_plan.specs.declared.reading.cause.Cause.TheVariants.{Range}
+use Rattle.j39_tables.specs.declared.cause.Cause.TheVariants.{Range}
 use Rattle.j39_plan.specs.declared.reading.place.Table.{Table}
 use Rattle.j39_plan.specs.declared.reading.place.Table.TheVariants as at
 use Rattle.j39_plan.specs.declared.reading.text_kind.TextKind.TheVariants as texts
 use Rattle.j39_plan.specs.Words.{word_of}
-use Rattle.j39_plan.specs.Schema.{has_key, integer_in, natural, standing, number_of, given_number, flag_of, tables_of}
-use Rattle.j39_plan.specs.TableFaults.{fault, standing_cause, key_faults, table_only_faults, is_key_word}
+use Rattle.j39_plan.specs.Schema.{number, has_key, given_number, tables_of}
+use Rattle.j39_tables.specs.Rules.{natural, standing, number_of, flag_of, number_found, array_found}
+use Rattle.j39_tables.specs.TableFaults.{fault, standing_cause, key_faults, table_only_faults, is_key_word}
 use Rattle.j39_plan.specs.Since.{known_faults, versioned_faults}
-use Rattle.j39_plan.specs.Elements.{inside, label_in, label_rule, repeated_faults, Each}
+use Rattle.j39_tables.specs.InOrder.{inside, Each}
+use Rattle.j39_plan.specs.LabelsSeen.{label_in, label_rule, repeated_faults}
 use Rattle.j39_plan.specs.SignalTables.{signal_faults, IsMeaningOf, IsSignalOf}
 use Rattle.j39_plan.specs.GroupTables.{pgn_rule, priority_rule, length_rule, private_rule, private_of, most_rule, most_of, every_rule, every_of, signal_rule, text_rule, text_tables_of, first_rules, inner_rules, signals_faults, texts_faults, group_keys_faults, group_table_faults, group_faults, IsGroupOf}
 use Rattle.j39_plan.specs.TextTables.{IsTextOf}
@@ -45,11 +47,11 @@ without ms second = record {
 }
 
 -- the keys of a group in the third version, and in the second
-abbrev later_keys : List Key
-later_keys = key.Label ∷ key.Pgn ∷ key.Priority ∷ key.Length ∷ key.Private ∷ key.Most ∷ key.Every ∷ key.Signal ∷ key.Text ∷ []
+abbrev later_keys : List (List ℕ)
+later_keys = map word_of (key.Label ∷ key.Pgn ∷ key.Priority ∷ key.Length ∷ key.Private ∷ key.Most ∷ key.Every ∷ key.Signal ∷ key.Text ∷ [])
 
-abbrev first_keys : List Key
-first_keys = key.Label ∷ key.Pgn ∷ key.Priority ∷ key.Length ∷ key.Signal ∷ []
+abbrev first_keys : List (List ℕ)
+first_keys = map word_of (key.Label ∷ key.Pgn ∷ key.Priority ∷ key.Length ∷ key.Signal ∷ [])
 
 group_words : (l : List ℕ) → IsNone third_group_keys l
     → is_key_word later_keys l
@@ -79,7 +81,7 @@ no_cause false at k none = refl
 
 -- a number that is no fault is at most the greatest of its range
 at_most : (low high : ℕ) (at : Table) (k : Key) (found : Option Data)
-    → option_map_or (λ cause. fault cause at (Some k) ∷ []) (standing_cause (integer_in (pos low) (pos high)) found) [] ≡ []
+    → option_map_or (λ cause. fault cause at (Some k) ∷ []) (standing_cause (number k low high None) found) [] ≡ []
     → natural (unwrap_or (option_and_then as_integer found) (pos 0)) ≤ high
 at_most low high at k None none = cc
 at_most low high at k (Some (integer (pos n))) none = ltb-false high n (or_parts (ltb n low) (ltb high n) (no_cause (ltb n low || ltb high n) at k none)).1
@@ -118,11 +120,11 @@ all_keys_alike g ms second =
     (alike_both _ _ _ _ (group_keys_alike at ms second) (group_arrays_alike at ms second))
 
 no_every : (ms : Members) → IsSecondGroup ms → every_of Third ms ≡ None
-unfolding given_number
+unfolding number_found
 no_every ms second = rw (without ms second).every
 
 no_texts : (ms : Members) → IsSecondGroup ms → text_tables_of Third ms ≡ no_items
-unfolding tables_of
+unfolding tables_of array_found
 no_texts ms second = rw (without ms second).text
 
 signals_alike : (g : ℕ) (ms : Members) → IsSecondGroup ms → Alike (signals_faults Third g ms) (signals_faults Second g ms)
@@ -190,8 +192,15 @@ no_deadline ms lacks = lacks 1 key.Deadline (omega arith)
 no_period : (ms : Members) → IsSecondFlow ms → get_member (word_of key.Period) ms ≡ None
 no_period ms lacks = lacked key.Period ms (lacks 0 key.Period (omega arith))
 
+-- the keys of a flow in the third version, and in the second
+abbrev later_flow_keys : List (List ℕ)
+later_flow_keys = map word_of (key.Group ∷ key.From ∷ key.To ∷ key.Period ∷ key.Deadline ∷ [])
+
+abbrev first_flow_keys : List (List ℕ)
+first_flow_keys = map word_of (key.Group ∷ key.From ∷ key.To ∷ [])
+
 flow_words : (l : List ℕ) → IsNone (key.Period ∷ key.Deadline ∷ []) l
-    → is_key_word (key.Group ∷ key.From ∷ key.To ∷ key.Period ∷ key.Deadline ∷ []) l ≡ is_key_word (key.Group ∷ key.From ∷ key.To ∷ []) l
+    → is_key_word later_flow_keys l ≡ is_key_word first_flow_keys l
 flow_words l none = rw (none 0 key.Period (omega arith), none 1 key.Deadline (omega arith))
 
 period_unfaulted : (at : Table) (ms : Members) → IsSecondFlow ms → key_faults at ms (period_of false) ≡ []
@@ -206,7 +215,7 @@ flow_keys_alike : (at : Table) (ms : Members) → IsSecondFlow ms
     → Alike (versioned_faults at Third (flow_rules Third ms) ms) (versioned_faults at Second (flow_rules Second ms) ms)
 flow_keys_alike at ms lacks =
     rw (no_deadline ms lacks)
-    (alike_both _ _ _ _ (alike_unknown at _ _ ms ms (only_same (key.Group ∷ key.From ∷ key.To ∷ key.Period ∷ key.Deadline ∷ []) (key.Group ∷ key.From ∷ key.To ∷ []) (key.Period ∷ key.Deadline ∷ []) flow_words ms lacks))
+    (alike_both _ _ _ _ (alike_unknown at _ _ ms ms (only_same later_flow_keys first_flow_keys (key.Period ∷ key.Deadline ∷ []) flow_words ms lacks))
     (rw (period_unfaulted at ms lacks, deadline_unfaulted at ms lacks) refl))
 
 pub flow_alike : (groups units : List (List ℕ)) (i : ℕ) (d : Data) → IsSecondFlow (inside d)
@@ -218,11 +227,11 @@ flow_alike groups units i d lacks =
     (alike_both _ _ _ _ (flow_keys_alike (at.Flow i) (inside d) lacks) refl))
 
 period_is : (ms : Members) → IsSecondFlow ms → given_period Third ms ≡ None
-unfolding given_number
+unfolding number_found
 period_is ms lacks = rw (no_period ms lacks)
 
 deadline_is : (ms : Members) → IsSecondFlow ms → given_deadline Third ms ≡ None
-unfolding given_number
+unfolding number_found
 deadline_is ms lacks = rw (lacked key.Deadline ms (no_deadline ms lacks))
 
 pub second_flow : (groups units : List (List ℕ)) (d : Data) (f : FlowPlan) → IsSecondFlow (inside d)

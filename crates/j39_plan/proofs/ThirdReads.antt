@@ -1,20 +1,22 @@
 -- A plan of version 3 in which nothing stands that the second doesn't know is read as one of version 2.
-use Rattle.std.proofs.Common.{◌≡◌, ℕ, true, false, arith, suc, List, [], ◌∷◌, ◌++◌, Option, None, Some, refl, sym, ap, ◌∙◌}
+use Rattle.std.proofs.Common.{map, ◌≡◌, ℕ, true, false, arith, suc, List, [], ◌∷◌, ◌++◌, Option, None, Some, refl, sym, ap, ◌∙◌}
 use Rattle.toml.specs.Data.{Data, Items, no_items, item, Members, get_member}
 use Rattle.j39_network.specs.declared.plan.Plan.{Plan}
 use Rattle.j39_network.specs.declared.plan.timing.Timing.{Timing}
 use Rattle.j39_network.specs.declared.plan.unit_plan.UnitPlan.{UnitPlan}
 use Rattle.j39_plan.specs.declared.reading.version.Version.TheVariants.{Second, Third}
-use Rattle.j39_plan.specs.declared.reading.fault.Fault.{Fault}
+use Rattle.j39_plan.specs.PlanErrors.{PlanFault}
 use Rattle.j39_plan.specs.declared.reading.key.Key.{Key}
 use Rattle.j39_plan.specs.declared.reading.key.Key.TheVariants as key
 use Rattle.j39_plan.specs.declared.reading.place.Table.TheVariants as at
 use Rattle.j39_plan.specs.Words.{word_of}
-use Rattle.j39_plan.specs.Outcome.{first}
-use Rattle.j39_plan.specs.Schema.{number_of, table_of, tables_of}
-use Rattle.j39_plan.specs.TableFaults.{key_faults, is_key_word, has_only}
+use Rattle.j39_tables.specs.Outcome.{first}
+use Rattle.j39_tables.specs.Rules.{number_of, table_found}
+use Rattle.j39_plan.specs.Schema.{table_of, tables_of}
+use Rattle.j39_tables.specs.TableFaults.{key_faults, is_key_word, has_only}
 use Rattle.j39_plan.specs.Since.{known_faults}
-use Rattle.j39_plan.specs.Elements.{each_faults, inside, label_in}
+use Rattle.j39_tables.specs.InOrder.{each_faults, inside}
+use Rattle.j39_plan.specs.LabelsSeen.{label_in}
 use Rattle.j39_plan.specs.UnitTables.{IsUnitOf, name_faults, name_fields_of, name_of, unit_faults, unit_label_in, unit_table_faults}
 use Rattle.j39_plan.specs.TimingTables.{TellsTiming}
 use Rattle.j39_plan.specs.declared.reading.version.Version.{Version}
@@ -33,11 +35,11 @@ use Rattle.j39_plan.proofs.ThirdPlans.{group_alike, second_group, third_group, f
 -- ---- the top table
 
 -- the keys of the top table in both versions
-abbrev third_keys : List Key
-third_keys = key.Version ∷ key.KeepFree ∷ key.Timing ∷ key.Unit ∷ key.Group ∷ key.Flow ∷ []
+abbrev third_keys : List (List ℕ)
+third_keys = map word_of (key.Version ∷ key.KeepFree ∷ key.Timing ∷ key.Unit ∷ key.Group ∷ key.Flow ∷ [])
 
-abbrev second_keys : List Key
-second_keys = key.Version ∷ key.KeepFree ∷ key.Unit ∷ key.Group ∷ key.Flow ∷ []
+abbrev second_keys : List (List ℕ)
+second_keys = map word_of (key.Version ∷ key.KeepFree ∷ key.Unit ∷ key.Group ∷ key.Flow ∷ [])
 
 top_words : (l : List ℕ) → IsNone (key.Timing ∷ []) l
     → is_key_word third_keys l
@@ -93,7 +95,7 @@ unfolding key_faults
 bus_unfaulted s none = rw none
 
 no_bus_table : (s : Members) → get_member (word_of key.Timing) s ≡ None → table_of timing_rule s ≡ None
-unfolding table_of
+unfolding table_found
 no_bus_table s none = rw none
 
 timing_part_alike : (s : Members) → Beside s → Alike (timing_faults s) (timing_faults (with_version 2 s))
@@ -114,7 +116,7 @@ arrays_alike s b =
 
 -- ---- the arrays
 
-same_each : (f g : ℕ → List (List ℕ) → Data → List Fault) → ((i : ℕ) (seen : List (List ℕ)) (d : Data) → f i seen d ≡ g i seen d)
+same_each : (f g : ℕ → List (List ℕ) → Data → List PlanFault) → ((i : ℕ) (seen : List (List ℕ)) (d : Data) → f i seen d ≡ g i seen d)
     → (label : Data → List ℕ) (i : ℕ) (seen : List (List ℕ)) (ds : Items) → each_faults f label i seen ds ≡ each_faults g label i seen ds
 unfolding each_faults
 same_each f g same label i seen no_items = refl

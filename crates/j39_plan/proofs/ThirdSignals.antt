@@ -1,5 +1,5 @@
 -- A signal of version 3 in whose table nothing stands that the second doesn't know is one of version 2.
-use Rattle.std.proofs.Common.{◌≡◌, ℕ, Bool, true, false, ◌||◌, if◌then◌else◌, arith, List, [], ◌∷◌, Option, Some, None, unwrap_or, refl, sym, ap, ◌∙◌, codes}
+use Rattle.std.proofs.Common.{map, ◌≡◌, ℕ, Bool, true, false, ◌||◌, if◌then◌else◌, arith, List, [], ◌∷◌, Option, Some, None, unwrap_or, refl, sym, ap, ◌∙◌, codes}
 use Rattle.std.specs.Option.{option_map_or, option_and_then}
 use Rattle.std.specs.Str.{bytes_eq}
 use Rattle.toml.specs.Data.{Data, string, integer, float, boolean, datetime, array, table, Members, get_member, as_str, as_table}
@@ -13,10 +13,11 @@ use Rattle.j39_plan.specs.declared.reading.place.Table.TheVariants as at
 use Rattle.j39_plan.specs.declared.reading.text_kind.TextKind.TheVariants as texts
 use Rattle.j39_plan.specs.TextKinds.{is_first_kind}
 use Rattle.j39_plan.specs.Words.{word_of}
-use Rattle.j39_plan.specs.Schema.{text_of_kind, standing, number_of, flag_of, text_of}
-use Rattle.j39_plan.specs.TableFaults.{standing_cause, key_faults, table_only_faults, is_key_word}
+use Rattle.j39_tables.specs.Rules.{standing, number_of, flag_of, text_of}
+use Rattle.j39_tables.specs.TableFaults.{standing_cause, key_faults, table_only_faults, is_key_word}
 use Rattle.j39_plan.specs.Since.{versioned_faults}
-use Rattle.j39_plan.specs.Elements.{inside, label_in, repeated_faults}
+use Rattle.j39_tables.specs.InOrder.{inside}
+use Rattle.j39_plan.specs.LabelsSeen.{label_in, repeated_faults}
 use Rattle.j39_plan.specs.SignalTables.{kind_of, is_dtc, kind_rule, is_code, per_rule, per_of, repeated_rule, repeated_of, signal_rules, signal_table_faults, signal_faults, IsSignalOf}
 use Rattle.j39_plan.specs.Versions.{is_later_kind, IsSecondSignal}
 use Rattle.j39_plan.proofs.Absent.{lacked, IsNone, only_same, Alike, alike_both, alike_between, alike_unknown, alike_inside}
@@ -52,7 +53,7 @@ takes_same true later none = refl
 takes_same false later none = none
 
 kind_cause : (found : Option Data) → is_later_kind (unwrap_or (option_and_then as_str found) []) ≡ false
-    → standing_cause (text_of_kind texts.AnySignalKind) found ≡ standing_cause (text_of_kind texts.SignalKind) found
+    → standing_cause (kind_rule Third) found ≡ standing_cause (kind_rule Second) found
 kind_cause None none = refl
 kind_cause (Some (string t)) none = rw (takes_same (is_first_kind t) (is_later_kind t) none)
 kind_cause (Some (integer z)) none = refl
@@ -75,11 +76,11 @@ unfolding key_faults
 repeated_unfaulted at ms second = rw (no_repeated ms second)
 
 -- the keys of a signal in the third version, and in the second
-abbrev third_keys : List Key
-third_keys = key.Label ∷ key.Byte ∷ key.Bit ∷ key.Bits ∷ key.Kind ∷ key.Step ∷ key.Per ∷ key.Offset ∷ key.Unit ∷ key.Repeated ∷ []
+abbrev third_keys : List (List ℕ)
+third_keys = map word_of (key.Label ∷ key.Byte ∷ key.Bit ∷ key.Bits ∷ key.Kind ∷ key.Step ∷ key.Per ∷ key.Offset ∷ key.Unit ∷ key.Repeated ∷ [])
 
-abbrev second_keys : List Key
-second_keys = key.Label ∷ key.Byte ∷ key.Bit ∷ key.Bits ∷ key.Kind ∷ key.Step ∷ key.Offset ∷ key.Unit ∷ []
+abbrev second_keys : List (List ℕ)
+second_keys = map word_of (key.Label ∷ key.Byte ∷ key.Bit ∷ key.Bits ∷ key.Kind ∷ key.Step ∷ key.Offset ∷ key.Unit ∷ [])
 
 signal_words : (l : List ℕ) → IsNone (key.Per ∷ key.Repeated ∷ []) l
     → is_key_word third_keys l

@@ -16,5 +16,5 @@ pub use laws::{
     a_file_describes_one_plan, older_versions_know_what_they_knew, plans_without_later_keys,
 };
 pub use reading::{
-    Cause, Fault, Key, Place, PlanError, Table, Version, are_printable, is_label, read_plan,
+    Cause, FileError, Key, PlanError, PlanFault, Table, Version, are_printable, is_label, read_plan,
 };

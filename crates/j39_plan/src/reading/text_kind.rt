@@ -4,6 +4,8 @@ ghost use Rattle.std.specs.List.{list_all};
 ghost use Rattle.j39_network.specs.LabelForm.{is_label_byte, is_label};
 ghost use Rattle.j39_plan.specs.TextKinds.{is_first_kind, is_printable};
 
+use j39_tables::TextForm;
+
 /// Which texts a key takes.
 #[derive(Clone, Copy)]
 pub enum TextKind {
@@ -71,5 +73,15 @@ impl TextKind {
             TextKind::Empty => text.is_empty(),
             TextKind::Any => true,
         }
+    }
+}
+
+impl TextForm for TextKind {
+    ghost use Rattle.j39_plan.specs.TextKinds.{takes};
+
+    ghost fits = { takes };
+
+    fn is_taken(self, text: &str) -> bool {
+        self.takes(text)
     }
 }

@@ -1,8 +1,8 @@
 use Rattle.std.proofs.Common.{◌≡◌, Some, ◌∙◌}
 use Rattle.std.proofs.lemmas.Str.{is_utf8-from_IsUtf8}
 use Rattle.toml.specs.View.{table_view}
-use Rattle.j39_plan.specs.Described.{tree_of}
-use Rattle.j39_plan.proofs.Trees.{tree_of_utf8, no_tree}
+use Rattle.j39_tables.specs.FileTrees.{tree_of}
+use Rattle.j39_tables.proofs.TreesRead.{tree_of_utf8, no_tree}
 use Rattle.j39_vehicle.proofs.Trees.{reads_tree, room_asked}
 use Rattle.j39_vehicle.proofs.reading.read_vehicle.Goals as goal
 use Rattle.j39_vehicle.proofs.reading.read_vehicle.Goals.{then-is_memory, else-is_memory}

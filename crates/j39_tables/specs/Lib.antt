@@ -1,0 +1,6 @@
+pub mod CauseWords
+pub mod FileTrees
+pub mod InOrder
+pub mod Outcome
+pub mod Rules
+pub mod TableFaults
