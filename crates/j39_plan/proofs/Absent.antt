@@ -1,5 +1,5 @@
 -- Tables in which nothing stands at some keys, and lists of faults of which the first ones are one.
-use Rattle.std.proofs.Common.{◌≡◌, ℕ, false, List, [], ◌∷◌, ◌++◌, All, Option, Some, None, refl, sym, ap, ◌∙◌, suc, is_some, unwrap_or, get_or, Ordering, Less, Equal, Greater, nat_cmp, is_eq}
+use Rattle.std.proofs.Common.{◌≡◌, ◌↔◌, ℕ, false, List, [], ◌∷◌, ◌++◌, All, Option, Some, None, refl, sym, ap, ◌∙◌, suc, is_some, unwrap_or, get_or, Ordering, Less, Equal, Greater, nat_cmp, is_eq}
 use Rattle.std.specs.Option.{option_or, option_map_or}
 use Rattle.std.specs.Ordering.{match_ordering}
 use Rattle.std.specs.Cmp.Lexicographic.{slice_cmp}
@@ -114,9 +114,12 @@ alike_each Holds f g same label i seen (item d ds) holds =
     alike_both _ _ _ _ (same i seen d holds.0) (alike_each Holds f g same label (suc i) (seen ++ label d ∷ []) ds holds.1)
 
 pub told_alike : {T : Type 0} (Holds : Members → Type 0) (Is Was : Data → T → Type 0)
-    (same : (d : Data) (x : T) → Holds (inside d) → Is d x → Was d x) → (ds : Items) (xs : List T) → EachTable Holds ds → Each Is ds xs → Each Was ds xs
+    (same : (d : Data) (x : T) → Holds (inside d) → Is d x ↔ Was d x) → (ds : Items) (xs : List T) → EachTable Holds ds → Each Is ds xs ↔ Each Was ds xs
 unfolding Each EachTable
-told_alike Holds Is Was same no_items [] holds each = tt
-told_alike Holds Is Was same no_items (x ∷ xs) holds each = each
-told_alike Holds Is Was same (item d ds) [] holds each = each
-told_alike Holds Is Was same (item d ds) (x ∷ xs) holds each = (same d x holds.0 each.0, told_alike Holds Is Was same ds xs holds.1 each.1)
+told_alike Holds Is Was same no_items [] holds = (λ each. each, λ each. each)
+told_alike Holds Is Was same no_items (x ∷ xs) holds = (λ each. each, λ each. each)
+told_alike Holds Is Was same (item d ds) [] holds = (λ each. each, λ each. each)
+told_alike Holds Is Was same (item d ds) (x ∷ xs) holds =
+    let here = same d x holds.0 in
+    let more = told_alike Holds Is Was same ds xs holds.1 in
+    (λ each. (here.0 each.0, more.0 each.1), λ each. (here.1 each.0, more.1 each.1))

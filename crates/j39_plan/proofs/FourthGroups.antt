@@ -1,5 +1,5 @@
 -- Groups of version 4 among whose signals nothing stands that it alone knows are those of version 3.
-use Rattle.std.proofs.Common.{map, ◌≡◌, ℕ, Bool, true, false, arith, List, [], ◌∷◌, None, refl, sym, subst, ◌∙◌}
+use Rattle.std.proofs.Common.{◌↔◌, map, ◌≡◌, ℕ, Bool, true, false, arith, List, [], ◌∷◌, None, refl, sym, subst, ◌∙◌}
 use Rattle.std.specs.Option.{option_map_or}
 use Rattle.toml.specs.Data.{Data, Members, no_members, get_member, as_table}
 use Rattle.j39_signal.specs.Parts.{SignalParts}
@@ -23,6 +23,7 @@ use Rattle.j39_plan.specs.SignalTables.{byte_rule, bit_rule, bits_rule, is_code,
 use Rattle.j39_plan.specs.SelectorTables.{TellsWhen, when_rule, when_table}
 use Rattle.j39_plan.specs.GroupTables.{signal_rule, has_records, signals_faults, group_keys_faults, group_table_faults, group_faults, IsGroupOf}
 use Rattle.j39_plan.specs.Versions.{IsThirdSignal, IsThirdGroup}
+use Rattle.j39_plan.proofs.SameParts.{SameSignal, SameMeaning, SameGroup, signal_both, meaning_both, group_both}
 use Rattle.j39_plan.proofs.Absent.{lacked, IsNone, only_same, Alike, alike_both, alike_between, alike_unknown, alike_inside, alike_each, told_alike}
 
 -- ---- signals
@@ -97,45 +98,11 @@ names_are : (ms : Members) → IsThirdSignal ms → name_table Fourth ms ≡ no_
 unfolding table_found
 names_are ms lacks = rw (no_values ms lacks)
 
-third_signal : (d : Data) (s : SignalParts) → IsThirdSignal (inside d) → IsSignalOf Fourth d s → IsSignalOf Third d s
-third_signal d s lacks told = record {
-  has_label = told.has_label;
-  has_start = told.has_start;
-  has_bits = told.has_bits;
-  has_kind = told.has_kind;
-  has_step = told.has_step;
-  has_offset = told.has_offset;
-  has_per = told.has_per;
-  has_unit = told.has_unit;
-  has_repeated = told.has_repeated;
-  has_optional = told.has_optional ∙ optional_is (inside d) lacks;
-}
+same_signal : (ms : Members) → IsThirdSignal ms → SameSignal Fourth Third ms
+same_signal ms lacks = record { kind = refl; per = refl; repeated = refl; optional = optional_is ms lacks }
 
-fourth_signal : (d : Data) (s : SignalParts) → IsThirdSignal (inside d) → IsSignalOf Third d s → IsSignalOf Fourth d s
-fourth_signal d s lacks told = record {
-  has_label = told.has_label;
-  has_start = told.has_start;
-  has_bits = told.has_bits;
-  has_kind = told.has_kind;
-  has_step = told.has_step;
-  has_offset = told.has_offset;
-  has_per = told.has_per;
-  has_unit = told.has_unit;
-  has_repeated = told.has_repeated;
-  has_optional = told.has_optional ∙ sym (optional_is (inside d) lacks);
-}
-
-third_meaning : (d : Data) (m : Meaning) → IsThirdSignal (inside d) → IsMeaningOf Fourth d m → IsMeaningOf Third d m
-third_meaning d m lacks told = record {
-  has_spn = told.has_spn ∙ spn_is (inside d) lacks;
-  has_values = subst (λ ms. AreValueNames ms m.values.items) (names_are (inside d) lacks) told.has_values;
-}
-
-fourth_meaning : (d : Data) (m : Meaning) → IsThirdSignal (inside d) → IsMeaningOf Third d m → IsMeaningOf Fourth d m
-fourth_meaning d m lacks told = record {
-  has_spn = told.has_spn ∙ sym (spn_is (inside d) lacks);
-  has_values = subst (λ ms. AreValueNames ms m.values.items) (sym (names_are (inside d) lacks)) told.has_values;
-}
+same_meaning : (ms : Members) → IsThirdSignal ms → SameMeaning Fourth Third ms
+same_meaning ms lacks = record { spn = spn_is ms lacks; names = names_are ms lacks }
 
 -- ---- groups
 
@@ -183,36 +150,13 @@ group_alike g seen d older =
     (alike_both _ _ _ _ (group_keys_alike g (inside d) older)
     (alike_both _ _ _ _ (signals_alike g (inside d) older) refl)))
 
-pub third_group : (d : Data) (g : GroupPlan) → IsThirdGroup (inside d) → IsGroupOf Fourth d g → IsGroupOf Third d g
-third_group d g older told = record {
-  has_label = told.has_label;
-  has_pgn = told.has_pgn;
-  has_priority = told.has_priority;
-  has_length = told.has_length;
-  has_private = told.has_private;
-  has_most = told.has_most;
-  has_every = told.has_every;
-  has_when = subst (λ t. TellsWhen t g.when) (when_is (inside d) older) told.has_when;
-  has_signals = told_alike IsThirdSignal (IsSignalOf Fourth) (IsSignalOf Third) third_signal
-      (tables_of signal_rule (inside d)) g.signals.items older.signals told.has_signals;
-  has_meanings = told_alike IsThirdSignal (IsMeaningOf Fourth) (IsMeaningOf Third) third_meaning
-      (tables_of signal_rule (inside d)) g.meanings.items older.signals told.has_meanings;
-  has_texts = told.has_texts;
-}
+same_group : (ms : Members) → IsThirdGroup ms → SameGroup Fourth Third ms
+same_group ms third = record { private = refl; most = refl; every = refl; when = when_is ms third; texts = refl }
 
-pub fourth_group : (d : Data) (g : GroupPlan) → IsThirdGroup (inside d) → IsGroupOf Third d g → IsGroupOf Fourth d g
-fourth_group d g older told = record {
-  has_label = told.has_label;
-  has_pgn = told.has_pgn;
-  has_priority = told.has_priority;
-  has_length = told.has_length;
-  has_private = told.has_private;
-  has_most = told.has_most;
-  has_every = told.has_every;
-  has_when = subst (λ t. TellsWhen t g.when) (sym (when_is (inside d) older)) told.has_when;
-  has_signals = told_alike IsThirdSignal (IsSignalOf Third) (IsSignalOf Fourth) fourth_signal
-      (tables_of signal_rule (inside d)) g.signals.items older.signals told.has_signals;
-  has_meanings = told_alike IsThirdSignal (IsMeaningOf Third) (IsMeaningOf Fourth) fourth_meaning
-      (tables_of signal_rule (inside d)) g.meanings.items older.signals told.has_meanings;
-  has_texts = told.has_texts;
-}
+pub group_told : (d : Data) (g : GroupPlan) → IsThirdGroup (inside d) → IsGroupOf Fourth d g ↔ IsGroupOf Third d g
+group_told d g third =
+    group_both g (same_group (inside d) third)
+    (told_alike IsThirdSignal (IsSignalOf Fourth) (IsSignalOf Third) (λ d s lacks. signal_both s (same_signal (inside d) lacks))
+    (tables_of signal_rule (inside d)) g.signals.items third.signals)
+    (told_alike IsThirdSignal (IsMeaningOf Fourth) (IsMeaningOf Third) (λ d m lacks. meaning_both m (same_meaning (inside d) lacks))
+    (tables_of signal_rule (inside d)) g.meanings.items third.signals)

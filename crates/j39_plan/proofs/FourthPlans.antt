@@ -20,6 +20,7 @@ use Rattle.j39_tables.specs.InOrder.{inside}
 use Rattle.j39_plan.specs.FlowTables.{period_rule, given_period, jitter_rule, jitter_most, jitter_of, pause_rule, on_request_rule, on_request_of, flow_rules, flow_table_faults, flow_faults, IsFlowOf}
 use Rattle.j39_plan.specs.TimingTables.{bitrate_of, TellsErrors, bitrate_rule, unplanned_priority_rule, transport_priority_rule, gap_rule, gap_most_rule, errors_rule, timing_table_faults, errors_table, TellsBus}
 use Rattle.j39_plan.specs.Versions.{fourth_bus_keys, fourth_flow_keys, IsThirdBus, IsThirdFlow}
+use Rattle.j39_plan.proofs.SameParts.{SameFlow, SameBus}
 use Rattle.j39_plan.proofs.Absent.{lacked, IsNone, only_same, Alike, alike_both, alike_unknown, alike_inside}
 
 -- ---- flows
@@ -97,34 +98,13 @@ on_request_none ms none = rw none
 period_told : (ms : Members) → IsThirdFlow ms → given_period Fourth ms ≡ given_period Third ms
 period_told ms lacks = ap (λ r. given_number r ms) (period_same ms lacks)
 
-pub third_flow : (groups units : List (List ℕ)) (d : Data) (f : FlowPlan) → IsThirdFlow (inside d)
-    → IsFlowOf Fourth groups units d f → IsFlowOf Third groups units d f
-third_flow groups units d f lacks told = record {
-  has_group = told.has_group;
-  has_sender = told.has_sender;
-  has_receivers = told.has_receivers;
-  has_pace = record {
-    has_period = told.has_pace.has_period ∙ period_told (inside d) lacks;
-    has_deadline = told.has_pace.has_deadline;
-    has_jitter = subst (λ n. IfSome f.pace (λ p. p.jitter ≡ n)) (jitter_none (inside d) (given_period Fourth (inside d)) (no_jitter (inside d) lacks)) told.has_pace.has_jitter;
-  };
-  has_pause = told.has_pause ∙ pause_none (inside d) (given_number (period_rule Fourth (inside d)) (inside d)) (no_pause (inside d) lacks);
-  has_on_request = told.has_on_request ∙ on_request_none (inside d) (no_on_request (inside d) lacks);
-}
-
-pub fourth_flow : (groups units : List (List ℕ)) (d : Data) (f : FlowPlan) → IsThirdFlow (inside d)
-    → IsFlowOf Third groups units d f → IsFlowOf Fourth groups units d f
-fourth_flow groups units d f lacks told = record {
-  has_group = told.has_group;
-  has_sender = told.has_sender;
-  has_receivers = told.has_receivers;
-  has_pace = record {
-    has_period = told.has_pace.has_period ∙ sym (period_told (inside d) lacks);
-    has_deadline = told.has_pace.has_deadline;
-    has_jitter = subst (λ n. IfSome f.pace (λ p. p.jitter ≡ n)) (sym (jitter_none (inside d) (given_period Fourth (inside d)) (no_jitter (inside d) lacks))) told.has_pace.has_jitter;
-  };
-  has_pause = told.has_pause ∙ sym (pause_none (inside d) (given_number (period_rule Fourth (inside d)) (inside d)) (no_pause (inside d) lacks));
-  has_on_request = told.has_on_request ∙ sym (on_request_none (inside d) (no_on_request (inside d) lacks));
+pub same_flow : (ms : Members) → IsThirdFlow ms → SameFlow Fourth Third ms
+same_flow ms lacks = record {
+  period = period_told ms lacks;
+  deadline = refl;
+  jitter = jitter_none ms (given_period Fourth ms) (no_jitter ms lacks);
+  pause = pause_none ms (given_period Fourth ms) (no_pause ms lacks);
+  on_request = on_request_none ms (no_on_request ms lacks);
 }
 
 -- ---- the bus
@@ -237,30 +217,15 @@ bitrate_told : (ms : Members) → number_of (bitrate_rule Fourth) ms ≡ number_
 unfolding number_of
 bitrate_told ms = refl
 
-pub third_bus : (ms : Members) (t : Timing) → IsThirdBus ms → TellsBus Fourth ms t → TellsBus Third ms t
-third_bus ms t third told =
+pub same_bus : (ms : Members) → IsThirdBus ms → SameBus Fourth Third ms
+same_bus ms third =
     let w = without ms third in
     let g = given ms w in
     record {
-      has_bitrate = told.has_bitrate ∙ ap bitrate_of (bitrate_told ms);
-      has_unplanned = told.has_unplanned;
-      has_unplanned_priority = told.has_unplanned_priority ∙ g.unplanned_priority;
-      has_transport_priority = told.has_transport_priority ∙ g.transport_priority;
-      has_gap = told.has_gap ∙ g.gap;
-      has_gap_most = told.has_gap_most ∙ g.gap_most;
-      has_errors = subst (λ found. TellsErrors found t.errors) (no_errors ms w) told.has_errors;
-    }
-
-pub fourth_bus : (ms : Members) (t : Timing) → IsThirdBus ms → TellsBus Third ms t → TellsBus Fourth ms t
-fourth_bus ms t third told =
-    let w = without ms third in
-    let g = given ms w in
-    record {
-      has_bitrate = told.has_bitrate ∙ sym (ap bitrate_of (bitrate_told ms));
-      has_unplanned = told.has_unplanned;
-      has_unplanned_priority = told.has_unplanned_priority ∙ sym g.unplanned_priority;
-      has_transport_priority = told.has_transport_priority ∙ sym g.transport_priority;
-      has_gap = told.has_gap ∙ sym g.gap;
-      has_gap_most = told.has_gap_most ∙ sym g.gap_most;
-      has_errors = subst (λ found. TellsErrors found t.errors) (sym (no_errors ms w)) told.has_errors;
+      bitrate = ap bitrate_of (bitrate_told ms);
+      unplanned_priority = g.unplanned_priority;
+      transport_priority = g.transport_priority;
+      gap = g.gap;
+      gap_most = g.gap_most;
+      errors = no_errors ms w;
     }

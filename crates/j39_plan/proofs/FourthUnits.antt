@@ -22,6 +22,7 @@ use Rattle.j39_plan.specs.LabelsSeen.{repeated_faults}
 use Rattle.j39_plan.specs.UnitTables.{any_identity_of, lacks_identity, name_faults, name_fields_of, name_of, name_rule}
 use Rattle.j39_plan.specs.UnitTables.{claims_rule, claims_of, queue_rule, queue_of, unit_rules, unit_label_in, unit_table_faults, unit_faults, IsUnitOf}
 use Rattle.j39_plan.specs.Versions.{IsThirdUnit}
+use Rattle.j39_plan.proofs.SameParts.{SameUnit}
 use Rattle.j39_plan.proofs.Absent.{lacked, IsNone, only_same, Alike, alike_both, alike_between, alike_unknown, alike_inside}
 
 no_claims : (ms : Members) → IsThirdUnit ms → get_member (word_of key.Claims) ms ≡ None
@@ -114,26 +115,5 @@ unit_alike i seen d lacks =
     (alike_inside fourth third d
     (alike_both _ _ _ _ (unit_keys_alike (at.Unit i) (inside d) lacks) (rw ((names_of i (inside d) lacks).0, claims_is (inside d) lacks, name_is (inside d) lacks) refl)))
 
-pub third_unit : (d : Data) (u : UnitPlan) → IsThirdUnit (inside d) → IsUnitOf Fourth d u → IsUnitOf Third d u
-third_unit d u lacks told = record {
-  has_label = told.has_label;
-  has_address = told.has_address;
-  has_way = told.has_way;
-  has_window = told.has_window;
-  has_name = told.has_name ∙ name_is (inside d) lacks;
-  has_number = told.has_number ∙ number_is (inside d) lacks;
-  has_queue = told.has_queue ∙ queue_is (inside d) lacks;
-  has_claims = told.has_claims ∙ claims_is (inside d) lacks;
-}
-
-pub fourth_unit : (d : Data) (u : UnitPlan) → IsThirdUnit (inside d) → IsUnitOf Third d u → IsUnitOf Fourth d u
-fourth_unit d u lacks told = record {
-  has_label = told.has_label;
-  has_address = told.has_address;
-  has_way = told.has_way;
-  has_window = told.has_window;
-  has_name = told.has_name ∙ sym (name_is (inside d) lacks);
-  has_number = told.has_number ∙ sym (number_is (inside d) lacks);
-  has_queue = told.has_queue ∙ sym (queue_is (inside d) lacks);
-  has_claims = told.has_claims ∙ sym (claims_is (inside d) lacks);
-}
+pub same_unit : (ms : Members) → IsThirdUnit ms → SameUnit Fourth Third ms
+same_unit ms lacks = record { name = name_is ms lacks; number = number_is ms lacks; queue = queue_is ms lacks; claims = claims_is ms lacks }

@@ -19,6 +19,7 @@ pub mod ReadGroups
 pub mod ReadNeeds
 pub mod ReadPlans
 pub mod ReadRequests
+pub mod SameParts
 pub mod Tables
 pub mod ThirdPlans
 pub mod ThirdReads

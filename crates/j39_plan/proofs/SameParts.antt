@@ -1,7 +1,8 @@
 -- What a table tells in one version it tells in another where the parts that versions may tell differently are the same.
-use Rattle.std.proofs.Common.{◌≡◌, ℕ, List, IfSome, sym, subst, ◌∙◌}
+use Rattle.std.proofs.Common.{◌≡◌, ◌↔◌, ℕ, List, Option, Some, None, IfSome, sym, subst, ◌∙◌}
 use Rattle.toml.specs.Data.{Data, Members}
 use Rattle.j39_signal.specs.Parts.{SignalParts}
+use Rattle.j39_network.specs.declared.plan.Plan.{Plan}
 use Rattle.j39_network.specs.declared.plan.unit_plan.UnitPlan.{UnitPlan}
 use Rattle.j39_network.specs.declared.plan.group_plan.GroupPlan.{GroupPlan}
 use Rattle.j39_network.specs.declared.plan.flow_plan.FlowPlan.{FlowPlan}
@@ -18,7 +19,11 @@ use Rattle.j39_plan.specs.SelectorTables.{when_table, TellsWhen}
 use Rattle.j39_plan.specs.TextTables.{IsTextOf}
 use Rattle.j39_plan.specs.GroupTables.{length_rule, private_of, most_of, every_of, signal_rule, text_tables_of, IsGroupOf}
 use Rattle.j39_plan.specs.FlowTables.{given_period, given_deadline, jitter_of, pause_of, on_request_of, IsFlowOf}
-use Rattle.j39_plan.specs.TimingTables.{bitrate_of, bitrate_rule, unplanned_priority_of, transport_priority_of, gap_of, gap_most_of, errors_table, TellsErrors, TellsBus}
+use Rattle.j39_plan.specs.TimingTables.{bitrate_of, bitrate_rule, unplanned_priority_of, transport_priority_of, gap_of, gap_most_of, errors_table, TellsErrors, TellsBus, TellsTiming}
+use Rattle.j39_plan.specs.NeedTables.{IsNeedOf}
+use Rattle.j39_plan.specs.RequestTables.{IsRequestOf}
+use Rattle.j39_plan.specs.PlanFaults.{version_of, strangers_of, live_of, timing_table, units_rule, groups_rule, flows_rule, group_labels, group_signals, unit_labels, need_tables, request_tables}
+use Rattle.j39_plan.specs.Described.{keep_free_of, TellsPlan}
 
 -- ---- units
 
@@ -28,10 +33,10 @@ pub record SameUnit (one other : Version) (ms : Members) : Type 0 where
   pub queue : queue_of one ms ≡ queue_of other ms
   pub claims : claims_of one ms ≡ claims_of other ms
 
-pub unit_back : {one other : Version} {ms : Members} → SameUnit one other ms → SameUnit other one ms
+unit_back : {one other : Version} {ms : Members} → SameUnit one other ms → SameUnit other one ms
 unit_back same = record { name = sym same.name; number = sym same.number; queue = sym same.queue; claims = sym same.claims }
 
-pub unit_as : {one other : Version} {d : Data} (u : UnitPlan) → SameUnit one other (inside d) → IsUnitOf one d u → IsUnitOf other d u
+unit_as : {one other : Version} {d : Data} (u : UnitPlan) → SameUnit one other (inside d) → IsUnitOf one d u → IsUnitOf other d u
 unit_as u same told = record {
   has_label = told.has_label;
   has_address = told.has_address;
@@ -43,6 +48,9 @@ unit_as u same told = record {
   has_claims = told.has_claims ∙ same.claims;
 }
 
+pub unit_both : {one other : Version} {d : Data} (u : UnitPlan) → SameUnit one other (inside d) → IsUnitOf one d u ↔ IsUnitOf other d u
+unit_both u same = (unit_as u same, unit_as u (unit_back same))
+
 -- ---- signals
 
 pub record SameSignal (one other : Version) (ms : Members) : Type 0 where
@@ -51,10 +59,10 @@ pub record SameSignal (one other : Version) (ms : Members) : Type 0 where
   pub repeated : repeated_of one ms ≡ repeated_of other ms
   pub optional : optional_of one ms ≡ optional_of other ms
 
-pub signal_back : {one other : Version} {ms : Members} → SameSignal one other ms → SameSignal other one ms
+signal_back : {one other : Version} {ms : Members} → SameSignal one other ms → SameSignal other one ms
 signal_back same = record { kind = sym same.kind; per = sym same.per; repeated = sym same.repeated; optional = sym same.optional }
 
-pub signal_as : {one other : Version} {d : Data} (s : SignalParts) → SameSignal one other (inside d) → IsSignalOf one d s → IsSignalOf other d s
+signal_as : {one other : Version} {d : Data} (s : SignalParts) → SameSignal one other (inside d) → IsSignalOf one d s → IsSignalOf other d s
 signal_as s same told = record {
   has_label = told.has_label;
   has_start = told.has_start;
@@ -68,18 +76,24 @@ signal_as s same told = record {
   has_optional = told.has_optional ∙ same.optional;
 }
 
+pub signal_both : {one other : Version} {d : Data} (s : SignalParts) → SameSignal one other (inside d) → IsSignalOf one d s ↔ IsSignalOf other d s
+signal_both s same = (signal_as s same, signal_as s (signal_back same))
+
 pub record SameMeaning (one other : Version) (ms : Members) : Type 0 where
   pub spn : spn_of one ms ≡ spn_of other ms
   pub names : name_table one ms ≡ name_table other ms
 
-pub meaning_back : {one other : Version} {ms : Members} → SameMeaning one other ms → SameMeaning other one ms
+meaning_back : {one other : Version} {ms : Members} → SameMeaning one other ms → SameMeaning other one ms
 meaning_back same = record { spn = sym same.spn; names = sym same.names }
 
-pub meaning_as : {one other : Version} {d : Data} (m : Meaning) → SameMeaning one other (inside d) → IsMeaningOf one d m → IsMeaningOf other d m
+meaning_as : {one other : Version} {d : Data} (m : Meaning) → SameMeaning one other (inside d) → IsMeaningOf one d m → IsMeaningOf other d m
 meaning_as m same told = record {
   has_spn = told.has_spn ∙ same.spn;
   has_values = subst (λ ms. AreValueNames ms m.values.items) same.names told.has_values;
 }
+
+pub meaning_both : {one other : Version} {d : Data} (m : Meaning) → SameMeaning one other (inside d) → IsMeaningOf one d m ↔ IsMeaningOf other d m
+meaning_both m same = (meaning_as m same, meaning_as m (meaning_back same))
 
 -- ---- groups: their signals are told apart from them
 
@@ -90,10 +104,10 @@ pub record SameGroup (one other : Version) (ms : Members) : Type 0 where
   pub when : when_table one ms ≡ when_table other ms
   pub texts : text_tables_of one ms ≡ text_tables_of other ms
 
-pub group_back : {one other : Version} {ms : Members} → SameGroup one other ms → SameGroup other one ms
+group_back : {one other : Version} {ms : Members} → SameGroup one other ms → SameGroup other one ms
 group_back same = record { private = sym same.private; most = sym same.most; every = sym same.every; when = sym same.when; texts = sym same.texts }
 
-pub group_as : {one other : Version} {d : Data} (g : GroupPlan) → SameGroup one other (inside d)
+group_as : {one other : Version} {d : Data} (g : GroupPlan) → SameGroup one other (inside d)
     → (Each (IsSignalOf one) (tables_of signal_rule (inside d)) g.signals.items → Each (IsSignalOf other) (tables_of signal_rule (inside d)) g.signals.items)
     → (Each (IsMeaningOf one) (tables_of signal_rule (inside d)) g.meanings.items → Each (IsMeaningOf other) (tables_of signal_rule (inside d)) g.meanings.items)
     → IsGroupOf one d g → IsGroupOf other d g
@@ -111,6 +125,12 @@ group_as g same signals meanings told = record {
   has_texts = subst (λ ds. Each IsTextOf ds g.texts.items) same.texts told.has_texts;
 }
 
+pub group_both : {one other : Version} {d : Data} (g : GroupPlan) → SameGroup one other (inside d)
+    → (Each (IsSignalOf one) (tables_of signal_rule (inside d)) g.signals.items ↔ Each (IsSignalOf other) (tables_of signal_rule (inside d)) g.signals.items)
+    → (Each (IsMeaningOf one) (tables_of signal_rule (inside d)) g.meanings.items ↔ Each (IsMeaningOf other) (tables_of signal_rule (inside d)) g.meanings.items)
+    → IsGroupOf one d g ↔ IsGroupOf other d g
+group_both g same signals meanings = (group_as g same signals.0 meanings.0, group_as g (group_back same) signals.1 meanings.1)
+
 -- ---- flows
 
 pub record SameFlow (one other : Version) (ms : Members) : Type 0 where
@@ -120,7 +140,7 @@ pub record SameFlow (one other : Version) (ms : Members) : Type 0 where
   pub pause : pause_of one (given_period one ms) ms ≡ pause_of other (given_period other ms) ms
   pub on_request : on_request_of one ms ≡ on_request_of other ms
 
-pub flow_back : {one other : Version} {ms : Members} → SameFlow one other ms → SameFlow other one ms
+flow_back : {one other : Version} {ms : Members} → SameFlow one other ms → SameFlow other one ms
 flow_back same = record {
   period = sym same.period;
   deadline = sym same.deadline;
@@ -129,7 +149,7 @@ flow_back same = record {
   on_request = sym same.on_request;
 }
 
-pub flow_as : {one other : Version} (groups units : List (List ℕ)) {d : Data} (f : FlowPlan) → SameFlow one other (inside d)
+flow_as : {one other : Version} (groups units : List (List ℕ)) {d : Data} (f : FlowPlan) → SameFlow one other (inside d)
     → IsFlowOf one groups units d f → IsFlowOf other groups units d f
 flow_as groups units f same told = record {
   has_group = told.has_group;
@@ -144,6 +164,10 @@ flow_as groups units f same told = record {
   has_on_request = told.has_on_request ∙ same.on_request;
 }
 
+pub flow_both : {one other : Version} (groups units : List (List ℕ)) {d : Data} (f : FlowPlan) → SameFlow one other (inside d)
+    → IsFlowOf one groups units d f ↔ IsFlowOf other groups units d f
+flow_both groups units f same = (flow_as groups units f same, flow_as groups units f (flow_back same))
+
 -- ---- the bus
 
 pub record SameBus (one other : Version) (ms : Members) : Type 0 where
@@ -154,7 +178,7 @@ pub record SameBus (one other : Version) (ms : Members) : Type 0 where
   pub gap_most : gap_most_of one ms ≡ gap_most_of other ms
   pub errors : errors_table one ms ≡ errors_table other ms
 
-pub bus_back : {one other : Version} {ms : Members} → SameBus one other ms → SameBus other one ms
+bus_back : {one other : Version} {ms : Members} → SameBus one other ms → SameBus other one ms
 bus_back same = record {
   bitrate = sym same.bitrate;
   unplanned_priority = sym same.unplanned_priority;
@@ -164,7 +188,7 @@ bus_back same = record {
   errors = sym same.errors;
 }
 
-pub bus_as : {one other : Version} {ms : Members} (t : Timing) → SameBus one other ms → TellsBus one ms t → TellsBus other ms t
+bus_as : {one other : Version} {ms : Members} (t : Timing) → SameBus one other ms → TellsBus one ms t → TellsBus other ms t
 bus_as t same told = record {
   has_bitrate = told.has_bitrate ∙ same.bitrate;
   has_unplanned = told.has_unplanned;
@@ -174,3 +198,63 @@ bus_as t same told = record {
   has_gap_most = told.has_gap_most ∙ same.gap_most;
   has_errors = subst (λ found. TellsErrors found t.errors) same.errors told.has_errors;
 }
+
+bus_both : {one other : Version} {ms : Members} (t : Timing) → SameBus one other ms → TellsBus one ms t ↔ TellsBus other ms t
+bus_both t same = (bus_as t same, bus_as t (bus_back same))
+
+pub timing_both : (one other : Version) (found : Option Members) (t : Option Timing) → IfSome found (SameBus one other)
+    → TellsTiming one found t ↔ TellsTiming other found t
+timing_both one other None None same = (λ told. told, λ told. told)
+timing_both one other None (Some t) same = (λ told. absurd told, λ told. absurd told)
+timing_both one other (Some ms) None same = (λ told. absurd told, λ told. absurd told)
+timing_both one other (Some ms) (Some t) same = bus_both t same
+
+-- ---- plans
+
+-- two trees tell the parts of a plan alike
+pub record SamePlan (s t : Members) (p : Plan) : Type 0 where
+  pub keep_free : keep_free_of s ≡ keep_free_of t
+  pub strangers : strangers_of (version_of s) s ≡ strangers_of (version_of t) t
+  pub live : live_of (version_of s) s ≡ live_of (version_of t) t
+  pub timing : TellsTiming (version_of s) (timing_table s) p.timing ↔ TellsTiming (version_of t) (timing_table t) p.timing
+  pub units : Each (IsUnitOf (version_of s)) (tables_of units_rule s) p.units.items ↔ Each (IsUnitOf (version_of t)) (tables_of units_rule t) p.units.items
+  pub groups : Each (IsGroupOf (version_of s)) (tables_of groups_rule s) p.groups.items
+      ↔ Each (IsGroupOf (version_of t)) (tables_of groups_rule t) p.groups.items
+  pub flows : Each (IsFlowOf (version_of s) (group_labels s) (unit_labels s)) (tables_of flows_rule s) p.flows.items
+      ↔ Each (IsFlowOf (version_of t) (group_labels t) (unit_labels t)) (tables_of flows_rule t) p.flows.items
+  pub needs : Each (IsNeedOf (group_labels s) (group_signals s) (unit_labels s)) (need_tables s) p.needs.items
+      ↔ Each (IsNeedOf (group_labels t) (group_signals t) (unit_labels t)) (need_tables t) p.needs.items
+  pub requests : Each (IsRequestOf (group_labels s) (unit_labels s)) (request_tables s) p.requests.items
+      ↔ Each (IsRequestOf (group_labels t) (unit_labels t)) (request_tables t) p.requests.items
+
+plan_as : {s t : Members} {p : Plan} → SamePlan s t p → TellsPlan s p → TellsPlan t p
+plan_as same told = record {
+  has_keep_free = told.has_keep_free ∙ same.keep_free;
+  has_strangers = told.has_strangers ∙ same.strangers;
+  has_live = told.has_live ∙ same.live;
+  has_timing = same.timing.0 told.has_timing;
+  has_units = same.units.0 told.has_units;
+  has_groups = same.groups.0 told.has_groups;
+  has_flows = same.flows.0 told.has_flows;
+  has_needs = same.needs.0 told.has_needs;
+  has_requests = same.requests.0 told.has_requests;
+}
+
+turned : {A B : Type 0} → A ↔ B → B ↔ A
+turned both = (both.1, both.0)
+
+plan_back : {s t : Members} {p : Plan} → SamePlan s t p → SamePlan t s p
+plan_back same = record {
+  keep_free = sym same.keep_free;
+  strangers = sym same.strangers;
+  live = sym same.live;
+  timing = turned same.timing;
+  units = turned same.units;
+  groups = turned same.groups;
+  flows = turned same.flows;
+  needs = turned same.needs;
+  requests = turned same.requests;
+}
+
+pub plan_both : {s t : Members} {p : Plan} → SamePlan s t p → TellsPlan s p ↔ TellsPlan t p
+plan_both same = (plan_as same, plan_as (plan_back same))

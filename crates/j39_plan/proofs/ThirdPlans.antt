@@ -1,5 +1,5 @@
 -- Groups and flows of version 3 in whose tables nothing stands that the second doesn't know are those of version 2.
-use Rattle.std.proofs.Common.{map, ◌≡◌, ◌≤◌, ℕ, pos, negsuc, ltb, Bool, true, false, ◌||◌, if◌then◌else◌, arith, List, [], ◌∷◌, Option, Some, None, IfSome, unwrap_or, refl, sym, subst, ◌∙◌}
+use Rattle.std.proofs.Common.{◌↔◌, map, ◌≡◌, ◌≤◌, ℕ, pos, negsuc, ltb, Bool, true, false, ◌||◌, if◌then◌else◌, arith, List, [], ◌∷◌, Option, Some, None, IfSome, unwrap_or, refl, sym, subst, ◌∙◌}
 use Rattle.std.specs.Option.{option_map_or, option_and_then}
 use Rattle.std.proofs.lemmas.Bool.{le-ltb, ltb-false, or_parts}
 use Rattle.toml.specs.Data.{Data, string, integer, float, boolean, datetime, array, table, no_items, Members, get_member, as_integer, as_table}
@@ -25,9 +25,9 @@ use Rattle.j39_plan.specs.GroupTables.{pgn_rule, priority_rule, length_rule, pri
 use Rattle.j39_plan.specs.TextTables.{IsTextOf}
 use Rattle.j39_plan.specs.FlowTables.{period_of, given_deadline, given_period, deadline_rule, flow_rules, flow_table_faults, flow_faults, IsFlowOf}
 use Rattle.j39_plan.specs.Versions.{third_group_keys, IsSecondSignal, IsSecondGroup, IsSecondFlow}
+use Rattle.j39_plan.proofs.SameParts.{SameGroup, SameFlow, signal_both, meaning_both, group_both}
 use Rattle.j39_plan.proofs.Absent.{lacked, IsNone, only_same, Alike, alike_both, alike_between, alike_behind, alike_unknown, alike_inside, alike_each, told_alike}
-use Rattle.j39_plan.proofs.NoFaults.{Each-weaken}
-use Rattle.j39_plan.proofs.ThirdSignals.{signal_alike, second_signal, third_signal}
+use Rattle.j39_plan.proofs.ThirdSignals.{signal_alike, same_signal}
 
 -- ---- groups
 
@@ -154,35 +154,22 @@ most_is : (length : ℕ) (ms : Members) → IsSecondGroup ms → most_of Third l
 unfolding number_of
 most_is length ms second = rw (without ms second).most
 
-pub second_group : (d : Data) (g : GroupPlan) → IsSecondGroup (inside d) → IsGroupOf Third d g → IsGroupOf Second d g
-second_group d g second told = record {
-  has_label = told.has_label;
-  has_pgn = told.has_pgn;
-  has_priority = told.has_priority;
-  has_length = told.has_length;
-  has_private = told.has_private ∙ private_is (inside d) second;
-  has_most = told.has_most ∙ most_is (number_of length_rule (inside d)) (inside d) second;
-  has_every = told.has_every ∙ no_every (inside d) second;
-  has_when = told.has_when;
-  has_signals = told_alike IsSecondSignal (IsSignalOf Third) (IsSignalOf Second) second_signal (tables_of signal_rule (inside d)) g.signals.items second.signals told.has_signals;
-  has_meanings = Each-weaken (IsMeaningOf Third) (IsMeaningOf Second) (λ d m is. record { has_spn = is.has_spn; has_values = is.has_values }) _ _ told.has_meanings;
-  has_texts = subst (λ ds. Each IsTextOf ds g.texts.items) (no_texts (inside d) second) told.has_texts;
+same_group : (ms : Members) → IsSecondGroup ms → SameGroup Third Second ms
+same_group ms second = record {
+  private = private_is ms second;
+  most = most_is (number_of length_rule ms) ms second;
+  every = no_every ms second;
+  when = refl;
+  texts = no_texts ms second;
 }
 
-pub third_group : (d : Data) (g : GroupPlan) → IsSecondGroup (inside d) → IsGroupOf Second d g → IsGroupOf Third d g
-third_group d g second told = record {
-  has_label = told.has_label;
-  has_pgn = told.has_pgn;
-  has_priority = told.has_priority;
-  has_length = told.has_length;
-  has_private = told.has_private ∙ sym (private_is (inside d) second);
-  has_most = told.has_most ∙ sym (most_is (number_of length_rule (inside d)) (inside d) second);
-  has_every = told.has_every ∙ sym (no_every (inside d) second);
-  has_when = told.has_when;
-  has_signals = told_alike IsSecondSignal (IsSignalOf Second) (IsSignalOf Third) third_signal (tables_of signal_rule (inside d)) g.signals.items second.signals told.has_signals;
-  has_meanings = Each-weaken (IsMeaningOf Second) (IsMeaningOf Third) (λ d m is. record { has_spn = is.has_spn; has_values = is.has_values }) _ _ told.has_meanings;
-  has_texts = subst (λ ds. Each IsTextOf ds g.texts.items) (sym (no_texts (inside d) second)) told.has_texts;
-}
+pub group_told : (d : Data) (g : GroupPlan) → IsSecondGroup (inside d) → IsGroupOf Third d g ↔ IsGroupOf Second d g
+group_told d g second =
+    group_both g (same_group (inside d) second)
+    (told_alike IsSecondSignal (IsSignalOf Third) (IsSignalOf Second) (λ d s older. signal_both s (same_signal (inside d) older))
+    (tables_of signal_rule (inside d)) g.signals.items second.signals)
+    (told_alike IsSecondSignal (IsMeaningOf Third) (IsMeaningOf Second) (λ d m older. meaning_both m (record { spn = refl; names = refl }))
+    (tables_of signal_rule (inside d)) g.meanings.items second.signals)
 
 -- ---- flows
 
@@ -234,32 +221,5 @@ deadline_is : (ms : Members) → IsSecondFlow ms → given_deadline Third ms ≡
 unfolding number_found
 deadline_is ms lacks = rw (lacked key.Deadline ms (no_deadline ms lacks))
 
-pub second_flow : (groups units : List (List ℕ)) (d : Data) (f : FlowPlan) → IsSecondFlow (inside d)
-    → IsFlowOf Third groups units d f → IsFlowOf Second groups units d f
-second_flow groups units d f lacks told = record {
-  has_group = told.has_group;
-  has_sender = told.has_sender;
-  has_receivers = told.has_receivers;
-  has_pace = record {
-    has_period = told.has_pace.has_period ∙ period_is (inside d) lacks;
-    has_deadline = subst (λ n. IfSome f.pace (λ p. p.deadline ≡ n)) (deadline_is (inside d) lacks) told.has_pace.has_deadline;
-    has_jitter = told.has_pace.has_jitter;
-  };
-  has_pause = told.has_pause;
-  has_on_request = told.has_on_request;
-}
-
-pub third_flow : (groups units : List (List ℕ)) (d : Data) (f : FlowPlan) → IsSecondFlow (inside d)
-    → IsFlowOf Second groups units d f → IsFlowOf Third groups units d f
-third_flow groups units d f lacks told = record {
-  has_group = told.has_group;
-  has_sender = told.has_sender;
-  has_receivers = told.has_receivers;
-  has_pace = record {
-    has_period = told.has_pace.has_period ∙ sym (period_is (inside d) lacks);
-    has_deadline = subst (λ n. IfSome f.pace (λ p. p.deadline ≡ n)) (sym (deadline_is (inside d) lacks)) told.has_pace.has_deadline;
-    has_jitter = told.has_pace.has_jitter;
-  };
-  has_pause = told.has_pause;
-  has_on_request = told.has_on_request;
-}
+pub same_flow : (ms : Members) → IsSecondFlow ms → SameFlow Third Second ms
+same_flow ms lacks = record { period = period_is ms lacks; deadline = deadline_is ms lacks; jitter = refl; pause = refl; on_request = refl }

@@ -20,6 +20,7 @@ use Rattle.j39_tables.specs.InOrder.{inside}
 use Rattle.j39_plan.specs.LabelsSeen.{label_in, repeated_faults}
 use Rattle.j39_plan.specs.SignalTables.{kind_of, is_dtc, kind_rule, is_code, per_rule, per_of, repeated_rule, repeated_of, signal_rules, signal_table_faults, signal_faults, IsSignalOf}
 use Rattle.j39_plan.specs.Versions.{is_later_kind, IsSecondSignal}
+use Rattle.j39_plan.proofs.SameParts.{SameSignal}
 use Rattle.j39_plan.proofs.Absent.{lacked, IsNone, only_same, Alike, alike_both, alike_between, alike_unknown, alike_inside}
 
 no_per : (ms : Members) → IsSecondSignal ms → get_member (word_of key.Per) ms ≡ None
@@ -116,30 +117,5 @@ repeated_is : (ms : Members) → IsSecondSignal ms → repeated_of Third ms ≡ 
 unfolding flag_of
 repeated_is ms second = rw (no_repeated ms second)
 
-pub second_signal : (d : Data) (s : SignalParts) → IsSecondSignal (inside d) → IsSignalOf Third d s → IsSignalOf Second d s
-second_signal d s second told = record {
-  has_label = told.has_label;
-  has_start = told.has_start;
-  has_bits = told.has_bits;
-  has_kind = told.has_kind ∙ ap kind_of (kind_told (inside d));
-  has_step = told.has_step;
-  has_offset = told.has_offset;
-  has_per = told.has_per ∙ per_is (inside d) second;
-  has_unit = told.has_unit;
-  has_repeated = told.has_repeated ∙ repeated_is (inside d) second;
-  has_optional = told.has_optional;
-}
-
-pub third_signal : (d : Data) (s : SignalParts) → IsSecondSignal (inside d) → IsSignalOf Second d s → IsSignalOf Third d s
-third_signal d s second told = record {
-  has_label = told.has_label;
-  has_start = told.has_start;
-  has_bits = told.has_bits;
-  has_kind = told.has_kind ∙ sym (ap kind_of (kind_told (inside d)));
-  has_step = told.has_step;
-  has_offset = told.has_offset;
-  has_per = told.has_per ∙ sym (per_is (inside d) second);
-  has_unit = told.has_unit;
-  has_repeated = told.has_repeated ∙ sym (repeated_is (inside d) second);
-  has_optional = told.has_optional;
-}
+pub same_signal : (ms : Members) → IsSecondSignal ms → SameSignal Third Second ms
+same_signal ms second = record { kind = ap kind_of (kind_told ms); per = per_is ms second; repeated = repeated_is ms second; optional = refl }
