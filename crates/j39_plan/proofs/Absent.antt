@@ -50,8 +50,8 @@ abbrev pub IsNone : List Key → List ℕ → Type 0
 IsNone keys l = All (λ k. bytes_eq (word_of k) l ≡ false) keys
 
 -- keys that don't stand in the table may be known or not
-pub only_same : (more few : List (List ℕ)) (extra : List Key) (same : (l : List ℕ) → IsNone extra l → is_key_word more l ≡ is_key_word few l)
-    → (ms : Members) → Lacks extra ms → has_only more ms ≡ has_only few ms
+pub only_same : (more few extra : List Key) (same : (l : List ℕ) → IsNone extra l → is_key_word word_of more l ≡ is_key_word word_of few l)
+    → (ms : Members) → Lacks extra ms → has_only word_of more ms ≡ has_only word_of few ms
 only_same more few extra same no_members lacks = refl
 only_same more few extra same (member l d ms) lacks =
     rw (
@@ -81,8 +81,8 @@ pub alike_behind : (xs ys zs : List PlanFault) → (xs ≡ [] → Alike ys zs) �
 alike_behind [] ys zs behind = behind refl
 alike_behind (x ∷ xs) ys zs behind = refl
 
-pub alike_unknown : (at : Table) (more few : List (List ℕ)) (ms ns : Members) → has_only more ms ≡ has_only few ns
-    → Alike (unknown_faults at more ms) (unknown_faults at few ns)
+pub alike_unknown : (at : Table) (more few : List Key) (ms ns : Members) → has_only word_of more ms ≡ has_only word_of few ns
+    → Alike (unknown_faults word_of at more ms) (unknown_faults word_of at few ns)
 unfolding unknown_faults
 alike_unknown at more few ms ns same = rw same
 

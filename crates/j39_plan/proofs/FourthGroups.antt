@@ -1,10 +1,11 @@
 -- Groups of version 4 among whose signals nothing stands that it alone knows are those of version 3.
-use Rattle.std.proofs.Common.{◌↔◌, map, ◌≡◌, ℕ, Bool, true, false, arith, List, [], ◌∷◌, None, refl, sym, subst, ◌∙◌}
+use Rattle.std.proofs.Common.{◌↔◌, ◌≡◌, ℕ, Bool, true, false, arith, List, [], ◌∷◌, None, refl, sym, subst, ◌∙◌}
 use Rattle.std.specs.Option.{option_map_or}
 use Rattle.toml.specs.Data.{Data, Members, no_members, get_member, as_table}
 use Rattle.j39_signal.specs.Parts.{SignalParts}
 use Rattle.j39_network.specs.declared.plan.group_plan.GroupPlan.{GroupPlan}
 use Rattle.j39_network.specs.declared.plan.meaning.Meaning.{Meaning}
+use Rattle.j39_plan.specs.ValueCauses.{truth_where}
 use Rattle.j39_plan.specs.declared.reading.version.Version.TheVariants.{First, Third, Fourth}
 use Rattle.j39_plan.specs.declared.reading.key.Key.{Key}
 use Rattle.j39_plan.specs.declared.reading.key.Key.TheVariants as key
@@ -38,7 +39,7 @@ no_values : (ms : Members) → IsThirdSignal ms → get_member (word_of key.Valu
 no_values ms lacks = lacked key.Values ms (lacks 2 key.Values (omega arith))
 
 optional_unfaulted : (repeated : Bool) (at : Table) (ms : Members) → IsThirdSignal ms → key_faults at ms (optional_rule repeated) ≡ []
-unfolding key_faults
+unfolding key_faults truth_where
 optional_unfaulted repeated at ms lacks = rw (no_optional ms lacks)
 
 spn_unfaulted : (at : Table) (ms : Members) → IsThirdSignal ms → key_faults at ms spn_rule ≡ []
@@ -50,14 +51,14 @@ unfolding key_faults
 values_unfaulted code bits at ms lacks = rw (no_values ms lacks)
 
 -- the keys of a signal in the third version, and in the fourth
-abbrev older_keys : List (List ℕ)
-older_keys = map word_of (key.Label ∷ key.Byte ∷ key.Bit ∷ key.Bits ∷ key.Kind ∷ key.Step ∷ key.Per ∷ key.Offset ∷ key.Unit ∷ key.Repeated ∷ [])
+abbrev older_keys : List Key
+older_keys = key.Label ∷ key.Byte ∷ key.Bit ∷ key.Bits ∷ key.Kind ∷ key.Step ∷ key.Per ∷ key.Offset ∷ key.Unit ∷ key.Repeated ∷ []
 
-abbrev later_keys : List (List ℕ)
-later_keys = map word_of (key.Label ∷ key.Byte ∷ key.Bit ∷ key.Bits ∷ key.Kind ∷ key.Step ∷ key.Per ∷ key.Offset ∷ key.Unit ∷ key.Repeated
-    ∷ key.Optional ∷ key.Spn ∷ key.Values ∷ [])
+abbrev later_keys : List Key
+later_keys = key.Label ∷ key.Byte ∷ key.Bit ∷ key.Bits ∷ key.Kind ∷ key.Step ∷ key.Per ∷ key.Offset ∷ key.Unit ∷ key.Repeated
+    ∷ key.Optional ∷ key.Spn ∷ key.Values ∷ []
 
-signal_words : (l : List ℕ) → IsNone (key.Optional ∷ key.Spn ∷ key.Values ∷ []) l → is_key_word later_keys l ≡ is_key_word older_keys l
+signal_words : (l : List ℕ) → IsNone (key.Optional ∷ key.Spn ∷ key.Values ∷ []) l → is_key_word word_of later_keys l ≡ is_key_word word_of older_keys l
 signal_words l none = rw (none 0 key.Optional (omega arith), none 1 key.Spn (omega arith), none 2 key.Values (omega arith))
 
 -- the rules of a signal in both, by whether it is repeated and whether it is a trouble code
@@ -123,14 +124,13 @@ when_is : (ms : Members) → IsThirdGroup ms → when_table Fourth ms ≡ None
 unfolding table_found
 when_is ms third = rw (no_when ms third)
 
-abbrev older_group_keys : List (List ℕ)
-older_group_keys = map word_of (key.Label ∷ key.Pgn ∷ key.Priority ∷ key.Length ∷ key.Private ∷ key.Most ∷ key.Every ∷ key.Signal ∷ key.Text ∷ [])
+abbrev older_group_keys : List Key
+older_group_keys = key.Label ∷ key.Pgn ∷ key.Priority ∷ key.Length ∷ key.Private ∷ key.Most ∷ key.Every ∷ key.Signal ∷ key.Text ∷ []
 
-abbrev later_group_keys : List (List ℕ)
-later_group_keys = map word_of
-    (key.Label ∷ key.Pgn ∷ key.Priority ∷ key.Length ∷ key.Private ∷ key.Most ∷ key.Every ∷ key.When ∷ key.Signal ∷ key.Text ∷ [])
+abbrev later_group_keys : List Key
+later_group_keys = key.Label ∷ key.Pgn ∷ key.Priority ∷ key.Length ∷ key.Private ∷ key.Most ∷ key.Every ∷ key.When ∷ key.Signal ∷ key.Text ∷ []
 
-group_words : (l : List ℕ) → IsNone (key.When ∷ []) l → is_key_word later_group_keys l ≡ is_key_word older_group_keys l
+group_words : (l : List ℕ) → IsNone (key.When ∷ []) l → is_key_word word_of later_group_keys l ≡ is_key_word word_of older_group_keys l
 group_words l none = rw (none 0 key.When (omega arith))
 
 group_keys_alike : (g : ℕ) (ms : Members) → IsThirdGroup ms → Alike (group_keys_faults Fourth g ms) (group_keys_faults Third g ms)
@@ -155,8 +155,8 @@ same_group ms third = record { private = refl; most = refl; every = refl; when =
 
 pub group_told : (d : Data) (g : GroupPlan) → IsThirdGroup (inside d) → IsGroupOf Fourth d g ↔ IsGroupOf Third d g
 group_told d g third =
-    group_both g (same_group (inside d) third)
-    (told_alike IsThirdSignal (IsSignalOf Fourth) (IsSignalOf Third) (λ d s lacks. signal_both s (same_signal (inside d) lacks))
+    group_both d g (same_group (inside d) third)
+    (told_alike IsThirdSignal (IsSignalOf Fourth) (IsSignalOf Third) (λ d s lacks. signal_both d s (same_signal (inside d) lacks))
     (tables_of signal_rule (inside d)) g.signals.items third.signals)
-    (told_alike IsThirdSignal (IsMeaningOf Fourth) (IsMeaningOf Third) (λ d m lacks. meaning_both m (same_meaning (inside d) lacks))
+    (told_alike IsThirdSignal (IsMeaningOf Fourth) (IsMeaningOf Third) (λ d m lacks. meaning_both d m (same_meaning (inside d) lacks))
     (tables_of signal_rule (inside d)) g.meanings.items third.signals)

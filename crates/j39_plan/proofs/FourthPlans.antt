@@ -1,5 +1,5 @@
 -- A plan of version 4 in which nothing stands that it alone knows is one of version 3.
-use Rattle.std.proofs.Common.{map, ◌≡◌, ◌≢◌, ℕ, pos, true, false, arith, List, [], ◌∷◌, Option, Some, None, IfSome, unwrap_or, refl, sym, ap, subst, ◌∙◌}
+use Rattle.std.proofs.Common.{◌≡◌, ◌≢◌, ℕ, pos, true, false, arith, List, [], ◌∷◌, Option, Some, None, IfSome, unwrap_or, refl, sym, ap, subst, ◌∙◌}
 use Rattle.std.specs.Option.{option_and_then}
 use Rattle.std.proofs.lemmas.Bool.{le-ltb, ne_eqb}
 use Rattle.toml.specs.Data.{Data, string, integer, float, boolean, datetime, array, table, Members, get_member, as_integer}
@@ -12,8 +12,8 @@ use Rattle.j39_plan.specs.declared.reading.place.Table.{Table}
 use Rattle.j39_plan.specs.declared.reading.place.Table.TheVariants as at
 use Rattle.j39_plan.specs.Words.{word_of}
 use Rattle.j39_plan.specs.Schema.{has_key, given_number, table_of}
-use Rattle.j39_tables.specs.Rules.{natural, standing, number_of, flag_of, table_found, number_found}
-use Rattle.j39_plan.specs.ValueCauses.{is_bitrate}
+use Rattle.j39_tables.specs.Rules.{natural, standing, number_of, flag_of, table_found, number_found, integer_in, truth}
+use Rattle.j39_plan.specs.ValueCauses.{is_bitrate, bitrate_of_bus}
 use Rattle.j39_tables.specs.TableFaults.{standing_cause, key_faults, is_key_word}
 use Rattle.j39_plan.specs.Since.{versioned_faults}
 use Rattle.j39_tables.specs.InOrder.{inside}
@@ -41,17 +41,17 @@ period_same : (ms : Members) → IsThirdFlow ms → period_rule Fourth ms ≡ pe
 period_same ms lacks = rw (no_jitter_key ms lacks)
 
 -- the keys of a flow in the third version, and in the fourth
-abbrev older_keys : Key → List (List ℕ)
-older_keys period = map word_of (key.Group ∷ key.From ∷ key.To ∷ period ∷ key.Deadline ∷ [])
+abbrev older_keys : Key → List Key
+older_keys period = key.Group ∷ key.From ∷ key.To ∷ period ∷ key.Deadline ∷ []
 
-abbrev later_keys : Key → List (List ℕ)
-later_keys period = map word_of (key.Group ∷ key.From ∷ key.To ∷ period ∷ key.Deadline ∷ key.Jitter ∷ key.Pause ∷ key.OnRequest ∷ [])
+abbrev later_keys : Key → List Key
+later_keys period = key.Group ∷ key.From ∷ key.To ∷ period ∷ key.Deadline ∷ key.Jitter ∷ key.Pause ∷ key.OnRequest ∷ []
 
-flow_words : (period : Key) (l : List ℕ) → IsNone fourth_flow_keys l → is_key_word (later_keys period) l ≡ is_key_word (older_keys period) l
+flow_words : (period : Key) (l : List ℕ) → IsNone fourth_flow_keys l → is_key_word word_of (later_keys period) l ≡ is_key_word word_of (older_keys period) l
 flow_words period l none = rw (none 0 key.Jitter (omega arith), none 1 key.Pause (omega arith), none 2 key.OnRequest (omega arith))
 
 jitter_unfaulted : (at : Table) (ms : Members) (period : Option ℕ) → get_member (word_of key.Jitter) ms ≡ None → key_faults at ms (jitter_rule period) ≡ []
-unfolding key_faults
+unfolding key_faults integer_in
 jitter_unfaulted at ms period none = rw (none, le-ltb (jitter_most period) 0 (omega arith))
 
 pause_unfaulted : (at : Table) (ms : Members) (period : Option ℕ) → get_member (word_of key.Pause) ms ≡ None → key_faults at ms (pause_rule period) ≡ []
@@ -59,7 +59,7 @@ unfolding key_faults
 pause_unfaulted at ms period none = rw none
 
 on_request_unfaulted : (at : Table) (ms : Members) → get_member (word_of key.OnRequest) ms ≡ None → key_faults at ms on_request_rule ≡ []
-unfolding key_faults
+unfolding key_faults truth
 on_request_unfaulted at ms none = rw none
 
 flow_keys_alike : (at : Table) (ms : Members) → IsThirdFlow ms
@@ -127,14 +127,14 @@ without ms third = record {
 }
 
 -- the keys of the bus in the fourth version, and in the third
-abbrev later_bus_keys : List (List ℕ)
-later_bus_keys = map word_of (key.Bitrate ∷ key.Unplanned ∷ fourth_bus_keys)
+abbrev later_bus_keys : List Key
+later_bus_keys = key.Bitrate ∷ key.Unplanned ∷ fourth_bus_keys
 
-abbrev older_bus_keys : List (List ℕ)
-older_bus_keys = map word_of (key.Bitrate ∷ key.Unplanned ∷ [])
+abbrev older_bus_keys : List Key
+older_bus_keys = key.Bitrate ∷ key.Unplanned ∷ []
 
 bus_words : (l : List ℕ) → IsNone fourth_bus_keys l
-    → is_key_word later_bus_keys l ≡ is_key_word older_bus_keys l
+    → is_key_word word_of later_bus_keys l ≡ is_key_word word_of older_bus_keys l
 bus_words l none = rw (
   none 0 key.UnplannedPriority (omega arith),
   none 1 key.TransportPriority (omega arith),
@@ -149,6 +149,7 @@ bitrate_same n not_slowest not_fastest = rw (ne_eqb n 125000 not_slowest, ne_eqb
 bitrate_cause : (found : Option Data) → natural (unwrap_or (option_and_then as_integer found) (pos 0)) ≢ 125000
     → natural (unwrap_or (option_and_then as_integer found) (pos 0)) ≢ 1000000
     → standing_cause (bitrate_rule Fourth) found ≡ standing_cause (bitrate_rule Third) found
+unfolding bitrate_of_bus
 bitrate_cause None a b = refl
 bitrate_cause (Some (integer z)) a b = rw (bitrate_same (natural z) a b)
 bitrate_cause (Some (string s)) a b = refl
@@ -174,7 +175,7 @@ record Unfaulted (ms : Members) : Type 0 where
   errors : key_faults at.Timing ms errors_rule ≡ []
 
 unfaulted : (ms : Members) → Without ms → Unfaulted ms
-unfolding key_faults
+unfolding key_faults integer_in
 unfaulted ms w = record {
   unplanned_priority = rw w.unplanned_priority;
   transport_priority = rw w.transport_priority;

@@ -1,5 +1,5 @@
 -- A plan of version 4 in which nothing stands that it alone knows is read as one of version 3.
-use Rattle.std.proofs.Common.{map, ◌≡◌, ℕ, true, false, arith, List, [], ◌∷◌, Option, Some, None, IfSome, refl, sym, ◌∙◌}
+use Rattle.std.proofs.Common.{◌≡◌, ℕ, true, false, arith, List, [], ◌∷◌, Option, Some, None, IfSome, refl, sym, ◌∙◌}
 use Rattle.std.specs.Option.{option_map_or}
 use Rattle.toml.specs.Data.{no_items, Members, get_member}
 use Rattle.j39_network.specs.declared.plan.Plan.{Plan}
@@ -9,11 +9,11 @@ use Rattle.j39_plan.specs.declared.reading.key.Key.{Key}
 use Rattle.j39_plan.specs.declared.reading.key.Key.TheVariants as key
 use Rattle.j39_plan.specs.declared.reading.place.Table.TheVariants as at
 use Rattle.j39_plan.specs.Words.{word_of}
-use Rattle.j39_tables.specs.Rules.{number_of, flag_of, array_found}
+use Rattle.j39_tables.specs.Rules.{number_of, flag_of, array_found, integer_in, truth, array_up_to}
 use Rattle.j39_plan.specs.Schema.{table_of, tables_of}
 use Rattle.j39_tables.specs.TableFaults.{key_faults, is_key_word, has_only}
 use Rattle.j39_plan.specs.Since.{known_faults}
-use Rattle.j39_tables.specs.InOrder.{each_faults}
+use Rattle.j39_tables.specs.InOrder.{each_faults, inside}
 use Rattle.j39_plan.specs.LabelsSeen.{label_in}
 use Rattle.j39_plan.specs.UnitTables.{IsUnitOf, unit_faults, unit_label_in}
 use Rattle.j39_plan.specs.GroupTables.{IsGroupOf, group_faults}
@@ -34,20 +34,20 @@ use Rattle.j39_plan.proofs.SameParts.{SameBus, SamePlan, unit_both, flow_both, t
 -- ---- the top table
 
 -- the keys of the top table in both versions
-abbrev fourth_keys : List (List ℕ)
-fourth_keys = map word_of (key.Version ∷ key.KeepFree ∷ key.Strangers ∷ key.Live ∷ key.Timing ∷ key.Unit ∷ key.Group ∷ key.Flow ∷ key.Need ∷ key.Request ∷ [])
+abbrev fourth_keys : List Key
+fourth_keys = key.Version ∷ key.KeepFree ∷ key.Strangers ∷ key.Live ∷ key.Timing ∷ key.Unit ∷ key.Group ∷ key.Flow ∷ key.Need ∷ key.Request ∷ []
 
-abbrev third_keys : List (List ℕ)
-third_keys = map word_of (key.Version ∷ key.KeepFree ∷ key.Timing ∷ key.Unit ∷ key.Group ∷ key.Flow ∷ [])
+abbrev third_keys : List Key
+third_keys = key.Version ∷ key.KeepFree ∷ key.Timing ∷ key.Unit ∷ key.Group ∷ key.Flow ∷ []
 
 top_words : (l : List ℕ) → IsNone fourth_top_keys l
-    → is_key_word fourth_keys l
-    ≡ is_key_word third_keys l
+    → is_key_word word_of fourth_keys l
+    ≡ is_key_word word_of third_keys l
 top_words l none = rw (none 0 key.Strangers (omega arith), none 1 key.Live (omega arith), none 2 key.Need (omega arith), none 3 key.Request (omega arith))
 
 known_alike : (n : ℕ) (tree : Members) → Lacks fourth_top_keys tree
-    → has_only fourth_keys tree
-    ≡ has_only third_keys (with_version n tree)
+    → has_only word_of fourth_keys tree
+    ≡ has_only word_of third_keys (with_version n tree)
 known_alike n tree lacks =
     only_same fourth_keys third_keys fourth_top_keys top_words tree lacks
     ∙ sym (only_other n third_keys tree)
@@ -78,7 +78,7 @@ no_strangers : (s : Members) → Lacks fourth_top_keys s → get_member (word_of
 no_strangers s lacks = lacked key.Strangers s (lacks 0 key.Strangers (omega arith))
 
 strangers_unfaulted : (s : Members) → get_member (word_of key.Strangers) s ≡ None → key_faults at.Top s strangers_rule ≡ []
-unfolding key_faults
+unfolding key_faults integer_in
 strangers_unfaulted s none = rw none
 
 strangers_alike : (s : Members) → Beside s → Alike (strangers_faults s) (strangers_faults (with_version 3 s))
@@ -97,7 +97,7 @@ no_live : (s : Members) → Lacks fourth_top_keys s → get_member (word_of key.
 no_live s lacks = lacked key.Live s (lacks 1 key.Live (omega arith))
 
 live_unfaulted : (s : Members) → get_member (word_of key.Live) s ≡ None → key_faults at.Top s live_rule ≡ []
-unfolding key_faults
+unfolding key_faults truth
 live_unfaulted s none = rw none
 
 live_alike : (s : Members) → Beside s → Alike (live_faults s) (live_faults (with_version 3 s))
@@ -132,7 +132,7 @@ unfolding key_faults
 needs_unfaulted s none = rw none
 
 no_need_tables : (s : Members) → get_member (word_of key.Need) s ≡ None → need_tables_of Fourth s ≡ no_items
-unfolding tables_of array_found
+unfolding tables_of array_found array_up_to
 no_need_tables s none = rw none
 
 no_requests : (s : Members) → Lacks fourth_top_keys s → get_member (word_of key.Request) s ≡ None
@@ -143,7 +143,7 @@ unfolding key_faults
 requests_unfaulted s none = rw none
 
 no_request_tables : (s : Members) → get_member (word_of key.Request) s ≡ None → request_tables_of Fourth s ≡ no_items
-unfolding tables_of array_found
+unfolding tables_of array_found array_up_to
 no_request_tables s none = rw none
 
 arrays_alike : (s : Members) → Beside s
@@ -224,13 +224,13 @@ same_plan s p b =
       timing = rw (k, o, table_other 3 timing_rule s refl)
           (timing_both Fourth Third (table_of timing_rule s) p.timing (bus_same (table_of timing_rule s) b.older.bus));
       units = rw (k, o, tables_other 3 units_rule s refl)
-          (told_alike IsThirdUnit (IsUnitOf Fourth) (IsUnitOf Third) (λ d u third. unit_both u (same_unit (inside d) third))
+          (told_alike IsThirdUnit (IsUnitOf Fourth) (IsUnitOf Third) (λ d u third. unit_both d u (same_unit (inside d) third))
           (tables_of units_rule s) p.units.items b.older.units);
       groups = rw (k, o, tables_other 3 groups_rule s refl)
           (told_alike IsThirdGroup (IsGroupOf Fourth) (IsGroupOf Third) group_told (tables_of groups_rule s) p.groups.items b.older.groups);
       flows = rw (k, o, tables_other 3 units_rule s refl, tables_other 3 groups_rule s refl, tables_other 3 flows_rule s refl)
           (told_alike IsThirdFlow (IsFlowOf Fourth (group_labels s) (unit_labels s)) (IsFlowOf Third (group_labels s) (unit_labels s))
-          (λ d f third. flow_both (group_labels s) (unit_labels s) f (same_flow (inside d) third)) (tables_of flows_rule s) p.flows.items b.older.flows);
+          (λ d f third. flow_both (group_labels s) (unit_labels s) d f (same_flow (inside d) third)) (tables_of flows_rule s) p.flows.items b.older.flows);
       needs = rw (k, o, no_need_tables s (no_needs s b.older.keys)) (each_nothing _ _ p.needs.items);
       requests = rw (k, o, no_request_tables s (no_requests s b.older.keys)) (each_nothing _ _ p.requests.items);
     }

@@ -1,5 +1,5 @@
 -- A unit of version 4 in whose table nothing stands that it alone knows is one of version 3.
-use Rattle.std.proofs.Common.{map, ◌≡◌, ℕ, true, false, arith, List, [], ◌∷◌, Option, None, Some, is_some, unwrap_or, IfSome, refl, sym, ap, ◌∙◌}
+use Rattle.std.proofs.Common.{◌≡◌, ℕ, true, false, arith, List, [], ◌∷◌, Option, None, Some, is_some, unwrap_or, IfSome, refl, sym, ap, ◌∙◌}
 use Rattle.std.specs.Option.{option_map_or}
 use Rattle.std.proofs.lemmas.Bool.{false≢true}
 use Rattle.toml.specs.Data.{Data, Members, no_members, get_member, as_table}
@@ -13,7 +13,7 @@ use Rattle.j39_plan.specs.declared.reading.place.Table.{Table}
 use Rattle.j39_plan.specs.declared.reading.place.Table.TheVariants as at
 use Rattle.j39_plan.specs.declared.reading.text_kind.TextKind.TheVariants as texts
 use Rattle.j39_plan.specs.Words.{word_of}
-use Rattle.j39_tables.specs.Rules.{flag_of, number_of, text_of}
+use Rattle.j39_tables.specs.Rules.{flag_of, number_of, text_of, truth, text_where}
 use Rattle.j39_plan.specs.Schema.{has_key, table_of}
 use Rattle.j39_tables.specs.TableFaults.{key_faults, table_only_faults, is_key_word}
 use Rattle.j39_plan.specs.Since.{versioned_faults}
@@ -32,21 +32,21 @@ no_queue : (ms : Members) → IsThirdUnit ms → get_member (word_of key.Queue) 
 no_queue ms lacks = lacked key.Queue ms (lacks.keys 0 key.Queue (omega arith))
 
 -- the keys of a unit in the third version, and in the fourth
-abbrev older_keys : List (List ℕ)
-older_keys = map word_of (key.Label ∷ key.Address ∷ key.Chooser ∷ key.Window ∷ key.Name ∷ [])
+abbrev older_keys : List Key
+older_keys = key.Label ∷ key.Address ∷ key.Chooser ∷ key.Window ∷ key.Name ∷ []
 
-abbrev later_keys : List (List ℕ)
-later_keys = map word_of (key.Label ∷ key.Address ∷ key.Chooser ∷ key.Window ∷ key.Queue ∷ key.Name ∷ key.Claims ∷ [])
+abbrev later_keys : List Key
+later_keys = key.Label ∷ key.Address ∷ key.Chooser ∷ key.Window ∷ key.Queue ∷ key.Name ∷ key.Claims ∷ []
 
-unit_words : (l : List ℕ) → IsNone (key.Queue ∷ key.Claims ∷ []) l → is_key_word later_keys l ≡ is_key_word older_keys l
+unit_words : (l : List ℕ) → IsNone (key.Queue ∷ key.Claims ∷ []) l → is_key_word word_of later_keys l ≡ is_key_word word_of older_keys l
 unit_words l none = rw (none 0 key.Queue (omega arith), none 1 key.Claims (omega arith))
 
 claims_unfaulted : (at : Table) (ms : Members) → IsThirdUnit ms → key_faults at ms claims_rule ≡ []
-unfolding key_faults
+unfolding key_faults truth
 claims_unfaulted at ms lacks = rw (no_claims ms lacks)
 
 queue_unfaulted : (at : Table) (ms : Members) → IsThirdUnit ms → key_faults at ms queue_rule ≡ []
-unfolding key_faults
+unfolding key_faults text_where
 queue_unfaulted at ms lacks = rw (no_queue ms lacks)
 
 unit_keys_alike : (at : Table) (ms : Members) → IsThirdUnit ms → Alike (versioned_faults at Fourth unit_rules ms) (versioned_faults at Third unit_rules ms)

@@ -7,7 +7,7 @@ use Rattle.j39_plan.specs.declared.reading.key.Key.TheVariants as key
 use Rattle.j39_plan.specs.declared.reading.place.Table.TheVariants as at
 use Rattle.j39_plan.specs.declared.reading.version.Version.TheVariants.{Second, Third, Fourth}
 use Rattle.j39_plan.specs.Words.{word_of}
-use Rattle.j39_tables.specs.Rules.{natural, number_of}
+use Rattle.j39_tables.specs.Rules.{natural, number_of, integer_in}
 use Rattle.j39_tables.specs.TableFaults.{standing_cause, key_faults}
 use Rattle.j39_tables.specs.InOrder.{Each}
 use Rattle.j39_plan.specs.PlanFaults.{version_rule, version_of}
@@ -18,6 +18,7 @@ no_version n some is = omega (arith, is)
 
 version_cause : (n : ℕ) (found : Option Data) → 1 ≤ n → n ≤ 4 → natural (unwrap_or (option_and_then as_integer (option_or found None)) (pos 0)) ≡ n
     → standing_cause version_rule (option_or found None) ≡ None
+unfolding integer_in
 version_cause n None some few is = absurd (no_version n some is)
 version_cause n (Some (integer (pos m))) some few is =
     let same : m ≡ n = is in

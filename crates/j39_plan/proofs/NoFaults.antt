@@ -17,7 +17,7 @@ use Rattle.j39_plan.specs.declared.reading.place.Table.{Table}
 use Rattle.j39_plan.specs.declared.reading.text_kind.TextKind.{TextKind}
 use Rattle.j39_plan.specs.TextKinds.{takes}
 use Rattle.j39_plan.specs.Schema.{tables, tables_of}
-use Rattle.j39_tables.specs.Rules.{items_count, array_found}
+use Rattle.j39_tables.specs.Rules.{items_count, array_found, array_up_to}
 use Rattle.j39_tables.specs.InOrder.{each_faults, Each, labels_of}
 use Rattle.j39_plan.specs.LabelsSeen.{is_label_among, repeated_faults}
 
@@ -37,7 +37,7 @@ count_if true limit ds e = leb-true (items_count ds) limit e
 count_if false limit ds e = omega arith
 
 pub tables_count : (key : Key) (limit : ℕ) (ms : Members) → items_count (tables_of (tables key limit) ms) ≤ limit
-unfolding tables_of
+unfolding tables_of array_up_to
 tables_count key limit ms = count_if _ limit _ refl
 
 -- ---- element by element

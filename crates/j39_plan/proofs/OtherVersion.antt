@@ -43,17 +43,17 @@ get_other n k (member l d ms) other =
     passed (slice_cmp nat_cmp k l) (bytes_eq version_word l) n d (get_member k ms) (get_member k (with_version n ms))
     (no_version k l other) (get_other n k ms other)
 
-pub only_other : (n : ℕ) (words : List (List ℕ)) (ms : Members) → has_only words (with_version n ms) ≡ has_only words ms
+pub only_other : (n : ℕ) (keys : List Key) (ms : Members) → has_only word_of keys (with_version n ms) ≡ has_only word_of keys ms
 unfolding with_version
-only_other n words no_members = refl
-only_other n words (member l d ms) = rw (only_other n words ms)
+only_other n keys no_members = refl
+only_other n keys (member l d ms) = rw (only_other n keys ms)
 
 -- the key of the rule isn't the version
 abbrev pub IsOther : PlanRule → Type 0
-IsOther r = bytes_eq version_word r.word ≡ false
+IsOther r = bytes_eq version_word (r.word r.key) ≡ false
 
 standing_other : (n : ℕ) (r : PlanRule) (ms : Members) → IsOther r → standing r (with_version n ms) ≡ standing r ms
-standing_other n r ms other = rw (get_other n r.word ms other)
+standing_other n r ms other = rw (get_other n (r.word r.key) ms other)
 
 pub key_faults_other : (n : ℕ) (at : Table) (r : PlanRule) (ms : Members) → IsOther r → key_faults at (with_version n ms) r ≡ key_faults at ms r
 unfolding key_faults
@@ -61,11 +61,11 @@ key_faults_other n at r ms other = rw (standing_other n r ms other)
 
 pub table_other : (n : ℕ) (r : PlanRule) (ms : Members) → IsOther r → table_of r (with_version n ms) ≡ table_of r ms
 unfolding table_found
-table_other n r ms other = rw (get_other n r.word ms other)
+table_other n r ms other = rw (get_other n (r.word r.key) ms other)
 
 pub tables_other : (n : ℕ) (r : PlanRule) (ms : Members) → IsOther r → tables_of r (with_version n ms) ≡ tables_of r ms
 unfolding tables_of array_found
-tables_other n r ms other = rw (get_other n r.word ms other)
+tables_other n r ms other = rw (get_other n (r.word r.key) ms other)
 
 pub addresses_other : (n : ℕ) (r : PlanRule) (ms : Members) → IsOther r → addresses_of r (with_version n ms) ≡ addresses_of r ms
 unfolding addresses_of

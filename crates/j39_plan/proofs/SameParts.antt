@@ -36,8 +36,8 @@ pub record SameUnit (one other : Version) (ms : Members) : Type 0 where
 unit_back : {one other : Version} {ms : Members} → SameUnit one other ms → SameUnit other one ms
 unit_back same = record { name = sym same.name; number = sym same.number; queue = sym same.queue; claims = sym same.claims }
 
-unit_as : {one other : Version} {d : Data} (u : UnitPlan) → SameUnit one other (inside d) → IsUnitOf one d u → IsUnitOf other d u
-unit_as u same told = record {
+unit_as : {one other : Version} (d : Data) (u : UnitPlan) → SameUnit one other (inside d) → IsUnitOf one d u → IsUnitOf other d u
+unit_as d u same told = record {
   has_label = told.has_label;
   has_address = told.has_address;
   has_way = told.has_way;
@@ -48,8 +48,8 @@ unit_as u same told = record {
   has_claims = told.has_claims ∙ same.claims;
 }
 
-pub unit_both : {one other : Version} {d : Data} (u : UnitPlan) → SameUnit one other (inside d) → IsUnitOf one d u ↔ IsUnitOf other d u
-unit_both u same = (unit_as u same, unit_as u (unit_back same))
+pub unit_both : {one other : Version} (d : Data) (u : UnitPlan) → SameUnit one other (inside d) → IsUnitOf one d u ↔ IsUnitOf other d u
+unit_both d u same = (unit_as d u same, unit_as d u (unit_back same))
 
 -- ---- signals
 
@@ -62,8 +62,8 @@ pub record SameSignal (one other : Version) (ms : Members) : Type 0 where
 signal_back : {one other : Version} {ms : Members} → SameSignal one other ms → SameSignal other one ms
 signal_back same = record { kind = sym same.kind; per = sym same.per; repeated = sym same.repeated; optional = sym same.optional }
 
-signal_as : {one other : Version} {d : Data} (s : SignalParts) → SameSignal one other (inside d) → IsSignalOf one d s → IsSignalOf other d s
-signal_as s same told = record {
+signal_as : {one other : Version} (d : Data) (s : SignalParts) → SameSignal one other (inside d) → IsSignalOf one d s → IsSignalOf other d s
+signal_as d s same told = record {
   has_label = told.has_label;
   has_start = told.has_start;
   has_bits = told.has_bits;
@@ -76,8 +76,8 @@ signal_as s same told = record {
   has_optional = told.has_optional ∙ same.optional;
 }
 
-pub signal_both : {one other : Version} {d : Data} (s : SignalParts) → SameSignal one other (inside d) → IsSignalOf one d s ↔ IsSignalOf other d s
-signal_both s same = (signal_as s same, signal_as s (signal_back same))
+pub signal_both : {one other : Version} (d : Data) (s : SignalParts) → SameSignal one other (inside d) → IsSignalOf one d s ↔ IsSignalOf other d s
+signal_both d s same = (signal_as d s same, signal_as d s (signal_back same))
 
 pub record SameMeaning (one other : Version) (ms : Members) : Type 0 where
   pub spn : spn_of one ms ≡ spn_of other ms
@@ -86,14 +86,14 @@ pub record SameMeaning (one other : Version) (ms : Members) : Type 0 where
 meaning_back : {one other : Version} {ms : Members} → SameMeaning one other ms → SameMeaning other one ms
 meaning_back same = record { spn = sym same.spn; names = sym same.names }
 
-meaning_as : {one other : Version} {d : Data} (m : Meaning) → SameMeaning one other (inside d) → IsMeaningOf one d m → IsMeaningOf other d m
-meaning_as m same told = record {
+meaning_as : {one other : Version} (d : Data) (m : Meaning) → SameMeaning one other (inside d) → IsMeaningOf one d m → IsMeaningOf other d m
+meaning_as d m same told = record {
   has_spn = told.has_spn ∙ same.spn;
   has_values = subst (λ ms. AreValueNames ms m.values.items) same.names told.has_values;
 }
 
-pub meaning_both : {one other : Version} {d : Data} (m : Meaning) → SameMeaning one other (inside d) → IsMeaningOf one d m ↔ IsMeaningOf other d m
-meaning_both m same = (meaning_as m same, meaning_as m (meaning_back same))
+pub meaning_both : {one other : Version} (d : Data) (m : Meaning) → SameMeaning one other (inside d) → IsMeaningOf one d m ↔ IsMeaningOf other d m
+meaning_both d m same = (meaning_as d m same, meaning_as d m (meaning_back same))
 
 -- ---- groups: their signals are told apart from them
 
@@ -107,11 +107,11 @@ pub record SameGroup (one other : Version) (ms : Members) : Type 0 where
 group_back : {one other : Version} {ms : Members} → SameGroup one other ms → SameGroup other one ms
 group_back same = record { private = sym same.private; most = sym same.most; every = sym same.every; when = sym same.when; texts = sym same.texts }
 
-group_as : {one other : Version} {d : Data} (g : GroupPlan) → SameGroup one other (inside d)
+group_as : {one other : Version} (d : Data) (g : GroupPlan) → SameGroup one other (inside d)
     → (Each (IsSignalOf one) (tables_of signal_rule (inside d)) g.signals.items → Each (IsSignalOf other) (tables_of signal_rule (inside d)) g.signals.items)
     → (Each (IsMeaningOf one) (tables_of signal_rule (inside d)) g.meanings.items → Each (IsMeaningOf other) (tables_of signal_rule (inside d)) g.meanings.items)
     → IsGroupOf one d g → IsGroupOf other d g
-group_as g same signals meanings told = record {
+group_as d g same signals meanings told = record {
   has_label = told.has_label;
   has_pgn = told.has_pgn;
   has_priority = told.has_priority;
@@ -125,11 +125,11 @@ group_as g same signals meanings told = record {
   has_texts = subst (λ ds. Each IsTextOf ds g.texts.items) same.texts told.has_texts;
 }
 
-pub group_both : {one other : Version} {d : Data} (g : GroupPlan) → SameGroup one other (inside d)
+pub group_both : {one other : Version} (d : Data) (g : GroupPlan) → SameGroup one other (inside d)
     → (Each (IsSignalOf one) (tables_of signal_rule (inside d)) g.signals.items ↔ Each (IsSignalOf other) (tables_of signal_rule (inside d)) g.signals.items)
     → (Each (IsMeaningOf one) (tables_of signal_rule (inside d)) g.meanings.items ↔ Each (IsMeaningOf other) (tables_of signal_rule (inside d)) g.meanings.items)
     → IsGroupOf one d g ↔ IsGroupOf other d g
-group_both g same signals meanings = (group_as g same signals.0 meanings.0, group_as g (group_back same) signals.1 meanings.1)
+group_both d g same signals meanings = (group_as d g same signals.0 meanings.0, group_as d g (group_back same) signals.1 meanings.1)
 
 -- ---- flows
 
@@ -149,9 +149,9 @@ flow_back same = record {
   on_request = sym same.on_request;
 }
 
-flow_as : {one other : Version} (groups units : List (List ℕ)) {d : Data} (f : FlowPlan) → SameFlow one other (inside d)
+flow_as : {one other : Version} (groups units : List (List ℕ)) (d : Data) (f : FlowPlan) → SameFlow one other (inside d)
     → IsFlowOf one groups units d f → IsFlowOf other groups units d f
-flow_as groups units f same told = record {
+flow_as groups units d f same told = record {
   has_group = told.has_group;
   has_sender = told.has_sender;
   has_receivers = told.has_receivers;
@@ -164,9 +164,9 @@ flow_as groups units f same told = record {
   has_on_request = told.has_on_request ∙ same.on_request;
 }
 
-pub flow_both : {one other : Version} (groups units : List (List ℕ)) {d : Data} (f : FlowPlan) → SameFlow one other (inside d)
+pub flow_both : {one other : Version} (groups units : List (List ℕ)) (d : Data) (f : FlowPlan) → SameFlow one other (inside d)
     → IsFlowOf one groups units d f ↔ IsFlowOf other groups units d f
-flow_both groups units f same = (flow_as groups units f same, flow_as groups units f (flow_back same))
+flow_both groups units d f same = (flow_as groups units d f same, flow_as groups units d f (flow_back same))
 
 -- ---- the bus
 

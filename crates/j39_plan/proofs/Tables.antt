@@ -1,5 +1,5 @@
 -- A table of a version, as the definitions see it.
-use Rattle.std.proofs.Common.{◌≡◌, List, [], ◌∷◌, map, refl, inl, inr, ℕ, ◌&&◌, String, Global, string_bytes}
+use Rattle.std.proofs.Common.{◌≡◌, List, [], ◌∷◌, refl, inl, inr, ℕ, ◌&&◌, String, Global, string_bytes}
 use Rattle.std.specs.List.{list_all, list_any}
 use Rattle.std.specs.Str.{bytes_eq}
 use Rattle.std.proofs.lemmas.Bool.{cases_Bool}
@@ -15,7 +15,7 @@ use Rattle.j39_tables.specs.TableFaults.{is_key_word, has_only}
 
 -- a key that a version knows, looked for among all keys of the table
 known_word : (version : Version) (keys : List (Key × Version)) (name : List ℕ)
-    → is_known_word version keys name ≡ is_key_word (map word_of (known_keys version keys)) name
+    → is_known_word version keys name ≡ is_key_word word_of (known_keys version keys) name
 known_word version [] name = refl
 known_word version (k ∷ keys) name = elim (cases_Bool (is_known k.1 version)) [
   | inl knows ↦ rw (knows, known_word version keys name) refl
@@ -23,6 +23,6 @@ known_word version (k ∷ keys) name = elim (cases_Bool (is_known k.1 version)) 
 ]
 
 pub has_known_view : (version : Version) (keys : List (Key × Version)) (es : List (String Global × Value))
-    → has_only (map word_of (known_keys version keys)) (members_view es) ≡ list_all (λ k. is_known_word version keys (string_bytes k)) (keys_of es)
+    → has_only word_of (known_keys version keys) (members_view es) ≡ list_all (λ k. is_known_word version keys (string_bytes k)) (keys_of es)
 has_known_view version keys [] = refl
 has_known_view version keys (e ∷ es) = rw (has_known_view version keys es, known_word version keys (string_bytes e.0)) refl

@@ -1,5 +1,5 @@
 -- Groups and flows of version 3 in whose tables nothing stands that the second doesn't know are those of version 2.
-use Rattle.std.proofs.Common.{◌↔◌, map, ◌≡◌, ◌≤◌, ℕ, pos, negsuc, ltb, Bool, true, false, ◌||◌, if◌then◌else◌, arith, List, [], ◌∷◌, Option, Some, None, IfSome, unwrap_or, refl, sym, subst, ◌∙◌}
+use Rattle.std.proofs.Common.{◌↔◌, ◌≡◌, ◌≤◌, ℕ, pos, negsuc, ltb, Bool, true, false, ◌||◌, if◌then◌else◌, arith, List, [], ◌∷◌, Option, Some, None, IfSome, unwrap_or, refl, sym, subst, ◌∙◌}
 use Rattle.std.specs.Option.{option_map_or, option_and_then}
 use Rattle.std.proofs.lemmas.Bool.{le-ltb, ltb-false, or_parts}
 use Rattle.toml.specs.Data.{Data, string, integer, float, boolean, datetime, array, table, no_items, Members, get_member, as_integer, as_table}
@@ -15,7 +15,7 @@ use Rattle.j39_plan.specs.declared.reading.place.Table.TheVariants as at
 use Rattle.j39_plan.specs.declared.reading.text_kind.TextKind.TheVariants as texts
 use Rattle.j39_plan.specs.Words.{word_of}
 use Rattle.j39_plan.specs.Schema.{number, has_key, given_number, tables_of}
-use Rattle.j39_tables.specs.Rules.{natural, standing, number_of, flag_of, number_found, array_found}
+use Rattle.j39_tables.specs.Rules.{natural, standing, number_of, flag_of, number_found, array_found, truth, integer_in, array_up_to}
 use Rattle.j39_tables.specs.TableFaults.{fault, standing_cause, key_faults, table_only_faults, is_key_word}
 use Rattle.j39_plan.specs.Since.{known_faults, versioned_faults}
 use Rattle.j39_tables.specs.InOrder.{inside, Each}
@@ -47,20 +47,20 @@ without ms second = record {
 }
 
 -- the keys of a group in the third version, and in the second
-abbrev later_keys : List (List ℕ)
-later_keys = map word_of (key.Label ∷ key.Pgn ∷ key.Priority ∷ key.Length ∷ key.Private ∷ key.Most ∷ key.Every ∷ key.Signal ∷ key.Text ∷ [])
+abbrev later_keys : List Key
+later_keys = key.Label ∷ key.Pgn ∷ key.Priority ∷ key.Length ∷ key.Private ∷ key.Most ∷ key.Every ∷ key.Signal ∷ key.Text ∷ []
 
-abbrev first_keys : List (List ℕ)
-first_keys = map word_of (key.Label ∷ key.Pgn ∷ key.Priority ∷ key.Length ∷ key.Signal ∷ [])
+abbrev first_keys : List Key
+first_keys = key.Label ∷ key.Pgn ∷ key.Priority ∷ key.Length ∷ key.Signal ∷ []
 
 group_words : (l : List ℕ) → IsNone third_group_keys l
-    → is_key_word later_keys l
-    ≡ is_key_word first_keys l
+    → is_key_word word_of later_keys l
+    ≡ is_key_word word_of first_keys l
 group_words l none =
     rw (none 0 key.Private (omega arith), none 1 key.Most (omega arith), none 2 key.Every (omega arith), none 3 key.Text (omega arith))
 
 private_unfaulted : (at : Table) (ms : Members) → Without ms → key_faults at ms private_rule ≡ []
-unfolding key_faults
+unfolding key_faults truth
 private_unfaulted at ms w = rw w.private
 
 every_unfaulted : (at : Table) (ms : Members) → Without ms → key_faults at ms every_rule ≡ []
@@ -72,7 +72,7 @@ unfolding key_faults
 text_unfaulted at ms w = rw w.text
 
 most_unfaulted : (at : Table) (ms : Members) (length : ℕ) → length ≤ message_bytes → Without ms → key_faults at ms (most_rule length) ≡ []
-unfolding key_faults
+unfolding key_faults integer_in
 most_unfaulted at ms length few w = rw (w.most, le-ltb length length (omega arith), le-ltb message_bytes length few)
 
 no_cause : (is : Bool) (at : Table) (k : Key) → option_map_or (λ cause. fault cause at (Some k) ∷ []) (if is then Some Range else None) [] ≡ [] → is ≡ false
@@ -83,6 +83,7 @@ no_cause false at k none = refl
 at_most : (low high : ℕ) (at : Table) (k : Key) (found : Option Data)
     → option_map_or (λ cause. fault cause at (Some k) ∷ []) (standing_cause (number k low high None) found) [] ≡ []
     → natural (unwrap_or (option_and_then as_integer found) (pos 0)) ≤ high
+unfolding integer_in
 at_most low high at k None none = cc
 at_most low high at k (Some (integer (pos n))) none = ltb-false high n (or_parts (ltb n low) (ltb high n) (no_cause (ltb n low || ltb high n) at k none)).1
 at_most low high at k (Some (integer (negsuc n))) none = omega arith
@@ -124,7 +125,7 @@ unfolding number_found
 no_every ms second = rw (without ms second).every
 
 no_texts : (ms : Members) → IsSecondGroup ms → text_tables_of Third ms ≡ no_items
-unfolding tables_of array_found
+unfolding tables_of array_found array_up_to
 no_texts ms second = rw (without ms second).text
 
 signals_alike : (g : ℕ) (ms : Members) → IsSecondGroup ms → Alike (signals_faults Third g ms) (signals_faults Second g ms)
@@ -165,10 +166,10 @@ same_group ms second = record {
 
 pub group_told : (d : Data) (g : GroupPlan) → IsSecondGroup (inside d) → IsGroupOf Third d g ↔ IsGroupOf Second d g
 group_told d g second =
-    group_both g (same_group (inside d) second)
-    (told_alike IsSecondSignal (IsSignalOf Third) (IsSignalOf Second) (λ d s older. signal_both s (same_signal (inside d) older))
+    group_both d g (same_group (inside d) second)
+    (told_alike IsSecondSignal (IsSignalOf Third) (IsSignalOf Second) (λ d s older. signal_both d s (same_signal (inside d) older))
     (tables_of signal_rule (inside d)) g.signals.items second.signals)
-    (told_alike IsSecondSignal (IsMeaningOf Third) (IsMeaningOf Second) (λ d m older. meaning_both m (record { spn = refl; names = refl }))
+    (told_alike IsSecondSignal (IsMeaningOf Third) (IsMeaningOf Second) (λ d m older. meaning_both d m (record { spn = refl; names = refl }))
     (tables_of signal_rule (inside d)) g.meanings.items second.signals)
 
 -- ---- flows
@@ -180,14 +181,14 @@ no_period : (ms : Members) → IsSecondFlow ms → get_member (word_of key.Perio
 no_period ms lacks = lacked key.Period ms (lacks 0 key.Period (omega arith))
 
 -- the keys of a flow in the third version, and in the second
-abbrev later_flow_keys : List (List ℕ)
-later_flow_keys = map word_of (key.Group ∷ key.From ∷ key.To ∷ key.Period ∷ key.Deadline ∷ [])
+abbrev later_flow_keys : List Key
+later_flow_keys = key.Group ∷ key.From ∷ key.To ∷ key.Period ∷ key.Deadline ∷ []
 
-abbrev first_flow_keys : List (List ℕ)
-first_flow_keys = map word_of (key.Group ∷ key.From ∷ key.To ∷ [])
+abbrev first_flow_keys : List Key
+first_flow_keys = key.Group ∷ key.From ∷ key.To ∷ []
 
 flow_words : (l : List ℕ) → IsNone (key.Period ∷ key.Deadline ∷ []) l
-    → is_key_word later_flow_keys l ≡ is_key_word first_flow_keys l
+    → is_key_word word_of later_flow_keys l ≡ is_key_word word_of first_flow_keys l
 flow_words l none = rw (none 0 key.Period (omega arith), none 1 key.Deadline (omega arith))
 
 period_unfaulted : (at : Table) (ms : Members) → IsSecondFlow ms → key_faults at ms (period_of false) ≡ []

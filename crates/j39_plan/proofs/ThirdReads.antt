@@ -1,5 +1,5 @@
 -- A plan of version 3 in which nothing stands that the second doesn't know is read as one of version 2.
-use Rattle.std.proofs.Common.{map, ◌≡◌, ℕ, true, false, arith, suc, List, [], ◌∷◌, ◌++◌, Option, None, Some, refl, sym, ap, ◌∙◌}
+use Rattle.std.proofs.Common.{◌≡◌, ℕ, true, false, arith, suc, List, [], ◌∷◌, ◌++◌, Option, None, Some, refl, sym, ap, ◌∙◌}
 use Rattle.toml.specs.Data.{Data, Items, no_items, item, Members, get_member}
 use Rattle.j39_network.specs.declared.plan.Plan.{Plan}
 use Rattle.j39_network.specs.declared.plan.timing.Timing.{Timing}
@@ -35,20 +35,20 @@ use Rattle.j39_plan.proofs.SameParts.{SameUnit, SamePlan, unit_both, flow_both, 
 -- ---- the top table
 
 -- the keys of the top table in both versions
-abbrev third_keys : List (List ℕ)
-third_keys = map word_of (key.Version ∷ key.KeepFree ∷ key.Timing ∷ key.Unit ∷ key.Group ∷ key.Flow ∷ [])
+abbrev third_keys : List Key
+third_keys = key.Version ∷ key.KeepFree ∷ key.Timing ∷ key.Unit ∷ key.Group ∷ key.Flow ∷ []
 
-abbrev second_keys : List (List ℕ)
-second_keys = map word_of (key.Version ∷ key.KeepFree ∷ key.Unit ∷ key.Group ∷ key.Flow ∷ [])
+abbrev second_keys : List Key
+second_keys = key.Version ∷ key.KeepFree ∷ key.Unit ∷ key.Group ∷ key.Flow ∷ []
 
 top_words : (l : List ℕ) → IsNone (key.Timing ∷ []) l
-    → is_key_word third_keys l
-    ≡ is_key_word second_keys l
+    → is_key_word word_of third_keys l
+    ≡ is_key_word word_of second_keys l
 top_words l none = rw (none 0 key.Timing (omega arith))
 
 known_alike : (n : ℕ) (tree : Members) → Lacks (key.Timing ∷ []) tree
-    → has_only third_keys tree
-    ≡ has_only second_keys (with_version n tree)
+    → has_only word_of third_keys tree
+    ≡ has_only word_of second_keys (with_version n tree)
 known_alike n tree lacks =
     only_same third_keys second_keys (key.Timing ∷ []) top_words tree lacks
     ∙ sym (only_other n second_keys tree)
@@ -189,12 +189,12 @@ same_plan s p b =
       live = sym (as_live s b);
       timing = rw (k, o, no_bus_table s (no_bus s b.older.keys)) (timing_both Third Second None p.timing tt);
       units = rw (k, o, tables_other 2 units_rule s refl)
-          (each_both (IsUnitOf Third) (IsUnitOf Second) (λ d u. unit_both u (same_unit (inside d))) (tables_of units_rule s) p.units.items);
+          (each_both (IsUnitOf Third) (IsUnitOf Second) (λ d u. unit_both d u (same_unit (inside d))) (tables_of units_rule s) p.units.items);
       groups = rw (k, o, tables_other 2 groups_rule s refl)
           (told_alike IsSecondGroup (IsGroupOf Third) (IsGroupOf Second) group_told (tables_of groups_rule s) p.groups.items b.older.groups);
       flows = rw (k, o, tables_other 2 units_rule s refl, tables_other 2 groups_rule s refl, tables_other 2 flows_rule s refl)
           (told_alike IsSecondFlow (IsFlowOf Third (group_labels s) (unit_labels s)) (IsFlowOf Second (group_labels s) (unit_labels s))
-          (λ d f older. flow_both (group_labels s) (unit_labels s) f (same_flow (inside d) older)) (tables_of flows_rule s) p.flows.items b.older.flows);
+          (λ d f older. flow_both (group_labels s) (unit_labels s) d f (same_flow (inside d) older)) (tables_of flows_rule s) p.flows.items b.older.flows);
       needs = rw (k, o) (each_nothing _ _ p.needs.items);
       requests = rw (k, o) (each_nothing _ _ p.requests.items);
     }

@@ -1,10 +1,11 @@
 -- A signal of version 3 in whose table nothing stands that the second doesn't know is one of version 2.
-use Rattle.std.proofs.Common.{map, ◌≡◌, ℕ, Bool, true, false, ◌||◌, if◌then◌else◌, arith, List, [], ◌∷◌, Option, Some, None, unwrap_or, refl, sym, ap, ◌∙◌, codes}
+use Rattle.std.proofs.Common.{◌≡◌, ℕ, Bool, true, false, ◌||◌, if◌then◌else◌, arith, List, [], ◌∷◌, Option, Some, None, unwrap_or, refl, sym, ap, ◌∙◌, codes}
 use Rattle.std.specs.Option.{option_map_or, option_and_then}
 use Rattle.std.specs.Str.{bytes_eq}
 use Rattle.toml.specs.Data.{Data, string, integer, float, boolean, datetime, array, table, Members, get_member, as_str, as_table}
 use Rattle.j39_signal.specs.declared.kind.Kind.TheVariants.{Measured, Discrete, Raw, States, Signed, Dtc}
 use Rattle.j39_signal.specs.Parts.{SignalParts}
+use Rattle.j39_plan.specs.ValueCauses.{divisor_up_to, truth_where}
 use Rattle.j39_plan.specs.declared.reading.version.Version.TheVariants.{Second, Third}
 use Rattle.j39_plan.specs.declared.reading.key.Key.{Key}
 use Rattle.j39_plan.specs.declared.reading.key.Key.TheVariants as key
@@ -13,7 +14,7 @@ use Rattle.j39_plan.specs.declared.reading.place.Table.TheVariants as at
 use Rattle.j39_plan.specs.declared.reading.text_kind.TextKind.TheVariants as texts
 use Rattle.j39_plan.specs.TextKinds.{is_first_kind}
 use Rattle.j39_plan.specs.Words.{word_of}
-use Rattle.j39_tables.specs.Rules.{standing, number_of, flag_of, text_of}
+use Rattle.j39_tables.specs.Rules.{standing, number_of, flag_of, text_of, text_where}
 use Rattle.j39_tables.specs.TableFaults.{standing_cause, key_faults, table_only_faults, is_key_word}
 use Rattle.j39_plan.specs.Since.{versioned_faults}
 use Rattle.j39_tables.specs.InOrder.{inside}
@@ -55,6 +56,7 @@ takes_same false later none = none
 
 kind_cause : (found : Option Data) → is_later_kind (unwrap_or (option_and_then as_str found) []) ≡ false
     → standing_cause (kind_rule Third) found ≡ standing_cause (kind_rule Second) found
+unfolding text_where
 kind_cause None none = refl
 kind_cause (Some (string t)) none = rw (takes_same (is_first_kind t) (is_later_kind t) none)
 kind_cause (Some (integer z)) none = refl
@@ -69,23 +71,23 @@ unfolding key_faults text_of
 kind_faults at ms second = rw (kind_cause (standing (kind_rule Third) ms) second.kind)
 
 per_unfaulted : (at : Table) (ms : Members) → IsSecondSignal ms → key_faults at ms (per_rule false) ≡ []
-unfolding key_faults
+unfolding key_faults divisor_up_to
 per_unfaulted at ms second = rw (no_per ms second)
 
 repeated_unfaulted : (at : Table) (ms : Members) → IsSecondSignal ms → key_faults at ms (repeated_rule false) ≡ []
-unfolding key_faults
+unfolding key_faults truth_where
 repeated_unfaulted at ms second = rw (no_repeated ms second)
 
 -- the keys of a signal in the third version, and in the second
-abbrev third_keys : List (List ℕ)
-third_keys = map word_of (key.Label ∷ key.Byte ∷ key.Bit ∷ key.Bits ∷ key.Kind ∷ key.Step ∷ key.Per ∷ key.Offset ∷ key.Unit ∷ key.Repeated ∷ [])
+abbrev third_keys : List Key
+third_keys = key.Label ∷ key.Byte ∷ key.Bit ∷ key.Bits ∷ key.Kind ∷ key.Step ∷ key.Per ∷ key.Offset ∷ key.Unit ∷ key.Repeated ∷ []
 
-abbrev second_keys : List (List ℕ)
-second_keys = map word_of (key.Label ∷ key.Byte ∷ key.Bit ∷ key.Bits ∷ key.Kind ∷ key.Step ∷ key.Offset ∷ key.Unit ∷ [])
+abbrev second_keys : List Key
+second_keys = key.Label ∷ key.Byte ∷ key.Bit ∷ key.Bits ∷ key.Kind ∷ key.Step ∷ key.Offset ∷ key.Unit ∷ []
 
 signal_words : (l : List ℕ) → IsNone (key.Per ∷ key.Repeated ∷ []) l
-    → is_key_word third_keys l
-    ≡ is_key_word second_keys l
+    → is_key_word word_of third_keys l
+    ≡ is_key_word word_of second_keys l
 signal_words l none = rw (none 0 key.Per (omega arith), none 1 key.Repeated (omega arith))
 
 signal_keys_alike : (at : Table) (ms : Members) → IsSecondSignal ms

@@ -1,8 +1,9 @@
 -- The tables of groups. Since the third version it is known whether a group's number is a maker's own, the length of its longest messages, how far apart
 -- its records stand, and texts; since the fourth, selectors.
-use Rattle.std.specs.Prelude.{◌≡◌, ℕ, List, [], ◌++◌, ◌∷◌, Bool, false, if◌then◌else◌, Option, Some, None, is_some}
+use Rattle.std.specs.Prelude.{◌≡◌, ℕ, List, [], ◌++◌, ◌∷◌, Bool, false, if◌then◌else◌, Option, Some, None, is_some, map}
 use Rattle.std.specs.Option.{option_map_or}
 use Rattle.toml.specs.Data.{Data, Items, no_items, Members, as_table}
+use Rattle.j39_plan.specs.Words.{word_of}
 use Rattle.j39_id.specs.Limits.{message_bytes}
 use Rattle.j39_network.specs.PlanLimits.{signal_limit, text_limit}
 use Rattle.j39_network.specs.declared.plan.group_plan.GroupPlan.{GroupPlan}
@@ -134,7 +135,7 @@ texts_faults version g ms = each_faults (text_faults (signal_labels ms) g) label
 -- of its keys: the table of the selector is read whole behind the key, and before the arrays
 abbrev pub group_keys_faults : Version → ℕ → Members → List PlanFault
 group_keys_faults version g ms =
-    unknown_faults (at.Group g) (map word_of (known_keys version (keys_of (group_rules ms)))) ms
+    unknown_faults word_of (at.Group g) (known_keys version (keys_of (group_rules ms))) ms
     ++ (known_faults (at.Group g) version ms (first_rules ms)
     ++ (when_faults version g ms ++ known_faults (at.Group g) version ms inner_rules))
 

@@ -1,5 +1,5 @@
 -- Every fault of a plan file's tree, in the order in which they are looked for.
-use Rattle.std.specs.Prelude.{◌≡◌, ℕ, ◌==◌, List, [], ◌∷◌, ◌++◌, Bool, false, if◌then◌else◌, Option, Some, None, map}
+use Rattle.std.specs.Prelude.{◌≡◌, ℕ, ◌==◌, List, [], ◌∷◌, ◌++◌, Bool, false, if◌then◌else◌, Option, Some, None}
 use Rattle.std.specs.Option.{option_map_or}
 use Rattle.toml.specs.Data.{Data, Items, no_items, Members}
 use Rattle.j39_id.specs.Addresses.{pool_size}
@@ -166,7 +166,7 @@ requests_faults tree = each_faults (λ i seen. request_faults (group_labels tree
 -- a key that no rule names, and what stands at the version and at the addresses to keep free
 abbrev pub head_faults : Members → List PlanFault
 head_faults tree =
-    unknown_faults at.Top (map word_of (known_keys (version_of tree) (keys_of top_rules))) tree ++ known_faults at.Top (version_of tree) tree head_rules
+    unknown_faults word_of at.Top (known_keys (version_of tree) (keys_of top_rules)) tree ++ known_faults at.Top (version_of tree) tree head_rules
 
 -- what stands at the key of strangers
 abbrev pub strangers_faults : Members → List PlanFault

@@ -30,7 +30,7 @@ abbrev pub flag_if : Key → Bool → PlanRule
 flag_if k may = rule_or word_of k (truth_where may) (Some (boolean false))
 
 abbrev pub text : Key → TextKind → Option (List ℕ) → PlanRule
-text k kind default = rule_or word_of k (text_where (takes kind)) (option_map string default)
+text k kind default = rule_or word_of k (text_where takes kind) (option_map string default)
 
 abbrev pub inner_table : Key → PlanRule
 inner_table k = rule_of word_of k one_table true
@@ -45,7 +45,7 @@ bitrate k more = rule_of word_of k (bitrate_of_bus more) true
 
 -- a text that may be absent
 abbrev pub optional_text : Key → PlanRule
-optional_text k = rule_of word_of k (text_where (takes texts.Any)) false
+optional_text k = rule_of word_of k (text_where takes texts.Any) false
 
 -- a table of names that may be absent, and may stand only where this says so: of numbers below a limit
 abbrev pub names : Key → Bool → ℕ → PlanRule
@@ -72,20 +72,20 @@ has_key k ms = is_some (get_member (word_of k) ms)
 
 -- the number, the text and the table, where one stands there
 abbrev pub given_number : PlanRule → Members → Option ℕ
-given_number r ms = number_found r.word ms
+given_number r ms = number_found r.word r.key ms
 
 abbrev pub found_text : PlanRule → Members → Option (List ℕ)
-found_text r ms = text_found r.word ms
+found_text r ms = text_found r.word r.key ms
 
 abbrev pub table_of : PlanRule → Members → Option Members
-table_of r ms = table_found r.word ms
+table_of r ms = table_found r.word r.key ms
 
 -- an array that is refused has no elements
 abbrev pub accepted : PlanRule → Items → Items
 accepted r ds = if is_some (r.kind (array ds)) then no_items else ds
 
 unfoldable pub tables_of : PlanRule → Members → Items
-tables_of r ms = accepted r (elements_found r.word ms)
+tables_of r ms = accepted r (elements_found r.word r.key ms)
 
 -- the set of these numbers
 unfoldable pub addresses_of : PlanRule → Members → FinSet nat_cmp

@@ -66,4 +66,4 @@ known_faults at version ms (s ∷ rules) = since_faults at version ms s ++ known
 
 -- a key that the version doesn't know, and then the faults of each key in the order of the rules
 abbrev pub versioned_faults : Table → Version → List Since → Members → List PlanFault
-versioned_faults at version rules ms = unknown_faults at (map word_of (known_keys version (keys_of rules))) ms ++ known_faults at version ms rules
+versioned_faults at version rules ms = unknown_faults word_of at (known_keys version (keys_of rules)) ms ++ known_faults at version ms rules

@@ -21,6 +21,7 @@ use Rattle.j39_tables.specs.Rules.{number_of, flag_of, text_of}
 use Rattle.j39_tables.specs.TableFaults.{table_faults, table_only_faults, fault}
 use Rattle.j39_tables.specs.InOrder.{inside}
 use Rattle.j39_plan.specs.LabelsSeen.{repeated_faults}
+use Rattle.j39_plan.specs.Words.{word_of}
 use Rattle.j39_plan.specs.Since.{Since, since, is_known, known, rules_of, versioned_faults}
 use Rattle.j39_plan.specs.declared.reading.version.Version.{Version}
 use Rattle.j39_plan.specs.declared.reading.version.Version.TheVariants.{First, Fourth}
@@ -78,7 +79,7 @@ name_fields_of version ms = record {
 }
 
 unfoldable pub name_faults : Version → ℕ → Members → List PlanFault
-name_faults version i = table_faults (at.UnitName i) (name_rules version)
+name_faults version i = table_faults word_of (at.UnitName i) (name_rules version)
 
 -- ---- the unit
 

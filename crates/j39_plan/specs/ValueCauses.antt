@@ -1,6 +1,6 @@
 -- The values of a plan file's keys that other files don't have: kept addresses, bitrates, divisors and tables of names. The cause for which
 -- each is refused.
-use Rattle.std.specs.Prelude.{ℕ, pos, suc, List, [], ◌∷◌, Bool, true, not, ◌&&◌, ◌||◌, ◌==◌, if◌then◌else◌, Option, Some, None, is_some, length, slice_index, nat_le, nat_lt, unwrap_or}
+use Rattle.std.specs.Prelude.{ℕ, pos, suc, List, [], ◌∷◌, Bool, true, not, ◌&&◌, ◌||◌, ◌==◌, if◌then◌else◌, Option, Some, None, is_some, length, slice_index, nat_le, nat_lt, unwrap_or, false}
 use Rattle.std.specs.Str.{all_ascii_digits}
 use Rattle.std.specs.Str.Parse.{digits_value}
 use Rattle.std.specs.FinSet.{FinSet, empty, contains, insert}
@@ -18,7 +18,7 @@ use Rattle.j39_tables.specs.Rules.{natural, items_count}
 -- ---- truth values
 
 -- a truth value that may be true only where this says so
-abbrev pub truth_where : Bool → Data → Option Cause
+unfoldable pub truth_where : Bool → Data → Option Cause
 truth_where may (boolean b) = if b && not may then Some Range else None
 truth_where may _ = Some WrongType
 
@@ -45,7 +45,7 @@ addresses_cause earlier no_items = None
 addresses_cause earlier (item d ds) = option_or (address_cause earlier d) (addresses_cause (insert earlier (number_in d)) ds)
 
 -- different addresses of the pool, at most so many
-abbrev pub addresses_up_to : ℕ → Data → Option Cause
+unfoldable pub addresses_up_to : ℕ → Data → Option Cause
 addresses_up_to limit (array ds) = if nat_le (items_count ds) limit then addresses_cause empty ds else Some TooMany
 addresses_up_to limit _ = Some WrongType
 
@@ -55,12 +55,12 @@ addresses_up_to limit _ = Some WrongType
 abbrev pub is_bitrate : Bool → ℕ → Bool
 is_bitrate more n = n == 250000 || (n == 500000 || (more && (n == 125000 || n == 1000000)))
 
-abbrev pub bitrate_of_bus : Bool → Data → Option Cause
+unfoldable pub bitrate_of_bus : Bool → Data → Option Cause
 bitrate_of_bus more (integer z) = if is_bitrate more (natural z) then None else Some Range
 bitrate_of_bus more _ = Some WrongType
 
 -- a product of 2s and 5s up to a limit
-abbrev pub divisor_up_to : ℕ → Data → Option Cause
+unfoldable pub divisor_up_to : ℕ → Data → Option Cause
 divisor_up_to limit (integer z) = if divides_decimally (natural z) && nat_le (natural z) limit then None else Some Range
 divisor_up_to limit _ = Some WrongType
 
@@ -101,6 +101,6 @@ names_cause limit ms =
     else None
 
 -- a table of names, which may stand only where this says so: of numbers below a limit
-abbrev pub names_below : Bool → ℕ → Data → Option Cause
+unfoldable pub names_below : Bool → ℕ → Data → Option Cause
 names_below may limit (table ms) = if may then names_cause limit ms else Some Range
 names_below may limit _ = Some WrongType

@@ -45,7 +45,6 @@ pub use plan_error::{PlanError, PlanFault};
 use requests::RequestReader;
 use std::alloc::Global;
 use tables::array;
-pub use text_kind::{are_printable, is_label};
 use timing::timing;
 use units::UnitReader;
 pub use version::Version;

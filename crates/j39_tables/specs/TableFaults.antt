@@ -25,20 +25,20 @@ keys_faults at ms [] = []
 keys_faults at ms (r ∷ rules) = key_faults at ms r ++ keys_faults at ms rules
 
 -- one of the keys is spelled so
-abbrev pub is_key_word : List (List ℕ) → List ℕ → Bool
-is_key_word words name = list_any (λ word. bytes_eq word name) words
+abbrev pub is_key_word : {K : Type 0} → (K → List ℕ) → List K → List ℕ → Bool
+is_key_word word keys name = list_any (λ k. bytes_eq (word k) name) keys
 
 -- each key of the table is one of these
-abbrev pub has_only : List (List ℕ) → Members → Bool
-has_only words no_members = true
-has_only words (member k d ms) = is_key_word words k && has_only words ms
+abbrev pub has_only : {K : Type 0} → (K → List ℕ) → List K → Members → Bool
+has_only word keys no_members = true
+has_only word keys (member k d ms) = is_key_word word keys k && has_only word keys ms
 
-unfoldable pub unknown_faults : {T K : Type 0} → T → List (List ℕ) → Members → List (TableFault T K)
-unknown_faults at words ms = if has_only words ms then [] else fault UnknownKey at None ∷ []
+unfoldable pub unknown_faults : {T K : Type 0} → (K → List ℕ) → T → List K → Members → List (TableFault T K)
+unknown_faults word at keys ms = if has_only word keys ms then [] else fault UnknownKey at None ∷ []
 
 -- a key that no rule names, and then the faults of each key in the order of the rules
-abbrev pub table_faults : {T K : Type 0} → T → List (Rule K) → Members → List (TableFault T K)
-table_faults at rules ms = unknown_faults at (map (λ r. r.word) rules) ms ++ keys_faults at ms rules
+abbrev pub table_faults : {T K : Type 0} → (K → List ℕ) → T → List (Rule K) → Members → List (TableFault T K)
+table_faults word at rules ms = unknown_faults word at (map (λ r. r.key) rules) ms ++ keys_faults at ms rules
 
 -- a value that is to be a table
 unfoldable pub table_only_faults : {T K : Type 0} → T → Data → List (TableFault T K)

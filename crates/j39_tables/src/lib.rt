@@ -7,6 +7,7 @@ mod fault;
 mod file_error;
 mod keys;
 mod tables;
+mod texts;
 mod tree;
 mod values;
 
@@ -16,5 +17,6 @@ pub use fault::{Place, TableFault};
 pub use file_error::FileError;
 pub use keys::{FileKey, TextForm, value_at};
 pub use tables::{elements, given_array, only, table_of, unknown_key};
+pub use texts::{are_printable, is_label};
 pub use tree::read_tree;
 pub use values::{given_number, given_text, refused, required_text};

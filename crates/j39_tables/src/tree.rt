@@ -16,10 +16,12 @@ pub fn read_tree<F: Copy>(alloc: Global, bytes: &[u8]) -> Result<toml::Table, Fi
     };
     match toml::table_from_str(alloc, text) {
         Ok(members) => Ok(members),
-        Err(error) => Err(if error.is_memory() {
-            FileError::Memory
-        } else {
-            FileError::Text
-        }),
+        Err(error) => {
+            if error.is_memory() {
+                Err(FileError::Memory)
+            } else {
+                Err(FileError::Text)
+            }
+        }
     }
 }

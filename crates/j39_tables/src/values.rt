@@ -23,7 +23,7 @@ pub fn refused<T: Copy, K: FileKey>(cause: Cause, table: T, key: K) -> FileError
 }
 
 /// The number at a key, within a range, or none where the key is absent, unless it is required.
-#[tactic(auto, unfolding(crate::specs::TableFaults::key_faults, crate::specs::Rules::number_found))]
+#[tactic(auto, unfolding(crate::specs::TableFaults::key_faults, crate::specs::Rules::number_found, crate::specs::Rules::integer_in))]
 pub fn given_number<T: Copy, K: FileKey>(
     members: &toml::Table,
     table: T,
@@ -33,7 +33,7 @@ pub fn given_number<T: Copy, K: FileKey>(
     is_required: bool,
 ) -> Result<Option<u32>, FileError<TableFault<T, K>>>
     ensures gives { Gives result (key_faults table (table_view members.now) (rule_of K.word key (natural_in low high) is_required))
-        (λ given. given ≡ number_found (K.word key) (table_view members.now)) }
+        (λ given. given ≡ number_found K.word key (table_view members.now)) }
     ensures at_least { IfOk result (λ given. IfSome given (λ n. low ≤ n)) }
     ensures at_most { IfOk result (λ given. IfSome given (λ n. n ≤ high)) }
 {
@@ -59,15 +59,15 @@ pub fn given_number<T: Copy, K: FileKey>(
 }
 
 /// The text at a key, or none where the key is absent.
-#[tactic(auto, unfolding(crate::specs::TableFaults::key_faults, crate::specs::Rules::text_found))]
+#[tactic(auto, unfolding(crate::specs::TableFaults::key_faults, crate::specs::Rules::text_found, crate::specs::Rules::text_where))]
 pub fn given_text<'a, T: Copy, K: FileKey, P: TextForm>(
     members: &'a toml::Table,
     table: T,
     key: K,
     form: P,
 ) -> Result<Option<&'a str>, FileError<TableFault<T, K>>>
-    ensures { Gives result (key_faults table (table_view members.now) (rule_of K.word key (text_where (P.fits form)) false))
-        (λ found. option_map (λ t. t.now) found ≡ text_found (K.word key) (table_view members.now)) }
+    ensures { Gives result (key_faults table (table_view members.now) (rule_of K.word key (text_where P.fits form) false))
+        (λ found. option_map (λ t. t.now) found ≡ text_found K.word key (table_view members.now)) }
 {
     match value_at(members, key) {
         None => Ok(None),
@@ -85,15 +85,15 @@ pub fn given_text<'a, T: Copy, K: FileKey, P: TextForm>(
 }
 
 /// The text at a key, which must be there.
-#[tactic(auto, unfolding(crate::specs::TableFaults::key_faults, crate::specs::Rules::text_found))]
+#[tactic(auto, unfolding(crate::specs::TableFaults::key_faults, crate::specs::Rules::text_found, crate::specs::Rules::text_where))]
 pub fn required_text<'a, T: Copy, K: FileKey, P: TextForm>(
     members: &'a toml::Table,
     table: T,
     key: K,
     form: P,
 ) -> Result<&'a str, FileError<TableFault<T, K>>>
-    ensures gives { Gives result (key_faults table (table_view members.now) (rule_of K.word key (text_where (P.fits form)) true))
-        (λ t. Some t.now ≡ text_found (K.word key) (table_view members.now)) }
+    ensures gives { Gives result (key_faults table (table_view members.now) (rule_of K.word key (text_where P.fits form) true))
+        (λ t. Some t.now ≡ text_found K.word key (table_view members.now)) }
     ensures taken { IfOk result (λ t. P.fits form t.now ≡ true) }
 {
     match value_at(members, key) {

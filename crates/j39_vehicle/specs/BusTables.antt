@@ -3,6 +3,7 @@ use Rattle.std.specs.Prelude.{◌≡◌, ℕ, List, [], ◌∷◌, ◌++◌, unw
 use Rattle.std.specs.Option.{option_map_or}
 use Rattle.toml.specs.Data.{Data, Members, as_table}
 use Rattle.j39_tables.specs.InOrder.{inside}
+use Rattle.j39_vehicle.specs.Words.{word_of}
 use Rattle.j39_vehicle.specs.declared.reading.key.Key.TheVariants as key
 use Rattle.j39_vehicle.specs.declared.reading.place.Table.TheVariants as at
 use Rattle.j39_vehicle.specs.VehicleErrors.{VehicleFault}
@@ -43,7 +44,7 @@ IsBusOf d b = TellsBus (inside d) b
 
 unfoldable pub bus_table_faults : ℕ → List Named → Members → List VehicleFault
 bus_table_faults i seen ms =
-    table_faults (at.Bus i) bus_rules ms ++ repeated_faults (at.Bus i) key.Label seen (unwrap_or (text_at key.Label ms) [])
+    table_faults word_of (at.Bus i) bus_rules ms ++ repeated_faults (at.Bus i) key.Label seen (unwrap_or (text_at key.Label ms) [])
 
 -- the faults of the i-th bus, behind those seen
 unfoldable pub bus_faults : ℕ → List Named → Data → List VehicleFault

@@ -7,6 +7,7 @@ use Rattle.std.specs.Option.{option_map_or}
 use Rattle.toml.specs.Data.{Data, Items, no_items, Members, as_table}
 use Rattle.j39_network.specs.PlanLimits.{signal_limit}
 use Rattle.j39_tables.specs.InOrder.{inside, Each, each_faults}
+use Rattle.j39_vehicle.specs.Words.{word_of}
 use Rattle.j39_vehicle.specs.declared.reading.key.Key.TheVariants as key
 use Rattle.j39_vehicle.specs.declared.reading.place.Table.{Table}
 use Rattle.j39_vehicle.specs.declared.reading.place.Table.TheVariants as at
@@ -116,7 +117,7 @@ abbrev pub IsForwardOf : Data → ForwardTable → Type 0
 IsForwardOf d f = TellsForward (inside d) f
 
 abbrev pub forward_keys_faults : ℕ → Members → List VehicleFault
-forward_keys_faults i ms = table_faults (at.Forward i) forward_rules ms
+forward_keys_faults i ms = table_faults word_of (at.Forward i) forward_rules ms
 
 abbrev pub forward_signals_faults : ℕ → Members → List VehicleFault
 forward_signals_faults i ms = each_faults (signal_faults i) forwarded_name 0 [] (elements_at key.Signal ms)

@@ -7,6 +7,7 @@ use Rattle.toml.specs.Data.{Data, string, Items, no_items, item, Members, as_tab
 use Rattle.j39_tables.specs.declared.cause.Cause.{Cause}
 use Rattle.j39_tables.specs.declared.cause.Cause.TheVariants.{WrongType, Range, Repeated}
 use Rattle.j39_tables.specs.InOrder.{inside}
+use Rattle.j39_vehicle.specs.Words.{word_of}
 use Rattle.j39_vehicle.specs.declared.reading.key.Key.TheVariants as key
 use Rattle.j39_vehicle.specs.declared.reading.place.Table.TheVariants as at
 use Rattle.j39_vehicle.specs.VehicleErrors.{VehicleFault}
@@ -81,7 +82,7 @@ units_faults i seen ds = option_map_or (λ cause. fault cause (at.Gateway i) (So
 
 -- the faults of its keys
 abbrev pub gateway_keys_faults : ℕ → List Named → Members → List VehicleFault
-gateway_keys_faults i seen ms = table_faults (at.Gateway i) gateway_rules ms ++ units_faults i seen (elements_at key.Unit ms)
+gateway_keys_faults i seen ms = table_faults word_of (at.Gateway i) gateway_rules ms ++ units_faults i seen (elements_at key.Unit ms)
 
 -- behind the faults of the keys, units on no bus of the vehicle
 unfoldable pub gateway_table_faults : List Named → ℕ → List Named → Members → List VehicleFault

@@ -3,6 +3,7 @@ use Rattle.std.specs.Prelude.{◌≡◌, ℕ, List, [], ◌∷◌, ◌++◌, Boo
 use Rattle.std.specs.Option.{option_map_or}
 use Rattle.toml.specs.Data.{Data, Members, as_table}
 use Rattle.j39_tables.specs.InOrder.{inside}
+use Rattle.j39_vehicle.specs.Words.{word_of}
 use Rattle.j39_vehicle.specs.declared.reading.key.Key.{Key}
 use Rattle.j39_vehicle.specs.declared.reading.key.Key.TheVariants as key
 use Rattle.j39_vehicle.specs.declared.reading.place.Table.TheVariants as at
@@ -41,7 +42,7 @@ IsNeedOf d need = TellsNeed (inside d) need
 
 -- behind the faults of the keys, units on no bus of the vehicle
 unfoldable pub need_table_faults : List Named → ℕ → Members → List VehicleFault
-need_table_faults buses i ms = table_faults (at.Need i) need_rules ms
+need_table_faults buses i ms = table_faults word_of (at.Need i) need_rules ms
     ++ (label_faults (at.Need i) key.Unit (is_on_bus buses key.Unit ms)
     ++ label_faults (at.Need i) key.From (is_on_bus buses key.From ms))
 

@@ -22,21 +22,21 @@ optional k kind = rule k kind false
 
 -- a text of this kind
 abbrev pub text_as : TextKind → Data → Option Cause
-text_as kind = text_where (takes kind)
+text_as kind = text_where takes kind
 
 -- what stands at a key, where it is of that type
 abbrev pub number_under : Key → Members → Option ℕ
-number_under k ms = number_found (word_of k) ms
+number_under k ms = number_found word_of k ms
 
 abbrev pub truth_at : Key → Members → Option Bool
-truth_at k ms = truth_found (word_of k) ms
+truth_at k ms = truth_found word_of k ms
 
 abbrev pub text_at : Key → Members → Option (List ℕ)
-text_at k ms = text_found (word_of k) ms
+text_at k ms = text_found word_of k ms
 
 abbrev pub array_at : Key → Members → Option Items
-array_at k ms = array_found (word_of k) ms
+array_at k ms = array_found word_of k ms
 
 -- the elements of an array, none where there is no array
 abbrev pub elements_at : Key → Members → Items
-elements_at k ms = elements_found (word_of k) ms
+elements_at k ms = elements_found word_of k ms

@@ -3,6 +3,7 @@ use Rattle.std.specs.Prelude.{◌≡◌, ℕ, List, [], ◌∷◌, ◌++◌, tru
 use Rattle.std.specs.Option.{option_or, option_map_or}
 use Rattle.toml.specs.Data.{Data, Members, as_table}
 use Rattle.j39_tables.specs.InOrder.{inside}
+use Rattle.j39_vehicle.specs.Words.{word_of}
 use Rattle.j39_vehicle.specs.declared.reading.key.Key.TheVariants as key
 use Rattle.j39_vehicle.specs.declared.reading.place.Table.TheVariants as at
 use Rattle.j39_vehicle.specs.VehicleErrors.{VehicleFault}
@@ -39,7 +40,7 @@ IsSignalOf d s = TellsSignal (inside d) s
 
 unfoldable pub signal_table_faults : ℕ → ℕ → List Named → Members → List VehicleFault
 signal_table_faults f i seen ms =
-    table_faults (at.Signal f i) signal_rules ms ++ repeated_faults (at.Signal f i) key.As seen (written_text ms)
+    table_faults word_of (at.Signal f i) signal_rules ms ++ repeated_faults (at.Signal f i) key.As seen (written_text ms)
 
 -- the faults of the i-th signal of the f-th forward, behind those seen
 unfoldable pub signal_faults : ℕ → ℕ → List Named → Data → List VehicleFault

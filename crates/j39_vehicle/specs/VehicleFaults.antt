@@ -2,6 +2,7 @@
 use Rattle.std.specs.Prelude.{List, [], ◌∷◌, ◌++◌}
 use Rattle.toml.specs.Data.{Data, Members}
 use Rattle.j39_network.specs.PlanLimits.{need_limit}
+use Rattle.j39_vehicle.specs.Words.{word_of}
 use Rattle.j39_vehicle.specs.declared.reading.key.Key.TheVariants as key
 use Rattle.j39_vehicle.specs.declared.reading.place.Table.TheVariants as at
 use Rattle.j39_vehicle.specs.VehicleErrors.{VehicleFault}
@@ -37,7 +38,7 @@ abbrev pub no_name : Data → Named
 no_name d = nameless
 
 abbrev pub top_faults : Members → List VehicleFault
-top_faults tree = table_faults at.Top top_rules tree
+top_faults tree = table_faults word_of at.Top top_rules tree
 
 abbrev pub buses_faults : Members → List VehicleFault
 buses_faults tree = each_faults bus_faults bus_name 0 [] (elements_at key.Bus tree)

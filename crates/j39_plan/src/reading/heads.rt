@@ -78,7 +78,7 @@ fn addresses(values: &[Value]) -> Result<AddressSet, Cause>
 }
 
 /// The addresses at the key, and none where it is absent.
-#[tactic(auto, using(j39_tables::proofs::TableViews::items_count_view), unfolding(j39_tables::specs::TableFaults::key_faults, crate::specs::Schema::addresses_of))]
+#[tactic(auto, using(j39_tables::proofs::TableViews::items_count_view), unfolding(j39_tables::specs::TableFaults::key_faults, crate::specs::Schema::addresses_of, crate::specs::ValueCauses::addresses_up_to))]
 fn keep_free(members: &toml::Table) -> Result<AddressSet, PlanError>
     ensures gives { Gives result (key_faults at.Top (table_view members.now) keep_free_rule)
         (λ s. s ≡ addresses_of keep_free_rule (table_view members.now)) }

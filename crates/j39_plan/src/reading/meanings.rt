@@ -168,7 +168,7 @@ fn names_cause(limit: u64, names: &toml::Table) -> Option<Cause>
 }
 
 // The table of names at the key, which may stand only where this says so.
-#[tactic(auto, unfolding(j39_tables::specs::TableFaults::key_faults, j39_tables::specs::Rules::table_found))]
+#[tactic(auto, unfolding(j39_tables::specs::TableFaults::key_faults, j39_tables::specs::Rules::table_found, crate::specs::ValueCauses::names_below))]
 fn names<'a>(
     members: &'a toml::Table,
     table: Table,

@@ -1,9 +1,10 @@
 //! Tables and arrays of tables.
-ghost use Rattle.std.specs.Prelude.{◌≡◌, string_bytes, Some, option_map};
+ghost use Rattle.std.specs.Prelude.{◌≡◌, string_bytes, Some, option_map, map};
 ghost use Rattle.std.specs.List.{list_all};
 ghost use Rattle.std.specs.Map.{keys_of};
 ghost use Rattle.toml.specs.Data.{as_table};
 ghost use Rattle.toml.specs.View.{view, table_view, items_view};
+ghost use Rattle.j39_plan.specs.Words.{word_of};
 ghost use Rattle.j39_plan.specs.Schema as schema;
 ghost use Rattle.j39_tables.specs.TableFaults.{is_key_word, key_faults, table_only_faults, unknown_faults};
 ghost use Rattle.j39_plan.specs.Since.{is_known_word, known_keys};
@@ -14,7 +15,7 @@ use j39_tables::{elements, refused, unknown_key, value_at};
 use toml::Value;
 
 /// The table at a key.
-#[tactic(auto, unfolding(j39_tables::specs::TableFaults::key_faults, j39_tables::specs::Rules::table_found))]
+#[tactic(auto, unfolding(j39_tables::specs::TableFaults::key_faults, j39_tables::specs::Rules::table_found, j39_tables::specs::Rules::one_table))]
 pub fn inner<'a>(
     members: &'a toml::Table,
     table: Table,
@@ -34,7 +35,7 @@ pub fn inner<'a>(
 }
 
 /// The table at a key, or none where the key is absent.
-#[tactic(auto, unfolding(j39_tables::specs::TableFaults::key_faults, j39_tables::specs::Rules::table_found))]
+#[tactic(auto, unfolding(j39_tables::specs::TableFaults::key_faults, j39_tables::specs::Rules::table_found, j39_tables::specs::Rules::one_table))]
 pub fn optional_inner<'a>(
     members: &'a toml::Table,
     table: Table,
@@ -54,7 +55,7 @@ pub fn optional_inner<'a>(
 }
 
 /// The array at a key, of at most so many elements, and an empty one where the key is absent.
-#[tactic(auto, using(j39_tables::proofs::TableViews::items_count_view), unfolding(crate::specs::Schema::tables_of))]
+#[tactic(auto, using(j39_tables::proofs::TableViews::items_count_view), unfolding(crate::specs::Schema::tables_of, j39_tables::specs::Rules::array_up_to))]
 pub fn array<'a>(
     members: &'a toml::Table,
     table: Table,
@@ -92,7 +93,7 @@ pub fn only_known(
     version: Version,
     keys: &[(Key, Version)],
 ) -> Result<(), PlanError>
-    ensures { Gives result (unknown_faults table (map word_of (known_keys version keys.now)) (table_view members.now)) (λ _. Unit {0}) }
+    ensures { Gives result (unknown_faults word_of table (known_keys version keys.now) (table_view members.now)) (λ _. Unit {0}) }
 {
     if has_known(members, version, keys) {
         Ok(())

@@ -4,6 +4,7 @@ ghost use Rattle.std.specs.Option.{ForSome};
 ghost use Rattle.toml.specs.View.{items_view, table_view};
 ghost use Rattle.j39_network.specs.PlanLimits.{signal_limit};
 ghost use Rattle.j39_tables.specs.declared.file_error.FileError.TheVariants.{Memory};
+ghost use Rattle.j39_vehicle.specs.Words.{word_of};
 ghost use Rattle.j39_vehicle.specs.Schema.{array_at, number_under, text_at};
 ghost use Rattle.j39_tables.specs.Outcome.{Gives, GivesGrowing};
 ghost use Rattle.j39_tables.specs.TableFaults.{keys_faults, table_faults};
@@ -102,7 +103,7 @@ fn sent_keys(members: &toml::Table, table: Table) -> Result<SentKeys<'_>, Vehicl
 
 #[tactic(auto, using(j39_tables::proofs::FirstFaults::faults_after))]
 fn keys(members: &toml::Table, table: Table) -> Result<ForwardKeys<'_>, VehicleError>
-    ensures { Gives result (table_faults table spec.forward_rules (table_view members.now)) (λ k. let ms = table_view members.now in
+    ensures { Gives result (table_faults word_of table spec.forward_rules (table_view members.now)) (λ k. let ms = table_view members.now in
         (text_at Key.Gateway ms ≡ Some k.gateway.now) × (text_at Key.Group ms ≡ Some k.input.now)
         × (text_at Key.From ms ≡ option_map (λ t. t.now) k.from) × (text_at Key.At ms ≡ option_map (λ t. t.now) k.at)
         × (text_at Key.As ms ≡ Some k.sent.output.now) × (text_at Key.By ms ≡ option_map (λ t. t.now) k.sent.by)

@@ -3,6 +3,7 @@ ghost use Rattle.std.specs.Prelude.{◌≡◌, ◌≤◌, [], map, option_map, S
 ghost use Rattle.std.specs.Option.{ForSome};
 ghost use Rattle.toml.specs.View.{table_view};
 ghost use Rattle.j39_tables.specs.declared.file_error.FileError.TheVariants.{Memory};
+ghost use Rattle.j39_vehicle.specs.Words.{word_of};
 ghost use Rattle.j39_vehicle.specs.TextKinds.{name_of};
 ghost use Rattle.j39_vehicle.specs.Schema.{number_under, text_at};
 ghost use Rattle.j39_vehicle.specs.LabelsSeen.{is_label_among};
@@ -36,7 +37,7 @@ struct NeedKeys<'a> {
 
 #[tactic(auto, using(j39_tables::proofs::FirstFaults::faults_after))]
 fn keys(members: &toml::Table, table: Table) -> Result<NeedKeys<'_>, VehicleError>
-    ensures { Gives result (table_faults table spec.need_rules (table_view members.now)) (λ k. let ms = table_view members.now in
+    ensures { Gives result (table_faults word_of table spec.need_rules (table_view members.now)) (λ k. let ms = table_view members.now in
         (text_at Key.Unit ms ≡ Some k.unit.now) × (text_at Key.Group ms ≡ Some k.group.now)
         × (text_at Key.Signal ms ≡ option_map (λ t. t.now) k.signal) × (text_at Key.From ms ≡ Some k.from.now)
         × (k.within ≡ number_under Key.Within ms)) }

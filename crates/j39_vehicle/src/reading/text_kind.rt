@@ -3,8 +3,7 @@ ghost use Rattle.std.specs.Prelude.{◌≡◌};
 ghost use Rattle.j39_vehicle.specs.TextKinds.{is_file_name, is_mode, is_name, takes};
 
 use crate::file::{before_point, behind_point};
-use j39_plan::{are_printable, is_label};
-use j39_tables::TextForm;
+use j39_tables::{TextForm, are_printable, is_label};
 
 /// Which texts a key takes.
 #[derive(Clone, Copy)]

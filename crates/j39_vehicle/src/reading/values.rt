@@ -40,7 +40,7 @@ pub fn number(
 }
 
 /// The truth value at a key, or none where the key is absent.
-#[tactic(auto, unfolding(j39_tables::specs::TableFaults::key_faults, j39_tables::specs::Rules::truth_found))]
+#[tactic(auto, unfolding(j39_tables::specs::TableFaults::key_faults, j39_tables::specs::Rules::truth_found, j39_tables::specs::Rules::truth))]
 pub fn optional_truth(
     members: &toml::Table,
     table: Table,
