@@ -5,12 +5,12 @@ use Rattle.std.proofs.lemmas.Option.{same_Some}
 use Rattle.std.specs.List.{AllZip, slice_get}
 use Rattle.j39_network.specs.declared.plan.Plan.{Plan}
 use Rattle.j39_network.specs.declared.plan.unit_plan.UnitPlan.{UnitPlan}
-use Rattle.j39_plan.specs.declared.reading.fault.Fault.{Fault}
-use Rattle.j39_plan.specs.declared.reading.plan_error.PlanError.{PlanError}
-use Rattle.j39_plan.specs.declared.reading.plan_error.PlanError.TheVariants as errors
-use Rattle.j39_plan.specs.Described.{Reads, tree_of}
+use Rattle.j39_plan.specs.PlanErrors.{PlanFault, PlanError}
+use Rattle.j39_tables.specs.declared.file_error.FileError.TheVariants as errors
+use Rattle.j39_plan.specs.Described.{Reads}
+use Rattle.j39_tables.specs.FileTrees.{tree_of}
 use Rattle.j39_plan.specs.PlanFaults.{faults}
-use Rattle.j39_plan.specs.Outcome.{first}
+use Rattle.j39_tables.specs.Outcome.{first}
 use Rattle.j39_network.specs.declared.plan.timing.Timing.{Timing}
 use Rattle.j39_findings.specs.Found.{found}
 use Rattle.j39_findings.proofs.FoundLaws.{none_from_clean}
@@ -54,7 +54,7 @@ one_report plan text other Refused another_verdict is another = absurd is
 one_report plan text other Unreadable another_verdict is another = absurd is
 
 -- what two trees are refused for that are one
-one_fault : {X : Type 0} (faults_of : X → List Fault) (s t : X) (f g : Fault) → s ≡ t → first (faults_of s) ≡ Some f
+one_fault : {X : Type 0} (faults_of : X → List PlanFault) (s t : X) (f g : PlanFault) → s ≡ t → first (faults_of s) ≡ Some f
     → first (faults_of t) ≡ Some g → f ≡ g
 one_fault faults_of s t f g same is another = same_Some _ _ (sym is ∙ (ap (λ x. first (faults_of x)) same ∙ another))
 
@@ -76,10 +76,10 @@ pub one_refusal : (bytes : List ℕ) → HasOneRefusal bytes
 one_refusal bytes text other is another = refused_once bytes is.0 another.0 text other is.1 is.2 another.1 another.2
 
 -- a tree without faults isn't refused
-none_refused : {X : Type 0} (faults_of : X → List Fault) (s t : X) (f : Fault) → s ≡ t → faults_of s ≡ [] → first (faults_of t) ≡ Some f → ⊥
+none_refused : {X : Type 0} (faults_of : X → List PlanFault) (s t : X) (f : PlanFault) → s ≡ t → faults_of s ≡ [] → first (faults_of t) ≡ Some f → ⊥
 none_refused faults_of s t f same clean told =
     let here : faults_of t ≡ [] = ap faults_of (sym same) ∙ clean in
-    let none : first [] ≡ Some f = subst (λ (fs : List Fault). first fs ≡ Some f) here told in
+    let none : first [] ≡ Some f = subst (λ (fs : List PlanFault). first fs ≡ Some f) here told in
     cc none
 
 described_only : (bytes : List ℕ) (plan : Plan) (e : PlanError) (text : List ℕ)

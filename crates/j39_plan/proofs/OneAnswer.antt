@@ -17,11 +17,10 @@ use Rattle.j39_network.specs.declared.plan.pace.Pace.{Pace}
 use Rattle.j39_network.specs.declared.plan.timing.ErrorRate.{ErrorRate}
 use Rattle.j39_network.specs.declared.plan.timing.Timing.{Timing}
 use Rattle.j39_plan.specs.declared.reading.version.Version.{Version}
-use Rattle.j39_plan.specs.declared.reading.fault.Fault.{Fault}
-use Rattle.j39_plan.specs.declared.reading.plan_error.PlanError.{PlanError}
-use Rattle.j39_plan.specs.declared.reading.plan_error.PlanError.TheVariants as errors
-use Rattle.j39_plan.specs.Elements.{Each, inside}
-use Rattle.j39_plan.specs.Outcome.{first}
+use Rattle.j39_plan.specs.PlanErrors.{PlanFault, PlanError}
+use Rattle.j39_tables.specs.declared.file_error.FileError.TheVariants as errors
+use Rattle.j39_tables.specs.InOrder.{Each, inside}
+use Rattle.j39_tables.specs.Outcome.{first}
 use Rattle.j39_plan.specs.UnitTables.{IsUnitOf}
 use Rattle.j39_signal.specs.declared.selector.Selector.{Selector}
 use Rattle.j39_plan.specs.SelectorTables.{TellsWhen, when_table}
@@ -205,7 +204,7 @@ one_plan tree p q a b = record {
 }
 
 -- a tree without faults has no first one
-no_first : (fs : List Fault) (f : Fault) → fs ≡ [] → first fs ≢ Some f
+no_first : (fs : List PlanFault) (f : PlanFault) → fs ≡ [] → first fs ≢ Some f
 no_first fs f none is = cc
 
 -- what a tree is read as, with the tree
@@ -216,7 +215,7 @@ tree_is s t a b = same_Some _ _ (sym a ∙ b)
 described_at : (s t : Members) (p : Plan) → t ≡ s → Described t p → Described s p
 described_at s t p same is = subst (λ (x : Members). Described x p) same is
 
-first_at : (s t : Members) (f : Fault) → t ≡ s → first (faults t) ≡ Some f → first (faults s) ≡ Some f
+first_at : (s t : Members) (f : PlanFault) → t ≡ s → first (faults t) ≡ Some f → first (faults s) ≡ Some f
 first_at s t f same is = subst (λ (x : Members). first (faults x) ≡ Some f) same is
 
 pub one_answer : (tree : Option Members) (one other : Result Plan PlanError) → one ≢ Err errors.Memory → other ≢ Err errors.Memory

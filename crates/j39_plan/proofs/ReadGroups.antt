@@ -12,10 +12,11 @@ use Rattle.j39_plan.specs.declared.reading.version.Version.TheVariants.{First, S
 use Rattle.j39_plan.specs.declared.reading.place.Table.TheVariants as at
 use Rattle.j39_plan.specs.declared.reading.text_kind.TextKind.TheVariants as texts
 use Rattle.j39_plan.specs.declared.reading.key.Key.TheVariants as key
-use Rattle.j39_plan.specs.Schema.{items_count}
-use Rattle.j39_plan.specs.Elements.{each_faults, Each, is_label_among, labels_of, label_in}
+use Rattle.j39_tables.specs.Rules.{items_count}
+use Rattle.j39_tables.specs.InOrder.{each_faults, Each, labels_of, EachGrows}
+use Rattle.j39_plan.specs.LabelsSeen.{is_label_among, label_in}
 use Rattle.j39_plan.specs.SignalTables.{IsMeaningOf, IsSignalOf, IsFit, signal_faults}
-use Rattle.j39_plan.specs.Growing.{EachGrows, SignalGrows}
+use Rattle.j39_plan.specs.Growing.{SignalGrows}
 use Rattle.j39_plan.specs.declared.reading.signals.PlannedSignal.{PlannedSignal}
 use Rattle.j39_network.specs.declared.plan.meaning.Meaning.{Meaning}
 use Rattle.j39_plan.specs.TextTables.{IsTextOf, text_faults}

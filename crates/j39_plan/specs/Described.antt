@@ -1,17 +1,13 @@
 -- Which plan a file describes, and what reading it answers.
-use Rattle.std.specs.Prelude.{◌≡◌, ℕ, List, [], if◌then◌else◌, IsTrue, Option, Some, None, Result, Ok, Err}
+use Rattle.std.specs.Prelude.{◌≡◌, [], if◌then◌else◌, Option, Result}
 use Rattle.std.specs.FinSet.{FinSet, empty}
 use Rattle.std.specs.Ordering.{nat_cmp}
-use Rattle.std.specs.Str.{is_utf8}
 use Rattle.toml.specs.Data.{Members}
-use Rattle.toml.specs.Errors.{IsBlank}
-use Rattle.toml.specs.Parse.{parse_document}
 use Rattle.j39_network.specs.declared.plan.Plan.{Plan}
-use Rattle.j39_plan.specs.declared.reading.plan_error.PlanError.{PlanError}
-use Rattle.j39_plan.specs.declared.reading.plan_error.PlanError.TheVariants as errors
+use Rattle.j39_plan.specs.PlanErrors.{PlanError}
 use Rattle.j39_plan.specs.Schema.{addresses_of, tables_of}
-use Rattle.j39_plan.specs.Elements.{Each}
-use Rattle.j39_plan.specs.Outcome.{first}
+use Rattle.j39_tables.specs.InOrder.{Each}
+use Rattle.j39_tables.specs.FileTrees.{ReadsTree}
 use Rattle.j39_plan.specs.Since.{is_known}
 use Rattle.j39_plan.specs.declared.reading.version.Version.{Version}
 use Rattle.j39_plan.specs.declared.reading.version.Version.TheVariants.{Second}
@@ -48,17 +44,6 @@ pub record TellsPlan (tree : Members) (p : Plan) : Type 0 where
 abbrev pub Described : Members → Plan → Type 0
 Described tree p = (faults tree ≡ []) × TellsPlan tree p
 
--- the tree of a text, where the bytes are UTF-8 and TOML
-abbrev pub tree_of : List ℕ → Option Members
-tree_of bytes = if is_utf8 bytes then parse_document bytes else None
-
--- reading the bytes may ask for room: they are UTF-8, and not white space and comments alone
-abbrev pub MayAskForRoom : List ℕ → Type 0
-MayAskForRoom bytes = IsTrue (is_utf8 bytes) × ¬ IsBlank bytes
-
 -- the plan that the tree describes, or its first fault, or that there is no tree, unless memory ran out
 abbrev pub Reads : Result Plan PlanError → Option Members → Type 0
-Reads (Ok p) tree = (t : Members) × (tree ≡ Some t) × Described t p
-Reads (Err errors.Text) tree = tree ≡ None
-Reads (Err (errors.Fault f)) tree = (t : Members) × (tree ≡ Some t) × (first (faults t) ≡ Some f)
-Reads (Err errors.Memory) tree = Unit {0}
+Reads = ReadsTree faults TellsPlan

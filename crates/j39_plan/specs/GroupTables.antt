@@ -1,18 +1,21 @@
 -- The tables of groups. Since the third version it is known whether a group's number is a maker's own, the length of its longest messages, how far apart
 -- its records stand, and texts; since the fourth, selectors.
-use Rattle.std.specs.Prelude.{◌≡◌, ℕ, List, [], ◌++◌, ◌∷◌, Bool, false, if◌then◌else◌, Option, Some, None, is_some}
+use Rattle.std.specs.Prelude.{◌≡◌, ℕ, List, [], ◌++◌, ◌∷◌, Bool, false, if◌then◌else◌, Option, Some, None, is_some, map}
 use Rattle.std.specs.Option.{option_map_or}
 use Rattle.toml.specs.Data.{Data, Items, no_items, Members, as_table}
+use Rattle.j39_plan.specs.Words.{word_of}
 use Rattle.j39_id.specs.Limits.{message_bytes}
 use Rattle.j39_network.specs.PlanLimits.{signal_limit, text_limit}
 use Rattle.j39_network.specs.declared.plan.group_plan.GroupPlan.{GroupPlan}
 use Rattle.j39_plan.specs.declared.reading.key.Key.TheVariants as key
 use Rattle.j39_plan.specs.declared.reading.place.Table.TheVariants as at
-use Rattle.j39_plan.specs.declared.reading.fault.Fault.{Fault}
+use Rattle.j39_plan.specs.PlanErrors.{PlanFault}
 use Rattle.j39_plan.specs.declared.reading.text_kind.TextKind.TheVariants as texts
-use Rattle.j39_plan.specs.Schema.{Rule, number, optional, flag, tables, number_of, given_number, flag_of, text_of, tables_of}
-use Rattle.j39_plan.specs.TableFaults.{table_only_faults, unknown_faults}
-use Rattle.j39_plan.specs.Elements.{inside, repeated_faults, each_faults, labels_of, Each, label_in, label_rule}
+use Rattle.j39_plan.specs.Schema.{PlanRule, number, optional, flag, tables, given_number, tables_of}
+use Rattle.j39_tables.specs.Rules.{number_of, flag_of, text_of}
+use Rattle.j39_tables.specs.TableFaults.{table_only_faults, unknown_faults}
+use Rattle.j39_tables.specs.InOrder.{inside, each_faults, labels_of, Each}
+use Rattle.j39_plan.specs.LabelsSeen.{repeated_faults, label_in, label_rule}
 use Rattle.j39_plan.specs.Since.{Since, since, is_known, known, rules_of, keys_of, known_keys, known_faults}
 use Rattle.j39_plan.specs.declared.reading.version.Version.{Version}
 use Rattle.j39_plan.specs.declared.reading.version.Version.TheVariants.{First, Third, Fourth}
@@ -20,30 +23,30 @@ use Rattle.j39_plan.specs.SelectorTables.{TellsWhen, when_faults, when_rule, whe
 use Rattle.j39_plan.specs.SignalTables.{IsMeaningOf, IsSignalOf, signal_faults}
 use Rattle.j39_plan.specs.TextTables.{IsTextOf, text_faults}
 
-abbrev pub pgn_rule : Rule
+abbrev pub pgn_rule : PlanRule
 pgn_rule = number key.Pgn 0 16777215 None
 
-abbrev pub priority_rule : Rule
+abbrev pub priority_rule : PlanRule
 priority_rule = number key.Priority 0 7 None
 
-abbrev pub length_rule : Rule
+abbrev pub length_rule : PlanRule
 length_rule = number key.Length 1 message_bytes None
 
-abbrev pub private_rule : Rule
+abbrev pub private_rule : PlanRule
 private_rule = flag key.Private false
 
 -- at least the length of the shortest, which it is without the key
-abbrev pub most_rule : ℕ → Rule
+abbrev pub most_rule : ℕ → PlanRule
 most_rule length = number key.Most length message_bytes (Some length)
 
 -- without the key the group has no records
-abbrev pub every_rule : Rule
+abbrev pub every_rule : PlanRule
 every_rule = optional key.Every 1 255
 
-abbrev pub signal_rule : Rule
+abbrev pub signal_rule : PlanRule
 signal_rule = tables key.Signal signal_limit
 
-abbrev pub text_rule : Rule
+abbrev pub text_rule : PlanRule
 text_rule = tables key.Text text_limit
 
 -- behind the length, by the length
@@ -119,29 +122,29 @@ OlderLengths = (version : Version) (ms : Members) (g : GroupPlan) → is_known T
 abbrev pub IsGroupOf : Version → Data → GroupPlan → Type 0
 IsGroupOf version d g = TellsGroup version (inside d) g
 
-abbrev pub signals_faults : Version → ℕ → Members → List Fault
+abbrev pub signals_faults : Version → ℕ → Members → List PlanFault
 signals_faults version g ms = each_faults (signal_faults version (has_records version ms) g) label_in 0 [] (tables_of signal_rule ms)
 
 -- of its texts, whose labels none of its signals may have either
 abbrev pub signal_labels : Members → List (List ℕ)
 signal_labels ms = labels_of label_in (tables_of signal_rule ms)
 
-abbrev pub texts_faults : Version → ℕ → Members → List Fault
+abbrev pub texts_faults : Version → ℕ → Members → List PlanFault
 texts_faults version g ms = each_faults (text_faults (signal_labels ms) g) label_in 0 [] (text_tables_of version ms)
 
 -- of its keys: the table of the selector is read whole behind the key, and before the arrays
-abbrev pub group_keys_faults : Version → ℕ → Members → List Fault
+abbrev pub group_keys_faults : Version → ℕ → Members → List PlanFault
 group_keys_faults version g ms =
-    unknown_faults (at.Group g) (known_keys version (keys_of (group_rules ms))) ms
+    unknown_faults word_of (at.Group g) (known_keys version (keys_of (group_rules ms))) ms
     ++ (known_faults (at.Group g) version ms (first_rules ms)
     ++ (when_faults version g ms ++ known_faults (at.Group g) version ms inner_rules))
 
-unfoldable pub group_table_faults : Version → ℕ → Members → List Fault
+unfoldable pub group_table_faults : Version → ℕ → Members → List PlanFault
 group_table_faults version g ms =
     group_keys_faults version g ms ++ (signals_faults version g ms ++ texts_faults version g ms)
 
 -- the faults of the g-th group, behind those with the labels seen
-unfoldable pub group_faults : Version → ℕ → List (List ℕ) → Data → List Fault
+unfoldable pub group_faults : Version → ℕ → List (List ℕ) → Data → List PlanFault
 group_faults version g seen d = table_only_faults (at.Group g) d
     ++ option_map_or (group_table_faults version g) (as_table d) []
     ++ repeated_faults (at.Group g) texts.Label seen (label_in d)

@@ -12,20 +12,21 @@ use Rattle.j39_plan.specs.declared.reading.key.Key.TheVariants as key
 use Rattle.j39_plan.specs.declared.reading.version.Version.{Version}
 use Rattle.j39_plan.specs.declared.reading.version.Version.TheVariants.{Fourth}
 use Rattle.j39_plan.specs.Since.{Since, since, is_known}
-use Rattle.j39_plan.specs.Schema.{Rule, names, flag_if, optional, flag_of, given_number, table_of}
+use Rattle.j39_plan.specs.Schema.{PlanRule, names, flag_if, optional, given_number, table_of}
+use Rattle.j39_tables.specs.Rules.{flag_of}
 
 -- one that is repeated can't be optional
-abbrev pub optional_rule : Bool → Rule
+abbrev pub optional_rule : Bool → PlanRule
 optional_rule repeated = flag_if key.Optional (not repeated)
 
-abbrev pub spn_rule : Rule
+abbrev pub spn_rule : PlanRule
 spn_rule = optional key.Spn 0 spn_most
 
 -- names are of the raw numbers that so many bits have, of at most 32, and a trouble code has none
 abbrev pub raw_limit : ℕ → ℕ
 raw_limit bits = 2 ^ min bits 32
 
-abbrev pub values_rule : Bool → ℕ → Rule
+abbrev pub values_rule : Bool → ℕ → PlanRule
 values_rule code bits = names key.Values (not code) (raw_limit bits)
 
 -- by whether the signal is repeated, whether the table is that of a trouble code, and by the width of the signal

@@ -8,22 +8,23 @@ use Rattle.j39_network.specs.declared.plan.timing.ErrorRate.{ErrorRate}
 use Rattle.j39_network.specs.declared.plan.timing.Timing.{Timing}
 use Rattle.j39_plan.specs.declared.reading.key.Key.TheVariants as key
 use Rattle.j39_plan.specs.declared.reading.place.Table.TheVariants as at
-use Rattle.j39_plan.specs.declared.reading.fault.Fault.{Fault}
-use Rattle.j39_plan.specs.Schema.{Rule, number, bitrate, optional_table, number_of, table_of}
-use Rattle.j39_plan.specs.TableFaults.{table_faults}
+use Rattle.j39_plan.specs.PlanErrors.{PlanFault}
+use Rattle.j39_plan.specs.Schema.{PlanRule, number, bitrate, optional_table, table_of}
+use Rattle.j39_tables.specs.Rules.{number_of}
+use Rattle.j39_tables.specs.TableFaults.{table_faults}
 use Rattle.j39_plan.specs.Since.{Since, since, is_known, known, rules_of, versioned_faults}
 use Rattle.j39_plan.specs.declared.reading.version.Version.{Version}
 use Rattle.j39_plan.specs.declared.reading.version.Version.TheVariants.{Third, Fourth}
 
 -- ---- damaged frames
 
-abbrev pub count_rule : Rule
+abbrev pub count_rule : PlanRule
 count_rule = number key.Count 1 100 None
 
-abbrev pub error_window_rule : Rule
+abbrev pub error_window_rule : PlanRule
 error_window_rule = number key.Every 1 65535 None
 
-abbrev pub error_rules : List Rule
+abbrev pub error_rules : List PlanRule
 error_rules = count_rule ∷ error_window_rule ∷ []
 
 -- how many frames are damaged at most, as a table tells it
@@ -37,33 +38,33 @@ TellsErrors None None = Unit {0}
 TellsErrors (Some ms) (Some rate) = TellsErrorRate ms rate
 TellsErrors _ _ = ⊥
 
-unfoldable pub error_table_faults : Members → List Fault
+unfoldable pub error_table_faults : Members → List PlanFault
 error_table_faults ms = table_faults at.TimingErrors error_rules ms
 
 -- ---- the bus
 
 -- since the fourth version more bitrates are known
-abbrev pub bitrate_rule : Version → Rule
+abbrev pub bitrate_rule : Version → PlanRule
 bitrate_rule version = bitrate key.Bitrate (is_known Fourth version)
 
-abbrev pub unplanned_rule : Rule
+abbrev pub unplanned_rule : PlanRule
 unplanned_rule = number key.Unplanned 0 1000 None
 
-abbrev pub unplanned_priority_rule : Rule
+abbrev pub unplanned_priority_rule : PlanRule
 unplanned_priority_rule = number key.UnplannedPriority 0 6 (Some 6)
 
-abbrev pub transport_priority_rule : Rule
+abbrev pub transport_priority_rule : PlanRule
 transport_priority_rule = number key.TransportPriority 0 7 (Some 7)
 
 -- from one frame of a long message to all to the next, in milliseconds
-abbrev pub gap_rule : Rule
+abbrev pub gap_rule : PlanRule
 gap_rule = number key.BroadcastGap 10 200 (Some 50)
 
 -- at most as many as this, and not fewer than at least
-abbrev pub gap_most_rule : ℕ → Rule
+abbrev pub gap_most_rule : ℕ → PlanRule
 gap_most_rule gap = number key.BroadcastGapMost gap 750 (Some 200)
 
-abbrev pub errors_rule : Rule
+abbrev pub errors_rule : PlanRule
 errors_rule = optional_table key.Errors
 
 -- behind what isn't planned
@@ -122,6 +123,6 @@ TellsTiming version (Some ms) (Some timing) = TellsBus version ms timing
 TellsTiming _ _ _ = ⊥
 
 -- the faults of the table, and then those of the table of errors
-unfoldable pub timing_table_faults : Version → Members → List Fault
+unfoldable pub timing_table_faults : Version → Members → List PlanFault
 timing_table_faults version ms =
     versioned_faults at.Timing version (timing_rules version ms) ms ++ option_map_or error_table_faults (errors_table version ms) []

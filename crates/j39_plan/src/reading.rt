@@ -1,14 +1,13 @@
 //! Reading a plan file.
 ghost use Rattle.std.specs.Prelude.{IsErrOf};
 ghost use Rattle.toml.specs.View.{table_view};
-ghost use Rattle.j39_plan.specs.Outcome.{GivesGrowing};
+ghost use Rattle.j39_tables.specs.Outcome.{GivesGrowing};
+ghost use Rattle.j39_tables.specs.declared.file_error.FileError.TheVariants as errors;
 ghost use Rattle.j39_plan.specs.Growing.{PlanGrows};
 ghost use Rattle.j39_plan.specs.PlanFaults.{faults};
-ghost use Rattle.j39_plan.specs.Described.{TellsPlan, tree_of, Reads, MayAskForRoom};
+ghost use Rattle.j39_plan.specs.Described.{TellsPlan, Reads};
+ghost use Rattle.j39_tables.specs.FileTrees.{tree_of, MayAskForRoom};
 
-mod cause;
-mod elements;
-mod fault;
 mod flows;
 mod groups;
 mod heads;
@@ -31,29 +30,26 @@ mod units;
 mod values;
 mod version;
 
-pub use cause::Cause;
-use elements::read_each;
-pub use fault::Fault;
-use flows::Flows;
-use groups::Groups;
+use flows::FlowReader;
+use groups::GroupReader;
 use heads::{head, live, strangers, version_of};
 use j39_network::Plan;
 use j39_network::limits::{FLOW_LIMIT, GROUP_LIMIT, UNIT_LIMIT};
+pub use j39_tables::{Cause, FileError};
+use j39_tables::{read_each, read_tree};
 pub use key::Key;
 use later_arrays::later_arrays;
-use needs::Needs;
-pub use place::{Place, Table};
-pub use plan_error::PlanError;
-use requests::Requests;
+use needs::NeedReader;
+pub use place::Table;
+pub use plan_error::{PlanError, PlanFault};
+use requests::RequestReader;
 use std::alloc::Global;
-use std::str;
 use tables::array;
-pub use text_kind::{are_printable, is_label};
 use timing::timing;
-use units::Units;
+use units::UnitReader;
 pub use version::Version;
 
-#[tactic(auto, using(crate::proofs::FirstFaults::faults_after))]
+#[tactic(auto, using(j39_tables::proofs::FirstFaults::faults_after))]
 fn read_top(alloc: Global, members: &toml::Table) -> Result<Plan, PlanError>
     ensures { GivesGrowing (PlanGrows (table_view members.now)) result (faults (table_view members.now)) (TellsPlan (table_view members.now)) }
 {
@@ -66,11 +62,11 @@ fn read_top(alloc: Global, members: &toml::Table) -> Result<Plan, PlanError>
     let group_values = array(members, Table::Top, Key::Group, GROUP_LIMIT)?;
     let flow_values = array(members, Table::Top, Key::Flow, FLOW_LIMIT)?;
     let later = later_arrays(members, version)?;
-    let units = read_each(alloc, &Units { version }, unit_values)?;
-    let groups = read_each(alloc, &Groups { version }, group_values)?;
+    let units = read_each(alloc, &UnitReader { version }, unit_values)?;
+    let groups = read_each(alloc, &GroupReader { version }, group_values)?;
     let flows = read_each(
         alloc,
-        &Flows {
+        &FlowReader {
             version,
             groups: &groups,
             units: &units,
@@ -79,7 +75,7 @@ fn read_top(alloc: Global, members: &toml::Table) -> Result<Plan, PlanError>
     )?;
     let needs = read_each(
         alloc,
-        &Needs {
+        &NeedReader {
             groups: &groups,
             units: &units,
         },
@@ -87,7 +83,7 @@ fn read_top(alloc: Global, members: &toml::Table) -> Result<Plan, PlanError>
     )?;
     let requests = read_each(
         alloc,
-        &Requests {
+        &RequestReader {
             groups: &groups,
             units: &units,
         },
@@ -118,18 +114,10 @@ fn read_top(alloc: Global, members: &toml::Table) -> Result<Plan, PlanError>
 /// memory of bytes that are no UTF-8, or white space and comments alone.
 pub fn read_plan(alloc: Global, bytes: &[u8]) -> Result<Plan, PlanError>
     ensures reads { Reads result (tree_of bytes.now) }
-    ensures memory { IsErrOf result PlanError.Memory → MayAskForRoom bytes.now }
+    ensures memory { IsErrOf result errors.Memory → MayAskForRoom bytes.now }
 {
-    let text = match str::from_utf8(bytes) {
-        Ok(text) => text,
-        Err(_) => return Err(PlanError::Text),
-    };
-    match toml::table_from_str(alloc, text) {
+    match read_tree(alloc, bytes) {
         Ok(members) => read_top(alloc, &members),
-        Err(error) => Err(if error.is_memory() {
-            PlanError::Memory
-        } else {
-            PlanError::Text
-        }),
+        Err(error) => Err(error),
     }
 }

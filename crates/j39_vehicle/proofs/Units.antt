@@ -4,7 +4,7 @@ use Rattle.std.proofs.Common.{refl, sym, ap, ◌∙◌, append_assoc, string_byt
 use Rattle.std.proofs.lemmas.List.{append-nil, map_more}
 use Rattle.std.specs.Option.{option_or}
 use Rattle.toml.proofs.Views.{items_view-drop}
-use Rattle.j39_plan.specs.declared.reading.cause.Cause.{Cause}
+use Rattle.j39_tables.specs.declared.cause.Cause.{Cause}
 use Rattle.std.proofs.Math.Bool.{or_assoc}
 use Rattle.std.specs.List.{list_any, list_all}
 use Rattle.std.specs.Str.{bytes_eq}
@@ -13,7 +13,7 @@ use Rattle.toml.specs.View.{view, items_view}
 use Rattle.j39_vehicle.specs.declared.file.gateway_table.GatewayTable.{GatewayTable}
 use Rattle.j39_vehicle.specs.declared.file.name_on_bus.NameOnBus.{NameOnBus}
 use Rattle.j39_vehicle.specs.TextKinds.{name_of}
-use Rattle.j39_vehicle.specs.Elements.{Named, is_label_among}
+use Rattle.j39_vehicle.specs.LabelsSeen.{Named, is_label_among}
 use Rattle.j39_vehicle.specs.GatewayTables.{all_units, are_on, is_text_among, named_gateway, text_in, texts_in, unit_cause, units_cause}
 
 is_among_both : (xs ys : List (List ℕ)) (t : List ℕ) → is_text_among (xs ++ ys) t ≡ (is_text_among xs t || is_text_among ys t)

@@ -5,11 +5,10 @@ use Rattle.j39_load.specs.declared.findings.load_finding.LoadFinding.{LoadFindin
 use Rattle.j39_stream.specs.declared.verdict.Verdict.{Verdict}
 use Rattle.j39_stream.specs.declared.verdict.Verdict.TheVariants.{Done, Findings, Unreadable}
 use Rattle.j39_text.specs.Texts.{field}
-use Rattle.j39_vehicle.specs.Outcome.{first}
+use Rattle.j39_tables.specs.Outcome.{first}
 use Rattle.j39_vehicle.specs.Resolved.{StandsForFile, found_faults}
 use Rattle.j39_vehicle.specs.declared.file.VehicleFile.{VehicleFile}
-use Rattle.j39_vehicle.specs.declared.reading.fault.Fault.{Fault}
-use Rattle.j39_vehicle.specs.declared.reading.vehicle_error.VehicleError.{VehicleError}
+use Rattle.j39_vehicle.specs.VehicleErrors.{VehicleFault, VehicleError}
 use Rattle.j39_vehicle.specs.declared.vehicle.Vehicle.{Vehicle}
 use Rattle.j39_vehicle.specs.declared.vehicle.bus_plan.BusPlan.{BusPlan}
 use Rattle.j39_paths.specs.FoundPaths.{path_findings, queue_findings}
@@ -96,4 +95,4 @@ RefusesWith error text verdict = IsVehicleRefusal error text × (verdict ≡ Unr
 abbrev pub IsVehicleText : VehicleFile → List BusPlan → List ℕ → Verdict → Type 0
 IsVehicleText file buses text verdict =
     ((v : Vehicle) × (found_faults buses file ≡ []) × StandsForFile buses file v × IsVehicleReport v text verdict)
-    ⊎ ((fault : Fault) × (first (found_faults buses file) ≡ Some fault) × (text ≡ vehicle_fault_line fault) × (verdict ≡ Unreadable))
+    ⊎ ((fault : VehicleFault) × (first (found_faults buses file) ≡ Some fault) × (text ≡ vehicle_fault_line fault) × (verdict ≡ Unreadable))

@@ -2,7 +2,7 @@
 
 use j39_bus::{Bus, BusError, StepError};
 use j39_claim::{Choose, Lowest};
-use j39_plan::{Plan, PlanError, Step, read_plan};
+use j39_plan::{FileError, Plan, Step, read_plan};
 use std::alloc::{AllocError, Global};
 
 /// A step of two units, the first of which sends.
@@ -120,7 +120,7 @@ fn steps_of(alloc: Global, moves: &[BusMove]) -> Result<Vec<Step>, AllocError> {
 pub fn is_answered(alloc: Global, plan: &str, moves: &[BusMove]) -> Result<bool, AllocError> {
     let plan = match read_plan(alloc, plan.as_bytes()) {
         Ok(plan) => plan,
-        Err(PlanError::Memory) => return Err(AllocError),
+        Err(FileError::Memory) => return Err(AllocError),
         Err(_) => return Ok(false),
     };
     let steps = steps_of(alloc, moves)?;

@@ -2,17 +2,18 @@
 ghost use Rattle.std.specs.Prelude.{◌≡◌, ◌≤◌, [], map, Some, IfOk, IfSome};
 ghost use Rattle.std.specs.Option.{ForSome};
 ghost use Rattle.toml.specs.View.{table_view};
-ghost use Rattle.j39_plan.specs.Outcome.{Gives};
+ghost use Rattle.j39_tables.specs.Outcome.{Gives};
 ghost use Rattle.j39_plan.specs.Since.{since, since_faults, known_faults};
 ghost use Rattle.j39_plan.specs.declared.reading.version.Version.TheVariants.{Third};
 ghost use Rattle.j39_plan.specs.FlowTables as spec;
 
-use super::elements::ReadElement;
 use super::labels::{Labelled, place_of};
-use super::tables::{only_known, table_of};
-use super::values::{any_text, flag, has_key, number, optional_number, refused};
-use super::{Cause, Key, PlanError, Table, Version};
+use super::tables::only_known;
+use super::text_kind::TextKind;
+use super::values::{flag, has_key, number};
+use super::{Cause, Key, PlanError, PlanFault, Table, Version};
 use j39_network::{FlowPlan, GroupPlan, Pace, To, UnitPlan};
+use j39_tables::{ReadElement, given_number, refused, required_text, table_of};
 use std::alloc::Global;
 use toml::Value;
 
@@ -90,7 +91,7 @@ struct LaterPace {
 }
 
 // The same, by the period, where the version knows it.
-#[tactic(auto, using(crate::proofs::FirstFaults::faults_after))]
+#[tactic(auto, using(j39_tables::proofs::FirstFaults::faults_after))]
 fn later_pace(
     members: &toml::Table,
     table: Table,
@@ -119,7 +120,7 @@ fn later_pace(
         None => (MS_MOST, 1),
     };
     let jitter = number(members, table, Key::Jitter, 0, jitter_most, Some(0))?;
-    let pause = optional_number(members, table, Key::Pause, pause_least, MS_MOST, false)?;
+    let pause = given_number(members, table, Key::Pause, pause_least, MS_MOST, false)?;
     let on_request = flag(members, table, Key::OnRequest, false)?;
     Ok(LaterPace {
         jitter,
@@ -153,9 +154,9 @@ fn known_period(
     }
     let jitter = version.knows(Version::Fourth) && has_key(members, Key::Jitter);
     if jitter || has_key(members, Key::Deadline) {
-        optional_number(members, table, Key::Period, 1, MS_MOST, true)
+        given_number(members, table, Key::Period, 1, MS_MOST, true)
     } else {
-        optional_number(members, table, Key::Period, 1, MS_MOST, false)
+        given_number(members, table, Key::Period, 1, MS_MOST, false)
     }
 }
 
@@ -171,13 +172,13 @@ fn known_deadline(
     ensures few { IfOk result (λ found. IfSome found (λ n. n ≤ 65535)) }
 {
     if version.knows(Version::Third) {
-        optional_number(members, table, Key::Deadline, 1, MS_MOST, false)
+        given_number(members, table, Key::Deadline, 1, MS_MOST, false)
     } else {
         Ok(None)
     }
 }
 
-#[tactic(auto, using(crate::proofs::FirstFaults::faults_after))]
+#[tactic(auto, using(j39_tables::proofs::FirstFaults::faults_after))]
 fn known_rhythm(members: &toml::Table, table: Table, version: Version) -> Result<Rhythm, PlanError>
     ensures { Gives result (known_faults table version (table_view members.now) (spec.pace_rules version (table_view members.now)))
         (λ rhythm. spec.TellsPace version (table_view members.now) rhythm.pace
@@ -204,13 +205,13 @@ fn known_rhythm(members: &toml::Table, table: Table, version: Version) -> Result
 
 /// The reader of flows between units.
 #[derive(Clone, Copy)]
-pub struct Flows<'a> {
+pub struct FlowReader<'a> {
     pub version: Version,
     pub groups: &'a [GroupPlan],
     pub units: &'a [UnitPlan],
 }
 
-#[tactic(auto, using(crate::proofs::FirstFaults::faults_after), unfolding(crate::specs::FlowTables::flow_table_faults))]
+#[tactic(auto, using(j39_tables::proofs::FirstFaults::faults_after), unfolding(crate::specs::FlowTables::flow_table_faults))]
 fn flow(
     version: Version,
     groups: &[GroupPlan],
@@ -225,9 +226,9 @@ fn flow(
 {
     let table = Table::Flow(index);
     only_known(members, table, version, &KEYS)?;
-    let group_text = any_text(members, table, Key::Group)?;
-    let from_text = any_text(members, table, Key::From)?;
-    let to_text = any_text(members, table, Key::To)?;
+    let group_text = required_text(members, table, Key::Group, TextKind::Any)?;
+    let from_text = required_text(members, table, Key::From, TextKind::Any)?;
+    let to_text = required_text(members, table, Key::To, TextKind::Any)?;
     let rhythm = known_rhythm(members, table, version)?;
     let group = place(groups, group_text, table, Key::Group)?;
     let sender = place(units, from_text, table, Key::From)?;
@@ -242,14 +243,17 @@ fn flow(
     })
 }
 
-impl ReadElement<FlowPlan> for Flows<'_> {
-    ghost use Rattle.j39_plan.specs.Growing.{NeverGrows};
+impl ReadElement<FlowPlan, PlanFault> for FlowReader<'_> {
+    ghost use Rattle.std.specs.Prelude.{ℕ, List};
+    ghost use Rattle.j39_tables.specs.InOrder.{NeverGrows};
     ghost use Rattle.j39_plan.specs.PlanFaults.{no_label};
     ghost use Rattle.j39_plan.specs.FlowTables.{flow_faults, IsFlowOf};
 
-    ghost label_bytes = { λ _. [] };
+    ghost Label = { List ℕ };
 
-    ghost label_of = { no_label };
+    ghost label = { λ _. [] };
+
+    ghost data_label = { no_label };
 
     ghost faults = { λ r i seen. flow_faults r.version (map (λ g. g.label.bytes) r.groups.now) (map (λ u. u.label.bytes) r.units.now) i };
 
@@ -257,7 +261,7 @@ impl ReadElement<FlowPlan> for Flows<'_> {
 
     ghost Tells = { λ r. IsFlowOf r.version (map (λ g. g.label.bytes) r.groups.now) (map (λ u. u.label.bytes) r.units.now) };
 
-    #[tactic(auto, using(crate::proofs::FirstFaults::faults_after), unfolding(crate::specs::FlowTables::flow_faults))]
+    #[tactic(auto, using(j39_tables::proofs::FirstFaults::faults_after), unfolding(crate::specs::FlowTables::flow_faults))]
     fn read(
         &self,
         _alloc: Global,
@@ -270,7 +274,7 @@ impl ReadElement<FlowPlan> for Flows<'_> {
             self.groups,
             self.units,
             index,
-            table_of(value, Table::Flow(index))?,
+            table_of::<Table, Key>(value, Table::Flow(index))?,
         )
     }
 }

@@ -5,24 +5,24 @@ ghost use Rattle.j39_id.specs.Limits.{message_bytes};
 ghost use Rattle.j39_plan.specs.Schema.{tables_of};
 ghost use Rattle.j39_plan.specs.Since.{since, since_faults, known_faults};
 ghost use Rattle.j39_plan.specs.declared.reading.version.Version.TheVariants.{Third, Fourth};
-ghost use Rattle.j39_plan.specs.Outcome.{Gives, GivesGrowing};
+ghost use Rattle.j39_tables.specs.Outcome.{Gives, GivesGrowing};
 ghost use Rattle.j39_plan.specs.Growing.{GroupGrows};
 ghost use Rattle.j39_plan.specs.SelectorTables.{when_rule, when_table};
 ghost use Rattle.j39_plan.specs.GroupTables.{every_of, every_rule, group_table_faults, inner_rules, later_rules, most_of, most_rule, private_of, private_rule, signal_rule, text_rule, text_tables_of, TellsGroup};
 
-use super::elements::{ReadElement, read_each};
 use super::labels::untaken;
 use super::selectors::when;
-use super::signals::{PlannedSignal, Signals};
-use super::tables::{array, only_known, optional_inner, table_of};
+use super::signals::{PlannedSignal, SignalReader};
+use super::tables::{array, only_known, optional_inner};
 use super::text_kind::TextKind;
-use super::texts::Texts;
-use super::values::{flag, number, optional_number, short_text};
-use super::{Key, PlanError, Table, Version};
+use super::texts::TextReader;
+use super::values::{flag, number, short_text};
+use super::{Key, PlanError, PlanFault, Table, Version};
 use j39_id::limits::MESSAGE_BYTES;
 use j39_network::limits::{SIGNAL_LIMIT, TEXT_LIMIT};
 use j39_network::{GroupPlan, Meaning};
 use j39_signal::Signal;
+use j39_tables::{ReadElement, given_number, read_each, table_of};
 use std::alloc::{AllocError, Global};
 use toml::Value;
 
@@ -90,7 +90,7 @@ fn every(version: Version, members: &toml::Table, table: Table) -> Result<Option
     ensures few { IfOk result (λ found. IfSome found (λ n. n ≤ 255)) }
 {
     if version.knows(Version::Third) {
-        optional_number(members, table, Key::Every, 1, 255, false)
+        given_number(members, table, Key::Every, 1, 255, false)
     } else {
         Ok(None)
     }
@@ -112,7 +112,7 @@ fn when_key(
     }
 }
 
-#[tactic(auto, using(crate::proofs::FirstFaults::faults_after))]
+#[tactic(auto, using(j39_tables::proofs::FirstFaults::faults_after))]
 fn later_keys(
     version: Version,
     length: u32,
@@ -160,7 +160,7 @@ struct Inside<'a> {
     texts: &'a [Value],
 }
 
-#[tactic(auto, using(crate::proofs::FirstFaults::faults_after))]
+#[tactic(auto, using(j39_tables::proofs::FirstFaults::faults_after))]
 fn arrays(version: Version, members: &toml::Table, table: Table) -> Result<Inside, PlanError>
     ensures { Gives result (known_faults table version (table_view members.now) inner_rules)
         (λ arrays. (items_view arrays.signals.now ≡ tables_of signal_rule (table_view members.now))
@@ -200,7 +200,7 @@ fn parted(
     Ok((signals, meanings))
 }
 
-#[tactic(auto, using(crate::proofs::FirstFaults::faults_after), unfolding(crate::specs::GroupTables::group_table_faults))]
+#[tactic(auto, using(j39_tables::proofs::FirstFaults::faults_after), unfolding(crate::specs::GroupTables::group_table_faults))]
 fn group(
     alloc: Global,
     version: Version,
@@ -221,7 +221,7 @@ fn group(
     let arrays = arrays(version, members, table)?;
     let every = distance(later.every);
     let records = later.every.is_some();
-    let reader = Signals {
+    let reader = SignalReader {
         version,
         records,
         group: index,
@@ -230,7 +230,7 @@ fn group(
     let parts = parted(alloc, planned)?;
     let texts = read_each(
         alloc,
-        &Texts {
+        &TextReader {
             group: index,
             signals: &parts.0,
         },
@@ -253,18 +253,21 @@ fn group(
 
 /// The reader of groups.
 #[derive(Clone, Copy)]
-pub struct Groups {
+pub struct GroupReader {
     pub version: Version,
 }
 
-impl ReadElement<GroupPlan> for Groups {
+impl ReadElement<GroupPlan, PlanFault> for GroupReader {
+    ghost use Rattle.std.specs.Prelude.{ℕ, List};
     ghost use Rattle.j39_plan.specs.Growing.{GroupElementGrows};
     ghost use Rattle.j39_plan.specs.GroupTables.{group_faults, IsGroupOf};
-    ghost use Rattle.j39_plan.specs.Elements.{label_in};
+    ghost use Rattle.j39_plan.specs.LabelsSeen.{label_in};
 
-    ghost label_bytes = { λ g. g.label.bytes };
+    ghost Label = { List ℕ };
 
-    ghost label_of = { label_in };
+    ghost label = { λ g. g.label.bytes };
+
+    ghost data_label = { label_in };
 
     ghost faults = { λ r. group_faults r.version };
 
@@ -272,7 +275,7 @@ impl ReadElement<GroupPlan> for Groups {
 
     ghost Tells = { λ r. IsGroupOf r.version };
 
-    #[tactic(auto, using(crate::proofs::FirstFaults::faults_after), unfolding(crate::specs::GroupTables::group_faults))]
+    #[tactic(auto, using(j39_tables::proofs::FirstFaults::faults_after), unfolding(crate::specs::GroupTables::group_faults))]
     fn read(
         &self,
         alloc: Global,
@@ -281,7 +284,12 @@ impl ReadElement<GroupPlan> for Groups {
         value: &Value,
     ) -> Result<GroupPlan, PlanError> {
         let table = Table::Group(index);
-        let group = group(alloc, self.version, index, table_of(value, table)?)?;
+        let group = group(
+            alloc,
+            self.version,
+            index,
+            table_of::<Table, Key>(value, table)?,
+        )?;
         untaken(seen, group.label.as_str(), TextKind::Label, table)?;
         Ok(group)
     }
