@@ -1,5 +1,5 @@
 -- The lines of two lists of units, of which the same is told.
-use Rattle.std.proofs.Common.{◌≡◌, ℕ, ◌+◌, Bool, codes, cond, count_by, length, List, [], ◌∷◌, ◌++◌, refl, sym, ap, ◌∙◌}
+use Rattle.std.proofs.Common.{◌≡◌, ◌+◌, Bool, codes, cond, count_by, List, [], ◌∷◌, ◌++◌, refl, sym, ap, ◌∙◌}
 use Rattle.std.proofs.lemmas.List.Sums.{sum_by-cons}
 use Rattle.std.proofs.lemmas.Slice.Zip.{AllZip-long}
 use Rattle.std.specs.List.{AllZip}

@@ -16,11 +16,11 @@ use Rattle.j39_findings.proofs.Vehicles.{clean_vehicle, found_alike}
 use Rattle.j39_load.specs.declared.waits.delay.Delay.{Delay}
 use Rattle.j39_load.specs.declared.findings.load_finding.LoadFinding.{LoadFinding}
 use Rattle.j39_load.specs.Asked.{Asked, asked_of, total_load}
-use Rattle.j39_load.specs.LoadFindings.{AreLoadFindings, all_findings}
+use Rattle.j39_load.specs.LoadFindings.{all_findings}
 use Rattle.j39_load.proofs.Vehicles.{asks_alike, loads_alike, same_findings}
 use Rattle.j39_stream.specs.declared.verdict.Verdict.{Verdict}
 use Rattle.j39_stream.specs.declared.verdict.Verdict.TheVariants.{Done, Findings, Refused, Unreadable}
-use Rattle.j39_check.specs.AddressesText.{IsAddressesReport, StayingHolds, is_of_addresses}
+use Rattle.j39_check.specs.AddressesText.{IsAddressesReport, StayingHolds}
 use Rattle.j39_check.specs.Certified.{IsCertified}
 use Rattle.j39_check.specs.CheckText.{IsReport, findings_text}
 use Rattle.j39_check.specs.LoadLines.{loads_text}
