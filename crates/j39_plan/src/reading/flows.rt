@@ -224,8 +224,10 @@ fn ends(
     ensures { let group_labels = map (λ g. g.label.bytes) groups.now in
         let unit_labels = map (λ u. u.label.bytes) units.now in
         Gives result (spec.place_faults table Key.Group group_labels (Some group.now)
-        ++ (spec.place_faults table Key.From unit_labels (Some sender.now) ++ spec.receiver_faults table unit_labels (Some receivers.now)))
-        (λ e. (spec.place_of group_labels group.now ≡ Some e.group) × (spec.place_of unit_labels sender.now ≡ Some e.sender)
+        ++ (spec.place_faults table Key.From unit_labels (Some sender.now)
+        ++ spec.receiver_faults table unit_labels (Some receivers.now)))
+        (λ e. (spec.place_of group_labels group.now ≡ Some e.group)
+        × (spec.place_of unit_labels sender.now ≡ Some e.sender)
         × (spec.receivers unit_labels receivers.now ≡ Some e.to)) }
 {
     let group = place(groups, group, table, Key::Group)?;

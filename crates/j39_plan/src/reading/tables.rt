@@ -93,7 +93,8 @@ pub fn only_known(
     version: Version,
     keys: &[(Key, Version)],
 ) -> Result<(), PlanError>
-    ensures { Gives result (unknown_faults word_of table (known_keys version keys.now) (table_view members.now)) (λ _. Unit {0}) }
+    ensures { let known = known_keys version keys.now in
+        Gives result (unknown_faults word_of table known (table_view members.now)) (λ _. Unit {0}) }
 {
     if has_known(members, version, keys) {
         Ok(())
