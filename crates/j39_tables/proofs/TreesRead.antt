@@ -1,5 +1,5 @@
 -- From the tree of a text to what reading it answers.
-use Rattle.std.proofs.Common.{◌≡◌, ◌≢◌, ℕ, [], suc, length, sym, ◌∙◌, subst, refl, IsErrOf}
+use Rattle.std.proofs.Common.{◌≡◌, ℕ, [], suc, length, sym, ◌∙◌, subst, refl, IsErrOf}
 use Rattle.std.proofs.Common.{true, false, List, Option, Some, None, Result, Ok, Err}
 use Rattle.std.specs.Prelude.{IsUtf8}
 use Rattle.std.specs.Str.{is_utf8}
