@@ -1,10 +1,8 @@
 -- Groups of version 4 among whose signals nothing stands that it alone knows are those of version 3.
-use Rattle.std.proofs.Common.{◌↔◌, ◌≡◌, ℕ, Bool, true, false, arith, List, [], ◌∷◌, None, refl, sym, subst, ◌∙◌}
+use Rattle.std.proofs.Common.{◌↔◌, ◌≡◌, ℕ, Bool, true, false, arith, List, [], ◌∷◌, None, refl}
 use Rattle.std.specs.Option.{option_map_or}
 use Rattle.toml.specs.Data.{Data, Members, no_members, get_member, as_table}
-use Rattle.j39_signal.specs.Parts.{SignalParts}
 use Rattle.j39_network.specs.declared.plan.group_plan.GroupPlan.{GroupPlan}
-use Rattle.j39_network.specs.declared.plan.meaning.Meaning.{Meaning}
 use Rattle.j39_plan.specs.ValueCauses.{truth_where}
 use Rattle.j39_plan.specs.declared.reading.version.Version.TheVariants.{First, Third, Fourth}
 use Rattle.j39_plan.specs.declared.reading.key.Key.{Key}
@@ -14,14 +12,14 @@ use Rattle.j39_plan.specs.declared.reading.place.Table.TheVariants as at
 use Rattle.j39_plan.specs.declared.reading.text_kind.TextKind.TheVariants as texts
 use Rattle.j39_plan.specs.Words.{word_of}
 use Rattle.j39_tables.specs.Rules.{number_of, flag_of, table_found, number_found}
-use Rattle.j39_plan.specs.Schema.{given_number, table_of, tables_of}
+use Rattle.j39_plan.specs.Schema.{tables_of}
 use Rattle.j39_tables.specs.TableFaults.{key_faults, table_only_faults, is_key_word}
 use Rattle.j39_plan.specs.Since.{Since, since, versioned_faults}
 use Rattle.j39_tables.specs.InOrder.{inside}
 use Rattle.j39_plan.specs.LabelsSeen.{label_in, label_rule, repeated_faults}
-use Rattle.j39_plan.specs.MeaningTables.{optional_rule, spn_rule, values_rule, meaning_rules, optional_of, spn_of, name_table, AreValueNames}
+use Rattle.j39_plan.specs.MeaningTables.{optional_rule, spn_rule, values_rule, meaning_rules, optional_of, spn_of, name_table}
 use Rattle.j39_plan.specs.SignalTables.{byte_rule, bit_rule, bits_rule, is_code, kind_rule, step_rule, per_rule, offset_rule, unit_rule, repeated_rule, repeated_of, signal_table_faults, signal_faults, IsMeaningOf, IsSignalOf}
-use Rattle.j39_plan.specs.SelectorTables.{TellsWhen, when_rule, when_table}
+use Rattle.j39_plan.specs.SelectorTables.{when_rule, when_table}
 use Rattle.j39_plan.specs.GroupTables.{signal_rule, has_records, signals_faults, group_keys_faults, group_table_faults, group_faults, IsGroupOf}
 use Rattle.j39_plan.specs.Versions.{IsThirdSignal, IsThirdGroup}
 use Rattle.j39_plan.proofs.SameParts.{SameSignal, SameMeaning, SameGroup, signal_both, meaning_both, group_both}

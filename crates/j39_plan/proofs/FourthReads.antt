@@ -1,5 +1,5 @@
 -- A plan of version 4 in which nothing stands that it alone knows is read as one of version 3.
-use Rattle.std.proofs.Common.{◌≡◌, ℕ, true, false, arith, List, [], ◌∷◌, Option, Some, None, IfSome, refl, sym, ◌∙◌}
+use Rattle.std.proofs.Common.{◌≡◌, ℕ, false, arith, List, [], ◌∷◌, Option, Some, None, IfSome, refl, sym, ◌∙◌}
 use Rattle.std.specs.Option.{option_map_or}
 use Rattle.toml.specs.Data.{no_items, Members, get_member}
 use Rattle.j39_network.specs.declared.plan.Plan.{Plan}
@@ -18,9 +18,9 @@ use Rattle.j39_plan.specs.LabelsSeen.{label_in}
 use Rattle.j39_plan.specs.UnitTables.{IsUnitOf, unit_faults, unit_label_in}
 use Rattle.j39_plan.specs.GroupTables.{IsGroupOf, group_faults}
 use Rattle.j39_plan.specs.FlowTables.{IsFlowOf, flow_faults}
-use Rattle.j39_plan.specs.TimingTables.{timing_table_faults, TellsTiming}
+use Rattle.j39_plan.specs.TimingTables.{timing_table_faults}
 use Rattle.j39_plan.specs.PlanFaults.{version_rule, keep_free_rule, strangers_rule, strangers_of, strangers_faults, live_rule, live_of, live_faults, timing_rule, units_rule, groups_rule, flows_rule, needs_rule, requests_rule, version_of, head_faults, timing_faults, array_rules, top_faults, unit_labels, group_labels, units_faults, groups_faults, flows_faults, needs_faults, need_tables_of, requests_faults, request_tables_of, no_label, faults}
-use Rattle.j39_plan.specs.Described.{keep_free_of, TellsPlan}
+use Rattle.j39_plan.specs.Described.{keep_free_of}
 use Rattle.j39_plan.specs.Versions.{with_version, fourth_top_keys, Lacks, IsThirdBus, IsThirdUnit, IsThirdGroup, IsThirdFlow, IsThirdPlan, ReadAlike}
 use Rattle.j39_plan.proofs.Absent.{lacked, IsNone, only_same, Alike, alike_both, alike_unknown, alike_each, told_alike}
 use Rattle.j39_plan.proofs.KnownVersions.{version_unfaulted, knows_4, knows_3, each_nothing}

@@ -17,7 +17,7 @@ use Rattle.j39_plan.specs.declared.reading.place.Table.{Table}
 use Rattle.j39_plan.specs.declared.reading.text_kind.TextKind.{TextKind}
 use Rattle.j39_plan.specs.TextKinds.{takes}
 use Rattle.j39_plan.specs.Schema.{tables, tables_of}
-use Rattle.j39_tables.specs.Rules.{items_count, array_found, array_up_to}
+use Rattle.j39_tables.specs.Rules.{items_count, array_up_to}
 use Rattle.j39_tables.specs.InOrder.{each_faults, Each, labels_of}
 use Rattle.j39_plan.specs.LabelsSeen.{is_label_among, repeated_faults}
 

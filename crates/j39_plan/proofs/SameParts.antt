@@ -109,7 +109,8 @@ group_back same = record { private = sym same.private; most = sym same.most; eve
 
 group_as : {one other : Version} (d : Data) (g : GroupPlan) → SameGroup one other (inside d)
     → (Each (IsSignalOf one) (tables_of signal_rule (inside d)) g.signals.items → Each (IsSignalOf other) (tables_of signal_rule (inside d)) g.signals.items)
-    → (Each (IsMeaningOf one) (tables_of signal_rule (inside d)) g.meanings.items → Each (IsMeaningOf other) (tables_of signal_rule (inside d)) g.meanings.items)
+    → (Each (IsMeaningOf one) (tables_of signal_rule (inside d)) g.meanings.items
+    → Each (IsMeaningOf other) (tables_of signal_rule (inside d)) g.meanings.items)
     → IsGroupOf one d g → IsGroupOf other d g
 group_as d g same signals meanings told = record {
   has_label = told.has_label;
@@ -127,7 +128,8 @@ group_as d g same signals meanings told = record {
 
 pub group_both : {one other : Version} (d : Data) (g : GroupPlan) → SameGroup one other (inside d)
     → (Each (IsSignalOf one) (tables_of signal_rule (inside d)) g.signals.items ↔ Each (IsSignalOf other) (tables_of signal_rule (inside d)) g.signals.items)
-    → (Each (IsMeaningOf one) (tables_of signal_rule (inside d)) g.meanings.items ↔ Each (IsMeaningOf other) (tables_of signal_rule (inside d)) g.meanings.items)
+    → (Each (IsMeaningOf one) (tables_of signal_rule (inside d)) g.meanings.items
+    ↔ Each (IsMeaningOf other) (tables_of signal_rule (inside d)) g.meanings.items)
     → IsGroupOf one d g ↔ IsGroupOf other d g
 group_both d g same signals meanings = (group_as d g same signals.0 meanings.0, group_as d g (group_back same) signals.1 meanings.1)
 

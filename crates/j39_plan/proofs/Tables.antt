@@ -1,16 +1,14 @@
 -- A table of a version, as the definitions see it.
-use Rattle.std.proofs.Common.{◌≡◌, List, [], ◌∷◌, refl, inl, inr, ℕ, ◌&&◌, String, Global, string_bytes}
-use Rattle.std.specs.List.{list_all, list_any}
-use Rattle.std.specs.Str.{bytes_eq}
+use Rattle.std.proofs.Common.{◌≡◌, List, [], ◌∷◌, refl, inl, inr, ℕ, String, Global, string_bytes}
+use Rattle.std.specs.List.{list_all}
 use Rattle.std.proofs.lemmas.Bool.{cases_Bool}
 use Rattle.std.specs.Map.{keys_of}
 use Rattle.toml.specs.declared.value.Value.{Value}
-use Rattle.toml.specs.View.{items_view, members_view}
+use Rattle.toml.specs.View.{members_view}
 use Rattle.j39_plan.specs.declared.reading.key.Key.{Key}
 use Rattle.j39_plan.specs.declared.reading.version.Version.{Version}
 use Rattle.j39_plan.specs.Since.{is_known, is_known_word, known_keys}
 use Rattle.j39_plan.specs.Words.{word_of}
-use Rattle.j39_tables.specs.Rules.{items_count}
 use Rattle.j39_tables.specs.TableFaults.{is_key_word, has_only}
 
 -- a key that a version knows, looked for among all keys of the table

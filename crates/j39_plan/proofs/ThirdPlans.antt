@@ -1,10 +1,9 @@
 -- Groups and flows of version 3 in whose tables nothing stands that the second doesn't know are those of version 2.
-use Rattle.std.proofs.Common.{◌↔◌, ◌≡◌, ◌≤◌, ℕ, pos, negsuc, ltb, Bool, true, false, ◌||◌, if◌then◌else◌, arith, List, [], ◌∷◌, Option, Some, None, IfSome, unwrap_or, refl, sym, subst, ◌∙◌}
+use Rattle.std.proofs.Common.{◌↔◌, ◌≡◌, ◌≤◌, ℕ, pos, negsuc, ltb, Bool, true, false, ◌||◌, if◌then◌else◌, arith, List, [], ◌∷◌, Option, Some, None, unwrap_or, refl}
 use Rattle.std.specs.Option.{option_map_or, option_and_then}
 use Rattle.std.proofs.lemmas.Bool.{le-ltb, ltb-false, or_parts}
 use Rattle.toml.specs.Data.{Data, string, integer, float, boolean, datetime, array, table, no_items, Members, get_member, as_integer, as_table}
 use Rattle.j39_id.specs.Limits.{message_bytes}
-use Rattle.j39_network.specs.declared.plan.flow_plan.FlowPlan.{FlowPlan}
 use Rattle.j39_network.specs.declared.plan.group_plan.GroupPlan.{GroupPlan}
 use Rattle.j39_plan.specs.declared.reading.version.Version.TheVariants.{Second, Third}
 use Rattle.j39_plan.specs.declared.reading.key.Key.{Key}
@@ -14,16 +13,15 @@ use Rattle.j39_plan.specs.declared.reading.place.Table.{Table}
 use Rattle.j39_plan.specs.declared.reading.place.Table.TheVariants as at
 use Rattle.j39_plan.specs.declared.reading.text_kind.TextKind.TheVariants as texts
 use Rattle.j39_plan.specs.Words.{word_of}
-use Rattle.j39_plan.specs.Schema.{number, has_key, given_number, tables_of}
+use Rattle.j39_plan.specs.Schema.{number, has_key, tables_of}
 use Rattle.j39_tables.specs.Rules.{natural, standing, number_of, flag_of, number_found, array_found, truth, integer_in, array_up_to}
 use Rattle.j39_tables.specs.TableFaults.{fault, standing_cause, key_faults, table_only_faults, is_key_word}
 use Rattle.j39_plan.specs.Since.{known_faults, versioned_faults}
-use Rattle.j39_tables.specs.InOrder.{inside, Each}
+use Rattle.j39_tables.specs.InOrder.{inside}
 use Rattle.j39_plan.specs.LabelsSeen.{label_in, label_rule, repeated_faults}
 use Rattle.j39_plan.specs.SignalTables.{signal_faults, IsMeaningOf, IsSignalOf}
 use Rattle.j39_plan.specs.GroupTables.{pgn_rule, priority_rule, length_rule, private_rule, private_of, most_rule, most_of, every_rule, every_of, signal_rule, text_rule, text_tables_of, first_rules, inner_rules, signals_faults, texts_faults, group_keys_faults, group_table_faults, group_faults, IsGroupOf}
-use Rattle.j39_plan.specs.TextTables.{IsTextOf}
-use Rattle.j39_plan.specs.FlowTables.{period_of, given_deadline, given_period, deadline_rule, flow_rules, flow_table_faults, flow_faults, IsFlowOf}
+use Rattle.j39_plan.specs.FlowTables.{period_of, given_deadline, given_period, deadline_rule, flow_rules, flow_table_faults, flow_faults}
 use Rattle.j39_plan.specs.Versions.{third_group_keys, IsSecondSignal, IsSecondGroup, IsSecondFlow}
 use Rattle.j39_plan.proofs.SameParts.{SameGroup, SameFlow, signal_both, meaning_both, group_both}
 use Rattle.j39_plan.proofs.Absent.{lacked, IsNone, only_same, Alike, alike_both, alike_between, alike_behind, alike_unknown, alike_inside, alike_each, told_alike}

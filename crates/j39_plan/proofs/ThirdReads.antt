@@ -1,9 +1,8 @@
 -- A plan of version 3 in which nothing stands that the second doesn't know is read as one of version 2.
-use Rattle.std.proofs.Common.{◌≡◌, ℕ, true, false, arith, suc, List, [], ◌∷◌, ◌++◌, Option, None, Some, refl, sym, ap, ◌∙◌}
+use Rattle.std.proofs.Common.{◌≡◌, ℕ, arith, suc, List, [], ◌∷◌, ◌++◌, None, refl, sym, ap, ◌∙◌}
 use Rattle.toml.specs.Data.{Data, Items, no_items, item, Members, get_member}
 use Rattle.j39_network.specs.declared.plan.Plan.{Plan}
 use Rattle.j39_network.specs.declared.plan.timing.Timing.{Timing}
-use Rattle.j39_network.specs.declared.plan.unit_plan.UnitPlan.{UnitPlan}
 use Rattle.j39_plan.specs.declared.reading.version.Version.TheVariants.{Second, Third}
 use Rattle.j39_plan.specs.PlanErrors.{PlanFault}
 use Rattle.j39_plan.specs.declared.reading.key.Key.{Key}
@@ -18,12 +17,11 @@ use Rattle.j39_plan.specs.Since.{known_faults}
 use Rattle.j39_tables.specs.InOrder.{each_faults, inside}
 use Rattle.j39_plan.specs.LabelsSeen.{label_in}
 use Rattle.j39_plan.specs.UnitTables.{IsUnitOf, name_faults, name_fields_of, name_of, unit_faults, unit_label_in, unit_table_faults}
-use Rattle.j39_plan.specs.TimingTables.{TellsTiming}
 use Rattle.j39_plan.specs.declared.reading.version.Version.{Version}
 use Rattle.j39_plan.specs.GroupTables.{IsGroupOf, group_faults}
 use Rattle.j39_plan.specs.FlowTables.{IsFlowOf, flow_faults}
 use Rattle.j39_plan.specs.PlanFaults.{version_rule, keep_free_rule, strangers_of, strangers_faults, live_of, live_faults, timing_rule, units_rule, groups_rule, flows_rule, version_of, head_faults, timing_faults, array_rules, top_faults, unit_labels, group_labels, units_faults, groups_faults, flows_faults, needs_faults, requests_faults, no_label, faults}
-use Rattle.j39_plan.specs.Described.{keep_free_of, TellsPlan}
+use Rattle.j39_plan.specs.Described.{keep_free_of}
 use Rattle.j39_plan.specs.Versions.{with_version, Lacks, IsSecondGroup, IsSecondFlow, IsSecondPlan, ReadAlike}
 use Rattle.j39_plan.proofs.Absent.{lacked, IsNone, only_same, Alike, alike_both, alike_unknown, alike_each, told_alike}
 use Rattle.j39_plan.proofs.KnownVersions.{version_unfaulted, knows_3, knows_2, each_nothing, each_both}

@@ -1,6 +1,6 @@
 -- The tables of flows. Since the third version it is known how often a flow is sent, since the fourth also how far behind its moments, for how long it
 -- is silent, and whether it is sent on request alone.
-use Rattle.std.specs.Prelude.{◌≡◌, ℕ, pos, ◌-◌, List, [], ◌∷◌, ◌++◌, Bool, true, false, ◌&&◌, ◌||◌, if◌then◌else◌, Option}
+use Rattle.std.specs.Prelude.{◌≡◌, ℕ, ◌-◌, List, [], ◌∷◌, ◌++◌, Bool, false, ◌&&◌, ◌||◌, if◌then◌else◌, Option}
 use Rattle.std.specs.Prelude.{Some, None, IfSome, option_map, option_and_then, codes, is_some, position}
 use Rattle.std.specs.Str.{bytes_eq}
 use Rattle.std.specs.Option.{option_map_or}

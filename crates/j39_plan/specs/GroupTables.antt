@@ -1,6 +1,6 @@
 -- The tables of groups. Since the third version it is known whether a group's number is a maker's own, the length of its longest messages, how far apart
 -- its records stand, and texts; since the fourth, selectors.
-use Rattle.std.specs.Prelude.{◌≡◌, ℕ, List, [], ◌++◌, ◌∷◌, Bool, false, if◌then◌else◌, Option, Some, None, is_some, map}
+use Rattle.std.specs.Prelude.{◌≡◌, ℕ, List, [], ◌++◌, ◌∷◌, Bool, false, if◌then◌else◌, Option, Some, None, is_some}
 use Rattle.std.specs.Option.{option_map_or}
 use Rattle.toml.specs.Data.{Data, Items, no_items, Members, as_table}
 use Rattle.j39_plan.specs.Words.{word_of}

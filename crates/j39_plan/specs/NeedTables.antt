@@ -5,6 +5,7 @@ use Rattle.std.specs.Option.{option_map_or}
 use Rattle.toml.specs.Data.{Data, Items, no_items, item, Members, as_table}
 use Rattle.j39_network.specs.declared.plan.group_plan.GroupPlan.{GroupPlan}
 use Rattle.j39_network.specs.declared.plan.need_plan.NeedPlan.{NeedPlan}
+use Rattle.j39_plan.specs.Words.{word_of}
 use Rattle.j39_plan.specs.declared.reading.key.Key.TheVariants as key
 use Rattle.j39_plan.specs.declared.reading.place.Table.TheVariants as at
 use Rattle.j39_plan.specs.PlanErrors.{PlanFault}
@@ -66,7 +67,7 @@ IsNeedOf groups signals units d need = TellsNeed groups signals units (inside d)
 
 -- behind the faults of the keys, texts that name no unit, no group, no signal of this group and no unit
 unfoldable pub need_table_faults : List (List ℕ) → List (List (List ℕ)) → List (List ℕ) → ℕ → Members → List PlanFault
-need_table_faults groups signals units i ms = table_faults (at.Need i) need_rules ms
+need_table_faults groups signals units i ms = table_faults word_of (at.Need i) need_rules ms
     ++ (place_faults (at.Need i) key.Unit units (found_text need_unit_rule ms)
     ++ (place_faults (at.Need i) key.Group groups (found_text need_group_rule ms)
     ++ (place_faults (at.Need i) key.Signal (signals_at signals (named_group groups ms)) (found_text need_signal_rule ms)

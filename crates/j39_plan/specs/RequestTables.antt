@@ -3,6 +3,7 @@ use Rattle.std.specs.Prelude.{◌≡◌, ℕ, List, [], ◌∷◌, ◌++◌, Som
 use Rattle.std.specs.Option.{option_map_or}
 use Rattle.toml.specs.Data.{Data, Members, as_table}
 use Rattle.j39_network.specs.declared.plan.request_plan.RequestPlan.{RequestPlan}
+use Rattle.j39_plan.specs.Words.{word_of}
 use Rattle.j39_plan.specs.declared.reading.key.Key.TheVariants as key
 use Rattle.j39_plan.specs.declared.reading.place.Table.TheVariants as at
 use Rattle.j39_plan.specs.PlanErrors.{PlanFault}
@@ -43,7 +44,7 @@ IsRequestOf groups units d r = TellsRequest groups units (inside d) r
 
 -- behind the faults of the keys, texts that name no group, no unit that asks, and nobody to ask
 unfoldable pub request_table_faults : List (List ℕ) → List (List ℕ) → ℕ → Members → List PlanFault
-request_table_faults groups units i ms = table_faults (at.Request i) request_rules ms
+request_table_faults groups units i ms = table_faults word_of (at.Request i) request_rules ms
     ++ (place_faults (at.Request i) key.Group groups (found_text asked_group_rule ms)
     ++ (place_faults (at.Request i) key.From units (found_text asker_rule ms)
     ++ receiver_faults (at.Request i) units (found_text asked_rule ms)))

@@ -1,5 +1,5 @@
 -- What the tables of a plan file ask of their keys, and what stands at these.
-use Rattle.std.specs.Prelude.{ℕ, ℤ, pos, List, [], Bool, true, false, if◌then◌else◌, Option, Some, is_some, option_map, option_and_then, unwrap_or}
+use Rattle.std.specs.Prelude.{ℕ, ℤ, pos, List, Bool, true, false, if◌then◌else◌, Option, Some, is_some, option_map, option_and_then, unwrap_or}
 use Rattle.std.specs.FinSet.{FinSet, from_list}
 use Rattle.std.specs.Ordering.{nat_cmp}
 use Rattle.toml.specs.Data.{string, integer, boolean, array, Items, no_items, Members, get_member, as_array}

@@ -3,6 +3,7 @@ use Rattle.std.specs.Prelude.{◌≡◌, ℕ, ◌-◌, ◌^◌, List, [], ◌∷
 use Rattle.std.specs.Option.{option_map_or}
 use Rattle.toml.specs.Data.{Members}
 use Rattle.j39_signal.specs.declared.selector.Selector.{Selector}
+use Rattle.j39_plan.specs.Words.{word_of}
 use Rattle.j39_plan.specs.declared.reading.key.Key.TheVariants as key
 use Rattle.j39_plan.specs.declared.reading.place.Table.TheVariants as at
 use Rattle.j39_plan.specs.PlanErrors.{PlanFault}
@@ -31,7 +32,7 @@ pub record TellsSelector (ms : Members) (w : Selector) : Type 0 where
   pub has_value : w.value ≡ number_of (selector_value_rule (number_of selector_bits_rule ms)) ms
 
 unfoldable pub selector_table_faults : ℕ → Members → List PlanFault
-selector_table_faults g ms = table_faults (at.GroupWhen g) (selector_rules ms) ms
+selector_table_faults g ms = table_faults word_of (at.GroupWhen g) (selector_rules ms) ms
 
 -- ---- in the table of a group
 

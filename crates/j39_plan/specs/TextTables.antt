@@ -4,6 +4,7 @@ use Rattle.std.specs.Option.{option_map_or}
 use Rattle.toml.specs.Data.{Data, Members, as_table}
 use Rattle.j39_id.specs.Limits.{message_bytes}
 use Rattle.j39_network.specs.declared.plan.text_plan.TextPlan.{TextPlan}
+use Rattle.j39_plan.specs.Words.{word_of}
 use Rattle.j39_plan.specs.declared.reading.key.Key.TheVariants as key
 use Rattle.j39_plan.specs.declared.reading.place.Table.{Table}
 use Rattle.j39_plan.specs.declared.reading.place.Table.TheVariants as at
@@ -32,7 +33,7 @@ abbrev pub IsTextOf : Data → TextPlan → Type 0
 IsTextOf d t = TellsText (inside d) t
 
 unfoldable pub text_table_faults : Table → Members → List PlanFault
-text_table_faults at ms = table_faults at text_rules ms
+text_table_faults at ms = table_faults word_of at text_rules ms
 
 -- the faults of the i-th text of the g-th group, behind signals with some labels and texts with those seen
 unfoldable pub text_faults : List (List ℕ) → ℕ → ℕ → List (List ℕ) → Data → List PlanFault

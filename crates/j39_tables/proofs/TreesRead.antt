@@ -1,5 +1,5 @@
 -- From the tree of a text to what reading it answers.
-use Rattle.std.proofs.Common.{◌≡◌, ◌≢◌, ℕ, [], suc, length, sym, ◌∙◌, subst, refl, IsErrOf}
+use Rattle.std.proofs.Common.{◌≡◌, ℕ, [], suc, length, sym, ◌∙◌, subst, refl, IsErrOf}
 use Rattle.std.proofs.Common.{true, false, List, Option, Some, None, Result, Ok, Err}
 use Rattle.std.specs.Prelude.{IsUtf8}
 use Rattle.std.specs.Str.{is_utf8}
@@ -60,8 +60,8 @@ never_blank Grows text t never is grows = λ blank.
     never (subst Grows empty grows)
 
 -- where a tree is read that asks for no room if it is empty, room is asked for of more than a blank text
-pub room_asked : {X F : Type 0} (faults : Members → List F) (Tells : Members → X → Type 0) (Grows : Members → Type 0) (r : Result X (FileError F)) (bytes : List ℕ)
-    (t : Members) → ¬ Grows no_members → tree_of bytes ≡ Some t → GivesGrowing (Grows t) r (faults t) (Tells t) → IsErrOf r errors.Memory → MayAskForRoom bytes
+pub room_asked : {X F : Type 0} (faults : Members → List F) (Tells : Members → X → Type 0) (Grows : Members → Type 0)
+    (r : Result X (FileError F)) (bytes : List ℕ) (t : Members) → ¬ Grows no_members → tree_of bytes ≡ Some t → GivesGrowing (Grows t) r (faults t) (Tells t) → IsErrOf r errors.Memory → MayAskForRoom bytes
 room_asked faults Tells Grows (Ok x) bytes t never is gives memory = cc
 room_asked {F = F} faults Tells Grows (Err e) bytes t never is gives memory =
     let same : e ≡ errors.Memory = cc in

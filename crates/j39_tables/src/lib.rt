@@ -1,4 +1,4 @@
-//! Tables of TOML files by lists of rules: what stands at their keys, and the first fault and its place where a rule is broken.
+//! Tables of TOML files by lists of rules: what stands at their keys, and the first fault where a rule is broken.
 #![tactic(auto)]
 
 mod cause;

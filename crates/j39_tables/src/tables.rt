@@ -24,7 +24,8 @@ pub fn given_array<'a, T: Copy, K: FileKey>(
     limit: usize,
     is_required: bool,
 ) -> Result<Option<&'a [Value]>, FileError<TableFault<T, K>>>
-    ensures gives { Gives result (key_faults table (table_view members.now) (rule_of K.word key (array_up_to limit) is_required))
+    ensures gives { let rule = rule_of K.word key (array_up_to limit) is_required in
+        Gives result (key_faults table (table_view members.now) rule)
         (λ found. array_found K.word key (table_view members.now) ≡ option_map (λ vs. items_view vs.now) found) }
     ensures count { IfOk result (λ found. IfSome found (λ vs. length vs.now ≤ limit)) }
 {
@@ -49,7 +50,8 @@ pub fn given_array<'a, T: Copy, K: FileKey>(
     }
 }
 
-/// The elements of the array at a key, of which there are at most so many: none where the key is absent, unless it is required.
+/// The elements of the array at a key, of which there are at most so many: none where the key is absent, unless it is
+/// required.
 pub fn elements<'a, T: Copy, K: FileKey>(
     members: &'a toml::Table,
     table: T,
@@ -57,7 +59,8 @@ pub fn elements<'a, T: Copy, K: FileKey>(
     limit: usize,
     is_required: bool,
 ) -> Result<&'a [Value], FileError<TableFault<T, K>>>
-    ensures gives { Gives result (key_faults table (table_view members.now) (rule_of K.word key (array_up_to limit) is_required))
+    ensures gives { let rule = rule_of K.word key (array_up_to limit) is_required in
+        Gives result (key_faults table (table_view members.now) rule)
         (λ vs. items_view vs.now ≡ elements_found K.word key (table_view members.now)) }
     ensures count { IfOk result (λ vs. length vs.now ≤ limit) }
 {
@@ -84,7 +87,8 @@ fn is_named<K: FileKey>(name: &str, keys: &[K]) -> bool
 }
 
 fn has_only<K: FileKey>(members: &toml::Table, keys: &[K]) -> bool
-    ensures { result ≡ list_all (λ name. is_key_word K.word keys.now (string_bytes name)) (keys_of members.now.entries) }
+    ensures { result
+        ≡ list_all (λ name. is_key_word K.word keys.now (string_bytes name)) (keys_of members.now.entries) }
 {
     members.keys().all(|name| is_named(name.as_str(), keys))
 }

@@ -6,7 +6,8 @@ use crate::FileError;
 use std::alloc::Global;
 use std::str;
 
-/// The tree of a file: TOML of UTF-8 bytes. Takes no memory of bytes that are no UTF-8, or white space and comments alone.
+/// The tree of a file: TOML of UTF-8 bytes. Takes no memory of bytes that are no UTF-8, or white space and comments
+/// alone.
 pub fn read_tree<F: Copy>(alloc: Global, bytes: &[u8]) -> Result<toml::Table, FileError<F>>
     ensures { FindsTree table_view bytes.now result }
 {

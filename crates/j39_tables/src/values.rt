@@ -32,7 +32,8 @@ pub fn given_number<T: Copy, K: FileKey>(
     high: u32,
     is_required: bool,
 ) -> Result<Option<u32>, FileError<TableFault<T, K>>>
-    ensures gives { Gives result (key_faults table (table_view members.now) (rule_of K.word key (natural_in low high) is_required))
+    ensures gives { let rule = rule_of K.word key (natural_in low high) is_required in
+        Gives result (key_faults table (table_view members.now) rule)
         (λ given. given ≡ number_found K.word key (table_view members.now)) }
     ensures at_least { IfOk result (λ given. IfSome given (λ n. low ≤ n)) }
     ensures at_most { IfOk result (λ given. IfSome given (λ n. n ≤ high)) }
@@ -66,7 +67,8 @@ pub fn given_text<'a, T: Copy, K: FileKey, P: TextForm>(
     key: K,
     form: P,
 ) -> Result<Option<&'a str>, FileError<TableFault<T, K>>>
-    ensures { Gives result (key_faults table (table_view members.now) (rule_of K.word key (text_where P.fits form) false))
+    ensures { let rule = rule_of K.word key (text_where P.fits form) false in
+        Gives result (key_faults table (table_view members.now) rule)
         (λ found. option_map (λ t. t.now) found ≡ text_found K.word key (table_view members.now)) }
 {
     match value_at(members, key) {
@@ -92,7 +94,8 @@ pub fn required_text<'a, T: Copy, K: FileKey, P: TextForm>(
     key: K,
     form: P,
 ) -> Result<&'a str, FileError<TableFault<T, K>>>
-    ensures gives { Gives result (key_faults table (table_view members.now) (rule_of K.word key (text_where P.fits form) true))
+    ensures gives { let rule = rule_of K.word key (text_where P.fits form) true in
+        Gives result (key_faults table (table_view members.now) rule)
         (λ t. Some t.now ≡ text_found K.word key (table_view members.now)) }
     ensures taken { IfOk result (λ t. P.fits form t.now ≡ true) }
 {

@@ -4,7 +4,7 @@ use Rattle.j39_stream.specs.CommandEnds.{PutsText}
 use Rattle.j39_stream.specs.Streams.{SinkState}
 use Rattle.j39_stream.specs.declared.fault.Fault.{Fault as StreamFault}
 use Rattle.j39_stream.specs.declared.verdict.Verdict.{Verdict}
-use Rattle.j39_vehicle.specs.Outcome.{FailsGrowing}
+use Rattle.j39_tables.specs.Outcome.{FailsGrowing}
 use Rattle.j39_vehicle.specs.Resolved.{found_faults}
 use Rattle.j39_vehicle.specs.declared.file.VehicleFile.{VehicleFile}
 use Rattle.j39_vehicle.specs.VehicleErrors.{VehicleError}

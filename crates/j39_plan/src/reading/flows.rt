@@ -1,5 +1,5 @@
 //! The flows of a plan.
-ghost use Rattle.std.specs.Prelude.{◌≡◌, ◌≤◌, [], map, Some, IfOk, IfSome};
+ghost use Rattle.std.specs.Prelude.{◌≡◌, ◌≤◌, ◌++◌, [], map, Some, IfOk, IfSome};
 ghost use Rattle.std.specs.Option.{ForSome};
 ghost use Rattle.toml.specs.View.{table_view};
 ghost use Rattle.j39_tables.specs.Outcome.{Gives};
@@ -203,6 +203,39 @@ fn known_rhythm(members: &toml::Table, table: Table, version: Version) -> Result
     })
 }
 
+// What a flow is sent of, by whom and to whom.
+#[derive(Clone, Copy)]
+struct FlowEnds {
+    group: usize,
+    sender: usize,
+    to: To,
+}
+
+// What the texts of a flow name.
+#[tactic(auto, using(j39_tables::proofs::FirstFaults::faults_after))]
+fn ends(
+    groups: &[GroupPlan],
+    units: &[UnitPlan],
+    table: Table,
+    group: &str,
+    sender: &str,
+    receivers: &str,
+) -> Result<FlowEnds, PlanError>
+    ensures { let group_labels = map (λ g. g.label.bytes) groups.now in
+        let unit_labels = map (λ u. u.label.bytes) units.now in
+        Gives result (spec.place_faults table Key.Group group_labels (Some group.now)
+        ++ (spec.place_faults table Key.From unit_labels (Some sender.now)
+        ++ spec.receiver_faults table unit_labels (Some receivers.now)))
+        (λ e. (spec.place_of group_labels group.now ≡ Some e.group)
+        × (spec.place_of unit_labels sender.now ≡ Some e.sender)
+        × (spec.receivers unit_labels receivers.now ≡ Some e.to)) }
+{
+    let group = place(groups, group, table, Key::Group)?;
+    let sender = place(units, sender, table, Key::From)?;
+    let to = to(units, receivers, table)?;
+    Ok(FlowEnds { group, sender, to })
+}
+
 /// The reader of flows between units.
 #[derive(Clone, Copy)]
 pub struct FlowReader<'a> {
@@ -230,13 +263,11 @@ fn flow(
     let from_text = required_text(members, table, Key::From, TextKind::Any)?;
     let to_text = required_text(members, table, Key::To, TextKind::Any)?;
     let rhythm = known_rhythm(members, table, version)?;
-    let group = place(groups, group_text, table, Key::Group)?;
-    let sender = place(units, from_text, table, Key::From)?;
-    let to = to(units, to_text, table)?;
+    let ends = ends(groups, units, table, group_text, from_text, to_text)?;
     Ok(FlowPlan {
-        group,
-        sender,
-        to,
+        group: ends.group,
+        sender: ends.sender,
+        to: ends.to,
         pace: rhythm.pace,
         pause: rhythm.pause,
         on_request: rhythm.on_request,

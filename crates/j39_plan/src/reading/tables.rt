@@ -1,12 +1,12 @@
 //! Tables and arrays of tables.
-ghost use Rattle.std.specs.Prelude.{◌≡◌, string_bytes, Some, option_map, map};
+ghost use Rattle.std.specs.Prelude.{◌≡◌, string_bytes, Some, option_map};
 ghost use Rattle.std.specs.List.{list_all};
 ghost use Rattle.std.specs.Map.{keys_of};
 ghost use Rattle.toml.specs.Data.{as_table};
-ghost use Rattle.toml.specs.View.{view, table_view, items_view};
+ghost use Rattle.toml.specs.View.{table_view, items_view};
 ghost use Rattle.j39_plan.specs.Words.{word_of};
 ghost use Rattle.j39_plan.specs.Schema as schema;
-ghost use Rattle.j39_tables.specs.TableFaults.{is_key_word, key_faults, table_only_faults, unknown_faults};
+ghost use Rattle.j39_tables.specs.TableFaults.{key_faults, unknown_faults};
 ghost use Rattle.j39_plan.specs.Since.{is_known_word, known_keys};
 ghost use Rattle.j39_tables.specs.Outcome.{Gives};
 
@@ -93,7 +93,8 @@ pub fn only_known(
     version: Version,
     keys: &[(Key, Version)],
 ) -> Result<(), PlanError>
-    ensures { Gives result (unknown_faults word_of table (known_keys version keys.now) (table_view members.now)) (λ _. Unit {0}) }
+    ensures { let known = known_keys version keys.now in
+        Gives result (unknown_faults word_of table known (table_view members.now)) (λ _. Unit {0}) }
 {
     if has_known(members, version, keys) {
         Ok(())

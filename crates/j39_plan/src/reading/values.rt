@@ -1,14 +1,12 @@
 //! The values of a table's keys.
-ghost use Rattle.std.specs.Prelude.{◌≡◌, ℕ, true, false, if◌then◌else◌, Some, None, List, option_map, IfSome, IfOk, ◌≤◌, ◌≤ℤ◌, length};
+ghost use Rattle.std.specs.Prelude.{◌≡◌, ℕ, true, false, if◌then◌else◌, Some, None, List, IfSome, IfOk, ◌≤◌, ◌≤ℤ◌, length};
 ghost use Rattle.std.specs.Option.{option_copied};
-ghost use Rattle.toml.specs.Data.{get_member};
-ghost use Rattle.toml.specs.View.{view, table_view};
+ghost use Rattle.toml.specs.View.{table_view};
 ghost use Rattle.j39_tables.specs.Rules.{flag_of, integer_of, natural, number_of, text_of};
 ghost use Rattle.j39_signal.specs.Parts.{IsDivisor};
-ghost use Rattle.j39_plan.specs.Words.{word_of};
 ghost use Rattle.j39_plan.specs.TextKinds.{takes};
 ghost use Rattle.j39_plan.specs.Schema as schema;
-ghost use Rattle.j39_tables.specs.TableFaults.{fault, key_faults};
+ghost use Rattle.j39_tables.specs.TableFaults.{key_faults};
 ghost use Rattle.j39_plan.specs.ValueCauses.{is_bitrate};
 ghost use Rattle.j39_tables.specs.Outcome.{Gives};
 

@@ -103,7 +103,8 @@ fn sent_keys(members: &toml::Table, table: Table) -> Result<SentKeys<'_>, Vehicl
 
 #[tactic(auto, using(j39_tables::proofs::FirstFaults::faults_after))]
 fn keys(members: &toml::Table, table: Table) -> Result<ForwardKeys<'_>, VehicleError>
-    ensures { Gives result (table_faults word_of table spec.forward_rules (table_view members.now)) (λ k. let ms = table_view members.now in
+    ensures { let ms = table_view members.now in
+        Gives result (table_faults word_of table spec.forward_rules ms) (λ k.
         (text_at Key.Gateway ms ≡ Some k.gateway.now) × (text_at Key.Group ms ≡ Some k.input.now)
         × (text_at Key.From ms ≡ option_map (λ t. t.now) k.from) × (text_at Key.At ms ≡ option_map (λ t. t.now) k.at)
         × (text_at Key.As ms ≡ Some k.sent.output.now) × (text_at Key.By ms ≡ option_map (λ t. t.now) k.sent.by)

@@ -37,7 +37,8 @@ struct NeedKeys<'a> {
 
 #[tactic(auto, using(j39_tables::proofs::FirstFaults::faults_after))]
 fn keys(members: &toml::Table, table: Table) -> Result<NeedKeys<'_>, VehicleError>
-    ensures { Gives result (table_faults word_of table spec.need_rules (table_view members.now)) (λ k. let ms = table_view members.now in
+    ensures { let ms = table_view members.now in
+        Gives result (table_faults word_of table spec.need_rules ms) (λ k.
         (text_at Key.Unit ms ≡ Some k.unit.now) × (text_at Key.Group ms ≡ Some k.group.now)
         × (text_at Key.Signal ms ≡ option_map (λ t. t.now) k.signal) × (text_at Key.From ms ≡ Some k.from.now)
         × (k.within ≡ number_under Key.Within ms)) }

@@ -22,7 +22,8 @@ pub fn number(
     high: u16,
     is_needed: bool,
 ) -> Result<Option<u16>, VehicleError>
-    ensures gives { Gives result (key_faults table (table_view members.now) (schema.rule key (natural_in low high) is_needed))
+    ensures gives { let rule = schema.rule key (natural_in low high) is_needed in
+        Gives result (key_faults table (table_view members.now) rule)
         (λ given. given ≡ schema.number_under key (table_view members.now)) }
     ensures at_least { IfOk result (λ given. IfSome given (λ n. low ≤ n)) }
 {

@@ -13,7 +13,7 @@ pub trait Resolve<S, T> {
     ghost use Rattle.j39_vehicle.specs.VehicleErrors.{VehicleFault};
 
     // The faults of the table of a place.
-    ghost faults: { Self → ℕ → S → List FileFault };
+    ghost faults: { Self → ℕ → S → List VehicleFault };
 
     // Where room is asked for.
     ghost Grows: { Self → ℕ → S → Type 0 };

@@ -172,13 +172,16 @@ returns-in_err-requests c =
     (fails_on _ _ c.in_err-requests.field-0.0 _ _ (λ grows. (refl, inr (refl, inr (refl, inr (refl, inr (refl, grows)))))) (λ f is. is) fails))
 
 pub invariant_of-result-clause-unit_count : goal.invariant_of-result-clause-unit_count
-invariant_of-result-clause-unit_count c = rw (length-Each _ _ _ c.in_ok-units.ensures.gives.1, c.in_ok-unit_values.ensures.1) (tables_count key.Unit unit_limit _)
+invariant_of-result-clause-unit_count c =
+    rw (length-Each _ _ _ c.in_ok-units.ensures.gives.1, c.in_ok-unit_values.ensures.1) (tables_count key.Unit unit_limit _)
 
 pub invariant_of-result-clause-group_count : goal.invariant_of-result-clause-group_count
-invariant_of-result-clause-group_count c = rw (length-Each _ _ _ c.in_ok-groups.ensures.gives.1, c.in_ok-group_values.ensures.1) (tables_count key.Group group_limit _)
+invariant_of-result-clause-group_count c =
+    rw (length-Each _ _ _ c.in_ok-groups.ensures.gives.1, c.in_ok-group_values.ensures.1) (tables_count key.Group group_limit _)
 
 pub invariant_of-result-clause-flow_count : goal.invariant_of-result-clause-flow_count
-invariant_of-result-clause-flow_count c = rw (length-Each _ _ _ c.in_ok-flows.ensures.gives.1, c.in_ok-flow_values.ensures.1) (tables_count key.Flow flow_limit _)
+invariant_of-result-clause-flow_count c =
+    rw (length-Each _ _ _ c.in_ok-flows.ensures.gives.1, c.in_ok-flow_values.ensures.1) (tables_count key.Flow flow_limit _)
 
 pub invariant_of-result-clause-need_count : goal.invariant_of-result-clause-need_count
 invariant_of-result-clause-need_count c =
@@ -219,10 +222,12 @@ pub invariant_of-result-clause-request_groups : goal.invariant_of-result-clause-
 invariant_of-result-clause-request_groups c = request_groups _ _ _ _ (rw (c.deref-5.ensures.value, c.deref-6.ensures.value) at c.in_ok-requests.ensures.gives.1)
 
 pub invariant_of-result-clause-request_senders : goal.invariant_of-result-clause-request_senders
-invariant_of-result-clause-request_senders c = request_senders _ _ _ _ (rw (c.deref-5.ensures.value, c.deref-6.ensures.value) at c.in_ok-requests.ensures.gives.1)
+invariant_of-result-clause-request_senders c =
+    request_senders _ _ _ _ (rw (c.deref-5.ensures.value, c.deref-6.ensures.value) at c.in_ok-requests.ensures.gives.1)
 
 pub invariant_of-result-clause-request_receivers : goal.invariant_of-result-clause-request_receivers
-invariant_of-result-clause-request_receivers c = request_receivers _ _ _ _ (rw (c.deref-5.ensures.value, c.deref-6.ensures.value) at c.in_ok-requests.ensures.gives.1)
+invariant_of-result-clause-request_receivers c =
+    request_receivers _ _ _ _ (rw (c.deref-5.ensures.value, c.deref-6.ensures.value) at c.in_ok-requests.ensures.gives.1)
 
 pub returns : goal.returns
 returns c =

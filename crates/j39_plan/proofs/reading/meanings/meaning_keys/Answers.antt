@@ -4,7 +4,6 @@ use Rattle.toml.specs.Data.{Members, no_members}
 use Rattle.j39_tables.specs.Rules.{table_found}
 use Rattle.j39_plan.specs.declared.reading.version.Version.TheVariants.{Fourth}
 use Rattle.j39_plan.specs.Since.{is_known}
-use Rattle.j39_plan.specs.Schema.{table_of}
 use Rattle.j39_plan.proofs.reading.meanings.meaning_keys.Goals as goal
 
 pub returns-clause-gives : goal.returns-clause-gives
