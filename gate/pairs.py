@@ -80,6 +80,8 @@ PAIRS = (
     )),
     Pair("a long message to one unit has no receiver", "flow_loads::packet_frames", KEPT, (
         Turn("specs/Loads.antt", "any_receiver = any_unit units v;", "any_receiver = None;"),
+        Turn("proofs/Sending.antt", "placed w (two_ends units flow.sender v w is);", "placed w (one_end units flow.sender w is);"),
+        Turn("proofs/Sending.antt", "(λ flow v pace packets. two_none flow.sender v)", "(λ flow v pace packets. one_none flow.sender)"),
         Turn("src/flow_loads.rt", "any_receiver: any_unit(network, unit),", "any_receiver: None,"),
     )),
     Pair("the last identifier of a long message leaves out its answers", "identifiers::session_ident", KEPT, (
