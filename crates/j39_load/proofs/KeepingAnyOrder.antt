@@ -195,7 +195,7 @@ module _ (plan : Plan) (timing : Timing) (stays : UnitPlan → Bool) (tells : Te
         (broadcast_made plan timing clean s held t (keeps.held_apart t) sent.broadcasts 60160 v w other q (inr refl) y.0 at_q) same).1 is
 
     -- a unit without order takes part in each message of the company
-    any_of : (p : ℕ) (in_p : p < s.count) (is : planned p ≡ true) → has (place_of plan (sent.source p)) ≡ true → TakesAny plan (sent.source p)
+    pub any_of : (p : ℕ) (in_p : p < s.count) (is : planned p ≡ true) → has (place_of plan (sent.source p)) ≡ true → TakesAny plan (sent.source p)
     any_of p in_p is of_it = (one p in_p is).of_any member (subst (λ (f : FlowFrames). is_of f ≡ true) (asked_there p in_p is) of_it)
 
     company_kept : KeepToCompany timing s planned (origins_of plan sent) (company_of timing asks around level)

@@ -1,11 +1,11 @@
 -- A bus can keep to a plan in the plan's own words: one flow of it alone, whose frames come one behind the other, in time or as late as its
 -- jitter allows, undamaged or with the first one damaged once.
-use Rattle.std.proofs.Common.{◌≡◌, ℕ, ◌+◌, ◌*◌, ◌^◌, ◌%◌, ◌<◌, ◌≤◌, ◌⊎◌, Bool, true, false, not, ◌&&◌, cond, if◌then◌else◌, ltb, nat_le, nat_lt, length, Option, Some}
+use Rattle.std.proofs.Common.{◌≡◌, ℕ, ◌+◌, ◌*◌, ◌^◌, ◌%◌, ◌<◌, ◌≤◌, ◌⊎◌, Bool, true, false, not, ◌&&◌, cond, if◌then◌else◌, ltb, nat_le, nat_lt, length, Option, None, Some}
 use Rattle.std.proofs.Common.{refl, sym, ap, ◌∙◌, subst, inl, inr, arith}
 use Rattle.std.proofs.Math.Nat.{mul-le-mul_left}
 use Rattle.std.proofs.lemmas.Bool.{cases_lt, cond_both, leb-false, lt-ltb, ltb-true, true≢false}
 use Rattle.std.proofs.lemmas.List.{length-map}
-use Rattle.std.proofs.lemmas.Option.{same_Some}
+use Rattle.std.proofs.lemmas.Option.{same_Some, slice_get_cases}
 use Rattle.std.specs.List.{slice_get}
 use Rattle.std.specs.Option.{option_map_or}
 use Rattle.j39_claim.specs.ClaimRule.{PlannedUnit}
@@ -24,7 +24,7 @@ use Rattle.j39_network.specs.declared.plan.to.To.{To}
 use Rattle.j39_network.specs.declared.plan.to.To.TheVariants.{All, One}
 use Rattle.j39_network.specs.declared.plan.unit_plan.UnitPlan.{UnitPlan}
 use Rattle.j39_rules.proofs.Members.{all_at}
-use Rattle.j39_load.specs.KeepsErrors.{KeepsErrors, begins_within, planned_with}
+use Rattle.j39_load.specs.KeepsErrors.{KeepsErrors, KeepsErrorsInAnyOrder, begins_within, planned_with}
 use Rattle.j39_load.specs.KeepsPlan.{CanBeKept, KeepsQueues, KeepsToPlan}
 use Rattle.j39_load.specs.KeptTogether.{CanBeKeptTogether}
 use Rattle.j39_load.specs.Loads.{bits_per_ms, is_any}
@@ -72,6 +72,10 @@ few_bits priority pgn d s top number few_d few_s = go (is_pdu2 pgn) refl
 none_other : (s : Schedule) (planned : ℕ → Bool) → ((p : ℕ) → planned p ≡ true) → (c from to : ℕ) → others_queued s planned c from to ≡ 0
 none_other s planned all c from to = total-none s.count _ (λ p in_p.
     ap (λ (b : Bool). cond (not b && (nat_lt (s.ident p) c && (nat_le (s.queued p) to && nat_lt from (s.start p)))) 1 0) (all p))
+
+none_foreseen : (s : Schedule) (planned : ℕ → Bool) → ((p : ℕ) → planned p ≡ true) → (from to : ℕ) → unplanned_queued s planned from to ≡ 0
+none_foreseen s planned all from to = total-none s.count _ (λ p in_p.
+    ap (λ (b : Bool). cond (not b && (nat_le (s.queued p) to && nat_lt from (s.start p))) 1 0) (all p))
 
 none_unplanned : (s : Schedule) (from to : ℕ) → unplanned_queued s all_planned from to ≡ 0
 none_unplanned s from to = total-none s.count _ (λ p in_p. refl)
@@ -340,6 +344,22 @@ module _ (plan : Plan) (timing : Timing) (apart : ArePlannedApart (units_of plan
         omega (arith, none);
   }
 
+  no_unit : slice_get plan.units.items (length plan.units.items) ≡ None
+  no_unit = elim (slice_get_cases plan.units.items (length plan.units.items)).1 [
+    | inl (unit, below, at, same) ↦ absurd (omega (arith, below))
+    | inr (past, none) ↦ none
+  ]
+
+  late_errors_in_any_order : KeepsErrorsInAnyOrder plan timing late_bus controllers attempt all_planned late_sent
+  late_errors_in_any_order = record {
+    own = length plan.units.items;
+    in_order = ap (λ (o : Option UnitPlan). option_map_or (λ (x : UnitPlan). not (is_any x.queue)) o true) no_unit;
+    few_unplanned = λ p from to u unit in_p is takes at any seen waits wait.
+        let none = none_foreseen (with_errors late_bus attempt) (planned_with late_bus all_planned)
+        (λ q. cond_both (nat_lt q late_bus.count) true true (λ (b : Bool). b ≡ true) (λ _. refl) (λ _. refl)) from to in
+        omega (arith, none);
+  }
+
   pub can_be_kept_together : IsPgn group.pgn → (rate : ErrorRate) → timing.errors ≡ Some rate → CanBeKeptTogether plan timing rate f pace n
   can_be_kept_together number rate told =
       let legal = damaged_first.legal n long_step late (80 + 10 * group.most) ident some_bits room in
@@ -355,6 +375,7 @@ module _ (plan : Plan) (timing : Timing) (apart : ArePlannedApart (units_of plan
         keeps = late_keeps;
         queues = late_queues number;
         errors = late_errors rate told;
+        errors_in_any_order = late_errors_in_any_order;
         frames = refl;
         of_flow = λ p. refl;
         all_planned = λ p. refl;

@@ -66,24 +66,24 @@ zero_parts priority pgn destination source none = go (is_pdu2 pgn) refl none
 module _ (plan : Plan) (timing : Timing) (stays : UnitPlan → Bool) (tells : TellsWhoStays plan stays) (clean : Clean plan) (s : Schedule) (d : Damaged)
     (bus : IsBusWithErrors s d) (planned : ℕ → Bool) (sent : FrameSources) (held : Held) (keeps : KeepsToPlan plan timing s planned sent held)
     (rate : ErrorRate) (errors : KeepsErrors timing rate s d planned sent) where
-  abbrev asks : List (Option FlowFrames)
+  abbrev pub asks : List (Option FlowFrames)
   asks = frames_asked (asked_of timing plan stays)
 
-  abbrev streams : List (Option FlowFrames)
+  abbrev pub streams : List (Option FlowFrames)
   streams = asks ++ damage_frames timing
 
-  abbrev w : Schedule
+  abbrev pub w : Schedule
   w = with_errors s d
 
-  abbrev of : Origins
+  abbrev pub of : Origins
   of = origins_with plan s d rate (length asks) sent
 
-  abbrev is_planned : ℕ → Bool
+  abbrev pub is_planned : ℕ → Bool
   is_planned = planned_with s planned
 
   -- ---- what stands at a place
 
-  record IsFrame (p : ℕ) : Type 0 where
+  pub record IsFrame (p : ℕ) : Type 0 where
     pub below : p < s.count
     pub queued : w.queued p ≡ s.queued p
     pub start : w.start p ≡ s.start p
@@ -95,7 +95,7 @@ module _ (plan : Plan) (timing : Timing) (stays : UnitPlan → Bool) (tells : Te
     pub plans : is_planned p ≡ planned p
 
   -- an attempt, or the error frame behind it
-  abbrev shift : Bool → ℕ
+  abbrev pub shift : Bool → ℕ
   shift error = cond error 1 0
 
   abbrev place : Bool → ℕ → ℕ
@@ -104,7 +104,7 @@ module _ (plan : Plan) (timing : Timing) (stays : UnitPlan → Bool) (tells : Te
   abbrev width : Bool → ℕ
   width error = cond error error_frame (longest_frame 8)
 
-  record IsDamage (p : ℕ) : Type 0 where
+  pub record IsDamage (p : ℕ) : Type 0 where
     pub error : Bool
     pub attempt : ℕ
     pub below : attempt < d.count
@@ -179,7 +179,7 @@ module _ (plan : Plan) (timing : Timing) (stays : UnitPlan → Bool) (tells : Te
         since = rw (behind, back, later, last) refl;
       }
 
-  kinds : (p : ℕ) → p < w.count → IsFrame p ⊎ IsDamage p
+  pub kinds : (p : ℕ) → p < w.count → IsFrame p ⊎ IsDamage p
   kinds p below = elim (cases_lt p s.count) [
     | inl front ↦ inl (frame_at p front)
     | inr behind ↦ elim (cases_lt (p - s.count) d.count) [
@@ -389,7 +389,7 @@ module _ (plan : Plan) (timing : Timing) (stays : UnitPlan → Bool) (tells : Te
   above_zero_of (Announcing u m) moment p ready one = broadcast_above_zero 60416 u m moment p ready one (omega arith) refl
   above_zero_of (Carrying u m k) moment p ready one = broadcast_above_zero 60160 u m moment p ready one.0 (omega arith) refl
 
-  above_zero : (p : ℕ) → p < s.count → planned p ≡ true → 0 < s.ident p
+  pub above_zero : (p : ℕ) → p < s.count → planned p ≡ true → 0 < s.ident p
   above_zero p in_p is = above_zero_of (sent.source p) (sent.moment p) p (bus.queued_first p in_p) (keeps.frames p in_p is)
 
   not_shared : (i : ℕ) → i < length asks → (error : Bool) → may_share (traffic plan timing stays) i (length asks + shift error) ≡ false

@@ -14,7 +14,7 @@ use Rattle.j39_load.specs.declared.waits.delay.Delay.{Delay}
 use Rattle.j39_load.specs.declared.loads.flow_load.FlowLoad.{FlowLoad}
 use Rattle.j39_load.specs.Ages.{old_needs}
 use Rattle.j39_load.specs.Asked.{asked_of, frames_asked, total_load}
-use Rattle.j39_load.specs.KeepsErrors.{AreInTimeWithErrors, origins_with, planned_with}
+use Rattle.j39_load.specs.KeepsErrors.{AreInTimeWithErrors, AreInTimeWithErrorsInAnyOrder, origins_with, planned_with}
 use Rattle.j39_load.specs.KeepsPlan.{AreFramesInTime, AreSentInTime, IsSingleFlow, KeepsToPlan, origins_of, place_of}
 use Rattle.j39_load.specs.LoadFindings.{AreLoadFindings, AsksOfBus, load_findings}
 use Rattle.j39_load.specs.Loads.{bits_per_ms, deadline_of, time_limit}
@@ -22,14 +22,15 @@ use Rattle.j39_load.specs.PlannedFrames.{IsBounded}
 use Rattle.j39_load.specs.SentFrames.{FrameSources, Held, IsFrameOf, IsMsBefore, IsSingleFrame, IsWithinMs, Single, Source, bit_time}
 use Rattle.j39_load.proofs.BoundedFlows.{short_bounded}
 use Rattle.j39_load.proofs.KeepingErrors.{frames_in_time, keeps_with_errors}
+use Rattle.j39_load.proofs.KeepingAnyErrors.{keeps_any_with_errors}
 use Rattle.j39_load.proofs.KeepingAnyOrder.{keeps_in_any_order}
 use Rattle.j39_load.proofs.PlacedFrames.{at_place, load, of_one_frame, own}
 use Rattle.j39_load.proofs.KeepingPlan.{keeps_in_order}
 use Rattle.j39_load.proofs.Milliseconds.{in_ms}
 use Rattle.j39_load.proofs.Sending.{in_order}
 use Rattle.j39_load.proofs.StreamsBefore.{none_of_two}
-use Rattle.j39_timing.proofs.Errors.{legal_with_errors}
-use Rattle.j39_timing.specs.Errors.{with_errors}
+use Rattle.j39_timing.proofs.Errors.{legal_in_any_order_with_errors, legal_with_errors}
+use Rattle.j39_timing.specs.Errors.{damage_ordered, with_errors}
 use Rattle.j39_timing.specs.Messages.{frame_end}
 use Rattle.j39_timing.specs.TimedFrames.{Schedule}
 use Rattle.j39_timing.specs.Traffic.{IsStreamInTime}
@@ -138,6 +139,18 @@ module _ (plan : Plan) (timing : Timing) (clean : Clean plan) (stays : UnitPlan 
       bound.wait (λ flow. bound.bounds (in_order timing plan stays ordered) (with_errors s d) (planned_with s planned)
       (origins_with plan s d rate (length (frames_asked (asked_of timing plan stays))) sent) (legal_with_errors s d legal)
       (keeps_with_errors plan timing stays asks.standing clean s d legal.bus planned sent held keeps rate errors i flow single)))
+
+  with_errors_in_any_order : AreInTimeWithErrorsInAnyOrder plan timing
+  with_errors_in_any_order s controllers d planned sent held rate legal keeps queues errors more = sent_in_time plan timing stays delays asks none s planned sent held keeps
+      (λ i bits single bound. frames_in_time plan timing stays asks.standing clean s d legal.bus planned sent held keeps rate errors i bound.frames.stream
+      bound.wait (λ flow. bound.in_any_order (with_errors s d) (damage_ordered s controllers more.own) (planned_with s planned)
+      (origins_with plan s d rate (length (frames_asked (asked_of timing plan stays))) sent) (legal_in_any_order_with_errors s d controllers more.own legal)
+      (keeps_any_with_errors plan timing stays asks.standing clean s d legal.bus planned sent held keeps rate errors controllers queues more i single flow)))
+
+pub kept_with_errors_in_any_order : (plan : Plan) (timing : Timing) → Clean plan → AreLoadFindings plan (Some timing) [] → AreInTimeWithErrorsInAnyOrder plan timing
+kept_with_errors_in_any_order plan timing clean (stays, delays, asks, none) = with_errors_in_any_order plan timing clean stays delays asks
+    (none_of_two (load_findings timing (total_load timing (asked_of timing plan stays)) delays)
+    (old_needs timing plan.requests.items plan.flows.items delays plan.needs.items) (sym none)).0
 
 pub kept_with_errors : (plan : Plan) (timing : Timing) → Clean plan → AreLoadFindings plan (Some timing) [] → AreInTimeWithErrors plan timing
 kept_with_errors plan timing clean (stays, delays, asks, none) = with_errors_in_time plan timing clean stays delays asks

@@ -13,6 +13,7 @@ pub mod EachFrames
 pub mod DamagedFirst
 pub mod FoundWaits
 pub mod KeepingAll
+pub mod KeepingAnyErrors
 pub mod KeepingAnyOrder
 pub mod KeepingApart
 pub mod KeepingBroadcasts

@@ -1,11 +1,16 @@
 -- What a bus on which frames are damaged keeps of a plan, in the plan's own words, beside what its frames keep.
 use Rattle.std.specs.Prelude.{◌≡◌, ℕ, suc, ◌+◌, ◌*◌, ◌%◌, ◌<◌, ◌≤◌, ◌&&◌, Bool, true, cond, nat_lt, not, Some}
+use Rattle.std.specs.List.{slice_get}
 use Rattle.j39_network.specs.declared.plan.Plan.{Plan}
+use Rattle.j39_network.specs.declared.plan.queue.Queue.TheVariants.{Any}
 use Rattle.j39_network.specs.declared.plan.timing.ErrorRate.{ErrorRate}
 use Rattle.j39_network.specs.declared.plan.timing.Timing.{Timing}
-use Rattle.j39_load.specs.KeepsPlan.{AreSentInTime, KeepsAllOrder, KeepsToPlan, place_of, turn_of}
-use Rattle.j39_load.specs.SentFrames.{FrameSources, HasTime, Held, bit_time}
-use Rattle.j39_timing.specs.Errors.{Damaged, IsLegalWithErrors, at_place, with_errors}
+use Rattle.j39_network.specs.declared.plan.unit_plan.UnitPlan.{UnitPlan}
+use Rattle.j39_load.specs.KeepsPlan.{AreSentInTime, KeepsAllOrder, KeepsQueues, KeepsToPlan, place_of, turn_of}
+use Rattle.j39_load.specs.SentFrames.{FrameSources, HasTime, Held, TakesPart, bit_time}
+use Rattle.j39_timing.specs.AnyOrder.{Controllers}
+use Rattle.j39_timing.specs.Companies.{unplanned_queued}
+use Rattle.j39_timing.specs.Errors.{Damaged, IsLegalInAnyOrderWithErrors, IsLegalWithErrors, at_place, with_errors}
 use Rattle.j39_timing.specs.FrameStreams.{Origins}
 use Rattle.j39_timing.specs.Sums.{total}
 use Rattle.j39_timing.specs.TimedFrames.{Schedule, Waits}
@@ -48,3 +53,27 @@ origins_with plan s d rate count sent = record {
 abbrev pub AreInTimeWithErrors : Plan → Timing → Type 0
 AreInTimeWithErrors plan timing = KeepsAllOrder plan → (s : Schedule) (d : Damaged) (planned : ℕ → Bool) (sent : FrameSources) (held : Held) (rate : ErrorRate)
     → IsLegalWithErrors s d → KeepsToPlan plan timing s planned sent held → KeepsErrors timing rate s d planned sent → AreSentInTime plan timing s planned sent
+
+-- ---- units that keep no order
+
+-- what is asked besides where units keep no order
+pub record KeepsErrorsInAnyOrder (plan : Plan) (timing : Timing) (s : Schedule) (controllers : Controllers) (d : Damaged) (planned : ℕ → Bool)
+    (sent : FrameSources) : Type 0 where
+  -- what comes of damage is of a unit that keeps order
+  pub own : ℕ
+  pub in_order : controllers.keeps_order own ≡ true
+  -- no more frames that aren't planned are queued than are told while a frame of a message waits in which a unit without order takes part, also
+  -- while it waits for what comes of damage
+  pub few_unplanned : (p from to u : ℕ) (unit : UnitPlan) → p < s.count → planned p ≡ true
+      → TakesPart plan (sent.source p) u → slice_get plan.units.items u ≡ Some unit → unit.queue ≡ Any
+      → to < s.now → Waits (with_errors s d) p to
+      → ((t : ℕ) → from < t → t ≤ to
+      → (q : ℕ) × (q < (with_errors s d).count) × (planned_with s planned q ≡ true) × Waits (with_errors s d) q t)
+      → unplanned_queued (with_errors s d) (planned_with s planned) from to ≤ timing.unplanned
+
+-- on each such bus each frame has been sent in time, whether units keep order or not
+abbrev pub AreInTimeWithErrorsInAnyOrder : Plan → Timing → Type 0
+AreInTimeWithErrorsInAnyOrder plan timing = (s : Schedule) (controllers : Controllers) (d : Damaged) (planned : ℕ → Bool) (sent : FrameSources) (held : Held)
+    (rate : ErrorRate) → IsLegalInAnyOrderWithErrors s controllers d → KeepsToPlan plan timing s planned sent held
+    → KeepsQueues plan timing s controllers planned sent → KeepsErrors timing rate s d planned sent
+    → KeepsErrorsInAnyOrder plan timing s controllers d planned sent → AreSentInTime plan timing s planned sent

@@ -6,7 +6,7 @@ use Rattle.j39_network.specs.declared.plan.pace.Pace.{Pace}
 use Rattle.j39_network.specs.declared.plan.timing.ErrorRate.{ErrorRate}
 use Rattle.j39_network.specs.declared.plan.timing.Timing.{Timing}
 use Rattle.j39_load.specs.KeepsBroadcasts.{KeepsTurns}
-use Rattle.j39_load.specs.KeepsErrors.{KeepsErrors}
+use Rattle.j39_load.specs.KeepsErrors.{KeepsErrors, KeepsErrorsInAnyOrder}
 use Rattle.j39_load.specs.KeepsPlan.{KeepsQueues, KeepsToPlan}
 use Rattle.j39_load.specs.SentFrames.{FrameSources, Held, IsMsBehind, Source}
 use Rattle.j39_load.specs.SentFrames.{Single, InSession, Asking, Announcing, Carrying, RequestToSend, Packet, ClearToSend, EndAcknowledged}
@@ -29,6 +29,7 @@ pub record CanBeKeptTogether (plan : Plan) (timing : Timing) (rate : ErrorRate) 
   pub keeps : KeepsToPlan plan timing s planned sent held
   pub queues : KeepsQueues plan timing s controllers planned sent
   pub errors : KeepsErrors timing rate s damaged planned sent
+  pub errors_in_any_order : KeepsErrorsInAnyOrder plan timing s controllers damaged planned sent
   pub frames : s.count ≡ suc n
   pub of_flow : (p : ℕ) → sent.source p ≡ Single f
   pub all_planned : (p : ℕ) → planned p ≡ true

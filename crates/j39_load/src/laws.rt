@@ -18,7 +18,7 @@ ghost use Rattle.j39_network.specs.declared.plan.unit_plan.UnitPlan.{UnitPlan as
 ghost use Rattle.j39_load.specs.declared.waits.delay.Delay.{Delay as Delays};
 ghost use Rattle.j39_load.specs.FreshNeeds.{AreNeedsFresh};
 ghost use Rattle.j39_load.specs.KeepsBroadcasts.{KeepsTurns};
-ghost use Rattle.j39_load.specs.KeepsErrors.{AreInTimeWithErrors, KeepsErrors, origins_with, planned_with};
+ghost use Rattle.j39_load.specs.KeepsErrors.{AreInTimeWithErrors, AreInTimeWithErrorsInAnyOrder, KeepsErrors, origins_with, planned_with};
 ghost use Rattle.j39_load.specs.KeepsPlan.{AreFramesInTime, CanBeKept, IsSingleFlow, KeepsQueues, KeepsToPlan, origins_of};
 ghost use Rattle.j39_load.specs.KeptTogether.{CanBeKeptTogether, CanSendAll};
 ghost use Rattle.j39_load.specs.Delays.{announcements_place, packets_place};
@@ -174,10 +174,13 @@ pub fn plans_can_be_kept_whole()
 
 /// Of a clean plan with whose load nothing is wrong either: on each bus that keeps to it in the plan's own words, whether units keep order or not,
 /// each frame has been sent within the period of its flow from its moment, and within its deadline where one is written (`sound`). So it is where
-/// frames are damaged no more often than the plan tells, and all units keep order (`with_errors`).
+/// frames are damaged no more often than the plan tells, where all units keep order (`with_errors`) and where they do or don't
+/// (`damaged_in_any_order`).
 pub fn kept_plans_are_in_time()
     ensures sound { (plan : Plans) (timing : Timings) → Clean plan → AreLoadFindings plan (Some timing) [] → AreFramesInTime plan timing }
     ensures with_errors { (plan : Plans) (timing : Timings) → Clean plan → AreLoadFindings plan (Some timing) [] → AreInTimeWithErrors plan timing }
+    ensures damaged_in_any_order { (plan : Plans) (timing : Timings) → Clean plan → AreLoadFindings plan (Some timing) []
+        → AreInTimeWithErrorsInAnyOrder plan timing }
 {}
 
 /// Of such a plan each need that asks for an age has a flow that meets it, and on each bus that keeps to the plan in its own words, while this
