@@ -12,7 +12,7 @@ use Rattle.j39_log.specs.declared.line_counts.LineCounts.{LineCounts}
 use Rattle.j39_follow.specs.FollowText.{AreUnitLines, FollowedPast, FollowsLines, FollowsShort, IsFollowedLog, frames_seen, line_passed_over, nothing_followed, one_line_more}
 use Rattle.j39_follow.specs.LogLines.{IsInterface, NamesInterface}
 use Rattle.j39_follow.specs.declared.unit_report.UnitReport.{UnitReport}
-use Rattle.j39_follow.specs.inside.FollowedSoFar.{HasFollowedLines, LeadsTo, RecallsPast, behind_reports}
+use Rattle.j39_follow.specs.inside.FollowedSoFar.{HasFollowedLines, LeadsToPast, RecallsPast, behind_reports}
 use Rattle.j39_follow.specs.inside.LinesFollowed.{line_more}
 use Rattle.j39_follow.proofs.Addresses.Standing.{unit_lines}
 
@@ -76,7 +76,7 @@ begun plan report recalls =
 -- the line of a number is read behind those before it
 pub line_read : (plan : Plan) (old new : UnitReport) (counts counted : LineCounts) (number : ℕ) (line old_text new_text : List ℕ)
     → ((past : FollowedPast) → RecallsPast plan old counts past → number ≡ past.number
-    → LeadsTo (FollowsShort plan old.all_frames past line) plan new counted past.number old_text new_text)
+    → LeadsToPast (FollowsShort plan old.all_frames past line) plan new counted past.number old_text new_text)
     → new.all_frames ≡ old.all_frames
     → (before : List Line) (reports : List ℕ) → number ≡ length before + 1 → HasFollowedLines plan old counts before reports
     → (piece : List ℕ) × HasFollowedLines plan new counted (before ++ Short line ∷ []) (reports ++ piece) × (new_text ≡ old_text ++ piece)

@@ -4,7 +4,7 @@ ghost use Rattle.std.specs.Option.{option_copied};
 ghost use Rattle.j39_log.specs.LineCounting.{AreWithin, IsLineMore};
 ghost use Rattle.j39_follow.specs.FollowText.{AreUnitLines, FollowedPast, FollowsFrame, FollowsShort, follow_counts_line, frames_seen};
 ghost use Rattle.j39_follow.specs.LogLines.{interface_behind};
-ghost use Rattle.j39_follow.specs.inside.FollowedSoFar.{LeadsTo, RecallsPast, behind_reports, interface_of};
+ghost use Rattle.j39_follow.specs.inside.FollowedSoFar.{LeadsToPast, RecallsPast, behind_reports, interface_of};
 
 use crate::flow::endings::write_endings;
 use crate::flow::needs::write_needs;
@@ -77,7 +77,7 @@ impl UnitReport {
     ) -> Result<(), AllocError>
         requires { AreWithin counts.old (2 ^ 62) }
         ensures frame { OnOk result ((past : FollowedPast) → RecallsPast groups.now self.old counts.old past → stamp.entry.number ≡ past.number
-            → LeadsTo (FollowsFrame groups.now self.old.all_frames past stamp.entry.time.now (option_copied named.entry) frame.now)
+            → LeadsToPast (FollowsFrame groups.now self.old.all_frames past stamp.entry.time.now (option_copied named.entry) frame.now)
             groups.now self.new counts.new past.number text.old text.new) }
         ensures counted { OnOk result (IsLineMore counts.old counts.new) }
         ensures all_frames { self.new.all_frames ≡ self.old.all_frames }
@@ -99,7 +99,7 @@ impl UnitReport {
     ) -> Result<(), AllocError>
         requires { AreWithin counts.old (2 ^ 62) }
         ensures line { OnOk result ((past : FollowedPast) → RecallsPast groups.now self.old counts.old past → number ≡ past.number
-            → LeadsTo (FollowsShort groups.now self.old.all_frames past line.now) groups.now self.new counts.new past.number text.old text.new) }
+            → LeadsToPast (FollowsShort groups.now self.old.all_frames past line.now) groups.now self.new counts.new past.number text.old text.new) }
         ensures counted { OnOk result (IsLineMore counts.old counts.new) }
         ensures all_frames { self.new.all_frames ≡ self.old.all_frames }
     {

@@ -11,7 +11,7 @@ ghost use Rattle.j39_follow.specs.inside.Contesting.{AreContests};
 ghost use Rattle.j39_follow.specs.inside.Exchanging.{AreExchanges};
 ghost use Rattle.j39_follow.specs.inside.FrameWriting.{WritesFrame};
 ghost use Rattle.j39_follow.specs.inside.Hearing.{HaveHeardSince};
-ghost use Rattle.j39_follow.specs.inside.FollowedSoFar.{IsCalm, IsFollowed, IsKnown, IsReported, IsSameButWritten, IsSameLog, RecallsPast, Remembers};
+ghost use Rattle.j39_follow.specs.inside.FollowedSoFar.{IsCalm, IsFollowed, IsKnownSoFar, IsReported, IsSameButWritten, IsSameLog, RecallsPast, Remembers};
 ghost use Rattle.j39_follow.specs.inside.Recounting.{Knows};
 ghost use Rattle.j39_follow.specs.inside.Reporting.{front_of};
 ghost use Rattle.j39_follow.specs.inside.Tallies.{IsTally};
@@ -75,7 +75,7 @@ impl UnitReport {
         text: &mut TextBuffer,
     ) -> Result<(Sort, Option<Sort>), AllocError>
         ensures stays { IsSameButWritten self.old self.new }
-        ensures written { IfOk result (λ sorts. WritesFrame (IsKnown groups.now self.old.directory self.old.contests (moment_of stamp.entry.time.now)) groups.now self.old.all_frames (front_of stamp.entry) frame.now
+        ensures written { IfOk result (λ sorts. WritesFrame (IsKnownSoFar groups.now self.old.directory self.old.contests (moment_of stamp.entry.time.now)) groups.now self.old.all_frames (front_of stamp.entry) frame.now
             sorts self.old.listeners self.new.listeners self.old.exchanges self.new.exchanges text.old text.new) }
     {
         let parties = taken(
@@ -132,7 +132,7 @@ impl UnitReport {
         text: &mut TextBuffer,
     ) -> Result<(Sort, Option<Sort>), AllocError>
         ensures stays { IsSameButWritten self.old self.new }
-        ensures written { IfOk result (λ sorts. WritesFrame (IsKnown groups.now self.old.directory self.old.contests (moment_of stamp.entry.time.now)) groups.now self.old.all_frames (front_of stamp.entry) frame.now
+        ensures written { IfOk result (λ sorts. WritesFrame (IsKnownSoFar groups.now self.old.directory self.old.contests (moment_of stamp.entry.time.now)) groups.now self.old.all_frames (front_of stamp.entry) frame.now
             sorts self.old.listeners self.new.listeners self.old.exchanges self.new.exchanges text.old text.new) }
     {
         if acknowledges(groups.plan(), frame) {

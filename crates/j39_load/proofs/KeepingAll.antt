@@ -23,10 +23,10 @@ use Rattle.j39_network.specs.declared.plan.unit_plan.UnitPlan.{UnitPlan}
 use Rattle.j39_rules.proofs.Members.{all_at}
 use Rattle.j39_load.specs.KeepsBroadcasts.{KeepsBroadcasts, KeepsTurns}
 use Rattle.j39_load.specs.KeepsPlan.{KeepsQueues, KeepsToPlan}
-use Rattle.j39_load.specs.KeptTogether.{CanSendAll, IsSentOn}
+use Rattle.j39_load.specs.KeptTogether.{CanSendAll, HasBeenSent}
 use Rattle.j39_load.specs.Loads.{bits_per_ms, is_any}
 use Rattle.j39_load.specs.Ranks.{AreHeldApart}
-use Rattle.j39_load.specs.SentFrames.{Broadcasts, IsBroadcastFrame, FrameSources, Held, IsFrameOf, IsPart, IsSentBy, IsRequestFrame, IsSessionFrame, IsSingleFrame, Part, SendsPart, Source, bit_time, goes_to, part_identifier}
+use Rattle.j39_load.specs.SentFrames.{Broadcasts, IsBroadcastFrame, FrameSources, Held, IsFrameOf, IsPart, IsSentByUnit, IsRequestFrame, IsSessionFrame, IsSingleFrame, Part, SendsPart, Source, bit_time, goes_to, part_identifier}
 use Rattle.j39_load.specs.SentFrames.{Announcing, Carrying, Single, InSession, Asking, RequestToSend, Packet, ClearToSend, EndAcknowledged}
 use Rattle.j39_load.proofs.KeepingApart as alone
 use Rattle.j39_load.proofs.KeepingFrames.{one_to}
@@ -429,7 +429,7 @@ module _ (plan : Plan) (timing : Timing) (apart : ArePlannedApart (units_of plan
   by_part (ClearToSend k) z y same sends = one_to v z (sym to_one ∙ (ap (λ (a : FlowPlan). a.to) same ∙ sends))
   by_part EndAcknowledged z y same sends = one_to v z (sym to_one ∙ (ap (λ (a : FlowPlan). a.to) same ∙ sends))
 
-  sent_by : (c : Choice) (z : ℕ) → IsSentBy plan (source_of f g r w c) z → sender_of c ≡ z
+  sent_by : (c : Choice) (z : ℕ) → IsSentByUnit plan (source_of f g r w c) z → sender_of c ≡ z
   sent_by Alone z (y, at, is) = ap (λ (a : FlowPlan). a.sender) (same_Some _ _ (sym its ∙ at)) ∙ is
   sent_by Asks z (d, at, is) = ap (λ (a : RequestPlan). a.sender) (same_Some _ _ (sym asked_is ∙ at)) ∙ is
   sent_by (Carries x) z (y, at, is) = by_part x z y (same_Some _ _ (sym other_is ∙ at)) is
@@ -475,22 +475,22 @@ module _ (plan : Plan) (timing : Timing) (apart : ArePlannedApart (units_of plan
   -- ---- all of it has been sent
 
   -- behind the first five slots
-  is_sent : (k : ℕ) (x : Source) → k < packets + 1 + more → source_of f g r w (last_choice packets k) ≡ x → IsSentOn bus sent x
+  is_sent : (k : ℕ) (x : Source) → k < packets + 1 + more → source_of f g r w (last_choice packets k) ≡ x → HasBeenSent bus sent x
   is_sent k x below is = (suc (suc (suc (suc (suc k)))), omega (arith, below), is, let far = ends_before width (5 + k) n (omega (arith, below)) in omega (arith, far))
 
-  first_sent : (p : ℕ) (x : Source) → p < 5 → sent.source p ≡ x → IsSentOn bus sent x
+  first_sent : (p : ℕ) (x : Source) → p < 5 → sent.source p ≡ x → HasBeenSent bus sent x
   first_sent p x below is = (p, omega (arith, below), is, let far = ends_before width p n (omega (arith, below)) in omega (arith, far))
 
-  carries : (k : ℕ) → k < packets → IsSentOn bus sent (InSession g (Packet k))
+  carries : (k : ℕ) → k < packets → HasBeenSent bus sent (InSession g (Packet k))
   carries k below = is_sent k (InSession g (Packet k)) (omega (arith, below))
       (ap (λ (b : Bool). source_of f g r w (if b then Carries (Packet k) else (if ltb k (packets + 1) then Carries EndAcknowledged else Sends (k - (packets + 1)))))
       (lt-ltb k packets below))
 
-  acknowledges : IsSentOn bus sent (InSession g EndAcknowledged)
+  acknowledges : HasBeenSent bus sent (InSession g EndAcknowledged)
   acknowledges = is_sent packets (InSession g EndAcknowledged) (omega arith)
       (rw (le-ltb packets packets (omega arith), lt-ltb packets (packets + 1) (omega arith)) refl)
 
-  to_all_sent : (k : ℕ) → k < more → IsSentOn bus sent (Carrying w 0 k)
+  to_all_sent : (k : ℕ) → k < more → HasBeenSent bus sent (Carrying w 0 k)
   to_all_sent k below = is_sent (packets + 1 + k) (Carrying w 0 k) (omega (arith, below)) (
       let past = le-ltb (packets + 1 + k) packets (omega arith) in
       let behind = le-ltb (packets + 1 + k) (packets + 1) (omega arith) in

@@ -12,7 +12,7 @@ use Rattle.j39_network.specs.declared.plan.unit_plan.UnitPlan.{UnitPlan}
 use Rattle.j39_load.specs.declared.frames.flow_frames.FlowFrames.{FlowFrames}
 use Rattle.j39_load.specs.AnyQueues.{are_of_unit, is_of_company, keep_order, leasts_of, with_unplanned}
 use Rattle.j39_load.specs.KeepsErrors.{KeepsErrors, KeepsErrorsInAnyOrder}
-use Rattle.j39_load.specs.KeepsPlan.{IsSingleFlow, KeepsQueues, KeepsToPlan, origins_of, place_of}
+use Rattle.j39_load.specs.KeepsPlan.{IsSingleFlow, KeepsQueues, KeepsToPlan, origins_of, source_place}
 use Rattle.j39_load.specs.PlannedFrames.{AreFramesInAnyOrder, KeepToCompany, company_of, no_frames, planned_at}
 use Rattle.j39_load.specs.SentFrames.{FrameSources, Held}
 use Rattle.j39_load.proofs.KeepingAnyOrder.{any_of, keeps_any}
@@ -107,7 +107,7 @@ module _ (plan : Plan) (timing : Timing) (stays : UnitPlan → Bool) (tells : Te
       | inl at ↦
           let told = before.of_unit p at.below (sym at.plans ∙ is) (sym (ap controllers.keeps_order (same_unit p at.below)) ∙ un) in
           subst (λ (j : ℕ). are_of_unit (planned_at all j) ((damage_ordered s controllers more.own).unit p) ≡ true) (sym at.source)
-          (subst (λ (u : ℕ). are_of_unit (planned_at all (place_of plan (sent.source p))) u ≡ true) (sym (same_unit p at.below)) told)
+          (subst (λ (u : ℕ). are_of_unit (planned_at all (source_place plan (sent.source p))) u ≡ true) (sym (same_unit p at.below)) told)
       | inr at ↦ absurd (true≢false (sym more.in_order ∙ (sym (ap controllers.keeps_order (own_unit p at.behind)) ∙ un)))
     ];
     to_last = λ p in_p is unordered. elim (its_kind p in_p) [

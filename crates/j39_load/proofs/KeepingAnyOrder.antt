@@ -12,7 +12,7 @@ use Rattle.j39_network.specs.declared.plan.unit_plan.UnitPlan.{UnitPlan}
 use Rattle.j39_load.specs.declared.frames.flow_frames.FlowFrames.{FlowFrames}
 use Rattle.j39_load.specs.AnyQueues.{are_of_unit, is_member, is_of_company, leasts_of, with_unplanned}
 use Rattle.j39_load.specs.Asked.{asked_of, frames_asked}
-use Rattle.j39_load.specs.KeepsPlan.{IsSingleFlow, KeepsQueues, KeepsToPlan, origins_of, place_of}
+use Rattle.j39_load.specs.KeepsPlan.{IsSingleFlow, KeepsQueues, KeepsToPlan, origins_of, source_place}
 use Rattle.j39_load.specs.Loads.{any_unit}
 use Rattle.j39_load.specs.PlannedFrames.{AreFramesInAnyOrder, AreFramesOfPlan, KeepToCompany, company_of, no_frames, planned_at}
 use Rattle.j39_load.specs.SentFrames.{FrameSources, Held, IsFrameOf, IsRequestFrame, IsSessionFrame, IsSingleFrame, Part, Source}
@@ -37,7 +37,7 @@ module _ (plan : Plan) (timing : Timing) (stays : UnitPlan → Bool) (tells : Te
     one : IsKnown plan timing stays s (sent.source p) (sent.moment p) p
     one = of_source plan timing stays tells clean s queued_first planned sent held keeps p in_p is
 
-    asked_there : planned_at asks (place_of plan (sent.source p)) ≡ one.frames
+    asked_there : planned_at asks (source_place plan (sent.source p)) ≡ one.frames
     asked_there = ap (λ (o : Option FlowFrames). unwrap_or o no_frames) one.read
 
     of_unit_told : IsUnordered controllers p → are_of_unit one.frames (controllers.unit p) ≡ true
@@ -86,13 +86,13 @@ module _ (plan : Plan) (timing : Timing) (stays : UnitPlan → Bool) (tells : Te
     at_session f part moment p x = ap (λ (o : Option FlowFrames). is_of (unwrap_or o no_frames))
         (session_read plan timing stays f x.flow x.pace x.group x.its x.paced x.of x.receiver x.long x.to_one)
 
-    at_request : (r moment p : ℕ) (x : IsRequestFrame plan s held r moment p) → has (place_of plan (Asking r)) ≡ (counts x.asked.sender || false)
+    at_request : (r moment p : ℕ) (x : IsRequestFrame plan s held r moment p) → has (source_place plan (Asking r)) ≡ (counts x.asked.sender || false)
     at_request r moment p x = ap (λ (o : Option FlowFrames). is_of (unwrap_or o no_frames))
         (request_frames_read plan timing stays r x.asked x.ms x.its x.paced)
 
     -- of two frames with one identifier both are of the company, or none is
     both_of : (a b : Source) (moment other p q t : ℕ) → IsFrameOf plan timing s held sent.broadcasts a moment p → IsFrameOf plan timing s held sent.broadcasts b other q
-        → IsQueuedAt s p t → IsQueuedAt s q t → s.ident p ≡ s.ident q → has (place_of plan a) ≡ true → has (place_of plan b) ≡ true
+        → IsQueuedAt s p t → IsQueuedAt s q t → s.ident p ≡ s.ident q → has (source_place plan a) ≡ true → has (source_place plan b) ≡ true
     both_of (Single f) (Single g) moment other p q t x y at_p at_q same is =
         elim (one_or_alike plan timing clean s held t (keeps.held_apart t) stays f g moment other p q x y at_p at_q same) [
           | inl one_flow ↦ subst (λ (h : ℕ). has h ≡ true) one_flow is
@@ -176,7 +176,7 @@ module _ (plan : Plan) (timing : Timing) (stays : UnitPlan → Bool) (tells : Te
         (request_made plan timing clean s held t (keeps.held_apart t) r other q y at_q)
         (broadcast_made plan timing clean s held t (keeps.held_apart t) sent.broadcasts 60160 u m moment p (inr refl) x.0 at_p) (sym same))
     both_of (Announcing u m) (Announcing v w) moment other p q t x y at_p at_q same is =
-        subst (λ (z : ℕ). has (place_of plan (Announcing z 0)) ≡ true)
+        subst (λ (z : ℕ). has (source_place plan (Announcing z 0)) ≡ true)
         (one_sends plan clean (held.on t) (held.address t) (keeps.held_apart t) (s.ident p) (s.ident q) u v 60416 60416
         (broadcast_made plan timing clean s held t (keeps.held_apart t) sent.broadcasts 60416 u m moment p (inl refl) x at_p)
         (broadcast_made plan timing clean s held t (keeps.held_apart t) sent.broadcasts 60416 v w other q (inl refl) y at_q) same).1 is
@@ -189,13 +189,13 @@ module _ (plan : Plan) (timing : Timing) (stays : UnitPlan → Bool) (tells : Te
         (broadcast_made plan timing clean s held t (keeps.held_apart t) sent.broadcasts 60160 u m moment p (inr refl) x.0 at_p)
         (broadcast_made plan timing clean s held t (keeps.held_apart t) sent.broadcasts 60416 v w other q (inl refl) y at_q) same).0 in omega (arith, number))
     both_of (Carrying u m i) (Carrying v w j) moment other p q t x y at_p at_q same is =
-        subst (λ (z : ℕ). has (place_of plan (Carrying z 0 0)) ≡ true)
+        subst (λ (z : ℕ). has (source_place plan (Carrying z 0 0)) ≡ true)
         (one_sends plan clean (held.on t) (held.address t) (keeps.held_apart t) (s.ident p) (s.ident q) u v 60160 60160
         (broadcast_made plan timing clean s held t (keeps.held_apart t) sent.broadcasts 60160 u m moment p (inr refl) x.0 at_p)
         (broadcast_made plan timing clean s held t (keeps.held_apart t) sent.broadcasts 60160 v w other q (inr refl) y.0 at_q) same).1 is
 
     -- a unit without order takes part in each message of the company
-    pub any_of : (p : ℕ) (in_p : p < s.count) (is : planned p ≡ true) → has (place_of plan (sent.source p)) ≡ true → TakesAny plan (sent.source p)
+    pub any_of : (p : ℕ) (in_p : p < s.count) (is : planned p ≡ true) → has (source_place plan (sent.source p)) ≡ true → TakesAny plan (sent.source p)
     any_of p in_p is of_it = (one p in_p is).of_any member (subst (λ (f : FlowFrames). is_of f ≡ true) (asked_there p in_p is) of_it)
 
     company_kept : KeepToCompany timing s planned (origins_of plan sent) (company_of timing asks around level)

@@ -17,7 +17,7 @@ use Rattle.j39_load.specs.Asked.{frames_asked, own_frames, wanting}
 use Rattle.j39_load.specs.Damage.{damage_frames, damage_streams, first_of_all}
 use Rattle.j39_load.specs.Demands.{announcements_demand, demand_by, demands_of, packets_demand, want_of, wanted_by, wanted_from, wants_of}
 use Rattle.j39_load.specs.KeepsBroadcasts.{IsMessageToAll, KeepsBroadcasts}
-use Rattle.j39_load.specs.KeepsPlan.{place_of}
+use Rattle.j39_load.specs.KeepsPlan.{source_place}
 use Rattle.j39_load.specs.SentFrames.{Broadcasts, FrameSources, Held, IsFrameOf, Source, Single, InSession, Asking, Announcing, Carrying}
 use Rattle.j39_load.proofs.AskedPlaces.{flow_read}
 use Rattle.j39_load.proofs.EachFrames.{each_fits}
@@ -107,7 +107,7 @@ number_of (Carrying u m k) = k
 pub record IsCopy (plan : Plan) (s : Schedule) (planned : ℕ → Bool) (sent : FrameSources) (of : Origins) (p : ℕ) : Type 0 where
   pub below : p < s.count
   pub is : planned p ≡ true
-  pub place : of.source p ≡ place_of plan (sent.source p)
+  pub place : of.source p ≡ source_place plan (sent.source p)
   pub since : of.since p ≡ sent.moment p
 
 module _ (plan : Plan) (timing : Timing) (stays : UnitPlan → Bool) (s : Schedule) (planned : ℕ → Bool) (sent : FrameSources) (held : Held)
@@ -255,10 +255,10 @@ module _ (plan : Plan) (timing : Timing) (stays : UnitPlan → Bool) (s : Schedu
     wanted_none : (j k : ℕ) → ((traffic plan timing stays).stream j).wanted ≡ Some k → ((traffic plan timing stays).stream j).wanted ≡ None → ⊥
     wanted_none j k some none = none-some k (sym none ∙ some)
 
-    packet : (u m k p : ℕ) → m < b.count u → ((traffic plan timing stays).stream (place_of plan (Carrying u m k))).wanted ≡ Some (packets_demand u)
-        → IsOf w plans of (place_of plan (Carrying u m k)) p → IsPacket u p
+    packet : (u m k p : ℕ) → m < b.count u → ((traffic plan timing stays).stream (source_place plan (Carrying u m k))).wanted ≡ Some (packets_demand u)
+        → IsOf w plans of (source_place plan (Carrying u m k)) p → IsPacket u p
     packet u m k p below some (in_p, is, place) = elim (copies p in_p is) [
-      | inl none ↦ absurd (wanted_none (place_of plan (Carrying u m k)) (packets_demand u) some
+      | inl none ↦ absurd (wanted_none (source_place plan (Carrying u m k)) (packets_demand u) some
           (subst (λ (j : ℕ). ((traffic plan timing stays).stream j).wanted ≡ None) place none))
       | inr copy ↦
           let (n, j, source) = of_packets plan timing stays s held b keeps.messages (sent.source p) u m k (sent.moment p) p (frames p copy.below copy.is) below
@@ -276,10 +276,10 @@ module _ (plan : Plan) (timing : Timing) (stays : UnitPlan → Bool) (s : Schedu
     ]
 
     announcement : (u m p : ℕ) → m < b.count u
-        → ((traffic plan timing stays).stream (place_of plan (Announcing u m))).wanted ≡ Some (announcements_demand u)
-        → IsOf w plans of (place_of plan (Announcing u m)) p → IsAnnouncement u p
+        → ((traffic plan timing stays).stream (source_place plan (Announcing u m))).wanted ≡ Some (announcements_demand u)
+        → IsOf w plans of (source_place plan (Announcing u m)) p → IsAnnouncement u p
     announcement u m p below some (in_p, is, place) = elim (copies p in_p is) [
-      | inl none ↦ absurd (wanted_none (place_of plan (Announcing u m)) (announcements_demand u) some
+      | inl none ↦ absurd (wanted_none (source_place plan (Announcing u m)) (announcements_demand u) some
           (subst (λ (j : ℕ). ((traffic plan timing stays).stream j).wanted ≡ None) place none))
       | inr copy ↦
           let (n, source) = of_announcements plan timing stays s held b keeps.messages (sent.source p) u m (sent.moment p) p (frames p copy.below copy.is) below
@@ -288,12 +288,12 @@ module _ (plan : Plan) (timing : Timing) (stays : UnitPlan → Bool) (s : Schedu
           record { copy = copy; message = n; source = source; known = frame.known; queued = frame.at_once ∙ sym copy.since }
     ]
 
-    packets_most : (u m k : ℕ) → m < b.count u → ((traffic plan timing stays).stream (place_of plan (Carrying u m k))).wanted ≡ Some (packets_demand u)
-        → (t span : ℕ) → moments_in w plans of (place_of plan (Carrying u m k)) t span ≤ frames_wanted span (demand u false)
+    packets_most : (u m k : ℕ) → m < b.count u → ((traffic plan timing stays).stream (source_place plan (Carrying u m k))).wanted ≡ Some (packets_demand u)
+        → (t span : ℕ) → moments_in w plans of (source_place plan (Carrying u m k)) t span ≤ frames_wanted span (demand u false)
     packets_most u m k below some t span =
-        packets_asked w plans of (place_of plan (Carrying u m k)) (demand u false) (unit_messages u) (periods u false) (in_turn u false) are t span (longest u)
+        packets_asked w plans of (source_place plan (Carrying u m k)) (demand u false) (unit_messages u) (periods u false) (in_turn u false) are t span (longest u)
       where
-        are : AreFramesOfMessages w plans of (place_of plan (Carrying u m k)) (demand u false) (unit_messages u)
+        are : AreFramesOfMessages w plans of (source_place plan (Carrying u m k)) (demand u false) (unit_messages u)
         are = record {
           known = λ p its. let x = packet u m k p below some its in
               subst (λ (y : Source). message_of y < b.count u) (sym x.source) x.known;
@@ -321,21 +321,21 @@ module _ (plan : Plan) (timing : Timing) (stays : UnitPlan → Bool) (s : Schedu
         }
 
     announcements_most : (u m : ℕ) → m < b.count u
-        → ((traffic plan timing stays).stream (place_of plan (Announcing u m))).wanted ≡ Some (announcements_demand u)
-        → (t span : ℕ) → moments_in w plans of (place_of plan (Announcing u m)) t span ≤ frames_wanted span (demand u true)
+        → ((traffic plan timing stays).stream (source_place plan (Announcing u m))).wanted ≡ Some (announcements_demand u)
+        → (t span : ℕ) → moments_in w plans of (source_place plan (Announcing u m)) t span ≤ frames_wanted span (demand u true)
     announcements_most u m below some t span =
-        announcements_asked w plans of (place_of plan (Announcing u m)) (demand u true) (unit_messages u) (periods u true) (in_turn u true) are t span at_once
+        announcements_asked w plans of (source_place plan (Announcing u m)) (demand u true) (unit_messages u) (periods u true) (in_turn u true) are t span at_once
       where
-        announced_at : (p : ℕ) → IsOf w plans of (place_of plan (Announcing u m)) p → of.since p ≡ b.announced u (message_of (sent.source p))
+        announced_at : (p : ℕ) → IsOf w plans of (source_place plan (Announcing u m)) p → of.since p ≡ b.announced u (message_of (sent.source p))
         announced_at p its =
             let x = announcement u m p below some its in
             let first = keeps.announced p u x.message x.copy.below x.copy.is x.source in
             sym x.queued ∙ (first ∙ ap (λ (y : Source). b.announced u (message_of y)) (sym x.source))
 
-        at_once : AreAnnouncements w plans of (place_of plan (Announcing u m)) (unit_messages u)
+        at_once : AreAnnouncements w plans of (source_place plan (Announcing u m)) (unit_messages u)
         at_once p its = announced_at p its
 
-        are : AreFramesOfMessages w plans of (place_of plan (Announcing u m)) (demand u true) (unit_messages u)
+        are : AreFramesOfMessages w plans of (source_place plan (Announcing u m)) (demand u true) (unit_messages u)
         are = record {
           known = λ p its. let x = announcement u m p below some its in
               subst (λ (y : Source). message_of y < b.count u) (sym x.source) x.known;
@@ -362,7 +362,7 @@ module _ (plan : Plan) (timing : Timing) (stays : UnitPlan → Bool) (s : Schedu
     -- ---- all streams
 
     module _ (told : (p : ℕ) → p < s.count → planned p ≡ true
-        → IsPaced plan timing stays (sent.source p) ((traffic plan timing stays).stream (place_of plan (sent.source p)))) where
+        → IsPaced plan timing stays (sent.source p) ((traffic plan timing stays).stream (source_place plan (sent.source p)))) where
       abbrev stream : ℕ → Stream
       stream = (traffic plan timing stays).stream
 
@@ -380,22 +380,22 @@ module _ (plan : Plan) (timing : Timing) (stays : UnitPlan → Bool) (s : Schedu
           let few = plan.unit_count in
           omega (arith, inside, few)
 
-      of_source : (x : Source) (moment p : ℕ) → IsFrameOf plan timing s held b x moment p → IsPaced plan timing stays x (stream (place_of plan x))
-          → (t span : ℕ) (demand : Demand) → demand_of (demands_of whole) (stream (place_of plan x)) ≡ Some demand
-          → moments_in w plans of (place_of plan x) t span ≤ frames_wanted span demand
+      of_source : (x : Source) (moment p : ℕ) → IsFrameOf plan timing s held b x moment p → IsPaced plan timing stays x (stream (source_place plan x))
+          → (t span : ℕ) (demand : Demand) → demand_of (demands_of whole) (stream (source_place plan x)) ≡ Some demand
+          → moments_in w plans of (source_place plan x) t span ≤ frames_wanted span demand
       of_source (Single f) moment p frame paced t span demand is = absurd (demand_none f demand paced.unwanted is)
       of_source (InSession f part) moment p frame paced t span demand is = absurd (demand_none f demand paced.unwanted is)
-      of_source (Asking r) moment p frame paced t span demand is = absurd (demand_none (place_of plan (Asking r)) demand paced.unwanted is)
+      of_source (Asking r) moment p frame paced t span demand is = absurd (demand_none (source_place plan (Asking r)) demand paced.unwanted is)
       of_source (Announcing u m) moment p frame paced t span demand is =
-          let some : (stream (place_of plan (Announcing u m))).wanted ≡ Some (announcements_demand u) = ap (λ (x : Stream). x.wanted) paced in
-          subst (λ (x : Demand). moments_in w plans of (place_of plan (Announcing u m)) t span ≤ frames_wanted span x)
-          (demand_told (place_of plan (Announcing u m)) (announcements_demand u) demand (demand_by true (wants_of whole u)) some
+          let some : (stream (source_place plan (Announcing u m))).wanted ≡ Some (announcements_demand u) = ap (λ (x : Stream). x.wanted) paced in
+          subst (λ (x : Demand). moments_in w plans of (source_place plan (Announcing u m)) t span ≤ frames_wanted span x)
+          (demand_told (source_place plan (Announcing u m)) (announcements_demand u) demand (demand_by true (wants_of whole u)) some
           (announcements_wanted u whole (unit_few u m frame.known)) is)
           (announcements_most u m frame.known some t span)
       of_source (Carrying u m k) moment p frame paced t span demand is =
-          let some : (stream (place_of plan (Carrying u m k))).wanted ≡ Some (packets_demand u) = ap (λ (x : Stream). x.wanted) paced in
-          subst (λ (x : Demand). moments_in w plans of (place_of plan (Carrying u m k)) t span ≤ frames_wanted span x)
-          (demand_told (place_of plan (Carrying u m k)) (packets_demand u) demand (demand_by false (wants_of whole u)) some
+          let some : (stream (source_place plan (Carrying u m k))).wanted ≡ Some (packets_demand u) = ap (λ (x : Stream). x.wanted) paced in
+          subst (λ (x : Demand). moments_in w plans of (source_place plan (Carrying u m k)) t span ≤ frames_wanted span x)
+          (demand_told (source_place plan (Carrying u m k)) (packets_demand u) demand (demand_by false (wants_of whole u)) some
           (packets_wanted u whole (unit_few u m frame.0.known)) is)
           (packets_most u m k frame.0.known some t span)
 
@@ -410,7 +410,7 @@ module _ (plan : Plan) (timing : Timing) (stays : UnitPlan → Bool) (s : Schedu
             elim (copies p in_p parts.0) [
               | inl none ↦ absurd (demand_none j demand (subst (λ (k : ℕ). (stream k).wanted ≡ None) place none) is)
               | inr copy ↦
-                  let there : place_of plan (sent.source p) ≡ j = sym copy.place ∙ place in
+                  let there : source_place plan (sent.source p) ≡ j = sym copy.place ∙ place in
                   subst (λ (k : ℕ). moments_in w plans of k t span ≤ frames_wanted span demand) there
                   (of_source (sent.source p) (sent.moment p) p (frames p copy.below copy.is) (told p copy.below copy.is) t span demand
                   (subst (λ (k : ℕ). demand_of (demands_of whole) (stream k) ≡ Some demand) (sym there) is))

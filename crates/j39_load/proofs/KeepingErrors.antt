@@ -20,7 +20,7 @@ use Rattle.j39_load.specs.AnyQueues.{keep_order}
 use Rattle.j39_load.specs.Asked.{announcements_of_unit, asked_of, frames_asked, frames_of_flow, frames_of_request, packets_of_unit, singles_of_flow}
 use Rattle.j39_load.specs.Damage.{damage_frames, damage_stream, first_frames}
 use Rattle.j39_load.specs.KeepsErrors.{KeepsErrors, origins_with, planned_with}
-use Rattle.j39_load.specs.KeepsPlan.{IsSingleFlow, KeepsToPlan, origins_of, place_of, turn_of}
+use Rattle.j39_load.specs.KeepsPlan.{IsSingleFlow, KeepsToPlan, origins_of, source_place, source_turn}
 use Rattle.j39_load.specs.Loads.{bits_of_ms, load_of_flow}
 use Rattle.j39_load.specs.PlannedFrames.{AreFramesOfPlan, no_frames, planned_at}
 use Rattle.j39_load.specs.SentFrames.{FrameSources, Announcing, Carrying, HasTime, Held, IsBroadcastFrame, IsFrameOf, IsSingleFrame, Part, Single, InSession, Asking, Source, goes_to, part_identifier}
@@ -89,8 +89,8 @@ module _ (plan : Plan) (timing : Timing) (stays : UnitPlan → Bool) (tells : Te
     pub start : w.start p ≡ s.start p
     pub bits : w.bits p ≡ s.bits p
     pub ident : w.ident p ≡ s.ident p
-    pub source : of.source p ≡ place_of plan (sent.source p)
-    pub turn : of.turn p ≡ turn_of plan (sent.source p)
+    pub source : of.source p ≡ source_place plan (sent.source p)
+    pub turn : of.turn p ≡ source_turn plan (sent.source p)
     pub since : of.since p ≡ sent.moment p
     pub plans : is_planned p ≡ planned p
 
@@ -203,7 +203,7 @@ module _ (plan : Plan) (timing : Timing) (stays : UnitPlan → Bool) (tells : Te
       two : length (damage_frames timing) ≡ 2
       two = rw (errors.told) refl
 
-  source_inside : (p : ℕ) → p < s.count → planned p ≡ true → place_of plan (sent.source p) < length asks
+  source_inside : (p : ℕ) → p < s.count → planned p ≡ true → source_place plan (sent.source p) < length asks
   source_inside p in_p is = inside_asked plan timing stays s (sent.source p) (sent.moment p) p
       (of_source plan timing stays tells clean s bus.queued_first planned sent held keeps p in_p is)
 

@@ -25,12 +25,12 @@ use Rattle.j39_load.specs.AnyQueues.{are_of_unit}
 use Rattle.j39_load.specs.Asked.{frames_asked}
 use Rattle.j39_load.specs.Broadcasts.{broadcasts_by}
 use Rattle.j39_load.specs.Damage.{damage_frames}
-use Rattle.j39_load.specs.KeepsPlan.{packets_at, place_of, turn_of, turn_of_part, units_told}
+use Rattle.j39_load.specs.KeepsPlan.{packets_at, source_place, source_turn, turn_of_part, units_told}
 use Rattle.j39_load.specs.Loads.{any_unit, bits_of_ms, destination_at, greatest_address, group_ident, is_any, least_address, of_unit}
 use Rattle.j39_load.specs.PlannedFrames.{planned_at}
 use Rattle.j39_load.specs.Ranks.{AreHeldApart, AreHeldByPlan, AreUnitsPlanned}
 use Rattle.j39_load.specs.RequestLoads.{request_ident}
-use Rattle.j39_load.specs.SentFrames.{Held, IsFrameOf, IsPart, IsRequestFrame, IsSentBy, IsSentEvery, IsSessionFrame, IsSingleFrame, Part, SendsPart, Source, TakesPart, goes_to, part_identifier}
+use Rattle.j39_load.specs.SentFrames.{Held, IsFrameOf, IsPart, IsRequestFrame, IsSentByUnit, IsSentEvery, IsSessionFrame, IsSingleFrame, Part, SendsPart, Source, TakesPart, goes_to, part_identifier}
 use Rattle.j39_load.specs.SentFrames.{Single, InSession, Asking, RequestToSend, Packet, ClearToSend, EndAcknowledged}
 use Rattle.j39_load.proofs.PlacedFrames.{all, announcing_read, asked, carrying_read, in_request, in_session, own, read, request_frames_read, session_read, unit_asks, unit_planned, unit_told}
 use Rattle.j39_load.proofs.Milliseconds.{within_bits, within_both}
@@ -136,10 +136,10 @@ module _ (plan : Plan) (timing : Timing) (stays : UnitPlan → Bool) where
   -- the frames at the place of its source, and that it is one of them
   pub record IsKnown (s : Schedule) (source : Source) (moment p : ℕ) : Type 0 where
     pub frames : FlowFrames
-    pub read : get_or (frames_asked (asked plan timing stays)) (place_of plan source) None ≡ Some frames
+    pub read : get_or (frames_asked (asked plan timing stays)) (source_place plan source) None ≡ Some frames
     pub at_most : s.bits p ≤ 160
     pub bits_at_most : s.bits p ≤ frames.stream.bits
-    pub turns : turn_of plan source < frames.stream.frames
+    pub turns : source_turn plan source < frames.stream.frames
     pub moment_first : moment ≤ s.queued p
     pub late_at_most : s.queued p ≤ moment + frames.stream.late
     pub paced : IsPaced source frames.stream
@@ -149,18 +149,18 @@ module _ (plan : Plan) (timing : Timing) (stays : UnitPlan → Bool) where
     pub greatest : IsBelowGreatest source (s.ident p) frames.greatest_ident
     -- its unit, and those that keep no order
     pub sender : ℕ
-    pub sends : IsSentBy plan source sender
+    pub sends : IsSentByUnit plan source sender
     pub planned_sender : sender < length units
     pub of_sender : any_unit units sender ≡ Some sender → are_of_unit frames sender ≡ true
     pub of_any : (m : ℕ → Bool) → (option_map_or m frames.any_sender false || option_map_or m frames.any_receiver false) ≡ true → TakesAny plan source
 
-  pub here : (s : Schedule) (source : Source) (moment p : ℕ) (known : IsKnown s source moment p) → planned_at (all plan timing stays) (place_of plan source) ≡ known.frames
-  here s source moment p known = with_damage timing (frames_asked (asked plan timing stays)) (place_of plan source) known.frames known.read
+  pub here : (s : Schedule) (source : Source) (moment p : ℕ) (known : IsKnown s source moment p) → planned_at (all plan timing stays) (source_place plan source) ≡ known.frames
+  here s source moment p known = with_damage timing (frames_asked (asked plan timing stays)) (source_place plan source) known.frames known.read
 
-  pub inside_asked : (s : Schedule) (source : Source) (moment p : ℕ) → IsKnown s source moment p → place_of plan source < length (frames_asked (asked plan timing stays))
-  inside_asked s source moment p known = get_or_inside (frames_asked (asked plan timing stays)) (place_of plan source) known.frames known.read
+  pub inside_asked : (s : Schedule) (source : Source) (moment p : ℕ) → IsKnown s source moment p → source_place plan source < length (frames_asked (asked plan timing stays))
+  inside_asked s source moment p known = get_or_inside (frames_asked (asked plan timing stays)) (source_place plan source) known.frames known.read
 
-  pub inside : (s : Schedule) (source : Source) (moment p : ℕ) → IsKnown s source moment p → place_of plan source < length (all plan timing stays)
+  pub inside : (s : Schedule) (source : Source) (moment p : ℕ) → IsKnown s source moment p → source_place plan source < length (all plan timing stays)
   inside s source moment p known =
       let below = inside_asked s source moment p known in
       let size = length-append (frames_asked (asked plan timing stays)) (damage_frames timing) in
@@ -369,7 +369,7 @@ module _ (plan : Plan) (timing : Timing) (stays : UnitPlan → Bool) where
       part_sent (ClearToSend k) = by_receiver (ClearToSend k) one.to_one
       part_sent EndAcknowledged = by_receiver EndAcknowledged one.to_one
 
-      turns_below : turn_of plan (InSession f part) < frames.stream.frames
+      turns_below : source_turn plan (InSession f part) < frames.stream.frames
       turns_below =
           let packets : packets_at plan f ≡ packets_of one.group.most = rw (one.its, one.of) refl in
           let window : of_unit units (λ (unit : UnitPlan). unit.window) v ≡ one.unit.window = rw (one.receiver_is) refl in
@@ -433,7 +433,7 @@ module _ (plan : Plan) (timing : Timing) (stays : UnitPlan → Bool) where
           (subst (λ (n : ℕ). broadcast_ident timing number low u ≤ n) (sym is) least, subst (λ (n : ℕ). n ≤ broadcast_ident timing number high u) (sym is) greatest)
 
       -- the unit sends it, and takes part in it where it keeps no order
-      of_unit_alone : (source : Source) → IsSentBy plan source u → TakesPart plan source u → (m : ℕ → Bool)
+      of_unit_alone : (source : Source) → IsSentByUnit plan source u → TakesPart plan source u → (m : ℕ → Bool)
           → (option_map_or m (any_unit units u) false || false) ≡ true → TakesAny plan source
       of_unit_alone source sends takes m told = elim (or_cases (option_map_or m (any_unit units u) false) false told) [
         | inl is ↦
@@ -525,14 +525,14 @@ module _ (plan : Plan) (timing : Timing) (stays : UnitPlan → Bool) where
     flow_first : (f : ℕ) (flow : FlowPlan) (r n : ℕ) → slice_get plan.flows.items f ≡ Some flow → f ≡ 2 * length plan.flows.items + (n + r) → ⊥
     flow_first f flow r n its same = let below = slice_get_within plan.flows.items f flow its in omega (arith, same, below)
 
-    single_first : (f r moment p : ℕ) → IsSingleFrame plan timing s held f moment p → f ≡ place_of plan (Asking r) → ⊥
+    single_first : (f r moment p : ℕ) → IsSingleFrame plan timing s held f moment p → f ≡ source_place plan (Asking r) → ⊥
     single_first f r moment p one same = flow_first f one.flow r (2 * units_told plan.flows.items units) one.its same
 
-    session_first : (f r : ℕ) (part : Part) (moment p : ℕ) → IsSessionFrame plan timing s held f part moment p → f ≡ place_of plan (Asking r) → ⊥
+    session_first : (f r : ℕ) (part : Part) (moment p : ℕ) → IsSessionFrame plan timing s held f part moment p → f ≡ source_place plan (Asking r) → ⊥
     session_first f r part moment p one same = flow_first f one.flow r (2 * units_told plan.flows.items units) one.its same
 
     parts_alike : (f g : ℕ) (a b : Part) (moment other p q : ℕ) → f ≡ g → IsSessionFrame plan timing s held f a moment p
-        → IsSessionFrame plan timing s held g b other q → turn_of plan (InSession f a) ≡ turn_of plan (InSession g b) → a ≡ b
+        → IsSessionFrame plan timing s held g b other q → source_turn plan (InSession f a) ≡ source_turn plan (InSession g b) → a ≡ b
     parts_alike f g a b moment other p q place one two turn =
         let flow : one.flow ≡ two.flow = same_Some _ _ (sym one.its ∙ (ap (slice_get plan.flows.items) place ∙ two.its)) in
         let group : one.group ≡ two.group =
@@ -544,7 +544,7 @@ module _ (plan : Plan) (timing : Timing) (stays : UnitPlan → Bool) where
         (ap (λ (n : ℕ). turn_of_part n a) (sym first) ∙ (turn ∙ ap (λ (n : ℕ). turn_of_part n b) second))
 
     -- packets stand behind flows
-    pub of_packets : (a : Source) (u m k moment p : ℕ) → IsFrameOf plan timing s held b a moment p → m < b.count u → place_of plan a ≡ place_of plan (Carrying u m k)
+    pub of_packets : (a : Source) (u m k moment p : ℕ) → IsFrameOf plan timing s held b a moment p → m < b.count u → source_place plan a ≡ source_place plan (Carrying u m k)
         → (n : ℕ) × (j : ℕ) × (a ≡ Carrying u n j)
     of_packets (Single f) u m k moment p one below place = absurd (flow_first f one.flow 0 u one.its (place ∙ omega arith))
     of_packets (InSession f part) u m k moment p one below place = absurd (flow_first f one.flow 0 u one.its (place ∙ omega arith))
@@ -554,7 +554,7 @@ module _ (plan : Plan) (timing : Timing) (stays : UnitPlan → Bool) where
 
     -- and announcements behind them
     pub of_announcements : (a : Source) (u m moment p : ℕ) → IsFrameOf plan timing s held b a moment p → m < b.count u
-        → place_of plan a ≡ place_of plan (Announcing u m) → (n : ℕ) × (a ≡ Announcing u n)
+        → source_place plan a ≡ source_place plan (Announcing u m) → (n : ℕ) × (a ≡ Announcing u n)
     of_announcements (Single f) u m moment p one below place =
         absurd (flow_first f one.flow (units_told plan.flows.items units) u one.its (place ∙ omega arith))
     of_announcements (InSession f part) u m moment p one below place =
@@ -565,16 +565,16 @@ module _ (plan : Plan) (timing : Timing) (stays : UnitPlan → Bool) where
         absurd (let told = unit_told plan timing stays b v n (messages v n one.0.known) in omega (arith, place, told))
 
     never_announced : (a : Source) (u m moment p : ℕ) → ((n : ℕ) → a ≡ Announcing u n → ⊥) → IsFrameOf plan timing s held b a moment p → m < b.count u
-        → place_of plan a ≡ place_of plan (Announcing u m) → ⊥
+        → source_place plan a ≡ source_place plan (Announcing u m) → ⊥
     never_announced a u m moment p never one below place = let (n, is) = of_announcements a u m moment p one below place in never n is
 
     never_packet : (a : Source) (u m k moment p : ℕ) → ((n j : ℕ) → a ≡ Carrying u n j → ⊥) → IsFrameOf plan timing s held b a moment p → m < b.count u
-        → place_of plan a ≡ place_of plan (Carrying u m k) → ⊥
+        → source_place plan a ≡ source_place plan (Carrying u m k) → ⊥
     never_packet a u m k moment p never one below place = let (n, j, is) = of_packets a u m k moment p one below place in never n j is
 
     -- two frames at one place with one turn are of one source, but those of long messages to all
     pub one_source : (x y : Source) (moment other p q : ℕ) → HasPace x → IsFrameOf plan timing s held b x moment p → IsFrameOf plan timing s held b y other q
-        → place_of plan x ≡ place_of plan y → turn_of plan x ≡ turn_of plan y → x ≡ y
+        → source_place plan x ≡ source_place plan y → source_turn plan x ≡ source_turn plan y → x ≡ y
     one_source (Single f) (Single g) moment other p q paced one two place turn = ap Single place
     one_source (Single f) (InSession g part) moment other p q paced one two place turn =
         absurd (short_or_long f moment other p q part one (subst (λ (h : ℕ). IsSessionFrame plan timing s held h part other q) (sym place) two))

@@ -16,7 +16,7 @@ use Rattle.j39_load.specs.declared.frames.flow_frames.FlowFrames.{FlowFrames}
 use Rattle.j39_load.specs.Asked.{asked_of, frames_asked}
 use Rattle.j39_load.specs.Broadcasts.{broadcasts_by, least_packets}
 use Rattle.j39_load.specs.Loads.{bits_of_ms}
-use Rattle.j39_load.specs.KeepsPlan.{turn_of, IsSingleFlow, KeepsToPlan, origins_of, place_of, units_told}
+use Rattle.j39_load.specs.KeepsPlan.{source_turn, IsSingleFlow, KeepsToPlan, origins_of, source_place, units_told}
 use Rattle.j39_load.specs.PlannedFrames.{AreFramesOfPlan, planned_at}
 use Rattle.j39_load.specs.SentFrames.{FrameSources, HasTime, Held, IsFrameOf, IsSessionFrame, IsSingleFrame, Part, Source}
 use Rattle.j39_load.specs.SentFrames.{Single, InSession, Asking, Announcing, Carrying}
@@ -42,7 +42,7 @@ module _ (plan : Plan) (timing : Timing) (stays : UnitPlan → Bool) (tells : Te
     of_source = known plan timing stays tells s held keeps.held_by_plan keeps.held_apart sent.broadcasts keeps.broadcasts.messages (sent.source p) (sent.moment p) p (queued_first p in_p)
         (keeps.frames p in_p is)
 
-    pub at_its_place : planned_at (all plan timing stays) (place_of plan (sent.source p)) ≡ of_source.frames
+    pub at_its_place : planned_at (all plan timing stays) (source_place plan (sent.source p)) ≡ of_source.frames
     at_its_place = here plan timing stays s (sent.source p) (sent.moment p) p of_source
 
     pub keeps_stream : KeepsStream s (traffic plan timing stays).count (traffic plan timing stays).stream (origins_of plan sent) p
@@ -124,7 +124,7 @@ module _ (plan : Plan) (timing : Timing) (stays : UnitPlan → Bool) (tells : Te
         ]
 
     -- of what comes by its own pace
-    alike : (x : Source) → HasPace plan timing stays x → sent.source p ≡ x → place_of plan x ≡ place_of plan (sent.source q) → turn_of plan x ≡ turn_of plan (sent.source q)
+    alike : (x : Source) → HasPace plan timing stays x → sent.source p ≡ x → source_place plan x ≡ source_place plan (sent.source q) → source_turn plan x ≡ source_turn plan (sent.source q)
         → (stream : Stream) → IsPacedBy plan timing stays x stream → (sent.moment p + stream.period ≤ sent.moment q) ⊎ (sent.moment q + stream.period ≤ sent.moment p)
     alike x pace first place turn stream paced =
         let one : x ≡ sent.source q =
@@ -132,7 +132,7 @@ module _ (plan : Plan) (timing : Timing) (stays : UnitPlan → Bool) (tells : Te
         (subst (λ (y : Source). IsFrameOf plan timing s held sent.broadcasts y (sent.moment p) p) first frame_p) frame_q place turn in
         by_pace p q in_p in_q other is_p is_q (first ∙ one) stream (subst (λ (y : Source). IsPacedBy plan timing stays y stream) (sym first) paced)
 
-    by_source : (x : Source) → sent.source p ≡ x → place_of plan x ≡ place_of plan (sent.source q) → turn_of plan x ≡ turn_of plan (sent.source q) → (stream : Stream)
+    by_source : (x : Source) → sent.source p ≡ x → source_place plan x ≡ source_place plan (sent.source q) → source_turn plan x ≡ source_turn plan (sent.source q) → (stream : Stream)
         → IsPaced plan timing stays x stream → (sent.moment p + stream.period ≤ sent.moment q) ⊎ (sent.moment q + stream.period ≤ sent.moment p)
     by_source (Single f) first place turn stream paced = alike (Single f) tt first place turn stream paced
     by_source (InSession f part) first place turn stream paced = alike (InSession f part) tt first place turn stream paced
@@ -149,14 +149,14 @@ module _ (plan : Plan) (timing : Timing) (stays : UnitPlan → Bool) (tells : Te
         carried_apart u m n j k first second stream paced
 
   pub told_stream : (p : ℕ) → p < s.count → planned p ≡ true
-      → IsPaced plan timing stays (sent.source p) ((traffic plan timing stays).stream (place_of plan (sent.source p)))
+      → IsPaced plan timing stays (sent.source p) ((traffic plan timing stays).stream (source_place plan (sent.source p)))
   told_stream p in_p is = subst (λ (f : FlowFrames). IsPaced plan timing stays (sent.source p) f.stream) (sym (at_its_place p in_p is)) (of_source p in_p is).paced
 
   pub of_streams : AreOfStreams s (λ p. planned p ≡ true) (traffic plan timing stays).count (traffic plan timing stays).stream (origins_of plan sent)
   of_streams = record {
     keeps = λ p in_p is. keeps_stream p in_p is;
     spaced = λ p q in_p in_q other is_p is_q place turn.
-        by_source p q in_p in_q other is_p is_q (sent.source p) refl place turn ((traffic plan timing stays).stream (place_of plan (sent.source p)))
+        by_source p q in_p in_q other is_p is_q (sent.source p) refl place turn ((traffic plan timing stays).stream (source_place plan (sent.source p)))
         (told_stream p in_p is_p);
   }
 
@@ -195,10 +195,10 @@ module _ (plan : Plan) (timing : Timing) (stays : UnitPlan → Bool) (tells : Te
   below_greatest (Carrying u m k) a b timed below = below
 
   -- of frames at a place of which times are promised
-  pub premises_at : (i : ℕ) → ((p : ℕ) → p < s.count → planned p ≡ true → place_of plan (sent.source p) ≡ i → HasTime (sent.source p))
+  pub premises_at : (i : ℕ) → ((p : ℕ) → p < s.count → planned p ≡ true → source_place plan (sent.source p) ≡ i → HasTime (sent.source p))
       → ((p q t : ℕ) → p < s.count → q < s.count → t < s.now → planned p ≡ true
-      → may_share (traffic plan timing stays) i (place_of plan (sent.source p)) ≡ true → IsQueuedAt s p t → IsQueuedAt s q t → s.ident p ≡ s.ident q
-      → (planned q ≡ true) × (may_share (traffic plan timing stays) i (place_of plan (sent.source q)) ≡ true))
+      → may_share (traffic plan timing stays) i (source_place plan (sent.source p)) ≡ true → IsQueuedAt s p t → IsQueuedAt s q t → s.ident p ≡ s.ident q
+      → (planned q ≡ true) × (may_share (traffic plan timing stays) i (source_place plan (sent.source q)) ≡ true))
       → AreFramesOfPlan timing (frames_asked (asked_of timing plan stays)) s planned (origins_of plan sent) i
   premises_at i timed own = record {
     longest_at_most = λ p in_p. elim (cases_Bool (planned p)) [
@@ -240,18 +240,18 @@ module _ (plan : Plan) (timing : Timing) (stays : UnitPlan → Bool) (tells : Te
         ]
 
     -- and no request
-    no_asking : (r moment p : ℕ) → IsFrameOf plan timing s held sent.broadcasts (Asking r) moment p → may_share (traffic plan timing stays) i (place_of plan (Asking r)) ≡ true → ⊥
+    no_asking : (r moment p : ℕ) → IsFrameOf plan timing s held sent.broadcasts (Asking r) moment p → may_share (traffic plan timing stays) i (source_place plan (Asking r)) ≡ true → ⊥
     no_asking r moment p one shares =
-        elim (or_cases (eqb (place_of plan (Asking r)) i) (are_twins (planned_at (all plan timing stays) i) (planned_at (all plan timing stays) (place_of plan (Asking r)))) shares) [
+        elim (or_cases (eqb (source_place plan (Asking r)) i) (are_twins (planned_at (all plan timing stays) i) (planned_at (all plan timing stays) (source_place plan (Asking r)))) shares) [
           | inl same ↦
-              let place : place_of plan (Asking r) ≡ i = eqb-true (place_of plan (Asking r)) i same in
+              let place : source_place plan (Asking r) ≡ i = eqb-true (source_place plan (Asking r)) i same in
               let below = slice_get_within plan.flows.items i single.flow single.its in
               omega (arith, place, below)
           | inr twin ↦
-              let its = with_damage timing (frames_asked (asked_of timing plan stays)) (place_of plan (Asking r))
+              let its = with_damage timing (frames_asked (asked_of timing plan stays)) (source_place plan (Asking r))
               (in_request plan timing stays r one.asked one.ms one.its one.paced)
               (request_frames_read plan timing stays r one.asked one.ms one.its one.paced) in
-              never_twin (planned_at (all plan timing stays) i) (planned_at (all plan timing stays) (place_of plan (Asking r))) (ap (λ (x : FlowFrames). x.twin_ident) its) twin
+              never_twin (planned_at (all plan timing stays) i) (planned_at (all plan timing stays) (source_place plan (Asking r))) (ap (λ (x : FlowFrames). x.twin_ident) its) twin
         ]
 
     -- and no frame that stands behind the flows and has no twins
@@ -270,20 +270,20 @@ module _ (plan : Plan) (timing : Timing) (stays : UnitPlan → Bool) (tells : Te
 
     -- so it is a single one
     pub of_single : (source : Source) (moment p : ℕ) → IsFrameOf plan timing s held sent.broadcasts source moment p
-        → may_share (traffic plan timing stays) i (place_of plan source) ≡ true → (f : ℕ) × (source ≡ Single f)
+        → may_share (traffic plan timing stays) i (source_place plan source) ≡ true → (f : ℕ) × (source ≡ Single f)
     of_single (Single f) moment p one shares = (f, refl)
     of_single (InSession f part) moment p one shares = absurd (no_session f part moment p one shares)
     of_single (Asking r) moment p one shares = absurd (no_asking r moment p one shares)
     of_single (Announcing u m) moment p one shares = absurd (no_unit (unit_asks plan timing stays sent.broadcasts u m (keeps.broadcasts.messages u m one.known)).announcements
-        (place_of plan (Announcing u m)) (units_told plan.flows.items plan.units.items + u)
+        (source_place plan (Announcing u m)) (units_told plan.flows.items plan.units.items + u)
         (announcing_read plan timing stays sent.broadcasts u m (keeps.broadcasts.messages u m one.known)) refl refl shares)
     of_single (Carrying u m k) moment p one shares = absurd (no_unit (unit_asks plan timing stays sent.broadcasts u m (keeps.broadcasts.messages u m one.0.known)).packets
-        (place_of plan (Carrying u m k)) u (carrying_read plan timing stays sent.broadcasts u m (keeps.broadcasts.messages u m one.0.known) k) refl refl shares)
+        (source_place plan (Carrying u m k)) u (carrying_read plan timing stays sent.broadcasts u m (keeps.broadcasts.messages u m one.0.known) k) refl refl shares)
 
     -- what has the identifier of such a single frame is of the flow or a twin too
     shared_by : (f moment p other q t : ℕ) (second : Source) → IsSingleFrame plan timing s held f moment p → IsFrameOf plan timing s held sent.broadcasts second other q
         → IsQueuedAt s p t → IsQueuedAt s q t → s.ident p ≡ s.ident q → may_share (traffic plan timing stays) i f ≡ true
-        → may_share (traffic plan timing stays) i (place_of plan second) ≡ true
+        → may_share (traffic plan timing stays) i (source_place plan second) ≡ true
     shared_by f moment p other q t (Single g) one two at_p at_q same shares =
         elim (one_or_alike plan timing clean s held t (keeps.held_apart t) stays f g moment other p q one two at_p at_q same) [
           | inl one_flow ↦ subst (λ (k : ℕ). may_share (traffic plan timing stays) i k ≡ true) one_flow shares
@@ -305,8 +305,8 @@ module _ (plan : Plan) (timing : Timing) (stays : UnitPlan → Bool) (tells : Te
         (broadcast_made plan timing clean s held t (keeps.held_apart t) sent.broadcasts 60160 u m other q (inr refl) two.0 at_q) same)
 
     pub own_identifier : (p q t : ℕ) → p < s.count → q < s.count → t < s.now → planned p ≡ true
-        → may_share (traffic plan timing stays) i (place_of plan (sent.source p)) ≡ true → IsQueuedAt s p t → IsQueuedAt s q t → s.ident p ≡ s.ident q
-        → (planned q ≡ true) × (may_share (traffic plan timing stays) i (place_of plan (sent.source q)) ≡ true)
+        → may_share (traffic plan timing stays) i (source_place plan (sent.source p)) ≡ true → IsQueuedAt s p t → IsQueuedAt s q t → s.ident p ≡ s.ident q
+        → (planned q ≡ true) × (may_share (traffic plan timing stays) i (source_place plan (sent.source q)) ≡ true)
     own_identifier p q t in_p in_q seen is_p shares at_p at_q same =
         let (f, source) = of_single (sent.source p) (sent.moment p) p (keeps.frames p in_p is_p) shares in
         elim (cases_Bool (planned q)) [
@@ -314,17 +314,17 @@ module _ (plan : Plan) (timing : Timing) (stays : UnitPlan → Bool) (tells : Te
             is_q,
             shared_by f (sent.moment p) p (sent.moment q) q t (sent.source q)
                 (subst (λ (x : Source). IsFrameOf plan timing s held sent.broadcasts x (sent.moment p) p) source (keeps.frames p in_p is_p)) (keeps.frames q in_q is_q) at_p at_q same
-                (subst (λ (x : Source). may_share (traffic plan timing stays) i (place_of plan x) ≡ true) source shares),
+                (subst (λ (x : Source). may_share (traffic plan timing stays) i (source_place plan x) ≡ true) source shares),
           )
           | inr not_q ↦ absurd (keeps.others_identifier p q t in_p in_q seen is_p (subst HasTime (sym source) tt) not_q at_p at_q same)
         ]
 
     -- a frame at this place is one of the flow
-    pub of_flow : (p : ℕ) (in_p : p < s.count) (is : planned p ≡ true) → place_of plan (sent.source p) ≡ i → sent.source p ≡ Single i
+    pub of_flow : (p : ℕ) (in_p : p < s.count) (is : planned p ≡ true) → source_place plan (sent.source p) ≡ i → sent.source p ≡ Single i
     of_flow p in_p is place =
-        let shares : may_share (traffic plan timing stays) i (place_of plan (sent.source p)) ≡ true = or_left _ _ (eq-eqb (place_of plan (sent.source p)) i place) in
+        let shares : may_share (traffic plan timing stays) i (source_place plan (sent.source p)) ≡ true = or_left _ _ (eq-eqb (source_place plan (sent.source p)) i place) in
         let (f, source) = of_single (sent.source p) (sent.moment p) p (keeps.frames p in_p is) shares in
-        source ∙ ap Single (sym (ap (place_of plan) source) ∙ place)
+        source ∙ ap Single (sym (ap (source_place plan) source) ∙ place)
 
     pub keeps_premises : AreFramesOfPlan timing (frames_asked (asked_of timing plan stays)) s planned (origins_of plan sent) i
     keeps_premises = premises_at i (λ p in_p is place. subst HasTime (sym (of_flow p in_p is place)) tt) own_identifier

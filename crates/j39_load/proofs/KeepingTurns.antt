@@ -14,7 +14,7 @@ use Rattle.j39_load.specs.AnyQueues.{keep_order}
 use Rattle.j39_load.specs.Asked.{asked_of, frames_asked}
 use Rattle.j39_load.specs.Delays.{announcements_place, packets_place}
 use Rattle.j39_load.specs.KeepsBroadcasts.{IsMessageToAll, KeepsTurns}
-use Rattle.j39_load.specs.KeepsPlan.{KeepsQueues, KeepsToPlan, origins_of, place_of}
+use Rattle.j39_load.specs.KeepsPlan.{KeepsQueues, KeepsToPlan, origins_of, source_place}
 use Rattle.j39_load.specs.Loads.{load_of_flow}
 use Rattle.j39_load.specs.PlannedFrames.{ComeInAnyOrder, ComeInTurn, planned_at}
 use Rattle.j39_load.specs.SentFrames.{FrameSources, HasTime, Held, IsBroadcastFrame, IsFrameOf, IsToAllBy, Source}
@@ -103,8 +103,8 @@ module _ (plan : Plan) (timing : Timing) (stays : UnitPlan → Bool) (tells : Te
 
   -- a place at which such frames stand alone
   module _ (number u i : ℕ) (none : (planned_at (all plan timing stays) i).twin_ident ≡ None)
-      (there : (x : Source) → IsNumbered number u x → place_of plan x ≡ i)
-      (only : (p : ℕ) → p < s.count → planned p ≡ true → place_of plan (sent.source p) ≡ i
+      (there : (x : Source) → IsNumbered number u x → source_place plan x ≡ i)
+      (only : (p : ℕ) → p < s.count → planned p ≡ true → source_place plan (sent.source p) ≡ i
       → (m : ℕ) × IsNumbered number u (sent.source p) × IsBroadcastFrame timing s held sent.broadcasts number u m (sent.moment p) p)
       (either : (number ≡ 60416) ⊎ (number ≡ 60160)) where
     at_place_of : (j : ℕ) → may_share (traffic plan timing stays) i j ≡ true → j ≡ i
@@ -114,14 +114,14 @@ module _ (plan : Plan) (timing : Timing) (stays : UnitPlan → Bool) (tells : Te
     ]
 
     own : (p q t : ℕ) → p < s.count → q < s.count → t < s.now → planned p ≡ true
-        → may_share (traffic plan timing stays) i (place_of plan (sent.source p)) ≡ true → IsQueuedAt s p t → IsQueuedAt s q t → s.ident p ≡ s.ident q
-        → (planned q ≡ true) × (may_share (traffic plan timing stays) i (place_of plan (sent.source q)) ≡ true)
+        → may_share (traffic plan timing stays) i (source_place plan (sent.source p)) ≡ true → IsQueuedAt s p t → IsQueuedAt s q t → s.ident p ≡ s.ident q
+        → (planned q ≡ true) × (may_share (traffic plan timing stays) i (source_place plan (sent.source q)) ≡ true)
     own p q t in_p in_q seen is_p shares at_p at_q same =
-        let (m, is, one) = only p in_p is_p (at_place_of (place_of plan (sent.source p)) shares) in
+        let (m, is, one) = only p in_p is_p (at_place_of (source_place plan (sent.source p)) shares) in
         elim (cases_Bool (planned q)) [
           | inl is_q ↦
               let place = there (sent.source q) (shared number u m (sent.moment p) p (sent.moment q) q t (sent.source q) either one (keeps.frames q in_q is_q) at_p at_q same) in
-              (is_q, or_left _ _ (eq-eqb (place_of plan (sent.source q)) i place))
+              (is_q, or_left _ _ (eq-eqb (source_place plan (sent.source q)) i place))
           | inr not_q ↦ absurd (keeps.others_identifier p q t in_p in_q seen is_p (numbered_timed number u (sent.source p) is) not_q at_p at_q same)
         ]
 
@@ -168,31 +168,31 @@ module _ (plan : Plan) (timing : Timing) (stays : UnitPlan → Bool) (tells : Te
         → (planned_at (all plan timing stays) j).twin_ident ≡ None
     no_twins_at j frames none is = ap (λ (x : FlowFrames). x.twin_ident) is ∙ none
 
-    packets_none : (planned_at (all plan timing stays) (place_of plan (Carrying u m 0))).twin_ident ≡ None
-    packets_none = no_twins_at (place_of plan (Carrying u m 0)) (unit_asks plan timing stays sent.broadcasts u m message).packets refl
-        (with_damage timing (frames_asked (asked_of timing plan stays)) (place_of plan (Carrying u m 0))
+    packets_none : (planned_at (all plan timing stays) (source_place plan (Carrying u m 0))).twin_ident ≡ None
+    packets_none = no_twins_at (source_place plan (Carrying u m 0)) (unit_asks plan timing stays sent.broadcasts u m message).packets refl
+        (with_damage timing (frames_asked (asked_of timing plan stays)) (source_place plan (Carrying u m 0))
         (unit_asks plan timing stays sent.broadcasts u m message).packets (carrying_read plan timing stays sent.broadcasts u m message 0))
 
-    announcements_none : (planned_at (all plan timing stays) (place_of plan (Announcing u m))).twin_ident ≡ None
-    announcements_none = no_twins_at (place_of plan (Announcing u m)) (unit_asks plan timing stays sent.broadcasts u m message).announcements refl
-        (with_damage timing (frames_asked (asked_of timing plan stays)) (place_of plan (Announcing u m))
+    announcements_none : (planned_at (all plan timing stays) (source_place plan (Announcing u m))).twin_ident ≡ None
+    announcements_none = no_twins_at (source_place plan (Announcing u m)) (unit_asks plan timing stays sent.broadcasts u m message).announcements refl
+        (with_damage timing (frames_asked (asked_of timing plan stays)) (source_place plan (Announcing u m))
         (unit_asks plan timing stays sent.broadcasts u m message).announcements (announcing_read plan timing stays sent.broadcasts u m message))
 
-    packets_there : (x : Source) → IsNumbered 60160 u x → place_of plan x ≡ place_of plan (Carrying u m 0)
+    packets_there : (x : Source) → IsNumbered 60160 u x → source_place plan x ≡ source_place plan (Carrying u m 0)
     packets_there (Single f) is = absurd is
     packets_there (InSession f part) is = absurd is
     packets_there (Asking r) is = absurd is
     packets_there (Announcing v n) is = absurd (let number = is.0 in omega (arith, number))
-    packets_there (Carrying v n k) is = ap (λ (w : ℕ). place_of plan (Carrying w 0 0)) (sym is.1)
+    packets_there (Carrying v n k) is = ap (λ (w : ℕ). source_place plan (Carrying w 0 0)) (sym is.1)
 
-    announcements_there : (x : Source) → IsNumbered 60416 u x → place_of plan x ≡ place_of plan (Announcing u m)
+    announcements_there : (x : Source) → IsNumbered 60416 u x → source_place plan x ≡ source_place plan (Announcing u m)
     announcements_there (Single f) is = absurd is
     announcements_there (InSession f part) is = absurd is
     announcements_there (Asking r) is = absurd is
-    announcements_there (Announcing v n) is = ap (λ (w : ℕ). place_of plan (Announcing w 0)) (sym is.1)
+    announcements_there (Announcing v n) is = ap (λ (w : ℕ). source_place plan (Announcing w 0)) (sym is.1)
     announcements_there (Carrying v n k) is = absurd (let number = is.0 in omega (arith, number))
 
-    packets_only : (p : ℕ) → p < s.count → planned p ≡ true → place_of plan (sent.source p) ≡ place_of plan (Carrying u m 0)
+    packets_only : (p : ℕ) → p < s.count → planned p ≡ true → source_place plan (sent.source p) ≡ source_place plan (Carrying u m 0)
         → (n : ℕ) × IsNumbered 60160 u (sent.source p) × IsBroadcastFrame timing s held sent.broadcasts 60160 u n (sent.moment p) p
     packets_only p in_p is place =
         let (n, k, source) = of_packets plan timing stays s held sent.broadcasts keeps.broadcasts.messages (sent.source p) u m 0 (sent.moment p) p
@@ -200,7 +200,7 @@ module _ (plan : Plan) (timing : Timing) (stays : UnitPlan → Bool) (tells : Te
         let one = subst (λ (x : Source). IsFrameOf plan timing s held sent.broadcasts x (sent.moment p) p) source (keeps.frames p in_p is) in
         (n, subst (IsNumbered 60160 u) (sym source) (refl, refl), one.0)
 
-    announcements_only : (p : ℕ) → p < s.count → planned p ≡ true → place_of plan (sent.source p) ≡ place_of plan (Announcing u m)
+    announcements_only : (p : ℕ) → p < s.count → planned p ≡ true → source_place plan (sent.source p) ≡ source_place plan (Announcing u m)
         → (n : ℕ) × IsNumbered 60416 u (sent.source p) × IsBroadcastFrame timing s held sent.broadcasts 60416 u n (sent.moment p) p
     announcements_only p in_p is place =
         let (n, source) = of_announcements plan timing stays s held sent.broadcasts keeps.broadcasts.messages (sent.source p) u m (sent.moment p) p
@@ -208,10 +208,10 @@ module _ (plan : Plan) (timing : Timing) (stays : UnitPlan → Bool) (tells : Te
         let one = subst (λ (x : Source). IsFrameOf plan timing s held sent.broadcasts x (sent.moment p) p) source (keeps.frames p in_p is) in
         (n, subst (IsNumbered 60416 u) (sym source) (refl, refl), one)
 
-    at_packets : packets_place (asked_of timing plan stays) u ≡ place_of plan (Carrying u m 0)
+    at_packets : packets_place (asked_of timing plan stays) u ≡ source_place plan (Carrying u m 0)
     at_packets = let flows = length-map plan.flows.items (load_of_flow timing plan stays) in omega (arith, flows)
 
-    at_announcements : announcements_place (asked_of timing plan stays) u ≡ place_of plan (Announcing u m)
+    at_announcements : announcements_place (asked_of timing plan stays) u ≡ source_place plan (Announcing u m)
     at_announcements =
         let told = same_units plan timing stays in
         let flows = length-map plan.flows.items (load_of_flow timing plan stays) in
@@ -219,24 +219,24 @@ module _ (plan : Plan) (timing : Timing) (stays : UnitPlan → Bool) (tells : Te
 
     pub packets_in_turn : ComeInTurn timing (frames_asked (asked_of timing plan stays)) s planned (origins_of plan sent) (packets_place (asked_of timing plan stays) u)
     packets_in_turn = subst (ComeInTurn timing (frames_asked (asked_of timing plan stays)) s planned (origins_of plan sent)) (sym at_packets)
-        (in_turn 60160 u (place_of plan (Carrying u m 0)) packets_none packets_there packets_only (inr refl))
+        (in_turn 60160 u (source_place plan (Carrying u m 0)) packets_none packets_there packets_only (inr refl))
 
     pub announcements_in_turn : ComeInTurn timing (frames_asked (asked_of timing plan stays)) s planned (origins_of plan sent)
         (announcements_place (asked_of timing plan stays) u)
     announcements_in_turn = subst (ComeInTurn timing (frames_asked (asked_of timing plan stays)) s planned (origins_of plan sent)) (sym at_announcements)
-        (in_turn 60416 u (place_of plan (Announcing u m)) announcements_none announcements_there announcements_only (inl refl))
+        (in_turn 60416 u (source_place plan (Announcing u m)) announcements_none announcements_there announcements_only (inl refl))
 
     module _ (controllers : Controllers) (queues : KeepsQueues plan timing s controllers planned sent) where
       pub packets_in_any_turn : ComeInAnyOrder timing (frames_asked (asked_of timing plan stays)) s controllers planned (origins_of plan sent)
           (packets_place (asked_of timing plan stays) u)
       packets_in_any_turn = subst (ComeInAnyOrder timing (frames_asked (asked_of timing plan stays)) s controllers planned (origins_of plan sent)) (sym at_packets)
-          (in_any_turn 60160 u (place_of plan (Carrying u m 0)) packets_none packets_there packets_only (inr refl) controllers queues)
+          (in_any_turn 60160 u (source_place plan (Carrying u m 0)) packets_none packets_there packets_only (inr refl) controllers queues)
 
       pub announcements_in_any_turn : ComeInAnyOrder timing (frames_asked (asked_of timing plan stays)) s controllers planned (origins_of plan sent)
           (announcements_place (asked_of timing plan stays) u)
       announcements_in_any_turn =
           subst (ComeInAnyOrder timing (frames_asked (asked_of timing plan stays)) s controllers planned (origins_of plan sent)) (sym at_announcements)
-          (in_any_turn 60416 u (place_of plan (Announcing u m)) announcements_none announcements_there announcements_only (inl refl) controllers queues)
+          (in_any_turn 60416 u (source_place plan (Announcing u m)) announcements_none announcements_there announcements_only (inl refl) controllers queues)
 
 -- ---- plans
 

@@ -15,7 +15,7 @@ use Rattle.j39_load.specs.declared.loads.flow_load.FlowLoad.{FlowLoad}
 use Rattle.j39_load.specs.Ages.{old_needs}
 use Rattle.j39_load.specs.Asked.{asked_of, frames_asked, total_load}
 use Rattle.j39_load.specs.KeepsErrors.{AreInTimeWithErrors, AreInTimeWithErrorsInAnyOrder, origins_with, planned_with}
-use Rattle.j39_load.specs.KeepsPlan.{AreFramesInTime, AreSentInTime, IsSingleFlow, KeepsToPlan, origins_of, place_of}
+use Rattle.j39_load.specs.KeepsPlan.{AreFramesInTime, AreSentInTime, IsSingleFlow, KeepsToPlan, origins_of, source_place}
 use Rattle.j39_load.specs.LoadFindings.{AreLoadFindings, AsksOfBus, load_findings}
 use Rattle.j39_load.specs.Loads.{bits_per_ms, deadline_of, time_limit}
 use Rattle.j39_load.specs.PlannedFrames.{IsBounded}
@@ -100,7 +100,7 @@ module _ (plan : Plan) (timing : Timing) (stays : UnitPlan → Bool) (delays : L
           let sum = told.bound.sum in
           let limited = told.limited in
           let shown = before_bits timing.bitrate one.pace.period (sent.moment p) s.now seen in
-          let ended = (in_time f told.bits single told.bound p in_p is (ap (place_of plan) source) (omega (arith, shown, limited, period, sum))).1 in (
+          let ended = (in_time f told.bits single told.bound p in_p is (ap (source_place plan) source) (omega (arith, shown, limited, period, sum))).1 in (
             in_ms timing.bitrate one.pace.period (sent.moment p) (frame_end s p) (omega (arith, ended, sum, limited, period)),
             λ deadline written.
                 let first = at_most_first timing.bitrate (deadline_of one.pace) one.pace.period in

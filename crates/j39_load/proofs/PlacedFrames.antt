@@ -22,7 +22,7 @@ use Rattle.j39_load.specs.declared.loads.request_load.RequestLoad.{RequestLoad}
 use Rattle.j39_load.specs.Asked.{Asked, asked_of, frames_asked, own_frames}
 use Rattle.j39_load.specs.Broadcasts.{broadcasts_by, known_unit_load, unit_loads_of}
 use Rattle.j39_load.specs.Damage.{damage_frames}
-use Rattle.j39_load.specs.KeepsPlan.{place_of, units_told}
+use Rattle.j39_load.specs.KeepsPlan.{source_place, units_told}
 use Rattle.j39_load.specs.Loads.{flow_load, load_of_flow, loads_of, long_messages, packet_frames, single_frames}
 use Rattle.j39_load.specs.PlannedFrames.{traffic_of}
 use Rattle.j39_load.specs.RequestLoads.{load_of_request, request_load}
@@ -115,11 +115,11 @@ module _ (plan : Plan) (timing : Timing) (stays : UnitPlan → Bool) where
     request_at = slice_get-map (load_of_request timing units stays) plan.requests.items r
         ∙ (ap (option_map (load_of_request timing units stays)) its ∙ ap Some (ap (option_map (request_load timing units stays request)) paced))
 
-    pub request_frames_read : get_or (frames_asked asked) (place_of plan (Asking r)) None ≡ Some in_request
+    pub request_frames_read : get_or (frames_asked asked) (source_place plan (Asking r)) None ≡ Some in_request
     request_frames_read =
         let told = same_units in
         let flows = length-map plan.flows.items (load_of_flow timing plan stays) in
-        let place : place_of plan (Asking r) ≡ 2 * length asked.flows + (2 * length asked.units + r) = omega (arith, told, flows) in
+        let place : source_place plan (Asking r) ≡ 2 * length asked.flows + (2 * length asked.units + r) = omega (arith, told, flows) in
         ap (λ (k : ℕ). get_or (frames_asked asked) k None) place
         ∙ request_read asked.flows asked.units asked.requests r request_asks request_at
 
@@ -179,15 +179,15 @@ module _ (plan : Plan) (timing : Timing) (stays : UnitPlan → Bool) where
     unit_read : get_or asked.units u None ≡ Some unit_asks
     unit_read = units_read u asked.flows (least_at u asked.flows (b.flow u m) its_broadcast is_by).0 unit_planned
 
-    pub carrying_read : (k : ℕ) → get_or (frames_asked asked) (place_of plan (Carrying u m k)) None ≡ Some unit_asks.packets
+    pub carrying_read : (k : ℕ) → get_or (frames_asked asked) (source_place plan (Carrying u m k)) None ≡ Some unit_asks.packets
     carrying_read k =
         let flows = length-map plan.flows.items (load_of_flow timing plan stays) in
-        let place : place_of plan (Carrying u m k) ≡ packets_place asked u = omega (arith, flows) in
+        let place : source_place plan (Carrying u m k) ≡ packets_place asked u = omega (arith, flows) in
         ap (λ (n : ℕ). get_or (frames_asked asked) n None) place ∙ packets_read asked u unit_asks unit_read
 
-    pub announcing_read : get_or (frames_asked asked) (place_of plan (Announcing u m)) None ≡ Some unit_asks.announcements
+    pub announcing_read : get_or (frames_asked asked) (source_place plan (Announcing u m)) None ≡ Some unit_asks.announcements
     announcing_read =
         let told = same_units in
         let flows = length-map plan.flows.items (load_of_flow timing plan stays) in
-        let place : place_of plan (Announcing u m) ≡ announcements_place asked u = omega (arith, told, flows) in
+        let place : source_place plan (Announcing u m) ≡ announcements_place asked u = omega (arith, told, flows) in
         ap (λ (n : ℕ). get_or (frames_asked asked) n None) place ∙ announcements_read asked u unit_asks unit_read

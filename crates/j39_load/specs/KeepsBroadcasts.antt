@@ -35,15 +35,15 @@ pub record IsMessageToAll (plan : Plan) (timing : Timing) (b : Broadcasts) (u m 
   pub wanted_first : b.wanted u m ≤ b.announced u m
 
 -- two messages of the unit are of one flow, the second behind the first
-abbrev pub AreOfOneFlow : Broadcasts → ℕ → ℕ → ℕ → Type 0
-AreOfOneFlow b u m n = (m < n) × (n < b.count u) × (b.flow u m ≡ b.flow u n)
+abbrev pub ComeFromOneFlow : Broadcasts → ℕ → ℕ → ℕ → Type 0
+ComeFromOneFlow b u m n = (m < n) × (n < b.count u) × (b.flow u m ≡ b.flow u n)
 
 pub record KeepsBroadcasts (plan : Plan) (timing : Timing) (s : Schedule) (planned : ℕ → Bool) (sent : FrameSources) : Type 0 where
   pub messages : (u m : ℕ) → m < sent.broadcasts.count u → IsMessageToAll plan timing sent.broadcasts u m
   -- the moments of two messages of a flow are a period apart, and one of them waits at most: where the next one is wanted it has been announced
-  pub apart : (u m n ms : ℕ) → AreOfOneFlow sent.broadcasts u m n → HasPeriodMs plan (sent.broadcasts.flow u m) ms
+  pub apart : (u m n ms : ℕ) → ComeFromOneFlow sent.broadcasts u m n → HasPeriodMs plan (sent.broadcasts.flow u m) ms
       → IsMsBehind timing ms (sent.broadcasts.moment u m) (sent.broadcasts.moment u n)
-  pub one_waits : (u m n : ℕ) → AreOfOneFlow sent.broadcasts u m n → sent.broadcasts.announced u m ≤ sent.broadcasts.wanted u n
+  pub one_waits : (u m n : ℕ) → ComeFromOneFlow sent.broadcasts u m n → sent.broadcasts.announced u m ≤ sent.broadcasts.wanted u n
   -- between two announcements of a unit lie as many gaps as the first message has packets
   pub in_turn : (u m n : ℕ) → m < n → n < sent.broadcasts.count u
       → IsMsBehind timing (sent.broadcasts.packets u m * timing.broadcast_gap) (sent.broadcasts.announced u m) (sent.broadcasts.announced u n)

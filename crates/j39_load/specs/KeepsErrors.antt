@@ -6,7 +6,7 @@ use Rattle.j39_network.specs.declared.plan.queue.Queue.TheVariants.{Any}
 use Rattle.j39_network.specs.declared.plan.timing.ErrorRate.{ErrorRate}
 use Rattle.j39_network.specs.declared.plan.timing.Timing.{Timing}
 use Rattle.j39_network.specs.declared.plan.unit_plan.UnitPlan.{UnitPlan}
-use Rattle.j39_load.specs.KeepsPlan.{AreSentInTime, KeepsAllOrder, KeepsQueues, KeepsToPlan, place_of, turn_of}
+use Rattle.j39_load.specs.KeepsPlan.{AreSentInTime, KeepsAllOrder, KeepsQueues, KeepsToPlan, source_place, source_turn}
 use Rattle.j39_load.specs.SentFrames.{FrameSources, HasTime, Held, TakesPart, bit_time}
 use Rattle.j39_timing.specs.AnyOrder.{Controllers}
 use Rattle.j39_timing.specs.Companies.{unplanned_queued}
@@ -44,8 +44,8 @@ pub record KeepsErrors (timing : Timing) (rate : ErrorRate) (s : Schedule) (d : 
 -- what a frame, an attempt and an error frame is of its stream: the attempts stand behind so many streams, and take turns in a window
 abbrev pub origins_with : Plan → Schedule → Damaged → ErrorRate → ℕ → FrameSources → Origins
 origins_with plan s d rate count sent = record {
-  source = at_place s d (λ p. place_of plan (sent.source p)) (λ e. count) (λ e. suc count);
-  turn = at_place s d (λ p. turn_of plan (sent.source p)) (λ e. e % rate.count) (λ e. e % rate.count);
+  source = at_place s d (λ p. source_place plan (sent.source p)) (λ e. count) (λ e. suc count);
+  turn = at_place s d (λ p. source_turn plan (sent.source p)) (λ e. e % rate.count) (λ e. e % rate.count);
   since = at_place s d sent.moment d.begin d.begin;
 }
 

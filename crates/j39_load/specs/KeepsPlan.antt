@@ -12,7 +12,7 @@ use Rattle.j39_network.specs.declared.plan.timing.Timing.{Timing}
 use Rattle.j39_network.specs.declared.plan.unit_plan.UnitPlan.{UnitPlan}
 use Rattle.j39_load.specs.KeepsBroadcasts.{KeepsBroadcasts}
 use Rattle.j39_load.specs.Ranks.{AreHeldApart, AreHeldByPlan}
-use Rattle.j39_load.specs.SentFrames.{FrameSources, HasTime, Held, IsFrameOf, IsMsBefore, IsMsBehind, IsSentBy, IsSentEvery, IsWithinMs, Part, Source, TakesPart}
+use Rattle.j39_load.specs.SentFrames.{FrameSources, HasTime, Held, IsFrameOf, IsMsBefore, IsMsBehind, IsSentByUnit, IsSentEvery, IsWithinMs, Part, Source, TakesPart}
 use Rattle.j39_load.specs.SentFrames.{Single, InSession, Asking, Announcing, Carrying, RequestToSend, Packet, ClearToSend, EndAcknowledged}
 use Rattle.j39_timing.specs.AnyOrder.{Controllers, IsLegalInAnyOrder}
 use Rattle.j39_timing.specs.Companies.{unplanned_queued}
@@ -47,7 +47,7 @@ pub record KeepsToPlan (plan : Plan) (timing : Timing) (s : Schedule) (planned :
 -- who sends the frames, where units keep order or don't, and what else is asked of such a bus
 pub record KeepsQueues (plan : Plan) (timing : Timing) (s : Schedule) (controllers : Controllers) (planned : ℕ → Bool) (sent : FrameSources) : Type 0 where
   -- a frame is sent by its own unit, and one with `queue = "priority"` keeps order
-  pub sender : (p u : ℕ) → p < s.count → planned p ≡ true → IsSentBy plan (sent.source p) u → controllers.unit p ≡ u
+  pub sender : (p u : ℕ) → p < s.count → planned p ≡ true → IsSentByUnit plan (sent.source p) u → controllers.unit p ≡ u
   pub order : (u : ℕ) (unit : UnitPlan) → slice_get plan.units.items u ≡ Some unit → unit.queue ≡ Priority → controllers.keeps_order u ≡ true
   -- an identifier has 29 bits
   pub identifiers : (p : ℕ) → p < s.count → s.ident p < 2 ^ 29
@@ -72,12 +72,12 @@ units_told (flow ∷ flows) units = length units
 
 -- where the frames of a source stand among all that the plan asks for: flows at the first places, packets and announcements of units behind them,
 -- requests at the last ones
-abbrev pub place_of : Plan → Source → ℕ
-place_of plan (Single f) = f
-place_of plan (InSession f part) = f
-place_of plan (Asking r) = 2 * length plan.flows.items + (2 * units_told plan.flows.items plan.units.items + r)
-place_of plan (Announcing u m) = 2 * length plan.flows.items + (units_told plan.flows.items plan.units.items + u)
-place_of plan (Carrying u m k) = 2 * length plan.flows.items + u
+abbrev pub source_place : Plan → Source → ℕ
+source_place plan (Single f) = f
+source_place plan (InSession f part) = f
+source_place plan (Asking r) = 2 * length plan.flows.items + (2 * units_told plan.flows.items plan.units.items + r)
+source_place plan (Announcing u m) = 2 * length plan.flows.items + (units_told plan.flows.items plan.units.items + u)
+source_place plan (Carrying u m k) = 2 * length plan.flows.items + u
 
 -- the packets of a flow's longest messages
 abbrev pub packets_at : Plan → ℕ → ℕ
@@ -92,16 +92,16 @@ turn_of_part packets (Packet k) = 2 + k
 turn_of_part packets (ClearToSend k) = 2 + (packets + k)
 
 -- a message that goes in one frame has one part, and frames of long messages to all count as single ones
-abbrev pub turn_of : Plan → Source → ℕ
-turn_of plan (Single f) = 0
-turn_of plan (InSession f part) = turn_of_part (packets_at plan f) part
-turn_of plan (Asking r) = 0
-turn_of plan (Announcing u m) = 0
-turn_of plan (Carrying u m k) = 0
+abbrev pub source_turn : Plan → Source → ℕ
+source_turn plan (Single f) = 0
+source_turn plan (InSession f part) = turn_of_part (packets_at plan f) part
+source_turn plan (Asking r) = 0
+source_turn plan (Announcing u m) = 0
+source_turn plan (Carrying u m k) = 0
 
 -- what each frame is of its stream
 abbrev pub origins_of : Plan → FrameSources → Origins
-origins_of plan sent = record { source = λ p. place_of plan (sent.source p); turn = λ p. turn_of plan (sent.source p); since = sent.moment }
+origins_of plan sent = record { source = λ p. source_place plan (sent.source p); turn = λ p. source_turn plan (sent.source p); since = sent.moment }
 
 -- each message of the flow at this place goes in one frame
 pub record IsSingleFlow (plan : Plan) (i : ℕ) : Type 0 where

@@ -39,8 +39,8 @@ pub record CanBeKeptTogether (plan : Plan) (timing : Timing) (rate : ErrorRate) 
   pub of_first : (e : ℕ) → damaged.frame e ≡ 0
 
 -- a frame of this source has been sent
-abbrev pub IsSentOn : Schedule → FrameSources → Source → Type 0
-IsSentOn s sent source = (p : ℕ) × (p < s.count) × (sent.source p ≡ source) × (frame_end s p ≤ s.now)
+abbrev pub HasBeenSent : Schedule → FrameSources → Source → Type 0
+HasBeenSent s sent source = (p : ℕ) × (p < s.count) × (sent.source p ≡ source) × (frame_end s p ≤ s.now)
 
 -- a bus on which a frame of the first flow is sent, a request, a long message of the second flow, of so many packets, to one unit, and one of the
 -- unit u to all
@@ -58,11 +58,11 @@ pub record CanSendAll (plan : Plan) (timing : Timing) (f g r u packets more : �
   pub turns : KeepsTurns s planned sent held
   pub all_planned : (p : ℕ) → planned p ≡ true
   -- all of it has been sent
-  pub single : IsSentOn s sent (Single f)
-  pub request : IsSentOn s sent (Asking r)
-  pub asks : IsSentOn s sent (InSession g RequestToSend)
-  pub clears : IsSentOn s sent (InSession g (ClearToSend 0))
-  pub carries : (k : ℕ) → k < packets → IsSentOn s sent (InSession g (Packet k))
-  pub acknowledges : IsSentOn s sent (InSession g EndAcknowledged)
-  pub announces : IsSentOn s sent (Announcing u 0)
-  pub sends_all : (k : ℕ) → k < more → IsSentOn s sent (Carrying u 0 k)
+  pub single : HasBeenSent s sent (Single f)
+  pub request : HasBeenSent s sent (Asking r)
+  pub asks : HasBeenSent s sent (InSession g RequestToSend)
+  pub clears : HasBeenSent s sent (InSession g (ClearToSend 0))
+  pub carries : (k : ℕ) → k < packets → HasBeenSent s sent (InSession g (Packet k))
+  pub acknowledges : HasBeenSent s sent (InSession g EndAcknowledged)
+  pub announces : HasBeenSent s sent (Announcing u 0)
+  pub sends_all : (k : ℕ) → k < more → HasBeenSent s sent (Carrying u 0 k)

@@ -4,6 +4,7 @@
 use Rattle.std.specs.Prelude.{◌≡◌, ℕ, ◌+◌, ◌*◌, ◌<◌, ◌≤◌, ◌⊎◌, Bool, true, Some}
 use Rattle.std.specs.List.{slice_get}
 use Rattle.j39_id.specs.Ident.{identifier_of}
+use Rattle.j39_id.specs.Services.{connection_management, data_transfer, request}
 use Rattle.j39_network.specs.declared.plan.Plan.{Plan}
 use Rattle.j39_network.specs.declared.plan.flow_plan.FlowPlan.{FlowPlan}
 use Rattle.j39_network.specs.declared.plan.group_plan.GroupPlan.{GroupPlan}
@@ -119,10 +120,10 @@ IsPart bytes window EndAcknowledged = Unit {0}
 
 -- its identifier, by the addresses of sender and receiver: the sender asks and sends packets, the receiver answers
 abbrev pub part_identifier : Timing → Part → ℕ → ℕ → ℕ
-part_identifier timing RequestToSend sender receiver = identifier_of timing.transport_priority 60416 receiver sender
-part_identifier timing (Packet k) sender receiver = identifier_of timing.transport_priority 60160 receiver sender
-part_identifier timing (ClearToSend k) sender receiver = identifier_of timing.transport_priority 60416 sender receiver
-part_identifier timing EndAcknowledged sender receiver = identifier_of timing.transport_priority 60416 sender receiver
+part_identifier timing RequestToSend sender receiver = identifier_of timing.transport_priority connection_management receiver sender
+part_identifier timing (Packet k) sender receiver = identifier_of timing.transport_priority data_transfer receiver sender
+part_identifier timing (ClearToSend k) sender receiver = identifier_of timing.transport_priority connection_management sender receiver
+part_identifier timing EndAcknowledged sender receiver = identifier_of timing.transport_priority connection_management sender receiver
 
 -- the frame is one of a flow's long message to one unit
 pub record IsSessionFrame (plan : Plan) (timing : Timing) (s : Schedule) (held : Held) (f : ℕ) (part : Part) (moment p : ℕ) : Type 0 where
@@ -161,7 +162,7 @@ pub record IsRequestFrame (plan : Plan) (s : Schedule) (held : Held) (r moment p
   -- while it is queued its units are on, and it has the addresses that they hold
   pub sender_on : (t : ℕ) → IsQueuedAt s p t → held.on t asked.sender ≡ true
   pub receiver_on : (t v : ℕ) → IsQueuedAt s p t → asked.to ≡ One v → held.on t v ≡ true
-  pub identifier : (t : ℕ) → IsQueuedAt s p t → s.ident p ≡ identifier_of 6 59904 (goes_to (held.address t) asked.to) (held.address t asked.sender)
+  pub identifier : (t : ℕ) → IsQueuedAt s p t → s.ident p ≡ identifier_of 6 request (goes_to (held.address t) asked.to) (held.address t asked.sender)
 
 -- ---- long messages to all
 
@@ -181,8 +182,8 @@ abbrev pub IsFrameOf : Plan → Timing → Schedule → Held → Broadcasts → 
 IsFrameOf plan timing s held b (Single f) moment p = IsSingleFrame plan timing s held f moment p
 IsFrameOf plan timing s held b (InSession f part) moment p = IsSessionFrame plan timing s held f part moment p
 IsFrameOf plan timing s held b (Asking r) moment p = IsRequestFrame plan s held r moment p
-IsFrameOf plan timing s held b (Announcing u m) moment p = IsBroadcastFrame timing s held b 60416 u m moment p
-IsFrameOf plan timing s held b (Carrying u m k) moment p = IsBroadcastFrame timing s held b 60160 u m moment p × (k < b.packets u m)
+IsFrameOf plan timing s held b (Announcing u m) moment p = IsBroadcastFrame timing s held b connection_management u m moment p
+IsFrameOf plan timing s held b (Carrying u m k) moment p = IsBroadcastFrame timing s held b data_transfer u m moment p × (k < b.packets u m)
 
 -- times are promised of it: of long messages to one unit and of requests none is
 abbrev pub HasTime : Source → Type 0
@@ -224,17 +225,17 @@ SendsPart flow (ClearToSend k) u = flow.to ≡ One u
 SendsPart flow EndAcknowledged u = flow.to ≡ One u
 
 -- the unit sends the source's frames
-abbrev pub IsSentBy : Plan → Source → ℕ → Type 0
-IsSentBy plan (Single f) u = (flow : FlowPlan) × (slice_get plan.flows.items f ≡ Some flow) × (flow.sender ≡ u)
-IsSentBy plan (InSession f part) u = (flow : FlowPlan) × (slice_get plan.flows.items f ≡ Some flow) × SendsPart flow part u
-IsSentBy plan (Asking r) u = (asked : RequestPlan) × (slice_get plan.requests.items r ≡ Some asked) × (asked.sender ≡ u)
-IsSentBy plan (Announcing v m) u = v ≡ u
-IsSentBy plan (Carrying v m k) u = v ≡ u
+abbrev pub IsSentByUnit : Plan → Source → ℕ → Type 0
+IsSentByUnit plan (Single f) u = (flow : FlowPlan) × (slice_get plan.flows.items f ≡ Some flow) × (flow.sender ≡ u)
+IsSentByUnit plan (InSession f part) u = (flow : FlowPlan) × (slice_get plan.flows.items f ≡ Some flow) × SendsPart flow part u
+IsSentByUnit plan (Asking r) u = (asked : RequestPlan) × (slice_get plan.requests.items r ≡ Some asked) × (asked.sender ≡ u)
+IsSentByUnit plan (Announcing v m) u = v ≡ u
+IsSentByUnit plan (Carrying v m k) u = v ≡ u
 
 -- the unit sends frames of the source's message: of a long one to one unit both ends do
 abbrev pub TakesPart : Plan → Source → ℕ → Type 0
-TakesPart plan (Single f) u = IsSentBy plan (Single f) u
+TakesPart plan (Single f) u = IsSentByUnit plan (Single f) u
 TakesPart plan (InSession f part) u = (flow : FlowPlan) × (slice_get plan.flows.items f ≡ Some flow) × ((flow.sender ≡ u) ⊎ (flow.to ≡ One u))
-TakesPart plan (Asking r) u = IsSentBy plan (Asking r) u
+TakesPart plan (Asking r) u = IsSentByUnit plan (Asking r) u
 TakesPart plan (Announcing v m) u = v ≡ u
 TakesPart plan (Carrying v m k) u = v ≡ u

@@ -66,8 +66,8 @@ pub record IsSameButWritten (old new : UnitReport) : Type 0 where
   pub same : IsSameLog old new
 
 -- who holds what, and what is contested, is known of these lines, the last of which is of this time
-abbrev pub IsKnown : Plan → Directory → Contests → Option ℕ → List Timed → Type 0
-IsKnown plan directory contests time log = Knows plan directory (frames_of log) × AreContests plan contests log × IsNow log time
+abbrev pub IsKnownSoFar : Plan → Directory → Contests → Option ℕ → List Timed → Type 0
+IsKnownSoFar plan directory contests time log = Knows plan directory (frames_of log) × AreContests plan contests log × IsNow log time
 
 -- who holds what is known of these lines, and none of the two addresses is contested
 abbrev pub IsCalm : Plan → Directory → Ident → List Timed → Type 0
@@ -94,7 +94,7 @@ pub record IsFollowed (plan : Plan) (old new : UnitReport) (past : FollowedPast)
   pub noted : AreNoted plan (lines_with past f s.time.now) f (sort ∷ option_to_list ended) past.told new.exchanges
 
 -- what was read leads to a past that is kept, with as many lines, and what is written at it was written
-pub record LeadsTo (Reads : FollowedPast → List ℕ → Type 0) (plan : Plan) (new : UnitReport) (counts : LineCounts) (number : ℕ)
+pub record LeadsToPast (Reads : FollowedPast → List ℕ → Type 0) (plan : Plan) (new : UnitReport) (counts : LineCounts) (number : ℕ)
     (old_text new_text : List ℕ) : Type 0 where
   pub next : FollowedPast
   pub piece : List ℕ

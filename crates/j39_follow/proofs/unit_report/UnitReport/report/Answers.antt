@@ -3,7 +3,7 @@ use Rattle.j39_follow.specs.Contests.{Timed}
 use Rattle.j39_follow.specs.FollowText.{lines_with}
 use Rattle.j39_follow.specs.LogLines.{moment_of}
 use Rattle.j39_follow.specs.declared.flow.tally.Tally.{Tally}
-use Rattle.j39_follow.specs.inside.FollowedSoFar.{IsKnown}
+use Rattle.j39_follow.specs.inside.FollowedSoFar.{IsKnownSoFar}
 use Rattle.j39_follow.specs.inside.Tallies.{IsTally}
 use Rattle.j39_follow.proofs.unit_report.UnitReport.report.Goals as goal
 
@@ -14,7 +14,7 @@ returns-clause-reported c = λ past knows contests have ranges tally exchanges f
     let time : Option ℕ = moment_of c.args.stamp.time.now in
     let log : List Timed = lines_with past c.args.frame.now c.args.stamp.time.now in
     let done = c.in_ok-sort.ensures.written in
-    let so : IsKnown plan self.directory self.contests time log = (knows, contests, (past.timed, _, refl, refl)) in
+    let so : IsKnownSoFar plan self.directory self.contests time log = (knows, contests, (past.timed, _, refl, refl)) in
     record {
       sort = c.in_ok-sort.sort;
       ended = c.in_ok-sort.ended;
