@@ -3,6 +3,8 @@ use Rattle.std.specs.Prelude.{◌≡◌, [], if◌then◌else◌, Option, Result
 use Rattle.std.specs.FinSet.{FinSet, empty}
 use Rattle.std.specs.Ordering.{nat_cmp}
 use Rattle.toml.specs.Data.{Members}
+use Rattle.toml.specs.View.{items_view}
+use Rattle.j39_plan.specs.declared.reading.top_table.TopTable.{TopTable}
 use Rattle.j39_network.specs.declared.plan.Plan.{Plan}
 use Rattle.j39_plan.specs.PlanErrors.{PlanError}
 use Rattle.j39_plan.specs.Schema.{addresses_of, tables_of}
@@ -26,6 +28,18 @@ kept_of version tree = if is_known Second version then addresses_of keep_free_ru
 
 abbrev pub keep_free_of : Members → FinSet nat_cmp
 keep_free_of tree = kept_of (version_of tree) tree
+
+-- what stands at the keys of the top table, the elements of its arrays as they stand there
+pub record TellsTop (tree : Members) (t : TopTable) : Type 0 where
+  pub has_keep_free : t.keep_free ≡ keep_free_of tree
+  pub has_strangers : t.strangers ≡ strangers_of (version_of tree) tree
+  pub has_live : t.live ≡ live_of (version_of tree) tree
+  pub has_timing : TellsTiming (version_of tree) (timing_table tree) t.timing
+  pub has_units : items_view t.units.now ≡ tables_of units_rule tree
+  pub has_groups : items_view t.groups.now ≡ tables_of groups_rule tree
+  pub has_flows : items_view t.flows.now ≡ tables_of flows_rule tree
+  pub has_needs : items_view t.later.needs.now ≡ need_tables tree
+  pub has_requests : items_view t.later.requests.now ≡ request_tables tree
 
 -- what the plan keeps free, how many strangers it tells of, whether its bus is live, what it knows of the bus, its units, groups, flows, needs and
 -- requests are those of the tree

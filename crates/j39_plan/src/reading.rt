@@ -26,26 +26,24 @@ mod tables;
 mod text_kind;
 mod texts;
 mod timing;
+mod top_table;
 mod units;
 mod values;
 mod version;
 
 use flows::FlowReader;
 use groups::GroupReader;
-use heads::{head, live, strangers, version_of};
+use heads::version_of;
 use j39_network::Plan;
-use j39_network::limits::{FLOW_LIMIT, GROUP_LIMIT, UNIT_LIMIT};
 pub use j39_tables::{Cause, FileError};
 use j39_tables::{read_each, read_tree};
 pub use key::Key;
-use later_arrays::later_arrays;
 use needs::NeedReader;
 pub use place::Table;
 pub use plan_error::{PlanError, PlanFault};
 use requests::RequestReader;
 use std::alloc::Global;
-use tables::array;
-use timing::timing;
+use top_table::top;
 use units::UnitReader;
 pub use version::Version;
 
@@ -54,16 +52,9 @@ fn read_top(alloc: Global, members: &toml::Table) -> Result<Plan, PlanError>
     ensures { GivesGrowing (PlanGrows (table_view members.now)) result (faults (table_view members.now)) (TellsPlan (table_view members.now)) }
 {
     let version = version_of(members);
-    let keep_free = head(members, version)?;
-    let strangers = strangers(members, version)?;
-    let live = live(members, version)?;
-    let timing = timing(members, version)?;
-    let unit_values = array(members, Table::Top, Key::Unit, UNIT_LIMIT)?;
-    let group_values = array(members, Table::Top, Key::Group, GROUP_LIMIT)?;
-    let flow_values = array(members, Table::Top, Key::Flow, FLOW_LIMIT)?;
-    let later = later_arrays(members, version)?;
-    let units = read_each(alloc, &UnitReader { version }, unit_values)?;
-    let groups = read_each(alloc, &GroupReader { version }, group_values)?;
+    let top = top(members)?;
+    let units = read_each(alloc, &UnitReader { version }, top.units)?;
+    let groups = read_each(alloc, &GroupReader { version }, top.groups)?;
     let flows = read_each(
         alloc,
         &FlowReader {
@@ -71,7 +62,7 @@ fn read_top(alloc: Global, members: &toml::Table) -> Result<Plan, PlanError>
             groups: &groups,
             units: &units,
         },
-        flow_values,
+        top.flows,
     )?;
     let needs = read_each(
         alloc,
@@ -79,7 +70,7 @@ fn read_top(alloc: Global, members: &toml::Table) -> Result<Plan, PlanError>
             groups: &groups,
             units: &units,
         },
-        later.needs,
+        top.later.needs,
     )?;
     let requests = read_each(
         alloc,
@@ -87,13 +78,13 @@ fn read_top(alloc: Global, members: &toml::Table) -> Result<Plan, PlanError>
             groups: &groups,
             units: &units,
         },
-        later.requests,
+        top.later.requests,
     )?;
     Ok(Plan {
-        keep_free,
-        strangers,
-        live,
-        timing,
+        keep_free: top.keep_free,
+        strangers: top.strangers,
+        live: top.live,
+        timing: top.timing,
         units,
         groups,
         flows,

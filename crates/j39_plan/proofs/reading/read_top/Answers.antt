@@ -26,12 +26,9 @@ returns-in_err-flows c =
     let us = c.in_ok-units.units.items in
     let groups = group_texts_told _ _ gs c.in_ok-groups.ensures.gives.1 in
     let units = unit_texts_told _ _ us c.in_ok-units.ensures.gives.1 in
-    let no_units = rw (c.in_ok-unit_values.ensures.1, c.version_of-version.ensures) at c.in_ok-units.ensures.gives.0 in
-    let no_groups = rw (c.in_ok-group_values.ensures.1, c.version_of-version.ensures) at c.in_ok-groups.ensures.gives.0 in
-    let no_strangers_key = rw c.version_of-version.ensures at c.in_ok-strangers.ensures.gives.0 in
-    let no_live_key = rw c.version_of-version.ensures at c.in_ok-live.ensures.0 in
-    let no_later_key = rw c.version_of-version.ensures at c.in_ok-later.ensures.0 in
-    let ds = items_view c.in_ok-flow_values.flow_values.now in
+    let no_units = rw (c.in_ok-top.ensures.gives.1.has_units, c.version_of-version.ensures) at c.in_ok-units.ensures.gives.0 in
+    let no_groups = rw (c.in_ok-top.ensures.gives.1.has_groups, c.version_of-version.ensures) at c.in_ok-groups.ensures.gives.0 in
+    let ds = items_view c.in_ok-top.top.flows.now in
     let told :
     FailsGrowing (EachGrows (λ i seen. flow_faults version (group_texts gs) (unit_texts us) i) (NeverGrows {L = List ℕ}) ds) c.in_err-flows.field-0.0
     (each_faults (λ i seen. flow_faults version (group_texts gs) (unit_texts us) i) no_label 0 [] ds) =
@@ -39,37 +36,28 @@ returns-in_err-flows c =
     let fails = rw (
       groups,
       units,
-      c.in_ok-group_values.ensures.1,
-      c.in_ok-unit_values.ensures.1,
-      c.in_ok-flow_values.ensures.1,
+      c.in_ok-top.ensures.gives.1.has_groups,
+      c.in_ok-top.ensures.gives.1.has_units,
+      c.in_ok-top.ensures.gives.1.has_flows,
       c.version_of-version.ensures,
     ) at told in
-    rw (p.1, p.2, c.in_ok-keep_free.ensures.gives.0, no_strangers_key, no_live_key, c.in_ok-timing.ensures.0, c.in_ok-unit_values.ensures.0, c.in_ok-group_values.ensures.0)
-    (rw (c.in_ok-flow_values.ensures.0, no_later_key, no_units, no_groups)
-    (fails_on _ _ c.in_err-flows.field-0.0 _ _ (λ grows. (refl, inr (refl, inr (refl, inl grows)))) (λ f is. first-append _ _ f is) fails))
+    rw (p.1, p.2, c.in_ok-top.ensures.gives.0, no_units, no_groups)
+    (fails_on _ _ c.in_err-flows.field-0.0 _ _ (λ grows. (refl, inr (refl, inr (refl, inl grows)))) (λ f is. first-append _ _ f is) fails)
 
 pub returns-in_err-units : goal.returns-in_err-units
 returns-in_err-units c =
     let p = err_from_is_err_and c.from_residual-in_err-units.result c.from_residual-in_err-units.ensures.1 in
-    let no_strangers_key = rw c.version_of-version.ensures at c.in_ok-strangers.ensures.gives.0 in
-    let no_live_key = rw c.version_of-version.ensures at c.in_ok-live.ensures.0 in
-    let no_later_key = rw c.version_of-version.ensures at c.in_ok-later.ensures.0 in
-    let fails = rw (c.in_ok-unit_values.ensures.1, c.version_of-version.ensures) at c.in_err-units.ensures.gives in
-    rw (p.1, p.2, c.in_ok-keep_free.ensures.gives.0, no_strangers_key, no_live_key, c.in_ok-timing.ensures.0, c.in_ok-unit_values.ensures.0, c.in_ok-group_values.ensures.0)
-    (rw (c.in_ok-flow_values.ensures.0, no_later_key)
-    (fails_on _ _ c.in_err-units.field-0.0 _ _ (λ grows. (refl, inl grows)) (λ f is. first-append _ _ f is) fails))
+    let fails = rw (c.in_ok-top.ensures.gives.1.has_units, c.version_of-version.ensures) at c.in_err-units.ensures.gives in
+    rw (p.1, p.2, c.in_ok-top.ensures.gives.0)
+    (fails_on _ _ c.in_err-units.field-0.0 _ _ (λ grows. (refl, inl grows)) (λ f is. first-append _ _ f is) fails)
 
 pub returns-in_err-groups : goal.returns-in_err-groups
 returns-in_err-groups c =
     let p = err_from_is_err_and c.from_residual-in_err-groups.result c.from_residual-in_err-groups.ensures.1 in
-    let no_units = rw (c.in_ok-unit_values.ensures.1, c.version_of-version.ensures) at c.in_ok-units.ensures.gives.0 in
-    let no_strangers_key = rw c.version_of-version.ensures at c.in_ok-strangers.ensures.gives.0 in
-    let no_live_key = rw c.version_of-version.ensures at c.in_ok-live.ensures.0 in
-    let no_later_key = rw c.version_of-version.ensures at c.in_ok-later.ensures.0 in
-    let fails = rw (c.in_ok-group_values.ensures.1, c.version_of-version.ensures) at c.in_err-groups.ensures.gives in
-    rw (p.1, p.2, c.in_ok-keep_free.ensures.gives.0, no_strangers_key, no_live_key, c.in_ok-timing.ensures.0, c.in_ok-unit_values.ensures.0, c.in_ok-group_values.ensures.0)
-    (rw (c.in_ok-flow_values.ensures.0, no_later_key, no_units)
-    (fails_on _ _ c.in_err-groups.field-0.0 _ _ (λ grows. (refl, inr (refl, inl grows))) (λ f is. first-append _ _ f is) fails))
+    let no_units = rw (c.in_ok-top.ensures.gives.1.has_units, c.version_of-version.ensures) at c.in_ok-units.ensures.gives.0 in
+    let fails = rw (c.in_ok-top.ensures.gives.1.has_groups, c.version_of-version.ensures) at c.in_err-groups.ensures.gives in
+    rw (p.1, p.2, c.in_ok-top.ensures.gives.0, no_units)
+    (fails_on _ _ c.in_err-groups.field-0.0 _ _ (λ grows. (refl, inr (refl, inl grows))) (λ f is. first-append _ _ f is) fails)
 
 pub returns-in_err-needs : goal.returns-in_err-needs
 returns-in_err-needs c =
@@ -80,24 +68,21 @@ returns-in_err-needs c =
     let groups = group_texts_told _ _ gs c.in_ok-groups.ensures.gives.1 in
     let signals = signals_texts_told _ _ gs c.in_ok-groups.ensures.gives.1 in
     let units = unit_texts_told _ _ us c.in_ok-units.ensures.gives.1 in
-    let no_units = rw (c.in_ok-unit_values.ensures.1, c.version_of-version.ensures) at c.in_ok-units.ensures.gives.0 in
-    let no_groups = rw (c.in_ok-group_values.ensures.1, c.version_of-version.ensures) at c.in_ok-groups.ensures.gives.0 in
-    let no_strangers_key = rw c.version_of-version.ensures at c.in_ok-strangers.ensures.gives.0 in
-    let no_live_key = rw c.version_of-version.ensures at c.in_ok-live.ensures.0 in
-    let no_later_key = rw c.version_of-version.ensures at c.in_ok-later.ensures.0 in
-    let fs = items_view c.in_ok-flow_values.flow_values.now in
+    let no_units = rw (c.in_ok-top.ensures.gives.1.has_units, c.version_of-version.ensures) at c.in_ok-units.ensures.gives.0 in
+    let no_groups = rw (c.in_ok-top.ensures.gives.1.has_groups, c.version_of-version.ensures) at c.in_ok-groups.ensures.gives.0 in
+    let fs = items_view c.in_ok-top.top.flows.now in
     let flows_told :
     (each_faults (λ i seen. flow_faults version (group_texts gs) (unit_texts us) i) no_label 0 [] fs ≡ []) =
     rw (c.deref.ensures.value, c.deref-2.ensures.value) at c.in_ok-flows.ensures.gives.0 in
     let no_flows = rw (
       groups,
       units,
-      c.in_ok-group_values.ensures.1,
-      c.in_ok-unit_values.ensures.1,
-      c.in_ok-flow_values.ensures.1,
+      c.in_ok-top.ensures.gives.1.has_groups,
+      c.in_ok-top.ensures.gives.1.has_units,
+      c.in_ok-top.ensures.gives.1.has_flows,
       c.version_of-version.ensures,
     ) at flows_told in
-    let ds = items_view c.in_ok-later.later.needs.now in
+    let ds = items_view c.in_ok-top.top.later.needs.now in
     let told :
     FailsGrowing (EachGrows (λ i seen. need_faults (group_texts gs) (signals_texts gs) (unit_texts us) i) (NeverGrows {L = List ℕ}) ds) c.in_err-needs.field-0.0
     (each_faults (λ i seen. need_faults (group_texts gs) (signals_texts gs) (unit_texts us) i) no_label 0 [] ds) =
@@ -106,14 +91,12 @@ returns-in_err-needs c =
       groups,
       signals,
       units,
-      c.in_ok-group_values.ensures.1,
-      c.in_ok-unit_values.ensures.1,
-      c.in_ok-later.ensures.1.0,
-      c.version_of-version.ensures,
+      c.in_ok-top.ensures.gives.1.has_groups,
+      c.in_ok-top.ensures.gives.1.has_units,
+      c.in_ok-top.ensures.gives.1.has_needs,
     ) at told in
-    rw (p.1, p.2, c.in_ok-keep_free.ensures.gives.0, no_strangers_key, no_live_key, c.in_ok-timing.ensures.0, c.in_ok-unit_values.ensures.0, c.in_ok-group_values.ensures.0)
-    (rw (c.in_ok-flow_values.ensures.0, no_later_key, no_units, no_groups, no_flows)
-    (fails_on _ _ c.in_err-needs.field-0.0 _ _ (λ grows. (refl, inr (refl, inr (refl, inr (refl, inl grows))))) (λ f is. first-append _ _ f is) fails))
+    rw (p.1, p.2, c.in_ok-top.ensures.gives.0, no_units, no_groups, no_flows)
+    (fails_on _ _ c.in_err-needs.field-0.0 _ _ (λ grows. (refl, inr (refl, inr (refl, inr (refl, inl grows))))) (λ f is. first-append _ _ f is) fails)
 
 pub returns-in_err-requests : goal.returns-in_err-requests
 returns-in_err-requests c =
@@ -124,24 +107,21 @@ returns-in_err-requests c =
     let groups = group_texts_told _ _ gs c.in_ok-groups.ensures.gives.1 in
     let signals = signals_texts_told _ _ gs c.in_ok-groups.ensures.gives.1 in
     let units = unit_texts_told _ _ us c.in_ok-units.ensures.gives.1 in
-    let no_units = rw (c.in_ok-unit_values.ensures.1, c.version_of-version.ensures) at c.in_ok-units.ensures.gives.0 in
-    let no_groups = rw (c.in_ok-group_values.ensures.1, c.version_of-version.ensures) at c.in_ok-groups.ensures.gives.0 in
-    let no_strangers_key = rw c.version_of-version.ensures at c.in_ok-strangers.ensures.gives.0 in
-    let no_live_key = rw c.version_of-version.ensures at c.in_ok-live.ensures.0 in
-    let no_later_key = rw c.version_of-version.ensures at c.in_ok-later.ensures.0 in
-    let fs = items_view c.in_ok-flow_values.flow_values.now in
+    let no_units = rw (c.in_ok-top.ensures.gives.1.has_units, c.version_of-version.ensures) at c.in_ok-units.ensures.gives.0 in
+    let no_groups = rw (c.in_ok-top.ensures.gives.1.has_groups, c.version_of-version.ensures) at c.in_ok-groups.ensures.gives.0 in
+    let fs = items_view c.in_ok-top.top.flows.now in
     let flows_told :
     (each_faults (λ i seen. flow_faults version (group_texts gs) (unit_texts us) i) no_label 0 [] fs ≡ []) =
     rw (c.deref.ensures.value, c.deref-2.ensures.value) at c.in_ok-flows.ensures.gives.0 in
     let no_flows = rw (
       groups,
       units,
-      c.in_ok-group_values.ensures.1,
-      c.in_ok-unit_values.ensures.1,
-      c.in_ok-flow_values.ensures.1,
+      c.in_ok-top.ensures.gives.1.has_groups,
+      c.in_ok-top.ensures.gives.1.has_units,
+      c.in_ok-top.ensures.gives.1.has_flows,
       c.version_of-version.ensures,
     ) at flows_told in
-    let ns = items_view c.in_ok-later.later.needs.now in
+    let ns = items_view c.in_ok-top.top.later.needs.now in
     let needs_told :
     (each_faults (λ i seen. need_faults (group_texts gs) (signals_texts gs) (unit_texts us) i) no_label 0 [] ns ≡ []) =
     rw (c.deref-3.ensures.value, c.deref-4.ensures.value) at c.in_ok-needs.ensures.gives.0 in
@@ -149,12 +129,11 @@ returns-in_err-requests c =
       groups,
       signals,
       units,
-      c.in_ok-group_values.ensures.1,
-      c.in_ok-unit_values.ensures.1,
-      c.in_ok-later.ensures.1.0,
-      c.version_of-version.ensures,
+      c.in_ok-top.ensures.gives.1.has_groups,
+      c.in_ok-top.ensures.gives.1.has_units,
+      c.in_ok-top.ensures.gives.1.has_needs,
     ) at needs_told in
-    let ds = items_view c.in_ok-later.later.requests.now in
+    let ds = items_view c.in_ok-top.top.later.requests.now in
     let told :
     FailsGrowing (EachGrows (λ i seen. request_faults (group_texts gs) (unit_texts us) i) (NeverGrows {L = List ℕ}) ds) c.in_err-requests.field-0.0
     (each_faults (λ i seen. request_faults (group_texts gs) (unit_texts us) i) no_label 0 [] ds) =
@@ -162,34 +141,32 @@ returns-in_err-requests c =
     let fails = rw (
       groups,
       units,
-      c.in_ok-group_values.ensures.1,
-      c.in_ok-unit_values.ensures.1,
-      c.in_ok-later.ensures.1.1,
-      c.version_of-version.ensures,
+      c.in_ok-top.ensures.gives.1.has_groups,
+      c.in_ok-top.ensures.gives.1.has_units,
+      c.in_ok-top.ensures.gives.1.has_requests,
     ) at told in
-    rw (p.1, p.2, c.in_ok-keep_free.ensures.gives.0, no_strangers_key, no_live_key, c.in_ok-timing.ensures.0, c.in_ok-unit_values.ensures.0, c.in_ok-group_values.ensures.0)
-    (rw (c.in_ok-flow_values.ensures.0, no_later_key, no_units, no_groups, no_flows, no_needs)
-    (fails_on _ _ c.in_err-requests.field-0.0 _ _ (λ grows. (refl, inr (refl, inr (refl, inr (refl, inr (refl, grows)))))) (λ f is. is) fails))
+    rw (p.1, p.2, c.in_ok-top.ensures.gives.0, no_units, no_groups, no_flows, no_needs)
+    (fails_on _ _ c.in_err-requests.field-0.0 _ _ (λ grows. (refl, inr (refl, inr (refl, inr (refl, inr (refl, grows)))))) (λ f is. is) fails)
 
 pub invariant_of-result-clause-unit_count : goal.invariant_of-result-clause-unit_count
 invariant_of-result-clause-unit_count c =
-    rw (length-Each _ _ _ c.in_ok-units.ensures.gives.1, c.in_ok-unit_values.ensures.1) (tables_count key.Unit unit_limit _)
+    rw (length-Each _ _ _ c.in_ok-units.ensures.gives.1, c.in_ok-top.ensures.gives.1.has_units) (tables_count key.Unit unit_limit _)
 
 pub invariant_of-result-clause-group_count : goal.invariant_of-result-clause-group_count
 invariant_of-result-clause-group_count c =
-    rw (length-Each _ _ _ c.in_ok-groups.ensures.gives.1, c.in_ok-group_values.ensures.1) (tables_count key.Group group_limit _)
+    rw (length-Each _ _ _ c.in_ok-groups.ensures.gives.1, c.in_ok-top.ensures.gives.1.has_groups) (tables_count key.Group group_limit _)
 
 pub invariant_of-result-clause-flow_count : goal.invariant_of-result-clause-flow_count
 invariant_of-result-clause-flow_count c =
-    rw (length-Each _ _ _ c.in_ok-flows.ensures.gives.1, c.in_ok-flow_values.ensures.1) (tables_count key.Flow flow_limit _)
+    rw (length-Each _ _ _ c.in_ok-flows.ensures.gives.1, c.in_ok-top.ensures.gives.1.has_flows) (tables_count key.Flow flow_limit _)
 
 pub invariant_of-result-clause-need_count : goal.invariant_of-result-clause-need_count
 invariant_of-result-clause-need_count c =
-    rw (length-Each _ _ _ c.in_ok-needs.ensures.gives.1, c.in_ok-later.ensures.1.0) (needs_count c.version_of-version.result _)
+    rw (length-Each _ _ _ c.in_ok-needs.ensures.gives.1, c.in_ok-top.ensures.gives.1.has_needs) (needs_count _ _)
 
 pub invariant_of-result-clause-request_count : goal.invariant_of-result-clause-request_count
 invariant_of-result-clause-request_count c =
-    rw (length-Each _ _ _ c.in_ok-requests.ensures.gives.1, c.in_ok-later.ensures.1.1) (requests_count c.version_of-version.result _)
+    rw (length-Each _ _ _ c.in_ok-requests.ensures.gives.1, c.in_ok-top.ensures.gives.1.has_requests) (requests_count _ _)
 
 pub invariant_of-result-clause-unit_labels : goal.invariant_of-result-clause-unit_labels
 invariant_of-result-clause-unit_labels c = units_apart _ _ _ c.in_ok-units.ensures.gives.1 c.in_ok-units.ensures.gives.0
@@ -237,12 +214,9 @@ returns c =
     let groups = group_texts_told _ _ gs c.in_ok-groups.ensures.gives.1 in
     let signals = signals_texts_told _ _ gs c.in_ok-groups.ensures.gives.1 in
     let units = unit_texts_told _ _ us c.in_ok-units.ensures.gives.1 in
-    let no_units = rw (c.in_ok-unit_values.ensures.1, c.version_of-version.ensures) at c.in_ok-units.ensures.gives.0 in
-    let no_groups = rw (c.in_ok-group_values.ensures.1, c.version_of-version.ensures) at c.in_ok-groups.ensures.gives.0 in
-    let no_strangers_key = rw c.version_of-version.ensures at c.in_ok-strangers.ensures.gives.0 in
-    let no_live_key = rw c.version_of-version.ensures at c.in_ok-live.ensures.0 in
-    let no_later_key = rw c.version_of-version.ensures at c.in_ok-later.ensures.0 in
-    let fs = items_view c.in_ok-flow_values.flow_values.now in
+    let no_units = rw (c.in_ok-top.ensures.gives.1.has_units, c.version_of-version.ensures) at c.in_ok-units.ensures.gives.0 in
+    let no_groups = rw (c.in_ok-top.ensures.gives.1.has_groups, c.version_of-version.ensures) at c.in_ok-groups.ensures.gives.0 in
+    let fs = items_view c.in_ok-top.top.flows.now in
     let flows_told :
     (each_faults (λ i seen. flow_faults version (group_texts gs) (unit_texts us) i) no_label 0 [] fs ≡ [])
     × Each (IsFlowOf version (group_texts gs) (unit_texts us)) fs c.in_ok-flows.flows.items =
@@ -250,12 +224,12 @@ returns c =
     let flows = rw (
       groups,
       units,
-      c.in_ok-group_values.ensures.1,
-      c.in_ok-unit_values.ensures.1,
-      c.in_ok-flow_values.ensures.1,
+      c.in_ok-top.ensures.gives.1.has_groups,
+      c.in_ok-top.ensures.gives.1.has_units,
+      c.in_ok-top.ensures.gives.1.has_flows,
       c.version_of-version.ensures,
     ) at flows_told in
-    let ds = items_view c.in_ok-later.later.needs.now in
+    let ds = items_view c.in_ok-top.top.later.needs.now in
     let needs_told :
     (each_faults (λ i seen. need_faults (group_texts gs) (signals_texts gs) (unit_texts us) i) no_label 0 [] ds ≡ [])
     × Each (IsNeedOf (group_texts gs) (signals_texts gs) (unit_texts us)) ds c.in_ok-needs.needs.items =
@@ -264,12 +238,11 @@ returns c =
       groups,
       signals,
       units,
-      c.in_ok-group_values.ensures.1,
-      c.in_ok-unit_values.ensures.1,
-      c.in_ok-later.ensures.1.0,
-      c.version_of-version.ensures,
+      c.in_ok-top.ensures.gives.1.has_groups,
+      c.in_ok-top.ensures.gives.1.has_units,
+      c.in_ok-top.ensures.gives.1.has_needs,
     ) at needs_told in
-    let rs = items_view c.in_ok-later.later.requests.now in
+    let rs = items_view c.in_ok-top.top.later.requests.now in
     let requests_told :
     (each_faults (λ i seen. request_faults (group_texts gs) (unit_texts us) i) no_label 0 [] rs ≡ [])
     × Each (IsRequestOf (group_texts gs) (unit_texts us)) rs c.in_ok-requests.requests.items =
@@ -277,20 +250,18 @@ returns c =
     let requests = rw (
       groups,
       units,
-      c.in_ok-group_values.ensures.1,
-      c.in_ok-unit_values.ensures.1,
-      c.in_ok-later.ensures.1.1,
-      c.version_of-version.ensures,
+      c.in_ok-top.ensures.gives.1.has_groups,
+      c.in_ok-top.ensures.gives.1.has_units,
+      c.in_ok-top.ensures.gives.1.has_requests,
     ) at requests_told in (
-      rw (c.in_ok-keep_free.ensures.gives.0, no_strangers_key, no_live_key, c.in_ok-timing.ensures.0, c.in_ok-unit_values.ensures.0, c.in_ok-group_values.ensures.0)
-          (rw (c.in_ok-flow_values.ensures.0, no_later_key, no_units, no_groups, flows.0, needs.0) requests.0),
+      rw (c.in_ok-top.ensures.gives.0, no_units, no_groups, flows.0, needs.0) requests.0,
       record {
-        has_keep_free = c.in_ok-keep_free.ensures.gives.1;
-        has_strangers = rw c.version_of-version.ensures at c.in_ok-strangers.ensures.gives.1;
-        has_live = rw c.version_of-version.ensures at c.in_ok-live.ensures.1;
-        has_timing = c.in_ok-timing.ensures.1;
-        has_units = rw (c.in_ok-unit_values.ensures.1, c.version_of-version.ensures) at c.in_ok-units.ensures.gives.1;
-        has_groups = rw (c.in_ok-group_values.ensures.1, c.version_of-version.ensures) at c.in_ok-groups.ensures.gives.1;
+        has_keep_free = c.in_ok-top.ensures.gives.1.has_keep_free;
+        has_strangers = c.in_ok-top.ensures.gives.1.has_strangers;
+        has_live = c.in_ok-top.ensures.gives.1.has_live;
+        has_timing = c.in_ok-top.ensures.gives.1.has_timing;
+        has_units = rw (c.in_ok-top.ensures.gives.1.has_units, c.version_of-version.ensures) at c.in_ok-units.ensures.gives.1;
+        has_groups = rw (c.in_ok-top.ensures.gives.1.has_groups, c.version_of-version.ensures) at c.in_ok-groups.ensures.gives.1;
         has_flows = flows.1;
         has_needs = needs.1;
         has_requests = requests.1;
