@@ -9,7 +9,8 @@ use Rattle.j39_id.specs.declared.line_error.LineError.TheVariants.{BadData, BadI
 use Rattle.j39_network.specs.declared.plan.Plan.{Plan}
 use Rattle.j39_log.specs.LineCounting.{counted_over, no_lines}
 use Rattle.j39_log.specs.declared.line_counts.LineCounts.{LineCounts}
-use Rattle.j39_follow.specs.FollowText.{AreUnitLines, FollowedPast, FollowsLines, FollowsShort, IsFollowedLog, frames_seen, line_passed_over, nothing_followed, one_line_more}
+use Rattle.j39_follow.specs.FollowText.{AreUnitLines, FollowedPast, FollowsLines, FollowsShort, IsFollowedLog, frames_seen, line_passed_over}
+use Rattle.j39_follow.specs.FollowText.{nothing_followed, one_line_more}
 use Rattle.j39_follow.specs.LogLines.{IsInterface, NamesInterface}
 use Rattle.j39_follow.specs.declared.unit_report.UnitReport.{UnitReport}
 use Rattle.j39_follow.specs.inside.FollowedSoFar.{HasFollowedLines, LeadsToPast, RecallsPast, behind_reports}

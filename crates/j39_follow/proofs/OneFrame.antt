@@ -16,9 +16,9 @@ use Rattle.j39_tp.proofs.Tracking.{one_message, one_pgn}
 use Rattle.j39_tp.specs.declared.packet.Packet.{Packet}
 use Rattle.j39_follow.specs.Contests.{Timed}
 use Rattle.j39_follow.specs.Fits.{IsSentGroup, fitting_flow}
-use Rattle.j39_follow.specs.FollowReports.{AreTold, IsAnswerWay, IsAsked, IsBareText, IsGroupOfMessage, IsGrouped, IsMessageReport, IsNotice, IsSendingOf, IsWay, Message, aim_at, answer_way_text, bare_text, frame_line, in_frame, is_to_all, message_line, notice_text, told_events}
+use Rattle.j39_follow.specs.FollowReports.{AreEventsOf, IsAnswerWay, IsAsked, IsBareText, IsGroupOfMessage, IsGrouped, IsMessageReport, IsNotice, IsSendingOf, IsWay, Message, aim_at, answer_way_text, bare_text, frame_line, in_frame, is_to_all, message_line, notice_text, frame_events}
 use Rattle.j39_follow.specs.FollowText.{HeardSince, IsCarriedReport, IsFollowedAs, IsPacketReport, OneChangesHands}
-use Rattle.j39_follow.specs.LoggedRequests.{asked_request, told_address}
+use Rattle.j39_follow.specs.LoggedRequests.{asked_request, asker_or_source}
 use Rattle.j39_follow.specs.Who.{unit_of, who_text}
 use Rattle.j39_follow.specs.declared.request.event.Event.{Event}
 use Rattle.j39_follow.specs.declared.message.Sort.{Sort}
@@ -63,7 +63,7 @@ one_sending plan log m s t a b =
 
 one_answer_way : (plan : Plan) (log : List Timed) (f : Frame) (t u : List ℕ) → IsAnswerWay plan log f t → IsAnswerWay plan log f u → t ≡ u
 one_answer_way plan log f t u a b =
-    let there = told_address plan f in
+    let there = asker_or_source plan f in
     let sender = one_taken plan log f.ident.sa a.sender b.sender a.sender_is b.sender_is in
     let asker = one_taken plan log there a.asker b.asker a.asker_is b.asker_is in
     a.text_is
@@ -96,13 +96,13 @@ one_bare plan all_frames log front f written t u a b =
 
 -- what a frame tells of requests is one list
 pub one_told : (plan : Plan) (log : List Timed) (f : Frame) (sorts : List Sort) (a b : List Event)
-    → AreTold plan log f sorts a → AreTold plan log f sorts b → a ≡ b
+    → AreEventsOf plan log f sorts a → AreEventsOf plan log f sorts b → a ≡ b
 one_told plan log f sorts a b x y =
     let sent = one_sending plan log (in_frame f) x.sent y.sent x.sent_is y.sent_is in
-    let asker = one_taken plan log (told_address plan f) x.asker y.asker x.asker_is y.asker_is in
+    let asker = one_taken plan log (asker_or_source plan f) x.asker y.asker x.asker_is y.asker_is in
     x.events_are
-    ∙ ap (λ (s : Sending). told_events plan f s x.asker sorts) sent
-    ∙ ap (λ (w : Who). told_events plan f y.sent w sorts) asker
+    ∙ ap (λ (s : Sending). frame_events plan f s x.asker sorts) sent
+    ∙ ap (λ (w : Who). frame_events plan f y.sent w sorts) asker
     ∙ sym y.events_are
 
 -- ---- groups

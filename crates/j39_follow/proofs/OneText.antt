@@ -12,7 +12,7 @@ use Rattle.j39_stream.specs.declared.verdict.Verdict.{Verdict}
 use Rattle.j39_stream.specs.declared.verdict.Verdict.TheVariants.{Done, Findings, Refused, Unreadable}
 use Rattle.j39_tp.specs.declared.packet.Packet.{Packet}
 use Rattle.j39_follow.specs.Contests.{Timed}
-use Rattle.j39_follow.specs.FollowReports.{AreTold, IsBareText, in_frame, stamp}
+use Rattle.j39_follow.specs.FollowReports.{AreEventsOf, IsBareText, in_frame, stamp}
 use Rattle.j39_follow.specs.FollowText.{AreUnitLines, IsFollowText, IsFollowedLog, IsPacketReport, FollowedPast, FollowsFrame, FollowsLine, FollowsLines, FollowsPart, FollowsShort, frames_seen, lines_with, nothing_followed, one_line_more, line_passed_over}
 use Rattle.j39_follow.specs.LogLines.{IsElsewhere, IsReadPart, IsTimeText, NamesInterface, interface_behind}
 use Rattle.j39_follow.specs.declared.request.event.Event.{Event}
@@ -55,7 +55,7 @@ with_frame past time named f packet sort sorts events = record past {
   timed = lines_with past f time;
   interface = interface_behind past.interface named;
   sent = past.sent ++ sort ∷ sorts;
-  told = past.told ++ events;
+  events = past.events ++ events;
 }
 
 one_frame_read : (plan : Plan) (all_frames : Bool) (past : FollowedPast) (time : List ℕ) (named : Option (List ℕ)) (f : Frame) (next other : FollowedPast) (t u : List ℕ)
@@ -72,8 +72,8 @@ one_frame_read plan all_frames past time named f next other t u a b =
     let there = subst (λ (p : Option Packet). IsPacketReport plan past.seen log front f p a.sorts a.carried) packet a.carried_is in
     let carried = one_packet_report plan past.seen log front f b.packet a.sorts b.sorts a.carried b.carried there b.carried_is in
     let told = one_told plan log f (b.sort ∷ b.sorts) a.events b.events
-    (subst (λ (s : List Sort). AreTold plan log f (b.sort ∷ s) a.events) carried.0
-    (subst (λ (s : Sort). AreTold plan log f (s ∷ a.sorts) a.events) report.0 a.events_are)) b.events_are in (
+    (subst (λ (s : List Sort). AreEventsOf plan log f (b.sort ∷ s) a.events) carried.0
+    (subst (λ (s : Sort). AreEventsOf plan log f (s ∷ a.sorts) a.events) report.0 a.events_are)) b.events_are in (
       a.next_is
           ∙ ap (λ (p : Option Packet). with_frame past time named f p a.sort a.sorts a.events) packet
           ∙ ap (λ (s : Sort). with_frame past time named f b.packet s a.sorts a.events) report.0

@@ -1,3 +1,3 @@
 -- What is asked and answered.
 pub mod Exchanged
-pub mod Told
+pub mod Noted

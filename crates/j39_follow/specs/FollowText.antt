@@ -28,14 +28,14 @@ use Rattle.j39_text.specs.Texts.{field, place_field}
 use Rattle.j39_stream.specs.declared.verdict.Verdict.{Verdict}
 use Rattle.j39_stream.specs.declared.verdict.Verdict.TheVariants.{Done, Findings, Refused, Unreadable}
 use Rattle.j39_follow.specs.Contests.{Timed}
-use Rattle.j39_follow.specs.FollowReports.{AreTold, IsBareText, IsGroupOfMessage, IsMessageReport, IsNotice, in_frame, stamp}
+use Rattle.j39_follow.specs.FollowReports.{AreEventsOf, IsBareText, IsGroupOfMessage, IsMessageReport, IsNotice, in_frame, stamp}
 use Rattle.j39_follow.specs.LoggedRequests.{times_answered, times_asked, times_refused}
 use Rattle.j39_follow.specs.declared.request.event.Event.{Event}
 use Rattle.j39_follow.specs.declared.message.Sort.{Sort}
 use Rattle.j39_follow.specs.declared.message.Sort.TheVariants.{Grouped, Other}
 use Rattle.j39_follow.specs.Holders.{HoldsByFrames}
 use Rattle.j39_follow.specs.LogLines.{IsElsewhere, IsReadPart, IsTimeText, NamesInterface, interface_behind, moment_of}
-use Rattle.j39_follow.specs.Who.{ChangesHands, IsUnitTold, is_name_of}
+use Rattle.j39_follow.specs.Who.{ChangesHands, IsUnitHeard, is_name_of}
 
 -- ---- what each two addresses heard
 
@@ -93,13 +93,13 @@ pub record FollowedPast : Type 0 where
   pub timed : List Timed
   pub interface : Option (List ℕ)
   pub sent : List Sort
-  pub told : List Event
+  pub events : List Event
   pub skipped : ℕ
   pub bad : ℕ
   pub elsewhere : ℕ
 
 abbrev pub nothing_followed : FollowedPast
-nothing_followed = record { number = 0; seen = []; timed = []; interface = None; sent = []; told = []; skipped = 0; bad = 0; elsewhere = 0 }
+nothing_followed = record { number = 0; seen = []; timed = []; interface = None; sent = []; events = []; skipped = 0; bad = 0; elsewhere = 0 }
 
 abbrev pub with_bad_line : FollowedPast → FollowedPast
 with_bad_line past = record past { bad = past.bad + 1 }
@@ -131,14 +131,14 @@ pub record FollowsFrame (plan : Plan) (all_frames : Bool) (past : FollowedPast) 
   pub report_is : IsMessageReport plan (lines_with past f time) (stamp past.number time) (in_frame f) sort report
   pub bare_is : IsBareText plan all_frames (lines_with past f time) (stamp past.number time) f (notice ++ report) bare
   pub carried_is : IsPacketReport plan past.seen (lines_with past f time) (stamp past.number time) f packet sorts carried
-  pub events_are : AreTold plan (lines_with past f time) f (sort ∷ sorts) events
+  pub events_are : AreEventsOf plan (lines_with past f time) f (sort ∷ sorts) events
   pub text_is : text ≡ notice ++ (report ++ (bare ++ carried))
   pub next_is : next ≡ record past {
     seen = past.seen ++ record { frame = f; packet = packet } ∷ [];
     timed = lines_with past f time;
     interface = interface_behind past.interface named;
     sent = past.sent ++ sort ∷ sorts;
-    told = past.told ++ events;
+    events = past.events ++ events;
   }
 
 -- a line that isn't elsewhere is read: as the frame that its part spells, or it is passed over
@@ -242,8 +242,8 @@ pub record StandsAt (plan : Plan) (frames : List Frame) (u : ℕ) (unit : UnitPl
 abbrev pub IsUnitLine : Plan → List Frame → ℕ → UnitPlan → List ℕ → Type 0
 IsUnitLine plan frames u unit text =
     ((address : ℕ) × StandsAt plan frames u unit address × (text ≡ unit_end_line unit (field (codes " address ") address)))
-    ⊎ (IsUnitTold plan frames u unit × ((address : ℕ) → ¬ HoldsForUnit plan frames u unit address) × (text ≡ unit_end_line unit (codes " none")))
-    ⊎ ((¬ IsUnitTold plan frames u unit) × (text ≡ unit_end_line unit (codes " unclaimed")))
+    ⊎ (IsUnitHeard plan frames u unit × ((address : ℕ) → ¬ HoldsForUnit plan frames u unit address) × (text ≡ unit_end_line unit (codes " none")))
+    ⊎ ((¬ IsUnitHeard plan frames u unit) × (text ≡ unit_end_line unit (codes " unclaimed")))
 
 -- so it is with these units, the first of which is at this place
 abbrev pub AreUnitLines : Plan → List Frame → ℕ → List UnitPlan → List ℕ → Type 0
@@ -268,12 +268,12 @@ request_end_line plan n r asked answered refused =
 
 -- of each request how often it was asked, answered and refused
 abbrev pub request_end : Plan → List Event → ℕ → RequestPlan → List ℕ
-request_end plan told n r =
-    request_end_line plan n r (times_asked n told) (times_answered plan n r told) (times_refused plan n r told)
+request_end plan events n r =
+    request_end_line plan n r (times_asked n events) (times_answered plan n r events) (times_refused plan n r events)
 
 unfoldable pub request_ends : Plan → List Event → ℕ → List RequestPlan → List ℕ
-request_ends plan told n [] = []
-request_ends plan told n (r ∷ requests) = request_end plan told n r ++ request_ends plan told (n + 1) requests
+request_ends plan events n [] = []
+request_ends plan events n (r ∷ requests) = request_end plan events n r ++ request_ends plan events (n + 1) requests
 
 -- how often the flow at a place was sent, where it meets the need of a plan with these requests
 abbrev pub met_by : List RequestPlan → List Sort → NeedPlan → ℕ → FlowPlan → ℕ
@@ -310,7 +310,7 @@ pub record IsFollowedLog (plan : Plan) (all_frames : Bool) (log text : List ℕ)
   pub read : FollowsLines plan all_frames nothing_followed (lines log) past reports
   pub units_are : AreUnitLines plan (frames_seen past.seen) 0 plan.units.items units
   pub text_is : text ≡ reports ++ (flow_ends plan past.sent 0 plan.flows.items ++ (group_ends plan past.sent 0 plan.groups.items
-      ++ (units ++ (request_ends plan past.told 0 plan.requests.items ++ (need_ends plan past.sent 0 plan.needs.items
+      ++ (units ++ (request_ends plan past.events 0 plan.requests.items ++ (need_ends plan past.sent 0 plan.needs.items
       ++ follow_counts_line (length past.seen) past.skipped past.bad past.elsewhere)))))
 
 -- what is written for a plan and a log, with the verdict, where all frames are told or those of planned groups alone; of the log of a refused plan nothing is read

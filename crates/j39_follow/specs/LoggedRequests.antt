@@ -80,8 +80,8 @@ abbrev pub asker_address : Frame → ℕ
 asker_address f = slice_index f.payload.items 4
 
 -- the address of which the frame speaks beside its own ones; of another frame it is the source
-abbrev pub told_address : Plan → Frame → ℕ
-told_address plan f = if acknowledges plan f then asker_address f else f.ident.sa
+abbrev pub asker_or_source : Plan → Frame → ℕ
+asker_or_source plan f = if acknowledges plan f then asker_address f else f.ident.sa
 
 -- the group that was asked for
 abbrev pub acknowledged_group : Frame → ℕ

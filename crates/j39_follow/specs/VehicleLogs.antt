@@ -13,7 +13,7 @@ use Rattle.j39_text.specs.Texts.{field}
 use Rattle.j39_follow.specs.Contests.{Timed}
 use Rattle.j39_follow.specs.FollowReports.{IsNotice, named_text, notice_text}
 use Rattle.j39_follow.specs.FollowText.{IsFollowText, IsFollowedLog, frames_seen}
-use Rattle.j39_follow.specs.Holders.{TellsOf}
+use Rattle.j39_follow.specs.Holders.{ClaimsOrCannot}
 
 -- ---- the NAMEs of a vehicle
 
@@ -26,7 +26,7 @@ IsOfVehicle plan vehicle name =
 -- so is each NAME of which these frames tell
 abbrev pub TellOfVehicle : Plan → Plan → List Frame → Type 0
 TellOfVehicle plan vehicle frames =
-    (before : List Frame) (f : Frame) (behind : List Frame) → frames ≡ before ++ f ∷ behind → (name : ℕ) → TellsOf f name
+    (before : List Frame) (f : Frame) (behind : List Frame) → frames ≡ before ++ f ∷ behind → (name : ℕ) → ClaimsOrCannot f name
     → IsOfVehicle plan vehicle name
 
 -- by this plan the log is followed, and its frames tell of no other box of a unit than the vehicle's

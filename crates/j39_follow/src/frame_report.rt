@@ -19,7 +19,7 @@ use crate::line::stamp::Stamp;
 use crate::message::{Arrival, Sort, in_frame};
 use crate::notice::write_notice;
 use crate::request::exchanges::Exchanges;
-use crate::request::telling::note;
+use crate::request::noting::note;
 use j39_id::Frame;
 use j39_log::{Groups, Listeners, listen, transport_packet};
 use j39_text::TextBuffer;
@@ -121,8 +121,10 @@ pub(crate) fn report_frame(
     stamp: Stamp<'_>,
     frame: &Frame,
 ) -> Result<(Sort, Option<Sort>), AllocError>
-    ensures { IfOk result (λ sorts. WritesFrame (λ log. ShowsParties groups.now parties.now log frame.now.ident × ShowsAsker groups.now parties.now log frame.now)
-        groups.now all_frames (front_of stamp.entry) frame.now sorts listeners.old listeners.new exchanges.old exchanges.new text.old text.new) }
+    ensures { IfOk result (λ sorts. WritesFrame (λ log. ShowsParties groups.now parties.now log frame.now.ident
+        × ShowsAsker groups.now parties.now log frame.now)
+        groups.now all_frames (front_of stamp.entry) frame.now sorts listeners.old listeners.new exchanges.old
+        exchanges.new text.old text.new) }
 {
     let (sort, ended) = write_frame(all_frames, text, listeners, groups, parties, stamp, frame)?;
     if groups.plan().requests.is_empty() {

@@ -2,7 +2,8 @@
 ghost use Rattle.std.specs.Prelude.{◌≡◌, ◌^◌, ◌++◌, ℕ, List, IfOk, OnOk};
 ghost use Rattle.std.specs.Option.{option_copied};
 ghost use Rattle.j39_log.specs.LineCounting.{AreWithin, IsLineMore};
-ghost use Rattle.j39_follow.specs.FollowText.{AreUnitLines, FollowedPast, FollowsFrame, FollowsShort, follow_counts_line, frames_seen};
+ghost use Rattle.j39_follow.specs.FollowText.{AreUnitLines, FollowedPast, FollowsFrame, FollowsShort};
+ghost use Rattle.j39_follow.specs.FollowText.{follow_counts_line, frames_seen};
 ghost use Rattle.j39_follow.specs.LogLines.{interface_behind};
 ghost use Rattle.j39_follow.specs.inside.FollowedSoFar.{LeadsToPast, RecallsPast, behind_reports, interface_of};
 
@@ -32,7 +33,8 @@ fn keep_interface(
     kept: &mut Option<Vec<u8>>,
     named: Option<&[u8]>,
 ) -> Result<(), AllocError>
-    ensures { OnOk result (interface_of kept.new ≡ interface_behind (interface_of kept.old) (option_copied named.entry)) }
+    ensures { OnOk result (interface_of kept.new
+        ≡ interface_behind (interface_of kept.old) (option_copied named.entry)) }
 {
     if kept.is_some() {
         return Ok(());
@@ -57,7 +59,8 @@ fn kept_interface(kept: &Option<Vec<u8>>) -> Option<&[u8]>
 // Writes the counts of lines.
 #[tactic(auto, unfolding(crate::specs::FollowText::follow_counts_line, j39_log::specs::LineCounting::counts_text))]
 fn write_counts(counts: &LineCounts, text: &mut TextBuffer) -> Result<(), AllocError>
-    ensures { OnOk result (text.new ≡ text.old ++ follow_counts_line counts.now.frames counts.now.skipped counts.now.bad counts.now.elsewhere) }
+    ensures { OnOk result (text.new ≡ text.old
+        ++ follow_counts_line counts.now.frames counts.now.skipped counts.now.bad counts.now.elsewhere) }
 {
     counts.write(text)?;
     text.field(" elsewhere ", counts.elsewhere)?;
@@ -76,8 +79,10 @@ impl UnitReport {
         text: &mut TextBuffer,
     ) -> Result<(), AllocError>
         requires { AreWithin counts.old (2 ^ 62) }
-        ensures frame { OnOk result ((past : FollowedPast) → RecallsPast groups.now self.old counts.old past → stamp.entry.number ≡ past.number
-            → LeadsToPast (FollowsFrame groups.now self.old.all_frames past stamp.entry.time.now (option_copied named.entry) frame.now)
+        ensures frame { OnOk result ((past : FollowedPast) → RecallsPast groups.now self.old counts.old past
+            → stamp.entry.number ≡ past.number
+            → LeadsToPast (FollowsFrame groups.now self.old.all_frames past stamp.entry.time.now (option_copied named.entry)
+            frame.now)
             groups.now self.new counts.new past.number text.old text.new) }
         ensures counted { OnOk result (IsLineMore counts.old counts.new) }
         ensures all_frames { self.new.all_frames ≡ self.old.all_frames }
@@ -98,8 +103,10 @@ impl UnitReport {
         text: &mut TextBuffer,
     ) -> Result<(), AllocError>
         requires { AreWithin counts.old (2 ^ 62) }
-        ensures line { OnOk result ((past : FollowedPast) → RecallsPast groups.now self.old counts.old past → number ≡ past.number
-            → LeadsToPast (FollowsShort groups.now self.old.all_frames past line.now) groups.now self.new counts.new past.number text.old text.new) }
+        ensures line { OnOk result ((past : FollowedPast) → RecallsPast groups.now self.old counts.old past
+            → number ≡ past.number
+            → LeadsToPast (FollowsShort groups.now self.old.all_frames past line.now) groups.now self.new counts.new
+            past.number text.old text.new) }
         ensures counted { OnOk result (IsLineMore counts.old counts.new) }
         ensures all_frames { self.new.all_frames ≡ self.old.all_frames }
     {
@@ -122,8 +129,8 @@ impl UnitReport {
         }
     }
 
-    // Writes what was sent, where each unit stands, how often each request was asked and answered, what met each need, and how many lines
-    // there are of each sort.
+    // Writes what was sent, where each unit stands, how often each request was asked and answered, what met each need,
+    // and how many lines there are of each sort.
     fn finish(
         &self,
         plan: &Plan,
@@ -131,7 +138,8 @@ impl UnitReport {
         text: &mut TextBuffer,
     ) -> Result<(), AllocError>
         ensures { OnOk result ((past : FollowedPast) → RecallsPast plan.now self.now counts.now past → (units : List ℕ)
-            × AreUnitLines plan.now (frames_seen past.seen) 0 plan.now.units.items units × (text.new ≡ text.old ++ behind_reports plan.now past units)) }
+            × AreUnitLines plan.now (frames_seen past.seen) 0 plan.now.units.items units
+            × (text.new ≡ text.old ++ behind_reports plan.now past units)) }
     {
         write_endings(text, plan, &self.tally, self.directory.holders())?;
         write_requests(text, plan, &self.exchanges)?;

@@ -11,7 +11,8 @@ ghost use Rattle.j39_follow.specs.inside.Contesting.{AreContests};
 ghost use Rattle.j39_follow.specs.inside.Exchanging.{AreExchanges};
 ghost use Rattle.j39_follow.specs.inside.FrameWriting.{WritesFrame};
 ghost use Rattle.j39_follow.specs.inside.Hearing.{HaveHeardSince};
-ghost use Rattle.j39_follow.specs.inside.FollowedSoFar.{IsCalm, IsFollowed, IsKnownSoFar, IsReported, IsSameButWritten, IsSameLog, RecallsPast, Remembers};
+ghost use Rattle.j39_follow.specs.inside.FollowedSoFar.{IsCalm, IsFollowed, IsKnownSoFar, IsReported, IsSameButWritten};
+ghost use Rattle.j39_follow.specs.inside.FollowedSoFar.{IsSameLog, RecallsPast, Remembers};
 ghost use Rattle.j39_follow.specs.inside.Recounting.{Knows};
 ghost use Rattle.j39_follow.specs.inside.Reporting.{front_of};
 ghost use Rattle.j39_follow.specs.inside.Tallies.{IsTally};
@@ -25,7 +26,7 @@ use crate::frame_report::report_frame;
 use crate::line::moment::moment;
 use crate::line::stamp::Stamp;
 use crate::message::Sort;
-use crate::request::acknowledgement::{acknowledges, told_address};
+use crate::request::acknowledgement::{acknowledges, asker_or_source};
 use crate::request::exchanges::Exchanges;
 use j39_id::{Frame, cannot_claim, claims_address};
 use j39_log::{Groups, Listeners};
@@ -75,14 +76,16 @@ impl UnitReport {
         text: &mut TextBuffer,
     ) -> Result<(Sort, Option<Sort>), AllocError>
         ensures stays { IsSameButWritten self.old self.new }
-        ensures written { IfOk result (λ sorts. WritesFrame (IsKnownSoFar groups.now self.old.directory self.old.contests (moment_of stamp.entry.time.now)) groups.now self.old.all_frames (front_of stamp.entry) frame.now
+        ensures written { IfOk result (λ sorts. WritesFrame
+            (IsKnownSoFar groups.now self.old.directory self.old.contests (moment_of stamp.entry.time.now)) groups.now
+            self.old.all_frames (front_of stamp.entry) frame.now
             sorts self.old.listeners self.new.listeners self.old.exchanges self.new.exchanges text.old text.new) }
     {
         let parties = taken(
             self.directory.parties(),
             &self.contests,
             frame.ident,
-            told_address(groups.plan(), frame),
+            asker_or_source(groups.plan(), frame),
             moment(stamp.time),
         );
         report_frame(
@@ -108,7 +111,8 @@ impl UnitReport {
     ) -> Result<(Sort, Option<Sort>), AllocError>
         requires { acknowledges groups.now frame.now ≡ false }
         ensures stays { IsSameButWritten self.old self.new }
-        ensures written { IfOk result (λ sorts. WritesFrame (IsCalm groups.now self.old.directory frame.now.ident) groups.now self.old.all_frames (front_of stamp.entry) frame.now
+        ensures written { IfOk result (λ sorts. WritesFrame (IsCalm groups.now self.old.directory frame.now.ident)
+            groups.now self.old.all_frames (front_of stamp.entry) frame.now
             sorts self.old.listeners self.new.listeners self.old.exchanges self.new.exchanges text.old text.new) }
     {
         report_frame(
@@ -132,7 +136,9 @@ impl UnitReport {
         text: &mut TextBuffer,
     ) -> Result<(Sort, Option<Sort>), AllocError>
         ensures stays { IsSameButWritten self.old self.new }
-        ensures written { IfOk result (λ sorts. WritesFrame (IsKnownSoFar groups.now self.old.directory self.old.contests (moment_of stamp.entry.time.now)) groups.now self.old.all_frames (front_of stamp.entry) frame.now
+        ensures written { IfOk result (λ sorts. WritesFrame
+            (IsKnownSoFar groups.now self.old.directory self.old.contests (moment_of stamp.entry.time.now)) groups.now
+            self.old.all_frames (front_of stamp.entry) frame.now
             sorts self.old.listeners self.new.listeners self.old.exchanges self.new.exchanges text.old text.new) }
     {
         if acknowledges(groups.plan(), frame) {
@@ -156,10 +162,13 @@ impl UnitReport {
         ensures directory { self.new.directory ≡ self.old.directory }
         ensures contests { self.new.contests ≡ self.old.contests }
         ensures same { IsSameLog self.old self.new }
-        ensures reported { OnOk result ((past : FollowedPast) → Knows groups.now self.old.directory (frames_of (lines_with past frame.now stamp.entry.time.now))
+        ensures reported { OnOk result ((past : FollowedPast)
+            → Knows groups.now self.old.directory (frames_of (lines_with past frame.now stamp.entry.time.now))
             → AreContests groups.now self.old.contests (lines_with past frame.now stamp.entry.time.now)
-            → HaveHeardSince groups.now self.old.listeners past.seen → AreAllInRange past.seen → IsTally groups.now self.old.tally past.sent
-            → AreExchanges groups.now self.old.exchanges past.told → length past.sent + 2 < 2 ^ 64 → length past.told + 3 < 2 ^ 64
+            → HaveHeardSince groups.now self.old.listeners past.seen → AreAllInRange past.seen
+            → IsTally groups.now self.old.tally past.sent
+            → AreExchanges groups.now self.old.exchanges past.events → length past.sent + 2 < 2 ^ 64
+            → length past.events + 3 < 2 ^ 64
             → IsReported groups.now self.old self.new past stamp.entry frame.now text.old text.new) }
     {
         let (sort, ended) = self.write(groups, stamp, frame, text)?;
@@ -167,7 +176,8 @@ impl UnitReport {
         Ok(())
     }
 
-    // Reports a frame that tells of an address: it may begin and end contests, and the pairs of which an address changes hands begin anew.
+    // Reports a frame that tells of an address: it may begin and end contests, and the pairs of which an address changes
+    // hands begin anew.
     fn follow_claim(
         &mut self,
         groups: &Groups<'_>,
@@ -178,7 +188,8 @@ impl UnitReport {
     ) -> Result<(), AllocError>
         requires { (claims_address frame.now || cannot_claim frame.now) ≡ true }
         ensures same { IsSameLog self.old self.new }
-        ensures followed { OnOk result ((past : FollowedPast) → Remembers groups.now self.old past.seen past.timed past.sent past.told
+        ensures followed { OnOk result ((past : FollowedPast)
+            → Remembers groups.now self.old past.seen past.timed past.sent past.events
             → length past.seen ≤ 2 ^ 62 → length past.seen ≡ earlier
             → IsFollowed groups.now self.old self.new past stamp.entry frame.now text.old text.new) }
     {
@@ -203,7 +214,8 @@ impl UnitReport {
         text: &mut TextBuffer,
     ) -> Result<(), AllocError>
         ensures same { IsSameLog self.old self.new }
-        ensures followed { OnOk result ((past : FollowedPast) → Remembers groups.now self.old past.seen past.timed past.sent past.told
+        ensures followed { OnOk result ((past : FollowedPast)
+            → Remembers groups.now self.old past.seen past.timed past.sent past.events
             → length past.seen ≤ 2 ^ 62 → length past.seen ≡ earlier
             → IsFollowed groups.now self.old self.new past stamp.entry frame.now text.old text.new) }
     {

@@ -41,7 +41,7 @@ no_suffix false = refl
 code_alone : (code : ℕ) → named.named_code_text nothing code ≡ plain.code_text code
 unfolding named.named_code_text named.parameter_name_text
 code_alone code =
-    ap (λ (t : List ℕ). plain.code_text code ++ t) (no_suffix (named.tells_parameter code)) ∙ append-nil (plain.code_text code)
+    ap (λ (t : List ℕ). plain.code_text code ++ t) (no_suffix (named.has_parameter code)) ∙ append-nil (plain.code_text code)
 
 value_alone : (kind : Kind) (per : ℕ) (unit : List ℕ) (v : ℤ) → named.named_value_text nothing kind per unit v ≡ plain.value_text kind per unit v
 unfolding named.named_value_text plain.value_text

@@ -34,7 +34,8 @@ fn write_group(
     bytes: &[u8],
 ) -> Result<(), AllocError>
     requires { (pgn : ℕ) × (planned groups.now pgn bytes.now ≡ Some place) }
-    ensures { OnOk result ((piece : List ℕ) × IsGroupReport groups.now (Some place) ident bytes.now piece × (text.new ≡ text.old ++ piece)) }
+    ensures { OnOk result ((piece : List ℕ) × IsGroupReport groups.now (Some place) ident bytes.now piece
+        × (text.new ≡ text.old ++ piece)) }
 {
     write_report(
         text,
@@ -56,7 +57,8 @@ fn write_planned(
     pgn: u32,
     bytes: &[u8],
 ) -> Result<(), AllocError>
-    ensures { OnOk result ((piece : List ℕ) × IsGroupReport groups.now (planned groups.now pgn bytes.now) ident bytes.now piece
+    ensures { OnOk result ((piece : List ℕ)
+        × IsGroupReport groups.now (planned groups.now pgn bytes.now) ident bytes.now piece
         × (text.new ≡ text.old ++ piece)) }
 {
     match groups.place(pgn, bytes) {
@@ -77,7 +79,8 @@ fn write_packet(
     ensures heard { OnOk result ((seen : List Seen) → HaveHeard listeners.old.rows.items seen
         → HaveHeard listeners.new.rows.items (seen ++ record { frame = frame.now; packet = Some packet.now } ∷ [])) }
     ensures message { OnOk result ((seen : List Seen) → HaveHeard listeners.old.rows.items seen → AreAllInRange seen
-        → (piece : List ℕ) × IsFrameReport groups.now seen frame.now (Some packet.now) piece × (text.new ≡ text.old ++ piece)) }
+        → (piece : List ℕ) × IsFrameReport groups.now seen frame.now (Some packet.now) piece
+        × (text.new ≡ text.old ++ piece)) }
 {
     listener_completes_what_is_carried();
     let ident = frame.ident;
@@ -169,7 +172,8 @@ impl LogReport for AddressReport {
         write_counts(counts, text)
     }
 
-    ghost long_line = { λ report plan counts ls reports read. long_line_read plan report.listeners counts ls reports read };
+    ghost long_line = { λ report plan counts ls reports read.
+        long_line_read plan report.listeners counts ls reports read };
 
     ghost ends = { λ report plan counts ls reports read. read_lines_end plan report.listeners counts ls reports read };
 }

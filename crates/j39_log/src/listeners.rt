@@ -69,7 +69,7 @@ fn fill(alloc: Global, slot: &mut Option<Box<Receiver>>) -> Result<(), AllocErro
 // The group of the message that the packet completes of a listener.
 fn hear_by_one(listener: &mut Receiver, packet: &Packet) -> Option<Pgn>
     ensures heard { listener.new ≡ receives listener.old packet.now }
-    ensures told { result ≡ completed_group listener.old packet.now }
+    ensures group { result ≡ completed_group listener.old packet.now }
 {
     if listener.hear(packet).is_complete() {
         listener.group()
@@ -82,7 +82,7 @@ fn hear_by_one(listener: &mut Receiver, packet: &Packet) -> Option<Pgn>
 fn hear_in(slot: &mut Option<Box<Receiver>>, packet: &Packet) -> Option<Pgn>
     requires { is_announcement packet.now ≡ true → slot.old ≢ None }
     ensures heard { listener_in slot.new ≡ receives (listener_in slot.old) packet.now }
-    ensures told { result ≡ completed_group (listener_in slot.old) packet.now }
+    ensures group { result ≡ completed_group (listener_in slot.old) packet.now }
 {
     match slot {
         Some(listener) => hear_by_one(listener, packet),
@@ -104,7 +104,7 @@ fn hear_at(row: &mut Row, destination: usize, packet: &Packet) -> Option<Pgn>
     requires { is_announcement packet.now ≡ true → HasListener row.old.items destination }
     ensures heard { listener_at row.new.items destination ≡ receives (listener_at row.old.items destination) packet.now }
     ensures others { (d : ℕ) → d ≢ destination → listener_at row.new.items d ≡ listener_at row.old.items d }
-    ensures told { result ≡ completed_group (listener_at row.old.items destination) packet.now }
+    ensures group { result ≡ completed_group (listener_at row.old.items destination) packet.now }
 {
     if row.len() <= destination {
         return None;
@@ -149,7 +149,7 @@ impl Listeners {
             ≡ receives (listener_of_pair self.old.rows.items source destination) packet.now }
         ensures others { (s d : ℕ) → is_pair source destination s d ≡ false
             → listener_of_pair self.new.rows.items s d ≡ listener_of_pair self.old.rows.items s d }
-        ensures told { result ≡ completed_group (listener_of_pair self.old.rows.items source destination) packet.now }
+        ensures group { result ≡ completed_group (listener_of_pair self.old.rows.items source destination) packet.now }
     {
         if self.rows.len() <= source {
             return None;
@@ -168,7 +168,7 @@ impl Listeners {
             ≡ receives (listener_of_pair self.old.rows.items source destination) packet.now) }
         ensures others { (s d : ℕ) → is_pair source destination s d ≡ false
             → listener_of_pair self.new.rows.items s d ≡ listener_of_pair self.old.rows.items s d }
-        ensures told { IfOk result (λ group. group ≡ completed_group (listener_of_pair self.old.rows.items source destination) packet.now) }
+        ensures group { IfOk result (λ group. group ≡ completed_group (listener_of_pair self.old.rows.items source destination) packet.now) }
     {
         let source = usize::from(source);
         let destination = usize::from(destination);
@@ -237,7 +237,7 @@ pub fn listen(
         ≡ (if is_heard_by source destination ident packet.now
         then receives (listener_of_pair listeners.old.rows.items source destination) packet.now
         else listener_of_pair listeners.old.rows.items source destination)) }
-    ensures told { IfOk result (λ group. group ≡ completed_group (listener_of_pair listeners.old.rows.items ident.sa ident.ps) packet.now) }
+    ensures group { IfOk result (λ group. group ≡ completed_group (listener_of_pair listeners.old.rows.items ident.sa ident.ps) packet.now) }
 {
     if is_abort(packet) && ident.sa != ident.ps {
         listeners.hear(ident.ps, ident.sa, packet)?;

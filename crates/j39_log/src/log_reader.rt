@@ -30,7 +30,8 @@ impl<'a, R: LogReport> LineReader for LogReader<'a, R> {
     ghost has_read = { λ reader ls written. (reader.number ≡ length ls)
         × R.has_reported reader.report reader.groups.now reader.counts ls (written ++ reader.text) };
 
-    ghost is_text = { λ reader log text verdict. R.is_log_text reader.report reader.groups.now log text × (verdict ≡ Done) };
+    ghost is_text = { λ reader log text verdict. R.is_log_text reader.report reader.groups.now log text
+        × (verdict ≡ Done) };
 
     ghost within = { λ reader most. (reader.number ≤ most) × AreWithin reader.counts most };
 

@@ -31,7 +31,8 @@ pub trait LogReport: Drop {
         requires { AreWithin counts.old (2 ^ 62) }
         ensures reported { OnOk result ((before : List Line) (reports : List ℕ) → number ≡ length before + 1
             → has_reported self.old groups.now counts.old before reports
-            → (piece : List ℕ) × has_reported self.new groups.now counts.new (before ++ Short line.now ∷ []) (reports ++ piece)
+            → (piece : List ℕ)
+            × has_reported self.new groups.now counts.new (before ++ Short line.now ∷ []) (reports ++ piece)
             × (text.new ≡ text.old ++ piece)) }
         ensures counted { OnOk result (IsLineMore counts.old counts.new) }
         ensures texts { OnOk result ((plan : APlan) (log written : List ℕ) → is_log_text self.new plan log written
@@ -44,13 +45,16 @@ pub trait LogReport: Drop {
         counts: &LineCounts,
         text: &mut TextBuffer,
     ) -> Result<(), AllocError>
-        ensures { OnOk result ((ls : List Line) (reports log : List ℕ) → has_reported self.now groups.now counts.now ls reports
+        ensures { OnOk result ((ls : List Line) (reports log : List ℕ)
+            → has_reported self.now groups.now counts.now ls reports
             → lines log ≡ ls
-            → (piece : List ℕ) × is_log_text self.now groups.now log (reports ++ piece) × (text.new ≡ text.old ++ piece)) };
+            → (piece : List ℕ) × is_log_text self.now groups.now log (reports ++ piece)
+            × (text.new ≡ text.old ++ piece)) };
 
     /// Of a line that is too long nothing is written: it is one more bad line.
     ghost long_line: { (report : Self) (plan : APlan) (counts : SomeCounts) (ls : List Line) (reports : List ℕ)
-        → has_reported report plan counts ls reports → has_reported report plan (one_more_bad counts) (ls ++ Long ∷ []) reports };
+        → has_reported report plan counts ls reports
+        → has_reported report plan (one_more_bad counts) (ls ++ Long ∷ []) reports };
 
     /// The text of a log with these lines begins with what is written of them.
     ghost ends: { (report : Self) (plan : APlan) (counts : SomeCounts) (ls : List Line) (reports : List ℕ)

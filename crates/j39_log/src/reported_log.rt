@@ -49,8 +49,8 @@ pub fn report_log<R: LogReport, S: Source, W: Sink>(
     sink: &mut W,
 ) -> Result<Verdict, Fault>
     requires { R.has_reported report plan.now no_lines [] [] }
-    ensures { AnswersInPieces (IsTextFor plan.now (R.is_log_text report plan.now)) log_limits (S.state source.old) (S.state source.new)
-        W.state sink.old sink.new result }
+    ensures { AnswersInPieces (IsTextFor plan.now (R.is_log_text report plan.now)) log_limits
+        (S.state source.old) (S.state source.new) W.state sink.old sink.new result }
 {
     match Groups::new(alloc, plan) {
         Ok(groups) => {

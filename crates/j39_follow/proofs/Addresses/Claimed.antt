@@ -8,11 +8,11 @@ use Rattle.j39_id.specs.FrameMeaning.{cannot_claim, claims_address, name_in}
 use Rattle.j39_id.specs.declared.frame.Frame.{Frame}
 use Rattle.j39_network.specs.declared.plan.Plan.{Plan}
 use Rattle.j39_follow.specs.Contests.{ClaimedLast, likely_named}
-use Rattle.j39_follow.specs.Holders.{Claims, TellsOf}
+use Rattle.j39_follow.specs.Holders.{Claims, ClaimsOrCannot}
 use Rattle.j39_follow.specs.declared.address.claimants.Claimant.{Claimant}
 use Rattle.j39_follow.specs.declared.address.claimants.Claimants.{Claimants}
 use Rattle.j39_follow.specs.inside.Contesting.{AreClaimants, IsClaimant, claimant_in, claimed_place, known_in}
-use Rattle.j39_follow.specs.inside.Recounting.{TellsPlace}
+use Rattle.j39_follow.specs.inside.Recounting.{ClaimsAt}
 use Rattle.j39_follow.proofs.Addresses.Holding.{all_front, one_more}
 use Rattle.j39_follow.proofs.Addresses.Recounts.{TellsNothing, claim_new, claim_tells, new_claim, place_tells, told_cannot}
 
@@ -29,28 +29,28 @@ claimed_new frames f name a claims = record {
   behind = [];
   row = refl;
   claims = claims;
-  untold = All-nil (λ (g : Frame). ¬ TellsOf g name);
+  unheard = All-nil (λ (g : Frame). ¬ ClaimsOrCannot g name);
 }
 
-claimed_on : (frames : List Frame) (f : Frame) (name a : ℕ) → ClaimedLast frames name a → ¬ TellsOf f name → ClaimedLast (frames ++ f ∷ []) name a
+claimed_on : (frames : List Frame) (f : Frame) (name a : ℕ) → ClaimedLast frames name a → ¬ ClaimsOrCannot f name → ClaimedLast (frames ++ f ∷ []) name a
 claimed_on frames f name a c stays = record {
   before = c.before;
   claim = c.claim;
   behind = c.behind ++ f ∷ [];
   row = ap (λ (t : List Frame). t ++ f ∷ []) c.row ∙ append_assoc c.before (c.claim ∷ c.behind) (f ∷ []);
   claims = c.claims;
-  untold = All-push (λ (g : Frame). ¬ TellsOf g name) c.behind f c.untold stays;
+  unheard = All-push (λ (g : Frame). ¬ ClaimsOrCannot g name) c.behind f c.unheard stays;
 }
 
 claimed_by : (frames : List Frame) (f : Frame) (name a : ℕ) → ClaimedLast (frames ++ f ∷ []) name a
-    → Claims f name a ⊎ (ClaimedLast frames name a × ¬ TellsOf f name)
+    → Claims f name a ⊎ (ClaimedLast frames name a × ¬ ClaimsOrCannot f name)
 claimed_by frames f name a c = elim (one_more frames f c.before c.claim c.behind c.row) [
   | inl last ↦ inl (subst (λ (g : Frame). Claims g name a) last.0 c.claims)
   | inr earlier ↦
-      let kept = all_front (λ (g : Frame). ¬ TellsOf g name) earlier.0 f
-      (subst (All (λ (g : Frame). ¬ TellsOf g name)) earlier.1 c.untold) in
+      let kept = all_front (λ (g : Frame). ¬ ClaimsOrCannot g name) earlier.0 f
+      (subst (All (λ (g : Frame). ¬ ClaimsOrCannot g name)) earlier.1 c.unheard) in
       inr (
-        record { before = c.before; claim = c.claim; behind = earlier.0; row = earlier.2; claims = c.claims; untold = kept.0 },
+        record { before = c.before; claim = c.claim; behind = earlier.0; row = earlier.2; claims = c.claims; unheard = kept.0 },
         kept.1,
       )
 ]
@@ -67,7 +67,7 @@ none_known plan claimants none name =
     })
 
 -- a NAME of which the frame doesn't tell
-known_on : (plan : Plan) (frames : List Frame) (f : Frame) (name : ℕ) (k : Claimant) → ¬ TellsOf f name → IsClaimant plan frames name k
+known_on : (plan : Plan) (frames : List Frame) (f : Frame) (name : ℕ) (k : Claimant) → ¬ ClaimsOrCannot f name → IsClaimant plan frames name k
     → IsClaimant plan (frames ++ f ∷ []) name k
 known_on plan frames f name k silent of = record {
   party = of.party;
@@ -84,7 +84,7 @@ known_still plan claimants frames f silent of name =
     known_on plan frames f name (claimant_in plan claimants name) (silent name) (of name)
 
 -- the NAME of which it tells
-known_new : (plan : Plan) (frames : List Frame) (f : Frame) (name : ℕ) (place : Option ℕ) (k : Claimant) → TellsPlace f name place
+known_new : (plan : Plan) (frames : List Frame) (f : Frame) (name : ℕ) (place : Option ℕ) (k : Claimant) → ClaimsAt f name place
     → k.party ≡ likely_named plan name → k.address ≡ place → IsClaimant plan (frames ++ f ∷ []) name k
 known_new plan frames f name place k tells party address = record {
   party = party;
@@ -96,7 +96,7 @@ known_new plan frames f name place k tells party address = record {
 }
 
 pub known_more : (plan : Plan) (old new : Claimants) (frames : List Frame) (f : Frame) (name : ℕ) (place : Option ℕ) (k : Claimant)
-    → TellsPlace f name place → k.party ≡ likely_named plan name → k.address ≡ place
+    → ClaimsAt f name place → k.party ≡ likely_named plan name → k.address ≡ place
     → ((n : ℕ) → known_in new n ≡ (if name == n then Some k else known_in old n)) → AreClaimants plan old frames
     → AreClaimants plan new (frames ++ f ∷ [])
 known_more plan old new frames f name place k tells party address put of n = elim (cases_Bool (name == n)) [
@@ -109,17 +109,17 @@ known_more plan old new frames f name place k tells party address put of n = eli
   | inr other ↦
       let found : known_in new n ≡ known_in old n = put n ∙ ap (λ (b : Bool). if b then Some k else known_in old n) other in
       let view = ap (λ (o : Option Claimant). unwrap_or o (record { party = likely_named plan n; address = None })) found in
-      let silent : ¬ TellsOf f n = λ t. eqb-false name n other (sym (place_tells f name place tells).name_is ∙ t.name_is) in
+      let silent : ¬ ClaimsOrCannot f n = λ t. eqb-false name n other (sym (place_tells f name place tells).name_is ∙ t.name_is) in
       subst (IsClaimant plan (frames ++ f ∷ []) n) (sym view) (known_on plan frames f n (claimant_in plan old n) silent (of n))
 ]
 
 -- what a frame tells that claims an address or tells that a NAME can't
-pub told_place : (f : Frame) → (claims_address f || cannot_claim f) ≡ true → TellsPlace f (name_in f) (claimed_place f)
+pub told_place : (f : Frame) → (claims_address f || cannot_claim f) ≡ true → ClaimsAt f (name_in f) (claimed_place f)
 told_place f told = elim (cases_Bool (claims_address f)) [
   | inl claims ↦
-      subst (λ (b : Bool). TellsPlace f (name_in f) (if b then Some f.ident.sa else None)) (sym claims)
+      subst (λ (b : Bool). ClaimsAt f (name_in f) (if b then Some f.ident.sa else None)) (sym claims)
       (record { claim = claims; name_is = refl; source_is = refl })
   | inr none ↦
-      subst (λ (b : Bool). TellsPlace f (name_in f) (if b then Some f.ident.sa else None)) (sym none)
+      subst (λ (b : Bool). ClaimsAt f (name_in f) (if b then Some f.ident.sa else None)) (sym none)
       (told_cannot f (name_in f) none (sym (ap (λ (b : Bool). b || cannot_claim f) none) ∙ told) refl)
 ]

@@ -222,7 +222,7 @@ module _ (plan : Plan) (before : List Timed) (old : Contention) (x : Timed) (a :
     | inl same ↦
         let ends : EndsContest plan x.frame c = (
           name_in x.frame,
-          record { told = told; name_is = refl },
+          record { either = told; name_is = refl },
           subst (λ (w : Who). IsSameParty w c.defender) named (party_same party c.defender same),
         ) in
         subst (λ (b : Bool). IsContestBehind plan before old x a (if b then None else Some c)) (sym same) (

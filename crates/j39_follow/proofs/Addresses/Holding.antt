@@ -3,7 +3,7 @@ use Rattle.std.proofs.Common.{◌≡◌, ◌⊎◌, ℕ, List, [], ◌∷◌, �
 use Rattle.std.proofs.lemmas.List.{same_from_push}
 use Rattle.std.proofs.lemmas.List.Elements.{All-nil, All-cons, All-head, All-tail, All-push}
 use Rattle.j39_id.specs.declared.frame.Frame.{Frame}
-use Rattle.j39_follow.specs.Holders.{Claims, HoldsByFrames, IsTold, TakesFrom, TellsOf}
+use Rattle.j39_follow.specs.Holders.{Claims, HoldsByFrames, IsNameHeard, TakesFrom, ClaimsOrCannot}
 
 -- a list is empty or has a last element
 pub ending : {A : Type 0} (xs : List A) → (xs ≡ []) ⊎ ((front : List A) × (last : A) × (xs ≡ front ++ last ∷ []))
@@ -71,21 +71,21 @@ held_by frames f name address h = elim (one_more frames f h.before h.claim h.beh
 
 -- ---- NAMEs of which something was told
 
-pub told_new : (frames : List Frame) (f : Frame) (name : ℕ) → TellsOf f name → IsTold (frames ++ f ∷ []) name
-told_new frames f name tells = record { before = frames; frame = f; behind = []; row = refl; tells = tells }
+pub told_new : (frames : List Frame) (f : Frame) (name : ℕ) → ClaimsOrCannot f name → IsNameHeard (frames ++ f ∷ []) name
+told_new frames f name tells = record { before = frames; frame = f; behind = []; row = refl; says = tells }
 
-pub told_on : (frames : List Frame) (f : Frame) (name : ℕ) → IsTold frames name → IsTold (frames ++ f ∷ []) name
+pub told_on : (frames : List Frame) (f : Frame) (name : ℕ) → IsNameHeard frames name → IsNameHeard (frames ++ f ∷ []) name
 told_on frames f name told = record {
   before = told.before;
   frame = told.frame;
   behind = told.behind ++ f ∷ [];
   row = ap (λ (t : List Frame). t ++ f ∷ []) told.row ∙ append_assoc told.before (told.frame ∷ told.behind) (f ∷ []);
-  tells = told.tells;
+  says = told.says;
 }
 
-pub told_by : (frames : List Frame) (f : Frame) (name : ℕ) → IsTold (frames ++ f ∷ []) name → TellsOf f name ⊎ IsTold frames name
+pub told_by : (frames : List Frame) (f : Frame) (name : ℕ) → IsNameHeard (frames ++ f ∷ []) name → ClaimsOrCannot f name ⊎ IsNameHeard frames name
 told_by frames f name told = elim (one_more frames f told.before told.frame told.behind told.row) [
-  | inl last ↦ inl (subst (λ (g : Frame). TellsOf g name) last.0 told.tells)
+  | inl last ↦ inl (subst (λ (g : Frame). ClaimsOrCannot g name) last.0 told.says)
   | inr earlier ↦
-      inr (record { before = told.before; frame = told.frame; behind = earlier.0; row = earlier.2; tells = told.tells })
+      inr (record { before = told.before; frame = told.frame; behind = earlier.0; row = earlier.2; says = told.says })
 ]

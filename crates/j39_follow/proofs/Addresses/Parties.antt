@@ -71,8 +71,8 @@ one_who plan frames address Unknown Unknown x y = refl
 may_as_well : (plan : Plan) (h : Holders) (frames others : List Frame) (address u : ℕ) (unit : UnitPlan) → Recounts plan h frames
     → Recounts plan h others → slice_get plan.units.items u ≡ Some unit → MayHold plan frames address u unit → MayHold plan others address u unit
 may_as_well plan h frames others address u unit of too at may = elim (cases_Bool (is_marked h u)) [
-  | inl marked ↦ absurd (may.untold (of.told u unit at marked))
-  | inr unmarked ↦ record { prefers = may.prefers; untold = too.untold u unit at unmarked }
+  | inl marked ↦ absurd (may.unheard (of.heard u unit at marked))
+  | inr unmarked ↦ record { prefers = may.prefers; unheard = too.unheard u unit at unmarked }
 ]
 
 none_as_well : (plan : Plan) (h : Holders) (frames others : List Frame) (address : ℕ) → Recounts plan h frames → Recounts plan h others

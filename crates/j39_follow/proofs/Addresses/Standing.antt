@@ -8,7 +8,7 @@ use Rattle.j39_network.specs.declared.plan.Plan.{Plan}
 use Rattle.j39_network.specs.declared.plan.unit_plan.UnitPlan.{UnitPlan}
 use Rattle.j39_text.specs.Texts.{field}
 use Rattle.j39_follow.specs.FollowText.{AreUnitLines, HoldsForUnit, IsUnitLine, StandsAt, unit_end_line}
-use Rattle.j39_follow.specs.Who.{IsUnitTold, is_name_of}
+use Rattle.j39_follow.specs.Who.{IsUnitHeard, is_name_of}
 use Rattle.j39_follow.specs.declared.address.holders.Holders.{Holders}
 use Rattle.j39_follow.specs.inside.Recounting.{HasNameAt, IsHeldByUnit, IsLatestBelow, Recounts, claimed_at, is_marked}
 use Rattle.j39_follow.proofs.Addresses.Recounts.{claim_tells}
@@ -102,11 +102,11 @@ module _ (plan : Plan) (holders : Holders) (u : ℕ) (unit : UnitPlan) where
 
     pub line_nowhere : (many : ℕ) → ((b n : ℕ) → HasNameAt holders b n → b < many) → IsLatestBelow plan holders u unit many None
         → slice_get plan.units.items u ≡ Some unit → is_marked holders u ≡ true → IsUnitLine plan frames u unit (unit_end_line unit (codes " none"))
-    line_nowhere many within none at marked = inr (inl (of.told u unit at marked, stands_nowhere many within none, refl))
+    line_nowhere many within none at marked = inr (inl (of.heard u unit at marked, stands_nowhere many within none, refl))
 
     pub line_unclaimed : slice_get plan.units.items u ≡ Some unit → is_marked holders u ≡ false
         → IsUnitLine plan frames u unit (unit_end_line unit (codes " unclaimed"))
-    line_unclaimed at unmarked = inr (inr (of.untold u unit at unmarked, refl))
+    line_unclaimed at unmarked = inr (inr (of.unheard u unit at unmarked, refl))
 
   -- ---- there is one
 
@@ -170,18 +170,18 @@ one_place plan frames u unit a b s t =
 
 -- whose NAME holds an address was told of
 holder_is_told : (plan : Plan) (frames : List Frame) (u : ℕ) (unit : UnitPlan) (address : ℕ) → HoldsForUnit plan frames u unit address
-    → IsUnitTold plan frames u unit
+    → IsUnitHeard plan frames u unit
 holder_is_told plan frames u unit address there =
     let h = there.holds in
     record {
       name = there.name;
       name_of = there.name_of;
-      told = record {
+      heard = record {
         before = h.before;
         frame = h.claim;
         behind = h.behind;
         row = h.row;
-        tells = claim_tells h.claim there.name address h.claims;
+        says = claim_tells h.claim there.name address h.claims;
       };
     }
 

@@ -75,8 +75,8 @@ pub empty_recounts : (plan : Plan) (h : Holders) → ((a n : ℕ) → ¬ HasName
 empty_recounts plan h vacant unmarked = record {
   held = λ a n at. absurd (vacant a n at);
   holds = λ a n h. absurd (no_row h.before h.claim h.behind h.row);
-  told = λ u unit at yes. absurd (false≢true (sym (unmarked u) ∙ yes));
-  untold = λ u unit at no told. no_row told.told.before told.told.frame told.told.behind told.told.row;
+  heard = λ u unit at yes. absurd (false≢true (sym (unmarked u) ∙ yes));
+  unheard = λ u unit at no told. no_row told.heard.before told.heard.frame told.heard.behind told.heard.row;
   since = λ a n h. absurd (no_row h.before h.claim h.behind h.row);
 }
 
@@ -240,11 +240,11 @@ mark_not plan old new unit name k here other of = λ u unit' there. elim (cases_
 pub none_marked : (plan : Plan) (told : List Bool) (name : ℕ) → IsMarkedBelow plan told told name 0
 none_marked plan told name = λ u unit there. none_below (is_name_of plan u unit name) (nat_lt u 0) (slice_index_or told u false) (not_below_zero u)
 
-pub all_marked : (plan : Plan) (old new : Holders) (name k : ℕ) → length plan.units.items ≤ k → IsMarkedBelow plan old.told new.told name k
+pub all_marked : (plan : Plan) (old new : Holders) (name k : ℕ) → length plan.units.items ≤ k → IsMarkedBelow plan old.heard new.heard name k
     → IsMarked plan old new name
 all_marked plan old new name k past of = λ u unit there.
     let within = slice_get_within plan.units.items u unit there in
-    of u unit there ∙ every (is_name_of plan u unit name) (nat_lt u k) (slice_index_or old.told u false) (lt-ltb u k (omega (arith, within, past)))
+    of u unit there ∙ every (is_name_of plan u unit name) (nat_lt u k) (slice_index_or old.heard u false) (lt-ltb u k (omega (arith, within, past)))
 
 -- ---- what is looked up
 

@@ -10,7 +10,7 @@ use Rattle.j39_id.specs.FrameLine.{LineSpells, SplitsLast, is_separator}
 use Rattle.j39_id.proofs.LastWord.{IsLastWordAt, places_of, splits_at}
 use Rattle.j39_id.proofs.LineLaws.{identifier_digits, same_last_word}
 use Rattle.j39_follow.specs.LogLines.{IsDirection}
-use Rattle.j39_follow.specs.inside.Splitting.{TellsDirection}
+use Rattle.j39_follow.specs.inside.Splitting.{IsDirectionLetter}
 
 -- ---- one last word
 
@@ -74,7 +74,7 @@ one_letter line front word c s is =
     ∙ ap (λ (xs : List ℕ). front ++ (xs ++ w.back)) is) ∙ get_or-append_seam front c w.back 0
 
 pub letter_of : (line front word : List ℕ) → SplitsLast line front word → IsDirection word
-    → (length word ≡ 1) × TellsDirection (slice_index line (length front))
+    → (length word ≡ 1) × IsDirectionLetter (slice_index line (length front))
 letter_of line front word s (inl is) = (ap length is, inl (one_letter line front word 82 s is))
 letter_of line front word s (inr is) = (ap length is, inr (one_letter line front word 84 s is))
 
@@ -107,14 +107,14 @@ alone line stop some within blank whole parted =
       last = blank;
     })
 
-direction_of : (c : ℕ) (word : List ℕ) → TellsDirection c → word ≡ c ∷ [] → IsDirection word
+direction_of : (c : ℕ) (word : List ℕ) → IsDirectionLetter c → word ≡ c ∷ [] → IsDirection word
 direction_of c word (inl is) e = inl (e ∙ ap (λ (n : ℕ). n ∷ []) is)
 direction_of c word (inr is) e = inr (e ∙ ap (λ (n : ℕ). n ∷ []) is)
 
 -- it tells the direction, if its letter does
-pub tells_direction : (line : List ℕ) (stop : ℕ) → 0 < stop → stop ≤ length line → TellsDirection (slice_index line (stop - 1))
+pub direction_letter : (line : List ℕ) (stop : ℕ) → 0 < stop → stop ≤ length line → IsDirectionLetter (slice_index line (stop - 1))
     → IsDirection (slice_range line (stop - 1) stop)
-tells_direction line stop some within tells =
+direction_letter line stop some within tells =
     let one : stop - (stop - 1) ≡ 1 = omega arith in
     let word : slice_range line (stop - 1) stop ≡ slice_index line (stop - 1) ∷ [] =
     ap (λ (n : ℕ). take n (drop (stop - 1) line)) one
@@ -124,7 +124,7 @@ tells_direction line stop some within tells =
 -- a direction's word ends where the words of its line do, is parted, and its letter tells it
 pub record IsDirectionAt (line : List ℕ) (stop : ℕ) : Type 0 where
   pub some : 0 < stop
-  pub letter : TellsDirection (slice_index line (stop - 1))
+  pub letter : IsDirectionLetter (slice_index line (stop - 1))
   pub parted : 0 < length (take (stop - 1) line)
       → is_separator (slice_index (take (stop - 1) line) (length (take (stop - 1) line) - 1)) ≡ true
 
@@ -140,7 +140,7 @@ direction_at line front word stop s is within blank ends =
     let x = stands_at line front word s in
     record {
       some = omega (arith, one, whole);
-      letter = subst (λ (n : ℕ). TellsDirection (slice_index line n)) here letter.1;
+      letter = subst (λ (n : ℕ). IsDirectionLetter (slice_index line n)) here letter.1;
       parted = λ front'.
           subst (λ (n : ℕ). is_separator (slice_index (take (stop - 1) line) (n - 1)) ≡ true) (sym size)
           (subst (λ (b : ℕ). is_separator b ≡ true) (sym (get_or-take (stop - 1) line (stop - 1 - 1) 0 (omega (arith, front', size))))

@@ -17,7 +17,7 @@ use Rattle.j39_follow.specs.FollowReports.{identity_text, in_frame, stamp}
 use Rattle.j39_follow.specs.FollowText.{FollowedPast, FollowsFrame, FollowsLine, FollowsLines, FollowsPart, HeardSince, IsCarriedReport, IsFollowedAs}
 use Rattle.j39_follow.specs.FollowText.{IsPacketReport, OneChangesHands}
 use Rattle.j39_follow.specs.FollowText.{frames_seen, line_passed_over, lines_with, one_line_more}
-use Rattle.j39_follow.specs.Holders.{TellsOf}
+use Rattle.j39_follow.specs.Holders.{ClaimsOrCannot}
 use Rattle.j39_follow.specs.VehicleLogs.{IsButForNumber, NumberedLine, notice_alone, with_numbers, without_numbers}
 use Rattle.j39_follow.specs.declared.message.Sort.{Sort}
 use Rattle.j39_follow.proofs.Vehicles.Parties.{TellAll, same_hands, tell_front}
@@ -149,7 +149,7 @@ module _ (G : ℕ → Type 0) (p q : Plan) (same : TellAlike G p q) (silent : (n
     last : frames_of log ≡ frames_of past.timed ++ f ∷ []
     last = map-append (λ (t : Timed). t.frame) past.timed _
 
-    tells : (name : ℕ) → TellsOf f name → G name
+    tells : (name : ℕ) → ClaimsOrCannot f name → G name
     tells name t = all (frames_of past.timed) f [] last name t
 
     alone : List ℕ

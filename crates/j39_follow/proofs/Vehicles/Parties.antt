@@ -13,8 +13,8 @@ use Rattle.j39_network.specs.declared.plan.Plan.{Plan}
 use Rattle.j39_network.specs.declared.plan.unit_plan.UnitPlan.{UnitPlan}
 use Rattle.j39_follow.specs.Contests.{Begins, Defends, EndsContest, IsContestBehind, IsContested, IsTaken, IsTakenBehind, Leads, Opposes, Timed, frames_of}
 use Rattle.j39_follow.specs.Contests.{likely_named, nothing_contended}
-use Rattle.j39_follow.specs.Holders.{Claims, HoldsByFrames, TellsOf}
-use Rattle.j39_follow.specs.Who.{ChangesHands, IsLikeliest, IsSameParty, IsUnitTold, IsWho, MayHold, unit_of_name}
+use Rattle.j39_follow.specs.Holders.{Claims, HoldsByFrames, ClaimsOrCannot}
+use Rattle.j39_follow.specs.Who.{ChangesHands, IsLikeliest, IsSameParty, IsUnitHeard, IsWho, MayHold, unit_of_name}
 use Rattle.j39_follow.specs.declared.address.contest.Contention.{Contention}
 use Rattle.j39_follow.specs.declared.address.contest.Contest.{Contest}
 use Rattle.j39_follow.specs.declared.address.who.Who.{Who}
@@ -23,14 +23,14 @@ use Rattle.j39_follow.proofs.Vehicles.Units.{AreAt, TellAlike, above_told, flip,
 
 -- each NAME of which the frames tell meets G
 abbrev pub TellAll : (ℕ → Type 0) → List Frame → Type 0
-TellAll G frames = (before : List Frame) (f : Frame) (behind : List Frame) → frames ≡ before ++ f ∷ behind → (name : ℕ) → TellsOf f name → G name
+TellAll G frames = (before : List Frame) (f : Frame) (behind : List Frame) → frames ≡ before ++ f ∷ behind → (name : ℕ) → ClaimsOrCannot f name → G name
 
 pub tell_front : (G : ℕ → Type 0) (a b : List Frame) → TellAll G (a ++ b) → TellAll G a
 tell_front G a b all before f behind is =
     all before f (behind ++ b) (ap (λ (t : List Frame). t ++ b) is ∙ append_assoc before (f ∷ behind) b)
 
-claim_tells : (f : Frame) (name address : ℕ) → Claims f name address → TellsOf f name
-claim_tells f name address c = record { told = ap (λ (b : Bool). b || cannot_claim f) c.claim; name_is = c.name_is }
+claim_tells : (f : Frame) (name address : ℕ) → Claims f name address → ClaimsOrCannot f name
+claim_tells f name address c = record { either = ap (λ (b : Bool). b || cannot_claim f) c.claim; name_is = c.name_is }
 
 pub holder_meets : (G : ℕ → Type 0) (frames : List Frame) (name address : ℕ) → TellAll G frames → HoldsByFrames frames name address → G name
 holder_meets G frames name address all h = all h.before h.claim h.behind h.row name (claim_tells h.claim name address h.claims)
@@ -38,15 +38,15 @@ holder_meets G frames name address all h = all h.before h.claim h.behind h.row n
 -- ---- units
 
 pub unit_told : (G : ℕ → Type 0) (p q : Plan) → TellAlike G p q → (frames : List Frame) → TellAll G frames → (u : ℕ) (a b : UnitPlan)
-    → AreAt p q u a b → IsUnitTold p frames u a → IsUnitTold q frames u b
+    → AreAt p q u a b → IsUnitHeard p frames u a → IsUnitHeard q frames u b
 unit_told G p q same frames all u a b at t = record {
   name = t.name;
-  name_of = sym (same.names u a b at t.name (all t.told.before t.told.frame t.told.behind t.told.row t.name t.told.tells)) ∙ t.name_of;
-  told = t.told;
+  name_of = sym (same.names u a b at t.name (all t.heard.before t.heard.frame t.heard.behind t.heard.row t.name t.heard.says)) ∙ t.name_of;
+  heard = t.heard;
 }
 
 pub unit_untold : (G : ℕ → Type 0) (p q : Plan) → TellAlike G p q → (frames : List Frame) → TellAll G frames → (u : ℕ) (a b : UnitPlan)
-    → AreAt p q u a b → ¬ IsUnitTold p frames u a → ¬ IsUnitTold q frames u b
+    → AreAt p q u a b → ¬ IsUnitHeard p frames u a → ¬ IsUnitHeard q frames u b
 unit_untold G p q same frames all u a b at none told =
     none (unit_told G q p (flip G p q same) frames all u b a (turned q p u b a at) told)
 
@@ -54,7 +54,7 @@ may_hold : (G : ℕ → Type 0) (p q : Plan) → TellAlike G p q → (frames : L
     → AreAt p q u a b → MayHold p frames address u a → MayHold q frames address u b
 may_hold G p q same frames all address u a b at m = record {
   prefers = sym (same.address u a b at) ∙ m.prefers;
-  untold = unit_untold G p q same frames all u a b at m.untold;
+  unheard = unit_untold G p q same frames all u a b at m.unheard;
 }
 
 least_kept : (a b c d : ℕ) → nat_lt c a ≡ nat_lt d b → a ≤ c → b ≤ d
@@ -158,7 +158,7 @@ module _ (G : ℕ → Type 0) (p q : Plan) (same : TellAlike G p q) (before : Li
   earlier : TellAll G frames
   earlier = tell_front G frames (x.frame ∷ []) all
 
-  told_here : (name : ℕ) → TellsOf x.frame name → G name
+  told_here : (name : ℕ) → ClaimsOrCannot x.frame name → G name
   told_here name t = all frames x.frame [] refl name t
 
   claimed_here : (name : ℕ) → Claims x.frame name address → G name

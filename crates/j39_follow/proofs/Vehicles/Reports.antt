@@ -22,12 +22,12 @@ use Rattle.j39_text.specs.Labels.{unit_label}
 use Rattle.j39_text.specs.Texts.{field}
 use Rattle.j39_follow.specs.Contests.{IsTaken, Timed, frames_of}
 use Rattle.j39_follow.specs.Fits.{IsSentGroup, MayBeGroup, fits, fits_all, fitting_flow, is_unit}
-use Rattle.j39_follow.specs.FollowReports.{AreTold, IsAnswerWay, IsAsked, IsBareText, IsGroupOfMessage, IsGrouped, IsMessageReport, IsNotice, IsSendingOf, IsWay, Message}
+use Rattle.j39_follow.specs.FollowReports.{AreEventsOf, IsAnswerWay, IsAsked, IsBareText, IsGroupOfMessage, IsGrouped, IsMessageReport, IsNotice, IsSendingOf, IsWay, Message}
 use Rattle.j39_follow.specs.FollowReports.{answer_aim, frame_line, answer_line, answer_way_text, asked_line, cannot_line, cannot_text, claim_line, claim_text}
 use Rattle.j39_follow.specs.FollowReports.{identity_text, in_frame, is_to_all, message_line, named_text, notice_events, notice_text, refusal_events, reply_of}
-use Rattle.j39_follow.specs.Holders.{TellsOf}
+use Rattle.j39_follow.specs.Holders.{ClaimsOrCannot}
 use Rattle.j39_follow.specs.LoggedRequests.{acknowledged_group, acknowledges, asked_request, asker_address, counted_number, is_acknowledgement, is_aimed_so}
-use Rattle.j39_follow.specs.LoggedRequests.{is_asked_by, is_refusal, told_address}
+use Rattle.j39_follow.specs.LoggedRequests.{is_asked_by, is_refusal, asker_or_source}
 use Rattle.j39_follow.specs.VehicleLogs.{cannot_alone, claim_alone, notice_alone}
 use Rattle.j39_follow.specs.Who.{name_text, party_text, unit_of_name, who_text}
 use Rattle.j39_follow.specs.declared.request.event.Event.{Event}
@@ -137,8 +137,8 @@ module _ (G : ℕ → Type 0) (p q : Plan) (same : TellAlike G p q) where
   pub same_acknowledges : (f : Frame) → acknowledges p f ≡ acknowledges q f
   same_acknowledges f = ap (λ (rs : List RequestPlan). nat_lt 0 (length rs) && is_acknowledgement f) same.requests
 
-  pub same_told_address : (f : Frame) → told_address p f ≡ told_address q f
-  same_told_address f = ap (λ (b : Bool). if b then asker_address f else f.ident.sa) (same_acknowledges f)
+  pub same_asker_or_source : (f : Frame) → asker_or_source p f ≡ asker_or_source q f
+  same_asker_or_source f = ap (λ (b : Bool). if b then asker_address f else f.ident.sa) (same_acknowledges f)
 
   same_number : (sort : Sort) → counted_number p sort ≡ counted_number q sort
   same_number (Grouped g flow) = ap (λ (gs : List GroupPlan). slice_index_or (map (λ (x : GroupPlan). x.pgn) gs) g 0) same.groups
@@ -211,18 +211,18 @@ module _ (G : ℕ → Type 0) (p q : Plan) (same : TellAlike G p q) (log : List 
   same_answer_way : (f : Frame) (text : List ℕ) → IsAnswerWay p log f text → IsAnswerWay q log f text
   unfolding answer_way_text
   same_answer_way f text a =
-      let told = same_told_address G p q same f in
+      let told = same_asker_or_source G p q same f in
       record {
         sender = a.sender;
         asker = a.asker;
         sender_is = taken f.ident.sa a.sender a.sender_is;
-        asker_is = subst (λ (address : ℕ). IsTaken q log address a.asker) told (taken (told_address p f) a.asker a.asker_is);
+        asker_is = subst (λ (address : ℕ). IsTaken q log address a.asker) told (taken (asker_or_source p f) a.asker a.asker_is);
         text_is =
             a.text_is
-            ∙ ap (λ (t : List ℕ). codes " from " ++ (t ++ (codes " to " ++ (if told_address p f == global_address then codes "all"
-            else who_text p a.asker (told_address p f))))) (same_who_text G p q same a.sender f.ident.sa)
-            ∙ ap (λ (t : List ℕ). codes " from " ++ (who_text q a.sender f.ident.sa ++ (codes " to " ++ (if told_address p f == global_address then codes "all"
-            else t)))) (same_who_text G p q same a.asker (told_address p f))
+            ∙ ap (λ (t : List ℕ). codes " from " ++ (t ++ (codes " to " ++ (if asker_or_source p f == global_address then codes "all"
+            else who_text p a.asker (asker_or_source p f))))) (same_who_text G p q same a.sender f.ident.sa)
+            ∙ ap (λ (t : List ℕ). codes " from " ++ (who_text q a.sender f.ident.sa ++ (codes " to " ++ (if asker_or_source p f == global_address then codes "all"
+            else t)))) (same_who_text G p q same a.asker (asker_or_source p f))
             ∙ ap (λ (address : ℕ). answer_way_text q a.sender f.ident.sa a.asker address) told;
       }
 
@@ -232,11 +232,11 @@ module _ (G : ℕ → Type 0) (p q : Plan) (same : TellAlike G p q) (log : List 
       (λ asks. ap (λ (o : Option ℕ). option_to_list (option_map Asked o)) (same_requested G p q same (requested_group f) sent))
       (λ other. ap (λ (b : Bool). if b then refusal_events p f sent asker else []) (same_acknowledges G p q same f)
       ∙ ap (λ (address : ℕ). if acknowledges q f then (if is_refusal f then Refused (reply_of (acknowledged_group f) sent.sender
-      (answer_aim address asker)) ∷ [] else []) else []) (same_told_address G p q same f))
+      (answer_aim address asker)) ∷ [] else []) else []) (same_asker_or_source G p q same f))
 
-  same_told : (f : Frame) (sorts : List Sort) (events : List Event) → AreTold p log f sorts events → AreTold q log f sorts events
+  same_told : (f : Frame) (sorts : List Sort) (events : List Event) → AreEventsOf p log f sorts events → AreEventsOf q log f sorts events
   same_told f sorts events t =
-      let told = same_told_address G p q same f in
+      let told = same_asker_or_source G p q same f in
       let brought = map_same (λ (sort : Sort). Brought (reply_of (counted_number p sort) t.sent.sender t.sent.aim))
       (λ (sort : Sort). Brought (reply_of (counted_number q sort) t.sent.sender t.sent.aim))
       (λ sort. ap (λ (n : ℕ). Brought (reply_of n t.sent.sender t.sent.aim)) (same_number G p q same sort)) sorts in
@@ -245,7 +245,7 @@ module _ (G : ℕ → Type 0) (p q : Plan) (same : TellAlike G p q) (log : List 
         sent = t.sent;
         asker = t.asker;
         sent_is = same_sending (in_frame f) t.sent t.sent_is;
-        asker_is = subst (λ (address : ℕ). IsTaken q log address t.asker) told (taken (told_address p f) t.asker t.asker_is);
+        asker_is = subst (λ (address : ℕ). IsTaken q log address t.asker) told (taken (asker_or_source p f) t.asker t.asker_is);
         events_are =
             t.events_are
             ∙ ap (λ (e : List Event). e ++ map (λ (sort : Sort). Brought (reply_of (counted_number p sort) t.sent.sender t.sent.aim)) sorts) notice
@@ -283,7 +283,7 @@ module _ (G : ℕ → Type 0) (p q : Plan) (same : TellAlike G p q) (log : List 
   pub same_group_of : (m : Message) (group : Option ℕ) → IsGroupOfMessage p log m group → IsGroupOfMessage q log m group
   same_group_of m group is = (is.0, same_sending m is.0 is.1, same_group G p q same m.pgn m.bytes is.0 group is.2)
 
-  pub same_events : (f : Frame) (sorts : List Sort) (events : List Event) → AreTold p log f sorts events → AreTold q log f sorts events
+  pub same_events : (f : Frame) (sorts : List Sort) (events : List Event) → AreEventsOf p log f sorts events → AreEventsOf q log f sorts events
   same_events = same_told
 
   -- the line of a frame of which nothing else is written
@@ -297,7 +297,7 @@ module _ (G : ℕ → Type 0) (p q : Plan) (same : TellAlike G p q) (log : List 
 
   -- ---- what is told first
 
-  module _ (silent : (name : ℕ) → identity_text q name ≡ []) (f : Frame) (tells : (name : ℕ) → TellsOf f name → G name) where
+  module _ (silent : (name : ℕ) → identity_text q name ≡ []) (f : Frame) (tells : (name : ℕ) → ClaimsOrCannot f name → G name) where
     claim_same : (front : List ℕ) (name address : ℕ) → G name → claim_text q front name address ≡ claim_alone p front name address
     unfolding claim_text claim_alone
     claim_same front name address g =
@@ -314,10 +314,10 @@ module _ (G : ℕ → Type 0) (p q : Plan) (same : TellAlike G p q) (log : List 
     notice_same front way asked back =
         choose_same (claims_address f) _ _ _ _
         (λ claims. claim_same front (name_in f) f.ident.sa
-        (tells (name_in f) (record { told = ap (λ (b : Bool). b || cannot_claim f) claims; name_is = refl })))
+        (tells (name_in f) (record { either = ap (λ (b : Bool). b || cannot_claim f) claims; name_is = refl })))
         (λ no. choose_same (cannot_claim f) _ _ _ _
         (λ cannot. cannot_same front (name_in f)
-        (tells (name_in f) (record { told = ap (λ (b : Bool). b || cannot_claim f) no ∙ cannot; name_is = refl })))
+        (tells (name_in f) (record { either = ap (λ (b : Bool). b || cannot_claim f) no ∙ cannot; name_is = refl })))
         (λ neither. sym (
         ap (λ (b : Bool). if b then claim_line p front f else if cannot_claim f then cannot_line p front f else asks p f front way asked back) no
         ∙ ap (λ (b : Bool). if b then cannot_line p front f else asks p f front way asked back) neither

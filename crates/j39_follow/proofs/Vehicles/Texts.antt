@@ -54,8 +54,8 @@ same_behind : (G : ℕ → Type 0) (p q : Plan) → TellAlike G p q → (past : 
 same_behind G p q same past units =
     let flows = same_flow_ends G p q same past.sent 0 p.flows.items ∙ ap (λ (fs : List FlowPlan). flow_ends q past.sent 0 fs) same.flows in
     let groups = same_group_ends G p q same past.sent 0 p.groups.items ∙ ap (λ (gs : List GroupPlan). group_ends q past.sent 0 gs) same.groups in
-    let requests = same_request_ends G p q same past.told 0 p.requests.items
-    ∙ ap (λ (rs : List RequestPlan). request_ends q past.told 0 rs) same.requests in
+    let requests = same_request_ends G p q same past.events 0 p.requests.items
+    ∙ ap (λ (rs : List RequestPlan). request_ends q past.events 0 rs) same.requests in
     let needs = same_need_ends G p q same past.sent 0 p.needs.items ∙ ap (λ (ns : List NeedPlan). need_ends q past.sent 0 ns) same.needs in
     rw (flows, groups, requests, needs) refl
 

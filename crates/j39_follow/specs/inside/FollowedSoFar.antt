@@ -12,7 +12,8 @@ use Rattle.j39_log.specs.declared.line_counts.LineCounts.{LineCounts}
 use Rattle.j39_log.specs.declared.listeners.Listeners.{Listeners}
 use Rattle.j39_log.specs.inside.Listening.{AreAllInRange}
 use Rattle.j39_follow.specs.Contests.{IsNow, Timed, frames_of}
-use Rattle.j39_follow.specs.FollowText.{AreUnitLines, FollowedPast, FollowsLines, follow_counts_line, flow_ends, frames_seen, group_ends, lines_with, nothing_followed, need_ends, request_ends}
+use Rattle.j39_follow.specs.FollowText.{AreUnitLines, FollowedPast, FollowsLines, follow_counts_line, flow_ends, frames_seen, group_ends, lines_with}
+use Rattle.j39_follow.specs.FollowText.{nothing_followed, need_ends, request_ends}
 use Rattle.j39_follow.specs.declared.address.contests.Contests.{Contests}
 use Rattle.j39_follow.specs.declared.address.directory.Directory.{Directory}
 use Rattle.j39_follow.specs.declared.line.stamp.Stamp.{Stamp}
@@ -33,7 +34,7 @@ interface_of None = None
 interface_of (Some name) = Some name.items
 
 -- who holds what, what each pair heard, what was sent and what was asked is as these tell
-pub record Remembers (plan : Plan) (report : UnitReport) (seen : List Seen) (timed : List Timed) (sent : List Sort) (told : List Event) : Type 0 where
+pub record Remembers (plan : Plan) (report : UnitReport) (seen : List Seen) (timed : List Timed) (sent : List Sort) (events : List Event) : Type 0 where
   pub knows : Knows plan report.directory (frames_seen seen)
   pub contests : AreContests plan report.contests timed
   pub frames : frames_of timed ≡ frames_seen seen
@@ -41,12 +42,12 @@ pub record Remembers (plan : Plan) (report : UnitReport) (seen : List Seen) (tim
   pub ranges : AreAllInRange seen
   pub tally : IsTally plan report.tally sent
   pub few : length sent ≤ 2 * length seen
-  pub exchanges : AreExchanges plan report.exchanges told
-  pub few_told : length told ≤ 3 * length seen
+  pub exchanges : AreExchanges plan report.exchanges events
+  pub few_noted : length events ≤ 3 * length seen
 
 -- what was read so far is this
 pub record RecallsPast (plan : Plan) (report : UnitReport) (counts : LineCounts) (past : FollowedPast) : Type 0 where
-  pub remembers : Remembers plan report past.seen past.timed past.sent past.told
+  pub remembers : Remembers plan report past.seen past.timed past.sent past.events
   pub interface_is : interface_of report.interface ≡ past.interface
   pub frames_are : counts.frames ≡ length past.seen
   pub skipped_are : counts.skipped ≡ past.skipped
@@ -79,7 +80,7 @@ pub record IsReported (plan : Plan) (old new : UnitReport) (past : FollowedPast)
   pub ended : Option Sort
   pub written : IsFrameWritten plan old.all_frames new.listeners past.seen (lines_with past f s.time.now) (front_of s) f sort ended old_text new_text
   pub tally : IsTally plan new.tally (past.sent ++ sort ∷ option_to_list ended)
-  pub noted : AreNoted plan (lines_with past f s.time.now) f (sort ∷ option_to_list ended) past.told new.exchanges
+  pub noted : AreNoted plan (lines_with past f s.time.now) f (sort ∷ option_to_list ended) past.events new.exchanges
 
 -- the frame was written and counted, and what it tells was noted
 pub record IsFollowed (plan : Plan) (old new : UnitReport) (past : FollowedPast) (s : Stamp) (f : Frame) (old_text new_text : List ℕ) : Type 0 where
@@ -91,7 +92,7 @@ pub record IsFollowed (plan : Plan) (old new : UnitReport) (past : FollowedPast)
   pub contests : AreContests plan new.contests (lines_with past f s.time.now)
   pub heard : HaveHeardSince plan new.listeners (past.seen ++ record { frame = f; packet = written.packet } ∷ [])
   pub tally : IsTally plan new.tally (past.sent ++ sort ∷ option_to_list ended)
-  pub noted : AreNoted plan (lines_with past f s.time.now) f (sort ∷ option_to_list ended) past.told new.exchanges
+  pub noted : AreNoted plan (lines_with past f s.time.now) f (sort ∷ option_to_list ended) past.events new.exchanges
 
 -- what was read leads to a past that is kept, with as many lines, and what is written at it was written
 pub record LeadsToPast (Reads : FollowedPast → List ℕ → Type 0) (plan : Plan) (new : UnitReport) (counts : LineCounts) (number : ℕ)
@@ -116,5 +117,5 @@ pub record HasFollowedLines (plan : Plan) (report : UnitReport) (counts : LineCo
 abbrev pub behind_reports : Plan → FollowedPast → List ℕ → List ℕ
 behind_reports plan past units =
     flow_ends plan past.sent 0 plan.flows.items ++ (group_ends plan past.sent 0 plan.groups.items
-    ++ (units ++ (request_ends plan past.told 0 plan.requests.items ++ (need_ends plan past.sent 0 plan.needs.items
+    ++ (units ++ (request_ends plan past.events 0 plan.requests.items ++ (need_ends plan past.sent 0 plan.needs.items
     ++ follow_counts_line (length past.seen) past.skipped past.bad past.elsewhere))))

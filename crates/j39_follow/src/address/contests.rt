@@ -55,7 +55,7 @@ fn note_contests(
     claimant: Claimant,
     time: Option<u64>,
 )
-    requires told { (claims_address frame.now || cannot_claim frame.now) ≡ true }
+    requires either { (claims_address frame.now || cannot_claim frame.now) ≡ true }
     requires name { name_in frame.now ≡ name }
     ensures { (log : List Timed) (address : ℕ) → address < 256 → Knows plan.now directory.now (frames_of log)
         → IsClaimant plan.now (frames_of log) name claimant → IsContentionBehind plan.now log (contention_at table.old address)
@@ -135,11 +135,11 @@ impl Contests {
             claimant,
             time,
         );
-        let told = Claimant {
+        let claimant = Claimant {
             party: claimant.party,
             address: claimed(frame),
         };
-        self.claimants.note(name, told)
+        self.claimants.note(name, claimant)
     }
 
     // Whether a contest began at an address, and nothing has ended it.

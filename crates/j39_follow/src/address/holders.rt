@@ -6,7 +6,7 @@ ghost use Rattle.j39_id.specs.Limits.{unit_limit};
 ghost use Rattle.j39_id.specs.declared.frame.Frame.{Frame as AFrame};
 ghost use Rattle.j39_network.specs.declared.plan.Plan.{Plan as APlan};
 ghost use Rattle.j39_network.specs.declared.plan.unit_plan.UnitPlan.{UnitPlan as AUnitPlan};
-ghost use Rattle.j39_follow.specs.Holders.{IsHolder, TellsOf};
+ghost use Rattle.j39_follow.specs.Holders.{IsHolder, ClaimsOrCannot};
 ghost use Rattle.j39_follow.specs.Who.{is_name_of as is_of_unit, unit_of_name};
 ghost use Rattle.j39_follow.specs.inside.Recounting.{HasNameAt, IsHeldByUnit, IsLatestBelow, IsLeft, IsMarked, IsMoved, Recounts, claimed_at, is_marked};
 
@@ -25,7 +25,7 @@ const ADDRESSES: usize = NULL_ADDRESS as usize;
 pub(crate) struct Holders {
     names: [Option<u64>; ADDRESSES],
     claimed: [u64; ADDRESSES],
-    told: [bool; UNIT_LIMIT],
+    heard: [bool; UNIT_LIMIT],
 }
 
 // A place for each address, all of them empty.
@@ -53,7 +53,7 @@ impl Holders {
         Holders {
             names: no_names(),
             claimed: [0; ADDRESSES],
-            told: [false; UNIT_LIMIT],
+            heard: [false; UNIT_LIMIT],
         }
     }
 
@@ -72,7 +72,7 @@ impl Holders {
     // Takes the NAME from the address that it holds.
     fn leave(&mut self, name: u64)
         ensures left { IsLeft self.old self.new name }
-        ensures marks { self.new.told ≡ self.old.told }
+        ensures marks { self.new.heard ≡ self.old.heard }
         ensures claims { self.new.claimed ≡ self.old.claimed }
     {
         for address in 0..ADDRESSES {
@@ -91,7 +91,7 @@ impl Holders {
         let found = unit_named(plan, name);
         for place in 0..plan.units.len() {
             if is_name_of(&plan.units[place], place, name, found) {
-                self.told[place] = true;
+                self.heard[place] = true;
             }
         }
     }
@@ -102,14 +102,14 @@ impl Holders {
         ensures room { address < length self.old.names }
         ensures names { self.new.names ≡ slice_set self.old.names address (Some name) }
         ensures claimed { self.new.claimed ≡ slice_set self.old.claimed address count }
-        ensures marks { self.new.told ≡ self.old.told }
+        ensures marks { self.new.heard ≡ self.old.heard }
     {
         self.names[usize::from(address)] = Some(name);
         self.claimed[usize::from(address)] = count;
     }
 
     // Notes that the NAME claims this address behind so many frames, or could not claim one.
-    fn tell(&mut self, plan: &Plan, name: u64, place: Option<u8>, count: u64)
+    fn note(&mut self, plan: &Plan, name: u64, place: Option<u8>, count: u64)
         requires { IfSome place (λ address. address < null_address) }
         ensures { IsMoved plan.now self.old self.new name place count }
     {
@@ -127,14 +127,14 @@ impl Holders {
             → Recounts plan.now self.new (frames ++ frame.now ∷ []) }
     {
         if claims_address(frame) {
-            self.tell(
+            self.note(
                 plan,
                 carried_name(frame).to_bits(),
                 Some(frame.ident.sa),
                 count,
             );
         } else if cannot_claim(frame) {
-            self.tell(plan, carried_name(frame).to_bits(), None, count);
+            self.note(plan, carried_name(frame).to_bits(), None, count);
         }
     }
 
@@ -215,10 +215,10 @@ impl Holders {
     }
 
     /// Whether a NAME of the unit at this place claimed an address or could not.
-    pub fn is_told(&self, place: usize) -> bool
+    pub fn was_heard(&self, place: usize) -> bool
         requires { place < unit_limit }
         ensures { result ≡ is_marked self.now place }
     {
-        self.told[place]
+        self.heard[place]
     }
 }

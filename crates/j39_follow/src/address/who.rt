@@ -105,7 +105,7 @@ fn may_hold(plan: &Plan, holders: &Holders, address: u8, place: usize) -> bool
     if unit.address.number() != address {
         return false;
     }
-    !holders.is_told(place)
+    !holders.was_heard(place)
 }
 
 // Whether the NAME is below that of the best unit so far.

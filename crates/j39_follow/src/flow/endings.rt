@@ -153,7 +153,7 @@ fn write_unit(
     if let Some(address) = holders.address(plan, place, unit) {
         return write_standing(text, unit, address);
     }
-    if holders.is_told(place) {
+    if holders.was_heard(place) {
         write_nowhere(text, unit, " none")
     } else {
         write_nowhere(text, unit, " unclaimed")

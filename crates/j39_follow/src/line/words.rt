@@ -3,7 +3,7 @@ ghost use Rattle.std.specs.Prelude.{◌≡◌, ◌≢◌, ◌==◌, not, ◌-◌
 ghost use Rattle.std.specs.List.{All, AllPass, AllWithin, list_all};
 ghost use Rattle.j39_id.specs.FrameLine.{Spells, SplitsLast, is_separator as separates};
 ghost use Rattle.j39_follow.specs.LogLines.{BeginsWithTime, HasWord, IsDirection, IsFirstWord, IsMarkedLast, IsOfTime, IsTime};
-ghost use Rattle.j39_follow.specs.inside.Splitting.{IsEnclosed, IsWordAt, TellsDirection};
+ghost use Rattle.j39_follow.specs.inside.Splitting.{IsEnclosed, IsWordAt, IsDirectionLetter};
 
 use j39_id::{Frame, is_separator, split_last, words_end};
 
@@ -51,7 +51,7 @@ pub(crate) fn first_word(line: &[u8]) -> Option<&[u8]>
 
 // Whether a word of this letter tells whether a frame was received or transmitted.
 fn is_direction(letter: u8) -> bool
-    ensures { IsTrue result ↔ TellsDirection letter }
+    ensures { IsTrue result ↔ IsDirectionLetter letter }
 {
     matches!(letter, b'R' | b'T')
 }

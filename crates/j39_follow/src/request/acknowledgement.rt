@@ -3,7 +3,7 @@ ghost use Rattle.std.specs.Prelude.{◌≡◌, ◌++◌, ℕ, List, length, true
 ghost use Rattle.std.specs.Option.{option_copied};
 ghost use Rattle.j39_follow.specs.Contests.{Timed};
 ghost use Rattle.j39_follow.specs.FollowReports.{IsAnswerWay, answer_line, answer_text, answer_way_text};
-ghost use Rattle.j39_follow.specs.LoggedRequests.{acknowledged_group, acknowledges, asker_address, control_of, control_word, is_acknowledgement, is_refusal, told_address};
+ghost use Rattle.j39_follow.specs.LoggedRequests.{acknowledged_group, acknowledges, asker_address, control_of, control_word, is_acknowledgement, is_refusal, asker_or_source};
 ghost use Rattle.j39_follow.specs.inside.Contesting.{ShowsAsker, ShowsParties};
 ghost use Rattle.j39_follow.specs.inside.Recounting.{HasNames, party_at};
 ghost use Rattle.j39_follow.specs.inside.Reporting.{front_of};
@@ -18,7 +18,7 @@ use j39_text::TextBuffer;
 use std::alloc::AllocError;
 
 fn is_acknowledgement(frame: &Frame) -> bool
-    ensures told { result ≡ is_acknowledgement frame.now }
+    ensures same { result ≡ is_acknowledgement frame.now }
     ensures eight { result ≡ true → length frame.now.payload.items ≡ 8 }
 {
     frame.ident.edp == 0 && frame.ident.pgn() == ACKNOWLEDGEMENT && frame.payload.len() == 8
@@ -26,7 +26,7 @@ fn is_acknowledgement(frame: &Frame) -> bool
 
 /// Whether a frame is an acknowledgement, in the log of a plan that has requests.
 pub(crate) fn acknowledges(plan: &Plan, frame: &Frame) -> bool
-    ensures told { result ≡ acknowledges plan.now frame.now }
+    ensures same { result ≡ acknowledges plan.now frame.now }
     ensures eight { result ≡ true → length frame.now.payload.items ≡ 8 }
 {
     !plan.requests.is_empty() && is_acknowledgement(frame)
@@ -58,8 +58,8 @@ pub(crate) fn asker_address(frame: &Frame) -> u8
 }
 
 /// The address of which an acknowledgement speaks, else the frame's source.
-pub(crate) fn told_address(plan: &Plan, frame: &Frame) -> u8
-    ensures { result ≡ told_address plan.now frame.now }
+pub(crate) fn asker_or_source(plan: &Plan, frame: &Frame) -> u8
+    ensures { result ≡ asker_or_source plan.now frame.now }
 {
     if acknowledges(plan, frame) {
         asker_address(frame)
@@ -121,7 +121,7 @@ pub(crate) fn write_acknowledgement(
     stamp: Stamp<'_>,
     frame: &Frame,
 ) -> Result<(), AllocError>
-    requires told { acknowledges plan.now frame.now ≡ true }
+    requires acknowledged { acknowledges plan.now frame.now ≡ true }
     requires eight { length frame.now.payload.items ≡ 8 }
     ensures { OnOk result ((log : List Timed) → ShowsParties plan.now parties.now log frame.now.ident → ShowsAsker plan.now parties.now log frame.now
         → (way : List ℕ) × IsAnswerWay plan.now log frame.now way

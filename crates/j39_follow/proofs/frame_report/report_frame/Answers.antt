@@ -1,6 +1,6 @@
 use Rattle.std.proofs.Common.{◌≡◌, ◌∙◌, length, sym, subst, arith, eqb-true}
 use Rattle.j39_network.specs.declared.plan.Plan.{Plan}
-use Rattle.j39_follow.proofs.Requests.Told.{none_noted}
+use Rattle.j39_follow.proofs.Requests.Noted.{none_noted}
 use Rattle.j39_follow.proofs.frame_report.report_frame.Goals as goal
 
 pub returns-then-is_empty : goal.returns-then-is_empty

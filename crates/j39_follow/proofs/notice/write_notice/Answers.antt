@@ -10,7 +10,7 @@ use Rattle.j39_follow.specs.LoggedRequests.{acknowledges}
 use Rattle.j39_follow.specs.declared.address.known_parties.Parties.{Parties}
 use Rattle.j39_follow.specs.inside.Contesting.{ShowsAsker, ShowsParties}
 use Rattle.j39_follow.specs.inside.Reporting.{front_of}
-use Rattle.j39_follow.proofs.Requests.Told.{an_answer_way, an_asked}
+use Rattle.j39_follow.proofs.Requests.Noted.{an_answer_way, an_asked}
 use Rattle.j39_follow.proofs.Addresses.Ways.{a_way, if_not, if_so}
 use Rattle.j39_follow.proofs.notice.write_notice.Goals as goal
 
@@ -105,7 +105,7 @@ returns-then-acknowledges c =
         text_is = if_not (claims_address f) _ _ _ (sym c.claims_address.ensures ∙ c.if-claims_address.false)
             (if_not (cannot_claim f) _ _ _ (sym c.cannot_claim.ensures ∙ c.if-cannot_claim.false)
             (if_not (requests_group f) _ _ _ (sym c.requests_group.ensures ∙ c.if-requests_group.false)
-            (if_so (acknowledges plan f) _ _ (sym c.acknowledges.ensures.told ∙ c.if-acknowledges.true))));
+            (if_so (acknowledges plan f) _ _ (sym c.acknowledges.ensures.same ∙ c.if-acknowledges.true))));
       },
       one.2,
     ))
@@ -120,6 +120,6 @@ returns-else-acknowledges c = λ log shows asks.
           (λ way back asked. if_not (claims_address f) _ _ _ (sym c.claims_address.ensures ∙ c.if-claims_address.false)
           (if_not (cannot_claim f) _ _ _ (sym c.cannot_claim.ensures ∙ c.if-cannot_claim.false)
           (if_not (requests_group f) _ _ _ (sym c.requests_group.ensures ∙ c.if-requests_group.false)
-          (if_not (acknowledges plan f) _ _ _ (sym c.acknowledges.ensures.told ∙ c.if-acknowledges.false) refl)))),
+          (if_not (acknowledges plan f) _ _ _ (sym c.acknowledges.ensures.same ∙ c.if-acknowledges.false) refl)))),
       sym (append-nil c.args.text.now),
     )

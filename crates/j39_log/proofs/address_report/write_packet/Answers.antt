@@ -28,7 +28,7 @@ returns-in-Some-clause-message c =
     let p : Packet = c.args.packet.now in
     let old = listener_of_pair c.args.listeners.now.rows.items i.sa i.ps in
     let new = listener_of_pair c.listen.new.listeners.rows.items i.sa i.ps in
-    let done = completed_there old p c.in-Some.pgn (sym c.in_ok-pgn.ensures.told ∙ c.in-Some.is) in
+    let done = completed_there old p c.in-Some.pgn (sym c.in_ok-pgn.ensures.group ∙ c.in-Some.is) in
     let itself = heard_itself c.args.listeners.now.rows.items c.listen.new.listeners.rows.items i p c.in_ok-pgn.ensures.heard in
     let progress : new.progress ≡ Complete c.number.result =
     ap (λ (r : Receiving). r.progress) itself ∙ done.1 ∙ ap Complete (sym c.number.ensures.value) in
@@ -54,7 +54,7 @@ returns-in-None-clause-message c = λ seen have ranges.
     let i = c.args.frame.now.ident in
     let p : Packet = c.args.packet.now in
     let old = listener_of_pair c.args.listeners.now.rows.items i.sa i.ps in
-    let untold = uncompleted old p (sym c.in_ok-pgn.ensures.told ∙ c.in-None.is) in (
+    let untold = uncompleted old p (sym c.in_ok-pgn.ensures.group ∙ c.in-None.is) in (
       [],
       inr (
         uncarried_there c.listener_completes_what_is_carried.ensures.carried (heard_before seen i) p old

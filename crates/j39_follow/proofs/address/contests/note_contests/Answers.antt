@@ -14,7 +14,7 @@ returns-then-not-claims_address c = λ log a less knows of.
     let old : Contention = contention_at c.args.table.now a in
     let named = of.party ∙ ap (likely_named plan) (sym c.requires.name) in
     subst (IsContentionBehind plan log old x a) (sym (c.leave_contests.ensures a less))
-    (left_behind plan log old x a c.args.claimant.party named c.requires.told
+    (left_behind plan log old x a c.args.claimant.party named c.requires.either
     (λ name claims. false≢true (sym (sym c.claims_address.ensures ∙ c.if-not-claims_address.true) ∙ claims.claim)))
 
 pub returns : goal.returns
@@ -48,6 +48,6 @@ returns c = λ log a less knows of.
           let rest : contention_at c.put_contention.new.table a ≡ contention_at c.leave_contests.new.table a =
           put ∙ ap (λ (b : Bool). if b then c.contention_behind-new.result else contention_at c.leave_contests.new.table a) other in
           subst (IsContentionBehind plan log old x a) (sym (rest ∙ c.leave_contests.ensures a less))
-          (left_behind plan log old x a c.args.claimant.party named c.requires.told
+          (left_behind plan log old x a c.args.claimant.party named c.requires.either
           (λ name claims. eqb-false sa a other claims.source_is))
     ]

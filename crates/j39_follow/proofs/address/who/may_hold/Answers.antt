@@ -16,9 +16,9 @@ returns-clause-may c = λ yes frames unit of at.
     c.index-unit.ensures ∙ get_or_from_slice_get c.args.plan.now.units.items c.args.place unit c.index-unit.result.now at in
     record {
       prefers = sym (c.number.ensures.value ∙ ap (λ (u : UnitPlan). u.address) same) ∙ c.if-number-address.false;
-      untold = of.untold c.args.place unit at (sym c.is_told.ensures ∙ not-true c.is_told.result yes);
+      unheard = of.unheard c.args.place unit at (sym c.was_heard.ensures ∙ not-true c.was_heard.result yes);
     }
 
 pub returns-clause-not : goal.returns-clause-not
 returns-clause-not c = λ no frames unit of at may.
-    may.untold (of.told c.args.place unit at (sym c.is_told.ensures ∙ not-false c.is_told.result no))
+    may.unheard (of.heard c.args.place unit at (sym c.was_heard.ensures ∙ not-false c.was_heard.result no))

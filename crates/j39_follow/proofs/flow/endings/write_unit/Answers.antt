@@ -25,8 +25,8 @@ returns-in-Some c =
     ))
     c.write_standing.ensures
 
-pub returns-then-is_told : goal.returns-then-is_told
-returns-then-is_told c =
+pub returns-then-was_heard : goal.returns-then-was_heard
+returns-then-was_heard c =
     let plan = c.args.plan.now in
     let holders = c.args.holders.now in
     let place = c.args.place in
@@ -37,18 +37,18 @@ returns-then-is_told c =
       _,
       line_nowhere plan holders place unit frames of 254 (within holders size)
           (subst (IsLatestBelow plan holders place unit 254) c.in_default.is c.address.ensures) c.requires.there
-          (sym c.is_told.ensures ∙ c.if-is_told.true),
+          (sym c.was_heard.ensures ∙ c.if-was_heard.true),
       written,
     ))
     c.write_nowhere.ensures
 
-pub returns-else-is_told : goal.returns-else-is_told
-returns-else-is_told c =
-    IfOk-weaker c.write_nowhere-else-is_told.result _ _
+pub returns-else-was_heard : goal.returns-else-was_heard
+returns-else-was_heard c =
+    IfOk-weaker c.write_nowhere-else-was_heard.result _ _
     (λ _ written. λ frames of. (
       _,
       line_unclaimed c.args.plan.now c.args.holders.now c.args.place c.args.unit.now frames of c.requires.there
-          (sym c.is_told.ensures ∙ c.if-is_told.false),
+          (sym c.was_heard.ensures ∙ c.if-was_heard.false),
       written,
     ))
-    c.write_nowhere-else-is_told.ensures
+    c.write_nowhere-else-was_heard.ensures

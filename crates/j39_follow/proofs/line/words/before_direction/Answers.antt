@@ -1,6 +1,6 @@
 use Rattle.std.proofs.Common.{◌<◌, ℕ, List, sym, ◌∙◌, arith}
 use Rattle.std.proofs.lemmas.Bool.{false≢true}
-use Rattle.j39_follow.proofs.Lines.Splitting.{alone, direction_at, tells_direction}
+use Rattle.j39_follow.proofs.Lines.Splitting.{alone, direction_at, direction_letter}
 use Rattle.j39_follow.proofs.line.words.before_direction.Goals as goal
 
 pub returns-then-stop-eq0-clause-none : goal.returns-then-stop-eq0-clause-none
@@ -29,4 +29,4 @@ returns-clause-found c =
     let end = c.words_end-stop.ensures in
     let some : 0 < stop = omega (arith, c.if-stop-eq0.false) in
     let s = alone line stop some end.within end.blank (end.ends some) (c.is_parted.ensures.0 c.if-not-is_parted.false) in
-    (_, (s.0, s.1), tells_direction line stop some end.within (c.is_direction.ensures.0 c.if-not-is_direction.false))
+    (_, (s.0, s.1), direction_letter line stop some end.within (c.is_direction.ensures.0 c.if-not-is_direction.false))

@@ -23,8 +23,8 @@ returns c =
     let a : List ℕ = flow_ends plan past.sent 0 plan.flows.items in
     let b : List ℕ = group_ends plan past.sent 0 plan.groups.items in
     let needs : List ℕ = need_ends plan past.sent 0 plan.needs.items in
-    let requests : List ℕ = request_ends plan past.told 0 plan.requests.items in
-    let asked = c.in_ok-write_requests.ensures past.told m.exchanges in
+    let requests : List ℕ = request_ends plan past.events 0 plan.requests.items in
+    let asked = c.in_ok-write_requests.ensures past.events m.exchanges in
     let met = c.in_ok-write_needs.ensures past.sent m.tally in
     let counts : follow_counts_line kept.frames kept.skipped kept.bad kept.elsewhere
     ≡ follow_counts_line (length past.seen) past.skipped past.bad past.elsewhere =

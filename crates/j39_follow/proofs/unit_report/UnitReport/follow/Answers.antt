@@ -24,8 +24,8 @@ returns-clause-followed c =
     (λ _ reported. λ past of few _counted.
     let sent = of.few in
     let room : length past.sent + 2 < 2 ^ 64 = omega (arith, few, sent) in
-    let told_so_far = of.few_told in
-    let room_told : length past.told + 3 < 2 ^ 64 = omega (arith, few, told_so_far) in
+    let told_so_far = of.few_noted in
+    let room_told : length past.events + 3 < 2 ^ 64 = omega (arith, few, told_so_far) in
     let knows = knows_on plan directory (frames_seen past.seen) f nothing of.knows in
     let same = frames_as_well past f c.args.stamp.time.now of.frames in
     let contests = contests_on plan c.args.self.now.contests past.timed (record { frame = f; time = moment_of c.args.stamp.time.now }) nothing of.contests in

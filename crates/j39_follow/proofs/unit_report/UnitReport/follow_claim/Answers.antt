@@ -23,8 +23,8 @@ returns-clause-followed c = λ past of few counted.
     let log : List Timed = lines_with past f c.args.stamp.time.now in
     let sent = of.few in
     let room : length past.sent + 2 < 2 ^ 64 = omega (arith, few, sent) in
-    let told_so_far = of.few_told in
-    let room_told : length past.told + 3 < 2 ^ 64 = omega (arith, few, told_so_far) in
+    let told_so_far = of.few_noted in
+    let room_told : length past.events + 3 < 2 ^ 64 = omega (arith, few, told_so_far) in
     let many : length (frames_seen past.seen) ≡ length past.seen = length-map past.seen (λ (s : Seen). s.frame) in
     let heard : Knows plan c.hear-2.new.self (frames_with past.seen f) =
     subst (λ (p : Plan). Knows p c.hear-2.new.self (frames_with past.seen f)) c.plan-2.ensures

@@ -12,7 +12,7 @@ use Rattle.j39_follow.specs.declared.message.Sort.{Sort}
 use Rattle.j39_follow.specs.inside.FollowedSoFar.{interface_of}
 use Rattle.j39_follow.specs.inside.Recounting.{Knows}
 use Rattle.j39_follow.proofs.Addresses.Heard.{frames_more}
-use Rattle.j39_follow.proofs.Requests.Told.{few_events}
+use Rattle.j39_follow.proofs.Requests.Noted.{few_events}
 use Rattle.j39_follow.proofs.Addresses.Knowing.{frames_as_well}
 use Rattle.j39_follow.proofs.unit_report.UnitReport.follow_frame.Goals as goal
 
@@ -40,15 +40,15 @@ returns-clause-frame c = λ past recalls number.
       timed = lines_with past f time;
       interface = interface_behind past.interface named;
       sent = past.sent ++ done.sort ∷ sorts;
-      told = past.told ++ noted.more;
+      events = past.events ++ noted.more;
     } in
     let more = length_push past.seen x in
     let sent = length-append past.sent (done.sort ∷ sorts) in
     let ended = one_at_most done.ended in
     let few = m.few in
-    let told = length-append past.told noted.more in
-    let three = few_events plan (lines_with past f time) f done.sort done.ended noted.more noted.are_told in
-    let few_told = m.few_told in
+    let told = length-append past.events noted.more in
+    let three = few_events plan (lines_with past f time) f done.sort done.ended noted.more noted.are_events in
+    let few_noted = m.few_noted in
     record {
       next = next;
       piece = w.notice ++ (w.report ++ (w.bare ++ w.carried));
@@ -68,7 +68,7 @@ returns-clause-frame c = λ past recalls number.
         bare_is = subst (λ (n : ℕ). IsBareText plan c.args.self.now.all_frames (lines_with past f time) (stamp n time) f (w.notice ++ w.report) w.bare)
             number w.bare_is;
         carried_is = subst (λ (n : ℕ). IsPacketReport plan past.seen (lines_with past f time) (stamp n time) f w.packet sorts w.carried) number w.carried_is;
-        events_are = noted.are_told;
+        events_are = noted.are_events;
         text_is = refl;
         next_is = refl;
       };
@@ -82,7 +82,7 @@ returns-clause-frame c = λ past recalls number.
           tally = done.tally;
           few = omega (arith, sent, ended, more, few);
           exchanges = noted.exchanges;
-          few_told = omega (arith, told, three, more, few_told);
+          few_noted = omega (arith, told, three, more, few_noted);
         };
         interface_is =
             c.in_ok-keep_interface.ensures

@@ -13,7 +13,7 @@ returns-clause-past c = record {
     tally = c.new.ensures c.args.plan.now;
     few = omega arith;
     exchanges = c.new-2.ensures c.args.plan.now;
-    few_told = omega arith;
+    few_noted = omega arith;
   };
   interface_is = refl;
   frames_are = refl;

@@ -8,7 +8,7 @@ use Rattle.j39_follow.specs.inside.Tallies.{IsTally}
 use Rattle.j39_follow.proofs.unit_report.UnitReport.report.Goals as goal
 
 pub returns-clause-reported : goal.returns-clause-reported
-returns-clause-reported c = λ past knows contests have ranges tally exchanges few few_told.
+returns-clause-reported c = λ past knows contests have ranges tally exchanges few few_noted.
     let plan = c.args.groups.now in
     let self = c.args.self.now in
     let time : Option ℕ = moment_of c.args.stamp.time.now in
@@ -20,5 +20,5 @@ returns-clause-reported c = λ past knows contests have ranges tally exchanges f
       ended = c.in_ok-sort.ended;
       written = done.written past.seen log so have ranges;
       tally = c.count_frame.ensures past.sent few (subst (λ (t : Tally). IsTally plan t past.sent) (sym c.write.ensures.stays.tally) tally);
-      noted = done.noted log past.told so few_told exchanges;
+      noted = done.noted log past.events so few_noted exchanges;
     }

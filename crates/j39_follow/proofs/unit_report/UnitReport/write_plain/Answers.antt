@@ -9,7 +9,7 @@ use Rattle.j39_follow.specs.inside.Contesting.{IsDefender, ShowsParties}
 use Rattle.j39_follow.specs.inside.Recounting.{Knows}
 use Rattle.j39_follow.proofs.Addresses.Contested.{taken_so}
 use Rattle.j39_follow.proofs.FrameTexts.{written_so}
-use Rattle.j39_follow.proofs.Requests.Told.{asks_itself}
+use Rattle.j39_follow.proofs.Requests.Noted.{asks_itself}
 use Rattle.j39_follow.proofs.unit_report.UnitReport.write_plain.Goals as goal
 
 -- where no address is contested all stand where they are known to

@@ -3,7 +3,7 @@ use Rattle.std.proofs.lemmas.Result.{IfOk-weaker}
 use Rattle.j39_id.specs.declared.frame.Frame.{Frame}
 use Rattle.j39_network.specs.declared.plan.Plan.{Plan}
 use Rattle.j39_follow.specs.Contests.{IsNow, IsTaken, Timed, frames_of}
-use Rattle.j39_follow.specs.LoggedRequests.{told_address}
+use Rattle.j39_follow.specs.LoggedRequests.{asker_or_source}
 use Rattle.j39_follow.specs.declared.address.contests.Contests.{Contests}
 use Rattle.j39_follow.specs.declared.address.directory.Directory.{Directory}
 use Rattle.j39_follow.specs.declared.address.known_parties.Parties.{Parties}
@@ -36,7 +36,7 @@ shown plan directory contests log time f taken source receiver names knows are t
 }
 
 asks : (plan : Plan) (directory : Directory) (contests : Contests) (log : List Timed) (time : Option ℕ) (f : Frame) (taken : Parties) (a : ℕ) → a < 256
-    → a ≡ told_address plan f → IsTakenFrom plan directory contests time taken a
+    → a ≡ asker_or_source plan f → IsTakenFrom plan directory contests time taken a
     → Knows plan directory (frames_of log) → AreContests plan contests log → IsNow log time → ShowsAsker plan taken log f
 asks plan directory contests log time f taken a range is asker knows are timed =
     subst (λ (x : ℕ). IsTaken plan log x (party_at taken.all x)) is (taken_there plan directory contests log time a _ range knows are timed asker)
@@ -48,19 +48,19 @@ returns-clause-written c =
     let f = c.args.frame.now in
     let time : Option ℕ = c.moment.result in
     let taken : Parties = c.taken-parties.result in
-    let a = c.told_address.result in
+    let a = c.asker_or_source.result in
     let source : IsTakenFrom plan self.directory self.contests time taken f.ident.sa = rw c.parties.ensures at c.taken-parties.ensures.source in
     let receiver : IsTakenFrom plan self.directory self.contests time taken f.ident.ps =
     rw c.parties.ensures at c.taken-parties.ensures.receiver in
     let asker : IsTakenFrom plan self.directory self.contests time taken a = rw c.parties.ensures at c.taken-parties.ensures.asker in
-    let there : a ≡ told_address plan f = c.told_address.ensures ∙ ap (λ (p : Plan). told_address p f) c.plan.ensures in
+    let there : a ≡ asker_or_source plan f = c.asker_or_source.ensures ∙ ap (λ (p : Plan). asker_or_source p f) c.plan.ensures in
     IfOk-weaker c.report_frame.result _ _
     (λ _ written. written_so
     (λ log so.
     let (knows, contests, timed) = so in
     let now : IsNow log time = subst (IsNow log) (sym c.moment.ensures) timed in (
       shown plan self.directory self.contests log time f taken source receiver c.taken-parties.ensures.names knows contests now,
-      asks plan self.directory self.contests log time f taken a c.told_address.type_inv there asker knows contests now,
+      asks plan self.directory self.contests log time f taken a c.asker_or_source.type_inv there asker knows contests now,
     ))
     written)
     c.report_frame.ensures

@@ -4,7 +4,7 @@ use Rattle.j39_id.specs.FrameMeaning.{name_in}
 use Rattle.j39_follow.specs.Contests.{Timed, frames_of}
 use Rattle.j39_follow.specs.declared.address.claimants.Claimant.{Claimant}
 use Rattle.j39_follow.specs.inside.Contesting.{AreClaimants, IsClaimant, claimed_place, contention_at}
-use Rattle.j39_follow.specs.inside.Recounting.{TellsPlace}
+use Rattle.j39_follow.specs.inside.Recounting.{ClaimsAt}
 use Rattle.j39_follow.proofs.Addresses.Claimed.{known_more, told_place}
 use Rattle.j39_follow.proofs.Addresses.Contested.{eight}
 use Rattle.j39_follow.proofs.Addresses.Contending.{contention_on}
@@ -33,5 +33,5 @@ returns c = on_ok_weaker c.note.result (λ put. λ log knows of.
           (c.note_contests.ensures log a less knows known);
       claimants = subst (AreClaimants plan c.note.new.self) (sym (timed_more log x))
           (known_more plan old.claimants c.note.new.self (frames_of log) f name (claimed_place f) told
-          (subst (λ (n : ℕ). TellsPlace f n (claimed_place f)) (sym name_is) (told_place f c.requires)) known.party c.claimed.ensures put of.claimants);
+          (subst (λ (n : ℕ). ClaimsAt f n (claimed_place f)) (sym name_is) (told_place f c.requires)) known.party c.claimed.ensures put of.claimants);
     }) c.note.ensures

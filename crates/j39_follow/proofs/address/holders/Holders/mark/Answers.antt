@@ -21,23 +21,23 @@ loop-place-preserved c =
       | then-is_name_of w ↦
           let held = before.3 in
           let few = plan.unit_count in
-          let room : k < length c.loop-place.self.told = omega (arith, held, few, test, count) in
+          let room : k < length c.loop-place.self.heard = omega (arith, held, few, test, count) in
           subst
-          (λ (h : Holders). IsMarkedBelow plan c.args.self.now.told h.told c.args.name (k + 1) × (h.names ≡ c.args.self.now.names)
-          × (h.claimed ≡ c.args.self.now.claimed) × (length h.told ≡ 128))
+          (λ (h : Holders). IsMarkedBelow plan c.args.self.now.heard h.heard c.args.name (k + 1) × (h.names ≡ c.args.self.now.names)
+          × (h.claimed ≡ c.args.self.now.claimed) × (length h.heard ≡ 128))
           (sym w.self-is) (
-            mark_this plan c.args.self.now.told c.loop-place.self.told unit c.args.name k room at
+            mark_this plan c.args.self.now.heard c.loop-place.self.heard unit c.args.name k room at
                 (sym (c.is_name_of.ensures plan c.unit_named-found.ensures) ∙ w.if-is_name_of.true) before.0,
             before.1,
             before.2,
-            length-set c.loop-place.self.told k true ∙ held,
+            length-set c.loop-place.self.heard k true ∙ held,
           )
       | else-is_name_of w ↦
           subst
-          (λ (h : Holders). IsMarkedBelow plan c.args.self.now.told h.told c.args.name (k + 1) × (h.names ≡ c.args.self.now.names)
-          × (h.claimed ≡ c.args.self.now.claimed) × (length h.told ≡ 128))
+          (λ (h : Holders). IsMarkedBelow plan c.args.self.now.heard h.heard c.args.name (k + 1) × (h.names ≡ c.args.self.now.names)
+          × (h.claimed ≡ c.args.self.now.claimed) × (length h.heard ≡ 128))
           (sym w.self-is) (
-            mark_not plan c.args.self.now.told c.loop-place.self.told unit c.args.name k at
+            mark_not plan c.args.self.now.heard c.loop-place.self.heard unit c.args.name k at
                 (sym (c.is_name_of.ensures plan c.unit_named-found.ensures) ∙ w.if-is_name_of.false) before.0,
             before.1,
             before.2,

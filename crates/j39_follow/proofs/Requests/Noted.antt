@@ -9,8 +9,8 @@ use Rattle.j39_id.specs.declared.frame.Frame.{Frame}
 use Rattle.j39_network.specs.declared.plan.Plan.{Plan}
 use Rattle.j39_id.specs.FrameMeaning.{requested_group, requests_group}
 use Rattle.j39_follow.specs.Contests.{IsTaken, Timed}
-use Rattle.j39_follow.specs.FollowReports.{AreTold, IsAnswerWay, IsAsked, IsSendingOf, aim_at, answer_aim, answer_way_text, in_frame, is_to_all, notice_events, reply_of, told_events}
-use Rattle.j39_follow.specs.LoggedRequests.{acknowledged_group, acknowledges, asked_request, asker_address, is_refusal, counted_number as number_of, told_address}
+use Rattle.j39_follow.specs.FollowReports.{AreEventsOf, IsAnswerWay, IsAsked, IsSendingOf, aim_at, answer_aim, answer_way_text, in_frame, is_to_all, notice_events, reply_of, frame_events}
+use Rattle.j39_follow.specs.LoggedRequests.{acknowledged_group, acknowledges, asked_request, asker_address, is_refusal, counted_number as number_of, asker_or_source}
 use Rattle.j39_follow.specs.Who.{unit_of}
 use Rattle.j39_follow.specs.declared.request.event.Event.{Event}
 use Rattle.j39_follow.specs.declared.request.event.Event.TheVariants.{Asked, Brought, Refused}
@@ -61,7 +61,7 @@ an_asked plan parties log f shows =
 pub an_answer_way : (plan : Plan) (parties : Parties) (log : List Timed) (f : Frame) → ShowsParties plan parties log f.ident
     → ShowsAsker plan parties log f → (way : List ℕ) × IsAnswerWay plan log f way
 an_answer_way plan parties log f shows asks =
-    let there = told_address plan f in
+    let there = asker_or_source plan f in
     let sender = party_at parties.all f.ident.sa in
     let asker = party_at parties.all there in (
       answer_way_text plan sender f.ident.sa asker there,
@@ -72,7 +72,7 @@ an_answer_way plan parties log f shows asks =
 pub asks_itself : (plan : Plan) (parties : Parties) (log : List Timed) (f : Frame) → acknowledges plan f ≡ false
     → ShowsParties plan parties log f.ident → ShowsAsker plan parties log f
 asks_itself plan parties log f none shows =
-    let there : told_address plan f ≡ f.ident.sa = ap (λ (b : Bool). if b then asker_address f else f.ident.sa) none in
+    let there : asker_or_source plan f ≡ f.ident.sa = ap (λ (b : Bool). if b then asker_address f else f.ident.sa) none in
     subst (λ (a : ℕ). IsTaken plan log a (party_at parties.all a)) (sym there) shows.source
 
 -- ---- what it tells of requests
@@ -82,9 +82,9 @@ pub none_noted : (plan : Plan) (parties : Parties) (log : List Timed) (f : Frame
     → length plan.requests.items ≡ 0 → ShowsParties plan parties log f.ident → ShowsAsker plan parties log f → AreNoted plan log f sorts events kept
 none_noted plan parties log f sorts events kept none shows asks =
     let one = a_sending plan parties log f shows in
-    let asker = party_at parties.all (told_address plan f) in record {
-      more = told_events plan f one.0 asker sorts;
-      are_told = record { sent = one.0; asker = asker; sent_is = one.1; asker_is = asks; events_are = refl };
+    let asker = party_at parties.all (asker_or_source plan f) in record {
+      more = frame_events plan f one.0 asker sorts;
+      are_events = record { sent = one.0; asker = asker; sent_is = one.1; asker_is = asks; events_are = refl };
       exchanges = λ place r at.
           let within = slice_get_within plan.requests.items place r at in
           absurd (omega (arith, within, none));
@@ -106,7 +106,7 @@ one_notice_event : (plan : Plan) (f : Frame) (sent : Sending) (asker : Who) → 
 one_notice_event plan f sent asker =
     if_either (requests_group f) _ _ (one_at_most (option_map Asked (asked_request plan (requested_group f) sent)))
     (if_either (acknowledges plan f) _ [] (if_one (is_refusal f)
-    (Refused (reply_of (acknowledged_group f) sent.sender (answer_aim (told_address plan f) asker)))) (omega arith))
+    (Refused (reply_of (acknowledged_group f) sent.sender (answer_aim (asker_or_source plan f) asker)))) (omega arith))
 
 two_messages : (plan : Plan) (sent : Sending) (sort : Sort) (ended : Option Sort)
     → length (map (λ (s : Sort). Brought (reply_of (number_of plan s) sent.sender sent.aim)) (sort ∷ option_to_list ended)) ≤ 2
@@ -127,7 +127,7 @@ joined_events events first g sort ended =
 
 -- a frame tells three events at most
 pub few_events : (plan : Plan) (log : List Timed) (f : Frame) (sort : Sort) (ended : Option Sort) (events : List Event)
-    → AreTold plan log f (sort ∷ option_to_list ended) events → length events ≤ 3
+    → AreEventsOf plan log f (sort ∷ option_to_list ended) events → length events ≤ 3
 few_events plan log f sort ended events told =
     let first : List Event = notice_events plan f told.sent told.asker in
     let rest : List Event = map (λ (s : Sort). Brought (reply_of (number_of plan s) told.sent.sender told.sent.aim)) (sort ∷ option_to_list ended) in

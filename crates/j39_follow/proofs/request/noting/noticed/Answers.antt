@@ -3,7 +3,7 @@ use Rattle.std.specs.Option.{option_to_list}
 use Rattle.j39_id.specs.FrameMeaning.{requests_group}
 use Rattle.j39_follow.specs.LoggedRequests.{acknowledges}
 use Rattle.j39_follow.proofs.Addresses.Ways.{if_not, if_so}
-use Rattle.j39_follow.proofs.request.telling.noticed.Goals as goal
+use Rattle.j39_follow.proofs.request.noting.noticed.Goals as goal
 
 pub returns-then-requests_group : goal.returns-then-requests_group
 returns-then-requests_group c =
@@ -14,10 +14,10 @@ returns-then-acknowledges c =
     let f = c.args.frame.now in
     c.refused.ensures
     ∙ if_not (requests_group f) _ _ _ (sym c.requests_group.ensures ∙ c.if-requests_group.false)
-    (if_so (acknowledges c.args.plan.now f) _ _ (sym c.acknowledges.ensures.told ∙ c.if-acknowledges.true))
+    (if_so (acknowledges c.args.plan.now f) _ _ (sym c.acknowledges.ensures.same ∙ c.if-acknowledges.true))
 
 pub returns : goal.returns
 returns c =
     let f = c.args.frame.now in
     if_not (requests_group f) _ _ _ (sym c.requests_group.ensures ∙ c.if-requests_group.false)
-    (if_not (acknowledges c.args.plan.now f) _ _ _ (sym c.acknowledges.ensures.told ∙ c.if-acknowledges.false) refl)
+    (if_not (acknowledges c.args.plan.now f) _ _ _ (sym c.acknowledges.ensures.same ∙ c.if-acknowledges.false) refl)

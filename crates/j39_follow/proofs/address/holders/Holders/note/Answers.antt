@@ -3,7 +3,7 @@ use Rattle.std.specs.Prelude.{slice_set, IfSome}
 use Rattle.j39_follow.specs.Who.{is_name_of}
 use Rattle.j39_follow.specs.inside.Recounting.{IsMarked, IsMoved}
 use Rattle.j39_follow.proofs.Addresses.Tables.{put, put_claimed, put_nowhere}
-use Rattle.j39_follow.proofs.address.holders.Holders.tell.Goals as goal
+use Rattle.j39_follow.proofs.address.holders.Holders.note.Goals as goal
 
 pub returns-in-Some : goal.returns-in-Some
 returns-in-Some c =

@@ -17,7 +17,9 @@ use crate::address::who::Who;
 use crate::flow::group_line::sending_of;
 use crate::flow::sending::{Aim, Sending};
 use crate::message::{Sort, in_frame};
-use crate::request::acknowledgement::{acknowledged_group, acknowledges, is_refusal, told_address};
+use crate::request::acknowledgement::{
+    acknowledged_group, acknowledges, asker_or_source, is_refusal,
+};
 use crate::request::asking::{asked_request, number_of_group};
 use crate::request::event::{Event, Reply};
 use crate::request::exchanges::Exchanges;
@@ -68,7 +70,7 @@ fn refused(plan: &Plan, frame: &Frame, sent: Sending, asker: Who) -> Option<Even
     Some(Event::Refused(Reply {
         number: acknowledged_group(frame),
         sender: sent.sender,
-        aim: answer_aim(told_address(plan, frame), asker),
+        aim: answer_aim(asker_or_source(plan, frame), asker),
     }))
 }
 
@@ -131,7 +133,7 @@ pub(crate) fn note(
         → AreNoted plan.now log frame.now (sort ∷ option_to_list ended) events exchanges.new }
 {
     let sent = sending_of(parties, in_frame(frame));
-    let asker = parties.party(told_address(plan, frame));
+    let asker = parties.party(asker_or_source(plan, frame));
     exchanges.hear_any(plan, noticed(plan, frame, sent, asker));
     exchanges.hear(plan, brought(plan, sent, sort));
     exchanges.hear_any(plan, brought_any(plan, sent, ended));

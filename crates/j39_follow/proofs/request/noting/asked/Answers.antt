@@ -3,7 +3,7 @@ use Rattle.std.specs.Prelude.{option_map}
 use Rattle.j39_id.specs.FrameMeaning.{requested_group}
 use Rattle.j39_follow.specs.LoggedRequests.{asked_request}
 use Rattle.j39_follow.specs.declared.request.event.Event.TheVariants.{Asked}
-use Rattle.j39_follow.proofs.request.telling.asked.Goals as goal
+use Rattle.j39_follow.proofs.request.noting.asked.Goals as goal
 
 pub returns-in-Some : goal.returns-in-Some
 returns-in-Some c =
