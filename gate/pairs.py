@@ -42,6 +42,7 @@ class Pair:
 
 
 KEPT = "laws::frames_that_keep_a_plan"
+RECEIVED = "laws::kept_plans_lose_no_receiver"
 PAIRS = (
     Pair("jitter of single frames is left out", "frames::streams::single_stream", KEPT, (
         Turn("specs/Loads.antt", "bits = longest_frame (most_bytes group);\n  late = bits_of_ms timing pace.jitter;",
@@ -113,6 +114,10 @@ PAIRS = (
              "apart = bits_of_ms timing pace.period;\n  late = 0;"),
         Turn("src/flow_loads.rt", "apart: bits_of_ms(timing, pace.period),\n        late: bits_of_ms(timing, pace.jitter),",
              "apart: bits_of_ms(timing, pace.period),\n        late: 0,"),
+    )),
+    Pair("a receiver gives up after 7.5 seconds", "turns::known_turn_time", RECEIVED, (
+        Turn("specs/Delays.antt", "longest_pause timing = bits_of_ms timing 750", "longest_pause timing = bits_of_ms timing 7500"),
+        Turn("src/turns.rt", "u64::from(bits_of_ms(timing, 750))", "u64::from(bits_of_ms(timing, 7500))"),
     )),
 )
 

@@ -8,6 +8,7 @@ use Rattle.j39_network.specs.declared.plan.timing.Timing.{Timing}
 use Rattle.j39_load.specs.FreshNeeds.{AreNeedsFresh}
 use Rattle.j39_load.specs.KeepsErrors.{AreInTimeWithErrors, AreInTimeWithErrorsInAnyOrder}
 use Rattle.j39_load.specs.KeepsPlan.{AreFramesInTime}
+use Rattle.j39_load.specs.KeptReceivers.{AreNotGivenUp}
 use Rattle.j39_load.specs.PlannedFrames.{ArePlannedFramesInTime}
 use Rattle.j39_load.specs.ReadInTime.{AreNeedsRead}
 use Rattle.j39_load.specs.ValuesInTime.{AreValuesInTime}
@@ -29,6 +30,8 @@ pub record IsSoundInTime (plan : Plan) : Type 0 where
   pub kept : (timing : Timing) → plan.timing ≡ Some timing → AreFramesInTime plan timing
   pub damaged : (timing : Timing) → plan.timing ≡ Some timing → AreInTimeWithErrors plan timing
   pub damaged_in_any_order : (timing : Timing) → plan.timing ≡ Some timing → AreInTimeWithErrorsInAnyOrder plan timing
+  -- nor does a receiver give up a long message to all that has a deadline
+  pub receivers : (timing : Timing) → plan.timing ≡ Some timing → AreNotGivenUp plan timing
   pub values : (timing : Timing) → plan.timing ≡ Some timing → AreValuesInTime plan timing
 
 pub record IsCertified (plan : Plan) : Type 0 where

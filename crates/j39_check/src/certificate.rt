@@ -9,7 +9,8 @@ use j39_findings::serial_numbers_change_nothing;
 use j39_laws::clean_plans_are_sound;
 use j39_load::{
     delays_are_bounds, kept_plans_are_in_time, kept_plans_bring_values_in_time,
-    needed_values_are_read_in_time, needs_stay_fresh, serial_numbers_change_no_load,
+    kept_plans_lose_no_receiver, needed_values_are_read_in_time, needs_stay_fresh,
+    serial_numbers_change_no_load,
 };
 
 /// A plan with which and with whose load nothing is wrong is sound, and where something is known of its bus, its planned frames are in time
@@ -24,6 +25,7 @@ pub fn clean_plans_are_certified()
     needs_stay_fresh();
     needed_values_are_read_in_time();
     kept_plans_are_in_time();
+    kept_plans_lose_no_receiver();
     kept_plans_bring_values_in_time();
     serial_numbers_change_nothing();
     serial_numbers_change_no_load();

@@ -22,6 +22,7 @@ pub mod KeepingFrames
 pub mod KeepingPlan
 pub mod KeepingTurns
 pub mod KeptInTime
+pub mod KeptReceivers
 pub mod LeastKnown
 pub mod LoadAnswers
 pub mod Milliseconds

@@ -9,6 +9,7 @@ pub mod Demands
 pub mod FreshNeeds
 pub mod KeepsBroadcasts
 pub mod KeepsErrors
+pub mod KeptReceivers
 pub mod KeptTogether
 pub mod KeepsPlan
 pub mod LoadAnswers

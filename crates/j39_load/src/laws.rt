@@ -20,6 +20,7 @@ ghost use Rattle.j39_load.specs.FreshNeeds.{AreNeedsFresh};
 ghost use Rattle.j39_load.specs.KeepsBroadcasts.{KeepsTurns};
 ghost use Rattle.j39_load.specs.KeepsErrors.{AreInTimeWithErrors, AreInTimeWithErrorsInAnyOrder, KeepsErrors, origins_with, planned_with};
 ghost use Rattle.j39_load.specs.KeepsPlan.{AreFramesInTime, CanBeKept, IsSingleFlow, KeepsQueues, KeepsToPlan, origins_of};
+ghost use Rattle.j39_load.specs.KeptReceivers.{AreNotGivenUp};
 ghost use Rattle.j39_load.specs.KeptTogether.{CanBeKeptTogether, CanSendAll};
 ghost use Rattle.j39_load.specs.Delays.{announcements_place, packets_place};
 ghost use Rattle.j39_load.specs.LoadFindings.{AreLoadFindings, AsksOfBus, load_findings};
@@ -181,6 +182,12 @@ pub fn kept_plans_are_in_time()
     ensures with_errors { (plan : Plans) (timing : Timings) → Clean plan → AreLoadFindings plan (Some timing) [] → AreInTimeWithErrors plan timing }
     ensures damaged_in_any_order { (plan : Plans) (timing : Timings) → Clean plan → AreLoadFindings plan (Some timing) []
         → AreInTimeWithErrorsInAnyOrder plan timing }
+{}
+
+/// Of such a plan no receiver gives up a long message to all that has a deadline, on each bus that keeps to it in the plan's own words, whether units
+/// keep order or not: each packet has ended within 750 ms of the frame before.
+pub fn kept_plans_lose_no_receiver()
+    ensures { (plan : Plans) (timing : Timings) → Clean plan → AreLoadFindings plan (Some timing) [] → AreNotGivenUp plan timing }
 {}
 
 /// Of such a plan each need that asks for an age has a flow that meets it, and on each bus that keeps to the plan in its own words, while this

@@ -12,10 +12,11 @@ mod waits;
 pub use findings::{LoadAnswer, LoadFinding, check_load, least_age};
 pub use frames::{Broadcast, FlowFrames, Messages, bits_of_ms, bits_of_second};
 pub use laws::{
-    delays_are_bounds, frames_that_keep_a_plan, identifiers_lie_between, kept_plans_are_in_time,
-    kept_plans_bring_values_in_time, needed_values_are_read_in_time, needs_stay_fresh,
-    plans_can_be_kept, plans_can_be_kept_together, plans_in_order, serial_numbers_change_no_load,
-    short_flows_have_different_identifiers, written_bytes_are_told,
+    broadcasts_that_keep_a_plan, delays_are_bounds, frames_that_keep_a_plan,
+    identifiers_lie_between, kept_plans_are_in_time, kept_plans_bring_values_in_time,
+    kept_plans_lose_no_receiver, needed_values_are_read_in_time, needs_stay_fresh,
+    plans_can_be_kept, plans_can_be_kept_together, plans_can_be_kept_whole, plans_in_order,
+    serial_numbers_change_no_load, short_flows_have_different_identifiers, written_bytes_are_told,
 };
 pub use loads::{FlowLoad, Loads, RequestLoad, UnitLoad};
 pub use waits::{Delay, WholeTime};
