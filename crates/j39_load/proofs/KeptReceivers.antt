@@ -13,19 +13,19 @@ use Rattle.j39_network.specs.declared.plan.pace.Pace.{Pace}
 use Rattle.j39_network.specs.declared.plan.timing.Timing.{Timing}
 use Rattle.j39_network.specs.declared.plan.to.To.TheVariants.{All as ToAllUnits}
 use Rattle.j39_network.specs.declared.plan.unit_plan.UnitPlan.{UnitPlan}
-use Rattle.j39_load.specs.declared.broadcast.Broadcast.{Broadcast}
-use Rattle.j39_load.specs.declared.delay.Delay.{Delay}
-use Rattle.j39_load.specs.declared.flow_frames.FlowFrames.{FlowFrames}
-use Rattle.j39_load.specs.declared.flow_load.FlowLoad.{FlowLoad}
-use Rattle.j39_load.specs.declared.messages.Messages.{Messages}
-use Rattle.j39_load.specs.declared.messages.Messages.TheVariants.{Short, ToAll, ToOne}
-use Rattle.j39_load.specs.declared.unit_load.UnitLoad.{UnitLoad}
-use Rattle.j39_load.specs.declared.whole_time.WholeTime.{WholeTime}
+use Rattle.j39_load.specs.declared.frames.broadcast.Broadcast.{Broadcast}
+use Rattle.j39_load.specs.declared.waits.delay.Delay.{Delay}
+use Rattle.j39_load.specs.declared.frames.flow_frames.FlowFrames.{FlowFrames}
+use Rattle.j39_load.specs.declared.loads.flow_load.FlowLoad.{FlowLoad}
+use Rattle.j39_load.specs.declared.frames.messages.Messages.{Messages}
+use Rattle.j39_load.specs.declared.frames.messages.Messages.TheVariants.{Short, ToAll, ToOne}
+use Rattle.j39_load.specs.declared.loads.unit_load.UnitLoad.{UnitLoad}
+use Rattle.j39_load.specs.declared.waits.whole_time.WholeTime.{WholeTime}
 use Rattle.j39_load.specs.Ages.{old_needs}
 use Rattle.j39_load.specs.AnyQueues.{IsOffer, Offer}
 use Rattle.j39_load.specs.Asked.{Asked, asked_of, frames_asked, total_load}
 use Rattle.j39_load.specs.Delays.{IsTurnTime, IsTurnTimeBy, IsWaitIn, known_turn_time, longest_pause, packet_time, packets_place, turn_time, whole_time}
-use Rattle.j39_load.specs.KeepsPlan.{origins_of, place_of}
+use Rattle.j39_load.specs.KeepsPlan.{origins_of, source_place}
 use Rattle.j39_load.specs.KeptReceivers.{AreNotGivenUp}
 use Rattle.j39_load.specs.LoadFindings.{AreLoadFindings, AsksOfBus, load_findings}
 use Rattle.j39_load.specs.Loads.{bits_of_ms, broadcast_of, load_of_flow, long_messages}
@@ -110,7 +110,7 @@ module _ (plan : Plan) (timing : Timing) (clean : Clean plan) (stays : UnitPlan 
       let message = keeps.broadcasts.messages u m known in
       let come = (broadcasts_in_any_order plan timing stays clean asks.standing s controllers planned sent held u m known legal keeps queues turns).1 in
       let flows = length-map plan.flows.items (load_of_flow timing plan stays) in
-      let place : place_of plan (Carrying u m k) ≡ packets_place asked u = omega (arith, flows) in
+      let place : source_place plan (Carrying u m k) ≡ packets_place asked u = omega (arith, flows) in
       let first = packets_read asked u pause.load pause.at in
       let second = carrying_read plan timing stays sent.broadcasts u m message k in
       let there : get_or (frames_asked asked) (packets_place asked u) None ≡ Some (unit_asks plan timing stays sent.broadcasts u m message).packets =
@@ -122,7 +122,7 @@ module _ (plan : Plan) (timing : Timing) (clean : Clean plan) (stays : UnitPlan 
       let queued = within_bits timing.bitrate timing.broadcast_gap_most (frame_end s p) (s.queued q) gap in
       let shown = before_bits timing.bitrate 750 (frame_end s p) s.now seen in
       let short = pause.short in
-      let ended = within q in_q is (ap (place_of plan) source ∙ place) (omega (arith, queued, shown, short)) in
+      let ended = within q in_q is (ap (source_place plan) source ∙ place) (omega (arith, queued, shown, short)) in
       in_ms timing.bitrate 750 (frame_end s p) (frame_end s q) (omega (arith, ended, queued, short))
 
 pub kept_receivers : (plan : Plan) (timing : Timing) → Clean plan → AreLoadFindings plan (Some timing) [] → AreNotGivenUp plan timing
