@@ -2,7 +2,6 @@
 use Rattle.std.proofs.Common.{◌≡◌, ℕ, arith, suc, List, [], ◌∷◌, ◌++◌, None, refl, sym, ap, ◌∙◌}
 use Rattle.toml.specs.Data.{Data, Items, no_items, item, Members, get_member}
 use Rattle.j39_network.specs.declared.plan.Plan.{Plan}
-use Rattle.j39_network.specs.declared.plan.timing.Timing.{Timing}
 use Rattle.j39_plan.specs.declared.reading.version.Version.TheVariants.{Second, Third}
 use Rattle.j39_plan.specs.PlanErrors.{PlanFault}
 use Rattle.j39_plan.specs.declared.reading.key.Key.{Key}
@@ -17,7 +16,6 @@ use Rattle.j39_plan.specs.Since.{known_faults}
 use Rattle.j39_tables.specs.InOrder.{each_faults, inside}
 use Rattle.j39_plan.specs.LabelsSeen.{label_in}
 use Rattle.j39_plan.specs.UnitTables.{IsUnitOf, name_faults, name_fields_of, name_of, unit_faults, unit_label_in, unit_table_faults}
-use Rattle.j39_plan.specs.declared.reading.version.Version.{Version}
 use Rattle.j39_plan.specs.GroupTables.{IsGroupOf, group_faults}
 use Rattle.j39_plan.specs.FlowTables.{IsFlowOf, flow_faults}
 use Rattle.j39_plan.specs.PlanFaults.{version_rule, keep_free_rule, strangers_of, strangers_faults, live_of, live_faults, timing_rule, units_rule, groups_rule, flows_rule, version_of, head_faults, timing_faults, array_rules, top_faults, unit_labels, group_labels, units_faults, groups_faults, flows_faults, needs_faults, requests_faults, no_label, faults}

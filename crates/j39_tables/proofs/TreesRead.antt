@@ -61,7 +61,9 @@ never_blank Grows text t never is grows = λ blank.
 
 -- where a tree is read that asks for no room if it is empty, room is asked for of more than a blank text
 pub room_asked : {X F : Type 0} (faults : Members → List F) (Tells : Members → X → Type 0) (Grows : Members → Type 0)
-    (r : Result X (FileError F)) (bytes : List ℕ) (t : Members) → ¬ Grows no_members → tree_of bytes ≡ Some t → GivesGrowing (Grows t) r (faults t) (Tells t) → IsErrOf r errors.Memory → MayAskForRoom bytes
+    (r : Result X (FileError F)) (bytes : List ℕ) (t : Members)
+    → ¬ Grows no_members → tree_of bytes ≡ Some t → GivesGrowing (Grows t) r (faults t) (Tells t) → IsErrOf r errors.Memory
+    → MayAskForRoom bytes
 room_asked faults Tells Grows (Ok x) bytes t never is gives memory = cc
 room_asked {F = F} faults Tells Grows (Err e) bytes t never is gives memory =
     let same : e ≡ errors.Memory = cc in
