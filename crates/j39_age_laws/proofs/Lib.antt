@@ -8,7 +8,7 @@ mod Once
 mod OneFlow
 mod Order
 mod Parts
-mod Silent
+mod Interval
 mod Starts
 mod Timely
 mod Until

@@ -31,7 +31,7 @@ use Rattle.j39_ages.specs.BusDelays.{delays_on}
 use Rattle.j39_ages.specs.declared.bus_delays.Delays.{Delays}
 use Rattle.j39_ages.proofs.DecidingTimes.{and_then_some, map_some}
 use Rattle.j39_age_laws.specs.ForwardedStreams.{IsOtherwiseKept, KeepsOtherwise, streams_of}
-use Rattle.j39_age_laws.specs.KeptBuses.{IsToldBus, asked_on}
+use Rattle.j39_age_laws.specs.KeptBuses.{IsKnownBus, asked_on}
 use Rattle.j39_age_laws.specs.Prompt.{IsSentOn}
 use Rattle.j39_age_laws.specs.Seen.{SeenBus}
 use Rattle.j39_age_laws.proofs.OneFlow.{short_frames}
@@ -48,7 +48,7 @@ bus_with count flow queued ident by = record {
   phase = 0;
   planned = λ p. true;
   of = record { source = λ p. flow; turn = λ p. 0; since = λ p. 0 };
-  moment = λ p. 0;
+  release = λ p. 0;
   born = λ p t. Some 0;
 }
 
@@ -87,7 +87,7 @@ pub record Fits (traffic : Traffic) (flow ident : ℕ) : Type 0 where
   pub low : traffic.least flow ≤ ident
   pub high : ident ≤ traffic.greatest flow
 
-module _ (v : Vehicle) (delays : Delays) (b : ℕ) (timing : Timing) (of_bus : IsToldBus v delays b timing) (i bits : ℕ)
+module _ (v : Vehicle) (delays : Delays) (b : ℕ) (timing : Timing) (of_bus : IsKnownBus v delays b timing) (i bits : ℕ)
     (delayed : slice_get (delays_on delays b) i ≡ Some (Some (Within bits))) where
   abbrev asked : Asked
   asked = asked_on of_bus
@@ -157,7 +157,7 @@ module _ (timing : Timing) (all : List (Option FlowFrames)) (flow queued ident b
     few_others = λ p from to in_p is source seen waits stretch. let none = none_others queued ident by ident from to in omega (arith, none);
     of_unit = λ p in_p is un. absurd (true≢false un);
     to_last = λ p in_p is kept. absurd (true≢false (sym (ordered flow) ∙ kept));
-    companies = λ j level goes kept is. absurd (true≢false (sym (ordered j) ∙ kept));
+    queue_groups = λ j level goes kept is. absurd (true≢false (sym (ordered j) ∙ kept));
   }
 
   pub one_kept : (v : Vehicle) (delays : Delays) (b : ℕ) → (¬ IsSentOn v delays (record { bus = b; flow = flow }) → queued ≡ 0)
@@ -168,8 +168,8 @@ module _ (timing : Timing) (all : List (Option FlowFrames)) (flow queued ident b
       known = suits.inside;
       bits_at_most = suits.some_bits;
       turns = let one = suits.single in omega (arith, one);
-      moment_first = omega arith;
-      late_at_most = let zero_queued = early own in omega (arith, zero_queued);
+      release_first = omega arith;
+      jitter_at_most = let zero_queued = early own in omega (arith, zero_queued);
     };
     sent_on = λ p in_p is sent. (suits.inside, suits.some_bits, let one = suits.single in omega (arith, one));
     spaced = λ p q in_p in_q differ. absurd (differ (one_place p q in_p in_q));
@@ -195,7 +195,7 @@ none_kept v delays b timing all by = record {
     few_others = λ p from to in_p. absurd (omega arith);
     of_unit = λ p in_p. absurd (omega arith);
     to_last = λ p in_p. absurd (omega arith);
-    companies = λ j level goes kept is. record {
+    queue_groups = λ j level goes kept is. record {
       identifiers = λ p in_p. absurd (omega arith);
       own_identifiers = λ p q t in_p. absurd (omega arith);
       few_unplanned = λ p from to in_p. absurd (omega arith);

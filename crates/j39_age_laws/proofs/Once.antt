@@ -22,14 +22,14 @@ use Rattle.j39_ages.specs.Times.{us_of_bit, bits_within, delay_at, direct_feeder
 use Rattle.j39_ages.specs.declared.bus_delays.Delays.{Delays}
 use Rattle.j39_ages.proofs.DecidingTimes.{and_then_some, map_some}
 use Rattle.j39_age_laws.specs.ForwardedStreams.{AreOtherwiseKept, IsOtherwiseKept, streams_of}
-use Rattle.j39_age_laws.specs.KeptBuses.{IsToldBus, asked_on}
+use Rattle.j39_age_laws.specs.KeptBuses.{IsKnownBus, asked_on}
 use Rattle.j39_age_laws.specs.OnceSentOn.{AreSentOnOnce, CanBeSentOn, IsLoneForward}
 use Rattle.j39_age_laws.specs.Prompt.{ArePrompt, IsSentDirectly, IsSentOn}
 use Rattle.j39_age_laws.specs.Seen.{SeenBus, SeenBuses, frames_at, unit_on}
 use Rattle.j39_age_laws.specs.VehicleAges.{IsPromptVehicle}
 use Rattle.j39_age_laws.proofs.Circle.{unit_positive}
 use Rattle.j39_age_laws.proofs.Feeders.{fed_by}
-use Rattle.j39_age_laws.proofs.OneFlow.{told_bus}
+use Rattle.j39_age_laws.proofs.OneFlow.{known_bus}
 use Rattle.j39_age_laws.proofs.Kept.{one_traffic}
 use Rattle.j39_age_laws.proofs.LoneFrame.{Fits, bus_with, fits, none_kept, one_kept, one_place}
 use Rattle.j39_age_laws.proofs.Parts.{within_some}
@@ -54,12 +54,12 @@ module _ (v : Vehicle) (delays : Delays) (told : AreDelays v delays) (n : ℕ) (
       let (d, here, within) = and_then_some bits_within (slice_get (delays_on delays at.bus) at.flow) bits delayed in
       here ∙ ap (λ (o : Option Delay). Some o) (within_some d bits within)
 
-  fits_x : (ident : ℕ) × Fits (streams_of lone.timed_x.0 (frames_asked (asked_on (told_bus v delays told x.bus lone.timed_x.0 lone.timed_x.1)))) x.flow ident
-  fits_x = fits v delays x.bus lone.timed_x.0 (told_bus v delays told x.bus lone.timed_x.0 lone.timed_x.1) x.flow lone.told_x.0
+  fits_x : (ident : ℕ) × Fits (streams_of lone.timed_x.0 (frames_asked (asked_on (known_bus v delays told x.bus lone.timed_x.0 lone.timed_x.1)))) x.flow ident
+  fits_x = fits v delays x.bus lone.timed_x.0 (known_bus v delays told x.bus lone.timed_x.0 lone.timed_x.1) x.flow lone.told_x.0
       (told_at x lone.told_x.0 lone.told_x.1)
 
-  fits_y : (ident : ℕ) × Fits (streams_of lone.timed_y.0 (frames_asked (asked_on (told_bus v delays told y.bus lone.timed_y.0 lone.timed_y.1)))) y.flow ident
-  fits_y = fits v delays y.bus lone.timed_y.0 (told_bus v delays told y.bus lone.timed_y.0 lone.timed_y.1) y.flow lone.told_y.0
+  fits_y : (ident : ℕ) × Fits (streams_of lone.timed_y.0 (frames_asked (asked_on (known_bus v delays told y.bus lone.timed_y.0 lone.timed_y.1)))) y.flow ident
+  fits_y = fits v delays y.bus lone.timed_y.0 (known_bus v delays told y.bus lone.timed_y.0 lone.timed_y.1) y.flow lone.told_y.0
       (told_at y lone.told_y.0 lone.told_y.1)
 
   ident_x : ℕ
@@ -68,11 +68,11 @@ module _ (v : Vehicle) (delays : Delays) (told : AreDelays v delays) (n : ℕ) (
   ident_y : ℕ
   ident_y = fits_y.0
 
-  fits_of_x : Fits (streams_of lone.timed_x.0 (frames_asked (asked_on (told_bus v delays told x.bus lone.timed_x.0 lone.timed_x.1)))) x.flow ident_x
+  fits_of_x : Fits (streams_of lone.timed_x.0 (frames_asked (asked_on (known_bus v delays told x.bus lone.timed_x.0 lone.timed_x.1)))) x.flow ident_x
   unfolding ident_x
   fits_of_x = fits_x.1
 
-  fits_of_y : Fits (streams_of lone.timed_y.0 (frames_asked (asked_on (told_bus v delays told y.bus lone.timed_y.0 lone.timed_y.1)))) y.flow ident_y
+  fits_of_y : Fits (streams_of lone.timed_y.0 (frames_asked (asked_on (known_bus v delays told y.bus lone.timed_y.0 lone.timed_y.1)))) y.flow ident_y
   unfolding ident_y
   fits_of_y = fits_y.1
 
@@ -145,19 +145,19 @@ module _ (v : Vehicle) (delays : Delays) (told : AreDelays v delays) (n : ℕ) (
     | inl is ↦
         let same : b ≡ x.bus = eqb-true b x.bus is in
         subst (λ (s : SeenBus). IsOtherwiseKept v delays b timing (frames_asked (asked_on of_bus)) s) (sym (seen_x b is))
-        (subst (λ (c : ℕ). (other : IsToldBus v delays c timing) → IsOtherwiseKept v delays c timing (frames_asked (asked_on other)) bus_x) (sym same)
+        (subst (λ (c : ℕ). (other : IsKnownBus v delays c timing) → IsOtherwiseKept v delays c timing (frames_asked (asked_on other)) bus_x) (sym same)
         (λ other. one_kept timing (frames_asked (asked_on other)) x.flow 0 ident_x by
         (subst (λ (tr : Traffic). Fits tr x.flow ident_x)
-        (one_traffic v delays x.bus lone.timed_x.0 timing (told_bus v delays told x.bus lone.timed_x.0 lone.timed_x.1) other) fits_of_x)
+        (one_traffic v delays x.bus lone.timed_x.0 timing (known_bus v delays told x.bus lone.timed_x.0 lone.timed_x.1) other) fits_of_x)
         (lone.in_order x.bus timing other) v delays x.bus (λ own. refl)) of_bus)
     | inr isnt ↦ elim (cases_Bool (eqb b y.bus)) [
       | inl is ↦
           let same : b ≡ y.bus = eqb-true b y.bus is in
           subst (λ (s : SeenBus). IsOtherwiseKept v delays b timing (frames_asked (asked_on of_bus)) s) (sym (seen_y b isnt is))
-          (subst (λ (c : ℕ). (other : IsToldBus v delays c timing) → IsOtherwiseKept v delays c timing (frames_asked (asked_on other)) bus_y) (sym same)
+          (subst (λ (c : ℕ). (other : IsKnownBus v delays c timing) → IsOtherwiseKept v delays c timing (frames_asked (asked_on other)) bus_y) (sym same)
           (λ other. one_kept timing (frames_asked (asked_on other)) y.flow 8 ident_y by
           (subst (λ (tr : Traffic). Fits tr y.flow ident_y)
-          (one_traffic v delays y.bus lone.timed_y.0 timing (told_bus v delays told y.bus lone.timed_y.0 lone.timed_y.1) other) fits_of_y)
+          (one_traffic v delays y.bus lone.timed_y.0 timing (known_bus v delays told y.bus lone.timed_y.0 lone.timed_y.1) other) fits_of_y)
           (lone.in_order y.bus timing other) v delays y.bus (λ own. absurd (own is_sent_on))) of_bus)
       | inr neither ↦
           subst (λ (s : SeenBus). IsOtherwiseKept v delays b timing (frames_asked (asked_on of_bus)) s) (sym (seen_none b isnt neither))
@@ -190,8 +190,8 @@ module _ (v : Vehicle) (delays : Delays) (told : AreDelays v delays) (n : ℕ) (
     planned = s.planned;
     of = s.of;
     source = at.flow;
-    moment = s.moment;
-    born = s.moment;
+    release = s.release;
+    born = s.release;
   }
 
   in_both : (P : SeenBus → SeenBus → Type 0) → P bus_x bus_y → P (seen x.bus) (seen y.bus)
@@ -212,7 +212,7 @@ module _ (v : Vehicle) (delays : Delays) (told : AreDelays v delays) (n : ℕ) (
         handed = record {
           what = λ q. 0;
           begun = λ q its. ((omega arith, refl, refl), omega (arith, room));
-          moments = λ q its. refl;
+          releases = λ q its. refl;
           after = λ q its. omega (arith, small_x, some_y);
           within_time = λ q its. omega (arith, small_y, enough);
           different = λ p q its other differ same. differ (one_place p q its.0 other.0);
@@ -262,7 +262,7 @@ module _ (v : Vehicle) (delays : Delays) (told : AreDelays v delays) (n : ℕ) (
             handed = record {
               what = λ q. 0;
               begun = λ q its. absurd (no_output q its);
-              moments = λ q its. absurd (no_output q its);
+              releases = λ q its. absurd (no_output q its);
               after = λ q its. absurd (no_output q its);
               within_time = λ q its. absurd (no_output q its);
               different = λ p q its. absurd (no_output p its);
@@ -273,7 +273,7 @@ module _ (v : Vehicle) (delays : Delays) (told : AreDelays v delays) (n : ℕ) (
             says = λ s t leads q its. absurd (no_output q its);
           }
     ];
-    periodic = λ m other a b time pause behind sends periodic silent known. record {
+    periodic = λ m other a b time pause behind sends periodic interval known. record {
       newest = λ s t leads p q begun its. elim (cases_eq m n) [
         | inl same ↦
             let one : other ≡ forward = same_Some _ _ (sym sends.its ∙ (ap (forward_at v) same ∙ lone.sends.its)) in
@@ -291,8 +291,8 @@ module _ (v : Vehicle) (delays : Delays) (told : AreDelays v delays) (n : ℕ) (
         each_bus (λ s. by ≤ s.phase + unit_on v b * s.schedule.now) (times_more (unit_on v b) by some) (times_more (unit_on v b) by some) (times_more
         (unit_on v b) by some) b;
     prompt = prompt;
-    own_moments = λ at own q its. each_bus (λ s. s.moment q ≡ s.phase + unit_on v at.bus * s.of.since q) (omega arith) (omega arith) (omega arith) at.bus;
-    origins = λ p last q its. each_bus (λ s. (time : ℕ) × (s.born q p.signal ≡ Some time) × (s.moment q ≤ time)
+    own_releases = λ at own q its. each_bus (λ s. s.release q ≡ s.phase + unit_on v at.bus * s.of.since q) (omega arith) (omega arith) (omega arith) at.bus;
+    origins = λ p last q its. each_bus (λ s. (time : ℕ) × (s.born q p.signal ≡ Some time) × (s.release q ≤ time)
         × (time ≤ s.phase + unit_on v p.at.bus * s.schedule.queued q))
         (0, refl, omega arith, omega arith) (0, refl, omega arith, omega arith) (0, refl, omega arith, omega arith) p.at.bus;
   }

@@ -10,13 +10,13 @@ use Rattle.j39_load.specs.declared.waits.delay.Delay.TheVariants.{Within, Late}
 use Rattle.j39_load.specs.declared.frames.flow_frames.FlowFrames.{FlowFrames}
 use Rattle.j39_load.specs.declared.frames.messages.Messages.TheVariants.{Short}
 use Rattle.j39_load.specs.Ages.{least}
-use Rattle.j39_load.specs.AnyQueues.{IsOffer, Offer, held_at, keep_order, may_be_passed}
+use Rattle.j39_load.specs.AnyQueues.{IsBuffering, Buffering, buffered_for, keep_order, may_be_passed}
 use Rattle.j39_load.specs.Asked.{Asked, asked_of, frames_asked}
 use Rattle.j39_load.specs.Damage.{damage_frames}
 use Rattle.j39_load.specs.Delays.{IsShortDelay, any_delay, need_of}
 use Rattle.j39_load.specs.LoadFindings.{AsksOfBus}
 use Rattle.j39_load.specs.PlannedFrames.{AreFramesInAnyOrder, IsBounded, others_of, planned_at, traffic_of}
-use Rattle.j39_load.proofs.AnyTraffic.{begun, have, own_ordered, placed, positive, room, wait_of_company}
+use Rattle.j39_load.proofs.AnyTraffic.{begun, have, own_ordered, placed, positive, demand_fits, wait_of_queue_group}
 use Rattle.j39_load.proofs.BoundedFlows.{bounded}
 use Rattle.j39_load.proofs.PositivePeriods.{ArePaced, HasPeriod, all_paced, of_loads}
 use Rattle.j39_load.proofs.Sending.{IsSent, all_sent}
@@ -27,25 +27,25 @@ use Rattle.j39_timing.specs.FrameStreams.{Origins}
 use Rattle.j39_timing.specs.Sums.{total}
 use Rattle.j39_timing.specs.TimedFrames.{Schedule}
 use Rattle.j39_timing.specs.Traffic.{IsSingle, delay_of}
-use Rattle.j39_timing.proofs.Offered.{ordered_begun}
+use Rattle.j39_timing.proofs.Buffering.{ordered_begun}
 
 -- ---- frames of units that keep order
 
 module _ (timing : Timing) (asked : List (Option FlowFrames)) (paced : All HasPeriod (asked ++ damage_frames timing))
-    (sent : All (λ (f : Option FlowFrames). IfSome f IsSent) asked) (offer : Offer) (offers : IsOffer timing asked offer) (i : ℕ) (frames : FlowFrames)
-    (at : get_or asked i None ≡ Some frames) (ordered : keep_order frames ≡ true) (bounded : may_be_passed offer frames.greatest_ident ≡ false) (wait : ℕ)
-    (enough : need_of timing offer.frames i frames wait ≤ wait) (s : Schedule) (controllers : Controllers) (planned : ℕ → Bool) (of : Origins)
+    (sent : All (λ (f : Option FlowFrames). IfSome f IsSent) asked) (buffering : Buffering) (buffering_delays : IsBuffering timing asked buffering) (i : ℕ) (frames : FlowFrames)
+    (at : get_or asked i None ≡ Some frames) (ordered : keep_order frames ≡ true) (bounded : may_be_passed buffering frames.greatest_ident ≡ false) (wait : ℕ)
+    (enough : need_of timing buffering.frames i frames wait ≤ wait) (s : Schedule) (controllers : Controllers) (planned : ℕ → Bool) (of : Origins)
     (legal : IsLegalInAnyOrder s controllers) (known : AreFramesInAnyOrder timing asked s controllers planned of i) where
   abbrev is_placed : planned_at (asked ++ damage_frames timing) i ≡ frames
-  is_placed = placed timing asked paced sent offer offers i frames at ordered bounded wait enough
+  is_placed = placed timing asked paced sent buffering buffering_delays i frames at ordered bounded wait enough
 
   ordered_starts : IsSingle frames.stream → delay_of frames.stream wait ≤ frames.stream.period → AreBegunWithin s planned of i wait
   ordered_starts single fits =
       ordered_begun s controllers legal (traffic_of (asked ++ damage_frames timing)) (others_of timing) (longest_frame 8) planned of i wait known.known
       (positive timing asked paced sent)
-      (own_ordered timing asked paced sent offer offers i frames at ordered bounded wait enough s controllers planned of legal known)
-      (held_at offer.waits) (have timing asked paced sent offer offers i frames at ordered bounded wait enough s controllers planned of legal known)
-      (room timing asked paced sent offer offers i frames at ordered bounded wait enough)
+      (own_ordered timing asked paced sent buffering buffering_delays i frames at ordered bounded wait enough s controllers planned of legal known)
+      (buffered_for buffering.waits) (have timing asked paced sent buffering buffering_delays i frames at ordered bounded wait enough s controllers planned of legal known)
+      (demand_fits timing asked paced sent buffering buffering_delays i frames at ordered bounded wait enough)
       (subst (λ (own : FlowFrames). IsSingle own.stream) (sym is_placed) single)
       (subst (λ (own : FlowFrames). delay_of own.stream wait ≤ own.stream.period) (sym is_placed) fits)
 
@@ -83,8 +83,8 @@ module _ (plan : Plan) (timing : Timing) (stays : UnitPlan → Bool) (delays : L
 
   module _ (s : Schedule) (controllers : Controllers) (planned : ℕ → Bool) (of : Origins) (legal : IsLegalInAnyOrder s controllers)
       (known : AreFramesInAnyOrder timing (frames_asked asked) s controllers planned of flow) where
-    by_order : keep_order bound.frames ≡ true → (passed : Bool) → may_be_passed bound.offer bound.frames.greatest_ident ≡ passed
-        → MatchBool passed (Within bits ≡ Late) (IsShortDelay timing bound.offer.frames flow bound.frames bound.load.limit (Within bits))
+    by_order : keep_order bound.frames ≡ true → (passed : Bool) → may_be_passed bound.buffering bound.frames.greatest_ident ≡ passed
+        → MatchBool passed (Within bits ≡ Late) (IsShortDelay timing bound.buffering.frames flow bound.frames bound.load.limit (Within bits))
         → AreBegunWithin s planned of flow bound.wait
     by_order ordered true passed told = absurd (late_within bits told)
     by_order ordered false passed (wait, inside, least, sum) =
@@ -94,17 +94,17 @@ module _ (plan : Plan) (timing : Timing) (stays : UnitPlan → Bool) (delays : L
         let same : wait ≡ bound.wait = omega (arith, sum, total) in
         subst (AreBegunWithin s planned of flow) same
         (ordered_starts timing (frames_asked asked) (all_paced timing plan stays)
-        (all_sent timing plan stays) bound.offer bound.is flow bound.frames here ordered passed
-        wait inside.room s controllers planned of legal known paces.1 (omega (arith, fits, limited)))
+        (all_sent timing plan stays) bound.buffering bound.is flow bound.frames here ordered passed
+        wait inside.demand_fits s controllers planned of legal known paces.1 (omega (arith, fits, limited)))
 
-    by_company : keep_order bound.frames ≡ false → Within bits ≡ any_delay bound.frames bound.load.limit (get_or bound.offer.waits flow None)
+    by_queue_group : keep_order bound.frames ≡ false → Within bits ≡ any_delay bound.frames bound.load.limit (get_or bound.buffering.waits flow None)
         → AreBegunWithin s planned of flow bound.wait
-    by_company kept told =
-        let (wait, known_wait, sum) = told_wait bound.frames bound.load.limit bits (get_or bound.offer.waits flow None) told in
+    by_queue_group kept told =
+        let (wait, known_wait, sum) = told_wait bound.frames bound.load.limit bits (get_or bound.buffering.waits flow None) told in
         let total = bound.sum in
         let same : wait ≡ bound.wait = omega (arith, sum, total) in
-        let is_wait = wait_of_company timing (frames_asked asked) (all_paced timing plan stays)
-        (all_sent timing plan stays) bound.offer.waits bound.is.held flow
+        let is_wait = wait_of_queue_group timing (frames_asked asked) (all_paced timing plan stays)
+        (all_sent timing plan stays) bound.buffering.waits bound.is.bounded flow
         bound.frames here kept wait known_wait in
         subst (AreBegunWithin s planned of flow) same
         (begun timing (frames_asked asked) (all_paced timing plan stays)
@@ -116,8 +116,8 @@ module _ (plan : Plan) (timing : Timing) (stays : UnitPlan → Bool) (delays : L
       where
         go : (keeps : Bool) → keep_order bound.frames ≡ keeps
             → MatchBool keeps
-            (MatchBool (may_be_passed bound.offer bound.frames.greatest_ident) (Within bits ≡ Late)
-            (IsShortDelay timing bound.offer.frames flow bound.frames bound.load.limit (Within bits)))
-            (Within bits ≡ any_delay bound.frames bound.load.limit (get_or bound.offer.waits flow None)) → AreBegunWithin s planned of flow bound.wait
-        go true keeps told = by_order keeps (may_be_passed bound.offer bound.frames.greatest_ident) refl told
-        go false keeps told = by_company keeps told
+            (MatchBool (may_be_passed bound.buffering bound.frames.greatest_ident) (Within bits ≡ Late)
+            (IsShortDelay timing bound.buffering.frames flow bound.frames bound.load.limit (Within bits)))
+            (Within bits ≡ any_delay bound.frames bound.load.limit (get_or bound.buffering.waits flow None)) → AreBegunWithin s planned of flow bound.wait
+        go true keeps told = by_order keeps (may_be_passed bound.buffering bound.frames.greatest_ident) refl told
+        go false keeps told = by_queue_group keeps told

@@ -3,15 +3,15 @@ use Rattle.std.proofs.Common.{◌≡◌, ℕ, ◌+◌, ◌<◌, ◌≤◌, Bool,
 use Rattle.std.proofs.lemmas.Bool.{cases_Bool}
 use Rattle.j39_network.specs.declared.plan.timing.Timing.{Timing}
 use Rattle.j39_load.specs.declared.frames.flow_frames.FlowFrames.{FlowFrames}
-use Rattle.j39_load.specs.PlannedFrames.{AreFramesInAnyOrder, KeepToCompany, company_of, others_of, planned_at}
+use Rattle.j39_load.specs.PlannedFrames.{AreFramesInAnyOrder, KeepToQueueGroup, queue_group_of, others_of, planned_at}
 use Rattle.j39_timing.specs.AnyOrder.{Controllers}
-use Rattle.j39_timing.specs.Companies.{Company}
+use Rattle.j39_timing.specs.QueueGroups.{QueueGroup}
 use Rattle.j39_timing.specs.FrameBits.{longest_frame}
 use Rattle.j39_timing.specs.FrameStreams.{AreOfStreams, Origins}
 use Rattle.j39_timing.specs.Prefixes.{IsPlannedUntil, planned_until, seen_until}
 use Rattle.j39_timing.specs.TimedFrames.{Schedule}
-use Rattle.j39_timing.specs.Traffic.{AreAsWanted, moments_in}
-use Rattle.j39_timing.proofs.AnyPrefixes.{company_before, fewer_unplanned}
+use Rattle.j39_timing.specs.Traffic.{AreAsWanted, releases_in}
+use Rattle.j39_timing.proofs.AnyPrefixes.{queue_group_before, fewer_unplanned}
 use Rattle.j39_timing.proofs.Prefixes.{is_planned_then, its_own, then_is_planned, then_known}
 use Rattle.j39_timing.proofs.Sums.{total-le}
 use Rattle.j39_age_laws.specs.ForwardedStreams.{KeepsOtherwise, streams_of}
@@ -34,7 +34,7 @@ module _ (timing : Timing) (all : List (Option FlowFrames)) (s : Schedule) (cont
     };
     of_unit = keeps.of_unit;
     to_last = keeps.to_last;
-    companies = keeps.companies;
+    queue_groups = keeps.queue_groups;
   }
 
   module _ (by : ℕ) (seen : by ≤ s.now)
@@ -51,8 +51,8 @@ module _ (timing : Timing) (all : List (Option FlowFrames)) (s : Schedule) (cont
     own : (p : ℕ) → s.queued p < by → then_seen.ident p ≡ s.ident p
     own p early = its_own s by (others_of timing).least p early
 
-    fewer_moments : (j t span : ℕ) → moments_in s then_planned of j t span ≤ moments_in s planned of j t span
-    fewer_moments j t span = total-le s.count (λ p. cond (then_planned p && (eqb (of.source p) j && (leb t (of.since p) && ltb (of.since p) (t + span)))) 1 0)
+    fewer_releases : (j t span : ℕ) → releases_in s then_planned of j t span ≤ releases_in s planned of j t span
+    fewer_releases j t span = total-le s.count (λ p. cond (then_planned p && (eqb (of.source p) j && (leb t (of.since p) && ltb (of.since p) (t + span)))) 1 0)
         (λ p. cond (planned p && (eqb (of.source p) j && (leb t (of.since p) && ltb (of.since p) (t + span)))) 1 0)
         (λ p in_p. one (planned p) (ltb (s.queued p) by) (eqb (of.source p) j && (leb t (of.since p) && ltb (of.since p) (t + span))))
       where
@@ -63,7 +63,7 @@ module _ (timing : Timing) (all : List (Option FlowFrames)) (s : Schedule) (cont
 
     wanted_then : AreAsWanted s then_planned of (streams_of timing all).demands (streams_of timing all).stream
     wanted_then j t span demand has =
-        let fewer = fewer_moments j t span in
+        let fewer = fewer_releases j t span in
         let most = keeps.as_wanted j t span demand has in
         omega (arith, fewer, most)
 
@@ -79,11 +79,11 @@ module _ (timing : Timing) (all : List (Option FlowFrames)) (s : Schedule) (cont
       few_others = keeps.few_others;
     }
 
-    -- ---- a company
+    -- ---- a queue group
 
-    module _ (company : Company) (kept : KeepToCompany timing s planned of company) where
-      company_then : KeepToCompany timing then_seen then_planned of company
-      company_then = record {
+    module _ (queue_group : QueueGroup) (kept : KeepToQueueGroup timing s planned of queue_group) where
+      queue_group_then : KeepToQueueGroup timing then_seen then_planned of queue_group
+      queue_group_then = record {
         identifiers = λ p in_p. elim (cases_Bool (ltb (s.queued p) by)) [
           | inl early ↦ rw (early) (kept.identifiers p in_p)
           | inr late ↦ rw (late) (let few = timing.unplanned_priority_range in omega arith)
@@ -97,8 +97,8 @@ module _ (timing : Timing) (all : List (Option FlowFrames)) (s : Schedule) (cont
             (then_is_planned s planned by q both.0 ready, both.1);
         few_unplanned = λ p from to in_p is has before waits stretch.
             let (plain, early) = is_planned_then s planned by p is in
-            let most = kept.few_unplanned p from to in_p plain has (omega arith) waits (company_before s planned of company by (others_of timing).least from to stretch) in
-            let less = fewer_unplanned s planned of company by (others_of timing).least from to before in
+            let most = kept.few_unplanned p from to in_p plain has (omega arith) waits (queue_group_before s planned of queue_group by (others_of timing).least from to stretch) in
+            let less = fewer_unplanned s planned of queue_group by (others_of timing).least from to before in
             omega (arith, most, less);
       }
 
@@ -111,5 +111,5 @@ module _ (timing : Timing) (all : List (Option FlowFrames)) (s : Schedule) (cont
           let most = keeps.to_last p in_p plain kept in
           let same = own p early in
           omega (arith, most, same);
-      companies = λ j level goes kept is_level. company_then (company_of timing all (planned_at all j) level) (keeps.companies j level goes kept is_level);
+      queue_groups = λ j level goes kept is_level. queue_group_then (queue_group_of timing all (planned_at all j) level) (keeps.queue_groups j level goes kept is_level);
     }

@@ -28,7 +28,7 @@ use Rattle.j39_ages.specs.declared.ends.Ends.{Ends}
 use Rattle.j39_ages.specs.declared.needs.NeedFlow.{NeedFlow}
 use Rattle.j39_ages.specs.TimeFindings.{IsDirectBetween, IsNearer, IsNeedTooOld, IsTooLate, IsTooOften, IsTooRare, IsUnlimited, IsKnownWithin, IsYoungFlow, written_deadline, first_output, period_ms}
 use Rattle.j39_ages.specs.FoundTimes.{direct_ends, ends_of, flow_of_need, is_long, is_nearer, is_need_too_old, is_older, is_timed_bus, goes_to_all, is_too_late, is_too_often, is_too_rare, is_unlimited, is_known_within, need_flow_at, need_flows_at}
-use Rattle.j39_ages.specs.Times.{age, flow_at, first_input_at, jitter_ms, queued_of, silent, timing_on, us_of_ms}
+use Rattle.j39_ages.specs.Times.{age, flow_at, first_input_at, jitter_ms, queued_of, interval, timing_on, us_of_ms}
 use Rattle.j39_ages.proofs.Youngest.{IsLeast, youngest_among, youngest_least, youngest_some}
 use Rattle.j39_findings.proofs.Deciding.{Decides-leb}
 
@@ -157,9 +157,9 @@ Decides-is_too_late v delays n =
 
 pub Decides-is_too_rare : (v : Vehicle) (n : Forward) → Decides (is_too_rare v n) (IsTooRare v n)
 Decides-is_too_rare v n =
-    between_decides v n (λ ends. (ms : ℕ) × (ends.output.pause ≡ Some ms) × (¬ IsKnownWithin (us_of_ms ms) (silent v ends.at)))
-    (λ ends. some_decides (λ ms. ¬ IsKnownWithin (us_of_ms ms) (silent v ends.at))
-    (λ ms. Decides-not _ (within_decides (us_of_ms ms) (silent v ends.at))) ends.output.pause)
+    between_decides v n (λ ends. (ms : ℕ) × (ends.output.pause ≡ Some ms) × (¬ IsKnownWithin (us_of_ms ms) (interval v ends.at)))
+    (λ ends. some_decides (λ ms. ¬ IsKnownWithin (us_of_ms ms) (interval v ends.at))
+    (λ ms. Decides-not _ (within_decides (us_of_ms ms) (interval v ends.at))) ends.output.pause)
 
 -- ---- needs
 

@@ -9,7 +9,7 @@ ghost use Rattle.j39_ages.specs.TimeFindings.{first_output, period_ms};
 ghost use Rattle.j39_ages.specs.FoundTimes.{direct_ends, ends_of, has_deadline, has_such_a_period, is_asked, is_late_asked, is_late_asked_of, is_later, is_long, is_more_often, is_nearer, is_rarer, is_timed_bus, goes_to_all, is_too_late, is_too_often, is_too_rare, is_unlimited, is_known_within};
 
 use crate::bus_delays::Delays;
-use crate::chains::{queued_of, silent};
+use crate::chains::{interval, queued_of};
 use crate::flows::{flow_at, input_at, jitter_of, timing_on, us_of_ms};
 use j39_network::{FlowPlan, To};
 use j39_paths::{FlowAt, Routes, group_at, is_direct, is_output, output_flows};
@@ -221,7 +221,7 @@ fn is_rarer(routes: &Routes<'_>, at: FlowAt, output: &FlowPlan) -> bool
     ensures { result ≡ is_rarer routes.now.vehicle.now at output.now }
 {
     match output.pause {
-        Some(ms) => !is_within(us_of_ms(ms), silent(routes, at)),
+        Some(ms) => !is_within(us_of_ms(ms), interval(routes, at)),
         None => false,
     }
 }

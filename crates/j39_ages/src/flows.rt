@@ -32,7 +32,7 @@ pub fn us_of_ms(ms: u16) -> u64
     1_000 * u64::from(ms)
 }
 
-/// How many milliseconds behind its moment a message of the flow is queued at most.
+/// How many milliseconds behind its release a message of the flow is queued at most.
 pub fn jitter_of(flow: &FlowPlan) -> u16
     ensures { result ≡ jitter_ms flow.now }
 {
@@ -42,7 +42,7 @@ pub fn jitter_of(flow: &FlowPlan) -> u16
     }
 }
 
-/// In how many microseconds a message of the flow has its moment, however they lie.
+/// In how many microseconds a message of the flow has its release, however they lie.
 pub fn pause_of(flow: &FlowPlan) -> Option<u64>
     ensures value { result ≡ pause_us flow.now }
     ensures few { IfSome result (λ pause. pause < 2 ^ 26) }

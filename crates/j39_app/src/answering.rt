@@ -43,7 +43,7 @@ fn plan_of<F: Folder, W: Sink>(
 ) -> Result<Option<Plan>, Fault>
     ensures ends { EndsByFile (IsOfBytes IsPlanText) IsRefusedOf (Unit {0}) plan_limits
         (F.stays_shut files.now) (F.bytes_of files.now) F.File.state name.now W.state sink.old sink.new result }
-    ensures silent { IfOk result (λ plan. OnSome plan (sink.new ≡ sink.old)) }
+    ensures writes_nothing { IfOk result (λ plan. OnSome plan (sink.new ≡ sink.old)) }
 {
     plan_text(alloc, &mut files.open(name)?, sink)
 }

@@ -1,6 +1,6 @@
 //! A new bus.
 ghost use Rattle.std.specs.Prelude.{◌≡◌, ◌<◌, ℕ, length, map, All, IfOk, IfErr, IfSome, IfNone, OnOk};
-ghost use Rattle.j39_network.specs.Kinds.{MayBeOneAt, AreToldApart};
+ghost use Rattle.j39_network.specs.Kinds.{MayBeOneAt, AreDistinctUnits};
 ghost use Rattle.j39_bus.specs.Stations.{unstarted};
 ghost use Rattle.j39_world.specs.Opening.{AreFirstThatMayBeOne, CanOpen, IsNotOpened};
 ghost use Rattle.j39_bus.specs.BusState.{histories_of};
@@ -39,7 +39,7 @@ fn same_name_after(plan: &Plan, first: usize) -> Option<usize>
 /// The first two places whose units may be one.
 fn same_name(plan: &Plan) -> Option<(usize, usize)>
     ensures some { IfSome result (λ places. AreFirstThatMayBeOne plan.now places.0 places.1) }
-    ensures none { IfNone result (AreToldApart plan.now) }
+    ensures none { IfNone result (AreDistinctUnits plan.now) }
 {
     for first in 0..plan.units.len() {
         if let Some(second) = same_name_after(plan, first) {

@@ -20,13 +20,13 @@ use Rattle.j39_load.specs.LoadFindings.{AreLoadFindings, all_findings}
 use Rattle.j39_load.specs.Asked.{Asked, asked_of, total_load}
 use Rattle.j39_load.proofs.OneLoad.{one_asked, told_once}
 use Rattle.j39_check.specs.AddressesText.{HasOneAddressesReport}
-use Rattle.j39_check.proofs.StaysTexts.{IsToldAlike, stays_text_same}
+use Rattle.j39_check.proofs.StaysTexts.{StayAlike, stays_text_same}
 use Rattle.j39_check.specs.PlanText.{Describes, IsRefusalLine, fault_line}
 use Rattle.j39_stream.specs.declared.verdict.Verdict.TheVariants.{Done, Findings, Refused, Unreadable}
 use Rattle.j39_check.specs.CheckText.{HasOneRefusal, HasOneReport, IsNotRefused, IsReport, findings_text}
 use Rattle.j39_check.specs.LoadLines.{loads_text}
 use Rattle.j39_check.specs.ShowText.{HasOneShowReport}
-use Rattle.j39_check.specs.LoadText.{HasOneLoadReport, IsLoadReport, TellsLoads, load_verdict, tells_times, untold_text}
+use Rattle.j39_check.specs.LoadText.{HasOneLoadReport, IsLoadReport, WritesLoads, load_verdict, shows_times, untold_text}
 use Rattle.j39_stream.specs.declared.verdict.Verdict.{Verdict}
 
 -- what is wrong with what a plan asks of its bus is one
@@ -97,7 +97,7 @@ not_refused bytes plan text described refused = described_only bytes plan refuse
 
 -- each unit, as the two tell of it
 told_same : (stays other : UnitPlan → Bool) (units : List UnitPlan)
-    → ((u : ℕ) (unit : UnitPlan) → slice_get units u ≡ Some unit → stays unit ≡ other unit) → AllZip (IsToldAlike stays other) units units
+    → ((u : ℕ) (unit : UnitPlan) → slice_get units u ≡ Some unit → stays unit ≡ other unit) → AllZip (StayAlike stays other) units units
 told_same stays other [] same = tt
 told_same stays other (unit ∷ units) same = (
   record { label = refl; address = refl; standing = sym (same zero unit refl) },
@@ -136,8 +136,8 @@ module _ (plan : Plan) (timing : Timing) (stays other : UnitPlan → Bool) (dela
   abbrev ends_by : (UnitPlan → Bool) → List (Option Delay) → Verdict
   ends_by who ds = load_verdict (found plan) (findings_by (asked_of timing plan who) ds)
 
-  one_told : TellsLoads plan timing stays delays text verdict → TellsLoads plan timing other others more another → (text ≡ more) × (verdict ≡ another)
-  one_told is are = elim (cases_Bool (tells_times (found plan))) [
+  one_told : WritesLoads plan timing stays delays text verdict → WritesLoads plan timing other others more another → (text ≡ more) × (verdict ≡ another)
+  one_told is are = elim (cases_Bool (shows_times (found plan))) [
     | inl shown ↦
         let first : (text ≡ loads_and_rest stays delays) × (verdict ≡ ends_by stays delays) = rw shown at is in
         let second : (more ≡ loads_and_rest other others) × (another ≡ ends_by other others) = rw shown at are in (

@@ -2,7 +2,7 @@
 use Rattle.std.specs.Prelude.{◌≡◌, ℕ, nat_le, nat_lt, Bool, ◌&&◌, if◌then◌else◌, List, [], ◌∷◌, ◌++◌, map, codes, Some, unwrap_or}
 use Rattle.std.specs.Option.{option_map_or}
 use Rattle.j39_findings.specs.Findings.{finding_number}
-use Rattle.j39_findings.specs.ConflictRuns.{IsConflictRun, TellsOfConflict, conflict_run}
+use Rattle.j39_findings.specs.ConflictRuns.{IsConflictRun, IsOfConflict, conflict_run}
 use Rattle.j39_network.specs.declared.steps.Step.{Step}
 use Rattle.j39_world.specs.Conflict.{LeavesWithoutAddress}
 use Rattle.j39_network.specs.declared.plan.Plan.{Plan}
@@ -113,4 +113,4 @@ pub record ShowsConflict (plan : Plan) (finding : Finding) (steps : List Step) :
 
 -- they do so for each finding that tells of a conflict, with some steps
 abbrev pub RunShowsConflict : Type 0
-RunShowsConflict = (plan : Plan) (finding : Finding) → TellsOfConflict plan finding → (steps : List Step) × ShowsConflict plan finding steps
+RunShowsConflict = (plan : Plan) (finding : Finding) → IsOfConflict plan finding → (steps : List Step) × ShowsConflict plan finding steps

@@ -1,6 +1,6 @@
 //! The laws of what check, addresses, load and show write.
 ghost use Rattle.std.specs.Prelude.{ℕ, List};
-ghost use Rattle.j39_network.specs.Kinds.{AreToldApart};
+ghost use Rattle.j39_network.specs.Kinds.{AreDistinctUnits};
 ghost use Rattle.j39_network.specs.VehiclePlans.{IsVehicleOf};
 ghost use Rattle.j39_network.specs.declared.plan.Plan.{Plan};
 ghost use Rattle.j39_check.specs.AddressesText.{HasOneAddressesReport};
@@ -49,7 +49,7 @@ pub fn written_runs_show_the_conflict()
 /// What check, addresses and load write of a plan they write of the plan of each vehicle, whatever the serial numbers of its boxes are, where no
 /// two units of the plan may be one: also of one with other findings.
 pub fn serial_numbers_change_no_text()
-    ensures { (plan vehicle : Plan) → IsVehicleOf plan vehicle → AreToldApart plan → AreReportedAlike plan vehicle }
+    ensures { (plan vehicle : Plan) → IsVehicleOf plan vehicle → AreDistinctUnits plan → AreReportedAlike plan vehicle }
 {
     who_stays();
     who_stays_with_strangers();

@@ -1,6 +1,6 @@
 //! What is written of what a plan asks of its bus.
 ghost use Rattle.std.specs.Prelude.{◌≡◌, ◌+◌, ◌++◌, ◌≤◌, IfOk, OnOk, count_by, length};
-ghost use Rattle.j39_check.specs.LoadText.{IsLoadReport, hides_times, is_untold, load_verdict, tells_times};
+ghost use Rattle.j39_check.specs.LoadText.{IsLoadReport, hides_times, is_untold, load_verdict, shows_times};
 ghost use Rattle.j39_check.specs.LoadText.{untold_count, untold_lines, untold_text};
 
 use crate::finding_lines::{is_between, write_lines};
@@ -21,8 +21,8 @@ fn hides_times(number: u8) -> bool
 }
 
 // Whether there is none of these.
-fn tells_times(findings: &[Finding]) -> bool
-    ensures { result ≡ tells_times findings.now }
+fn shows_times(findings: &[Finding]) -> bool
+    ensures { result ≡ shows_times findings.now }
 {
     findings
         .iter()
@@ -111,7 +111,7 @@ pub(super) fn load_report(alloc: Global, plan: &Plan) -> Result<(TextBuffer, Ver
     let answer = LoadAnswer::new(alloc, timing, plan)?;
     let others = answer.findings.as_slice();
     let findings = check(alloc, plan)?;
-    if tells_times(&findings) {
+    if shows_times(&findings) {
         write_loads(&mut text, plan, &answer.loads, answer.delays.as_slice())?;
         write_untold(alloc, &mut text, plan, &findings, others)?;
         return Ok((text, verdict_of(&findings, others)));

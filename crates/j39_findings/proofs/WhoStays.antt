@@ -15,7 +15,7 @@ use Rattle.j39_network.specs.declared.plan.Plan.{Plan}
 use Rattle.j39_network.specs.declared.plan.unit_plan.UnitPlan.{UnitPlan}
 use Rattle.j39_network.specs.PlannedUnits.{planned_unit, units_of, unit_at}
 use Rattle.j39_network.specs.Staying.{EachSmaller, IsFirstThere, IsOutsidePool, Stays}
-use Rattle.j39_findings.specs.Standing.{AreFirsts, TellsWhoStays, IsLeastName, IsMover, is_first_by, is_least, is_mover_by, is_settled, smaller, stays_by}
+use Rattle.j39_findings.specs.Standing.{AreFirsts, DecidesWhoStays, IsLeastName, IsMover, is_first_by, is_least, is_mover_by, is_settled, smaller, stays_by}
 
 module _ (units : List UnitPlan) (count : ℕ) (Among : UnitPlan → Type 0) (least : Option ℕ) (old : IsLeastName units count Among least)
     (unit : UnitPlan) (at : slice_get units count ≡ Some unit) where
@@ -248,6 +248,6 @@ module _ (plan : Plan) (firsts : List (Option ℕ)) (mover : Option ℕ) (are_fi
       ])
 
   pub told : (strangers : Bool) → MatchBool strangers (0 < plan.strangers) (plan.strangers ≡ 0)
-      → TellsWhoStays plan (λ unit. stays_by firsts mover unit && is_settled strangers unit)
+      → DecidesWhoStays plan (λ unit. stays_by firsts mover unit && is_settled strangers unit)
   told strangers come u unit at =
       both_told (stays_by firsts mover unit) (is_settled strangers unit) _ _ (stays_told u unit at) (settled_told strangers come u unit at)

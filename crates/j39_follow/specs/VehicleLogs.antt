@@ -4,7 +4,7 @@ use Rattle.std.specs.List.{All, slice_get}
 use Rattle.j39_id.specs.FrameMeaning.{cannot_claim, claims_address, name_in}
 use Rattle.j39_id.specs.Lines.{lines}
 use Rattle.j39_id.specs.declared.frame.Frame.{Frame}
-use Rattle.j39_network.specs.Kinds.{AreToldApart, kind_of_name}
+use Rattle.j39_network.specs.Kinds.{AreDistinctUnits, kind_of_name}
 use Rattle.j39_network.specs.VehiclePlans.{IsVehicleOf}
 use Rattle.j39_network.specs.declared.plan.Plan.{Plan}
 use Rattle.j39_network.specs.declared.plan.unit_plan.UnitPlan.{UnitPlan}
@@ -91,6 +91,6 @@ pub record DifferInNumbers (plan : Plan) (log numbered alone : List ℕ) : Type 
 -- the vehicle's plan, and the serial numbers of boxes
 abbrev pub TypesTellVehicles : Type 0
 TypesTellVehicles = (plan vehicle : Plan) (all_frames : Bool) (log numbered alone : List ℕ) (verdict outcome : Verdict) → IsVehicleOf plan vehicle
-    → AreToldApart plan → IsLogOfVehicle plan vehicle all_frames log → IsFollowText plan all_frames log numbered verdict
+    → AreDistinctUnits plan → IsLogOfVehicle plan vehicle all_frames log → IsFollowText plan all_frames log numbered verdict
     → IsFollowText vehicle all_frames log alone outcome
     → (verdict ≡ outcome) × DifferInNumbers plan log numbered alone

@@ -1,4 +1,4 @@
--- What is wanted of the broadcasts of units is the same where frames count from when they are offered for good, and with what comes of damage.
+-- What is wanted of the broadcasts of units is the same where frames count from the end of their buffering delays, and with what comes of damage.
 use Rattle.std.proofs.Common.{◌≡◌, ℕ, suc, ◌+◌, ◌<◌, length, take, get_or, max, Bool, true, cond, ◌&&◌, eqb, ltb, leb, List, [], ◌∷◌, ◌++◌, map, Option, None, Some, option_map, refl, sym, ap, ◌∙◌, inl, inr, arith}
 use Rattle.std.proofs.Math.Seq.{take-suc}
 use Rattle.std.proofs.lemmas.Bool.{and_parts, cases_Bool, eqb-true}
@@ -13,13 +13,13 @@ use Rattle.j39_load.specs.declared.frames.broadcast.Broadcast.{Broadcast}
 use Rattle.j39_load.specs.declared.frames.broadcast.BroadcastPart.{BroadcastPart}
 use Rattle.j39_load.specs.declared.frames.broadcast.BroadcastPart.TheVariants.{Announcements, Packets}
 use Rattle.j39_load.specs.declared.frames.flow_frames.FlowFrames.{FlowFrames}
-use Rattle.j39_load.specs.AnyQueues.{held_at, later_frames, offered, offered_at}
+use Rattle.j39_load.specs.AnyQueues.{buffered_for, later_frames, buffered, buffered_at}
 use Rattle.j39_load.specs.Damage.{damage_frames, damage_streams, first_of_all}
 use Rattle.j39_load.specs.Demands.{demand_by, demands_by, demands_of, most_packets, wanted_by, wants_of}
 use Rattle.j39_load.specs.LineLists.{lines_of_each}
 use Rattle.j39_timing.specs.FrameStreams.{Origins}
 use Rattle.j39_timing.specs.TimedFrames.{Schedule}
-use Rattle.j39_timing.specs.Traffic.{AreAsWanted, moments_in}
+use Rattle.j39_timing.specs.Traffic.{AreAsWanted, releases_in}
 use Rattle.j39_timing.specs.Waits.{Demand, demand_of}
 use Rattle.j39_timing.specs.declared.stream.Stream.{Stream}
 use Rattle.j39_timing.proofs.Sums.{total-none}
@@ -51,24 +51,24 @@ demands_with_damage timing asked = same_demands (asked ++ damage_frames timing) 
     ∙ ap (λ (bs : List Broadcast). wants_of asked u ++ bs) (nothing_wanted u (damage_streams timing))
     ∙ append-nil (wants_of asked u))
 
--- ---- where frames are offered for good
+-- ---- where frames are buffered no longer
 
 module _ (waits : List (Option ℕ)) (u : ℕ) where
   later_wanted : (more : ℕ) (frames : Option FlowFrames) → wanted_by u (option_map (later_frames more) frames) ≡ wanted_by u frames
   later_wanted more None = refl
   later_wanted more (Some f) = refl
 
-  wanted_where_offered : (place : ℕ) (all : List (Option FlowFrames))
-      → filter_map (wanted_by u) (lines_of_each (offered_at waits) place all) ≡ filter_map (wanted_by u) all
+  wanted_where_buffered : (place : ℕ) (all : List (Option FlowFrames))
+      → filter_map (wanted_by u) (lines_of_each (buffered_at waits) place all) ≡ filter_map (wanted_by u) all
   unfolding lines_of_each
-  wanted_where_offered place [] = refl
-  wanted_where_offered place (frames ∷ all) =
-      ap (λ (b : Option Broadcast). cons_option b (filter_map (wanted_by u) (lines_of_each (offered_at waits) (place + 1) all)))
-      (later_wanted (held_at waits place) frames)
-      ∙ ap (λ (bs : List Broadcast). cons_option (wanted_by u frames) bs) (wanted_where_offered (place + 1) all)
+  wanted_where_buffered place [] = refl
+  wanted_where_buffered place (frames ∷ all) =
+      ap (λ (b : Option Broadcast). cons_option b (filter_map (wanted_by u) (lines_of_each (buffered_at waits) (place + 1) all)))
+      (later_wanted (buffered_for waits place) frames)
+      ∙ ap (λ (bs : List Broadcast). cons_option (wanted_by u frames) bs) (wanted_where_buffered (place + 1) all)
 
-pub demands_where_offered : (waits : List (Option ℕ)) (all : List (Option FlowFrames)) → demands_of (offered waits all) ≡ demands_of all
-demands_where_offered waits all = same_demands (offered waits all) all (λ u. wanted_where_offered waits u 0 all)
+pub demands_where_buffered : (waits : List (Option ℕ)) (all : List (Option FlowFrames)) → demands_of (buffered waits all) ≡ demands_of all
+demands_where_buffered waits all = same_demands (buffered waits all) all (λ u. wanted_where_buffered waits u 0 all)
 
 -- ---- where no planned frame is of a stream of which less may be wanted
 
@@ -76,7 +76,7 @@ pub never_wanted : (s : Schedule) (planned : ℕ → Bool) (of : Origins) (deman
     → ((p : ℕ) → p < s.count → planned p ≡ true → (stream (of.source p)).wanted ≡ None) → AreAsWanted s planned of demands stream
 never_wanted s planned of demands stream none j t span demand its =
     let counts : ℕ → Bool = λ p. planned p && (eqb (of.source p) j && (leb t (of.since p) && ltb (of.since p) (t + span))) in
-    let few : moments_in s planned of j t span ≡ 0 = total-none s.count
+    let few : releases_in s planned of j t span ≡ 0 = total-none s.count
     (λ p. cond (planned p && (eqb (of.source p) j && (leb t (of.since p) && ltb (of.since p) (t + span)))) 1 0) (λ p in_p.
     elim (cases_Bool (planned p && (eqb (of.source p) j && (leb t (of.since p) && ltb (of.since p) (t + span))))) [
       | inr fails ↦ rw (fails) refl

@@ -187,22 +187,22 @@ module _ (plan : Plan) (timing : Timing) (apart : ArePlannedApart (units_of plan
   messages_to_all = record {
     count = λ x. cond (eqb x w) 1 0;
     flow = λ x m. h;
-    moment = λ x m. 4 * width;
+    release = λ x m. 4 * width;
     wanted = λ x m. 4 * width;
     announced = λ x m. 4 * width;
     packets = λ x m. more;
   }
 
-  -- a single frame and a request have their moments where they are queued, the long message where it begins
-  abbrev moment_of : ℕ → Choice → ℕ
-  moment_of p Alone = p * width
-  moment_of p Asks = p * width
-  moment_of p (Carries part) = 0
-  moment_of p Announces = p * width
-  moment_of p (Sends k) = p * width
+  -- a single frame and a request have their releases where they are queued, the long message where it begins
+  abbrev release_of : ℕ → Choice → ℕ
+  release_of p Alone = p * width
+  release_of p Asks = p * width
+  release_of p (Carries part) = 0
+  release_of p Announces = p * width
+  release_of p (Sends k) = p * width
 
   abbrev sent : FrameSources
-  sent = record { source = λ p. source_of f g r w (choice packets p); moment = λ p. moment_of p (choice packets p); broadcasts = messages_to_all }
+  sent = record { source = λ p. source_of f g r w (choice packets p); release = λ p. release_of p (choice packets p); broadcasts = messages_to_all }
 
   sends : other.sender < length plan.units.items
   sends = all_at (λ (h : FlowPlan). h.sender < length plan.units.items) plan.flows.items plan.flow_senders g other other_is
@@ -229,8 +229,8 @@ module _ (plan : Plan) (timing : Timing) (apart : ArePlannedApart (units_of plan
     of = of;
     short = short;
     length = omega arith;
-    moment_first = omega arith;
-    late_at_most = omega arith;
+    release_first = omega arith;
+    jitter_at_most = omega arith;
     sender_on = λ t queued. alone.sender_on plan timing apart f flow pace group its paced of short 0;
     receiver_on = λ t w queued goes. alone.receiver_on plan timing apart f flow pace group its paced of short 0 w goes;
     identifier = λ t queued. is;
@@ -284,8 +284,8 @@ module _ (plan : Plan) (timing : Timing) (apart : ArePlannedApart (units_of plan
     receiver_is = receiver_is;
     is_part = has;
     length = omega arith;
-    moment_first = omega arith;
-    late_at_most = in_time p below;
+    release_first = omega arith;
+    jitter_at_most = in_time p below;
     sender_on = λ t queued. on_where u sends;
     receiver_on = λ t queued. on_where v receives;
     identifier = λ t queued. is;
@@ -319,7 +319,7 @@ module _ (plan : Plan) (timing : Timing) (apart : ArePlannedApart (units_of plan
   chosen (suc (suc (suc (suc zero)))) below = tt
   chosen (suc (suc (suc (suc (suc k))))) below = last_chosen k (omega (arith, below))
 
-  frame : (p : ℕ) (c : Choice) → p < n → bus.ident p ≡ ident_of c → Has c → IsFrameOf plan timing bus held messages_to_all (source_of f g r w c) (moment_of p c) p
+  frame : (p : ℕ) (c : Choice) → p < n → bus.ident p ≡ ident_of c → Has c → IsFrameOf plan timing bus held messages_to_all (source_of f g r w c) (release_of p c) p
   frame p Alone below is has = single p is
   frame p Asks below is has = request p is
   frame p (Carries x) below is has = part p x below is has
@@ -359,8 +359,8 @@ module _ (plan : Plan) (timing : Timing) (apart : ArePlannedApart (units_of plan
       two = two;
       shortest = shortest;
       longest = longest;
-      moment_first = omega arith;
-      late_at_most = omega arith;
+      release_first = omega arith;
+      jitter_at_most = omega arith;
       wanted_first = omega arith;
     };
     apart = λ x m k ms pair. absurd (never_two x m k pair.0 pair.1);

@@ -4,16 +4,16 @@ use Rattle.std.proofs.Common.{sym, ap, ◌∙◌, subst, inl, inr, arith}
 use Rattle.std.proofs.lemmas.Bool.{le-ltb, lt-ltb, true≢false}
 use Rattle.std.proofs.lemmas.List.{get_or_past}
 use Rattle.j39_findings.specs.Findings.{Clean}
-use Rattle.j39_findings.specs.Standing.{TellsWhoStays}
+use Rattle.j39_findings.specs.Standing.{DecidesWhoStays}
 use Rattle.j39_network.specs.declared.plan.Plan.{Plan}
 use Rattle.j39_network.specs.declared.plan.timing.ErrorRate.{ErrorRate}
 use Rattle.j39_network.specs.declared.plan.timing.Timing.{Timing}
 use Rattle.j39_network.specs.declared.plan.unit_plan.UnitPlan.{UnitPlan}
 use Rattle.j39_load.specs.declared.frames.flow_frames.FlowFrames.{FlowFrames}
-use Rattle.j39_load.specs.AnyQueues.{are_of_unit, is_of_company, keep_order, leasts_of, with_unplanned}
+use Rattle.j39_load.specs.AnyQueues.{are_of_unit, is_of_queue_group, keep_order, leasts_of, with_unplanned}
 use Rattle.j39_load.specs.KeepsErrors.{KeepsErrors, KeepsErrorsInAnyOrder}
 use Rattle.j39_load.specs.KeepsPlan.{IsSingleFlow, KeepsQueues, KeepsToPlan, origins_of, source_place}
-use Rattle.j39_load.specs.PlannedFrames.{AreFramesInAnyOrder, KeepToCompany, company_of, no_frames, planned_at}
+use Rattle.j39_load.specs.PlannedFrames.{AreFramesInAnyOrder, KeepToQueueGroup, queue_group_of, no_frames, planned_at}
 use Rattle.j39_load.specs.SentFrames.{FrameSources, Held}
 use Rattle.j39_load.proofs.KeepingAnyOrder.{any_of, keeps_any}
 use Rattle.j39_load.proofs.KeepingErrors.{IsDamage, IsFrame, above_zero, asks, is_planned, keeps_with_errors, kinds, of, shift, w}
@@ -22,7 +22,7 @@ use Rattle.j39_timing.specs.AnyOrder.{Controllers}
 use Rattle.j39_timing.specs.Errors.{Damaged, IsBusWithErrors, damage_ordered}
 use Rattle.j39_timing.specs.TimedFrames.{Schedule}
 
-module _ (plan : Plan) (timing : Timing) (stays : UnitPlan → Bool) (tells : TellsWhoStays plan stays) (clean : Clean plan) (s : Schedule) (d : Damaged)
+module _ (plan : Plan) (timing : Timing) (stays : UnitPlan → Bool) (tells : DecidesWhoStays plan stays) (clean : Clean plan) (s : Schedule) (d : Damaged)
     (bus : IsBusWithErrors s d) (planned : ℕ → Bool) (sent : FrameSources) (held : Held) (keeps : KeepsToPlan plan timing s planned sent held)
     (rate : ErrorRate) (errors : KeepsErrors timing rate s d planned sent) (controllers : Controllers) (queues : KeepsQueues plan timing s controllers planned sent)
     (more : KeepsErrorsInAnyOrder plan timing s controllers d planned sent) (i : ℕ) (single : IsSingleFlow plan i) where
@@ -54,19 +54,19 @@ module _ (plan : Plan) (timing : Timing) (stays : UnitPlan → Bool) (tells : Te
   own_unit : (p : ℕ) → s.count ≤ p → (damage_ordered s controllers more.own).unit p ≡ more.own
   own_unit p past = ap (λ (b : Bool). cond b (controllers.unit p) more.own) (le-ltb p s.count past)
 
-  -- companies are as they were
-  module _ (around : FlowFrames) (level : ℕ) (kept : KeepToCompany timing s planned (origins_of plan sent) (company_of timing all around level)) where
+  -- queue groups are as they were
+  module _ (around : FlowFrames) (level : ℕ) (kept : KeepToQueueGroup timing s planned (origins_of plan sent) (queue_group_of timing all around level)) where
     abbrev has : ℕ → Bool
-    has = (company_of timing all around level).has
+    has = (queue_group_of timing all around level).has
 
     never : (p : ℕ) → IsDamage plan timing stays tells clean s d bus planned sent held keeps rate errors p → has ((of plan timing stays tells clean s d bus planned sent held keeps rate errors).source p) ≡ true → ⊥
     never p at is = true≢false (sym is ∙ gone (planned_at all ((of plan timing stays tells clean s d bus planned sent held keeps rate errors).source p)) (behind_all p at))
       where
-        gone : (x : FlowFrames) → x ≡ no_frames → is_of_company (leasts_of all) (with_unplanned timing around) level x ≡ false
-        gone x same = ap (is_of_company (leasts_of all) (with_unplanned timing around) level) same
+        gone : (x : FlowFrames) → x ≡ no_frames → is_of_queue_group (leasts_of all) (with_unplanned timing around) level x ≡ false
+        gone x same = ap (is_of_queue_group (leasts_of all) (with_unplanned timing around) level) same
 
-    company_with : KeepToCompany timing bus_with is_foreseen (of plan timing stays tells clean s d bus planned sent held keeps rate errors) (company_of timing all around level)
-    company_with = record {
+    queue_group_with : KeepToQueueGroup timing bus_with is_foreseen (of plan timing stays tells clean s d bus planned sent held keeps rate errors) (queue_group_of timing all around level)
+    queue_group_with = record {
       identifiers = λ p in_p. elim (its_kind p in_p) [
         | inl at ↦ let ident = at.ident in let few = kept.identifiers p at.below in omega (arith, ident, few)
         | inr at ↦ let ident = at.ident in omega (arith, ident)
@@ -90,13 +90,13 @@ module _ (plan : Plan) (timing : Timing) (stays : UnitPlan → Bool) (tells : Te
               (two.plans ∙ both.0, subst (λ (j : ℕ). has j ≡ true) (sym two.source) both.1)
         ]
       ];
-      few_unplanned = λ p from to in_p is of_it seen waits company. elim (its_kind p in_p) [
+      few_unplanned = λ p from to in_p is of_it seen waits queue_group. elim (its_kind p in_p) [
         | inr damage ↦ absurd (never p damage of_it)
         | inl one ↦
             let any = any_of plan timing stays tells clean s bus.queued_first planned sent held keeps controllers queues around level p one.below
             (sym one.plans ∙ is) (subst (λ (j : ℕ). has j ≡ true) one.source of_it) in
             more.few_unplanned p from to any.place any.unit one.below (sym one.plans ∙ is) any.takes any.at any.any seen waits
-            (λ t behind up. let (q, in_q, is_q, with_it, wait) = company t behind up in (q, in_q, is_q, wait))
+            (λ t behind up. let (q, in_q, is_q, with_it, wait) = queue_group t behind up in (q, in_q, is_q, wait))
       ];
     }
 
@@ -118,5 +118,5 @@ module _ (plan : Plan) (timing : Timing) (stays : UnitPlan → Bool) (tells : Te
           omega (arith, ident, last, its)
       | inr at ↦ absurd (true≢false (sym (ap keep_order (behind_all p at)) ∙ unordered))
     ];
-    companies = λ j level goes unordered is_level. company_with (planned_at all j) level (before.companies j level goes unordered is_level);
+    queue_groups = λ j level goes unordered is_level. queue_group_with (planned_at all j) level (before.queue_groups j level goes unordered is_level);
   }

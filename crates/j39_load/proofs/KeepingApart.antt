@@ -36,7 +36,7 @@ use Rattle.j39_findings.proofs.WhoStays.{placed}
 use Rattle.j39_timing.proofs.Rounds.{rounds_legal}
 use Rattle.j39_timing.proofs.Sums.{total-none}
 use Rattle.j39_timing.specs.AnyOrder.{Controllers}
-use Rattle.j39_timing.specs.Companies.{unplanned_queued}
+use Rattle.j39_timing.specs.QueueGroups.{unplanned_queued}
 use Rattle.j39_timing.specs.Errors.{Damaged, with_errors}
 use Rattle.j39_timing.specs.Rounds.{AreSenders, Senders, all_planned, in_rounds}
 use Rattle.j39_timing.specs.Sums.{total}
@@ -86,7 +86,7 @@ abbrev pub no_broadcasts : Broadcasts
 no_broadcasts = record {
   count = λ u. 0;
   flow = λ u m. 0;
-  moment = λ u m. 0;
+  release = λ u m. 0;
   wanted = λ u m. 0;
   announced = λ u m. 0;
   packets = λ u m. 0;
@@ -141,7 +141,7 @@ module _ (plan : Plan) (timing : Timing) (apart : ArePlannedApart (units_of plan
   bus = in_rounds alone n
 
   abbrev sent : FrameSources
-  sent = record { source = λ p. Single f; moment = λ p. p * step; broadcasts = no_broadcasts }
+  sent = record { source = λ p. Single f; release = λ p. p * step; broadcasts = no_broadcasts }
 
   are_senders : AreSenders alone
   are_senders = record {
@@ -193,8 +193,8 @@ module _ (plan : Plan) (timing : Timing) (apart : ArePlannedApart (units_of plan
     of = of;
     short = short;
     length = omega arith;
-    moment_first = omega arith;
-    late_at_most = omega arith;
+    release_first = omega arith;
+    jitter_at_most = omega arith;
     sender_on = λ t queued. sender_on;
     receiver_on = λ t v queued goes. receiver_on v goes;
     identifier = λ t queued. refl;
@@ -239,8 +239,8 @@ module _ (plan : Plan) (timing : Timing) (apart : ArePlannedApart (units_of plan
 
   -- ---- each frame as late as the jitter allows, and the first damaged once
 
-  abbrev late : ℕ
-  late = pace.jitter * bits_per_ms timing.bitrate
+  abbrev jitter : ℕ
+  jitter = pace.jitter * bits_per_ms timing.bitrate
 
   -- from one frame to the next is a period, and room for the two and an error frame
   abbrev long_step : ℕ
@@ -256,13 +256,13 @@ module _ (plan : Plan) (timing : Timing) (apart : ArePlannedApart (units_of plan
   room = omega (arith, short)
 
   abbrev late_bus : Schedule
-  late_bus = damaged_first.frames n long_step late (80 + 10 * group.most) ident some_bits room
+  late_bus = damaged_first.frames n long_step jitter (80 + 10 * group.most) ident some_bits room
 
   abbrev attempt : Damaged
-  attempt = damaged_first.damage n long_step late (80 + 10 * group.most) ident some_bits room
+  attempt = damaged_first.damage n long_step jitter (80 + 10 * group.most) ident some_bits room
 
   abbrev late_sent : FrameSources
-  late_sent = record { source = λ p. Single f; moment = λ p. p * long_step; broadcasts = no_broadcasts }
+  late_sent = record { source = λ p. Single f; release = λ p. p * long_step; broadcasts = no_broadcasts }
 
   long_period_behind : (p q : ℕ) → p < q → IsMsBehind timing pace.period (p * long_step) (q * long_step)
   long_period_behind p q less =
@@ -279,8 +279,8 @@ module _ (plan : Plan) (timing : Timing) (apart : ArePlannedApart (units_of plan
     of = of;
     short = short;
     length = omega arith;
-    moment_first = omega arith;
-    late_at_most = within_ms timing.bitrate pace.jitter (p * long_step);
+    release_first = omega arith;
+    jitter_at_most = within_ms timing.bitrate pace.jitter (p * long_step);
     sender_on = λ t queued. sender_on;
     receiver_on = λ t v queued goes. receiver_on v goes;
     identifier = λ t queued. refl;
@@ -362,7 +362,7 @@ module _ (plan : Plan) (timing : Timing) (apart : ArePlannedApart (units_of plan
 
   pub can_be_kept_together : IsPgn group.pgn → (rate : ErrorRate) → timing.errors ≡ Some rate → CanBeKeptTogether plan timing rate f pace n
   can_be_kept_together number rate told =
-      let legal = damaged_first.legal n long_step late (80 + 10 * group.most) ident some_bits room in
+      let legal = damaged_first.legal n long_step jitter (80 + 10 * group.most) ident some_bits room in
       record {
         s = late_bus;
         damaged = attempt;
@@ -379,7 +379,7 @@ module _ (plan : Plan) (timing : Timing) (apart : ArePlannedApart (units_of plan
         frames = refl;
         of_flow = λ p. refl;
         all_planned = λ p. refl;
-        late = λ p. in_ms_behind timing.bitrate pace.jitter (p * long_step) (p * long_step + late) (omega arith);
+        jitter = λ p. in_ms_behind timing.bitrate pace.jitter (p * long_step) (p * long_step + jitter) (omega arith);
         once = refl;
         of_first = λ e. refl;
       }

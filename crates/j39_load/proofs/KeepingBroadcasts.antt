@@ -30,7 +30,7 @@ use Rattle.j39_timing.specs.FrameStreams.{Origins}
 use Rattle.j39_timing.specs.Messages.{IsOf}
 use Rattle.j39_timing.specs.TimedFrames.{Schedule}
 use Rattle.j39_timing.specs.Sums.{total}
-use Rattle.j39_timing.specs.Traffic.{AreAsWanted, moments_in}
+use Rattle.j39_timing.specs.Traffic.{AreAsWanted, releases_in}
 use Rattle.j39_timing.specs.Waits.{Demand, demand_of, frames_wanted}
 use Rattle.j39_timing.specs.declared.stream.Stream.{Stream}
 use Rattle.j39_timing.specs.declared.wants.Want.{Want}
@@ -103,15 +103,15 @@ number_of (Asking r) = 0
 number_of (Announcing u m) = 0
 number_of (Carrying u m k) = k
 
--- a frame of a schedule is one of another one, with its place and moment
+-- a frame of a schedule is one of another one, with its place and release
 pub record IsCopy (plan : Plan) (s : Schedule) (planned : ℕ → Bool) (sent : FrameSources) (of : Origins) (p : ℕ) : Type 0 where
   pub below : p < s.count
   pub is : planned p ≡ true
   pub place : of.source p ≡ source_place plan (sent.source p)
-  pub since : of.since p ≡ sent.moment p
+  pub since : of.since p ≡ sent.release p
 
 module _ (plan : Plan) (timing : Timing) (stays : UnitPlan → Bool) (s : Schedule) (planned : ℕ → Bool) (sent : FrameSources) (held : Held)
-    (frames : (p : ℕ) → p < s.count → planned p ≡ true → IsFrameOf plan timing s held sent.broadcasts (sent.source p) (sent.moment p) p)
+    (frames : (p : ℕ) → p < s.count → planned p ≡ true → IsFrameOf plan timing s held sent.broadcasts (sent.source p) (sent.release p) p)
     (keeps : KeepsBroadcasts plan timing s planned sent) where
   abbrev b : Broadcasts
   b = sent.broadcasts
@@ -155,7 +155,7 @@ module _ (plan : Plan) (timing : Timing) (stays : UnitPlan → Bool) (s : Schedu
   unit_messages u = record {
     count = b.count u;
     flow = λ m. spot u whole (b.flow u m);
-    moment = b.moment u;
+    release = b.release u;
     wanted = b.wanted u;
     announced = b.announced u;
     message = λ p. message_of (sent.source p);
@@ -171,7 +171,7 @@ module _ (plan : Plan) (timing : Timing) (stays : UnitPlan → Bool) (s : Schedu
 
     -- one that wants nothing
     abbrev blank : Broadcast
-    blank = record { sender = 0; packets = 0; least_packets = 0; has_short = false; period = 0; apart = 1; late = 0; deadline = None }
+    blank = record { sender = 0; packets = 0; least_packets = 0; has_short = false; period = 0; apart = 1; jitter = 0; deadline = None }
 
     periods : HavePeriods demand
     periods f = elim (cases_lt f (length bs)) [
@@ -201,13 +201,13 @@ module _ (plan : Plan) (timing : Timing) (stays : UnitPlan → Bool) (s : Schedu
             paced = second.paced;
             is = refl;
           }) in
-          let bits = behind_bits timing.bitrate second.pace.period (b.moment u m) (b.moment u n) far in
+          let bits = behind_bits timing.bitrate second.pace.period (b.release u m) (b.release u n) far in
           let period = ap (λ (w : Want). w.period) (want_is u n below announcements) in
           omega (arith, bits, period);
-      moment_first = λ m below. (one u m below).moment_first;
-      late_at_most = λ m below.
-          let bits = within_bits timing.bitrate (one u m below).pace.jitter (b.moment u m) (b.wanted u m) (one u m below).late_at_most in
-          let late = ap (λ (w : Want). w.late) (want_is u m below announcements) in
+      release_first = λ m below. (one u m below).release_first;
+      jitter_at_most = λ m below.
+          let bits = within_bits timing.bitrate (one u m below).pace.jitter (b.release u m) (b.wanted u m) (one u m below).jitter_at_most in
+          let late = ap (λ (w : Want). w.jitter) (want_is u m below announcements) in
           omega (arith, bits, late);
       wanted_first = λ m below. (one u m below).wanted_first;
       one_waits = λ m n pair.
@@ -261,9 +261,9 @@ module _ (plan : Plan) (timing : Timing) (stays : UnitPlan → Bool) (s : Schedu
       | inl none ↦ absurd (wanted_none (source_place plan (Carrying u m k)) (packets_demand u) some
           (subst (λ (j : ℕ). ((traffic plan timing stays).stream j).wanted ≡ None) place none))
       | inr copy ↦
-          let (n, j, source) = of_packets plan timing stays s held b keeps.messages (sent.source p) u m k (sent.moment p) p (frames p copy.below copy.is) below
+          let (n, j, source) = of_packets plan timing stays s held b keeps.messages (sent.source p) u m k (sent.release p) p (frames p copy.below copy.is) below
           (sym copy.place ∙ place) in
-          let frame = subst (λ (x : Source). IsFrameOf plan timing s held b x (sent.moment p) p) source (frames p copy.below copy.is) in
+          let frame = subst (λ (x : Source). IsFrameOf plan timing s held b x (sent.release p) p) source (frames p copy.below copy.is) in
           record {
             copy = copy;
             message = n;
@@ -282,14 +282,14 @@ module _ (plan : Plan) (timing : Timing) (stays : UnitPlan → Bool) (s : Schedu
       | inl none ↦ absurd (wanted_none (source_place plan (Announcing u m)) (announcements_demand u) some
           (subst (λ (j : ℕ). ((traffic plan timing stays).stream j).wanted ≡ None) place none))
       | inr copy ↦
-          let (n, source) = of_announcements plan timing stays s held b keeps.messages (sent.source p) u m (sent.moment p) p (frames p copy.below copy.is) below
+          let (n, source) = of_announcements plan timing stays s held b keeps.messages (sent.source p) u m (sent.release p) p (frames p copy.below copy.is) below
           (sym copy.place ∙ place) in
-          let frame = subst (λ (x : Source). IsFrameOf plan timing s held b x (sent.moment p) p) source (frames p copy.below copy.is) in
+          let frame = subst (λ (x : Source). IsFrameOf plan timing s held b x (sent.release p) p) source (frames p copy.below copy.is) in
           record { copy = copy; message = n; source = source; known = frame.known; queued = frame.at_once ∙ sym copy.since }
     ]
 
     packets_most : (u m k : ℕ) → m < b.count u → ((traffic plan timing stays).stream (source_place plan (Carrying u m k))).wanted ≡ Some (packets_demand u)
-        → (t span : ℕ) → moments_in w plans of (source_place plan (Carrying u m k)) t span ≤ frames_wanted span (demand u false)
+        → (t span : ℕ) → releases_in w plans of (source_place plan (Carrying u m k)) t span ≤ frames_wanted span (demand u false)
     packets_most u m k below some t span =
         packets_asked w plans of (source_place plan (Carrying u m k)) (demand u false) (unit_messages u) (periods u false) (in_turn u false) are t span (longest u)
       where
@@ -322,7 +322,7 @@ module _ (plan : Plan) (timing : Timing) (stays : UnitPlan → Bool) (s : Schedu
 
     announcements_most : (u m : ℕ) → m < b.count u
         → ((traffic plan timing stays).stream (source_place plan (Announcing u m))).wanted ≡ Some (announcements_demand u)
-        → (t span : ℕ) → moments_in w plans of (source_place plan (Announcing u m)) t span ≤ frames_wanted span (demand u true)
+        → (t span : ℕ) → releases_in w plans of (source_place plan (Announcing u m)) t span ≤ frames_wanted span (demand u true)
     announcements_most u m below some t span =
         announcements_asked w plans of (source_place plan (Announcing u m)) (demand u true) (unit_messages u) (periods u true) (in_turn u true) are t span at_once
       where
@@ -380,27 +380,27 @@ module _ (plan : Plan) (timing : Timing) (stays : UnitPlan → Bool) (s : Schedu
           let few = plan.unit_count in
           omega (arith, inside, few)
 
-      of_source : (x : Source) (moment p : ℕ) → IsFrameOf plan timing s held b x moment p → IsPaced plan timing stays x (stream (source_place plan x))
+      of_source : (x : Source) (release p : ℕ) → IsFrameOf plan timing s held b x release p → IsPaced plan timing stays x (stream (source_place plan x))
           → (t span : ℕ) (demand : Demand) → demand_of (demands_of whole) (stream (source_place plan x)) ≡ Some demand
-          → moments_in w plans of (source_place plan x) t span ≤ frames_wanted span demand
-      of_source (Single f) moment p frame paced t span demand is = absurd (demand_none f demand paced.unwanted is)
-      of_source (InSession f part) moment p frame paced t span demand is = absurd (demand_none f demand paced.unwanted is)
-      of_source (Asking r) moment p frame paced t span demand is = absurd (demand_none (source_place plan (Asking r)) demand paced.unwanted is)
-      of_source (Announcing u m) moment p frame paced t span demand is =
+          → releases_in w plans of (source_place plan x) t span ≤ frames_wanted span demand
+      of_source (Single f) release p frame paced t span demand is = absurd (demand_none f demand paced.unwanted is)
+      of_source (InSession f part) release p frame paced t span demand is = absurd (demand_none f demand paced.unwanted is)
+      of_source (Asking r) release p frame paced t span demand is = absurd (demand_none (source_place plan (Asking r)) demand paced.unwanted is)
+      of_source (Announcing u m) release p frame paced t span demand is =
           let some : (stream (source_place plan (Announcing u m))).wanted ≡ Some (announcements_demand u) = ap (λ (x : Stream). x.wanted) paced in
-          subst (λ (x : Demand). moments_in w plans of (source_place plan (Announcing u m)) t span ≤ frames_wanted span x)
+          subst (λ (x : Demand). releases_in w plans of (source_place plan (Announcing u m)) t span ≤ frames_wanted span x)
           (demand_told (source_place plan (Announcing u m)) (announcements_demand u) demand (demand_by true (wants_of whole u)) some
           (announcements_wanted u whole (unit_few u m frame.known)) is)
           (announcements_most u m frame.known some t span)
-      of_source (Carrying u m k) moment p frame paced t span demand is =
+      of_source (Carrying u m k) release p frame paced t span demand is =
           let some : (stream (source_place plan (Carrying u m k))).wanted ≡ Some (packets_demand u) = ap (λ (x : Stream). x.wanted) paced in
-          subst (λ (x : Demand). moments_in w plans of (source_place plan (Carrying u m k)) t span ≤ frames_wanted span x)
+          subst (λ (x : Demand). releases_in w plans of (source_place plan (Carrying u m k)) t span ≤ frames_wanted span x)
           (demand_told (source_place plan (Carrying u m k)) (packets_demand u) demand (demand_by false (wants_of whole u)) some
           (packets_wanted u whole (unit_few u m frame.0.known)) is)
           (packets_most u m k frame.0.known some t span)
 
       pub as_wanted : AreAsWanted w plans of (traffic plan timing stays).demands (traffic plan timing stays).stream
-      as_wanted j t span demand is = elim (cases_lt 0 (moments_in w plans of j t span)) [
+      as_wanted j t span demand is = elim (cases_lt 0 (releases_in w plans of j t span)) [
         | inr none ↦ omega (arith, none)
         | inl some ↦
             let (p, in_p, counted) = one_counts w.count (λ p. plans p && (eqb (of.source p) j && (leb t (of.since p) && ltb (of.since p) (t + span)))) some in
@@ -411,8 +411,8 @@ module _ (plan : Plan) (timing : Timing) (stays : UnitPlan → Bool) (s : Schedu
               | inl none ↦ absurd (demand_none j demand (subst (λ (k : ℕ). (stream k).wanted ≡ None) place none) is)
               | inr copy ↦
                   let there : source_place plan (sent.source p) ≡ j = sym copy.place ∙ place in
-                  subst (λ (k : ℕ). moments_in w plans of k t span ≤ frames_wanted span demand) there
-                  (of_source (sent.source p) (sent.moment p) p (frames p copy.below copy.is) (told p copy.below copy.is) t span demand
+                  subst (λ (k : ℕ). releases_in w plans of k t span ≤ frames_wanted span demand) there
+                  (of_source (sent.source p) (sent.release p) p (frames p copy.below copy.is) (told p copy.below copy.is) t span demand
                   (subst (λ (k : ℕ). demand_of (demands_of whole) (stream k) ≡ Some demand) (sym there) is))
             ]
       ]

@@ -25,7 +25,7 @@ use Rattle.j39_load.specs.Loads.{bits_of_ms, load_of_flow}
 use Rattle.j39_load.specs.PlannedFrames.{AreFramesOfPlan, no_frames, planned_at}
 use Rattle.j39_load.specs.SentFrames.{FrameSources, Announcing, Carrying, HasTime, Held, IsBroadcastFrame, IsFrameOf, IsSingleFrame, Part, Single, InSession, Asking, Source, goes_to, part_identifier}
 use Rattle.j39_load.specs.SentFrames.{RequestToSend, Packet, ClearToSend, EndAcknowledged}
-use Rattle.j39_findings.specs.Standing.{TellsWhoStays}
+use Rattle.j39_findings.specs.Standing.{DecidesWhoStays}
 use Rattle.j39_load.specs.Twins.{is_same}
 use Rattle.j39_load.proofs.Attempts.{a_window_apart}
 use Rattle.j39_load.proofs.KeepingBroadcasts.{IsCopy, as_wanted}
@@ -63,7 +63,7 @@ zero_parts priority pgn destination source none = go (is_pdu2 pgn) refl none
         absurd (true≢false (sym is ∙ ap is_pdu2 number))
     go false is zero = (omega (arith, zero), omega (arith, zero))
 
-module _ (plan : Plan) (timing : Timing) (stays : UnitPlan → Bool) (tells : TellsWhoStays plan stays) (clean : Clean plan) (s : Schedule) (d : Damaged)
+module _ (plan : Plan) (timing : Timing) (stays : UnitPlan → Bool) (tells : DecidesWhoStays plan stays) (clean : Clean plan) (s : Schedule) (d : Damaged)
     (bus : IsBusWithErrors s d) (planned : ℕ → Bool) (sent : FrameSources) (held : Held) (keeps : KeepsToPlan plan timing s planned sent held)
     (rate : ErrorRate) (errors : KeepsErrors timing rate s d planned sent) where
   abbrev pub asks : List (Option FlowFrames)
@@ -91,7 +91,7 @@ module _ (plan : Plan) (timing : Timing) (stays : UnitPlan → Bool) (tells : Te
     pub ident : w.ident p ≡ s.ident p
     pub source : of.source p ≡ source_place plan (sent.source p)
     pub turn : of.turn p ≡ source_turn plan (sent.source p)
-    pub since : of.since p ≡ sent.moment p
+    pub since : of.since p ≡ sent.release p
     pub plans : is_planned p ≡ planned p
 
   -- an attempt, or the error frame behind it
@@ -204,7 +204,7 @@ module _ (plan : Plan) (timing : Timing) (stays : UnitPlan → Bool) (tells : Te
       two = rw (errors.told) refl
 
   source_inside : (p : ℕ) → p < s.count → planned p ≡ true → source_place plan (sent.source p) < length asks
-  source_inside p in_p is = inside_asked plan timing stays s (sent.source p) (sent.moment p) p
+  source_inside p in_p is = inside_asked plan timing stays s (sent.source p) (sent.release p) p
       (of_source plan timing stays tells clean s bus.queued_first planned sent held keeps p in_p is)
 
   frame_keeps : (p : ℕ) → IsFrame p → planned p ≡ true → KeepsStream w (length streams) (λ j. (planned_at streams j).stream) of p
@@ -219,17 +219,17 @@ module _ (plan : Plan) (timing : Timing) (stays : UnitPlan → Bool) (tells : Te
       let inside = known.known in
       let few = known.bits_at_most in
       let turns = known.turns in
-      let first = known.moment_first in
-      let late = known.late_at_most in
+      let first = known.release_first in
+      let late = known.jitter_at_most in
       let its_bits = ap (λ (j : ℕ). (planned_at streams j).stream.bits) at.source in
       let its_frames = ap (λ (j : ℕ). (planned_at streams j).stream.frames) at.source in
-      let its_late = ap (λ (j : ℕ). (planned_at streams j).stream.late) at.source in
+      let its_jitter = ap (λ (j : ℕ). (planned_at streams j).stream.jitter) at.source in
       record {
         known = omega (arith, source, inside);
         bits_at_most = omega (arith, bits, few, its_bits);
         turns = omega (arith, turn, turns, its_frames);
-        moment_first = omega (arith, since, queued, first);
-        late_at_most = omega (arith, since, queued, late, its_late);
+        release_first = omega (arith, since, queued, first);
+        jitter_at_most = omega (arith, since, queued, late, its_jitter);
       }
 
   damage_keeps : (p : ℕ) → IsDamage p → KeepsStream w (length streams) (λ j. (planned_at streams j).stream) of p
@@ -246,15 +246,15 @@ module _ (plan : Plan) (timing : Timing) (stays : UnitPlan → Bool) (tells : Te
         known = let source = at.source in let size = two_behind in let few = one_or_two at.error in omega (arith, source, size, few);
         bits_at_most = subst (λ (f : FlowFrames). w.bits p ≤ f.stream.bits) (sym here) bits;
         turns = subst (λ (f : FlowFrames). of.turn p < f.stream.frames) (sym here) (omega (arith, turn, turns));
-        moment_first = omega (arith, since, queued);
-        late_at_most = subst (λ (f : FlowFrames). w.queued p ≤ of.since p + f.stream.late) (sym here) (omega (arith, since, queued));
+        release_first = omega (arith, since, queued);
+        jitter_at_most = subst (λ (f : FlowFrames). w.queued p ≤ of.since p + f.stream.jitter) (sym here) (omega (arith, since, queued));
       }
     where
       one_or_two : (b : Bool) → shift b < 2
       one_or_two true = omega arith
       one_or_two false = omega arith
 
-  -- ---- moments apart
+  -- ---- releases apart
 
   far : (e f : ℕ) → f < d.count → e < f → e % rate.count ≡ f % rate.count → d.begin e + bits_of_ms timing rate.every ≤ d.begin f
   far e f below less same =
@@ -343,8 +343,8 @@ module _ (plan : Plan) (timing : Timing) (stays : UnitPlan → Bool) (tells : Te
   -- ---- identifiers
 
   -- no unit sends to itself, so no frame has the identifier 0
-  single_above_zero : (f moment p : ℕ) → s.queued p ≤ s.start p → IsSingleFrame plan timing s held f moment p → s.ident p ≡ 0 → ⊥
-  single_above_zero f moment p ready one none =
+  single_above_zero : (f release p : ℕ) → s.queued p ≤ s.start p → IsSingleFrame plan timing s held f release p → s.ident p ≡ 0 → ⊥
+  single_above_zero f release p ready one none =
       let t = s.queued p in
       let queued : IsQueuedAt s p t = (omega arith, ready) in
       let (there, here) = zero_parts one.group.priority one.group.pgn (goes_to (held.address t) one.flow.to) (held.address t one.flow.sender)
@@ -365,32 +365,32 @@ module _ (plan : Plan) (timing : Timing) (stays : UnitPlan → Bool) (tells : Te
   part_above_zero (ClearToSend k) from to = omega arith
   part_above_zero EndAcknowledged from to = omega arith
 
-  broadcast_above_zero : (number u m moment p : ℕ) → s.queued p ≤ s.start p → IsBroadcastFrame timing s held sent.broadcasts number u m moment p
+  broadcast_above_zero : (number u m release p : ℕ) → s.queued p ≤ s.start p → IsBroadcastFrame timing s held sent.broadcasts number u m release p
       → 0 < number → is_pdu2 number ≡ false → 0 < s.ident p
-  broadcast_above_zero number u m moment p ready one some pdu1 =
+  broadcast_above_zero number u m release p ready one some pdu1 =
       let is = one.identifier (s.queued p) (omega arith, ready) in
       let parts : s.ident p ≡ timing.transport_priority * 2 ^ 26 + number * 2 ^ 8 + 255 * 2 ^ 8 + held.address (s.queued p) u =
       is ∙ ap (λ (b : Bool). timing.transport_priority * 2 ^ 26 + number * 2 ^ 8 + (if b then 0 else 255 * 2 ^ 8) + held.address (s.queued p) u) pdu1 in
       omega (arith, parts, some)
 
-  above_zero_of : (source : Source) (moment p : ℕ) → s.queued p ≤ s.start p → IsFrameOf plan timing s held sent.broadcasts source moment p → 0 < s.ident p
-  above_zero_of (Single f) moment p ready one = elim (cases_lt 0 (s.ident p)) [
+  above_zero_of : (source : Source) (release p : ℕ) → s.queued p ≤ s.start p → IsFrameOf plan timing s held sent.broadcasts source release p → 0 < s.ident p
+  above_zero_of (Single f) release p ready one = elim (cases_lt 0 (s.ident p)) [
     | inl some ↦ some
-    | inr none ↦ absurd (single_above_zero f moment p ready one (omega (arith, none)))
+    | inr none ↦ absurd (single_above_zero f release p ready one (omega (arith, none)))
   ]
-  above_zero_of (InSession f part) moment p ready one =
+  above_zero_of (InSession f part) release p ready one =
       let is = one.identifier (s.queued p) (omega arith, ready) in
       let some = part_above_zero part (held.address (s.queued p) one.flow.sender) (held.address (s.queued p) one.receiver) in
       omega (arith, is, some)
-  above_zero_of (Asking r) moment p ready one =
+  above_zero_of (Asking r) release p ready one =
       let is : s.ident p ≡ 6 * 2 ^ 26 + 59904 * 2 ^ 8 + goes_to (held.address (s.queued p)) one.asked.to * 2 ^ 8 + held.address (s.queued p) one.asked.sender =
       one.identifier (s.queued p) (omega arith, ready) in
       omega (arith, is)
-  above_zero_of (Announcing u m) moment p ready one = broadcast_above_zero 60416 u m moment p ready one (omega arith) refl
-  above_zero_of (Carrying u m k) moment p ready one = broadcast_above_zero 60160 u m moment p ready one.0 (omega arith) refl
+  above_zero_of (Announcing u m) release p ready one = broadcast_above_zero 60416 u m release p ready one (omega arith) refl
+  above_zero_of (Carrying u m k) release p ready one = broadcast_above_zero 60160 u m release p ready one.0 (omega arith) refl
 
   pub above_zero : (p : ℕ) → p < s.count → planned p ≡ true → 0 < s.ident p
-  above_zero p in_p is = above_zero_of (sent.source p) (sent.moment p) p (bus.queued_first p in_p) (keeps.frames p in_p is)
+  above_zero p in_p is = above_zero_of (sent.source p) (sent.release p) p (bus.queued_first p in_p) (keeps.frames p in_p is)
 
   not_shared : (i : ℕ) → i < length asks → (error : Bool) → may_share (traffic plan timing stays) i (length asks + shift error) ≡ false
   not_shared i below error = rw (ne_eqb (length asks + shift error) i (λ same. omega (arith, same, below)), damage_read error) (go (planned_at streams i).twin_ident)
@@ -504,7 +504,7 @@ module _ (plan : Plan) (timing : Timing) (stays : UnitPlan → Bool) (tells : Te
       (omega (arith, begun, start, queued), omega (arith, ended, start, bits, since))
 
 -- the flows stand at the first places
-pub keeps_damaged : (plan : Plan) (timing : Timing) (stays : UnitPlan → Bool) → Clean plan → TellsWhoStays plan stays
+pub keeps_damaged : (plan : Plan) (timing : Timing) (stays : UnitPlan → Bool) → Clean plan → DecidesWhoStays plan stays
     → (s : Schedule) (d : Damaged) (planned : ℕ → Bool) (sent : FrameSources) (held : Held) (rate : ErrorRate) (i : ℕ) → IsLegalWithErrors s d
     → KeepsToPlan plan timing s planned sent held → KeepsErrors timing rate s d planned sent → IsSingleFlow plan i
     → AreFramesOfPlan timing (frames_asked (asked_of timing plan stays)) (with_errors s d) (planned_with s planned)

@@ -8,7 +8,7 @@ use Rattle.std.specs.Int.{div_ceil}
 use Rattle.std.specs.List.{slice_get}
 use Rattle.std.specs.Option.{option_map_or}
 use Rattle.j39_id.specs.Ident.{identifier_of}
-use Rattle.j39_findings.specs.Standing.{TellsWhoStays}
+use Rattle.j39_findings.specs.Standing.{DecidesWhoStays}
 use Rattle.j39_network.specs.declared.plan.Plan.{Plan}
 use Rattle.j39_network.specs.declared.plan.flow_plan.FlowPlan.{FlowPlan}
 use Rattle.j39_network.specs.declared.plan.group_plan.GroupPlan.{GroupPlan}
@@ -86,14 +86,14 @@ one_to v w same = ap place_to same
 
 -- ---- identifiers, at a bit at which a frame is queued
 
-pub single_ident : (plan : Plan) (timing : Timing) (s : Schedule) (held : Held) (f moment p t : ℕ) (one : IsSingleFrame plan timing s held f moment p)
+pub single_ident : (plan : Plan) (timing : Timing) (s : Schedule) (held : Held) (f release p t : ℕ) (one : IsSingleFrame plan timing s held f release p)
     → IsQueuedAt s p t → s.ident p ≡ group_ident (held.address t) one.group one.flow
-single_ident plan timing s held f moment p t one queued = one.identifier t queued
+single_ident plan timing s held f release p t one queued = one.identifier t queued
     ∙ ap (λ (d : ℕ). identifier_of one.group.priority one.group.pgn d (held.address t one.flow.sender)) (same_place (held.address t) one.flow.to)
 
-pub asking_ident : (plan : Plan) (s : Schedule) (held : Held) (r moment p t : ℕ) (one : IsRequestFrame plan s held r moment p)
+pub asking_ident : (plan : Plan) (s : Schedule) (held : Held) (r release p t : ℕ) (one : IsRequestFrame plan s held r release p)
     → IsQueuedAt s p t → s.ident p ≡ request_ident (held.address t) one.asked
-asking_ident plan s held r moment p t one queued = one.identifier t queued
+asking_ident plan s held r release p t one queued = one.identifier t queued
     ∙ ap (λ (d : ℕ). identifier_of 6 59904 d (held.address t one.asked.sender)) (same_place (held.address t) one.asked.to)
 
 -- a frame of a source lies below the greatest identifier where times are promised of it
@@ -134,14 +134,14 @@ module _ (plan : Plan) (timing : Timing) (stays : UnitPlan → Bool) where
   -- ---- a frame
 
   -- the frames at the place of its source, and that it is one of them
-  pub record IsKnown (s : Schedule) (source : Source) (moment p : ℕ) : Type 0 where
+  pub record IsKnown (s : Schedule) (source : Source) (release p : ℕ) : Type 0 where
     pub frames : FlowFrames
     pub read : get_or (frames_asked (asked plan timing stays)) (source_place plan source) None ≡ Some frames
     pub at_most : s.bits p ≤ 160
     pub bits_at_most : s.bits p ≤ frames.stream.bits
     pub turns : source_turn plan source < frames.stream.frames
-    pub moment_first : moment ≤ s.queued p
-    pub late_at_most : s.queued p ≤ moment + frames.stream.late
+    pub release_first : release ≤ s.queued p
+    pub jitter_at_most : s.queued p ≤ release + frames.stream.jitter
     pub paced : IsPaced source frames.stream
     -- its identifier lies between those that are told
     pub least : frames.least_ident ≤ s.ident p
@@ -154,21 +154,21 @@ module _ (plan : Plan) (timing : Timing) (stays : UnitPlan → Bool) where
     pub of_sender : any_unit units sender ≡ Some sender → are_of_unit frames sender ≡ true
     pub of_any : (m : ℕ → Bool) → (option_map_or m frames.any_sender false || option_map_or m frames.any_receiver false) ≡ true → TakesAny plan source
 
-  pub here : (s : Schedule) (source : Source) (moment p : ℕ) (known : IsKnown s source moment p) → planned_at (all plan timing stays) (source_place plan source) ≡ known.frames
-  here s source moment p known = with_damage timing (frames_asked (asked plan timing stays)) (source_place plan source) known.frames known.read
+  pub here : (s : Schedule) (source : Source) (release p : ℕ) (known : IsKnown s source release p) → planned_at (all plan timing stays) (source_place plan source) ≡ known.frames
+  here s source release p known = with_damage timing (frames_asked (asked plan timing stays)) (source_place plan source) known.frames known.read
 
-  pub inside_asked : (s : Schedule) (source : Source) (moment p : ℕ) → IsKnown s source moment p → source_place plan source < length (frames_asked (asked plan timing stays))
-  inside_asked s source moment p known = get_or_inside (frames_asked (asked plan timing stays)) (source_place plan source) known.frames known.read
+  pub inside_asked : (s : Schedule) (source : Source) (release p : ℕ) → IsKnown s source release p → source_place plan source < length (frames_asked (asked plan timing stays))
+  inside_asked s source release p known = get_or_inside (frames_asked (asked plan timing stays)) (source_place plan source) known.frames known.read
 
-  pub inside : (s : Schedule) (source : Source) (moment p : ℕ) → IsKnown s source moment p → source_place plan source < length (all plan timing stays)
-  inside s source moment p known =
-      let below = inside_asked s source moment p known in
+  pub inside : (s : Schedule) (source : Source) (release p : ℕ) → IsKnown s source release p → source_place plan source < length (all plan timing stays)
+  inside s source release p known =
+      let below = inside_asked s source release p known in
       let size = length-append (frames_asked (asked plan timing stays)) (damage_frames timing) in
       omega (arith, below, size)
 
   -- ---- a frame of each source
 
-  module _ (tells : TellsWhoStays plan stays) (s : Schedule) (held : Held) (by_plan : (t : ℕ) → AreHeldByPlan plan (held.address t))
+  module _ (tells : DecidesWhoStays plan stays) (s : Schedule) (held : Held) (by_plan : (t : ℕ) → AreHeldByPlan plan (held.address t))
       (apart : (t : ℕ) → AreHeldApart (held.on t) (held.address t)) (b : Broadcasts)
       (messages : (u m : ℕ) → m < b.count u → IsMessageToAll plan timing b u m) where
     abbrev low : ℕ → ℕ
@@ -183,26 +183,26 @@ module _ (plan : Plan) (timing : Timing) (stays : UnitPlan → Bool) where
       receiver = all_at (λ (g : FlowPlan). (v : ℕ) → g.to ≡ One v → v < length plan.units.items) plan.flows.items plan.flow_receivers f flow its;
     }
 
-    module _ (f moment p : ℕ) (ready : s.queued p ≤ s.start p) (one : IsSingleFrame plan timing s held f moment p) where
+    module _ (f release p : ℕ) (ready : s.queued p ≤ s.start p) (one : IsSingleFrame plan timing s held f release p) where
       single_between : ((own plan timing stays f one.flow one.pace one.group one.its one.paced one.of).least_ident ≤ s.ident p)
           × (s.ident p ≤ (own plan timing stays f one.flow one.pace one.group one.its one.paced one.of).greatest_ident)
       single_between =
           let t = s.queued p in
-          let is_ident = single_ident plan timing s held f moment p t one (omega arith, ready) in
+          let is_ident = single_ident plan timing s held f release p t one (omega arith, ready) in
           let lies = ranks.lie_between plan stays tells (held.address t) (by_plan t) one.flow (flow_units f one.flow one.its) timing one.group in
           let least = lies.least in
           let greatest = lies.greatest in
           (omega (arith, least, is_ident), omega (arith, greatest, is_ident))
 
-      single_known : IsKnown s (Single f) moment p
+      single_known : IsKnown s (Single f) release p
       single_known = record {
         frames = own plan timing stays f one.flow one.pace one.group one.its one.paced one.of;
         read = read plan timing stays f one.flow one.pace one.group one.its one.paced one.of one.short;
         at_most = let few = one.length in let short = one.short in omega (arith, few, short);
         bits_at_most = rw (le-leb one.group.most 8 one.short) (let few = one.length in omega (arith, few));
         turns = omega arith;
-        moment_first = one.moment_first;
-        late_at_most = within_bits timing.bitrate one.pace.jitter moment (s.queued p) one.late_at_most;
+        release_first = one.release_first;
+        jitter_at_most = within_bits timing.bitrate one.pace.jitter release (s.queued p) one.jitter_at_most;
         paced = record {
           ms = one.pace.period;
           every = record { flow = one.flow; its = one.its; pace = one.pace; paced = one.paced; is = refl };
@@ -224,11 +224,11 @@ module _ (plan : Plan) (timing : Timing) (stays : UnitPlan → Bool) where
         ];
       }
 
-    module _ (r moment p : ℕ) (ready : s.queued p ≤ s.start p) (one : IsRequestFrame plan s held r moment p) where
-      request_known : IsKnown s (Asking r) moment p
+    module _ (r release p : ℕ) (ready : s.queued p ≤ s.start p) (one : IsRequestFrame plan s held r release p) where
+      request_known : IsKnown s (Asking r) release p
       request_known =
           let t = s.queued p in
-          let is_ident = asking_ident plan s held r moment p t one (omega arith, ready) in
+          let is_ident = asking_ident plan s held r release p t one (omega arith, ready) in
           let lies = ranks.request_between plan stays tells (held.address t) (by_plan t) r one.asked one.its in
           let least = lies.least in
           let greatest = lies.greatest in
@@ -240,8 +240,8 @@ module _ (plan : Plan) (timing : Timing) (stays : UnitPlan → Bool) where
             at_most = omega (arith, few);
             bits_at_most = omega (arith, few);
             turns = omega arith;
-            moment_first = omega (arith, at_once);
-            late_at_most = omega (arith, at_once);
+            release_first = omega (arith, at_once);
+            jitter_at_most = omega (arith, at_once);
             paced = record { ms = one.ms; every = (one.asked, one.its, one.paced); period = refl; unwanted = refl };
             least = omega (arith, least, is_ident);
             last = omega (arith, greatest, is_ident);
@@ -270,7 +270,7 @@ module _ (plan : Plan) (timing : Timing) (stays : UnitPlan → Bool) where
       pub planned : place < length units
       pub told : any_unit units place ≡ Some place → are_of_unit frames place ≡ true
 
-    module _ (f : ℕ) (part : Part) (moment p : ℕ) (ready : s.queued p ≤ s.start p) (one : IsSessionFrame plan timing s held f part moment p) where
+    module _ (f : ℕ) (part : Part) (release p : ℕ) (ready : s.queued p ≤ s.start p) (one : IsSessionFrame plan timing s held f part release p) where
       abbrev v : ℕ
       v = one.receiver
 
@@ -377,7 +377,7 @@ module _ (plan : Plan) (timing : Timing) (stays : UnitPlan → Bool) where
           (subst (λ (w : ℕ). turn_of_part (packets_of one.group.most) part < 2 + packets_of one.group.most + div_ceil (packets_of one.group.most) w) (sym window)
           (turn_below one.group.most one.unit.window one.unit.window_positive part one.is_part))
 
-      session_known : IsKnown s (InSession f part) moment p
+      session_known : IsKnown s (InSession f part) release p
       session_known =
           let bounds = part_between part (one.identifier (s.queued p) now) in
           let sent = part_sent part in
@@ -388,8 +388,8 @@ module _ (plan : Plan) (timing : Timing) (stays : UnitPlan → Bool) where
             at_most = one.length;
             bits_at_most = omega (arith, few);
             turns = turns_below;
-            moment_first = one.moment_first;
-            late_at_most = within_both timing.bitrate one.pace.period one.pace.jitter moment (s.queued p) one.late_at_most;
+            release_first = one.release_first;
+            jitter_at_most = within_both timing.bitrate one.pace.period one.pace.jitter release (s.queued p) one.jitter_at_most;
             paced = record {
               ms = one.pace.period;
               every = record { flow = one.flow; its = one.its; pace = one.pace; paced = one.paced; is = refl };
@@ -414,7 +414,7 @@ module _ (plan : Plan) (timing : Timing) (stays : UnitPlan → Bool) where
           }
 
     -- a frame of a unit's long message to all
-    module _ (number u m moment p : ℕ) (ready : s.queued p ≤ s.start p) (one : IsBroadcastFrame timing s held b number u m moment p) where
+    module _ (number u m release p : ℕ) (ready : s.queued p ≤ s.start p) (one : IsBroadcastFrame timing s held b number u m release p) where
       abbrev message : IsMessageToAll plan timing b u m
       message = messages u m one.known
 
@@ -442,62 +442,62 @@ module _ (plan : Plan) (timing : Timing) (stays : UnitPlan → Bool) where
         | inr never ↦ absurd (false≢true never)
       ]
 
-    announcing_known : (u m moment p : ℕ) (ready : s.queued p ≤ s.start p) (one : IsBroadcastFrame timing s held b 60416 u m moment p)
-        → IsKnown s (Announcing u m) moment p
-    announcing_known u m moment p ready one =
-        let between = broadcast_between 60416 u m moment p ready one in
+    announcing_known : (u m release p : ℕ) (ready : s.queued p ≤ s.start p) (one : IsBroadcastFrame timing s held b 60416 u m release p)
+        → IsKnown s (Announcing u m) release p
+    announcing_known u m release p ready one =
+        let between = broadcast_between 60416 u m release p ready one in
         let few = one.length in
         let at_once = one.at_once in
         record {
-          frames = (asks 60416 u m moment p ready one).announcements;
-          read = announcing_read plan timing stays b u m (message 60416 u m moment p ready one);
+          frames = (asks 60416 u m release p ready one).announcements;
+          read = announcing_read plan timing stays b u m (message 60416 u m release p ready one);
           at_most = one.length;
           bits_at_most = omega (arith, few);
           turns = omega arith;
-          moment_first = omega (arith, at_once);
-          late_at_most = omega (arith, at_once);
+          release_first = omega (arith, at_once);
+          jitter_at_most = omega (arith, at_once);
           paced = refl;
           least = between.0;
           last = between.1;
           greatest = between.1;
           sender = u;
           sends = refl;
-          planned_sender = unit_planned plan timing stays b u m (message 60416 u m moment p ready one);
+          planned_sender = unit_planned plan timing stays b u m (message 60416 u m release p ready one);
           of_sender = λ any. rw (any, eq-eqb u u refl) refl;
-          of_any = λ counts told. of_unit_alone 60416 u m moment p ready one (Announcing u m) refl refl counts told;
+          of_any = λ counts told. of_unit_alone 60416 u m release p ready one (Announcing u m) refl refl counts told;
         }
 
-    carrying_known : (u m k moment p : ℕ) (ready : s.queued p ≤ s.start p) (one : IsBroadcastFrame timing s held b 60160 u m moment p)
-        → IsKnown s (Carrying u m k) moment p
-    carrying_known u m k moment p ready one =
-        let between = broadcast_between 60160 u m moment p ready one in
+    carrying_known : (u m k release p : ℕ) (ready : s.queued p ≤ s.start p) (one : IsBroadcastFrame timing s held b 60160 u m release p)
+        → IsKnown s (Carrying u m k) release p
+    carrying_known u m k release p ready one =
+        let between = broadcast_between 60160 u m release p ready one in
         let few = one.length in
         let at_once = one.at_once in
         record {
-          frames = (asks 60160 u m moment p ready one).packets;
-          read = carrying_read plan timing stays b u m (message 60160 u m moment p ready one) k;
+          frames = (asks 60160 u m release p ready one).packets;
+          read = carrying_read plan timing stays b u m (message 60160 u m release p ready one) k;
           at_most = one.length;
           bits_at_most = omega (arith, few);
           turns = omega arith;
-          moment_first = omega (arith, at_once);
-          late_at_most = omega (arith, at_once);
+          release_first = omega (arith, at_once);
+          jitter_at_most = omega (arith, at_once);
           paced = refl;
           least = between.0;
           last = between.1;
           greatest = between.1;
           sender = u;
           sends = refl;
-          planned_sender = unit_planned plan timing stays b u m (message 60160 u m moment p ready one);
+          planned_sender = unit_planned plan timing stays b u m (message 60160 u m release p ready one);
           of_sender = λ any. rw (any, eq-eqb u u refl) refl;
-          of_any = λ counts told. of_unit_alone 60160 u m moment p ready one (Carrying u m k) refl refl counts told;
+          of_any = λ counts told. of_unit_alone 60160 u m release p ready one (Carrying u m k) refl refl counts told;
         }
 
-    pub known : (source : Source) (moment p : ℕ) → s.queued p ≤ s.start p → IsFrameOf plan timing s held b source moment p → IsKnown s source moment p
-    known (Single f) moment p ready one = single_known f moment p ready one
-    known (InSession f part) moment p ready one = session_known f part moment p ready one
-    known (Asking r) moment p ready one = request_known r moment p ready one
-    known (Announcing u m) moment p ready one = announcing_known u m moment p ready one
-    known (Carrying u m k) moment p ready one = carrying_known u m k moment p ready one.0
+    pub known : (source : Source) (release p : ℕ) → s.queued p ≤ s.start p → IsFrameOf plan timing s held b source release p → IsKnown s source release p
+    known (Single f) release p ready one = single_known f release p ready one
+    known (InSession f part) release p ready one = session_known f part release p ready one
+    known (Asking r) release p ready one = request_known r release p ready one
+    known (Announcing u m) release p ready one = announcing_known u m release p ready one
+    known (Carrying u m k) release p ready one = carrying_known u m k release p ready one.0
 
   -- ---- of two frames
 
@@ -511,8 +511,8 @@ module _ (plan : Plan) (timing : Timing) (stays : UnitPlan → Bool) where
 
   module _ (s : Schedule) (held : Held) (b : Broadcasts) (messages : (u m : ℕ) → m < b.count u → IsMessageToAll plan timing b u m) where
     -- a flow has short messages alone or long ones
-    short_or_long : (f moment other p q : ℕ) (part : Part) → IsSingleFrame plan timing s held f moment p → IsSessionFrame plan timing s held f part other q → ⊥
-    short_or_long f moment other p q part one two =
+    short_or_long : (f release other p q : ℕ) (part : Part) → IsSingleFrame plan timing s held f release p → IsSessionFrame plan timing s held f part other q → ⊥
+    short_or_long f release other p q part one two =
         let flow : one.flow ≡ two.flow = same_Some _ _ (sym one.its ∙ two.its) in
         let group : one.group ≡ two.group =
         same_Some _ _ (sym one.of ∙ (ap (λ (g : FlowPlan). slice_get plan.groups.items g.group) flow ∙ two.of)) in
@@ -525,15 +525,15 @@ module _ (plan : Plan) (timing : Timing) (stays : UnitPlan → Bool) where
     flow_first : (f : ℕ) (flow : FlowPlan) (r n : ℕ) → slice_get plan.flows.items f ≡ Some flow → f ≡ 2 * length plan.flows.items + (n + r) → ⊥
     flow_first f flow r n its same = let below = slice_get_within plan.flows.items f flow its in omega (arith, same, below)
 
-    single_first : (f r moment p : ℕ) → IsSingleFrame plan timing s held f moment p → f ≡ source_place plan (Asking r) → ⊥
-    single_first f r moment p one same = flow_first f one.flow r (2 * units_told plan.flows.items units) one.its same
+    single_first : (f r release p : ℕ) → IsSingleFrame plan timing s held f release p → f ≡ source_place plan (Asking r) → ⊥
+    single_first f r release p one same = flow_first f one.flow r (2 * units_told plan.flows.items units) one.its same
 
-    session_first : (f r : ℕ) (part : Part) (moment p : ℕ) → IsSessionFrame plan timing s held f part moment p → f ≡ source_place plan (Asking r) → ⊥
-    session_first f r part moment p one same = flow_first f one.flow r (2 * units_told plan.flows.items units) one.its same
+    session_first : (f r : ℕ) (part : Part) (release p : ℕ) → IsSessionFrame plan timing s held f part release p → f ≡ source_place plan (Asking r) → ⊥
+    session_first f r part release p one same = flow_first f one.flow r (2 * units_told plan.flows.items units) one.its same
 
-    parts_alike : (f g : ℕ) (a b : Part) (moment other p q : ℕ) → f ≡ g → IsSessionFrame plan timing s held f a moment p
+    parts_alike : (f g : ℕ) (a b : Part) (release other p q : ℕ) → f ≡ g → IsSessionFrame plan timing s held f a release p
         → IsSessionFrame plan timing s held g b other q → source_turn plan (InSession f a) ≡ source_turn plan (InSession g b) → a ≡ b
-    parts_alike f g a b moment other p q place one two turn =
+    parts_alike f g a b release other p q place one two turn =
         let flow : one.flow ≡ two.flow = same_Some _ _ (sym one.its ∙ (ap (slice_get plan.flows.items) place ∙ two.its)) in
         let group : one.group ≡ two.group =
         same_Some _ _ (sym one.of ∙ (ap (λ (h : FlowPlan). slice_get plan.groups.items h.group) flow ∙ two.of)) in
@@ -544,56 +544,56 @@ module _ (plan : Plan) (timing : Timing) (stays : UnitPlan → Bool) where
         (ap (λ (n : ℕ). turn_of_part n a) (sym first) ∙ (turn ∙ ap (λ (n : ℕ). turn_of_part n b) second))
 
     -- packets stand behind flows
-    pub of_packets : (a : Source) (u m k moment p : ℕ) → IsFrameOf plan timing s held b a moment p → m < b.count u → source_place plan a ≡ source_place plan (Carrying u m k)
+    pub of_packets : (a : Source) (u m k release p : ℕ) → IsFrameOf plan timing s held b a release p → m < b.count u → source_place plan a ≡ source_place plan (Carrying u m k)
         → (n : ℕ) × (j : ℕ) × (a ≡ Carrying u n j)
-    of_packets (Single f) u m k moment p one below place = absurd (flow_first f one.flow 0 u one.its (place ∙ omega arith))
-    of_packets (InSession f part) u m k moment p one below place = absurd (flow_first f one.flow 0 u one.its (place ∙ omega arith))
-    of_packets (Asking r) u m k moment p one below place = absurd (let told = unit_told plan timing stays b u m (messages u m below) in omega (arith, place, told))
-    of_packets (Announcing v n) u m k moment p one below place = absurd (let told = unit_told plan timing stays b u m (messages u m below) in omega (arith, place, told))
-    of_packets (Carrying v n j) u m k moment p one below place = (n, j, ap (λ (x : ℕ). Carrying x n j) (omega (arith, place)))
+    of_packets (Single f) u m k release p one below place = absurd (flow_first f one.flow 0 u one.its (place ∙ omega arith))
+    of_packets (InSession f part) u m k release p one below place = absurd (flow_first f one.flow 0 u one.its (place ∙ omega arith))
+    of_packets (Asking r) u m k release p one below place = absurd (let told = unit_told plan timing stays b u m (messages u m below) in omega (arith, place, told))
+    of_packets (Announcing v n) u m k release p one below place = absurd (let told = unit_told plan timing stays b u m (messages u m below) in omega (arith, place, told))
+    of_packets (Carrying v n j) u m k release p one below place = (n, j, ap (λ (x : ℕ). Carrying x n j) (omega (arith, place)))
 
     -- and announcements behind them
-    pub of_announcements : (a : Source) (u m moment p : ℕ) → IsFrameOf plan timing s held b a moment p → m < b.count u
+    pub of_announcements : (a : Source) (u m release p : ℕ) → IsFrameOf plan timing s held b a release p → m < b.count u
         → source_place plan a ≡ source_place plan (Announcing u m) → (n : ℕ) × (a ≡ Announcing u n)
-    of_announcements (Single f) u m moment p one below place =
+    of_announcements (Single f) u m release p one below place =
         absurd (flow_first f one.flow (units_told plan.flows.items units) u one.its (place ∙ omega arith))
-    of_announcements (InSession f part) u m moment p one below place =
+    of_announcements (InSession f part) u m release p one below place =
         absurd (flow_first f one.flow (units_told plan.flows.items units) u one.its (place ∙ omega arith))
-    of_announcements (Asking r) u m moment p one below place = absurd (let told = unit_told plan timing stays b u m (messages u m below) in omega (arith, place, told))
-    of_announcements (Announcing v n) u m moment p one below place = (n, ap (λ (x : ℕ). Announcing x n) (omega (arith, place)))
-    of_announcements (Carrying v n j) u m moment p one below place =
+    of_announcements (Asking r) u m release p one below place = absurd (let told = unit_told plan timing stays b u m (messages u m below) in omega (arith, place, told))
+    of_announcements (Announcing v n) u m release p one below place = (n, ap (λ (x : ℕ). Announcing x n) (omega (arith, place)))
+    of_announcements (Carrying v n j) u m release p one below place =
         absurd (let told = unit_told plan timing stays b v n (messages v n one.0.known) in omega (arith, place, told))
 
-    never_announced : (a : Source) (u m moment p : ℕ) → ((n : ℕ) → a ≡ Announcing u n → ⊥) → IsFrameOf plan timing s held b a moment p → m < b.count u
+    never_announced : (a : Source) (u m release p : ℕ) → ((n : ℕ) → a ≡ Announcing u n → ⊥) → IsFrameOf plan timing s held b a release p → m < b.count u
         → source_place plan a ≡ source_place plan (Announcing u m) → ⊥
-    never_announced a u m moment p never one below place = let (n, is) = of_announcements a u m moment p one below place in never n is
+    never_announced a u m release p never one below place = let (n, is) = of_announcements a u m release p one below place in never n is
 
-    never_packet : (a : Source) (u m k moment p : ℕ) → ((n j : ℕ) → a ≡ Carrying u n j → ⊥) → IsFrameOf plan timing s held b a moment p → m < b.count u
+    never_packet : (a : Source) (u m k release p : ℕ) → ((n j : ℕ) → a ≡ Carrying u n j → ⊥) → IsFrameOf plan timing s held b a release p → m < b.count u
         → source_place plan a ≡ source_place plan (Carrying u m k) → ⊥
-    never_packet a u m k moment p never one below place = let (n, j, is) = of_packets a u m k moment p one below place in never n j is
+    never_packet a u m k release p never one below place = let (n, j, is) = of_packets a u m k release p one below place in never n j is
 
     -- two frames at one place with one turn are of one source, but those of long messages to all
-    pub one_source : (x y : Source) (moment other p q : ℕ) → HasPace x → IsFrameOf plan timing s held b x moment p → IsFrameOf plan timing s held b y other q
+    pub one_source : (x y : Source) (release other p q : ℕ) → HasPace x → IsFrameOf plan timing s held b x release p → IsFrameOf plan timing s held b y other q
         → source_place plan x ≡ source_place plan y → source_turn plan x ≡ source_turn plan y → x ≡ y
-    one_source (Single f) (Single g) moment other p q paced one two place turn = ap Single place
-    one_source (Single f) (InSession g part) moment other p q paced one two place turn =
-        absurd (short_or_long f moment other p q part one (subst (λ (h : ℕ). IsSessionFrame plan timing s held h part other q) (sym place) two))
-    one_source (Single f) (Asking r) moment other p q paced one two place turn = absurd (single_first f r moment p one place)
-    one_source (InSession f part) (Single g) moment other p q paced one two place turn =
-        absurd (short_or_long g other moment q p part two (subst (λ (h : ℕ). IsSessionFrame plan timing s held h part moment p) place one))
-    one_source (InSession f a) (InSession g b) moment other p q paced one two place turn =
-        ap (λ (h : ℕ). InSession h a) place ∙ ap (InSession g) (parts_alike f g a b moment other p q place one two turn)
-    one_source (InSession f part) (Asking r) moment other p q paced one two place turn = absurd (session_first f r part moment p one place)
-    one_source (Asking r) (Single g) moment other p q paced one two place turn = absurd (single_first g r other q two (sym place))
-    one_source (Asking r) (InSession g part) moment other p q paced one two place turn = absurd (session_first g r part other q two (sym place))
-    one_source (Asking r) (Asking k) moment other p q paced one two place turn = ap Asking (omega (arith, place))
-    one_source (Announcing u m) y moment other p q paced one two place turn = absurd paced
-    one_source (Carrying u m k) y moment other p q paced one two place turn = absurd paced
-    one_source (Single f) (Announcing u m) moment other p q paced one two place turn = absurd (never_announced (Single f) u m moment p (λ n is. cc) one two.known place)
-    one_source (Single f) (Carrying u m k) moment other p q paced one two place turn = absurd (never_packet (Single f) u m k moment p (λ n j is. cc) one two.0.known place)
-    one_source (InSession f part) (Announcing u m) moment other p q paced one two place turn =
-        absurd (never_announced (InSession f part) u m moment p (λ n is. cc) one two.known place)
-    one_source (InSession f part) (Carrying u m k) moment other p q paced one two place turn =
-        absurd (never_packet (InSession f part) u m k moment p (λ n j is. cc) one two.0.known place)
-    one_source (Asking r) (Announcing u m) moment other p q paced one two place turn = absurd (never_announced (Asking r) u m moment p (λ n is. cc) one two.known place)
-    one_source (Asking r) (Carrying u m k) moment other p q paced one two place turn = absurd (never_packet (Asking r) u m k moment p (λ n j is. cc) one two.0.known place)
+    one_source (Single f) (Single g) release other p q paced one two place turn = ap Single place
+    one_source (Single f) (InSession g part) release other p q paced one two place turn =
+        absurd (short_or_long f release other p q part one (subst (λ (h : ℕ). IsSessionFrame plan timing s held h part other q) (sym place) two))
+    one_source (Single f) (Asking r) release other p q paced one two place turn = absurd (single_first f r release p one place)
+    one_source (InSession f part) (Single g) release other p q paced one two place turn =
+        absurd (short_or_long g other release q p part two (subst (λ (h : ℕ). IsSessionFrame plan timing s held h part release p) place one))
+    one_source (InSession f a) (InSession g b) release other p q paced one two place turn =
+        ap (λ (h : ℕ). InSession h a) place ∙ ap (InSession g) (parts_alike f g a b release other p q place one two turn)
+    one_source (InSession f part) (Asking r) release other p q paced one two place turn = absurd (session_first f r part release p one place)
+    one_source (Asking r) (Single g) release other p q paced one two place turn = absurd (single_first g r other q two (sym place))
+    one_source (Asking r) (InSession g part) release other p q paced one two place turn = absurd (session_first g r part other q two (sym place))
+    one_source (Asking r) (Asking k) release other p q paced one two place turn = ap Asking (omega (arith, place))
+    one_source (Announcing u m) y release other p q paced one two place turn = absurd paced
+    one_source (Carrying u m k) y release other p q paced one two place turn = absurd paced
+    one_source (Single f) (Announcing u m) release other p q paced one two place turn = absurd (never_announced (Single f) u m release p (λ n is. cc) one two.known place)
+    one_source (Single f) (Carrying u m k) release other p q paced one two place turn = absurd (never_packet (Single f) u m k release p (λ n j is. cc) one two.0.known place)
+    one_source (InSession f part) (Announcing u m) release other p q paced one two place turn =
+        absurd (never_announced (InSession f part) u m release p (λ n is. cc) one two.known place)
+    one_source (InSession f part) (Carrying u m k) release other p q paced one two place turn =
+        absurd (never_packet (InSession f part) u m k release p (λ n j is. cc) one two.0.known place)
+    one_source (Asking r) (Announcing u m) release other p q paced one two place turn = absurd (never_announced (Asking r) u m release p (λ n is. cc) one two.known place)
+    one_source (Asking r) (Carrying u m k) release other p q paced one two place turn = absurd (never_packet (Asking r) u m k release p (λ n j is. cc) one two.0.known place)

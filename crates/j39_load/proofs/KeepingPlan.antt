@@ -6,7 +6,7 @@ use Rattle.std.proofs.lemmas.Bool.{cases_Bool, cases_eq, cases_lt, eq-eqb, eqb-t
 use Rattle.std.proofs.lemmas.Option.{same_Some, slice_get_within}
 use Rattle.std.specs.List.{slice_get}
 use Rattle.j39_findings.specs.Findings.{Clean}
-use Rattle.j39_findings.specs.Standing.{TellsWhoStays}
+use Rattle.j39_findings.specs.Standing.{DecidesWhoStays}
 use Rattle.j39_network.specs.declared.plan.Plan.{Plan}
 use Rattle.j39_network.specs.declared.plan.flow_plan.FlowPlan.{FlowPlan}
 use Rattle.j39_network.specs.declared.plan.group_plan.GroupPlan.{GroupPlan}
@@ -32,59 +32,59 @@ use Rattle.j39_timing.specs.TimedFrames.{Schedule, IsLegal}
 use Rattle.j39_timing.specs.declared.stream.Stream.{Stream}
 use Rattle.j39_timing.specs.Traffic.{AreAsWanted, IsQueuedAt, may_share}
 
-module _ (plan : Plan) (timing : Timing) (stays : UnitPlan → Bool) (tells : TellsWhoStays plan stays) (clean : Clean plan) (s : Schedule)
+module _ (plan : Plan) (timing : Timing) (stays : UnitPlan → Bool) (tells : DecidesWhoStays plan stays) (clean : Clean plan) (s : Schedule)
     (queued_first : (p : ℕ) → p < s.count → s.queued p ≤ s.start p) (planned : ℕ → Bool) (sent : FrameSources) (held : Held)
     (keeps : KeepsToPlan plan timing s planned sent held) where
   -- ---- a planned frame
 
   module _ (p : ℕ) (in_p : p < s.count) (is : planned p ≡ true) where
-    pub of_source : IsKnown plan timing stays s (sent.source p) (sent.moment p) p
-    of_source = known plan timing stays tells s held keeps.held_by_plan keeps.held_apart sent.broadcasts keeps.broadcasts.messages (sent.source p) (sent.moment p) p (queued_first p in_p)
+    pub of_source : IsKnown plan timing stays s (sent.source p) (sent.release p) p
+    of_source = known plan timing stays tells s held keeps.held_by_plan keeps.held_apart sent.broadcasts keeps.broadcasts.messages (sent.source p) (sent.release p) p (queued_first p in_p)
         (keeps.frames p in_p is)
 
     pub at_its_place : planned_at (all plan timing stays) (source_place plan (sent.source p)) ≡ of_source.frames
-    at_its_place = here plan timing stays s (sent.source p) (sent.moment p) p of_source
+    at_its_place = here plan timing stays s (sent.source p) (sent.release p) p of_source
 
     pub keeps_stream : KeepsStream s (traffic plan timing stays).count (traffic plan timing stays).stream (origins_of plan sent) p
     keeps_stream = record {
-      known = inside plan timing stays s (sent.source p) (sent.moment p) p of_source;
+      known = inside plan timing stays s (sent.source p) (sent.release p) p of_source;
       bits_at_most = subst (λ (f : FlowFrames). s.bits p ≤ f.stream.bits) (sym at_its_place) of_source.bits_at_most;
       turns = subst (λ (f : FlowFrames). (origins_of plan sent).turn p < f.stream.frames) (sym at_its_place) of_source.turns;
-      moment_first = of_source.moment_first;
-      late_at_most = subst (λ (f : FlowFrames). s.queued p ≤ sent.moment p + f.stream.late) (sym at_its_place) of_source.late_at_most;
+      release_first = of_source.release_first;
+      jitter_at_most = subst (λ (f : FlowFrames). s.queued p ≤ sent.release p + f.stream.jitter) (sym at_its_place) of_source.jitter_at_most;
     }
 
   -- ---- streams
 
-  -- of one source, but of long messages to all, the moments are a period apart
+  -- of one source, but of long messages to all, the releases are a period apart
   by_pace : (p q : ℕ) → p < s.count → q < s.count → p ≢ q → planned p ≡ true → planned q ≡ true → sent.source p ≡ sent.source q → (stream : Stream)
       → IsPacedBy plan timing stays (sent.source p) stream
-      → (sent.moment p + stream.period ≤ sent.moment q) ⊎ (sent.moment q + stream.period ≤ sent.moment p)
+      → (sent.release p + stream.period ≤ sent.release q) ⊎ (sent.release q + stream.period ≤ sent.release p)
   by_pace p q in_p in_q other is_p is_q one stream told =
       let period = told.period in
       elim (keeps.apart p q told.ms in_p in_q other is_p is_q one told.every) [
-        | inl before ↦ inl (let bits = behind_bits timing.bitrate told.ms (sent.moment p) (sent.moment q) before in omega (arith, bits, period))
-        | inr after ↦ inr (let bits = behind_bits timing.bitrate told.ms (sent.moment q) (sent.moment p) after in omega (arith, bits, period))
+        | inl before ↦ inl (let bits = behind_bits timing.bitrate told.ms (sent.release p) (sent.release q) before in omega (arith, bits, period))
+        | inr after ↦ inr (let bits = behind_bits timing.bitrate told.ms (sent.release q) (sent.release p) after in omega (arith, bits, period))
       ]
 
   module _ (p q : ℕ) (in_p : p < s.count) (in_q : q < s.count) (other : p ≢ q) (is_p : planned p ≡ true) (is_q : planned q ≡ true) where
-    frame_p : IsFrameOf plan timing s held sent.broadcasts (sent.source p) (sent.moment p) p
+    frame_p : IsFrameOf plan timing s held sent.broadcasts (sent.source p) (sent.release p) p
     frame_p = keeps.frames p in_p is_p
 
-    frame_q : IsFrameOf plan timing s held sent.broadcasts (sent.source q) (sent.moment q) q
+    frame_q : IsFrameOf plan timing s held sent.broadcasts (sent.source q) (sent.release q) q
     frame_q = keeps.frames q in_q is_q
 
     -- announcements of a unit
     announced_apart : (u m n : ℕ) → sent.source p ≡ Announcing u m → sent.source q ≡ Announcing u n → (stream : Stream)
-        → IsPaced plan timing stays (Announcing u m) stream → (sent.moment p + stream.period ≤ sent.moment q) ⊎ (sent.moment q + stream.period ≤ sent.moment p)
+        → IsPaced plan timing stays (Announcing u m) stream → (sent.release p + stream.period ≤ sent.release q) ⊎ (sent.release q + stream.period ≤ sent.release p)
     announced_apart u m n first second stream paced =
-        let one = subst (λ (x : Source). IsFrameOf plan timing s held sent.broadcasts x (sent.moment p) p) first frame_p in
-        let two = subst (λ (x : Source). IsFrameOf plan timing s held sent.broadcasts x (sent.moment q) q) second frame_q in
+        let one = subst (λ (x : Source). IsFrameOf plan timing s held sent.broadcasts x (sent.release p) p) first frame_p in
+        let two = subst (λ (x : Source). IsFrameOf plan timing s held sent.broadcasts x (sent.release q) q) second frame_q in
         let period = ap (λ (x : Stream). x.period) paced in
         let at_p = keeps.broadcasts.announced p u m in_p is_p first in
         let at_q = keeps.broadcasts.announced q u n in_q is_q second in
-        let moment_p = one.at_once in
-        let moment_q = two.at_once in
+        let release_p = one.at_once in
+        let release_q = two.at_once in
         elim (cases_eq m n) [
           | inl same ↦ absurd (other (keeps.broadcasts.once p q u m in_p in_q is_p is_q first (second ∙ ap (λ (k : ℕ). Announcing u k) (sym same))))
           | inr differ ↦ elim (cases_lt m n) [
@@ -95,7 +95,7 @@ module _ (plan : Plan) (timing : Timing) (stays : UnitPlan → Bool) (tells : Te
                 ≤ sent.broadcasts.packets u m * bits_of_ms timing timing.broadcast_gap =
                 mul-le-mul_right (bits_of_ms timing timing.broadcast_gap)
                 (fewest plan timing stays sent.broadcasts u m (keeps.broadcasts.messages u m one.known)) in
-                inl (omega (arith, gap, few, period, at_p, at_q, moment_p, moment_q))
+                inl (omega (arith, gap, few, period, at_p, at_q, release_p, release_q))
             | inr more ↦
                 let gap = gaps_bits timing.bitrate (sent.broadcasts.packets u n) timing.broadcast_gap (sent.broadcasts.announced u n) (sent.broadcasts.announced u m)
                 (keeps.broadcasts.in_turn u n m (omega (arith, more, differ)) one.known) in
@@ -103,48 +103,48 @@ module _ (plan : Plan) (timing : Timing) (stays : UnitPlan → Bool) (tells : Te
                 ≤ sent.broadcasts.packets u n * bits_of_ms timing timing.broadcast_gap =
                 mul-le-mul_right (bits_of_ms timing timing.broadcast_gap)
                 (fewest plan timing stays sent.broadcasts u n (keeps.broadcasts.messages u n two.known)) in
-                inr (omega (arith, gap, few, period, at_p, at_q, moment_p, moment_q))
+                inr (omega (arith, gap, few, period, at_p, at_q, release_p, release_q))
           ]
         ]
 
     -- packets of a unit
     carried_apart : (u m n j k : ℕ) → sent.source p ≡ Carrying u m j → sent.source q ≡ Carrying u n k → (stream : Stream)
-        → IsPaced plan timing stays (Carrying u m j) stream → (sent.moment p + stream.period ≤ sent.moment q) ⊎ (sent.moment q + stream.period ≤ sent.moment p)
+        → IsPaced plan timing stays (Carrying u m j) stream → (sent.release p + stream.period ≤ sent.release q) ⊎ (sent.release q + stream.period ≤ sent.release p)
     carried_apart u m n j k first second stream paced =
-        let one = subst (λ (x : Source). IsFrameOf plan timing s held sent.broadcasts x (sent.moment p) p) first frame_p in
-        let two = subst (λ (x : Source). IsFrameOf plan timing s held sent.broadcasts x (sent.moment q) q) second frame_q in
+        let one = subst (λ (x : Source). IsFrameOf plan timing s held sent.broadcasts x (sent.release p) p) first frame_p in
+        let two = subst (λ (x : Source). IsFrameOf plan timing s held sent.broadcasts x (sent.release q) q) second frame_q in
         let period = ap (λ (x : Stream). x.period) paced in
-        let moment_p = one.0.at_once in
-        let moment_q = two.0.at_once in
+        let release_p = one.0.at_once in
+        let release_q = two.0.at_once in
         elim (keeps.broadcasts.gaps p q u m n j k in_p in_q other is_p is_q first second) [
           | inl before ↦
-              inl (let gap = behind_bits timing.bitrate timing.broadcast_gap (s.queued p) (s.queued q) before in omega (arith, gap, period, moment_p, moment_q))
+              inl (let gap = behind_bits timing.bitrate timing.broadcast_gap (s.queued p) (s.queued q) before in omega (arith, gap, period, release_p, release_q))
           | inr after ↦
-              inr (let gap = behind_bits timing.bitrate timing.broadcast_gap (s.queued q) (s.queued p) after in omega (arith, gap, period, moment_p, moment_q))
+              inr (let gap = behind_bits timing.bitrate timing.broadcast_gap (s.queued q) (s.queued p) after in omega (arith, gap, period, release_p, release_q))
         ]
 
     -- of what comes by its own pace
     alike : (x : Source) → HasPace plan timing stays x → sent.source p ≡ x → source_place plan x ≡ source_place plan (sent.source q) → source_turn plan x ≡ source_turn plan (sent.source q)
-        → (stream : Stream) → IsPacedBy plan timing stays x stream → (sent.moment p + stream.period ≤ sent.moment q) ⊎ (sent.moment q + stream.period ≤ sent.moment p)
+        → (stream : Stream) → IsPacedBy plan timing stays x stream → (sent.release p + stream.period ≤ sent.release q) ⊎ (sent.release q + stream.period ≤ sent.release p)
     alike x pace first place turn stream paced =
         let one : x ≡ sent.source q =
-        one_source plan timing stays s held sent.broadcasts keeps.broadcasts.messages x (sent.source q) (sent.moment p) (sent.moment q) p q pace
-        (subst (λ (y : Source). IsFrameOf plan timing s held sent.broadcasts y (sent.moment p) p) first frame_p) frame_q place turn in
+        one_source plan timing stays s held sent.broadcasts keeps.broadcasts.messages x (sent.source q) (sent.release p) (sent.release q) p q pace
+        (subst (λ (y : Source). IsFrameOf plan timing s held sent.broadcasts y (sent.release p) p) first frame_p) frame_q place turn in
         by_pace p q in_p in_q other is_p is_q (first ∙ one) stream (subst (λ (y : Source). IsPacedBy plan timing stays y stream) (sym first) paced)
 
     by_source : (x : Source) → sent.source p ≡ x → source_place plan x ≡ source_place plan (sent.source q) → source_turn plan x ≡ source_turn plan (sent.source q) → (stream : Stream)
-        → IsPaced plan timing stays x stream → (sent.moment p + stream.period ≤ sent.moment q) ⊎ (sent.moment q + stream.period ≤ sent.moment p)
+        → IsPaced plan timing stays x stream → (sent.release p + stream.period ≤ sent.release q) ⊎ (sent.release q + stream.period ≤ sent.release p)
     by_source (Single f) first place turn stream paced = alike (Single f) tt first place turn stream paced
     by_source (InSession f part) first place turn stream paced = alike (InSession f part) tt first place turn stream paced
     by_source (Asking r) first place turn stream paced = alike (Asking r) tt first place turn stream paced
     by_source (Announcing u m) first place turn stream paced =
-        let one = subst (λ (x : Source). IsFrameOf plan timing s held sent.broadcasts x (sent.moment p) p) first frame_p in
-        let (n, second) = of_announcements plan timing stays s held sent.broadcasts keeps.broadcasts.messages (sent.source q) u m (sent.moment q) q frame_q one.known
+        let one = subst (λ (x : Source). IsFrameOf plan timing s held sent.broadcasts x (sent.release p) p) first frame_p in
+        let (n, second) = of_announcements plan timing stays s held sent.broadcasts keeps.broadcasts.messages (sent.source q) u m (sent.release q) q frame_q one.known
         (sym place) in
         announced_apart u m n first second stream paced
     by_source (Carrying u m j) first place turn stream paced =
-        let one = subst (λ (x : Source). IsFrameOf plan timing s held sent.broadcasts x (sent.moment p) p) first frame_p in
-        let (n, k, second) = of_packets plan timing stays s held sent.broadcasts keeps.broadcasts.messages (sent.source q) u m j (sent.moment q) q frame_q one.0.known
+        let one = subst (λ (x : Source). IsFrameOf plan timing s held sent.broadcasts x (sent.release p) p) first frame_p in
+        let (n, k, second) = of_packets plan timing stays s held sent.broadcasts keeps.broadcasts.messages (sent.source q) u m j (sent.release q) q frame_q one.0.known
         (sym place) in
         carried_apart u m n j k first second stream paced
 
@@ -179,9 +179,9 @@ module _ (plan : Plan) (timing : Timing) (stays : UnitPlan → Bool) (tells : Te
       ])
 
   -- at the place of a single frame stand its flow's frames
-  pub there : (f moment p : ℕ) (one : IsSingleFrame plan timing s held f moment p)
+  pub there : (f release p : ℕ) (one : IsSingleFrame plan timing s held f release p)
       → planned_at (all plan timing stays) f ≡ own plan timing stays f one.flow one.pace one.group one.its one.paced one.of
-  there f moment p one = with_damage timing (frames_asked (asked_of timing plan stays)) f
+  there f release p one = with_damage timing (frames_asked (asked_of timing plan stays)) f
       (own plan timing stays f one.flow one.pace one.group one.its one.paced one.of)
       (read plan timing stays f one.flow one.pace one.group one.its one.paced one.of one.short)
 
@@ -220,8 +220,8 @@ module _ (plan : Plan) (timing : Timing) (stays : UnitPlan → Bool) (tells : Te
 
   module _ (i : ℕ) (single : IsSingleFlow plan i) where
     -- no frame of a long message is of the flow, or of a twin
-    no_session : (f : ℕ) (part : Part) (moment p : ℕ) → IsSessionFrame plan timing s held f part moment p → may_share (traffic plan timing stays) i f ≡ true → ⊥
-    no_session f part moment p one shares =
+    no_session : (f : ℕ) (part : Part) (release p : ℕ) → IsSessionFrame plan timing s held f part release p → may_share (traffic plan timing stays) i f ≡ true → ⊥
+    no_session f part release p one shares =
         elim (or_cases (eqb f i) (are_twins (planned_at (all plan timing stays) i) (planned_at (all plan timing stays) f)) shares) [
           | inl same ↦
               let place : f ≡ i = eqb-true f i same in
@@ -240,8 +240,8 @@ module _ (plan : Plan) (timing : Timing) (stays : UnitPlan → Bool) (tells : Te
         ]
 
     -- and no request
-    no_asking : (r moment p : ℕ) → IsFrameOf plan timing s held sent.broadcasts (Asking r) moment p → may_share (traffic plan timing stays) i (source_place plan (Asking r)) ≡ true → ⊥
-    no_asking r moment p one shares =
+    no_asking : (r release p : ℕ) → IsFrameOf plan timing s held sent.broadcasts (Asking r) release p → may_share (traffic plan timing stays) i (source_place plan (Asking r)) ≡ true → ⊥
+    no_asking r release p one shares =
         elim (or_cases (eqb (source_place plan (Asking r)) i) (are_twins (planned_at (all plan timing stays) i) (planned_at (all plan timing stays) (source_place plan (Asking r)))) shares) [
           | inl same ↦
               let place : source_place plan (Asking r) ≡ i = eqb-true (source_place plan (Asking r)) i same in
@@ -269,51 +269,51 @@ module _ (plan : Plan) (timing : Timing) (stays : UnitPlan → Bool) (tells : Te
         ]
 
     -- so it is a single one
-    pub of_single : (source : Source) (moment p : ℕ) → IsFrameOf plan timing s held sent.broadcasts source moment p
+    pub of_single : (source : Source) (release p : ℕ) → IsFrameOf plan timing s held sent.broadcasts source release p
         → may_share (traffic plan timing stays) i (source_place plan source) ≡ true → (f : ℕ) × (source ≡ Single f)
-    of_single (Single f) moment p one shares = (f, refl)
-    of_single (InSession f part) moment p one shares = absurd (no_session f part moment p one shares)
-    of_single (Asking r) moment p one shares = absurd (no_asking r moment p one shares)
-    of_single (Announcing u m) moment p one shares = absurd (no_unit (unit_asks plan timing stays sent.broadcasts u m (keeps.broadcasts.messages u m one.known)).announcements
+    of_single (Single f) release p one shares = (f, refl)
+    of_single (InSession f part) release p one shares = absurd (no_session f part release p one shares)
+    of_single (Asking r) release p one shares = absurd (no_asking r release p one shares)
+    of_single (Announcing u m) release p one shares = absurd (no_unit (unit_asks plan timing stays sent.broadcasts u m (keeps.broadcasts.messages u m one.known)).announcements
         (source_place plan (Announcing u m)) (units_told plan.flows.items plan.units.items + u)
         (announcing_read plan timing stays sent.broadcasts u m (keeps.broadcasts.messages u m one.known)) refl refl shares)
-    of_single (Carrying u m k) moment p one shares = absurd (no_unit (unit_asks plan timing stays sent.broadcasts u m (keeps.broadcasts.messages u m one.0.known)).packets
+    of_single (Carrying u m k) release p one shares = absurd (no_unit (unit_asks plan timing stays sent.broadcasts u m (keeps.broadcasts.messages u m one.0.known)).packets
         (source_place plan (Carrying u m k)) u (carrying_read plan timing stays sent.broadcasts u m (keeps.broadcasts.messages u m one.0.known) k) refl refl shares)
 
     -- what has the identifier of such a single frame is of the flow or a twin too
-    shared_by : (f moment p other q t : ℕ) (second : Source) → IsSingleFrame plan timing s held f moment p → IsFrameOf plan timing s held sent.broadcasts second other q
+    shared_by : (f release p other q t : ℕ) (second : Source) → IsSingleFrame plan timing s held f release p → IsFrameOf plan timing s held sent.broadcasts second other q
         → IsQueuedAt s p t → IsQueuedAt s q t → s.ident p ≡ s.ident q → may_share (traffic plan timing stays) i f ≡ true
         → may_share (traffic plan timing stays) i (source_place plan second) ≡ true
-    shared_by f moment p other q t (Single g) one two at_p at_q same shares =
-        elim (one_or_alike plan timing clean s held t (keeps.held_apart t) stays f g moment other p q one two at_p at_q same) [
+    shared_by f release p other q t (Single g) one two at_p at_q same shares =
+        elim (one_or_alike plan timing clean s held t (keeps.held_apart t) stays f g release other p q one two at_p at_q same) [
           | inl one_flow ↦ subst (λ (k : ℕ). may_share (traffic plan timing stays) i k ≡ true) one_flow shares
           | inr are ↦ twins_share i f g
-              (subst (λ (x : FlowFrames). AreAlike x (planned_at (all plan timing stays) g)) (sym (there f moment p one))
+              (subst (λ (x : FlowFrames). AreAlike x (planned_at (all plan timing stays) g)) (sym (there f release p one))
               (subst (AreAlike (own plan timing stays f one.flow one.pace one.group one.its one.paced one.of)) (sym (there g other q two)) are)) shares
         ]
-    shared_by f moment p other q t (InSession g part) one two at_p at_q same shares =
-        absurd (no_part plan timing clean s held t (keeps.held_apart t) f moment p one at_p (s.ident q) two.flow.sender two.receiver
+    shared_by f release p other q t (InSession g part) one two at_p at_q same shares =
+        absurd (no_part plan timing clean s held t (keeps.held_apart t) f release p one at_p (s.ident q) two.flow.sender two.receiver
         (part_made plan timing clean s held t (keeps.held_apart t) g part other q two at_q) same)
-    shared_by f moment p other q t (Asking r) one two at_p at_q same shares =
-        absurd (no_request plan timing clean s held t (keeps.held_apart t) f moment p one at_p (s.ident q) two.asked.sender two.asked.to
+    shared_by f release p other q t (Asking r) one two at_p at_q same shares =
+        absurd (no_request plan timing clean s held t (keeps.held_apart t) f release p one at_p (s.ident q) two.asked.sender two.asked.to
         (request_made plan timing clean s held t (keeps.held_apart t) r other q two at_q) same)
-    shared_by f moment p other q t (Announcing u m) one two at_p at_q same shares =
-        absurd (no_broadcast plan timing clean s held t (keeps.held_apart t) f moment p one at_p (s.ident q) 60416 u (inl refl)
+    shared_by f release p other q t (Announcing u m) one two at_p at_q same shares =
+        absurd (no_broadcast plan timing clean s held t (keeps.held_apart t) f release p one at_p (s.ident q) 60416 u (inl refl)
         (broadcast_made plan timing clean s held t (keeps.held_apart t) sent.broadcasts 60416 u m other q (inl refl) two at_q) same)
-    shared_by f moment p other q t (Carrying u m k) one two at_p at_q same shares =
-        absurd (no_broadcast plan timing clean s held t (keeps.held_apart t) f moment p one at_p (s.ident q) 60160 u (inr refl)
+    shared_by f release p other q t (Carrying u m k) one two at_p at_q same shares =
+        absurd (no_broadcast plan timing clean s held t (keeps.held_apart t) f release p one at_p (s.ident q) 60160 u (inr refl)
         (broadcast_made plan timing clean s held t (keeps.held_apart t) sent.broadcasts 60160 u m other q (inr refl) two.0 at_q) same)
 
     pub own_identifier : (p q t : ℕ) → p < s.count → q < s.count → t < s.now → planned p ≡ true
         → may_share (traffic plan timing stays) i (source_place plan (sent.source p)) ≡ true → IsQueuedAt s p t → IsQueuedAt s q t → s.ident p ≡ s.ident q
         → (planned q ≡ true) × (may_share (traffic plan timing stays) i (source_place plan (sent.source q)) ≡ true)
     own_identifier p q t in_p in_q seen is_p shares at_p at_q same =
-        let (f, source) = of_single (sent.source p) (sent.moment p) p (keeps.frames p in_p is_p) shares in
+        let (f, source) = of_single (sent.source p) (sent.release p) p (keeps.frames p in_p is_p) shares in
         elim (cases_Bool (planned q)) [
           | inl is_q ↦ (
             is_q,
-            shared_by f (sent.moment p) p (sent.moment q) q t (sent.source q)
-                (subst (λ (x : Source). IsFrameOf plan timing s held sent.broadcasts x (sent.moment p) p) source (keeps.frames p in_p is_p)) (keeps.frames q in_q is_q) at_p at_q same
+            shared_by f (sent.release p) p (sent.release q) q t (sent.source q)
+                (subst (λ (x : Source). IsFrameOf plan timing s held sent.broadcasts x (sent.release p) p) source (keeps.frames p in_p is_p)) (keeps.frames q in_q is_q) at_p at_q same
                 (subst (λ (x : Source). may_share (traffic plan timing stays) i (source_place plan x) ≡ true) source shares),
           )
           | inr not_q ↦ absurd (keeps.others_identifier p q t in_p in_q seen is_p (subst HasTime (sym source) tt) not_q at_p at_q same)
@@ -323,13 +323,13 @@ module _ (plan : Plan) (timing : Timing) (stays : UnitPlan → Bool) (tells : Te
     pub of_flow : (p : ℕ) (in_p : p < s.count) (is : planned p ≡ true) → source_place plan (sent.source p) ≡ i → sent.source p ≡ Single i
     of_flow p in_p is place =
         let shares : may_share (traffic plan timing stays) i (source_place plan (sent.source p)) ≡ true = or_left _ _ (eq-eqb (source_place plan (sent.source p)) i place) in
-        let (f, source) = of_single (sent.source p) (sent.moment p) p (keeps.frames p in_p is) shares in
+        let (f, source) = of_single (sent.source p) (sent.release p) p (keeps.frames p in_p is) shares in
         source ∙ ap Single (sym (ap (source_place plan) source) ∙ place)
 
     pub keeps_premises : AreFramesOfPlan timing (frames_asked (asked_of timing plan stays)) s planned (origins_of plan sent) i
     keeps_premises = premises_at i (λ p in_p is place. subst HasTime (sym (of_flow p in_p is place)) tt) own_identifier
 
-pub keeps_in_order : (plan : Plan) (timing : Timing) (stays : UnitPlan → Bool) → Clean plan → TellsWhoStays plan stays
+pub keeps_in_order : (plan : Plan) (timing : Timing) (stays : UnitPlan → Bool) → Clean plan → DecidesWhoStays plan stays
     → (s : Schedule) (planned : ℕ → Bool) (sent : FrameSources) (held : Held) (i : ℕ) → IsSingleFlow plan i → IsLegal s
     → KeepsToPlan plan timing s planned sent held → AreFramesOfPlan timing (frames_asked (asked_of timing plan stays)) s planned (origins_of plan sent) i
 keeps_in_order plan timing stays clean tells s planned sent held i single legal keeps =

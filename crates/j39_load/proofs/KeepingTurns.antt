@@ -5,7 +5,7 @@ use Rattle.std.proofs.lemmas.Bool.{and_parts, cases_Bool, eq-eqb, eqb-true, fals
 use Rattle.std.proofs.lemmas.List.{length-map}
 use Rattle.j39_id.specs.Ident.{identifier_of}
 use Rattle.j39_findings.specs.Findings.{Clean}
-use Rattle.j39_findings.specs.Standing.{TellsWhoStays}
+use Rattle.j39_findings.specs.Standing.{DecidesWhoStays}
 use Rattle.j39_network.specs.declared.plan.Plan.{Plan}
 use Rattle.j39_network.specs.declared.plan.timing.Timing.{Timing}
 use Rattle.j39_network.specs.declared.plan.unit_plan.UnitPlan.{UnitPlan}
@@ -61,51 +61,51 @@ numbered_by number u (Asking r) is = absurd is
 numbered_by number u (Announcing v m) is = sym is.1
 numbered_by number u (Carrying v m k) is = sym is.1
 
-module _ (plan : Plan) (timing : Timing) (stays : UnitPlan → Bool) (tells : TellsWhoStays plan stays) (clean : Clean plan) (s : Schedule)
+module _ (plan : Plan) (timing : Timing) (stays : UnitPlan → Bool) (tells : DecidesWhoStays plan stays) (clean : Clean plan) (s : Schedule)
     (queued_first : (p : ℕ) → p < s.count → s.queued p ≤ s.start p) (planned : ℕ → Bool) (sent : FrameSources) (held : Held)
     (keeps : KeepsToPlan plan timing s planned sent held) (turns : KeepsTurns s planned sent held) where
   -- what has such a number has this identifier
-  ident_of : (number u : ℕ) (x : Source) (moment p t : ℕ) → IsNumbered number u x → IsFrameOf plan timing s held sent.broadcasts x moment p → IsQueuedAt s p t
+  ident_of : (number u : ℕ) (x : Source) (release p t : ℕ) → IsNumbered number u x → IsFrameOf plan timing s held sent.broadcasts x release p → IsQueuedAt s p t
       → s.ident p ≡ identifier_of timing.transport_priority number 255 (held.address t u)
-  ident_of number u (Single f) moment p t is one queued = absurd is
-  ident_of number u (InSession f part) moment p t is one queued = absurd is
-  ident_of number u (Asking r) moment p t is one queued = absurd is
-  ident_of number u (Announcing v m) moment p t is one queued = one.identifier t queued
+  ident_of number u (Single f) release p t is one queued = absurd is
+  ident_of number u (InSession f part) release p t is one queued = absurd is
+  ident_of number u (Asking r) release p t is one queued = absurd is
+  ident_of number u (Announcing v m) release p t is one queued = one.identifier t queued
       ∙ (ap (λ (n : ℕ). identifier_of timing.transport_priority n 255 (held.address t v)) (sym is.0)
       ∙ ap (λ (w : ℕ). identifier_of timing.transport_priority number 255 (held.address t w)) (sym is.1))
-  ident_of number u (Carrying v m k) moment p t is one queued = one.0.identifier t queued
+  ident_of number u (Carrying v m k) release p t is one queued = one.0.identifier t queued
       ∙ (ap (λ (n : ℕ). identifier_of timing.transport_priority n 255 (held.address t v)) (sym is.0)
       ∙ ap (λ (w : ℕ). identifier_of timing.transport_priority number 255 (held.address t w)) (sym is.1))
 
   -- what has the identifier of such a frame is of the same unit, and has the same number
-  shared : (number u m moment p other q t : ℕ) (y : Source) → (number ≡ 60416) ⊎ (number ≡ 60160)
-      → IsBroadcastFrame timing s held sent.broadcasts number u m moment p → IsFrameOf plan timing s held sent.broadcasts y other q
+  shared : (number u m release p other q t : ℕ) (y : Source) → (number ≡ 60416) ⊎ (number ≡ 60160)
+      → IsBroadcastFrame timing s held sent.broadcasts number u m release p → IsFrameOf plan timing s held sent.broadcasts y other q
       → IsQueuedAt s p t → IsQueuedAt s q t → s.ident p ≡ s.ident q → IsNumbered number u y
-  shared number u m moment p other q t (Single g) either one two at_p at_q same =
+  shared number u m release p other q t (Single g) either one two at_p at_q same =
       absurd (no_broadcast plan timing clean s held t (keeps.held_apart t) g other q two at_q (s.ident p) number u either
-      (broadcast_made plan timing clean s held t (keeps.held_apart t) sent.broadcasts number u m moment p either one at_p) (sym same))
-  shared number u m moment p other q t (InSession g part) either one two at_p at_q same =
+      (broadcast_made plan timing clean s held t (keeps.held_apart t) sent.broadcasts number u m release p either one at_p) (sym same))
+  shared number u m release p other q t (InSession g part) either one two at_p at_q same =
       absurd (broadcast_or_part plan clean (held.on t) (held.address t) (keeps.held_apart t) (s.ident p) (s.ident q) u two.flow.sender two.receiver number
-      (broadcast_made plan timing clean s held t (keeps.held_apart t) sent.broadcasts number u m moment p either one at_p)
+      (broadcast_made plan timing clean s held t (keeps.held_apart t) sent.broadcasts number u m release p either one at_p)
       (part_made plan timing clean s held t (keeps.held_apart t) g part other q two at_q) same)
-  shared number u m moment p other q t (Asking r) either one two at_p at_q same =
+  shared number u m release p other q t (Asking r) either one two at_p at_q same =
       absurd (request_or_broadcast plan clean (held.on t) (held.address t) (keeps.held_apart t) (s.ident q) (s.ident p) two.asked.sender u number two.asked.to either
       (request_made plan timing clean s held t (keeps.held_apart t) r other q two at_q)
-      (broadcast_made plan timing clean s held t (keeps.held_apart t) sent.broadcasts number u m moment p either one at_p) (sym same))
-  shared number u m moment p other q t (Announcing v w) either one two at_p at_q same =
+      (broadcast_made plan timing clean s held t (keeps.held_apart t) sent.broadcasts number u m release p either one at_p) (sym same))
+  shared number u m release p other q t (Announcing v w) either one two at_p at_q same =
       one_sends plan clean (held.on t) (held.address t) (keeps.held_apart t) (s.ident p) (s.ident q) u v number 60416
-      (broadcast_made plan timing clean s held t (keeps.held_apart t) sent.broadcasts number u m moment p either one at_p)
+      (broadcast_made plan timing clean s held t (keeps.held_apart t) sent.broadcasts number u m release p either one at_p)
       (broadcast_made plan timing clean s held t (keeps.held_apart t) sent.broadcasts 60416 v w other q (inl refl) two at_q) same
-  shared number u m moment p other q t (Carrying v w k) either one two at_p at_q same =
+  shared number u m release p other q t (Carrying v w k) either one two at_p at_q same =
       one_sends plan clean (held.on t) (held.address t) (keeps.held_apart t) (s.ident p) (s.ident q) u v number 60160
-      (broadcast_made plan timing clean s held t (keeps.held_apart t) sent.broadcasts number u m moment p either one at_p)
+      (broadcast_made plan timing clean s held t (keeps.held_apart t) sent.broadcasts number u m release p either one at_p)
       (broadcast_made plan timing clean s held t (keeps.held_apart t) sent.broadcasts 60160 v w other q (inr refl) two.0 at_q) same
 
   -- a place at which such frames stand alone
   module _ (number u i : ℕ) (none : (planned_at (all plan timing stays) i).twin_ident ≡ None)
       (there : (x : Source) → IsNumbered number u x → source_place plan x ≡ i)
       (only : (p : ℕ) → p < s.count → planned p ≡ true → source_place plan (sent.source p) ≡ i
-      → (m : ℕ) × IsNumbered number u (sent.source p) × IsBroadcastFrame timing s held sent.broadcasts number u m (sent.moment p) p)
+      → (m : ℕ) × IsNumbered number u (sent.source p) × IsBroadcastFrame timing s held sent.broadcasts number u m (sent.release p) p)
       (either : (number ≡ 60416) ⊎ (number ≡ 60160)) where
     at_place_of : (j : ℕ) → may_share (traffic plan timing stays) i j ≡ true → j ≡ i
     at_place_of j shares = elim (or_cases (eqb j i) (are_twins (planned_at (all plan timing stays) i) (planned_at (all plan timing stays) j)) shares) [
@@ -120,7 +120,7 @@ module _ (plan : Plan) (timing : Timing) (stays : UnitPlan → Bool) (tells : Te
         let (m, is, one) = only p in_p is_p (at_place_of (source_place plan (sent.source p)) shares) in
         elim (cases_Bool (planned q)) [
           | inl is_q ↦
-              let place = there (sent.source q) (shared number u m (sent.moment p) p (sent.moment q) q t (sent.source q) either one (keeps.frames q in_q is_q) at_p at_q same) in
+              let place = there (sent.source q) (shared number u m (sent.release p) p (sent.release q) q t (sent.source q) either one (keeps.frames q in_q is_q) at_p at_q same) in
               (is_q, or_left _ _ (eq-eqb (source_place plan (sent.source q)) i place))
           | inr not_q ↦ absurd (keeps.others_identifier p q t in_p in_q seen is_p (numbered_timed number u (sent.source p) is) not_q at_p at_q same)
         ]
@@ -138,9 +138,9 @@ module _ (plan : Plan) (timing : Timing) (stays : UnitPlan → Bool) (tells : Te
         let same = turns.steady p q u in_p in_q is_p is_q (numbered_by number u (sent.source p) first) (numbered_by number u (sent.source q) second) before waits in
         let ready_p = queued_first p in_p in
         let ready_q = queued_first q in_q in
-        ident_of number u (sent.source p) (sent.moment p) p (s.queued p) first (keeps.frames p in_p is_p) (omega arith, ready_p)
+        ident_of number u (sent.source p) (sent.release p) p (s.queued p) first (keeps.frames p in_p is_p) (omega arith, ready_p)
         ∙ (ap (identifier_of timing.transport_priority number 255) same
-        ∙ sym (ident_of number u (sent.source q) (sent.moment q) q (s.queued q) second (keeps.frames q in_q is_q) (omega arith, ready_q)))
+        ∙ sym (ident_of number u (sent.source q) (sent.release q) q (s.queued q) second (keeps.frames q in_q is_q) (omega arith, ready_q)))
 
     in_turn : ComeInTurn timing (frames_asked (asked_of timing plan stays)) s planned (origins_of plan sent) i
     in_turn = record {
@@ -193,19 +193,19 @@ module _ (plan : Plan) (timing : Timing) (stays : UnitPlan → Bool) (tells : Te
     announcements_there (Carrying v n k) is = absurd (let number = is.0 in omega (arith, number))
 
     packets_only : (p : ℕ) → p < s.count → planned p ≡ true → source_place plan (sent.source p) ≡ source_place plan (Carrying u m 0)
-        → (n : ℕ) × IsNumbered 60160 u (sent.source p) × IsBroadcastFrame timing s held sent.broadcasts 60160 u n (sent.moment p) p
+        → (n : ℕ) × IsNumbered 60160 u (sent.source p) × IsBroadcastFrame timing s held sent.broadcasts 60160 u n (sent.release p) p
     packets_only p in_p is place =
-        let (n, k, source) = of_packets plan timing stays s held sent.broadcasts keeps.broadcasts.messages (sent.source p) u m 0 (sent.moment p) p
+        let (n, k, source) = of_packets plan timing stays s held sent.broadcasts keeps.broadcasts.messages (sent.source p) u m 0 (sent.release p) p
         (keeps.frames p in_p is) below place in
-        let one = subst (λ (x : Source). IsFrameOf plan timing s held sent.broadcasts x (sent.moment p) p) source (keeps.frames p in_p is) in
+        let one = subst (λ (x : Source). IsFrameOf plan timing s held sent.broadcasts x (sent.release p) p) source (keeps.frames p in_p is) in
         (n, subst (IsNumbered 60160 u) (sym source) (refl, refl), one.0)
 
     announcements_only : (p : ℕ) → p < s.count → planned p ≡ true → source_place plan (sent.source p) ≡ source_place plan (Announcing u m)
-        → (n : ℕ) × IsNumbered 60416 u (sent.source p) × IsBroadcastFrame timing s held sent.broadcasts 60416 u n (sent.moment p) p
+        → (n : ℕ) × IsNumbered 60416 u (sent.source p) × IsBroadcastFrame timing s held sent.broadcasts 60416 u n (sent.release p) p
     announcements_only p in_p is place =
-        let (n, source) = of_announcements plan timing stays s held sent.broadcasts keeps.broadcasts.messages (sent.source p) u m (sent.moment p) p
+        let (n, source) = of_announcements plan timing stays s held sent.broadcasts keeps.broadcasts.messages (sent.source p) u m (sent.release p) p
         (keeps.frames p in_p is) below place in
-        let one = subst (λ (x : Source). IsFrameOf plan timing s held sent.broadcasts x (sent.moment p) p) source (keeps.frames p in_p is) in
+        let one = subst (λ (x : Source). IsFrameOf plan timing s held sent.broadcasts x (sent.release p) p) source (keeps.frames p in_p is) in
         (n, subst (IsNumbered 60416 u) (sym source) (refl, refl), one)
 
     at_packets : packets_place (asked_of timing plan stays) u ≡ source_place plan (Carrying u m 0)
@@ -240,7 +240,7 @@ module _ (plan : Plan) (timing : Timing) (stays : UnitPlan → Bool) (tells : Te
 
 -- ---- plans
 
-pub broadcasts_in_order : (plan : Plan) (timing : Timing) (stays : UnitPlan → Bool) → Clean plan → TellsWhoStays plan stays
+pub broadcasts_in_order : (plan : Plan) (timing : Timing) (stays : UnitPlan → Bool) → Clean plan → DecidesWhoStays plan stays
     → (s : Schedule) (planned : ℕ → Bool) (sent : FrameSources) (held : Held) (u m : ℕ) → m < sent.broadcasts.count u → IsLegal s
     → KeepsToPlan plan timing s planned sent held → KeepsTurns s planned sent held
     → ComeInTurn timing (frames_asked (asked_of timing plan stays)) s planned (origins_of plan sent) (announcements_place (asked_of timing plan stays) u)
@@ -250,7 +250,7 @@ broadcasts_in_order plan timing stays clean tells s planned sent held u m below 
   packets_in_turn plan timing stays tells clean s legal.queued_first planned sent held keeps turns u m below,
 )
 
-pub broadcasts_in_any_order : (plan : Plan) (timing : Timing) (stays : UnitPlan → Bool) → Clean plan → TellsWhoStays plan stays
+pub broadcasts_in_any_order : (plan : Plan) (timing : Timing) (stays : UnitPlan → Bool) → Clean plan → DecidesWhoStays plan stays
     → (s : Schedule) (controllers : Controllers) (planned : ℕ → Bool) (sent : FrameSources) (held : Held) (u m : ℕ) → m < sent.broadcasts.count u
     → IsLegalInAnyOrder s controllers → KeepsToPlan plan timing s planned sent held → KeepsQueues plan timing s controllers planned sent
     → KeepsTurns s planned sent held

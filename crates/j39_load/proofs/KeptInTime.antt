@@ -65,8 +65,8 @@ module _ (plan : Plan) (timing : Timing) (stays : UnitPlan → Bool) (delays : L
     pub bound : IsBounded timing (asked_of timing plan stays) f bits
     pub limited : bits ≤ time_limit timing pace
 
-  pub bound_of : (s : Schedule) (held : Held) (f moment p : ℕ) (one : IsSingleFrame plan timing s held f moment p) → HasBound f one.pace
-  bound_of s held f moment p one =
+  pub bound_of : (s : Schedule) (held : Held) (f release p : ℕ) (one : IsSingleFrame plan timing s held f release p) → HasBound f one.pace
+  bound_of s held f release p one =
       let its_load : FlowLoad = load plan timing stays f one.flow one.pace one.group one.its one.paced one.of in
       let at = at_place plan timing stays f one.flow one.pace one.group one.its one.paced one.of in
       let (bits, told, bound) = short_bounded plan timing stays delays asks none f its_load
@@ -85,29 +85,29 @@ module _ (plan : Plan) (timing : Timing) (stays : UnitPlan → Bool) (delays : L
       (in_time : (i bits : ℕ) (single : IsSingleFlow plan i) (bound : IsBounded timing (asked_of timing plan stays) i bits)
       → IsStreamInTime s planned (origins_of plan sent) i bound.frames.stream bound.wait) where
     module _ (p f : ℕ) (in_p : p < s.count) (is : planned p ≡ true) (source : sent.source p ≡ Single f) where
-      abbrev one : IsSingleFrame plan timing s held f (sent.moment p) p
-      one = subst (λ (x : Source). IsFrameOf plan timing s held sent.broadcasts x (sent.moment p) p) source (keeps.frames p in_p is)
+      abbrev one : IsSingleFrame plan timing s held f (sent.release p) p
+      one = subst (λ (x : Source). IsFrameOf plan timing s held sent.broadcasts x (sent.release p) p) source (keeps.frames p in_p is)
 
       single : IsSingleFlow plan f
       single = record { flow = one.flow; its = one.its; group = one.group; of = one.of; short = one.short }
 
-      its_own : IsMsBefore timing one.pace.period (sent.moment p) s.now
-          → IsWithinMs timing one.pace.period (sent.moment p) (frame_end s p)
-          × ((deadline : ℕ) → one.pace.deadline ≡ Some deadline → IsWithinMs timing deadline (sent.moment p) (frame_end s p))
+      its_own : IsMsBefore timing one.pace.period (sent.release p) s.now
+          → IsWithinMs timing one.pace.period (sent.release p) (frame_end s p)
+          × ((deadline : ℕ) → one.pace.deadline ≡ Some deadline → IsWithinMs timing deadline (sent.release p) (frame_end s p))
       its_own seen =
-          let told = bound_of s held f (sent.moment p) p one in
+          let told = bound_of s held f (sent.release p) p one in
           let period = at_most_second timing.bitrate (deadline_of one.pace) one.pace.period in
           let sum = told.bound.sum in
           let limited = told.limited in
-          let shown = before_bits timing.bitrate one.pace.period (sent.moment p) s.now seen in
+          let shown = before_bits timing.bitrate one.pace.period (sent.release p) s.now seen in
           let ended = (in_time f told.bits single told.bound p in_p is (ap (source_place plan) source) (omega (arith, shown, limited, period, sum))).1 in (
-            in_ms timing.bitrate one.pace.period (sent.moment p) (frame_end s p) (omega (arith, ended, sum, limited, period)),
+            in_ms timing.bitrate one.pace.period (sent.release p) (frame_end s p) (omega (arith, ended, sum, limited, period)),
             λ deadline written.
                 let first = at_most_first timing.bitrate (deadline_of one.pace) one.pace.period in
                 let its : deadline_of one.pace ≡ deadline = ap (λ (d : Option ℕ). unwrap_or d one.pace.period) written in
                 let time : deadline_of one.pace * bits_per_ms timing.bitrate ≡ deadline * bits_per_ms timing.bitrate =
                 ap (λ (ms : ℕ). ms * bits_per_ms timing.bitrate) its in
-                in_ms timing.bitrate deadline (sent.moment p) (frame_end s p) (omega (arith, ended, sum, limited, first, time)),
+                in_ms timing.bitrate deadline (sent.release p) (frame_end s p) (omega (arith, ended, sum, limited, first, time)),
           )
 
     pub sent_in_time : AreSentInTime plan timing s planned sent
@@ -115,9 +115,9 @@ module _ (plan : Plan) (timing : Timing) (stays : UnitPlan → Bool) (delays : L
         let same_flow : (one p f in_p is source).flow ≡ flow = same_Some _ _ (sym (one p f in_p is source).its ∙ its) in
         let same : (one p f in_p is source).pace ≡ pace =
         same_Some _ _ (sym (one p f in_p is source).paced ∙ (ap (λ (f : FlowPlan). f.pace) same_flow ∙ paced)) in
-        subst (λ (x : Pace). IsMsBefore timing x.period (sent.moment p) s.now
-        → IsWithinMs timing x.period (sent.moment p) (frame_end s p)
-        × ((deadline : ℕ) → x.deadline ≡ Some deadline → IsWithinMs timing deadline (sent.moment p) (frame_end s p))) same (its_own p f in_p is source) seen
+        subst (λ (x : Pace). IsMsBefore timing x.period (sent.release p) s.now
+        → IsWithinMs timing x.period (sent.release p) (frame_end s p)
+        × ((deadline : ℕ) → x.deadline ≡ Some deadline → IsWithinMs timing deadline (sent.release p) (frame_end s p))) same (its_own p f in_p is source) seen
 
 -- ---- plans
 

@@ -22,7 +22,7 @@ use Rattle.j39_load.specs.declared.frames.messages.Messages.TheVariants.{Short, 
 use Rattle.j39_load.specs.declared.loads.unit_load.UnitLoad.{UnitLoad}
 use Rattle.j39_load.specs.declared.waits.whole_time.WholeTime.{WholeTime}
 use Rattle.j39_load.specs.Ages.{old_needs}
-use Rattle.j39_load.specs.AnyQueues.{IsOffer, Offer}
+use Rattle.j39_load.specs.AnyQueues.{IsBuffering, Buffering}
 use Rattle.j39_load.specs.Asked.{Asked, asked_of, frames_asked, total_load}
 use Rattle.j39_load.specs.Delays.{IsTurnTime, IsTurnTimeBy, IsWaitIn, known_turn_time, longest_pause, packet_time, packets_place, turn_time, whole_time}
 use Rattle.j39_load.specs.KeepsPlan.{origins_of, source_place}
@@ -44,29 +44,29 @@ use Rattle.j39_timing.specs.Messages.{frame_end}
 -- ---- where a time is told
 
 -- how long packets of the unit wait: with the longest gap and their own length no longer than a receiver does
-record HasPause (timing : Timing) (asked : Asked) (offer : Offer) (u : ℕ) : Type 0 where
+record HasPause (timing : Timing) (asked : Asked) (buffering : Buffering) (u : ℕ) : Type 0 where
   pub load : UnitLoad
   pub at : get_or asked.units u None ≡ Some load
   pub wait : ℕ
-  pub is : IsWaitIn timing offer (packets_place asked u) load.packets (Some wait)
+  pub is : IsWaitIn timing buffering (packets_place asked u) load.packets (Some wait)
   pub short : packet_time timing load wait ≤ longest_pause timing
 
-module _ (timing : Timing) (asked : Asked) (offer : Offer) (u : ℕ) where
-  by_load : (turn : ℕ) (load : Option UnitLoad) → get_or asked.units u None ≡ load → IsTurnTimeBy timing asked offer u load (Some turn)
-      → HasPause timing asked offer u
+module _ (timing : Timing) (asked : Asked) (buffering : Buffering) (u : ℕ) where
+  by_load : (turn : ℕ) (load : Option UnitLoad) → get_or asked.units u None ≡ load → IsTurnTimeBy timing asked buffering u load (Some turn)
+      → HasPause timing asked buffering u
   by_load turn None at is = absurd (none-some turn (sym is))
   by_load turn (Some load) at (announced, sent, first, rest, told) = by_waits announced sent rest told
     where
-      by_waits : (announced sent : Option ℕ) → IsWaitIn timing offer (packets_place asked u) load.packets sent
-          → Some turn ≡ known_turn_time timing load announced sent → HasPause timing asked offer u
+      by_waits : (announced sent : Option ℕ) → IsWaitIn timing buffering (packets_place asked u) load.packets sent
+          → Some turn ≡ known_turn_time timing load announced sent → HasPause timing asked buffering u
       by_waits None sent rest told = absurd (none-some turn (sym told))
       by_waits (Some a) None rest told = absurd (none-some turn (sym told))
       by_waits (Some a) (Some wait) rest told =
           let short = (cond_some (leb (packet_time timing load wait) (longest_pause timing)) (turn_time timing load a wait) turn (sym told)).0 in
           record { load = load; at = at; wait = wait; is = rest; short = leb-true (packet_time timing load wait) (longest_pause timing) short }
 
-  by_time : (broadcast : Broadcast) (whole : WholeTime) (bits : ℕ) (time : Option ℕ) → IsTurnTime timing asked offer u time
-      → whole ≡ whole_time broadcast time → whole.bits ≡ Some bits → HasPause timing asked offer u
+  by_time : (broadcast : Broadcast) (whole : WholeTime) (bits : ℕ) (time : Option ℕ) → IsTurnTime timing asked buffering u time
+      → whole ≡ whole_time broadcast time → whole.bits ≡ Some bits → HasPause timing asked buffering u
   by_time broadcast whole bits None is same told = absurd (none-some bits (sym (ap (λ (w : WholeTime). w.bits) same) ∙ told))
   by_time broadcast whole bits (Some turn) is same told = by_load turn (get_or asked.units u None) refl is
 
@@ -85,7 +85,7 @@ module _ (plan : Plan) (timing : Timing) (clean : Clean plan) (stays : UnitPlan 
   -- the pause of a flow's unit, whose long messages to all have a deadline
   pause_of : (f : ℕ) (flow : FlowPlan) (pace : Pace) (group : GroupPlan) (limit : ℕ) → slice_get plan.flows.items f ≡ Some flow → flow.pace ≡ Some pace
       → slice_get plan.groups.items flow.group ≡ Some group → 8 < group.most → flow.to ≡ ToAllUnits → pace.deadline ≡ Some limit
-      → (offer : Offer) × IsOffer timing (frames_asked asked) offer × HasPause timing asked offer flow.sender
+      → (buffering : Buffering) × IsBuffering timing (frames_asked asked) buffering × HasPause timing asked buffering flow.sender
   pause_of f flow pace group limit its paced of long goes written =
       let its_load : FlowLoad = load plan timing stays f flow pace group its paced of in
       let at = at_place plan timing stays f flow pace group its paced of in
@@ -99,13 +99,13 @@ module _ (plan : Plan) (timing : Timing) (clean : Clean plan) (stays : UnitPlan 
       let same : is.load ≡ its_load = same_Some _ _ (same_Some _ _ (sym is.its ∙ at)) in
       let sender : is.broadcast.sender ≡ flow.sender = ap sender_of (sym is.long ∙ (ap (λ (l : FlowLoad). l.messages) same ∙ messages)) in
       let (time, turn, total) = is.time in
-      (is.offer, is.is, subst (HasPause timing asked is.offer) sender (by_time timing asked is.offer is.broadcast.sender is.broadcast whole bits time turn total is.told))
+      (is.buffering, is.is, subst (HasPause timing asked is.buffering) sender (by_time timing asked is.buffering is.broadcast.sender is.broadcast whole bits time turn total is.told))
 
   not_given_up : AreNotGivenUp plan timing
   not_given_up s controllers planned sent held legal keeps queues turns f flow pace group limit its paced of long goes written p q m k in_q is source gap seen =
-      let (offer, is_offer, pause) = pause_of f flow pace group limit its paced of long goes written in
+      let (buffering, is_buffering, pause) = pause_of f flow pace group limit its paced of long goes written in
       let u = flow.sender in
-      let frame = subst (λ (x : Source). IsFrameOf plan timing s held sent.broadcasts x (sent.moment q) q) source (keeps.frames q in_q is) in
+      let frame = subst (λ (x : Source). IsFrameOf plan timing s held sent.broadcasts x (sent.release q) q) source (keeps.frames q in_q is) in
       let known = frame.0.known in
       let message = keeps.broadcasts.messages u m known in
       let come = (broadcasts_in_any_order plan timing stays clean asks.standing s controllers planned sent held u m known legal keeps queues turns).1 in
@@ -117,7 +117,7 @@ module _ (plan : Plan) (timing : Timing) (clean : Clean plan) (stays : UnitPlan 
       ap (λ (n : ℕ). get_or (frames_asked asked) n None) (sym place) ∙ second in
       let frames : pause.load.packets ≡ (unit_asks plan timing stays sent.broadcasts u m message).packets = same_Some _ _ (sym first ∙ there) in
       let single : pause.load.packets.twin_ident ≡ None = ap (λ (x : FlowFrames). x.twin_ident) frames in
-      let within = sent_in_any_order timing (frames_asked asked) (all_paced timing plan stays) (all_sent timing plan stays) offer is_offer (packets_place asked u)
+      let within = sent_in_any_order timing (frames_asked asked) (all_paced timing plan stays) (all_sent timing plan stays) buffering is_buffering (packets_place asked u)
       pause.load.packets first pause.wait s controllers planned (origins_of plan sent) legal come single pause.is in
       let queued = within_bits timing.bitrate timing.broadcast_gap_most (frame_end s p) (s.queued q) gap in
       let shown = before_bits timing.bitrate 750 (frame_end s p) s.now seen in

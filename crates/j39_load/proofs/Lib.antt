@@ -6,7 +6,7 @@ pub mod Attempts
 pub mod Before
 pub mod BoundedFlows
 pub mod Broadcasting
-pub mod CompanyStreams
+pub mod QueueGroupStreams
 pub mod DemandLaws
 pub mod Different
 pub mod EachFrames
@@ -26,7 +26,7 @@ pub mod KeptReceivers
 pub mod LeastKnown
 pub mod LoadAnswers
 pub mod Milliseconds
-pub mod Offering
+pub mod BufferingDelays
 pub mod OneLoad
 pub mod PartFrames
 pub mod PlacedFrames

@@ -3,17 +3,17 @@ use Rattle.std.proofs.Common.{◌≡◌, Bool, ap, ◌∙◌, subst}
 use Rattle.j39_network.specs.declared.plan.Plan.{Plan}
 use Rattle.j39_network.specs.declared.plan.timing.Timing.{Timing}
 use Rattle.j39_network.specs.declared.plan.unit_plan.UnitPlan.{UnitPlan}
-use Rattle.j39_findings.specs.Standing.{TellsWhoStays}
+use Rattle.j39_findings.specs.Standing.{DecidesWhoStays}
 use Rattle.j39_load.specs.declared.findings.load_answer.LoadAnswer.{LoadAnswer}
 use Rattle.j39_load.specs.Asked.{Asked, asked_of, total_load}
 use Rattle.j39_load.specs.AskedLoads.{asked_in}
-use Rattle.j39_load.specs.Delays.{TellDelays}
+use Rattle.j39_load.specs.Delays.{AreFlowDelays}
 use Rattle.j39_load.specs.LoadAnswers.{IsLoadAnswer}
 use Rattle.j39_load.specs.LoadFindings.{all_findings}
 
-pub answered : (plan : Plan) (timing : Timing) (stays : UnitPlan → Bool) (answer : LoadAnswer) → TellsWhoStays plan stays
+pub answered : (plan : Plan) (timing : Timing) (stays : UnitPlan → Bool) (answer : LoadAnswer) → DecidesWhoStays plan stays
     → answer.loads.timing ≡ timing → asked_in answer.loads ≡ asked_of timing plan stays
-    → TellDelays answer.loads.timing (asked_in answer.loads) answer.delays.items
+    → AreFlowDelays answer.loads.timing (asked_in answer.loads) answer.delays.items
     → answer.findings.items ≡ all_findings plan timing (total_load answer.loads.timing (asked_in answer.loads)) answer.delays.items
     → IsLoadAnswer plan timing answer
 answered plan timing stays answer tells timed asked waits found =
@@ -23,7 +23,7 @@ answered plan timing stays answer tells timed asked waits found =
       stays = stays;
       asks = record {
         standing = tells;
-        waits = subst (λ (a : Asked). TellDelays timing a delays) asked (subst (λ (t : Timing). TellDelays t here delays) timed waits);
+        waits = subst (λ (a : Asked). AreFlowDelays timing a delays) asked (subst (λ (t : Timing). AreFlowDelays t here delays) timed waits);
       };
       timed = timed;
       asked = asked;

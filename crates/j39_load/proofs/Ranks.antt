@@ -21,7 +21,7 @@ use Rattle.j39_network.specs.declared.plan.unit_plan.UnitPlan.{UnitPlan}
 use Rattle.j39_load.specs.Loads.{destination_at, greatest_address, least_address, may_move, of_unit}
 use Rattle.j39_rules.proofs.Members.{all_at}
 use Rattle.j39_load.specs.Ranks.{AreHeldByPlan, AreUnitsPlanned, LieBetween, RequestLiesBetween}
-use Rattle.j39_findings.specs.Standing.{TellsWhoStays}
+use Rattle.j39_findings.specs.Standing.{DecidesWhoStays}
 use Rattle.j39_findings.proofs.WhoStays.{placed}
 use Rattle.j39_claim.specs.ClaimRule.{PlannedUnit}
 use Rattle.j39_network.specs.PlannedUnits.{planned_unit, unit_at, units_of}
@@ -36,7 +36,7 @@ identifier-mono priority pgn d e s t destination source =
       | false ↦ omega arith
     ]
 
-module _ (plan : Plan) (stays : UnitPlan → Bool) (tells : TellsWhoStays plan stays) (held : ℕ → ℕ) (by_plan : AreHeldByPlan plan held) where
+module _ (plan : Plan) (stays : UnitPlan → Bool) (tells : DecidesWhoStays plan stays) (held : ℕ → ℕ) (by_plan : AreHeldByPlan plan held) where
   abbrev units : List UnitPlan
   units = plan.units.items
 

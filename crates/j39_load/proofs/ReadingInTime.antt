@@ -146,13 +146,13 @@ module _ (plan : Plan) (timing : Timing) (stays : UnitPlan → Bool) (flow bits 
 
     -- what is told of the stream at the flow's place is told of the flow
     of_flow : (pause from to : ℕ)
-        → (to + ((traffic.stream flow).late + bound.wait) < s.now
+        → (to + ((traffic.stream flow).jitter + bound.wait) < s.now
         → IsNewestFresh s planned of flow (pause + delay_of (traffic.stream flow) bound.wait) (from + delay_of (traffic.stream flow) bound.wait)
         (to + delay_of (traffic.stream flow) bound.wait))
-        → to + (bound.frames.stream.late + bound.wait) < s.now → IsNewestFresh s planned of flow (pause + bits) (from + bits) (to + bits)
+        → to + (bound.frames.stream.jitter + bound.wait) < s.now → IsNewestFresh s planned of flow (pause + bits) (from + bits) (to + bits)
     of_flow pause from to told =
-        subst (λ (b : ℕ). to + (bound.frames.stream.late + bound.wait) < s.now → IsNewestFresh s planned of flow (pause + b) (from + b) (to + b)) (sym bound.sum)
-        (subst (λ (f : FlowFrames). to + (f.stream.late + bound.wait) < s.now
+        subst (λ (b : ℕ). to + (bound.frames.stream.jitter + bound.wait) < s.now → IsNewestFresh s planned of flow (pause + b) (from + b) (to + b)) (sym bound.sum)
+        (subst (λ (f : FlowFrames). to + (f.stream.jitter + bound.wait) < s.now
         → IsNewestFresh s planned of flow (pause + delay_of f.stream bound.wait) (from + delay_of f.stream bound.wait) (to + delay_of f.stream bound.wait)) placed told)
 
 -- ---- needs

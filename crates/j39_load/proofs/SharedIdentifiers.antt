@@ -177,20 +177,20 @@ module _ (plan : Plan) (clean : Clean plan) (on : ℕ → Bool) (address : ℕ �
   one_asks x y u v to other a b same = (made_alike x y 59904 59904 u v to other a b same).1
 
 module _ (plan : Plan) (timing : Timing) (clean : Clean plan) (s : Schedule) (held : Held) (t : ℕ) (apart : AreHeldApart (held.on t) (held.address t)) where
-  pub request_made : (r moment p : ℕ) (one : IsRequestFrame plan s held r moment p) → IsQueuedAt s p t
+  pub request_made : (r release p : ℕ) (one : IsRequestFrame plan s held r release p) → IsQueuedAt s p t
       → IsMade (held.on t) (held.address t) (s.ident p) 59904 one.asked.sender one.asked.to
-  request_made r moment p one queued = record {
+  request_made r release p one queued = record {
     priority = 6;
     page = omega arith;
     low = λ _. refl;
     from_on = one.sender_on t queued;
     to_on = λ v goes. one.receiver_on t v queued goes;
-    is = asking_ident plan s held r moment p t one queued;
+    is = asking_ident plan s held r release p t one queued;
   }
 
-  pub broadcast_made : (b : Broadcasts) (number u m moment p : ℕ) → (number ≡ 60416) ⊎ (number ≡ 60160)
-      → IsBroadcastFrame timing s held b number u m moment p → IsQueuedAt s p t → IsMade (held.on t) (held.address t) (s.ident p) number u ToAllUnits
-  broadcast_made b number u m moment p (inl is) one queued = record {
+  pub broadcast_made : (b : Broadcasts) (number u m release p : ℕ) → (number ≡ 60416) ⊎ (number ≡ 60160)
+      → IsBroadcastFrame timing s held b number u m release p → IsQueuedAt s p t → IsMade (held.on t) (held.address t) (s.ident p) number u ToAllUnits
+  broadcast_made b number u m release p (inl is) one queued = record {
     priority = timing.transport_priority;
     page = omega (arith, is);
     low = λ _. omega (arith, is);
@@ -198,7 +198,7 @@ module _ (plan : Plan) (timing : Timing) (clean : Clean plan) (s : Schedule) (he
     to_on = λ v goes. absurd (let told = goes in cc);
     is = one.identifier t queued;
   }
-  broadcast_made b number u m moment p (inr is) one queued = record {
+  broadcast_made b number u m release p (inr is) one queued = record {
     priority = timing.transport_priority;
     page = omega (arith, is);
     low = λ _. omega (arith, is);
@@ -207,7 +207,7 @@ module _ (plan : Plan) (timing : Timing) (clean : Clean plan) (s : Schedule) (he
     is = one.identifier t queued;
   }
 
-  module _ (f : ℕ) (part : Part) (moment p : ℕ) (one : IsSessionFrame plan timing s held f part moment p) (queued : IsQueuedAt s p t) where
+  module _ (f : ℕ) (part : Part) (release p : ℕ) (one : IsSessionFrame plan timing s held f part release p) (queued : IsQueuedAt s p t) where
     abbrev u : ℕ
     u = one.flow.sender
 
@@ -260,7 +260,7 @@ module _ (plan : Plan) (timing : Timing) (clean : Clean plan) (s : Schedule) (he
     pub part_made : IsPartMade (held.on t) (held.address t) (s.ident p) one.flow.sender one.receiver
     part_made = by_part part (one.identifier t queued)
 
-  module _ (f moment p : ℕ) (one : IsSingleFrame plan timing s held f moment p) (queued : IsQueuedAt s p t) where
+  module _ (f release p : ℕ) (one : IsSingleFrame plan timing s held f release p) (queued : IsQueuedAt s p t) where
     single_made : IsMade (held.on t) (held.address t) (s.ident p) one.group.pgn one.flow.sender one.flow.to
     single_made =
         let can = other_idents.planned plan clean (held.on t) (held.address t) apart one.flow.group one.group one.of in
@@ -270,7 +270,7 @@ module _ (plan : Plan) (timing : Timing) (clean : Clean plan) (s : Schedule) (he
           low = can.group.low;
           from_on = one.sender_on t queued;
           to_on = λ v goes. one.receiver_on t v queued goes;
-          is = single_ident plan timing s held f moment p t one queued;
+          is = single_ident plan timing s held f release p t one queued;
         }
 
     -- no service of the network has it
@@ -306,16 +306,16 @@ module _ (plan : Plan) (timing : Timing) (clean : Clean plan) (s : Schedule) (he
     }
 
   -- two single frames are of one flow, or of two that are alike
-  pub one_or_alike : (stays : UnitPlan → Bool) (f g moment other p q : ℕ) (one : IsSingleFrame plan timing s held f moment p)
+  pub one_or_alike : (stays : UnitPlan → Bool) (f g release other p q : ℕ) (one : IsSingleFrame plan timing s held f release p)
       (two : IsSingleFrame plan timing s held g other q) → IsQueuedAt s p t → IsQueuedAt s q t → s.ident p ≡ s.ident q
       → (f ≡ g) ⊎ AreAlike (own plan timing stays f one.flow one.pace one.group one.its one.paced one.of)
       (own plan timing stays g two.flow two.pace two.group two.its two.paced two.of)
-  one_or_alike stays f g moment other p q one two at_p at_q same = elim (cases_eq f g) [
+  one_or_alike stays f g release other p q one two at_p at_q same = elim (cases_eq f g) [
     | inl one_flow ↦ inl one_flow
     | inr differ ↦
         let idents : group_ident (held.address t) one.group one.flow ≡ group_ident (held.address t) two.group two.flow =
-        sym (single_ident plan timing s held f moment p t one at_p) ∙ (same ∙ single_ident plan timing s held g other q t two at_q) in
-        let first = short_flow f moment p one at_p in
+        sym (single_ident plan timing s held f release p t one at_p) ∙ (same ∙ single_ident plan timing s held g other q t two at_q) in
+        let first = short_flow f release p one at_p in
         let second = short_flow g other q two at_q in
         let twins = other_idents.different plan clean (held.on t) (held.address t) apart f g one.flow two.flow one.group two.group differ first second idents in
         let from = other_idents.senders plan clean (held.on t) (held.address t) apart f g one.flow two.flow one.group two.group first second idents in

@@ -105,7 +105,7 @@ module _ (plan : Plan) (timing : Timing) (clean : Clean plan) (stays : UnitPlan 
   arrive : (s : Schedule) (planned : ℕ → Bool) (sent : FrameSources)
       → ((bytes : ℕ → List ℕ) (written : CarryWritten s planned (origins_of plan sent) read.fresh.place read.group bytes) (from to : ℕ)
       → KeepsComing s planned (origins_of plan sent) read.fresh.place (bits_of_ms timing read.fresh.pause) from to
-      → to + (read.fresh.bounded.frames.stream.late + read.fresh.bounded.wait) < s.now
+      → to + (read.fresh.bounded.frames.stream.jitter + read.fresh.bounded.wait) < s.now
       → AreReadYoung s planned (origins_of plan sent) read.fresh.place read.group bytes written (bits_of_ms timing read.fresh.pause + read.fresh.bits)
       (from + read.fresh.bits) (to + read.fresh.bits))
       → ArriveOn plan timing s planned sent read.fresh.place its_pace.pace read.fresh.pause read.group within
@@ -115,15 +115,15 @@ module _ (plan : Plan) (timing : Timing) (clean : Clean plan) (stays : UnitPlan 
       let sum = read.fresh.bounded.sum in
       let delay = delay_within in
       let coming : KeepsComing s planned (origins_of plan sent) read.fresh.place (bits_of_ms timing read.fresh.pause) from to =
-      λ u first last. let (p, (in_p, is, source), moment, near) = pausing u first last in
-      (p, in_p, is, source, moment, under_bits timing.bitrate read.fresh.pause (sent.moment p) u near) in
+      λ u first last. let (p, (in_p, is, source), release, near) = pausing u first last in
+      (p, in_p, is, source, release, under_bits timing.bitrate read.fresh.pause (sent.release p) u near) in
       let (some, each) = young bytes written from to coming (omega (arith, seen, sum, delay)) t (omega (arith, low, delay)) (omega (arith, up)) in (
         some,
         λ p newest.
             let reads = each p newest in
             let age = reads.young in
             let asked = read.fresh.young in
-            (in_ms timing.bitrate within (sent.moment p) t (omega (arith, age, asked)), reads.read),
+            (in_ms timing.bitrate within (sent.release p) t (omega (arith, age, asked)), reads.read),
       )
 
   value_in_time : IsValueInTime plan timing need within

@@ -36,7 +36,7 @@ asked_of timing plan stays =
 -- in place of frames of its own, which a flow with long messages to all has none of, what it wants of its unit's
 abbrev pub wanting : Broadcast → FlowFrames
 wanting broadcast = record {
-  stream = record { frames = 0; period = 1; bits = 0; late = 0; wanted = None };
+  stream = record { frames = 0; period = 1; bits = 0; jitter = 0; wanted = None };
   least_ident = 2 ^ 29;
   greatest_ident = 2 ^ 29;
   any_sender = None;

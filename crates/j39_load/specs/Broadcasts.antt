@@ -43,7 +43,7 @@ spaced_stream timing gaps place = record {
   frames = 1;
   period = gaps * bits_of_ms timing timing.broadcast_gap;
   bits = longest_frame frame_bytes;
-  late = 0;
+  jitter = 0;
   wanted = Some place;
 }
 

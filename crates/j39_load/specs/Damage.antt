@@ -12,7 +12,7 @@ use Rattle.j39_timing.specs.declared.stream.Stream.{Stream}
 
 -- frames of so many bits, of which as many come in a window as attempts are damaged
 abbrev pub damage_stream : Timing → ErrorRate → ℕ → Stream
-damage_stream timing rate bits = record { frames = rate.count; period = bits_of_ms timing rate.every; bits = bits; late = 0; wanted = None }
+damage_stream timing rate bits = record { frames = rate.count; period = bits_of_ms timing rate.every; bits = bits; jitter = 0; wanted = None }
 
 -- the attempts, and the error frames
 abbrev pub damage_streams : Timing → List Stream

@@ -44,7 +44,7 @@ abbrev pub want_of : BroadcastPart → Broadcast → Want
 want_of part broadcast = record {
   frames = frames_of_part part broadcast;
   period = broadcast.apart;
-  late = broadcast.late;
+  jitter = broadcast.jitter;
 }
 
 -- of the one that is under way the packets may come, and no announcement

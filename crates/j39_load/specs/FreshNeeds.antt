@@ -20,18 +20,18 @@ use Rattle.j39_timing.specs.TimedFrames.{Schedule, IsLegal}
 use Rattle.j39_timing.specs.FrameStreams.{Origins}
 use Rattle.j39_timing.specs.declared.stream.Stream.{Stream}
 
--- In every legal schedule of such frames: while a frame of the flow has had its moment in the last `pause` bits, from its delay on a frame of
--- it has ended that had its moment in the last `pause` bits and its delay.
+-- In every legal schedule of such frames: while a frame of the flow has had its release in the last `pause` bits, from its delay on a frame of
+-- it has ended that had its release in the last `pause` bits and its delay.
 abbrev pub IsFreshOnEveryBus : Timing → Asked → ℕ → ℕ → Stream → ℕ → ℕ → Type 0
 IsFreshOnEveryBus timing asked flow pause stream wait delay = (s : Schedule) (planned : ℕ → Bool) (of : Origins) → IsLegal s
     → AreFramesOfPlan timing (frames_asked asked) s planned of flow → (from to : ℕ) → KeepsComing s planned of flow pause from to
-    → to + (stream.late + wait) < s.now → IsFresh s planned of flow (pause + delay) (from + delay) (to + delay)
+    → to + (stream.jitter + wait) < s.now → IsFresh s planned of flow (pause + delay) (from + delay) (to + delay)
 
 -- the same where units keep order or don't
 abbrev pub IsFreshInAnyOrder : Timing → Asked → ℕ → ℕ → Stream → ℕ → ℕ → Type 0
 IsFreshInAnyOrder timing asked flow pause stream wait delay = (s : Schedule) (controllers : Controllers) (planned : ℕ → Bool) (of : Origins)
     → IsLegalInAnyOrder s controllers → AreFramesInAnyOrder timing (frames_asked asked) s controllers planned of flow → (from to : ℕ)
-    → KeepsComing s planned of flow pause from to → to + (stream.late + wait) < s.now
+    → KeepsComing s planned of flow pause from to → to + (stream.jitter + wait) < s.now
     → IsFresh s planned of flow (pause + delay) (from + delay) (to + delay)
 
 -- some flow that isn't sent as an answer meets the need; for the longest time that it may be silent and its delay, which bounds its frames' time on every bus, together

@@ -29,9 +29,9 @@ pub record IsMessageToAll (plan : Plan) (timing : Timing) (b : Broadcasts) (u m 
   pub two : 2 ≤ b.packets u m
   pub shortest : group.length ≤ 7 * b.packets u m
   pub longest : 7 * b.packets u m < group.most + 7
-  -- it is wanted at its moment, or as much behind it as the jitter allows, and announced then or later
-  pub moment_first : b.moment u m ≤ b.wanted u m
-  pub late_at_most : IsWithinMs timing pace.jitter (b.moment u m) (b.wanted u m)
+  -- it is wanted at its release, or as much behind it as the jitter allows, and announced then or later
+  pub release_first : b.release u m ≤ b.wanted u m
+  pub jitter_at_most : IsWithinMs timing pace.jitter (b.release u m) (b.wanted u m)
   pub wanted_first : b.wanted u m ≤ b.announced u m
 
 -- two messages of the unit are of one flow, the second behind the first
@@ -40,9 +40,9 @@ ComeFromOneFlow b u m n = (m < n) × (n < b.count u) × (b.flow u m ≡ b.flow u
 
 pub record KeepsBroadcasts (plan : Plan) (timing : Timing) (s : Schedule) (planned : ℕ → Bool) (sent : FrameSources) : Type 0 where
   pub messages : (u m : ℕ) → m < sent.broadcasts.count u → IsMessageToAll plan timing sent.broadcasts u m
-  -- the moments of two messages of a flow are a period apart, and one of them waits at most: where the next one is wanted it has been announced
+  -- the releases of two messages of a flow are a period apart, and one of them waits at most: where the next one is wanted it has been announced
   pub apart : (u m n ms : ℕ) → ComeFromOneFlow sent.broadcasts u m n → HasPeriodMs plan (sent.broadcasts.flow u m) ms
-      → IsMsBehind timing ms (sent.broadcasts.moment u m) (sent.broadcasts.moment u n)
+      → IsMsBehind timing ms (sent.broadcasts.release u m) (sent.broadcasts.release u n)
   pub one_waits : (u m n : ℕ) → ComeFromOneFlow sent.broadcasts u m n → sent.broadcasts.announced u m ≤ sent.broadcasts.wanted u n
   -- between two announcements of a unit lie as many gaps as the first message has packets
   pub in_turn : (u m n : ℕ) → m < n → n < sent.broadcasts.count u

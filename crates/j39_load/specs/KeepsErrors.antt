@@ -9,7 +9,7 @@ use Rattle.j39_network.specs.declared.plan.unit_plan.UnitPlan.{UnitPlan}
 use Rattle.j39_load.specs.KeepsPlan.{AreSentInTime, KeepsAllOrder, KeepsQueues, KeepsToPlan, source_place, source_turn}
 use Rattle.j39_load.specs.SentFrames.{FrameSources, HasTime, Held, TakesPart, bit_time}
 use Rattle.j39_timing.specs.AnyOrder.{Controllers}
-use Rattle.j39_timing.specs.Companies.{unplanned_queued}
+use Rattle.j39_timing.specs.QueueGroups.{unplanned_queued}
 use Rattle.j39_timing.specs.Errors.{Damaged, IsLegalInAnyOrderWithErrors, IsLegalWithErrors, at_place, with_errors}
 use Rattle.j39_timing.specs.FrameStreams.{Origins}
 use Rattle.j39_timing.specs.Sums.{total}
@@ -46,7 +46,7 @@ abbrev pub origins_with : Plan → Schedule → Damaged → ErrorRate → ℕ �
 origins_with plan s d rate count sent = record {
   source = at_place s d (λ p. source_place plan (sent.source p)) (λ e. count) (λ e. suc count);
   turn = at_place s d (λ p. source_turn plan (sent.source p)) (λ e. e % rate.count) (λ e. e % rate.count);
-  since = at_place s d sent.moment d.begin d.begin;
+  since = at_place s d sent.release d.begin d.begin;
 }
 
 -- on each such bus whose units keep order each frame has been sent in time

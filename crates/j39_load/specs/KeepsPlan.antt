@@ -15,7 +15,7 @@ use Rattle.j39_load.specs.Ranks.{AreHeldApart, AreHeldByPlan}
 use Rattle.j39_load.specs.SentFrames.{FrameSources, HasTime, Held, IsFrameOf, IsMsBefore, IsMsBehind, IsSentByUnit, IsSentEvery, IsWithinMs, Part, Source, TakesPart}
 use Rattle.j39_load.specs.SentFrames.{Single, InSession, Asking, Announcing, Carrying, RequestToSend, Packet, ClearToSend, EndAcknowledged}
 use Rattle.j39_timing.specs.AnyOrder.{Controllers, IsLegalInAnyOrder}
-use Rattle.j39_timing.specs.Companies.{unplanned_queued}
+use Rattle.j39_timing.specs.QueueGroups.{unplanned_queued}
 use Rattle.j39_timing.specs.FrameStreams.{Origins}
 use Rattle.j39_timing.specs.Messages.{frame_end}
 use Rattle.j39_timing.specs.TimedFrames.{Schedule, IsLegal, Waits}
@@ -24,11 +24,11 @@ use Rattle.j39_tp.specs.Chunks.{packets_of}
 
 -- the planned frames of a bus are those of flows and requests, and what else is on it keeps to what the plan tells of it
 pub record KeepsToPlan (plan : Plan) (timing : Timing) (s : Schedule) (planned : ℕ → Bool) (sent : FrameSources) (held : Held) : Type 0 where
-  pub frames : (p : ℕ) → p < s.count → planned p ≡ true → IsFrameOf plan timing s held sent.broadcasts (sent.source p) (sent.moment p) p
-  -- the moments of two messages of a flow, and of two requests, are a period apart, and a long message has each of its parts once
+  pub frames : (p : ℕ) → p < s.count → planned p ≡ true → IsFrameOf plan timing s held sent.broadcasts (sent.source p) (sent.release p) p
+  -- the releases of two messages of a flow, and of two requests, are a period apart, and a long message has each of its parts once
   pub apart : (p q ms : ℕ) → p < s.count → q < s.count → p ≢ q → planned p ≡ true → planned q ≡ true
       → sent.source p ≡ sent.source q → IsSentEvery plan (sent.source p) ms
-      → IsMsBehind timing ms (sent.moment p) (sent.moment q) ⊎ IsMsBehind timing ms (sent.moment q) (sent.moment p)
+      → IsMsBehind timing ms (sent.release p) (sent.release q) ⊎ IsMsBehind timing ms (sent.release q) (sent.release p)
   pub broadcasts : KeepsBroadcasts plan timing s planned sent
   -- each unit holds its planned address, or one of the pool if it has to move, and no two that are on hold one
   pub held_by_plan : (t : ℕ) → AreHeldByPlan plan (held.address t)
@@ -101,7 +101,7 @@ source_turn plan (Carrying u m k) = 0
 
 -- what each frame is of its stream
 abbrev pub origins_of : Plan → FrameSources → Origins
-origins_of plan sent = record { source = λ p. source_place plan (sent.source p); turn = λ p. source_turn plan (sent.source p); since = sent.moment }
+origins_of plan sent = record { source = λ p. source_place plan (sent.source p); turn = λ p. source_turn plan (sent.source p); since = sent.release }
 
 -- each message of the flow at this place goes in one frame
 pub record IsSingleFlow (plan : Plan) (i : ℕ) : Type 0 where
@@ -113,13 +113,13 @@ pub record IsSingleFlow (plan : Plan) (i : ℕ) : Type 0 where
 
 -- ---- what is promised of it
 
--- each frame of a flow with messages of one frame that should have been sent by now has been sent within the period of its flow from its moment,
+-- each frame of a flow with messages of one frame that should have been sent by now has been sent within the period of its flow from its release,
 -- and within a deadline that is written
 abbrev pub AreSentInTime : Plan → Timing → Schedule → (ℕ → Bool) → FrameSources → Type 0
 AreSentInTime plan timing s planned sent = (p f : ℕ) (flow : FlowPlan) (pace : Pace) → p < s.count → planned p ≡ true
-    → sent.source p ≡ Single f → slice_get plan.flows.items f ≡ Some flow → flow.pace ≡ Some pace → IsMsBefore timing pace.period (sent.moment p) s.now
-    → IsWithinMs timing pace.period (sent.moment p) (frame_end s p)
-    × ((deadline : ℕ) → pace.deadline ≡ Some deadline → IsWithinMs timing deadline (sent.moment p) (frame_end s p))
+    → sent.source p ≡ Single f → slice_get plan.flows.items f ≡ Some flow → flow.pace ≡ Some pace → IsMsBefore timing pace.period (sent.release p) s.now
+    → IsWithinMs timing pace.period (sent.release p) (frame_end s p)
+    × ((deadline : ℕ) → pace.deadline ≡ Some deadline → IsWithinMs timing deadline (sent.release p) (frame_end s p))
 
 -- every unit's controller keeps order
 abbrev pub KeepsAllOrder : Plan → Type 0

@@ -34,7 +34,7 @@ pub record CanBeKeptTogether (plan : Plan) (timing : Timing) (rate : ErrorRate) 
   pub of_flow : (p : ℕ) → sent.source p ≡ Single f
   pub all_planned : (p : ℕ) → planned p ≡ true
   -- each frame is queued no earlier than its jitter allows at most
-  pub late : (p : ℕ) → IsMsBehind timing pace.jitter (sent.moment p) (s.queued p)
+  pub jitter : (p : ℕ) → IsMsBehind timing pace.jitter (sent.release p) (s.queued p)
   pub once : damaged.count ≡ 1
   pub of_first : (e : ℕ) → damaged.frame e ≡ 0
 

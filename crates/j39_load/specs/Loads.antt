@@ -90,7 +90,7 @@ single_stream timing group pace = record {
   frames = 1;
   period = bits_of_ms timing pace.period;
   bits = longest_frame (most_bytes group);
-  late = bits_of_ms timing pace.jitter;
+  jitter = bits_of_ms timing pace.jitter;
   wanted = None;
 }
 
@@ -100,7 +100,7 @@ packet_stream timing units packets v pace = record {
   frames = frames_to_one units packets v;
   period = bits_of_ms timing pace.period;
   bits = longest_frame frame_bytes;
-  late = bits_of_ms timing pace.period + bits_of_ms timing pace.jitter;
+  jitter = bits_of_ms timing pace.period + bits_of_ms timing pace.jitter;
   wanted = None;
 }
 
@@ -197,7 +197,7 @@ broadcast_of timing flow pace group = record {
   has_short = has_short group;
   period = pace.period;
   apart = bits_of_ms timing pace.period;
-  late = bits_of_ms timing pace.jitter;
+  jitter = bits_of_ms timing pace.jitter;
   deadline = option_map (bits_of_ms timing) pace.deadline;
 }
 

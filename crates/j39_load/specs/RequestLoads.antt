@@ -18,7 +18,7 @@ abbrev pub request_bytes : ℕ
 request_bytes = 3
 
 abbrev pub request_stream : Timing → ℕ → Stream
-request_stream timing period = record { frames = 1; period = bits_of_ms timing period; bits = longest_frame request_bytes; late = 0; wanted = None }
+request_stream timing period = record { frames = 1; period = bits_of_ms timing period; bits = longest_frame request_bytes; jitter = 0; wanted = None }
 
 -- the identifier of a request, where the units hold these addresses
 abbrev pub request_ident : (ℕ → ℕ) → RequestPlan → ℕ

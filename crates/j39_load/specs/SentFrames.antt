@@ -64,17 +64,17 @@ pub record Broadcasts : Type 0 where
   pub count : ℕ → ℕ
   -- the flow of a message
   pub flow : ℕ → ℕ → ℕ
-  -- its moment, the bit from which it is wanted, and the one at which its announcement is queued
-  pub moment : ℕ → ℕ → ℕ
+  -- its release, the bit from which it is wanted, and the one at which its announcement is queued
+  pub release : ℕ → ℕ → ℕ
   pub wanted : ℕ → ℕ → ℕ
   pub announced : ℕ → ℕ → ℕ
   -- how many packets it has
   pub packets : ℕ → ℕ → ℕ
 
--- what each frame is of, by its place, and when its message had its moment: a frame of a long message to all counts from where it is queued
+-- what each frame is of, by its place, and when its message had its release: a frame of a long message to all counts from where it is queued
 pub record FrameSources : Type 0 where
   pub source : ℕ → Source
-  pub moment : ℕ → ℕ
+  pub release : ℕ → ℕ
   pub broadcasts : Broadcasts
 
 -- at each bit, of each unit by its place: whether it is on, and the address that it holds
@@ -90,7 +90,7 @@ goes_to address (One v) = address v
 -- ---- messages of one frame
 
 -- the frame is one of a flow, by its place
-pub record IsSingleFrame (plan : Plan) (timing : Timing) (s : Schedule) (held : Held) (f moment p : ℕ) : Type 0 where
+pub record IsSingleFrame (plan : Plan) (timing : Timing) (s : Schedule) (held : Held) (f release p : ℕ) : Type 0 where
   pub flow : FlowPlan
   pub its : slice_get plan.flows.items f ≡ Some flow
   pub pace : Pace
@@ -100,9 +100,9 @@ pub record IsSingleFrame (plan : Plan) (timing : Timing) (s : Schedule) (held : 
   -- a frame has eight bytes at most, and takes 80 bits and 10 more for each of them at most
   pub short : group.most ≤ 8
   pub length : s.bits p ≤ 80 + 10 * group.most
-  -- it is queued at its moment, or as much behind it as the jitter allows
-  pub moment_first : moment ≤ s.queued p
-  pub late_at_most : IsWithinMs timing pace.jitter moment (s.queued p)
+  -- it is queued at its release, or as much behind it as the jitter allows
+  pub release_first : release ≤ s.queued p
+  pub jitter_at_most : IsWithinMs timing pace.jitter release (s.queued p)
   -- while it is queued its units are on, and it has the group's priority and number, and the addresses that they hold
   pub sender_on : (t : ℕ) → IsQueuedAt s p t → held.on t flow.sender ≡ true
   pub receiver_on : (t v : ℕ) → IsQueuedAt s p t → flow.to ≡ One v → held.on t v ≡ true
@@ -126,7 +126,7 @@ part_identifier timing (ClearToSend k) sender receiver = identifier_of timing.tr
 part_identifier timing EndAcknowledged sender receiver = identifier_of timing.transport_priority connection_management sender receiver
 
 -- the frame is one of a flow's long message to one unit
-pub record IsSessionFrame (plan : Plan) (timing : Timing) (s : Schedule) (held : Held) (f : ℕ) (part : Part) (moment p : ℕ) : Type 0 where
+pub record IsSessionFrame (plan : Plan) (timing : Timing) (s : Schedule) (held : Held) (f : ℕ) (part : Part) (release p : ℕ) : Type 0 where
   pub flow : FlowPlan
   pub its : slice_get plan.flows.items f ≡ Some flow
   pub pace : Pace
@@ -142,8 +142,8 @@ pub record IsSessionFrame (plan : Plan) (timing : Timing) (s : Schedule) (held :
   pub is_part : IsPart group.most unit.window part
   pub length : s.bits p ≤ 160
   -- the message has ended before the next one of its flow is queued
-  pub moment_first : moment ≤ s.queued p
-  pub late_at_most : IsWithinMs timing (pace.period + pace.jitter) moment (s.queued p)
+  pub release_first : release ≤ s.queued p
+  pub jitter_at_most : IsWithinMs timing (pace.period + pace.jitter) release (s.queued p)
   -- while it is queued both units are on, and it has the addresses that they hold
   pub sender_on : (t : ℕ) → IsQueuedAt s p t → held.on t flow.sender ≡ true
   pub receiver_on : (t : ℕ) → IsQueuedAt s p t → held.on t receiver ≡ true
@@ -152,13 +152,13 @@ pub record IsSessionFrame (plan : Plan) (timing : Timing) (s : Schedule) (held :
 -- ---- requests
 
 -- the frame is one of a request, by its place: three bytes of priority 6, queued when it is wanted
-pub record IsRequestFrame (plan : Plan) (s : Schedule) (held : Held) (r moment p : ℕ) : Type 0 where
+pub record IsRequestFrame (plan : Plan) (s : Schedule) (held : Held) (r release p : ℕ) : Type 0 where
   pub asked : RequestPlan
   pub its : slice_get plan.requests.items r ≡ Some asked
   pub ms : ℕ
   pub paced : asked.period ≡ Some ms
   pub length : s.bits p ≤ 80 + 10 * 3
-  pub at_once : s.queued p ≡ moment
+  pub at_once : s.queued p ≡ release
   -- while it is queued its units are on, and it has the addresses that they hold
   pub sender_on : (t : ℕ) → IsQueuedAt s p t → held.on t asked.sender ≡ true
   pub receiver_on : (t v : ℕ) → IsQueuedAt s p t → asked.to ≡ One v → held.on t v ≡ true
@@ -167,10 +167,10 @@ pub record IsRequestFrame (plan : Plan) (s : Schedule) (held : Held) (r moment p
 -- ---- long messages to all
 
 -- the frame is one of a unit's message of this number to all, and has the group number of announcements or of packets
-pub record IsBroadcastFrame (timing : Timing) (s : Schedule) (held : Held) (b : Broadcasts) (number u m moment p : ℕ) : Type 0 where
+pub record IsBroadcastFrame (timing : Timing) (s : Schedule) (held : Held) (b : Broadcasts) (number u m release p : ℕ) : Type 0 where
   pub known : m < b.count u
   pub length : s.bits p ≤ 160
-  pub at_once : s.queued p ≡ moment
+  pub at_once : s.queued p ≡ release
   -- while it is queued its unit is on, and it has the address that this holds
   pub sender_on : (t : ℕ) → IsQueuedAt s p t → held.on t u ≡ true
   pub identifier : (t : ℕ) → IsQueuedAt s p t → s.ident p ≡ identifier_of timing.transport_priority number 255 (held.address t u)
@@ -179,11 +179,11 @@ pub record IsBroadcastFrame (timing : Timing) (s : Schedule) (held : Held) (b : 
 
 -- the frame is one of this source
 abbrev pub IsFrameOf : Plan → Timing → Schedule → Held → Broadcasts → Source → ℕ → ℕ → Type 0
-IsFrameOf plan timing s held b (Single f) moment p = IsSingleFrame plan timing s held f moment p
-IsFrameOf plan timing s held b (InSession f part) moment p = IsSessionFrame plan timing s held f part moment p
-IsFrameOf plan timing s held b (Asking r) moment p = IsRequestFrame plan s held r moment p
-IsFrameOf plan timing s held b (Announcing u m) moment p = IsBroadcastFrame timing s held b connection_management u m moment p
-IsFrameOf plan timing s held b (Carrying u m k) moment p = IsBroadcastFrame timing s held b data_transfer u m moment p × (k < b.packets u m)
+IsFrameOf plan timing s held b (Single f) release p = IsSingleFrame plan timing s held f release p
+IsFrameOf plan timing s held b (InSession f part) release p = IsSessionFrame plan timing s held f part release p
+IsFrameOf plan timing s held b (Asking r) release p = IsRequestFrame plan s held r release p
+IsFrameOf plan timing s held b (Announcing u m) release p = IsBroadcastFrame timing s held b connection_management u m release p
+IsFrameOf plan timing s held b (Carrying u m k) release p = IsBroadcastFrame timing s held b data_transfer u m release p × (k < b.packets u m)
 
 -- times are promised of it: of long messages to one unit and of requests none is
 abbrev pub HasTime : Source → Type 0

@@ -1,5 +1,5 @@
 -- A value arrives in time, in the plan's own words: on each bus that keeps to the plan what was received last of a flow that brings a unit what
--- it needs had its moment within the age that this asks for, and each signal in its bytes reads there what was last written to it.
+-- it needs had its release within the age that this asks for, and each signal in its bytes reads there what was last written to it.
 use Rattle.std.specs.Prelude.{◌≡◌, ℕ, ◌+◌, ◌*◌, ◌<◌, ◌≤◌, Bool, false, List, Some}
 use Rattle.std.specs.List.{slice_get}
 use Rattle.j39_network.specs.Serving.{Meets}
@@ -17,18 +17,18 @@ use Rattle.j39_timing.specs.FreshFrames.{IsNewest}
 use Rattle.j39_timing.specs.Messages.{IsOf}
 use Rattle.j39_timing.specs.TimedFrames.{Schedule, IsLegal}
 
--- at each bit from one to another a message of the flow has had its moment in the last `pause` milliseconds
+-- at each bit from one to another a message of the flow has had its release in the last `pause` milliseconds
 abbrev pub KeepsPause : Plan → Timing → Schedule → (ℕ → Bool) → FrameSources → ℕ → ℕ → ℕ → ℕ → Type 0
 KeepsPause plan timing s planned sent flow pause from to = (t : ℕ) → from ≤ t → t ≤ to
-    → (p : ℕ) × IsOf s planned (origins_of plan sent) flow p × (sent.moment p ≤ t)
-    × (t * bit_time timing.bitrate < sent.moment p * bit_time timing.bitrate + 1000 * pause)
+    → (p : ℕ) × IsOf s planned (origins_of plan sent) flow p × (sent.release p ≤ t)
+    × (t * bit_time timing.bitrate < sent.release p * bit_time timing.bitrate + 1000 * pause)
 
--- the frame of the flow that has ended last by bit t had its moment within so many milliseconds, and its bytes read as they were written
+-- the frame of the flow that has ended last by bit t had its release within so many milliseconds, and its bytes read as they were written
 abbrev pub IsYoungAt : (plan : Plan) → Timing → (s : Schedule) (planned : ℕ → Bool) (sent : FrameSources) (flow : ℕ) (group : GroupPlan) (bytes : ℕ → List ℕ)
     → CarryWritten s planned (origins_of plan sent) flow group bytes → ℕ → ℕ → Type 0
 IsYoungAt plan timing s planned sent flow group bytes written within t = ((p : ℕ) × IsNewest s planned (origins_of plan sent) flow t p)
     × ((p : ℕ) → (newest : IsNewest s planned (origins_of plan sent) flow t p)
-    → IsWithinMs timing within (sent.moment p) t × ReadAsWritten group (bytes p) (written p newest.has_ended.its))
+    → IsWithinMs timing within (sent.release p) t × ReadAsWritten group (bytes p) (written p newest.has_ended.its))
 
 -- so it is on a bus, while the flow keeps its pause, from its period on
 abbrev pub ArriveOn : Plan → Timing → Schedule → (ℕ → Bool) → FrameSources → ℕ → Pace → ℕ → GroupPlan → ℕ → Type 0

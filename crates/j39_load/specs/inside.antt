@@ -5,5 +5,5 @@ pub mod FlowSearch
 pub mod FewFrames
 pub mod FrameParts
 pub mod PlannedBuses
-pub mod Offers
+pub mod BufferingDelays
 pub mod TurnTimes

@@ -3,7 +3,7 @@ ghost use Rattle.std.specs.Prelude.{◌≡◌, ◌≢◌, ℕ, ◌+◌, ◌*◌,
 ghost use Rattle.std.specs.List.{slice_get};
 ghost use Rattle.j39_id.specs.Pgn.{IsPgn};
 ghost use Rattle.j39_findings.specs.Findings.{Clean};
-ghost use Rattle.j39_network.specs.Kinds.{AreToldApart};
+ghost use Rattle.j39_network.specs.Kinds.{AreDistinctUnits};
 ghost use Rattle.j39_network.specs.VehiclePlans.{IsVehicleOf};
 ghost use Rattle.j39_network.specs.declared.plan.Plan.{Plan as Plans};
 ghost use Rattle.j39_network.specs.declared.plan.flow_plan.FlowPlan.{FlowPlan as PlannedFlows};
@@ -31,7 +31,7 @@ ghost use Rattle.j39_load.specs.Ranks.{AreHeldApart, AreHeldByPlan, AreTwinFlows
 ghost use Rattle.j39_load.specs.ReadInTime.{AreNeedsRead, AreWritten};
 ghost use Rattle.j39_load.specs.RequestLoads.{request_ident};
 ghost use Rattle.j39_load.specs.SentFrames.{FrameSources, Held, bit_time};
-ghost use Rattle.j39_findings.specs.Standing.{TellsWhoStays};
+ghost use Rattle.j39_findings.specs.Standing.{DecidesWhoStays};
 ghost use Rattle.j39_load.specs.ToldBytes.{IsToldOf, LeaveSelector};
 ghost use Rattle.j39_load.specs.ValuesInTime.{AreValuesInTime};
 ghost use Rattle.j39_load.specs.VehicleLoads.{AreLoadsAlike};
@@ -70,7 +70,7 @@ pub fn needs_stay_fresh()
 
 /// A value arrives in time. Of a clean plan with whose load nothing is wrong either, each need that asks for an age has a flow that meets it, and
 /// in every schedule whose planned frames are those of the plan's flows, and whose frames of this flow carry bytes that were written signal
-/// after signal into a blank payload of one of its group's lengths: at each bit the frame of it that has ended last had its moment within that
+/// after signal into a blank payload of one of its group's lengths: at each bit the frame of it that has ended last had its release within that
 /// age, and each signal in its bytes reads the value that it was last given, or is unset where it was given up.
 pub fn needed_values_are_read_in_time()
     ensures { (plan : Plans) (timing : Timings) → Clean plan → AreLoadFindings plan (Some timing) [] → AreNeedsRead plan timing }
@@ -96,9 +96,9 @@ pub fn plans_in_order()
 /// frames lie between the least and the greatest one that are told of the flow, and so do those of a long message's packets, and of its
 /// sender's announcements and packets to all (`flows`); and that of a request lies between those that are told of it (`requests`).
 pub fn identifiers_lie_between()
-    ensures flows { (plan : Plans) (timing : Timings) (stays : PlannedUnits → Bool) (held : ℕ → ℕ) → TellsWhoStays plan stays → AreHeldByPlan plan held
+    ensures flows { (plan : Plans) (timing : Timings) (stays : PlannedUnits → Bool) (held : ℕ → ℕ) → DecidesWhoStays plan stays → AreHeldByPlan plan held
         → (flow : PlannedFlows) → AreUnitsPlanned plan flow → (group : PlannedGroups) → LieBetween plan timing stays held group flow }
-    ensures requests { (plan : Plans) (stays : PlannedUnits → Bool) (held : ℕ → ℕ) → TellsWhoStays plan stays → AreHeldByPlan plan held
+    ensures requests { (plan : Plans) (stays : PlannedUnits → Bool) (held : ℕ → ℕ) → DecidesWhoStays plan stays → AreHeldByPlan plan held
         → (r : ℕ) (request : PlannedRequests) → slice_get plan.requests.items r ≡ Some request → RequestLiesBetween plan stays held request }
 {}
 
@@ -106,15 +106,15 @@ pub fn identifiers_lie_between()
 /// messages to one unit or to all, and of requests, keeps the premises of each delay of a flow of the first kind, where units keep order (`legal`) or don't (`any_order`), and where frames are damaged (`with_errors`): so what
 /// `delays_are_bounds` and `needs_stay_fresh` promise holds of it.
 pub fn frames_that_keep_a_plan()
-    ensures legal { (plan : Plans) (timing : Timings) (stays : PlannedUnits → Bool) → Clean plan → TellsWhoStays plan stays
+    ensures legal { (plan : Plans) (timing : Timings) (stays : PlannedUnits → Bool) → Clean plan → DecidesWhoStays plan stays
         → (s : Schedule) (planned : ℕ → Bool) (sent : FrameSources) (held : Held) (i : ℕ) → IsSingleFlow plan i
         → IsLegal s → KeepsToPlan plan timing s planned sent held
         → AreFramesOfPlan timing (frames_asked (asked_of timing plan stays)) s planned (origins_of plan sent) i }
-    ensures any_order { (plan : Plans) (timing : Timings) (stays : PlannedUnits → Bool) → Clean plan → TellsWhoStays plan stays
+    ensures any_order { (plan : Plans) (timing : Timings) (stays : PlannedUnits → Bool) → Clean plan → DecidesWhoStays plan stays
         → (s : Schedule) (controllers : Controllers) (planned : ℕ → Bool) (sent : FrameSources) (held : Held) (i : ℕ) → IsSingleFlow plan i
         → IsLegalInAnyOrder s controllers → KeepsToPlan plan timing s planned sent held → KeepsQueues plan timing s controllers planned sent
         → AreFramesInAnyOrder timing (frames_asked (asked_of timing plan stays)) s controllers planned (origins_of plan sent) i }
-    ensures with_errors { (plan : Plans) (timing : Timings) (stays : PlannedUnits → Bool) → Clean plan → TellsWhoStays plan stays
+    ensures with_errors { (plan : Plans) (timing : Timings) (stays : PlannedUnits → Bool) → Clean plan → DecidesWhoStays plan stays
         → (s : Schedule) (d : Damaged) (planned : ℕ → Bool) (sent : FrameSources) (held : Held) (rate : ErrorRates) (i : ℕ) → IsLegalWithErrors s d
         → KeepsToPlan plan timing s planned sent held → KeepsErrors timing rate s d planned sent → IsSingleFlow plan i
         → AreFramesOfPlan timing (frames_asked (asked_of timing plan stays)) (with_errors s d) (planned_with s planned)
@@ -125,12 +125,12 @@ pub fn frames_that_keep_a_plan()
 /// queues each frame of them after the end of the one before and keeps its address meanwhile, whether units keep order (`legal`) or don't
 /// (`any_order`).
 pub fn broadcasts_that_keep_a_plan()
-    ensures legal { (plan : Plans) (timing : Timings) (stays : PlannedUnits → Bool) → Clean plan → TellsWhoStays plan stays
+    ensures legal { (plan : Plans) (timing : Timings) (stays : PlannedUnits → Bool) → Clean plan → DecidesWhoStays plan stays
         → (s : Schedule) (planned : ℕ → Bool) (sent : FrameSources) (held : Held) (u m : ℕ) → m < sent.broadcasts.count u → IsLegal s
         → KeepsToPlan plan timing s planned sent held → KeepsTurns s planned sent held
         → ComeInTurn timing (frames_asked (asked_of timing plan stays)) s planned (origins_of plan sent) (announcements_place (asked_of timing plan stays) u)
         × ComeInTurn timing (frames_asked (asked_of timing plan stays)) s planned (origins_of plan sent) (packets_place (asked_of timing plan stays) u) }
-    ensures any_order { (plan : Plans) (timing : Timings) (stays : PlannedUnits → Bool) → Clean plan → TellsWhoStays plan stays
+    ensures any_order { (plan : Plans) (timing : Timings) (stays : PlannedUnits → Bool) → Clean plan → DecidesWhoStays plan stays
         → (s : Schedule) (controllers : Controllers) (planned : ℕ → Bool) (sent : FrameSources) (held : Held) (u m : ℕ) → m < sent.broadcasts.count u
         → IsLegalInAnyOrder s controllers → KeepsToPlan plan timing s planned sent held → KeepsQueues plan timing s controllers planned sent
         → KeepsTurns s planned sent held
@@ -174,7 +174,7 @@ pub fn plans_can_be_kept_whole()
 {}
 
 /// Of a clean plan with whose load nothing is wrong either: on each bus that keeps to it in the plan's own words, whether units keep order or not,
-/// each frame has been sent within the period of its flow from its moment, and within its deadline where one is written (`sound`). So it is where
+/// each frame has been sent within the period of its flow from its release, and within its deadline where one is written (`sound`). So it is where
 /// frames are damaged no more often than the plan tells, where all units keep order (`with_errors`) and where they do or don't
 /// (`damaged_in_any_order`).
 pub fn kept_plans_are_in_time()
@@ -191,7 +191,7 @@ pub fn kept_plans_lose_no_receiver()
 {}
 
 /// Of such a plan each need that asks for an age has a flow that meets it, and on each bus that keeps to the plan in its own words, while this
-/// flow keeps its pause, what was received last of it had its moment within this age, and each signal in its bytes reads what was last
+/// flow keeps its pause, what was received last of it had its release within this age, and each signal in its bytes reads what was last
 /// written to it.
 pub fn kept_plans_bring_values_in_time()
     ensures { (plan : Plans) (timing : Timings) → Clean plan → AreLoadFindings plan (Some timing) [] → AreValuesInTime plan timing }
@@ -212,5 +212,5 @@ pub fn short_flows_have_different_identifiers()
 /// The plan of each vehicle asks the same of its bus, and the same is wrong with it, whatever the serial numbers of its boxes are, where no two
 /// units of the plan may be one.
 pub fn serial_numbers_change_no_load()
-    ensures { (plan vehicle : Plans) → IsVehicleOf plan vehicle → AreToldApart plan → AreLoadsAlike plan vehicle }
+    ensures { (plan vehicle : Plans) → IsVehicleOf plan vehicle → AreDistinctUnits plan → AreLoadsAlike plan vehicle }
 {}

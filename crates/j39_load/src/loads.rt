@@ -4,7 +4,7 @@ ghost use Rattle.j39_network.specs.PlanLimits.{flow_limit, request_limit};
 ghost use Rattle.j39_network.specs.declared.plan.unit_plan.UnitPlan.{UnitPlan as APlannedUnit};
 ghost use Rattle.j39_load.specs.Asked.{asked_of, total_load};
 ghost use Rattle.j39_load.specs.SoundLoads.{IsSoundIfAsked, IsSoundIfKnown, IsSoundIfSent};
-ghost use Rattle.j39_findings.specs.Standing.{TellsWhoStays, stays_of};
+ghost use Rattle.j39_findings.specs.Standing.{DecidesWhoStays, stays_of};
 ghost use Rattle.j39_id.specs.Limits.{unit_limit};
 ghost use Rattle.std.proofs.Props.{props};
 ghost use Rattle.std.specs.Option.{option_map_or};
@@ -85,7 +85,7 @@ impl Loads {
     /// What a plan asks of its bus. No memory is asked for where it has neither flows nor requests.
     pub fn new(alloc: Global, timing: Timing, plan: &Plan) -> Result<Self, AllocError>
         ensures timing { IfOk result (λ loads. loads.timing ≡ timing) }
-        ensures asked { IfOk result (λ loads. (stays : APlannedUnit → Bool) × TellsWhoStays plan.now stays
+        ensures asked { IfOk result (λ loads. (stays : APlannedUnit → Bool) × DecidesWhoStays plan.now stays
             × (asked_in loads ≡ asked_of timing plan.now stays)) }
         ensures count { IfOk result (λ loads. length loads.flows.items ≡ length plan.now.flows.items) }
         ensures memory { OnErr result ((plan.now.flows.items ≢ []) ⊎ (plan.now.requests.items ≢ [])) }

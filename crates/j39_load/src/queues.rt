@@ -1,7 +1,7 @@
 //! Frames of units whose controllers keep no order.
 
-mod companies;
-mod offers;
+mod buffering_delays;
+mod queue_groups;
 
-pub(crate) use companies::keep_order;
-pub(crate) use offers::{Offers, offers_of};
+pub(crate) use buffering_delays::{BufferingDelays, buffering_delays_of};
+pub(crate) use queue_groups::keep_order;

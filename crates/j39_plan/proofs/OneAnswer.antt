@@ -23,18 +23,18 @@ use Rattle.j39_tables.specs.InOrder.{Each, inside}
 use Rattle.j39_tables.specs.Outcome.{first}
 use Rattle.j39_plan.specs.UnitTables.{IsUnitOf}
 use Rattle.j39_signal.specs.declared.selector.Selector.{Selector}
-use Rattle.j39_plan.specs.SelectorTables.{TellsWhen, when_table}
+use Rattle.j39_plan.specs.SelectorTables.{DescribesWhen, when_table}
 use Rattle.j39_plan.specs.SignalTables.{IsMeaningOf, IsSignalOf}
 use Rattle.j39_plan.specs.MeaningTables.{AreValueNames, name_table}
 use Rattle.j39_plan.specs.TextTables.{IsTextOf}
 use Rattle.j39_plan.specs.GroupTables.{IsGroupOf, signal_rule, text_tables_of}
-use Rattle.j39_plan.specs.FlowTables.{IsFlowOf, TellsPace, place_of}
+use Rattle.j39_plan.specs.FlowTables.{IsFlowOf, DescribesPace, place_of}
 use Rattle.j39_plan.specs.NeedTables.{IsNeedOf, need_signal_rule, signals_at}
 use Rattle.j39_plan.specs.RequestTables.{IsRequestOf}
-use Rattle.j39_plan.specs.TimingTables.{TellsBus, TellsErrors, TellsTiming, errors_table}
+use Rattle.j39_plan.specs.TimingTables.{DescribesBus, DescribesErrors, DescribesTiming, errors_table}
 use Rattle.j39_plan.specs.Schema.{tables_of, found_text}
 use Rattle.j39_plan.specs.PlanFaults.{faults, units_rule, groups_rule, flows_rule, timing_table, need_tables, request_tables, unit_labels, group_labels, group_signals, version_of}
-use Rattle.j39_plan.specs.Described.{TellsPlan, Described, Reads}
+use Rattle.j39_plan.specs.Described.{DescribesPlan, Described, Reads}
 use Rattle.j39_plan.specs.OnePlan.{AreOneUnit, AreOneSelector, AreOneSignal, AreOneValueName, AreOneMeaning, AreOneText, AreOneGroup, AreOneErrorRate, AreOneBus, AreOneTiming, AreOnePace, AreOneFlowPlan, AreOneNeed, AreOneRequest, AreOnePlan, AreOneAnswer}
 
 -- what elements tell is one, where what each tells is
@@ -97,7 +97,7 @@ one_meaning version d m n a b = record {
   values = one_names (name_table version (inside d)) m.values.items n.values.items a.has_values b.has_values;
 }
 
-one_selector : (found : Option Members) (v w : Option Selector) → TellsWhen found v → TellsWhen found w → AreOneSelector v w
+one_selector : (found : Option Members) (v w : Option Selector) → DescribesWhen found v → DescribesWhen found w → AreOneSelector v w
 one_selector None None None a b = tt
 one_selector None None (Some w) a b = absurd b
 one_selector None (Some v) w a b = absurd a
@@ -120,7 +120,7 @@ one_group version d g h a b = record {
   texts = one_each IsTextOf AreOneText one_text (text_tables_of version (inside d)) _ _ a.has_texts b.has_texts;
 }
 
-one_errors : (tree : Option Members) (e f : Option ErrorRate) → TellsErrors tree e → TellsErrors tree f → AreOneErrorRate e f
+one_errors : (tree : Option Members) (e f : Option ErrorRate) → DescribesErrors tree e → DescribesErrors tree f → AreOneErrorRate e f
 one_errors None None None a b = tt
 one_errors None None (Some f) a b = absurd b
 one_errors None (Some e) f a b = absurd a
@@ -128,7 +128,7 @@ one_errors (Some ms) None f a b = absurd a
 one_errors (Some ms) (Some e) None a b = absurd b
 one_errors (Some ms) (Some e) (Some f) a b = (a.has_count ∙ sym b.has_count, a.has_every ∙ sym b.has_every)
 
-one_bus : (version : Version) (ms : Members) (t u : Timing) → TellsBus version ms t → TellsBus version ms u → AreOneBus t u
+one_bus : (version : Version) (ms : Members) (t u : Timing) → DescribesBus version ms t → DescribesBus version ms u → AreOneBus t u
 one_bus version ms t u a b = record {
   bitrates = a.has_bitrate ∙ sym b.has_bitrate;
   unplanned = a.has_unplanned ∙ sym b.has_unplanned;
@@ -139,7 +139,7 @@ one_bus version ms t u a b = record {
   errors = one_errors (errors_table version ms) t.errors u.errors a.has_errors b.has_errors;
 }
 
-one_timing : (version : Version) (tree : Option Members) (t u : Option Timing) → TellsTiming version tree t → TellsTiming version tree u → AreOneTiming t u
+one_timing : (version : Version) (tree : Option Members) (t u : Option Timing) → DescribesTiming version tree t → DescribesTiming version tree u → AreOneTiming t u
 one_timing version None None None a b = tt
 one_timing version None None (Some u) a b = absurd b
 one_timing version None (Some t) u a b = absurd a
@@ -147,7 +147,7 @@ one_timing version (Some ms) None u a b = absurd a
 one_timing version (Some ms) (Some t) None a b = absurd b
 one_timing version (Some ms) (Some t) (Some u) a b = one_bus version ms t u a b
 
-one_pace : (version : Version) (ms : Members) (p q : Option Pace) → TellsPace version ms p → TellsPace version ms q → AreOnePace p q
+one_pace : (version : Version) (ms : Members) (p q : Option Pace) → DescribesPace version ms p → DescribesPace version ms q → AreOnePace p q
 one_pace version ms None None a b = tt
 one_pace version ms None (Some q) a b = absurd (none-some _ (a.has_period ∙ sym b.has_period))
 one_pace version ms (Some p) None a b = absurd (none-some _ (b.has_period ∙ sym a.has_period))
@@ -187,7 +187,7 @@ one_request groups units d r s a b = record {
   periods = a.has_period ∙ sym b.has_period;
 }
 
-one_plan : (tree : Members) (p q : Plan) → TellsPlan tree p → TellsPlan tree q → AreOnePlan p q
+one_plan : (tree : Members) (p q : Plan) → DescribesPlan tree p → DescribesPlan tree q → AreOnePlan p q
 one_plan tree p q a b = record {
   keep_free = a.has_keep_free ∙ sym b.has_keep_free;
   strangers = a.has_strangers ∙ sym b.has_strangers;

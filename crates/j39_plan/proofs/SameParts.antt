@@ -15,15 +15,15 @@ use Rattle.j39_plan.specs.Schema.{tables_of}
 use Rattle.j39_plan.specs.UnitTables.{name_of, any_identity_of, queue_of, claims_of, IsUnitOf}
 use Rattle.j39_plan.specs.SignalTables.{kind_of, kind_rule, per_of, repeated_of, IsSignalOf, IsMeaningOf}
 use Rattle.j39_plan.specs.MeaningTables.{optional_of, spn_of, name_table, AreValueNames}
-use Rattle.j39_plan.specs.SelectorTables.{when_table, TellsWhen}
+use Rattle.j39_plan.specs.SelectorTables.{when_table, DescribesWhen}
 use Rattle.j39_plan.specs.TextTables.{IsTextOf}
 use Rattle.j39_plan.specs.GroupTables.{length_rule, private_of, most_of, every_of, signal_rule, text_tables_of, IsGroupOf}
 use Rattle.j39_plan.specs.FlowTables.{given_period, given_deadline, jitter_of, pause_of, on_request_of, IsFlowOf}
-use Rattle.j39_plan.specs.TimingTables.{bitrate_of, bitrate_rule, unplanned_priority_of, transport_priority_of, gap_of, gap_most_of, errors_table, TellsErrors, TellsBus, TellsTiming}
+use Rattle.j39_plan.specs.TimingTables.{bitrate_of, bitrate_rule, unplanned_priority_of, transport_priority_of, gap_of, gap_most_of, errors_table, DescribesErrors, DescribesBus, DescribesTiming}
 use Rattle.j39_plan.specs.NeedTables.{IsNeedOf}
 use Rattle.j39_plan.specs.RequestTables.{IsRequestOf}
 use Rattle.j39_plan.specs.PlanFaults.{version_of, strangers_of, live_of, timing_table, units_rule, groups_rule, flows_rule, group_labels, group_signals, unit_labels, need_tables, request_tables}
-use Rattle.j39_plan.specs.Described.{keep_free_of, TellsPlan}
+use Rattle.j39_plan.specs.Described.{keep_free_of, DescribesPlan}
 
 -- ---- units
 
@@ -120,7 +120,7 @@ group_as d g same signals meanings told = record {
   has_private = told.has_private ∙ same.private;
   has_most = told.has_most ∙ same.most;
   has_every = told.has_every ∙ same.every;
-  has_when = subst (λ t. TellsWhen t g.when) same.when told.has_when;
+  has_when = subst (λ t. DescribesWhen t g.when) same.when told.has_when;
   has_signals = signals told.has_signals;
   has_meanings = meanings told.has_meanings;
   has_texts = subst (λ ds. Each IsTextOf ds g.texts.items) same.texts told.has_texts;
@@ -190,7 +190,7 @@ bus_back same = record {
   errors = sym same.errors;
 }
 
-bus_as : {one other : Version} {ms : Members} (t : Timing) → SameBus one other ms → TellsBus one ms t → TellsBus other ms t
+bus_as : {one other : Version} {ms : Members} (t : Timing) → SameBus one other ms → DescribesBus one ms t → DescribesBus other ms t
 bus_as t same told = record {
   has_bitrate = told.has_bitrate ∙ same.bitrate;
   has_unplanned = told.has_unplanned;
@@ -198,14 +198,14 @@ bus_as t same told = record {
   has_transport_priority = told.has_transport_priority ∙ same.transport_priority;
   has_gap = told.has_gap ∙ same.gap;
   has_gap_most = told.has_gap_most ∙ same.gap_most;
-  has_errors = subst (λ found. TellsErrors found t.errors) same.errors told.has_errors;
+  has_errors = subst (λ found. DescribesErrors found t.errors) same.errors told.has_errors;
 }
 
-bus_both : {one other : Version} {ms : Members} (t : Timing) → SameBus one other ms → TellsBus one ms t ↔ TellsBus other ms t
+bus_both : {one other : Version} {ms : Members} (t : Timing) → SameBus one other ms → DescribesBus one ms t ↔ DescribesBus other ms t
 bus_both t same = (bus_as t same, bus_as t (bus_back same))
 
 pub timing_both : (one other : Version) (found : Option Members) (t : Option Timing) → IfSome found (SameBus one other)
-    → TellsTiming one found t ↔ TellsTiming other found t
+    → DescribesTiming one found t ↔ DescribesTiming other found t
 timing_both one other None None same = (λ told. told, λ told. told)
 timing_both one other None (Some t) same = (λ told. absurd told, λ told. absurd told)
 timing_both one other (Some ms) None same = (λ told. absurd told, λ told. absurd told)
@@ -218,7 +218,7 @@ pub record SamePlan (s t : Members) (p : Plan) : Type 0 where
   pub keep_free : keep_free_of s ≡ keep_free_of t
   pub strangers : strangers_of (version_of s) s ≡ strangers_of (version_of t) t
   pub live : live_of (version_of s) s ≡ live_of (version_of t) t
-  pub timing : TellsTiming (version_of s) (timing_table s) p.timing ↔ TellsTiming (version_of t) (timing_table t) p.timing
+  pub timing : DescribesTiming (version_of s) (timing_table s) p.timing ↔ DescribesTiming (version_of t) (timing_table t) p.timing
   pub units : Each (IsUnitOf (version_of s)) (tables_of units_rule s) p.units.items ↔ Each (IsUnitOf (version_of t)) (tables_of units_rule t) p.units.items
   pub groups : Each (IsGroupOf (version_of s)) (tables_of groups_rule s) p.groups.items
       ↔ Each (IsGroupOf (version_of t)) (tables_of groups_rule t) p.groups.items
@@ -229,7 +229,7 @@ pub record SamePlan (s t : Members) (p : Plan) : Type 0 where
   pub requests : Each (IsRequestOf (group_labels s) (unit_labels s)) (request_tables s) p.requests.items
       ↔ Each (IsRequestOf (group_labels t) (unit_labels t)) (request_tables t) p.requests.items
 
-plan_as : {s t : Members} {p : Plan} → SamePlan s t p → TellsPlan s p → TellsPlan t p
+plan_as : {s t : Members} {p : Plan} → SamePlan s t p → DescribesPlan s p → DescribesPlan t p
 plan_as same told = record {
   has_keep_free = told.has_keep_free ∙ same.keep_free;
   has_strangers = told.has_strangers ∙ same.strangers;
@@ -258,5 +258,5 @@ plan_back same = record {
   requests = turned same.requests;
 }
 
-pub plan_both : {s t : Members} {p : Plan} → SamePlan s t p → TellsPlan s p ↔ TellsPlan t p
+pub plan_both : {s t : Members} {p : Plan} → SamePlan s t p → DescribesPlan s p ↔ DescribesPlan t p
 plan_both same = (plan_as same, plan_as (plan_back same))

@@ -18,7 +18,7 @@ use Rattle.j39_plan.specs.GroupTables.{IsGroupOf}
 use Rattle.j39_plan.specs.FlowTables.{IsFlowOf}
 use Rattle.j39_plan.specs.NeedTables.{IsNeedOf}
 use Rattle.j39_plan.specs.RequestTables.{IsRequestOf}
-use Rattle.j39_plan.specs.TimingTables.{TellsTiming}
+use Rattle.j39_plan.specs.TimingTables.{DescribesTiming}
 use Rattle.j39_plan.specs.PlanFaults.{faults, version_of, keep_free_rule, timing_table, units_rule, groups_rule, flows_rule}
 use Rattle.j39_plan.specs.PlanFaults.{strangers_of, live_of, need_tables, request_tables, unit_labels, group_labels, group_signals}
 
@@ -30,11 +30,11 @@ abbrev pub keep_free_of : Members → FinSet nat_cmp
 keep_free_of tree = kept_of (version_of tree) tree
 
 -- what stands at the keys of the top table, the elements of its arrays as they stand there
-pub record TellsTop (tree : Members) (t : TopTable) : Type 0 where
+pub record DescribesTop (tree : Members) (t : TopTable) : Type 0 where
   pub has_keep_free : t.keep_free ≡ keep_free_of tree
   pub has_strangers : t.strangers ≡ strangers_of (version_of tree) tree
   pub has_live : t.live ≡ live_of (version_of tree) tree
-  pub has_timing : TellsTiming (version_of tree) (timing_table tree) t.timing
+  pub has_timing : DescribesTiming (version_of tree) (timing_table tree) t.timing
   pub has_units : items_view t.units.now ≡ tables_of units_rule tree
   pub has_groups : items_view t.groups.now ≡ tables_of groups_rule tree
   pub has_flows : items_view t.flows.now ≡ tables_of flows_rule tree
@@ -43,11 +43,11 @@ pub record TellsTop (tree : Members) (t : TopTable) : Type 0 where
 
 -- what the plan keeps free, how many strangers it tells of, whether its bus is live, what it knows of the bus, its units, groups, flows, needs and
 -- requests are those of the tree
-pub record TellsPlan (tree : Members) (p : Plan) : Type 0 where
+pub record DescribesPlan (tree : Members) (p : Plan) : Type 0 where
   pub has_keep_free : p.keep_free ≡ keep_free_of tree
   pub has_strangers : p.strangers ≡ strangers_of (version_of tree) tree
   pub has_live : p.live ≡ live_of (version_of tree) tree
-  pub has_timing : TellsTiming (version_of tree) (timing_table tree) p.timing
+  pub has_timing : DescribesTiming (version_of tree) (timing_table tree) p.timing
   pub has_units : Each (IsUnitOf (version_of tree)) (tables_of units_rule tree) p.units.items
   pub has_groups : Each (IsGroupOf (version_of tree)) (tables_of groups_rule tree) p.groups.items
   pub has_flows : Each (IsFlowOf (version_of tree) (group_labels tree) (unit_labels tree)) (tables_of flows_rule tree) p.flows.items
@@ -56,8 +56,8 @@ pub record TellsPlan (tree : Members) (p : Plan) : Type 0 where
 
 -- the tree has no fault, and the plan is what it tells
 abbrev pub Described : Members → Plan → Type 0
-Described tree p = (faults tree ≡ []) × TellsPlan tree p
+Described tree p = (faults tree ≡ []) × DescribesPlan tree p
 
 -- the plan that the tree describes, or its first fault, or that there is no tree, unless memory ran out
 abbrev pub Reads : Result Plan PlanError → Option Members → Type 0
-Reads = ReadsTree faults TellsPlan
+Reads = ReadsTree faults DescribesPlan

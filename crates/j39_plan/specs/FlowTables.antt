@@ -1,4 +1,4 @@
--- The tables of flows. Since the third version it is known how often a flow is sent, since the fourth also how far behind its moments, for how long it
+-- The tables of flows. Since the third version it is known how often a flow is sent, since the fourth also how far behind its releases, for how long it
 -- is silent, and whether it is sent on request alone.
 use Rattle.std.specs.Prelude.{◌≡◌, ℕ, ◌-◌, List, [], ◌∷◌, ◌++◌, Bool, false, ◌&&◌, ◌||◌, if◌then◌else◌, Option}
 use Rattle.std.specs.Prelude.{Some, None, IfSome, option_map, option_and_then, codes, is_some, position}
@@ -48,7 +48,7 @@ period_rule version ms = period_of (asks_for_period version ms)
 abbrev pub deadline_rule : PlanRule
 deadline_rule = optional key.Deadline 1 65535
 
--- a message is queued at most so many milliseconds after its moment: fewer than its period has
+-- a message is queued at most so many milliseconds after its release: fewer than its period has
 abbrev pub jitter_most : Option ℕ → ℕ
 jitter_most None = 65535
 jitter_most (Some period) = period - 1
@@ -126,22 +126,22 @@ abbrev pub on_request_of : Version → Members → Bool
 on_request_of version ms = if is_known Fourth version then flag_of on_request_rule ms else false
 
 -- how often a flow is sent, where its table tells it
-pub record TellsPace (version : Version) (ms : Members) (pace : Option Pace) : Type 0 where
+pub record DescribesPace (version : Version) (ms : Members) (pace : Option Pace) : Type 0 where
   pub has_period : option_map (λ p. p.period) pace ≡ given_period version ms
   pub has_deadline : IfSome pace (λ p. p.deadline ≡ given_deadline version ms)
   pub has_jitter : IfSome pace (λ p. p.jitter ≡ jitter_of version (given_period version ms) ms)
 
 -- the flow that a table tells, by the labels of the groups and of the units
-pub record TellsFlow (version : Version) (groups units : List (List ℕ)) (ms : Members) (f : FlowPlan) : Type 0 where
+pub record DescribesFlow (version : Version) (groups units : List (List ℕ)) (ms : Members) (f : FlowPlan) : Type 0 where
   pub has_group : option_and_then (place_of groups) (found_text group_rule ms) ≡ Some f.group
   pub has_sender : option_and_then (place_of units) (found_text from_rule ms) ≡ Some f.sender
   pub has_receivers : option_and_then (receivers units) (found_text to_rule ms) ≡ Some f.to
-  pub has_pace : TellsPace version ms f.pace
+  pub has_pace : DescribesPace version ms f.pace
   pub has_pause : f.pause ≡ pause_of version (given_period version ms) ms
   pub has_on_request : f.on_request ≡ on_request_of version ms
 
 abbrev pub IsFlowOf : Version → List (List ℕ) → List (List ℕ) → Data → FlowPlan → Type 0
-IsFlowOf version groups units d f = TellsFlow version groups units (inside d) f
+IsFlowOf version groups units d f = DescribesFlow version groups units (inside d) f
 
 -- a text that names nothing
 abbrev pub unknown_label : {X : Type 0} → Table → Key → Option X → List PlanFault

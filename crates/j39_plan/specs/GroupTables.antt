@@ -19,7 +19,7 @@ use Rattle.j39_plan.specs.LabelsSeen.{repeated_faults, label_in, label_rule}
 use Rattle.j39_plan.specs.Since.{Since, since, is_known, known, rules_of, keys_of, known_keys, known_faults}
 use Rattle.j39_plan.specs.declared.reading.version.Version.{Version}
 use Rattle.j39_plan.specs.declared.reading.version.Version.TheVariants.{First, Third, Fourth}
-use Rattle.j39_plan.specs.SelectorTables.{TellsWhen, when_faults, when_rule, when_table}
+use Rattle.j39_plan.specs.SelectorTables.{DescribesWhen, when_faults, when_rule, when_table}
 use Rattle.j39_plan.specs.SignalTables.{IsMeaningOf, IsSignalOf, signal_faults}
 use Rattle.j39_plan.specs.TextTables.{IsTextOf, text_faults}
 
@@ -96,7 +96,7 @@ abbrev pub text_tables_of : Version → Members → Items
 text_tables_of version ms = if is_known Third version then tables_of text_rule ms else no_items
 
 -- the group that a table tells
-pub record TellsGroup (version : Version) (ms : Members) (g : GroupPlan) : Type 0 where
+pub record DescribesGroup (version : Version) (ms : Members) (g : GroupPlan) : Type 0 where
   pub has_label : g.label.bytes ≡ text_of label_rule ms
   pub has_pgn : g.pgn ≡ number_of pgn_rule ms
   pub has_priority : g.priority ≡ number_of priority_rule ms
@@ -104,7 +104,7 @@ pub record TellsGroup (version : Version) (ms : Members) (g : GroupPlan) : Type 
   pub has_private : g.private ≡ private_of version ms
   pub has_most : g.most ≡ most_of version (number_of length_rule ms) ms
   pub has_every : g.every ≡ every_of version ms
-  pub has_when : TellsWhen (when_table version ms) g.when
+  pub has_when : DescribesWhen (when_table version ms) g.when
   pub has_signals : Each (IsSignalOf version) (tables_of signal_rule ms) g.signals.items
   pub has_meanings : Each (IsMeaningOf version) (tables_of signal_rule ms) g.meanings.items
   pub has_texts : Each IsTextOf (text_tables_of version ms) g.texts.items
@@ -116,11 +116,11 @@ OlderGroupRules = (version : Version) (ms : Members) → is_known Third version 
 
 -- and its messages have one length and no records
 abbrev pub OlderLengths : Type 0
-OlderLengths = (version : Version) (ms : Members) (g : GroupPlan) → is_known Third version ≡ false → TellsGroup version ms g
+OlderLengths = (version : Version) (ms : Members) (g : GroupPlan) → is_known Third version ≡ false → DescribesGroup version ms g
     → (g.most ≡ g.length) × (g.every ≡ None)
 
 abbrev pub IsGroupOf : Version → Data → GroupPlan → Type 0
-IsGroupOf version d g = TellsGroup version (inside d) g
+IsGroupOf version d g = DescribesGroup version (inside d) g
 
 abbrev pub signals_faults : Version → ℕ → Members → List PlanFault
 signals_faults version g ms = each_faults (signal_faults version (has_records version ms) g) label_in 0 [] (tables_of signal_rule ms)

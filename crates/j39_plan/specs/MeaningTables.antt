@@ -55,12 +55,12 @@ AreValueNames (member k d ms) (n ∷ ns) = (n.raw ≡ digits_value 10 k) × (as_
 AreValueNames _ _ = ⊥
 
 -- what the keys of a table tell of a signal, its names as the file has them
-pub record TellsKeys (version : Version) (ms : Members) (m : MeaningKeys) : Type 0 where
+pub record DescribesKeys (version : Version) (ms : Members) (m : MeaningKeys) : Type 0 where
   pub has_optional : m.optional ≡ optional_of version ms
   pub has_spn : m.spn ≡ spn_of version ms
   pub has_names : unwrap_or (option_map (λ t. table_view t.now) m.names) no_members ≡ name_table version ms
 
 -- what a table tells of a signal
-pub record TellsMeaning (version : Version) (ms : Members) (m : Meaning) : Type 0 where
+pub record DescribesMeaning (version : Version) (ms : Members) (m : Meaning) : Type 0 where
   pub has_spn : m.spn ≡ spn_of version ms
   pub has_values : AreValueNames (name_table version ms) m.values.items

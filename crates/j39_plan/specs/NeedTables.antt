@@ -55,7 +55,7 @@ abbrev pub named_group : List (List ℕ) → Members → Option ℕ
 named_group groups ms = option_and_then (place_of groups) (found_text need_group_rule ms)
 
 -- the need that a table tells, by the labels of the groups, of the signals of each, and of the units
-pub record TellsNeed (groups : List (List ℕ)) (signals : List (List (List ℕ))) (units : List (List ℕ)) (ms : Members) (d : NeedPlan) : Type 0 where
+pub record DescribesNeed (groups : List (List ℕ)) (signals : List (List (List ℕ))) (units : List (List ℕ)) (ms : Members) (d : NeedPlan) : Type 0 where
   pub has_unit : option_and_then (place_of units) (found_text need_unit_rule ms) ≡ Some d.unit
   pub has_group : named_group groups ms ≡ Some d.group
   pub has_signal : d.signal ≡ option_and_then (place_of (signals_at signals (Some d.group))) (found_text need_signal_rule ms)
@@ -63,7 +63,7 @@ pub record TellsNeed (groups : List (List ℕ)) (signals : List (List (List ℕ)
   pub has_within : d.within ≡ given_number within_rule ms
 
 abbrev pub IsNeedOf : List (List ℕ) → List (List (List ℕ)) → List (List ℕ) → Data → NeedPlan → Type 0
-IsNeedOf groups signals units d need = TellsNeed groups signals units (inside d) need
+IsNeedOf groups signals units d need = DescribesNeed groups signals units (inside d) need
 
 -- behind the faults of the keys, texts that name no unit, no group, no signal of this group and no unit
 unfoldable pub need_table_faults : List (List ℕ) → List (List (List ℕ)) → List (List ℕ) → ℕ → Members → List PlanFault

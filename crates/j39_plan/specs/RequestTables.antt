@@ -33,14 +33,14 @@ abbrev pub request_rules : List PlanRule
 request_rules = asked_group_rule ∷ asker_rule ∷ asked_rule ∷ request_period_rule ∷ []
 
 -- the request that a table tells, by the labels of the groups and of the units
-pub record TellsRequest (groups units : List (List ℕ)) (ms : Members) (r : RequestPlan) : Type 0 where
+pub record DescribesRequest (groups units : List (List ℕ)) (ms : Members) (r : RequestPlan) : Type 0 where
   pub has_group : option_and_then (place_of groups) (found_text asked_group_rule ms) ≡ Some r.group
   pub has_sender : option_and_then (place_of units) (found_text asker_rule ms) ≡ Some r.sender
   pub has_receivers : option_and_then (receivers units) (found_text asked_rule ms) ≡ Some r.to
   pub has_period : r.period ≡ given_number request_period_rule ms
 
 abbrev pub IsRequestOf : List (List ℕ) → List (List ℕ) → Data → RequestPlan → Type 0
-IsRequestOf groups units d r = TellsRequest groups units (inside d) r
+IsRequestOf groups units d r = DescribesRequest groups units (inside d) r
 
 -- behind the faults of the keys, texts that name no group, no unit that asks, and nobody to ask
 unfoldable pub request_table_faults : List (List ℕ) → List (List ℕ) → ℕ → Members → List PlanFault

@@ -26,7 +26,7 @@ abbrev pub selector_rules : Members → List PlanRule
 selector_rules ms = byte_rule ∷ bit_rule ∷ selector_bits_rule ∷ selector_value_rule (number_of selector_bits_rule ms) ∷ []
 
 -- the selector that a table tells
-pub record TellsSelector (ms : Members) (w : Selector) : Type 0 where
+pub record DescribesSelector (ms : Members) (w : Selector) : Type 0 where
   pub has_start : w.start ≡ start_of (number_of byte_rule ms) (number_of bit_rule ms)
   pub has_bits : w.bits ≡ number_of selector_bits_rule ms
   pub has_value : w.value ≡ number_of (selector_value_rule (number_of selector_bits_rule ms)) ms
@@ -44,10 +44,10 @@ abbrev pub when_table : Version → Members → Option Members
 when_table version ms = if is_known Fourth version then table_of when_rule ms else None
 
 -- where there is a table of it
-abbrev pub TellsWhen : Option Members → Option Selector → Type 0
-TellsWhen None None = Unit {0}
-TellsWhen (Some ms) (Some w) = TellsSelector ms w
-TellsWhen _ _ = ⊥
+abbrev pub DescribesWhen : Option Members → Option Selector → Type 0
+DescribesWhen None None = Unit {0}
+DescribesWhen (Some ms) (Some w) = DescribesSelector ms w
+DescribesWhen _ _ = ⊥
 
 abbrev pub when_faults : Version → ℕ → Members → List PlanFault
 when_faults version g ms = option_map_or (selector_table_faults g) (when_table version ms) []

@@ -22,7 +22,7 @@ use Rattle.j39_plan.specs.Since.{Since, since, is_known, known, rules_of, versio
 use Rattle.j39_plan.specs.declared.reading.version.Version.{Version}
 use Rattle.j39_plan.specs.declared.reading.version.Version.TheVariants.{First, Third}
 use Rattle.j39_plan.specs.declared.reading.text_kind.TextKind.{TextKind}
-use Rattle.j39_plan.specs.MeaningTables.{TellsMeaning, meaning_rules, optional_of}
+use Rattle.j39_plan.specs.MeaningTables.{DescribesMeaning, meaning_rules, optional_of}
 use Rattle.j39_tables.specs.InOrder.{inside}
 use Rattle.j39_plan.specs.LabelsSeen.{label_in, label_rule, repeated_faults}
 
@@ -127,7 +127,7 @@ abbrev pub start_of : ℕ → ℕ → ℕ
 start_of byte bit = 8 * (byte - 1) + (bit - 1)
 
 -- the signal that a table tells
-pub record TellsSignal (version : Version) (ms : Members) (s : SignalParts) : Type 0 where
+pub record DescribesSignal (version : Version) (ms : Members) (s : SignalParts) : Type 0 where
   pub has_label : s.label.bytes ≡ text_of label_rule ms
   pub has_start : s.start ≡ start_of (number_of byte_rule ms) (number_of bit_rule ms)
   pub has_bits : s.bits ≡ number_of bits_rule ms
@@ -140,11 +140,11 @@ pub record TellsSignal (version : Version) (ms : Members) (s : SignalParts) : Ty
   pub has_optional : s.optional ≡ optional_of version ms
 
 abbrev pub IsSignalOf : Version → Data → SignalParts → Type 0
-IsSignalOf version d s = TellsSignal version (inside d) s
+IsSignalOf version d s = DescribesSignal version (inside d) s
 
 -- what is said of it besides
 abbrev pub IsMeaningOf : Version → Data → Meaning → Type 0
-IsMeaningOf version d m = TellsMeaning version (inside d) m
+IsMeaningOf version d m = DescribesMeaning version (inside d) m
 
 -- what is true of every signal that is read, in a group with records or without
 pub record IsFit (records : Bool) (s : SignalParts) : Type 0 where

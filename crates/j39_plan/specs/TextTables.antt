@@ -24,13 +24,13 @@ abbrev pub text_rules : List PlanRule
 text_rules = label_rule ∷ byte_rule ∷ bytes_rule ∷ []
 
 -- the text that a table tells
-pub record TellsText (ms : Members) (t : TextPlan) : Type 0 where
+pub record DescribesText (ms : Members) (t : TextPlan) : Type 0 where
   pub has_label : t.label.bytes ≡ text_of label_rule ms
   pub has_byte : t.byte ≡ number_of byte_rule ms
   pub has_bytes : t.bytes ≡ given_number bytes_rule ms
 
 abbrev pub IsTextOf : Data → TextPlan → Type 0
-IsTextOf d t = TellsText (inside d) t
+IsTextOf d t = DescribesText (inside d) t
 
 unfoldable pub text_table_faults : Table → Members → List PlanFault
 text_table_faults at ms = table_faults word_of at text_rules ms

@@ -29,15 +29,15 @@ abbrev pub error_rules : List PlanRule
 error_rules = count_rule ∷ error_window_rule ∷ []
 
 -- how many frames are damaged at most, as a table tells it
-pub record TellsErrorRate (ms : Members) (rate : ErrorRate) : Type 0 where
+pub record DescribesErrorRate (ms : Members) (rate : ErrorRate) : Type 0 where
   pub has_count : rate.count ≡ number_of count_rule ms
   pub has_every : rate.every ≡ number_of error_window_rule ms
 
 -- where there is a table of it
-abbrev pub TellsErrors : Option Members → Option ErrorRate → Type 0
-TellsErrors None None = Unit {0}
-TellsErrors (Some ms) (Some rate) = TellsErrorRate ms rate
-TellsErrors _ _ = ⊥
+abbrev pub DescribesErrors : Option Members → Option ErrorRate → Type 0
+DescribesErrors None None = Unit {0}
+DescribesErrors (Some ms) (Some rate) = DescribesErrorRate ms rate
+DescribesErrors _ _ = ⊥
 
 unfoldable pub error_table_faults : Members → List PlanFault
 error_table_faults ms = table_faults word_of at.TimingErrors error_rules ms
@@ -108,20 +108,20 @@ abbrev pub errors_table : Version → Members → Option Members
 errors_table version ms = if is_known Fourth version then table_of errors_rule ms else None
 
 -- what a table tells of the bus
-pub record TellsBus (version : Version) (ms : Members) (timing : Timing) : Type 0 where
+pub record DescribesBus (version : Version) (ms : Members) (timing : Timing) : Type 0 where
   pub has_bitrate : timing.bitrate ≡ bitrate_of (number_of (bitrate_rule version) ms)
   pub has_unplanned : timing.unplanned ≡ number_of unplanned_rule ms
   pub has_unplanned_priority : timing.unplanned_priority ≡ unplanned_priority_of version ms
   pub has_transport_priority : timing.transport_priority ≡ transport_priority_of version ms
   pub has_gap : timing.broadcast_gap ≡ gap_of version ms
   pub has_gap_most : timing.broadcast_gap_most ≡ gap_most_of version ms
-  pub has_errors : TellsErrors (errors_table version ms) timing.errors
+  pub has_errors : DescribesErrors (errors_table version ms) timing.errors
 
 -- what is known of the bus, where there is a table of it
-abbrev pub TellsTiming : Version → Option Members → Option Timing → Type 0
-TellsTiming version None None = Unit {0}
-TellsTiming version (Some ms) (Some timing) = TellsBus version ms timing
-TellsTiming _ _ _ = ⊥
+abbrev pub DescribesTiming : Version → Option Members → Option Timing → Type 0
+DescribesTiming version None None = Unit {0}
+DescribesTiming version (Some ms) (Some timing) = DescribesBus version ms timing
+DescribesTiming _ _ _ = ⊥
 
 -- the faults of the table, and then those of the table of errors
 unfoldable pub timing_table_faults : Version → Members → List PlanFault

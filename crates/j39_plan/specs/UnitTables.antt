@@ -145,7 +145,7 @@ abbrev pub any_identity_of : Version → Members → Bool
 any_identity_of version ms = option_map_or (lacks_identity version) (table_of name_rule ms) false
 
 -- the unit that a table tells
-pub record TellsUnit (version : Version) (ms : Members) (u : UnitPlan) : Type 0 where
+pub record DescribesUnit (version : Version) (ms : Members) (u : UnitPlan) : Type 0 where
   pub has_label : u.label.bytes ≡ text_of unit_label_rule ms
   pub has_address : u.address ≡ number_of address_rule ms
   pub has_way : u.way ≡ way_of (text_of chooser_rule ms)
@@ -156,7 +156,7 @@ pub record TellsUnit (version : Version) (ms : Members) (u : UnitPlan) : Type 0 
   pub has_claims : u.claims ≡ claims_of version ms
 
 abbrev pub IsUnitOf : Version → Data → UnitPlan → Type 0
-IsUnitOf version d u = TellsUnit version (inside d) u
+IsUnitOf version d u = DescribesUnit version (inside d) u
 
 abbrev pub unit_label_in : Data → List ℕ
 unit_label_in d = text_of unit_label_rule (inside d)

@@ -5,7 +5,7 @@ ghost use Rattle.j39_tables.specs.Outcome.{GivesGrowing};
 ghost use Rattle.j39_tables.specs.declared.file_error.FileError.TheVariants as errors;
 ghost use Rattle.j39_plan.specs.Growing.{PlanGrows};
 ghost use Rattle.j39_plan.specs.PlanFaults.{faults};
-ghost use Rattle.j39_plan.specs.Described.{TellsPlan, Reads};
+ghost use Rattle.j39_plan.specs.Described.{DescribesPlan, Reads};
 ghost use Rattle.j39_tables.specs.FileTrees.{tree_of, MayAskForRoom};
 
 mod flows;
@@ -49,7 +49,7 @@ pub use version::Version;
 
 #[tactic(auto, using(j39_tables::proofs::FirstFaults::faults_after))]
 fn read_top(alloc: Global, members: &toml::Table) -> Result<Plan, PlanError>
-    ensures { GivesGrowing (PlanGrows (table_view members.now)) result (faults (table_view members.now)) (TellsPlan (table_view members.now)) }
+    ensures { GivesGrowing (PlanGrows (table_view members.now)) result (faults (table_view members.now)) (DescribesPlan (table_view members.now)) }
 {
     let version = version_of(members);
     let top = top(members)?;
@@ -97,7 +97,7 @@ fn read_top(alloc: Global, members: &toml::Table) -> Result<Plan, PlanError>
 /// requests. One of
 /// version 2, 3 or 4 may keep up to 120 addresses of 128 to 247 free; one of version 1 keeps none. Versions 3 and 4 know groups of several
 /// lengths, with records of signals that are repeated, more kinds of signals, what their values are divided by, 64 texts of a group, what
-/// is known of the bus itself, and how often flows are sent. Version 4 knows more of the bus, how far behind its moments a flow is sent,
+/// is known of the bus itself, and how often flows are sent. Version 4 knows more of the bus, how far behind its releases a flow is sent,
 /// for how long it is silent, whether it is sent on request alone, which unit needs what and which one asks whom for what, units that
 /// never claim, how many strangers may come, whether the bus is live, the numbers of signals, and names of their raw numbers.
 ///

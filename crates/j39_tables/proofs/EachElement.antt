@@ -14,12 +14,12 @@ pub record Reading (T L F : Type 0) : Type 1 where
   pub data_label : Data → L
   pub label : T → L
   pub Grows : ℕ → List L → Data → Type 0
-  pub Tells : Data → T → Type 0
+  pub Describes : Data → T → Type 0
 
 -- What was read so far is what the elements but the last ones tell, and the faults of all are those of the last ones.
 pub record IsRead {T L F : Type 0} (r : Reading T L F) (i : ℕ) (so_far : List T) (left all : Items) : Type 0 where
   pub same_faults : each_faults r.faults r.data_label 0 [] all ≡ each_faults r.faults r.data_label i (map r.label so_far) left
-  pub told : (ys : List T) → Each r.Tells left ys → Each r.Tells all (so_far ++ ys)
+  pub told : (ys : List T) → Each r.Describes left ys → Each r.Describes all (so_far ++ ys)
   pub labels : map r.label so_far ++ labels_of r.data_label left ≡ labels_of r.data_label all
   pub count : length so_far ≡ i
   pub begun : ((i ≡ 0) × (so_far ≡ []) × (left ≡ all)) ⊎ EachGrows r.faults r.Grows all
@@ -41,7 +41,7 @@ grows_inside r i so_far d left all read grows = elim read.begun [
 ]
 
 pub goes_on : {T L F : Type 0} (r : Reading T L F) (i : ℕ) (so_far : List T) (d : Data) (left all : Items) (x : T)
-    → IsRead r i so_far (item d left) all → r.faults i (map r.label so_far) d ≡ [] → r.Tells d x → r.label x ≡ r.data_label d
+    → IsRead r i so_far (item d left) all → r.faults i (map r.label so_far) d ≡ [] → r.Describes d x → r.label x ≡ r.data_label d
     → IsRead r (i + 1) (so_far ++ x ∷ []) left all
 unfolding each_faults Each labels_of
 goes_on r i so_far d left all x read none tells same = record {
@@ -59,9 +59,9 @@ unfolding each_faults
 stops_at r i so_far d left all f read here = rw (read.same_faults) (first-append _ _ f here)
 
 pub ends : {T L F : Type 0} (r : Reading T L F) (i : ℕ) (so_far : List T) (all : Items)
-    → IsRead r i so_far no_items all → (each_faults r.faults r.data_label 0 [] all ≡ []) × Each r.Tells all so_far
+    → IsRead r i so_far no_items all → (each_faults r.faults r.data_label 0 [] all ≡ []) × Each r.Describes all so_far
 unfolding each_faults Each
-ends r i so_far all read = (read.same_faults, subst (Each r.Tells all) (append-nil so_far) (read.told [] tt))
+ends r i so_far all read = (read.same_faults, subst (Each r.Describes all) (append-nil so_far) (read.told [] tt))
 
 pub labels_told : {T L F : Type 0} (r : Reading T L F) (i : ℕ) (so_far : List T) (all : Items)
     → IsRead r i so_far no_items all → map r.label so_far ≡ labels_of r.data_label all

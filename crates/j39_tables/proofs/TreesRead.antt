@@ -23,19 +23,19 @@ no_tree bytes not = elim (is_utf8 bytes) as (λ b. is_utf8 bytes ≡ b → tree_
   | false ↦ λ e. rw e
 ] refl
 
-pub reads_tree : {X F : Type 0} (faults : Members → List F) (Tells : Members → X → Type 0) (Grows : Type 0) (r : Result X (FileError F)) (t : Members)
-    (tree : Option Members) → tree ≡ Some t → GivesGrowing Grows r (faults t) (Tells t) → ReadsTree faults Tells r tree
-reads_tree faults Tells Grows (Ok x) t tree found gives = (t, found, gives)
-reads_tree faults Tells Grows (Err errors.Text) t tree found gives = absurd gives
-reads_tree faults Tells Grows (Err (errors.Fault f)) t tree found gives = (t, found, gives)
-reads_tree faults Tells Grows (Err errors.Memory) t tree found gives = tt
+pub reads_tree : {X F : Type 0} (faults : Members → List F) (Describes : Members → X → Type 0) (Grows : Type 0) (r : Result X (FileError F)) (t : Members)
+    (tree : Option Members) → tree ≡ Some t → GivesGrowing Grows r (faults t) (Describes t) → ReadsTree faults Describes r tree
+reads_tree faults Describes Grows (Ok x) t tree found gives = (t, found, gives)
+reads_tree faults Describes Grows (Err errors.Text) t tree found gives = absurd gives
+reads_tree faults Describes Grows (Err (errors.Fault f)) t tree found gives = (t, found, gives)
+reads_tree faults Describes Grows (Err errors.Memory) t tree found gives = tt
 
 -- what finds no tree reads none
-pub reads_none : {X Y F : Type 0} (faults : Members → List F) (Tells : Members → X → Type 0) (shown : Y → Members) (bytes : List ℕ) (e : FileError F)
-    → FindsTree shown bytes (Err e) → ReadsTree faults Tells (Err e) (tree_of bytes)
-reads_none faults Tells shown bytes errors.Text found = found
-reads_none faults Tells shown bytes (errors.Fault f) found = absurd found
-reads_none faults Tells shown bytes errors.Memory found = tt
+pub reads_none : {X Y F : Type 0} (faults : Members → List F) (Describes : Members → X → Type 0) (shown : Y → Members) (bytes : List ℕ) (e : FileError F)
+    → FindsTree shown bytes (Err e) → ReadsTree faults Describes (Err e) (tree_of bytes)
+reads_none faults Describes shown bytes errors.Text found = found
+reads_none faults Describes shown bytes (errors.Fault f) found = absurd found
+reads_none faults Describes shown bytes errors.Memory found = tt
 
 -- ---- memory
 
@@ -60,12 +60,12 @@ never_blank Grows text t never is grows = λ blank.
     never (subst Grows empty grows)
 
 -- where a tree is read that asks for no room if it is empty, room is asked for of more than a blank text
-pub room_asked : {X F : Type 0} (faults : Members → List F) (Tells : Members → X → Type 0) (Grows : Members → Type 0)
+pub room_asked : {X F : Type 0} (faults : Members → List F) (Describes : Members → X → Type 0) (Grows : Members → Type 0)
     (r : Result X (FileError F)) (bytes : List ℕ) (t : Members)
-    → ¬ Grows no_members → tree_of bytes ≡ Some t → GivesGrowing (Grows t) r (faults t) (Tells t) → IsErrOf r errors.Memory
+    → ¬ Grows no_members → tree_of bytes ≡ Some t → GivesGrowing (Grows t) r (faults t) (Describes t) → IsErrOf r errors.Memory
     → MayAskForRoom bytes
-room_asked faults Tells Grows (Ok x) bytes t never is gives memory = cc
-room_asked {F = F} faults Tells Grows (Err e) bytes t never is gives memory =
+room_asked faults Describes Grows (Ok x) bytes t never is gives memory = cc
+room_asked {F = F} faults Describes Grows (Err e) bytes t never is gives memory =
     let same : e ≡ errors.Memory = cc in
     let P : FileError F → Type 0 = λ x. FailsGrowing (Grows t) x (faults t) in
     let here = parsed bytes t is in

@@ -25,7 +25,7 @@ FindsTree shown bytes (Err errors.Memory) = MayAskForRoom bytes
 
 -- what the tree tells, where it has no fault, or its first fault, or that there is no tree, unless memory ran out
 abbrev pub ReadsTree : {X F : Type 0} → (Members → List F) → (Members → X → Type 0) → Result X (FileError F) → Option Members → Type 0
-ReadsTree faults Tells (Ok x) tree = (t : Members) × (tree ≡ Some t) × ((faults t ≡ []) × Tells t x)
-ReadsTree faults Tells (Err errors.Text) tree = tree ≡ None
-ReadsTree faults Tells (Err (errors.Fault f)) tree = (t : Members) × (tree ≡ Some t) × (first (faults t) ≡ Some f)
-ReadsTree faults Tells (Err errors.Memory) tree = Unit {0}
+ReadsTree faults Describes (Ok x) tree = (t : Members) × (tree ≡ Some t) × ((faults t ≡ []) × Describes t x)
+ReadsTree faults Describes (Err errors.Text) tree = tree ≡ None
+ReadsTree faults Describes (Err (errors.Fault f)) tree = (t : Members) × (tree ≡ Some t) × (first (faults t) ≡ Some f)
+ReadsTree faults Describes (Err errors.Memory) tree = Unit {0}

@@ -28,7 +28,7 @@ pub trait ReadElement<T, F> {
     ghost Grows: { Self → ℕ → List Label → Data → Type 0 };
 
     // What the element tells.
-    ghost Tells: { Self → Data → T → Type 0 };
+    ghost Describes: { Self → Data → T → Type 0 };
 
     fn read(
         &self,
@@ -38,7 +38,7 @@ pub trait ReadElement<T, F> {
         value: &Value,
     ) -> Result<T, FileError<F>>
         ensures gives { GivesGrowing (Grows self.now index (map label seen.now) (view value.now)) result
-            (faults self.now index (map label seen.now) (view value.now)) (Tells self.now (view value.now)) }
+            (faults self.now index (map label seen.now) (view value.now)) (Describes self.now (view value.now)) }
         ensures labelled { IfOk result (λ x. label x ≡ data_label (view value.now)) };
 }
 
@@ -50,7 +50,7 @@ pub fn read_each<T: Drop, F: Copy, R: ReadElement<T, F>>(
 ) -> Result<Vec<T>, FileError<F>>
     ensures gives { GivesGrowing (EachGrows (R.faults reader.now) (R.Grows reader.now) (items_view values.now)) result
         (each_faults (R.faults reader.now) R.data_label 0 [] (items_view values.now))
-        (λ v. Each (R.Tells reader.now) (items_view values.now) v.items) }
+        (λ v. Each (R.Describes reader.now) (items_view values.now) v.items) }
     ensures labels { IfOk result (λ v. map R.label v.items ≡ labels_of R.data_label (items_view values.now)) }
     ensures count { IfOk result (λ v. length v.items ≡ length values.now) }
 {

@@ -8,7 +8,7 @@ use Rattle.j39_timing.specs.Sums.{total}
 use Rattle.j39_timing.specs.TimedFrames.{Schedule, IsLegal, Waits}
 use Rattle.j39_timing.specs.declared.stream.Stream.{Stream}
 use Rattle.j39_timing.specs.FrameStreams.{Origins, AreOfStreams}
-use Rattle.j39_timing.specs.Traffic.{Traffic, Others, IsPlannedTraffic, IsSingle, HasRoom, IsStreamInTime, PlannedFramesWait, AreQueuedBehind, AreSteady, delay_of}
+use Rattle.j39_timing.specs.Traffic.{Traffic, Others, IsPlannedTraffic, IsSingle, DemandFits, IsStreamInTime, PlannedFramesWait, AreQueuedBehind, AreSteady, delay_of}
 use Rattle.j39_timing.specs.Traffic.{may_go_before, may_share, others_before, others_queued, is_other_queued}
 use Rattle.j39_timing.specs.Messages.{AreSentWithin}
 use Rattle.j39_timing.specs.Waits.{demand_of, lesser_share, share}
@@ -27,7 +27,7 @@ counted false false itself other longest small less = omega arith
 
 module _ (s : Schedule) (traffic : Traffic) (others : Others) (longest : ℕ) (planned : ℕ → Bool) (of : Origins) (legal : IsLegal s)
     (i wait : ℕ) (known : IsPlannedTraffic s traffic others longest planned of i)
-    (positive : (j : ℕ) → j < traffic.count → 0 < (traffic.stream j).period) (room : HasRoom traffic others longest i wait) where
+    (positive : (j : ℕ) → j < traffic.count → 0 < (traffic.stream j).period) (demand_fits : DemandFits traffic others longest i wait) where
   abbrev own : ℕ → Bool
   own p = planned p && eqb (of.source p) i
 
@@ -86,7 +86,7 @@ module _ (s : Schedule) (traffic : Traffic) (others : Others) (longest : ℕ) (p
         rw (none) (omega arith)
   ]
 
-  -- ---- single frames whose moments are a period apart
+  -- ---- single frames whose releases are a period apart
 
   module _ (single : IsSingle (traffic.stream i)) (fits : delay_of (traffic.stream i) wait ≤ (traffic.stream i).period) where
     -- the streams, where a frame of this one is as long as any
@@ -95,7 +95,7 @@ module _ (s : Schedule) (traffic : Traffic) (others : Others) (longest : ℕ) (p
       frames = (traffic.stream j).frames;
       period = (traffic.stream j).period;
       bits = cond (eqb j i) longest (traffic.stream j).bits;
-      late = (traffic.stream j).late;
+      jitter = (traffic.stream j).jitter;
       wanted = (traffic.stream j).wanted;
     }
 
@@ -110,8 +110,8 @@ module _ (s : Schedule) (traffic : Traffic) (others : Others) (longest : ℕ) (p
               | false ↦ keeps.bits_at_most
             ];
             turns = keeps.turns;
-            moment_first = keeps.moment_first;
-            late_at_most = keeps.late_at_most;
+            release_first = keeps.release_first;
+            jitter_at_most = keeps.jitter_at_most;
           };
       spaced = known.of_streams.spaced;
     }
@@ -135,15 +135,15 @@ module _ (s : Schedule) (traffic : Traffic) (others : Others) (longest : ℕ) (p
       short = known.longest_at_most x in_x
 
       -- of its stream no other frame is queued in a wait and the bit behind
-      one_message : div_ceil (wait + 1 + (traffic.stream i).late) (traffic.stream i).period ≤ 1
+      one_message : div_ceil (wait + 1 + (traffic.stream i).jitter) (traffic.stream i).period ≤ 1
       one_message =
           let bits : s.bits x ≤ (traffic.stream i).bits = subst (λ j. s.bits x ≤ (traffic.stream j).bits) source (known.of_streams.keeps x in_x is_planned).bits_at_most in
           let some = shortest in
-          let few_slots = (div_ceil_times (wait + 1 + (traffic.stream i).late) (traffic.stream i).period (omega (arith, bits, some, fits))).1 in
-          elim (cases_lt 1 (div_ceil (wait + 1 + (traffic.stream i).late) (traffic.stream i).period)) [
+          let few_slots = (div_ceil_times (wait + 1 + (traffic.stream i).jitter) (traffic.stream i).period (omega (arith, bits, some, fits))).1 in
+          elim (cases_lt 1 (div_ceil (wait + 1 + (traffic.stream i).jitter) (traffic.stream i).period)) [
             | inr one ↦ one
             | inl two ↦
-                let more : (traffic.stream i).period * 2 ≤ (traffic.stream i).period * div_ceil (wait + 1 + (traffic.stream i).late) (traffic.stream i).period =
+                let more : (traffic.stream i).period * 2 ≤ (traffic.stream i).period * div_ceil (wait + 1 + (traffic.stream i).jitter) (traffic.stream i).period =
                 mul-le-mul_left (traffic.stream i).period two in
                 absurd (omega (arith, more, few_slots, bits, some, fits))
           ]
@@ -161,9 +161,9 @@ module _ (s : Schedule) (traffic : Traffic) (others : Others) (longest : ℕ) (p
           (lesser_share traffic.demands (wait + 1) (traffic.stream j)) longest (λ same.
           let at : j ≡ i = eqb-true j i same in
           let frames : (traffic.stream j).frames ≡ 1 = ap (λ k. (traffic.stream k).frames) at ∙ single in
-          let slots : div_ceil (wait + 1 + (traffic.stream j).late) (traffic.stream j).period ≤ 1 =
-          subst (λ k. div_ceil (wait + 1 + (traffic.stream k).late) (traffic.stream k).period ≤ 1) (sym at) one in
-          let bits : longest * div_ceil (wait + 1 + (traffic.stream j).late) (traffic.stream j).period ≤ longest * 1 = mul-le-mul_left longest slots in
+          let slots : div_ceil (wait + 1 + (traffic.stream j).jitter) (traffic.stream j).period ≤ 1 =
+          subst (λ k. div_ceil (wait + 1 + (traffic.stream k).jitter) (traffic.stream k).period ≤ 1) (sym at) one in
+          let bits : longest * div_ceil (wait + 1 + (traffic.stream j).jitter) (traffic.stream j).period ≤ longest * 1 = mul-le-mul_left longest slots in
           let most : share (wait + 1) (streams j) ≤ longest = rw (same, frames) (omega (arith, bits)) in
           let less : lesser_share traffic.demands (wait + 1) (streams j) ≤ share (wait + 1) (streams j) =
           lesser-most (wait + 1) (streams j) (demand_of traffic.demands (streams j)) in
@@ -175,8 +175,8 @@ module _ (s : Schedule) (traffic : Traffic) (others : Others) (longest : ℕ) (p
           omega (arith, equal))) in
           omega (arith, itself, two)
 
-      roomy : longest * (1 + count) + shares_of traffic.count streams traffic.demands may wait ≤ wait + longest
-      roomy = let most = shares_most in omega (arith, most, room)
+      it_fits : longest * (1 + count) + shares_of traffic.count streams traffic.demands may wait ≤ wait + longest
+      it_fits = let most = shares_most in omega (arith, most, demand_fits)
 
       -- what goes with it: frames of smaller identifiers, and of its own one those of its stream and of twins
       abbrev with_it : ℕ → Bool
@@ -211,7 +211,7 @@ module _ (s : Schedule) (traffic : Traffic) (others : Others) (longest : ℕ) (p
 
       some : 1 ≤ wait
       some = some_wait s traffic.count streams traffic.demands planned of of_streams known.as_wanted positive may with_it goes wait longest count longest x in_x is_planned x_with x_bits
-          (omega arith) shortest short roomy
+          (omega arith) shortest short it_fits
 
       -- what goes before it: of its own identifier only planned frames do
       abbrev first : ℕ → Bool
@@ -320,7 +320,7 @@ module _ (s : Schedule) (traffic : Traffic) (others : Others) (longest : ℕ) (p
             let (begin, is_busy) = busy_with s planned first longest wait legal.positive legal.queued_first legal.never_idle known.longest_at_most x in_x
             is_planned seen late closed in
             too_full s traffic.count streams traffic.demands planned of of_streams known.as_wanted positive may with_it goes wait longest count longest x in_x is_planned x_with x_bits
-            (omega arith) shortest short roomy first itself first_with begin is_busy.before is_busy (fewer begin is_busy.waiting)
+            (omega arith) shortest short it_fits first itself first_with begin is_busy.before is_busy (fewer begin is_busy.waiting)
 
     pub begun_in_time : (p : ℕ) → p < s.count → planned p ≡ true → of.source p ≡ i → s.queued p + wait < s.now → s.start p ≤ s.queued p + wait
     begun_in_time p in_p is same seen = elim (cases_lt (s.queued p + wait) (s.start p)) [
@@ -330,8 +330,8 @@ module _ (s : Schedule) (traffic : Traffic) (others : Others) (longest : ℕ) (p
 
     pub stream_in_time : IsStreamInTime s planned of i (traffic.stream i) wait
     stream_in_time p in_p is same seen =
-        let late : s.queued p ≤ of.since p + (traffic.stream i).late =
-        subst (λ j. s.queued p ≤ of.since p + (traffic.stream j).late) same (known.of_streams.keeps p in_p is).late_at_most in
+        let late : s.queued p ≤ of.since p + (traffic.stream i).jitter =
+        subst (λ j. s.queued p ≤ of.since p + (traffic.stream j).jitter) same (known.of_streams.keeps p in_p is).jitter_at_most in
         let begins : s.start p ≤ s.queued p + wait = elim (cases_lt (s.queued p + wait) (s.start p)) [
           | inr in_time ↦ in_time
           | inl later ↦ absurd (not_late p in_p is same (omega arith) later)
@@ -401,7 +401,7 @@ module _ (s : Schedule) (traffic : Traffic) (others : Others) (longest : ℕ) (p
           let has = is_busy.busy (wait + 1) (omega arith) in
           let most = planned_most in
           let few_bits : longest * others_queued s planned (s.ident x) begin (s.queued x + wait) ≤ longest * count = mul-le-mul_left longest fewer in
-          omega (arith, has, most, few_bits, room)
+          omega (arith, has, most, few_bits, demand_fits)
 
     begins_in_time : (x : ℕ) → x < s.count → own x ≡ true → s.queued x + wait < s.now → s.start x ≤ s.queued x + wait
     begins_in_time x in_x is_x seen = elim (cases_lt (s.queued x + wait) (s.start x)) [

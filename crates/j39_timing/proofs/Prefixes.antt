@@ -4,7 +4,7 @@ use Rattle.std.proofs.lemmas.Bool.{and_parts, and_from, cases_Bool, lt-ltb, leb-
 use Rattle.j39_timing.specs.TimedFrames.{Schedule, IsLegal}
 use Rattle.j39_timing.specs.declared.stream.Stream.{Stream}
 use Rattle.j39_timing.specs.FrameStreams.{AreOfStreams, Origins}
-use Rattle.j39_timing.specs.Traffic.{Traffic, Others, IsPlannedTraffic, IsSingle, HasRoom, PlannedFramesWait, delay_of, is_other_queued, others_queued}
+use Rattle.j39_timing.specs.Traffic.{Traffic, Others, IsPlannedTraffic, IsSingle, DemandFits, PlannedFramesWait, delay_of, is_other_queued, others_queued}
 use Rattle.j39_timing.specs.Prefixes.{seen_until, planned_until, IsPlannedUntil, AreBegunUntil}
 use Rattle.j39_timing.proofs.PlannedTraffic.{begun_in_time}
 use Rattle.j39_timing.proofs.Sums.{total-le}
@@ -43,8 +43,8 @@ still_of_streams s by ident its count stream of known = record {
         known = keeps.known;
         bits_at_most = keeps.bits_at_most;
         turns = keeps.turns;
-        moment_first = keeps.moment_first;
-        late_at_most = keeps.late_at_most;
+        release_first = keeps.release_first;
+        jitter_at_most = keeps.jitter_at_most;
       };
   spaced = known.spaced;
 }
@@ -149,8 +149,8 @@ module _ (s : Schedule) (traffic : Traffic) (others : Others) (longest : ℕ) (p
         omega (arith, fewer, most, alike);
   }
 
-  pub begun_until : IsLegal s → (wait : ℕ) → ((j : ℕ) → j < traffic.count → 0 < (traffic.stream j).period) → HasRoom traffic others longest i wait
+  pub begun_until : IsLegal s → (wait : ℕ) → ((j : ℕ) → j < traffic.count → 0 < (traffic.stream j).period) → DemandFits traffic others longest i wait
       → IsSingle (traffic.stream i) → delay_of (traffic.stream i) wait ≤ (traffic.stream i).period → AreBegunUntil s planned of i wait by
-  begun_until legal wait positive room single fits p in_p is source before =
-      begun_in_time then_seen traffic others longest then_planned of (still_legal s by others.least legal seen) i wait then_known positive room single fits
+  begun_until legal wait positive demand_fits single fits p in_p is source before =
+      begun_in_time then_seen traffic others longest then_planned of (still_legal s by others.least legal seen) i wait then_known positive demand_fits single fits
       p in_p (then_is p is (omega arith)) source before

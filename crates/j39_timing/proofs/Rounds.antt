@@ -134,8 +134,8 @@ module _ (x : Senders) (is : AreSenders x) (count : ℕ) where
         known = stream_below p;
         bits_at_most = omega arith;
         turns = omega arith;
-        moment_first = omega arith;
-        late_at_most = omega arith;
+        release_first = omega arith;
+        jitter_at_most = omega arith;
       };
       spaced = λ p q _ _ differ _ _ same _. elim (cases_lt p q) [
         | inl less ↦ inl (spaced p q less same)

@@ -24,8 +24,8 @@ IsUnordered controllers p = controllers.keeps_order (controllers.unit p) ≡ fal
 
 -- at bit t frame h may be the one that takes part in arbitration for the unit of frame p: it is the unit's too, is ready and hasn't begun
 -- before. For a unit that keeps order it is the one with the least identifier, so that each of its frames may be asked
-abbrev pub MayBeOffered : Schedule → Controllers → ℕ → ℕ → ℕ → Type 0
-MayBeOffered s controllers p h t =
+abbrev pub MayArbitrate : Schedule → Controllers → ℕ → ℕ → ℕ → Type 0
+MayArbitrate s controllers p h t =
     (h < s.count) × (controllers.unit h ≡ controllers.unit p) × IsQueuedAt s h t × (IsFromOrdered controllers p → h ≡ p)
 
 -- as `IsLegal`, but that a frame that begins has no larger identifier than one with which each unit with a waiting frame may take part
@@ -38,7 +38,7 @@ pub record IsLegalInAnyOrder (s : Schedule) (controllers : Controllers) : Type 0
   pub never_idle : (p t : ℕ) → p < s.count → t < s.now → Waits s p t → (q : ℕ) × (q < s.count) × IsOnBusAt s q t
   -- where frame q begins, the unit of each waiting frame p takes part with a frame, and q goes before it, or is it
   pub in_order : (p q : ℕ) → p < s.count → q < s.count → s.start q < s.now → Waits s p (s.start q)
-      → (h : ℕ) × MayBeOffered s controllers p h (s.start q) × (s.ident q ≤ s.ident h)
+      → (h : ℕ) × MayArbitrate s controllers p h (s.start q) × (s.ident q ≤ s.ident h)
 
 -- ---- buffering delay: the time from when a frame is queued until it takes part in each arbitration
 
@@ -47,15 +47,15 @@ abbrev pub is_passed_by : Schedule → ℕ → ℕ → Bool
 is_passed_by s p q = nat_lt (s.ident p) (s.ident q) && (nat_lt (s.queued p) (s.start q) && (nat_le (s.start q) (s.start p) && nat_lt (s.start q) s.now))
 
 -- the last bit at which one of the first n frames passes it; where none does, the one from which it is ready
-unfoldable pub offered_from : Schedule → ℕ → ℕ → ℕ
-offered_from s p zero = s.queued p
-offered_from s p (suc n) = cond (is_passed_by s p n && nat_lt (offered_from s p n) (s.start n)) (s.start n) (offered_from s p n)
+unfoldable pub buffered_until : Schedule → ℕ → ℕ → ℕ
+buffered_until s p zero = s.queued p
+buffered_until s p (suc n) = cond (is_passed_by s p n && nat_lt (buffered_until s p n) (s.start n)) (s.start n) (buffered_until s p n)
 
 -- the schedule in which each frame is queued at the end of its buffering delay
-abbrev pub as_offered : Schedule → Schedule
-as_offered s = record {
+abbrev pub after_buffering : Schedule → Schedule
+after_buffering s = record {
   count = s.count;
-  queued = λ p. offered_from s p s.count;
+  queued = λ p. buffered_until s p s.count;
   start = s.start;
   bits = s.bits;
   ident = s.ident;
@@ -78,11 +78,11 @@ HaveWaits s controllers traffic planned of i waits = (p : ℕ) → p < s.count �
 
 -- a stream whose frames may be queued so many bits later
 abbrev pub later_by : ℕ → Stream → Stream
-later_by more stream = record { frames = stream.frames; period = stream.period; bits = stream.bits; late = stream.late + more; wanted = stream.wanted }
+later_by more stream = record { frames = stream.frames; period = stream.period; bits = stream.bits; jitter = stream.jitter + more; wanted = stream.wanted }
 
 -- the streams where frames that wait in units without order count from the end of their buffering delays
-abbrev pub offered_traffic : Traffic → (ℕ → ℕ) → Traffic
-offered_traffic traffic waits = record {
+abbrev pub buffered_traffic : Traffic → (ℕ → ℕ) → Traffic
+buffered_traffic traffic waits = record {
   count = traffic.count;
   stream = λ j. later_by (waits j) (traffic.stream j);
   demands = traffic.demands;

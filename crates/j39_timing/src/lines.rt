@@ -43,7 +43,11 @@ fn wanted_stretch(wanted: &Wanted, stream: Stream, step: u64, span: u32) -> Stre
         known: 0,
         part: part_of(stream),
     };
-    let asked = wanted.line(stream.bits, step, u64::from(span) + u64::from(stream.late));
+    let asked = wanted.line(
+        stream.bits,
+        step,
+        u64::from(span) + u64::from(stream.jitter),
+    );
     if asked.part >= paced.part {
         return Stretch {
             line: paced,

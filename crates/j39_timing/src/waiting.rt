@@ -1,7 +1,7 @@
 //! The least wait of a frame.
 ghost use Rattle.std.specs.Prelude.{◌≡◌, ℕ, ◌+◌, ◌*◌, ◌<◌, ◌≤◌, ◌^◌, length, map, All, sum_by, IfSome, None};
-ghost use Rattle.j39_timing.specs.LeastShares.{HaveNoRoomFrom};
-ghost use Rattle.j39_timing.specs.Waits.{IsStream, IsWanted, as_demand, demand_of, frames_wanted, lesser_share, share, need, HaveNoRoom};
+ghost use Rattle.j39_timing.specs.LeastShares.{NoneFitsFrom};
+ghost use Rattle.j39_timing.specs.Waits.{IsStream, IsWanted, as_demand, demand_of, frames_wanted, lesser_share, share, need, NoShorterFits};
 
 use crate::lines::stretch_of_all;
 use crate::stream::Stream;
@@ -12,7 +12,7 @@ fn queued_bits(stream: Stream, span: u32) -> u64
     requires positive { IsStream stream }
     ensures share { result ≡ share span stream }
 {
-    let messages = (u64::from(span) + u64::from(stream.late)).div_ceil(u64::from(stream.period));
+    let messages = (u64::from(span) + u64::from(stream.jitter)).div_ceil(u64::from(stream.period));
     let bits = messages * u64::from(stream.bits);
     u64::from(stream.frames) * bits
 }
@@ -22,9 +22,9 @@ fn wanted_bits(wanted: &Wanted, stream: Stream, span: u32) -> u64
     requires positive { IsStream stream }
     requires sound { IsWanted wanted.now }
     requires span { span < 2 ^ 32 }
-    ensures { result ≡ frames_wanted (span + stream.late) (as_demand wanted.now) * stream.bits }
+    ensures { result ≡ frames_wanted (span + stream.jitter) (as_demand wanted.now) * stream.bits }
 {
-    wanted.frames(u64::from(span) + u64::from(stream.late)) * u64::from(stream.bits)
+    wanted.frames(u64::from(span) + u64::from(stream.jitter)) * u64::from(stream.bits)
 }
 
 /// The bits that a stream can queue in `span` bits.
@@ -64,7 +64,7 @@ fn first_allowed(all: &[Wanted], blocking: u32, streams: &[Stream], wait: u32, s
     requires few { length streams.now ≤ 2048 }
     requires sound { All IsWanted all.now }
     requires within { wait < 2 ^ 31 }
-    ensures { HaveNoRoomFrom (map as_demand all.now) blocking streams.now wait result }
+    ensures { NoneFitsFrom (map as_demand all.now) blocking streams.now wait result }
 {
     let stretch = stretch_of_all(all, streams, step, wait + 1);
     let parts = stretch.line.part;
@@ -87,8 +87,8 @@ pub fn least_wait(wanted: &[Wanted], blocking: u32, streams: &[Stream], most: u3
     requires sound { All IsWanted wanted.now }
     requires within { most < 2 ^ 31 }
     ensures found { let demands = map as_demand wanted.now in
-        IfSome result (λ w. (w ≤ most) × (need demands blocking streams.now w ≤ w) × HaveNoRoom demands blocking streams.now w) }
-    ensures none { result ≡ None → HaveNoRoom (map as_demand wanted.now) blocking streams.now (most + 1) }
+        IfSome result (λ w. (w ≤ most) × (need demands blocking streams.now w ≤ w) × NoShorterFits demands blocking streams.now w) }
+    ensures none { result ≡ None → NoShorterFits (map as_demand wanted.now) blocking streams.now (most + 1) }
 {
     let mut wait: u32 = 0;
     while wait <= most {

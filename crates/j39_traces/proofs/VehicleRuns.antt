@@ -10,7 +10,7 @@ use Rattle.j39_id.specs.Pgn.{is_pgn}
 use Rattle.j39_id.specs.Services.{is_service}
 use Rattle.j39_id.specs.declared.frame.Frame.{Frame}
 use Rattle.j39_id.specs.declared.ident.Ident.{Ident}
-use Rattle.j39_network.specs.Kinds.{AreToldApart, kind_of_name}
+use Rattle.j39_network.specs.Kinds.{AreDistinctUnits, kind_of_name}
 use Rattle.j39_network.specs.VehiclePlans.{IsBoxOf, IsVehicleOf}
 use Rattle.j39_network.specs.declared.plan.Plan.{Plan}
 use Rattle.j39_network.specs.declared.plan.flow_plan.FlowPlan.{FlowPlan}
@@ -70,7 +70,7 @@ pub boxes_keep_ends : (plan vehicle : Plan) → IsVehicleOf plan vehicle → Kee
 boxes_keep_ends plan vehicle is (inl settled) = inl (is.live ∙ settled)
 boxes_keep_ends plan vehicle is (inr clean) = inr (clean_vehicle plan vehicle is clean)
 
-module _ (plan vehicle : Plan) (is : IsVehicleOf plan vehicle) (apart : AreToldApart plan) where
+module _ (plan vehicle : Plan) (is : IsVehicleOf plan vehicle) (apart : AreDistinctUnits plan) where
   -- ---- the vehicle's plan
 
   pub distinct_boxes : AreNamesDistinct (units_of vehicle)

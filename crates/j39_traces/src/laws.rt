@@ -15,7 +15,7 @@ ghost use Rattle.j39_traces.specs.Telling.{EachIsTold, FramesTellHolders, HaveOw
 ghost use Rattle.j39_traces.specs.ToldFlows.{AreToldAsBegun, EachClaims};
 ghost use Rattle.j39_traces.specs.VehicleRuns.{AreVehiclesToldAsBegun, FramesTellOfVehicle, VehicleMessagesGoBetweenHolders};
 ghost use Rattle.j39_findings.specs.Findings.{Clean};
-ghost use Rattle.j39_network.specs.Kinds.{AreToldApart};
+ghost use Rattle.j39_network.specs.Kinds.{AreDistinctUnits};
 ghost use Rattle.j39_network.specs.VehiclePlans.{IsVehicleOf};
 
 /// In every world of every run of a plan whose NAMEs differ and that plans none of the network's own groups, with all lawful choices:
@@ -68,11 +68,11 @@ pub fn single_frames_are_told_as_begun()
 /// its own plan, in which each unit has the serial number of its box, is so by the plan of its type, by which the log
 /// is followed.
 pub fn types_tell_runs_of_vehicles()
-    ensures names { (plan vehicle : Plans) (steps : List Steps) (w : World) → IsVehicleOf plan vehicle → AreToldApart plan → HaveOwnNumbers plan
+    ensures names { (plan vehicle : Plans) (steps : List Steps) (w : World) → IsVehicleOf plan vehicle → AreDistinctUnits plan → HaveOwnNumbers plan
         → Run vehicle all_off steps w → FramesTellOfVehicle plan vehicle w }
-    ensures sent { (plan vehicle : Plans) (steps : List Steps) (w : World) → IsVehicleOf plan vehicle → AreToldApart plan → KeepsEnds plan
+    ensures sent { (plan vehicle : Plans) (steps : List Steps) (w : World) → IsVehicleOf plan vehicle → AreDistinctUnits plan → KeepsEnds plan
         → HaveOwnNumbers plan → Run vehicle all_off steps w → VehicleMessagesGoBetweenHolders plan vehicle w }
-    ensures logged { (plan vehicle : Plans) (steps : List Steps) (w : World) → IsVehicleOf plan vehicle → AreToldApart plan → KeepsEnds plan
+    ensures logged { (plan vehicle : Plans) (steps : List Steps) (w : World) → IsVehicleOf plan vehicle → AreDistinctUnits plan → KeepsEnds plan
         → HaveOwnNumbers plan → Run vehicle all_off steps w → EachGoesBetweenUnits plan w }
     ensures begun { (plan vehicle : Plans) (steps : List Steps) (w : World) → IsVehicleOf plan vehicle → Clean plan → EachClaims plan
         → Run vehicle all_off steps w → AreVehiclesToldAsBegun plan vehicle w }

@@ -35,12 +35,12 @@ abbrev pub named_bus : BusTable → Named
 named_bus b = labelled b.label.bytes
 
 -- the bus that a table tells
-pub record TellsBus (ms : Members) (b : BusTable) : Type 0 where
+pub record DescribesBus (ms : Members) (b : BusTable) : Type 0 where
   pub has_label : text_at key.Label ms ≡ Some b.label.bytes
   pub has_plan : text_at key.Plan ms ≡ Some (string_bytes b.plan)
 
 abbrev pub IsBusOf : Data → BusTable → Type 0
-IsBusOf d b = TellsBus (inside d) b
+IsBusOf d b = DescribesBus (inside d) b
 
 unfoldable pub bus_table_faults : ℕ → List Named → Members → List VehicleFault
 bus_table_faults i seen ms =

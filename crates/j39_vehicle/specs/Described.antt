@@ -14,7 +14,7 @@ use Rattle.j39_vehicle.specs.NeedTables.{IsNeedOf}
 use Rattle.j39_vehicle.specs.VehicleFaults.{faults}
 
 -- the buses, gateways, forwards and needs are those of the tree
-pub record TellsFile (tree : Members) (v : VehicleFile) : Type 0 where
+pub record DescribesFile (tree : Members) (v : VehicleFile) : Type 0 where
   pub has_buses : Each IsBusOf (elements_at key.Bus tree) v.buses.items
   pub has_gateways : Each IsGatewayOf (elements_at key.Gateway tree) v.gateways.items
   pub has_forwards : Each IsForwardOf (elements_at key.Forward tree) v.forwards.items
@@ -22,8 +22,8 @@ pub record TellsFile (tree : Members) (v : VehicleFile) : Type 0 where
 
 -- the tree has no fault, and the file says what it tells
 abbrev pub Described : Members → VehicleFile → Type 0
-Described tree v = (faults tree ≡ []) × TellsFile tree v
+Described tree v = (faults tree ≡ []) × DescribesFile tree v
 
 -- what the tree describes, or its first fault, or that there is no tree, unless memory ran out
 abbrev pub Reads : Result VehicleFile VehicleError → Option Members → Type 0
-Reads = ReadsTree faults TellsFile
+Reads = ReadsTree faults DescribesFile

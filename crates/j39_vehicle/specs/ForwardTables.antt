@@ -91,17 +91,17 @@ mode_of None = Direct
 mode_of (Some word) = if bytes_eq word (codes "periodic") then Periodic else Direct
 
 -- the signals of a forward: those of the array, or none without one
-abbrev pub TellsSignals : Option Items → Option (List SignalTable) → Type 0
-TellsSignals None None = Unit {0}
-TellsSignals (Some ds) (Some signals) = Each IsSignalOf ds signals
-TellsSignals _ _ = ⊥
+abbrev pub DescribesSignals : Option Items → Option (List SignalTable) → Type 0
+DescribesSignals None None = Unit {0}
+DescribesSignals (Some ds) (Some signals) = Each IsSignalOf ds signals
+DescribesSignals _ _ = ⊥
 
 -- the elements of an array, and none without one
 abbrev pub items_or_none : Option Items → Items
 items_or_none found = unwrap_or found no_items
 
 -- the forward that a table tells
-pub record TellsForward (ms : Members) (f : ForwardTable) : Type 0 where
+pub record DescribesForward (ms : Members) (f : ForwardTable) : Type 0 where
   pub has_gateway : text_at key.Gateway ms ≡ Some (string_bytes f.gateway)
   pub has_input : text_at key.Group ms ≡ Some (string_bytes f.input.text)
   pub has_from : text_at key.From ms ≡ option_map string_bytes f.from
@@ -111,10 +111,10 @@ pub record TellsForward (ms : Members) (f : ForwardTable) : Type 0 where
   pub has_to : text_at key.To ms ≡ option_map string_bytes f.to
   pub has_mode : f.mode ≡ mode_of (text_at key.Mode ms)
   pub has_within : f.within ≡ number_under key.Within ms
-  pub has_signals : TellsSignals (array_at key.Signal ms) (option_map (λ v. v.items) f.signals)
+  pub has_signals : DescribesSignals (array_at key.Signal ms) (option_map (λ v. v.items) f.signals)
 
 abbrev pub IsForwardOf : Data → ForwardTable → Type 0
-IsForwardOf d f = TellsForward (inside d) f
+IsForwardOf d f = DescribesForward (inside d) f
 
 abbrev pub forward_keys_faults : ℕ → Members → List VehicleFault
 forward_keys_faults i ms = table_faults word_of (at.Forward i) forward_rules ms

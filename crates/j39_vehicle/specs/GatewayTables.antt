@@ -69,12 +69,12 @@ abbrev pub named_gateway : GatewayTable → Named
 named_gateway g = record { label = g.label.bytes; units = map (λ n. string_bytes n.text) g.units.items }
 
 -- the gateway that a table tells
-pub record TellsGateway (ms : Members) (g : GatewayTable) : Type 0 where
+pub record DescribesGateway (ms : Members) (g : GatewayTable) : Type 0 where
   pub has_label : text_at key.Label ms ≡ Some g.label.bytes
   pub has_units : map (λ n. string_bytes n.text) g.units.items ≡ texts_in (elements_at key.Unit ms)
 
 abbrev pub IsGatewayOf : Data → GatewayTable → Type 0
-IsGatewayOf d g = TellsGateway (inside d) g
+IsGatewayOf d g = DescribesGateway (inside d) g
 
 -- a unit that can't stand there
 abbrev pub units_faults : ℕ → List Named → Items → List VehicleFault

@@ -30,7 +30,7 @@ abbrev pub is_on_bus : List Named → Key → Members → Bool
 is_on_bus buses unit_key ms = option_map_or (λ t. is_label_among buses (name_of t).bus) (text_at unit_key ms) false
 
 -- the need that a table tells
-pub record TellsNeed (ms : Members) (d : NeedTable) : Type 0 where
+pub record DescribesNeed (ms : Members) (d : NeedTable) : Type 0 where
   pub has_unit : text_at key.Unit ms ≡ Some (string_bytes d.unit.text)
   pub has_group : text_at key.Group ms ≡ Some (string_bytes d.group)
   pub has_signal : text_at key.Signal ms ≡ option_map string_bytes d.signal
@@ -38,7 +38,7 @@ pub record TellsNeed (ms : Members) (d : NeedTable) : Type 0 where
   pub has_within : d.within ≡ number_under key.Within ms
 
 abbrev pub IsNeedOf : Data → NeedTable → Type 0
-IsNeedOf d need = TellsNeed (inside d) need
+IsNeedOf d need = DescribesNeed (inside d) need
 
 -- behind the faults of the keys, units on no bus of the vehicle
 unfoldable pub need_table_faults : List Named → ℕ → Members → List VehicleFault

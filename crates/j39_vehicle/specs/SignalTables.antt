@@ -30,13 +30,13 @@ abbrev pub named_signal : SignalTable → Named
 named_signal s = labelled (string_bytes s.written)
 
 -- the signal that a table tells
-pub record TellsSignal (ms : Members) (s : SignalTable) : Type 0 where
+pub record DescribesSignal (ms : Members) (s : SignalTable) : Type 0 where
   pub has_read : text_at key.Label ms ≡ Some (string_bytes s.read)
   pub has_written : written_text ms ≡ string_bytes s.written
   pub has_exact : s.exact ≡ unwrap_or (truth_at key.Exact ms) true
 
 abbrev pub IsSignalOf : Data → SignalTable → Type 0
-IsSignalOf d s = TellsSignal (inside d) s
+IsSignalOf d s = DescribesSignal (inside d) s
 
 unfoldable pub signal_table_faults : ℕ → ℕ → List Named → Members → List VehicleFault
 signal_table_faults f i seen ms =

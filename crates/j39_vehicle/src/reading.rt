@@ -9,7 +9,7 @@ ghost use Rattle.j39_vehicle.specs.Schema.{elements_at};
 ghost use Rattle.j39_tables.specs.declared.file_error.FileError.TheVariants as errors;
 ghost use Rattle.j39_vehicle.specs.Growing.{FileGrows};
 ghost use Rattle.j39_vehicle.specs.VehicleFaults.{faults, top_faults};
-ghost use Rattle.j39_vehicle.specs.Described.{Reads, TellsFile};
+ghost use Rattle.j39_vehicle.specs.Described.{Reads, DescribesFile};
 
 mod buses;
 mod forward_labels;
@@ -84,7 +84,7 @@ fn top_arrays(members: &toml::Table) -> Result<Arrays<'_>, VehicleError>
 
 #[tactic(auto, using(j39_tables::proofs::FirstFaults::faults_after))]
 fn read_top(alloc: Global, members: &toml::Table) -> Result<VehicleFile, VehicleError>
-    ensures { GivesGrowing (FileGrows (table_view members.now)) result (faults (table_view members.now)) (TellsFile (table_view members.now)) }
+    ensures { GivesGrowing (FileGrows (table_view members.now)) result (faults (table_view members.now)) (DescribesFile (table_view members.now)) }
 {
     let arrays = top_arrays(members)?;
     let buses = read_each(alloc, &BusReader, arrays.buses)?;

@@ -54,7 +54,7 @@ pub fn bus_plan<S: Source, W: Sink>(
 ) -> Result<Option<Plan>, Fault>
     ensures answers { AnswersWhole (IsBusPlanText label.now.bytes) (IsRefusedBus label.now.bytes) plan_limits (S.state source.old) (S.state source.new)
         W.state sink.old sink.new result }
-    ensures silent { IfOk result (λ plan. OnSome plan (sink.new ≡ sink.old)) }
+    ensures writes_nothing { IfOk result (λ plan. OnSome plan (sink.new ≡ sink.old)) }
 {
     let input = read_whole(alloc, source)?;
     match read_plan(alloc, input.as_slice()) {

@@ -10,7 +10,7 @@ use j39_text::TextBuffer;
 use j39_vehicle::{Forward, Vehicle};
 use std::alloc::AllocError;
 
-// How long after its moment a message of the first flow that the forward feeds may be queued, in microseconds.
+// How long after its release a message of the first flow that the forward feeds may be queued, in microseconds.
 #[tactic(auto, unfolding(crate::specs::ForwardLines::output_jitter))]
 fn output_jitter(vehicle: &Vehicle, forward: &Forward) -> u64
     ensures { result ≡ output_jitter vehicle.now forward.now }

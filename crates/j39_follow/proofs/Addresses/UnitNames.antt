@@ -5,7 +5,7 @@ use Rattle.std.specs.Option.{option_or}
 use Rattle.std.proofs.lemmas.Bool.{cases_Bool, eq-eqb, eqb-false, ne_eqb, false≢true}
 use Rattle.std.proofs.lemmas.Iterator.Adapters.{position_from-zero}
 use Rattle.std.proofs.lemmas.Option.{none-some, same_Some}
-use Rattle.j39_network.specs.Kinds.{AreToldApart, MayHaveName, kind_of_name}
+use Rattle.j39_network.specs.Kinds.{AreDistinctUnits, MayHaveName, kind_of_name}
 use Rattle.j39_network.specs.declared.plan.Plan.{Plan}
 use Rattle.j39_network.specs.declared.plan.unit_plan.UnitPlan.{UnitPlan}
 use Rattle.j39_network.proofs.Boxes.{apart_at}
@@ -39,7 +39,7 @@ pub second_false : (a b : Bool) → b ≡ false → (a && b) ≡ false
 second_false true b e = e
 second_false false b e = refl
 
-module _ (plan : Plan) (told : AreToldApart plan) (u : ℕ) (unit : UnitPlan) (name : ℕ) (at : slice_get plan.units.items u ≡ Some unit)
+module _ (plan : Plan) (told : AreDistinctUnits plan) (u : ℕ) (unit : UnitPlan) (name : ℕ) (at : slice_get plan.units.items u ≡ Some unit)
     (may : MayHaveName unit name) where
   -- no other unit may have the NAME
   number_elsewhere : (k : ℕ) (q : UnitPlan) → k ≢ u → slice_get plan.units.items k ≡ Some q → (not q.any_identity && q.name == name) ≡ false

@@ -4,7 +4,7 @@ use Rattle.std.specs.List.{All, slice_get}
 use Rattle.std.specs.Option.{option_map_or}
 use Rattle.std.proofs.lemmas.List.Elements.{All-nil}
 use Rattle.j39_id.specs.Lines.{lines}
-use Rattle.j39_network.specs.Kinds.{AreToldApart}
+use Rattle.j39_network.specs.Kinds.{AreDistinctUnits}
 use Rattle.j39_network.specs.PlannedGroups.{IsFirstRefused, IsSendable}
 use Rattle.j39_network.specs.VehiclePlans.{IsVehicleOf}
 use Rattle.j39_network.specs.declared.plan.Plan.{Plan}
@@ -32,7 +32,7 @@ use Rattle.j39_follow.proofs.Vehicles.Units.{TellAlike, tell_alike}
 
 -- ---- no box of a vehicle is of any serial number
 
-module _ (plan vehicle : Plan) (is : IsVehicleOf plan vehicle) (apart : AreToldApart plan) where
+module _ (plan vehicle : Plan) (is : IsVehicleOf plan vehicle) (apart : AreDistinctUnits plan) where
   of_none : (o : Option ℕ) → is_of_any vehicle o ≡ false
   of_none None = refl
   of_none (Some u) = go (slice_get vehicle.units.items u) refl where
@@ -61,7 +61,7 @@ same_behind G p q same past units =
 
 -- ---- a log
 
-module _ (plan vehicle : Plan) (is : IsVehicleOf plan vehicle) (apart : AreToldApart plan) where
+module _ (plan vehicle : Plan) (is : IsVehicleOf plan vehicle) (apart : AreDistinctUnits plan) where
   abbrev Given : ℕ → Type 0
   Given = IsOfVehicle plan vehicle
 

@@ -8,7 +8,7 @@ use Rattle.std.proofs.lemmas.Bool.{cases_Bool, cases_eq, cases_lt, false≢true,
 use Rattle.std.proofs.lemmas.Bool.Decides.{Decides-ltb}
 use Rattle.std.proofs.lemmas.List.Quantifiers.{position-Some}
 use Rattle.std.proofs.lemmas.Option.{none-some, same_Some, slice_get-get_or}
-use Rattle.j39_network.specs.Kinds.{AreToldApart, MayHaveName, kind_of_name}
+use Rattle.j39_network.specs.Kinds.{AreDistinctUnits, MayHaveName, kind_of_name}
 use Rattle.j39_network.specs.VehiclePlans.{IsBoxOf, IsVehicleOf}
 use Rattle.j39_network.specs.declared.plan.Plan.{Plan}
 use Rattle.j39_network.specs.declared.plan.unit_plan.UnitPlan.{UnitPlan}
@@ -126,7 +126,7 @@ unit_may_have plan name u e = go (numbered_unit plan name) refl e where
 
 -- ---- a plan and the plan of a vehicle
 
-module _ (plan vehicle : Plan) (is : IsVehicleOf plan vehicle) (apart : AreToldApart plan) where
+module _ (plan vehicle : Plan) (is : IsVehicleOf plan vehicle) (apart : AreDistinctUnits plan) where
   abbrev Given : ℕ → Type 0
   Given = IsOfVehicle plan vehicle
 

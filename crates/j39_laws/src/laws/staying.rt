@@ -4,7 +4,7 @@ ghost use Rattle.j39_id.specs.Addresses.{in_pool};
 ghost use Rattle.j39_id.specs.Name.{is_arbitrary};
 ghost use Rattle.j39_claim.specs.ClaimRule.{PlannedUnit as PlannedUnits};
 ghost use Rattle.j39_findings.specs.Findings.{Clean, Holds};
-ghost use Rattle.j39_network.specs.Kinds.{AreToldApart};
+ghost use Rattle.j39_network.specs.Kinds.{AreDistinctUnits};
 ghost use Rattle.j39_network.specs.VehiclePlans.{IsVehicleOf};
 ghost use Rattle.j39_network.specs.declared.plan.Plan.{Plan as Plans};
 ghost use Rattle.j39_findings.specs.declared.checking.finding.Finding.TheVariants.{SameFixedAddress, SilentAddress};
@@ -67,6 +67,6 @@ pub fn silent_units_are_undisturbed()
 /// The same units stay in the plan and in that of each vehicle, also beside strangers, and the same are alone at their addresses, whatever the
 /// serial numbers of the boxes are, where no two units of the plan may be one.
 pub fn units_stay_in_each_vehicle()
-    ensures { (plan vehicle : Plans) → IsVehicleOf plan vehicle → AreToldApart plan
+    ensures { (plan vehicle : Plans) → IsVehicleOf plan vehicle → AreDistinctUnits plan
         → StayAlike plan.keep_free plan.strangers (units_of plan) (units_of vehicle) }
 {}

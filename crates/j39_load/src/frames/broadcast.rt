@@ -18,12 +18,12 @@ pub struct Broadcast {
     pub least_packets: u8,
     /// Whether others of the flow's messages go in one frame.
     pub has_short: bool,
-    /// How far apart the moments at which one is wanted are at least, in milliseconds.
+    /// How far apart the releases at which one is wanted are at least, in milliseconds.
     pub period: u16,
     /// The same in bits.
     pub apart: u32,
-    /// A message is ready to be sent at most so many bits after its moment.
-    pub late: u32,
-    /// Within so many bits of its moment each has to be whole, where a deadline is written.
+    /// A message is ready to be sent at most so many bits after its release.
+    pub jitter: u32,
+    /// Within so many bits of its release each has to be whole, where a deadline is written.
     pub deadline: Option<u32>,
 }

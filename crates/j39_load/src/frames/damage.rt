@@ -18,7 +18,7 @@ fn damage_stream(timing: Timing, rate: ErrorRate, bits: u16) -> Stream
         frames: rate.count,
         period: bits_of_ms(timing, rate.every),
         bits,
-        late: 0,
+        jitter: 0,
         wanted: None,
     }
 }

@@ -70,7 +70,7 @@ fn most_bytes(group: &GroupPlan) -> u8
 pub(crate) fn single_stream(timing: Timing, group: &GroupPlan, pace: Pace) -> Stream
     ensures stream { result ≡ single_stream timing group.now pace }
     ensures fits { IsStream result }
-    ensures late { result.late < 2 ^ 30 }
+    ensures jitter { result.jitter < 2 ^ 30 }
     ensures short { result.bits ≤ 160 }
     ensures few { result.frames ≤ 512 }
 {
@@ -78,7 +78,7 @@ pub(crate) fn single_stream(timing: Timing, group: &GroupPlan, pace: Pace) -> St
         frames: 1,
         period: bits_of_ms(timing, pace.period),
         bits: frame_bits(most_bytes(group)),
-        late: bits_of_ms(timing, pace.jitter),
+        jitter: bits_of_ms(timing, pace.jitter),
         wanted: None,
     }
 }
@@ -88,7 +88,7 @@ pub(crate) fn packet_stream(bus: &PlannedBus<'_>, packets: u8, unit: usize, pace
     requires receiver { unit < length (units_in bus.now) }
     ensures stream { result ≡ packet_stream bus.now.timing (units_in bus.now) packets unit pace }
     ensures fits { IsStream result }
-    ensures late { result.late < 2 ^ 30 }
+    ensures jitter { result.jitter < 2 ^ 30 }
     ensures short { result.bits ≤ 160 }
     ensures few { result.frames ≤ 512 }
 {
@@ -96,7 +96,7 @@ pub(crate) fn packet_stream(bus: &PlannedBus<'_>, packets: u8, unit: usize, pace
         frames: frames_to_one(bus, packets, unit),
         period: bits_of_ms(bus.timing, pace.period),
         bits: frame_bits(FRAME_BYTES as u8),
-        late: bits_of_ms(bus.timing, pace.period) + bits_of_ms(bus.timing, pace.jitter),
+        jitter: bits_of_ms(bus.timing, pace.period) + bits_of_ms(bus.timing, pace.jitter),
         wanted: None,
     }
 }
@@ -107,14 +107,14 @@ pub(crate) fn spaced_stream(timing: Timing, gaps: u8, place: usize) -> Stream
     requires { 1 ≤ gaps }
     ensures stream { result ≡ spaced_stream timing gaps place }
     ensures fits { IsStream result }
-    ensures late { result.late < 2 ^ 30 }
+    ensures jitter { result.jitter < 2 ^ 30 }
     ensures short { result.bits ≤ 160 }
 {
     Stream {
         frames: 1,
         period: u32::from(gaps) * bits_of_ms(timing, timing.broadcast_gap),
         bits: frame_bits(FRAME_BYTES as u8),
-        late: 0,
+        jitter: 0,
         wanted: Some(place),
     }
 }
@@ -124,7 +124,7 @@ pub(crate) fn request_stream(timing: Timing, period: u16) -> Stream
     requires { 1 ≤ period }
     ensures stream { result ≡ request_stream timing period }
     ensures fits { IsStream result }
-    ensures late { result.late < 2 ^ 30 }
+    ensures jitter { result.jitter < 2 ^ 30 }
     ensures short { result.bits ≤ 160 }
     ensures few { result.frames ≤ 512 }
 {
@@ -132,7 +132,7 @@ pub(crate) fn request_stream(timing: Timing, period: u16) -> Stream
         frames: 1,
         period: bits_of_ms(timing, period),
         bits: frame_bits(3),
-        late: 0,
+        jitter: 0,
         wanted: None,
     }
 }

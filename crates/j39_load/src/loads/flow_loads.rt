@@ -21,7 +21,7 @@ use j39_network::{FlowPlan, GroupPlan, Pace, Timing, To};
 use j39_tp::Size;
 use std::alloc::{AllocError, Global};
 
-// Within how many bits of its moment each frame of a flow of this pace has to be on the bus.
+// Within how many bits of its release each frame of a flow of this pace has to be on the bus.
 fn limit(timing: Timing, pace: Pace) -> u32
     ensures limit { result ≡ time_limit timing pace }
     ensures few { result < 2 ^ 31 }
@@ -124,7 +124,7 @@ fn broadcast(
         has_short: has_short(group),
         period: pace.period,
         apart: bits_of_ms(timing, pace.period),
-        late: bits_of_ms(timing, pace.jitter),
+        jitter: bits_of_ms(timing, pace.jitter),
         deadline: deadline(timing, pace),
     }
 }

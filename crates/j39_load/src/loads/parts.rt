@@ -42,7 +42,7 @@ fn wanting(broadcast: &Broadcast) -> FlowFrames
             frames: 0,
             period: 1,
             bits: 0,
-            late: 0,
+            jitter: 0,
             wanted: None,
         },
         least_ident: IDENT_END,

@@ -1,21 +1,21 @@
 //! How long the frames of the flows of a plan wait.
 ghost use Rattle.std.specs.Prelude.{◌≡◌, ◌≢◌, ◌≤◌, ◌<◌, ◌^◌, ◌+◌, ◌++◌, [], All, length, IfOk, OnOk, OnErr};
 ghost use Rattle.std.specs.Option.{ForSome};
-ghost use Rattle.j39_load.specs.AnyQueues.{IsOffer};
+ghost use Rattle.j39_load.specs.AnyQueues.{IsBuffering};
 ghost use Rattle.j39_load.specs.Asked.{frames_asked};
 ghost use Rattle.j39_load.specs.AskedLoads.{asked_in};
-ghost use Rattle.j39_load.specs.Delays.{HasDelay, IsFrameDelay, IsShortDelay, IsWaitIn, IsWaitOf, TellDelays};
+ghost use Rattle.j39_load.specs.Delays.{HasDelay, IsFrameDelay, IsShortDelay, IsWaitIn, IsWaitOf, AreFlowDelays};
 ghost use Rattle.j39_load.specs.Delays.{any_delay, blocking, frames_before, going_before, streams_before, whole_time};
 ghost use Rattle.j39_load.specs.SoundLoads.{AreSound, FitIfAny, IsSoundBroadcast, IsSoundLoad};
-ghost use Rattle.j39_load.specs.inside.Offers.{AreFitOffers, IsShortWait, offer_of};
-ghost use Rattle.j39_load.specs.inside.TurnTimes.{AreShortTimes, IsDelayBy, IsShortTime, TellTurnTimes, time_at};
+ghost use Rattle.j39_load.specs.inside.BufferingDelays.{AreFitBufferingDelays, IsShortWait, buffering_of};
+ghost use Rattle.j39_load.specs.inside.TurnTimes.{AreShortTimes, IsDelayBy, IsShortTime, AreTurnTimes, time_at};
 ghost use Rattle.j39_timing.specs.Waits.{IsStream};
 
 use crate::frames::{
     Broadcast, FlowFrames, Messages, add_damage, bits_of_ms, first_of_priority, frames_to_all,
 };
 use crate::loads::{FlowLoad, Loads};
-use crate::queues::{Offers, keep_order, offers_of};
+use crate::queues::{BufferingDelays, buffering_delays_of, keep_order};
 use crate::waits::delay::Delay;
 use crate::waits::twins::may_precede;
 use crate::waits::whole_time::WholeTime;
@@ -103,16 +103,22 @@ fn streams_before(
 fn wait_of(
     alloc: Global,
     timing: Timing,
-    offers: &Offers,
+    buffering_delays: &BufferingDelays,
     place: usize,
     frames: &FlowFrames,
 ) -> Result<Option<u32>, AllocError>
-    requires offers { AreFitOffers offers.now }
-    ensures wait { IfOk result (IsWaitOf timing (offer_of offers.now).frames place frames.now) }
+    requires buffering_delays { AreFitBufferingDelays buffering_delays.now }
+    ensures wait { IfOk result (IsWaitOf timing (buffering_of buffering_delays.now).frames place frames.now) }
     ensures short { IfOk result (λ wait. ForSome wait (λ bits. bits < 2 ^ 27)) }
 {
-    let streams = streams_before(alloc, timing, offers.frames.as_slice(), place, frames)?;
-    let demands = offers.demands.as_slice();
+    let streams = streams_before(
+        alloc,
+        timing,
+        buffering_delays.frames.as_slice(),
+        place,
+        frames,
+    )?;
+    let demands = buffering_delays.demands.as_slice();
     let blocking = blocking(timing, frames.greatest_ident);
     let most = bits_of_ms(timing, 65_535);
     match least_wait(demands, blocking, streams.as_slice(), most) {
@@ -121,49 +127,55 @@ fn wait_of(
     }
 }
 
-/// The wait of frames at their place. Those of a unit that keeps order wait among all where they are offered for good,
+/// The wait of frames at their place. Those of a unit that keeps order wait among all at the end of their buffering delays,
 /// and no wait is known where frames of which it isn't known from when on they are may go before them; those of another
-/// wait for their company.
+/// wait for their queue group.
 pub(crate) fn wait_in(
     alloc: Global,
     timing: Timing,
-    offers: &Offers,
+    buffering_delays: &BufferingDelays,
     place: usize,
     frames: &FlowFrames,
 ) -> Result<Option<u32>, AllocError>
-    requires offers { AreFitOffers offers.now }
-    ensures wait { IfOk result (IsWaitIn timing (offer_of offers.now) place frames.now) }
+    requires buffering_delays { AreFitBufferingDelays buffering_delays.now }
+    ensures wait { IfOk result (IsWaitIn timing (buffering_of buffering_delays.now) place frames.now) }
     ensures short { IfOk result (λ wait. ForSome wait (λ bits. bits < 2 ^ 27)) }
 {
     if !keep_order(frames) {
-        return Ok(offers.wait_at(place));
+        return Ok(buffering_delays.wait_at(place));
     }
-    if offers.may_be_passed(frames.greatest_ident) {
+    if buffering_delays.may_be_passed(frames.greatest_ident) {
         return Ok(None);
     }
-    wait_of(alloc, timing, offers, place, frames)
+    wait_of(alloc, timing, buffering_delays, place, frames)
 }
 
 // The delay of a flow whose messages go in one frame each, of these, with this limit, where its sender keeps order.
 fn short_delay(
     alloc: Global,
     timing: Timing,
-    offers: &Offers,
+    buffering_delays: &BufferingDelays,
     flow: usize,
     frames: &FlowFrames,
     limit: u32,
 ) -> Result<Delay, AllocError>
-    requires offers { AreFitOffers offers.now }
+    requires buffering_delays { AreFitBufferingDelays buffering_delays.now }
     requires frames { AreSound frames.now }
     requires limit { limit < 2 ^ 31 }
-    ensures { IfOk result (IsShortDelay timing (offer_of offers.now).frames flow frames.now limit) }
+    ensures { IfOk result (IsShortDelay timing (buffering_of buffering_delays.now).frames flow frames.now limit) }
 {
-    let own = frames.stream.late + u32::from(frames.stream.bits);
+    let own = frames.stream.jitter + u32::from(frames.stream.bits);
     if limit < own {
         return Ok(Delay::Late);
     }
-    let streams = streams_before(alloc, timing, offers.frames.as_slice(), flow, frames)?;
-    let demands = offers.demands.as_slice();
+    let streams = streams_before(
+        alloc,
+        timing,
+        buffering_delays.frames.as_slice(),
+        flow,
+        frames,
+    )?;
+    let demands = buffering_delays.demands.as_slice();
     let blocking = blocking(timing, frames.greatest_ident);
     match least_wait(demands, blocking, streams.as_slice(), limit - own) {
         Some(wait) => Ok(Delay::Within(wait + own)),
@@ -180,7 +192,7 @@ fn any_delay(frames: &FlowFrames, limit: u32, wait: Option<u32>) -> Delay
     let Some(wait) = wait else {
         return Delay::Late;
     };
-    let delay = frames.stream.late + (wait + u32::from(frames.stream.bits));
+    let delay = frames.stream.jitter + (wait + u32::from(frames.stream.bits));
     if delay <= limit {
         Delay::Within(delay)
     } else {
@@ -192,23 +204,23 @@ fn any_delay(frames: &FlowFrames, limit: u32, wait: Option<u32>) -> Delay
 fn frame_delay(
     alloc: Global,
     timing: Timing,
-    offers: &Offers,
+    buffering_delays: &BufferingDelays,
     flow: usize,
     frames: &FlowFrames,
     limit: u32,
 ) -> Result<Delay, AllocError>
-    requires offers { AreFitOffers offers.now }
+    requires buffering_delays { AreFitBufferingDelays buffering_delays.now }
     requires frames { AreSound frames.now }
     requires limit { limit < 2 ^ 31 }
-    ensures { IfOk result (IsFrameDelay timing (offer_of offers.now) flow frames.now limit) }
+    ensures { IfOk result (IsFrameDelay timing (buffering_of buffering_delays.now) flow frames.now limit) }
 {
     if !keep_order(frames) {
-        return Ok(any_delay(frames, limit, offers.wait_at(flow)));
+        return Ok(any_delay(frames, limit, buffering_delays.wait_at(flow)));
     }
-    if offers.may_be_passed(frames.greatest_ident) {
+    if buffering_delays.may_be_passed(frames.greatest_ident) {
         return Ok(Delay::Late);
     }
-    short_delay(alloc, timing, offers, flow, frames, limit)
+    short_delay(alloc, timing, buffering_delays, flow, frames, limit)
 }
 
 // How long the broadcasts of a unit take, one of each flow.
@@ -231,7 +243,7 @@ fn whole_time(broadcast: &Broadcast, time: Option<u64>) -> WholeTime
     ensures { result ≡ whole_time broadcast.now time }
 {
     let bits = match time {
-        Some(turn) => Some(u64::from(broadcast.late) + turn),
+        Some(turn) => Some(u64::from(broadcast.jitter) + turn),
         None => None,
     };
     WholeTime {
@@ -241,23 +253,30 @@ fn whole_time(broadcast: &Broadcast, time: Option<u64>) -> WholeTime
     }
 }
 
-// The delay of the flow at this place, which asks this of the bus, among all frames of the plan where they are offered
-// for good, where the broadcasts of the units take these times.
+// The delay of the flow at this place, which asks this of the bus, among all frames of the plan where they are buffered
+// no longer, where the broadcasts of the units take these times.
 fn delay_of(
     alloc: Global,
     timing: Timing,
-    offers: &Offers,
+    buffering_delays: &BufferingDelays,
     times: &[Option<u64>],
     flow: usize,
     load: &FlowLoad,
 ) -> Result<Delay, AllocError>
-    requires offers { AreFitOffers offers.now }
+    requires buffering_delays { AreFitBufferingDelays buffering_delays.now }
     requires times { AreShortTimes times.now }
     requires load { IsSoundLoad load.now }
-    ensures { IfOk result (IsDelayBy timing (offer_of offers.now) times.now flow load.now.messages load.now.limit) }
+    ensures { IfOk result (IsDelayBy timing (buffering_of buffering_delays.now) times.now flow load.now.messages load.now.limit) }
 {
     match &load.messages {
-        Messages::Short(frames) => frame_delay(alloc, timing, offers, flow, frames, load.limit),
+        Messages::Short(frames) => frame_delay(
+            alloc,
+            timing,
+            buffering_delays,
+            flow,
+            frames,
+            load.limit,
+        ),
         Messages::ToOne(frames) => Ok(Delay::Long(frames.stream.frames)),
         Messages::ToAll(broadcast) => Ok(Delay::Whole(whole_time(
             broadcast,
@@ -267,24 +286,31 @@ fn delay_of(
 }
 
 impl Loads {
-    // The delay of the flow at this place among all frames where they are offered for good, where the broadcasts of the
+    // The delay of the flow at this place among all frames at the end of their buffering delays, where the broadcasts of the
     // units take these times, and none where it isn't known how often it is sent.
     fn delay(
         &self,
         alloc: Global,
-        offers: &Offers,
+        buffering_delays: &BufferingDelays,
         times: &[Option<u64>],
         flow: usize,
     ) -> Result<Option<Delay>, AllocError>
         requires place { flow < length self.now.flows.items }
-        requires offers { AreFitOffers offers.now }
-        requires is { IsOffer self.now.timing (frames_asked (asked_in self.now)) (offer_of offers.now) }
-        requires times { TellTurnTimes self.now.timing (asked_in self.now) (offer_of offers.now) times.now }
+        requires buffering_delays { AreFitBufferingDelays buffering_delays.now }
+        requires is { IsBuffering self.now.timing (frames_asked (asked_in self.now)) (buffering_of buffering_delays.now) }
+        requires times { AreTurnTimes self.now.timing (asked_in self.now) (buffering_of buffering_delays.now) times.now }
         requires short { AreShortTimes times.now }
         ensures { IfOk result (HasDelay self.now.timing (asked_in self.now) flow) }
     {
         match &self.flows[flow] {
-            Some(load) => Ok(Some(delay_of(alloc, self.timing, offers, times, flow, load)?)),
+            Some(load) => Ok(Some(delay_of(
+                alloc,
+                self.timing,
+                buffering_delays,
+                times,
+                flow,
+                load,
+            )?)),
             None => Ok(None),
         }
     }
@@ -292,18 +318,18 @@ impl Loads {
     /// The delay of each flow, in order, and none where it isn't known how often it is sent. No memory is asked for
     /// where there are no flows.
     pub fn delays(&self, alloc: Global) -> Result<Vec<Option<Delay>>, AllocError>
-        ensures delays { IfOk result (λ delays. TellDelays self.now.timing (asked_in self.now) delays.items) }
+        ensures delays { IfOk result (λ delays. AreFlowDelays self.now.timing (asked_in self.now) delays.items) }
         ensures memory { OnErr result (self.now.flows.items ≢ []) }
     {
         if self.flows.is_empty() {
             return Ok(Vec::new(alloc));
         }
         let all = self.all_frames(alloc)?;
-        let offers = offers_of(alloc, self.timing, all.as_slice())?;
-        let times = self.turn_times(alloc, &offers)?;
+        let buffering_delays = buffering_delays_of(alloc, self.timing, all.as_slice())?;
+        let times = self.turn_times(alloc, &buffering_delays)?;
         let mut delays = Vec::with_capacity(alloc, self.flows.len())?;
         for flow in 0..self.flows.len() {
-            delays.push_reserved(self.delay(alloc, &offers, times.as_slice(), flow)?);
+            delays.push_reserved(self.delay(alloc, &buffering_delays, times.as_slice(), flow)?);
         }
         Ok(delays)
     }

@@ -89,7 +89,7 @@ fn want_of(part: BroadcastPart, broadcast: &Broadcast) -> Want
             BroadcastPart::Announcements => 1,
         },
         period: broadcast.apart,
-        late: broadcast.late,
+        jitter: broadcast.jitter,
     }
 }
 

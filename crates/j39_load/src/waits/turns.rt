@@ -4,12 +4,12 @@ ghost use Rattle.std.specs.Option.{ForSome};
 ghost use Rattle.j39_load.specs.AskedLoads.{asked_in};
 ghost use Rattle.j39_load.specs.Delays.{IsTurnTime, known_turn_time, packet_time, turn_time};
 ghost use Rattle.j39_load.specs.SoundLoads.{IsSoundUnit};
-ghost use Rattle.j39_load.specs.inside.Offers.{AreFitOffers, offer_of};
-ghost use Rattle.j39_load.specs.inside.TurnTimes.{AreShortTimes, IsShortTime, TellTurnTimes};
+ghost use Rattle.j39_load.specs.inside.BufferingDelays.{AreFitBufferingDelays, buffering_of};
+ghost use Rattle.j39_load.specs.inside.TurnTimes.{AreShortTimes, IsShortTime, AreTurnTimes};
 
 use crate::frames::bits_of_ms;
 use crate::loads::{Loads, UnitLoad};
-use crate::queues::Offers;
+use crate::queues::BufferingDelays;
 use crate::waits::delays::wait_in;
 use j39_network::Timing;
 use std::alloc::{AllocError, Global};
@@ -66,42 +66,48 @@ fn known_turn_time(
 }
 
 impl Loads {
-    // The time of the unit at a place, among all frames where they are offered for good.
+    // The time of the unit at a place, among all frames at the end of their buffering delays.
     fn time_of_unit(
         &self,
         alloc: Global,
-        offers: &Offers,
+        buffering_delays: &BufferingDelays,
         unit: usize,
     ) -> Result<Option<u64>, AllocError>
-        requires offers { AreFitOffers offers.now }
+        requires buffering_delays { AreFitBufferingDelays buffering_delays.now }
         requires unit { unit < length self.now.units.items }
-        ensures time { IfOk result (IsTurnTime self.now.timing (asked_in self.now) (offer_of offers.now) unit) }
+        ensures time { IfOk result (IsTurnTime self.now.timing (asked_in self.now) (buffering_of buffering_delays.now) unit) }
         ensures short { IfOk result IsShortTime }
     {
         let Some(load) = &self.units[unit] else {
             return Ok(None);
         };
         let place = self.announcements_place(unit);
-        let announced = wait_in(alloc, self.timing, offers, place, &load.announcements)?;
+        let announced = wait_in(
+            alloc,
+            self.timing,
+            buffering_delays,
+            place,
+            &load.announcements,
+        )?;
         let place = self.packets_place(unit);
-        let sent = wait_in(alloc, self.timing, offers, place, &load.packets)?;
+        let sent = wait_in(alloc, self.timing, buffering_delays, place, &load.packets)?;
         Ok(known_turn_time(self.timing, load, announced, sent))
     }
 
-    /// The times of the units, in order, among all frames where they are offered for good.
+    /// The times of the units, in order, among all frames at the end of their buffering delays.
     pub(crate) fn turn_times(
         &self,
         alloc: Global,
-        offers: &Offers,
+        buffering_delays: &BufferingDelays,
     ) -> Result<Vec<Option<u64>>, AllocError>
-        requires { AreFitOffers offers.now }
+        requires { AreFitBufferingDelays buffering_delays.now }
         ensures times { IfOk result (λ times.
-            TellTurnTimes self.now.timing (asked_in self.now) (offer_of offers.now) times.items) }
+            AreTurnTimes self.now.timing (asked_in self.now) (buffering_of buffering_delays.now) times.items) }
         ensures short { IfOk result (λ times. AreShortTimes times.items) }
     {
         let mut times = Vec::new(alloc);
         for unit in 0..self.units.len() {
-            let time = self.time_of_unit(alloc, offers, unit)?;
+            let time = self.time_of_unit(alloc, buffering_delays, unit)?;
             times.push(time)?;
         }
         Ok(times)

@@ -82,7 +82,7 @@ pub fn milliseconds(given: Option<u32>) -> Option<u16>
     }
 }
 
-// How far behind its moments a flow is sent, for how long it is silent, and whether it is sent on request alone.
+// How far behind its releases a flow is sent, for how long it is silent, and whether it is sent on request alone.
 #[derive(Clone, Copy)]
 struct LaterPace {
     jitter: u32,
@@ -181,7 +181,7 @@ fn known_deadline(
 #[tactic(auto, using(j39_tables::proofs::FirstFaults::faults_after))]
 fn known_rhythm(members: &toml::Table, table: Table, version: Version) -> Result<Rhythm, PlanError>
     ensures { Gives result (known_faults table version (table_view members.now) (spec.pace_rules version (table_view members.now)))
-        (λ rhythm. spec.TellsPace version (table_view members.now) rhythm.pace
+        (λ rhythm. spec.DescribesPace version (table_view members.now) rhythm.pace
         × (rhythm.pause ≡ spec.pause_of version (spec.given_period version (table_view members.now)) (table_view members.now))
         × (rhythm.on_request ≡ spec.on_request_of version (table_view members.now))) }
 {
@@ -255,7 +255,7 @@ fn flow(
     ensures { let group_labels = map (λ g. g.label.bytes) groups.now in
         let unit_labels = map (λ u. u.label.bytes) units.now in
         Gives result (spec.flow_table_faults version group_labels unit_labels index (table_view members.now))
-        (spec.TellsFlow version group_labels unit_labels (table_view members.now)) }
+        (spec.DescribesFlow version group_labels unit_labels (table_view members.now)) }
 {
     let table = Table::Flow(index);
     only_known(members, table, version, &KEYS)?;
@@ -290,7 +290,7 @@ impl ReadElement<FlowPlan, PlanFault> for FlowReader<'_> {
 
     ghost Grows = { λ _. NeverGrows };
 
-    ghost Tells = { λ r. IsFlowOf r.version (map (λ g. g.label.bytes) r.groups.now) (map (λ u. u.label.bytes) r.units.now) };
+    ghost Describes = { λ r. IsFlowOf r.version (map (λ g. g.label.bytes) r.groups.now) (map (λ u. u.label.bytes) r.units.now) };
 
     #[tactic(auto, using(j39_tables::proofs::FirstFaults::faults_after), unfolding(crate::specs::FlowTables::flow_faults))]
     fn read(

@@ -8,7 +8,7 @@ ghost use Rattle.j39_plan.specs.declared.reading.version.Version.TheVariants.{Th
 ghost use Rattle.j39_tables.specs.Outcome.{Gives, GivesGrowing};
 ghost use Rattle.j39_plan.specs.Growing.{GroupGrows};
 ghost use Rattle.j39_plan.specs.SelectorTables.{when_rule, when_table};
-ghost use Rattle.j39_plan.specs.GroupTables.{every_of, every_rule, group_table_faults, inner_rules, later_rules, most_of, most_rule, private_of, private_rule, signal_rule, text_rule, text_tables_of, TellsGroup};
+ghost use Rattle.j39_plan.specs.GroupTables.{every_of, every_rule, group_table_faults, inner_rules, later_rules, most_of, most_rule, private_of, private_rule, signal_rule, text_rule, text_tables_of, DescribesGroup};
 
 use super::labels::untaken;
 use super::selectors::when;
@@ -208,7 +208,7 @@ fn group(
     members: &toml::Table,
 ) -> Result<GroupPlan, PlanError>
     ensures { GivesGrowing (GroupGrows version index (table_view members.now)) result
-        (group_table_faults version index (table_view members.now)) (TellsGroup version (table_view members.now)) }
+        (group_table_faults version index (table_view members.now)) (DescribesGroup version (table_view members.now)) }
 {
     let table = Table::Group(index);
     only_known(members, table, version, &KEYS)?;
@@ -273,7 +273,7 @@ impl ReadElement<GroupPlan, PlanFault> for GroupReader {
 
     ghost Grows = { λ r. GroupElementGrows r.version };
 
-    ghost Tells = { λ r. IsGroupOf r.version };
+    ghost Describes = { λ r. IsGroupOf r.version };
 
     #[tactic(auto, using(j39_tables::proofs::FirstFaults::faults_after), unfolding(crate::specs::GroupTables::group_faults))]
     fn read(

@@ -13,7 +13,7 @@ ghost use Rattle.j39_plan.specs.Schema as schema;
 ghost use Rattle.j39_tables.specs.Rules.{flag_of};
 ghost use Rattle.j39_plan.specs.ValueCauses.{has_labels, has_numbers, has_texts, is_decimal, is_number_below, names_cause};
 ghost use Rattle.j39_tables.specs.TableFaults.{key_faults};
-ghost use Rattle.j39_plan.specs.MeaningTables.{AreValueNames, TellsKeys, meaning_rules, optional_rule, raw_limit};
+ghost use Rattle.j39_plan.specs.MeaningTables.{AreValueNames, DescribesKeys, meaning_rules, optional_rule, raw_limit};
 ghost use Rattle.j39_plan.specs.Since.{known_faults};
 ghost use Rattle.j39_tables.specs.Outcome.{Gives};
 
@@ -231,7 +231,7 @@ pub fn meaning_keys<'a>(
     bits: u32,
 ) -> Result<MeaningKeys<'a>, PlanError>
     ensures gives { Gives result (known_faults table version (table_view members.now) (meaning_rules repeated code bits))
-        (TellsKeys version (table_view members.now)) }
+        (DescribesKeys version (table_view members.now)) }
     ensures spn { IfOk result (λ m. IfSome m.spn (λ n. n ≤ spn_most)) }
     ensures named { IfOk result (λ m. IfSome m.names (λ t. names_cause (raw_limit bits) (table_view t.now) ≡ None)) }
 {

@@ -80,7 +80,7 @@ fn need(
         let signals = map (λ g. map (λ s. s.label.bytes) g.signals.items) groups.now in
         let unit_labels = map (λ u. u.label.bytes) units.now in
         Gives result (spec.need_table_faults group_labels signals unit_labels index (table_view members.now))
-        (spec.TellsNeed group_labels signals unit_labels (table_view members.now)) }
+        (spec.DescribesNeed group_labels signals unit_labels (table_view members.now)) }
 {
     let table = Table::Need(index);
     only(members, table, &NEED_KEYS)?;
@@ -122,7 +122,7 @@ impl ReadElement<NeedPlan, PlanFault> for NeedReader<'_> {
 
     ghost Grows = { λ _. NeverGrows };
 
-    ghost Tells = { λ r. IsNeedOf (map (λ g. g.label.bytes) r.groups.now)
+    ghost Describes = { λ r. IsNeedOf (map (λ g. g.label.bytes) r.groups.now)
         (map (λ g. map (λ s. s.label.bytes) g.signals.items) r.groups.now) (map (λ u. u.label.bytes) r.units.now) };
 
     #[tactic(auto, using(j39_tables::proofs::FirstFaults::faults_after), unfolding(crate::specs::NeedTables::need_faults))]

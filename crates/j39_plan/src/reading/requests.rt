@@ -31,7 +31,7 @@ fn request(
     ensures { let group_labels = map (λ g. g.label.bytes) groups.now in
         let unit_labels = map (λ u. u.label.bytes) units.now in
         Gives result (spec.request_table_faults group_labels unit_labels index (table_view members.now))
-        (spec.TellsRequest group_labels unit_labels (table_view members.now)) }
+        (spec.DescribesRequest group_labels unit_labels (table_view members.now)) }
 {
     let table = Table::Request(index);
     only(members, table, &REQUEST_KEYS)?;
@@ -66,7 +66,7 @@ impl ReadElement<RequestPlan, PlanFault> for RequestReader<'_> {
 
     ghost Grows = { λ _. NeverGrows };
 
-    ghost Tells = { λ r. IsRequestOf (map (λ g. g.label.bytes) r.groups.now) (map (λ u. u.label.bytes) r.units.now) };
+    ghost Describes = { λ r. IsRequestOf (map (λ g. g.label.bytes) r.groups.now) (map (λ u. u.label.bytes) r.units.now) };
 
     #[tactic(auto, using(j39_tables::proofs::FirstFaults::faults_after), unfolding(crate::specs::RequestTables::request_faults))]
     fn read(

@@ -8,11 +8,11 @@ ghost use Rattle.j39_tables.specs.TableFaults.{key_faults};
 ghost use Rattle.j39_plan.specs.ValueCauses.{names_cause};
 ghost use Rattle.j39_plan.specs.Since.{since, since_faults};
 ghost use Rattle.j39_plan.specs.declared.reading.version.Version.TheVariants.{Third};
-ghost use Rattle.j39_plan.specs.MeaningTables.{TellsKeys, raw_limit};
+ghost use Rattle.j39_plan.specs.MeaningTables.{DescribesKeys, raw_limit};
 ghost use Rattle.j39_network.specs.PlanLimits.{spn_most};
 ghost use Rattle.j39_tables.specs.Outcome.{Gives};
 ghost use Rattle.j39_id.specs.Limits.{message_bytes};
-ghost use Rattle.j39_plan.specs.SignalTables.{is_code, is_dtc, kind_of, kind_rule, kinds, offset_rule, per_of, per_rule, repeated_of, repeated_rule, signal_table_faults, start_of, step_rule, unit_rule, TellsSignal};
+ghost use Rattle.j39_plan.specs.SignalTables.{is_code, is_dtc, kind_of, kind_rule, kinds, offset_rule, per_of, per_rule, repeated_of, repeated_rule, signal_table_faults, start_of, step_rule, unit_rule, DescribesSignal};
 
 use super::labels::{Labelled, untaken};
 use super::meanings::{MeaningKeys, meaning_keys, meaning_of};
@@ -252,7 +252,7 @@ fn signal<'a>(
     members: &'a toml::Table,
 ) -> Result<SignalKeys<'a>, PlanError>
     ensures gives { Gives result (signal_table_faults reader.now.version reader.now.records table (table_view members.now))
-        (λ k. TellsSignal reader.now.version (table_view members.now) k.signal × TellsKeys reader.now.version (table_view members.now) k.meant) }
+        (λ k. DescribesSignal reader.now.version (table_view members.now) k.signal × DescribesKeys reader.now.version (table_view members.now) k.meant) }
     ensures label_form { IfOk result (λ k. IsTrue (is_label k.signal.label.bytes)) }
     ensures ranges { IfOk result (λ k. IsSignal k.signal.start k.signal.bits k.signal.step k.signal.offset) }
     ensures divides { IfOk result (λ k. IsDivisor k.signal.per) }
@@ -314,7 +314,7 @@ impl ReadElement<PlannedSignal, PlanFault> for SignalReader {
 
     ghost Grows = { λ r. SignalGrows r.version r.records r.group };
 
-    ghost Tells = { λ r d x. (IsSignalOf r.version d x.signal × IsFit r.records x.signal) × IsMeaningOf r.version d x.meaning };
+    ghost Describes = { λ r d x. (IsSignalOf r.version d x.signal × IsFit r.records x.signal) × IsMeaningOf r.version d x.meaning };
 
     #[tactic(auto, using(j39_tables::proofs::FirstFaults::faults_after), unfolding(crate::specs::SignalTables::signal_faults))]
     fn read(

@@ -1,7 +1,7 @@
 //! The texts of a group.
 ghost use Rattle.toml.specs.View.{table_view};
 ghost use Rattle.j39_tables.specs.Outcome.{Gives};
-ghost use Rattle.j39_plan.specs.TextTables.{text_table_faults, TellsText};
+ghost use Rattle.j39_plan.specs.TextTables.{text_table_faults, DescribesText};
 
 use super::labels::untaken_beside;
 use super::text_kind::TextKind;
@@ -18,7 +18,7 @@ const TEXT_KEYS: [Key; 3] = [Key::Label, Key::Byte, Key::Bytes];
 
 #[tactic(auto, using(j39_tables::proofs::FirstFaults::faults_after), unfolding(crate::specs::TextTables::text_table_faults))]
 fn text(table: Table, members: &toml::Table) -> Result<TextPlan, PlanError>
-    ensures { Gives result (text_table_faults table (table_view members.now)) (TellsText (table_view members.now)) }
+    ensures { Gives result (text_table_faults table (table_view members.now)) (DescribesText (table_view members.now)) }
 {
     only(members, table, &TEXT_KEYS)?;
     let label = short_text(members, table, Key::Label, TextKind::Label, None)?;
@@ -57,7 +57,7 @@ impl ReadElement<TextPlan, PlanFault> for TextReader<'_> {
 
     ghost Grows = { λ _. NeverGrows };
 
-    ghost Tells = { λ _. IsTextOf };
+    ghost Describes = { λ _. IsTextOf };
 
     #[tactic(auto, using(j39_tables::proofs::FirstFaults::faults_after), unfolding(crate::specs::TextTables::text_faults))]
     fn read(

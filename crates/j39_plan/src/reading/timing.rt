@@ -95,7 +95,7 @@ fn later_keys(members: &toml::Table, version: Version) -> Result<LaterKeys, Plan
 
 #[tactic(auto, using(j39_tables::proofs::FirstFaults::faults_after), unfolding(crate::specs::TimingTables::error_table_faults))]
 fn error_rate(members: &toml::Table) -> Result<ErrorRate, PlanError>
-    ensures { Gives result (spec.error_table_faults (table_view members.now)) (spec.TellsErrorRate (table_view members.now)) }
+    ensures { Gives result (spec.error_table_faults (table_view members.now)) (spec.DescribesErrorRate (table_view members.now)) }
 {
     let table = Table::TimingErrors;
     only(members, table, &ERROR_KEYS)?;
@@ -110,7 +110,7 @@ fn error_rate(members: &toml::Table) -> Result<ErrorRate, PlanError>
 // How many frames are damaged at most, where there is a table of it.
 fn errors(inner: Option<&toml::Table>) -> Result<Option<ErrorRate>, PlanError>
     ensures { let found = option_map (λ t. table_view t.now) inner.entry in
-        Gives result (option_map_or spec.error_table_faults found []) (spec.TellsErrors found) }
+        Gives result (option_map_or spec.error_table_faults found []) (spec.DescribesErrors found) }
 {
     match inner {
         None => Ok(None),
@@ -121,7 +121,7 @@ fn errors(inner: Option<&toml::Table>) -> Result<Option<ErrorRate>, PlanError>
 #[tactic(auto, using(j39_tables::proofs::FirstFaults::faults_after), unfolding(crate::specs::TimingTables::timing_table_faults))]
 fn bus(members: &toml::Table, version: Version) -> Result<Timing, PlanError>
     requires { is_known Third version ≡ true }
-    ensures { Gives result (spec.timing_table_faults version (table_view members.now)) (spec.TellsBus version (table_view members.now)) }
+    ensures { Gives result (spec.timing_table_faults version (table_view members.now)) (spec.DescribesBus version (table_view members.now)) }
 {
     only_known(members, Table::Timing, version, &KEYS)?;
     let bitrate = bitrate(members, version)?;
@@ -144,7 +144,7 @@ fn bus(members: &toml::Table, version: Version) -> Result<Timing, PlanError>
 pub fn timing(members: &toml::Table, version: Version) -> Result<Option<Timing>, PlanError>
     requires { version ≡ version_of (table_view members.now) }
     ensures { Gives result (timing_faults (table_view members.now))
-        (spec.TellsTiming (version_of (table_view members.now)) (timing_table (table_view members.now))) }
+        (spec.DescribesTiming (version_of (table_view members.now)) (timing_table (table_view members.now))) }
 {
     if !version.knows(Version::Third) {
         return Ok(None);

@@ -5,7 +5,7 @@ ghost use Rattle.toml.specs.View.{table_view};
 ghost use Rattle.j39_id.specs.Addresses.{in_pool, pool_size};
 ghost use Rattle.j39_tables.specs.Outcome.{Gives};
 ghost use Rattle.j39_plan.specs.PlanFaults.{top_faults};
-ghost use Rattle.j39_plan.specs.Described.{TellsTop};
+ghost use Rattle.j39_plan.specs.Described.{DescribesTop};
 
 use super::heads::{head, live, strangers, version_of};
 use super::later_arrays::{LaterArrays, later_arrays};
@@ -33,7 +33,7 @@ pub struct TopTable<'a> {
 /// What the top table of a plan tells.
 #[tactic(auto, using(j39_tables::proofs::FirstFaults::faults_after))]
 pub fn top(members: &toml::Table) -> Result<TopTable<'_>, PlanError>
-    ensures gives { Gives result (top_faults (table_view members.now)) (TellsTop (table_view members.now)) }
+    ensures gives { Gives result (top_faults (table_view members.now)) (DescribesTop (table_view members.now)) }
     ensures range { IfOk result (λ t. (a : ℕ) → contains t.keep_free a ≡ true → in_pool a ≡ true) }
     ensures few { IfOk result (λ t. t.strangers ≤ pool_size) }
 {

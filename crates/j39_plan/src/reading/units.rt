@@ -8,7 +8,7 @@ ghost use Rattle.j39_tables.specs.TableFaults.{key_faults};
 ghost use Rattle.j39_plan.specs.Since.{since, since_faults};
 ghost use Rattle.j39_plan.specs.declared.reading.version.Version.TheVariants.{Fourth};
 ghost use Rattle.j39_tables.specs.Outcome.{Gives};
-ghost use Rattle.j39_plan.specs.UnitTables.{way_of, address_rule, chooser_rule, claims_of, claims_rule, queue_in, queue_of, queue_rule, silent_faults, unit_table_faults, TellsUnit};
+ghost use Rattle.j39_plan.specs.UnitTables.{way_of, address_rule, chooser_rule, claims_of, claims_rule, queue_in, queue_of, queue_rule, silent_faults, unit_table_faults, DescribesUnit};
 
 use super::labels::untaken;
 use super::names::{is_open, name};
@@ -132,7 +132,7 @@ fn silent_stays(index: usize, claims: bool, name: Name) -> Result<(), PlanError>
 
 #[tactic(auto, using(j39_tables::proofs::FirstFaults::faults_after), unfolding(crate::specs::UnitTables::unit_table_faults))]
 fn unit(version: Version, index: usize, members: &toml::Table) -> Result<UnitPlan, PlanError>
-    ensures { Gives result (unit_table_faults version index (table_view members.now)) (TellsUnit version (table_view members.now)) }
+    ensures { Gives result (unit_table_faults version index (table_view members.now)) (DescribesUnit version (table_view members.now)) }
 {
     let table = Table::Unit(index);
     only_known(members, table, version, &KEYS)?;
@@ -178,7 +178,7 @@ impl ReadElement<UnitPlan, PlanFault> for UnitReader {
 
     ghost Grows = { λ _. NeverGrows };
 
-    ghost Tells = { λ r. IsUnitOf r.version };
+    ghost Describes = { λ r. IsUnitOf r.version };
 
     #[tactic(auto, using(j39_tables::proofs::FirstFaults::faults_after), unfolding(crate::specs::UnitTables::unit_faults))]
     fn read(

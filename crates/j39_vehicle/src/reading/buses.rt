@@ -2,7 +2,7 @@
 ghost use Rattle.std.specs.Prelude.{◌≡◌, [], map};
 ghost use Rattle.toml.specs.View.{table_view};
 ghost use Rattle.j39_tables.specs.Outcome.{GivesGrowing};
-ghost use Rattle.j39_vehicle.specs.BusTables.{bus_table_faults, named_bus, TellsBus};
+ghost use Rattle.j39_vehicle.specs.BusTables.{bus_table_faults, named_bus, DescribesBus};
 
 use super::named::untaken;
 use super::owned::owned;
@@ -24,7 +24,7 @@ fn bus(
     members: &toml::Table,
 ) -> Result<BusTable, VehicleError>
     ensures { let faults = bus_table_faults index (map named_bus seen.now) (table_view members.now) in
-        GivesGrowing (faults ≡ []) result faults (TellsBus (table_view members.now)) }
+        GivesGrowing (faults ≡ []) result faults (DescribesBus (table_view members.now)) }
 {
     let table = Table::Bus(index);
     only(members, table, &BUS_KEYS)?;
@@ -54,7 +54,7 @@ impl ReadElement<BusTable, VehicleFault> for BusReader {
 
     ghost Grows = { λ _. BusGrows };
 
-    ghost Tells = { λ _. IsBusOf };
+    ghost Describes = { λ _. IsBusOf };
 
     #[tactic(auto, using(j39_tables::proofs::FirstFaults::faults_after), unfolding(crate::specs::BusTables::bus_faults))]
     fn read(

@@ -137,7 +137,7 @@ fn signals(
     ensures gives { let items = spec.items_or_none (option_map (λ vs. items_view vs.now) values.entry) in
         GivesGrowing (EachGrows (signal_faults forward) (SignalGrows forward) items) result
         (each_faults (signal_faults forward) forwarded_name 0 [] items)
-        (λ signals. spec.TellsSignals (option_map (λ vs. items_view vs.now) values.entry) (option_map (λ v. v.items) signals)) }
+        (λ signals. spec.DescribesSignals (option_map (λ vs. items_view vs.now) values.entry) (option_map (λ v. v.items) signals)) }
     ensures count { IfOk result (λ signals. IfSome signals (λ v. length v.items ≤ signal_limit)) }
 {
     match values {
@@ -183,7 +183,7 @@ fn forward(
 ) -> Result<ForwardTable, VehicleError>
     ensures { let seen = map named_gateway gateways.now in
         GivesGrowing (ForwardTableGrows seen index (table_view members.now)) result
-        (spec.forward_table_faults seen index (table_view members.now)) (spec.TellsForward (table_view members.now)) }
+        (spec.forward_table_faults seen index (table_view members.now)) (spec.DescribesForward (table_view members.now)) }
 {
     let table = Table::Forward(index);
     let keys = keys(members, table)?;
@@ -222,7 +222,7 @@ impl ReadElement<ForwardTable, VehicleFault> for ForwardReader<'_> {
 
     ghost Grows = { λ r. ForwardGrows (map named_gateway r.gateways.now) };
 
-    ghost Tells = { λ _. IsForwardOf };
+    ghost Describes = { λ _. IsForwardOf };
 
     #[tactic(auto, using(j39_tables::proofs::FirstFaults::faults_after), unfolding(crate::specs::ForwardTables::forward_faults))]
     fn read(

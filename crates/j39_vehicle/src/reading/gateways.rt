@@ -3,7 +3,7 @@ ghost use Rattle.std.specs.Prelude.{◌≡◌, [], map};
 ghost use Rattle.toml.specs.View.{items_view, table_view};
 ghost use Rattle.j39_tables.specs.Outcome.{Gives, GivesGrowing};
 ghost use Rattle.j39_vehicle.specs.BusTables.{named_bus};
-ghost use Rattle.j39_vehicle.specs.GatewayTables.{gateway_table_faults, named_gateway, units_faults, TellsGateway};
+ghost use Rattle.j39_vehicle.specs.GatewayTables.{gateway_table_faults, named_gateway, units_faults, DescribesGateway};
 
 use super::gateway_units::{are_on, units, units_cause};
 use super::named::{known, untaken};
@@ -36,7 +36,7 @@ fn gateway(
     members: &toml::Table,
 ) -> Result<GatewayTable, VehicleError>
     ensures { let faults = gateway_table_faults (map named_bus buses.now) index (map named_gateway seen.now) (table_view members.now) in
-        GivesGrowing (faults ≡ []) result faults (TellsGateway (table_view members.now)) }
+        GivesGrowing (faults ≡ []) result faults (DescribesGateway (table_view members.now)) }
 {
     let table = Table::Gateway(index);
     only(members, table, &GATEWAY_KEYS)?;
@@ -70,7 +70,7 @@ impl ReadElement<GatewayTable, VehicleFault> for GatewayReader<'_> {
 
     ghost Grows = { λ r. GatewayGrows (map named_bus r.buses.now) };
 
-    ghost Tells = { λ _. IsGatewayOf };
+    ghost Describes = { λ _. IsGatewayOf };
 
     #[tactic(auto, using(j39_tables::proofs::FirstFaults::faults_after), unfolding(crate::specs::GatewayTables::gateway_faults))]
     fn read(

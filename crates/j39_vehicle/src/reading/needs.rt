@@ -89,7 +89,7 @@ fn need(
     members: &toml::Table,
 ) -> Result<NeedTable, VehicleError>
     ensures { let faults = spec.need_table_faults (map named_bus buses.now) index (table_view members.now) in
-        GivesGrowing (faults ≡ []) result faults (spec.TellsNeed (table_view members.now)) }
+        GivesGrowing (faults ≡ []) result faults (spec.DescribesNeed (table_view members.now)) }
 {
     let table = Table::Need(index);
     let keys = keys(members, table)?;
@@ -120,7 +120,7 @@ impl ReadElement<NeedTable, VehicleFault> for NeedReader<'_> {
 
     ghost Grows = { λ r. NeedGrows (map named_bus r.buses.now) };
 
-    ghost Tells = { λ _. IsNeedOf };
+    ghost Describes = { λ _. IsNeedOf };
 
     #[tactic(auto, using(j39_tables::proofs::FirstFaults::faults_after), unfolding(crate::specs::NeedTables::need_faults))]
     fn read(

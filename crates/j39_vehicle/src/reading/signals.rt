@@ -2,7 +2,7 @@
 ghost use Rattle.std.specs.Prelude.{◌≡◌, [], map, unwrap_or, true};
 ghost use Rattle.toml.specs.View.{table_view};
 ghost use Rattle.j39_tables.specs.Outcome.{GivesGrowing};
-ghost use Rattle.j39_vehicle.specs.SignalTables.{named_signal, signal_table_faults, TellsSignal};
+ghost use Rattle.j39_vehicle.specs.SignalTables.{named_signal, signal_table_faults, DescribesSignal};
 
 use super::named::untaken;
 use super::owned::owned;
@@ -25,7 +25,7 @@ fn signal(
     members: &toml::Table,
 ) -> Result<SignalTable, VehicleError>
     ensures { let faults = signal_table_faults forward index (map named_signal seen.now) (table_view members.now) in
-        GivesGrowing (faults ≡ []) result faults (TellsSignal (table_view members.now)) }
+        GivesGrowing (faults ≡ []) result faults (DescribesSignal (table_view members.now)) }
 {
     let table = Table::Signal(forward, index);
     only(members, table, &SIGNAL_KEYS)?;
@@ -62,7 +62,7 @@ impl ReadElement<SignalTable, VehicleFault> for SignalReader {
 
     ghost Grows = { λ r. SignalGrows r.forward };
 
-    ghost Tells = { λ _. IsSignalOf };
+    ghost Describes = { λ _. IsSignalOf };
 
     #[tactic(auto, using(j39_tables::proofs::FirstFaults::faults_after), unfolding(crate::specs::SignalTables::signal_faults))]
     fn read(

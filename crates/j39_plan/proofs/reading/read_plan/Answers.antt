@@ -2,18 +2,18 @@ use Rattle.toml.specs.View.{table_view}
 use Rattle.j39_tables.proofs.TreesRead.{reads_tree, reads_none, room_asked, room_for_tree}
 use Rattle.j39_plan.specs.PlanFaults.{faults}
 use Rattle.j39_plan.specs.Growing.{PlanGrows}
-use Rattle.j39_plan.specs.Described.{TellsPlan}
+use Rattle.j39_plan.specs.Described.{DescribesPlan}
 use Rattle.j39_plan.proofs.EmptyTree.{never_grows}
 use Rattle.j39_plan.proofs.reading.read_plan.Goals as goal
 
 pub returns-in-Ok-clause-reads : goal.returns-in-Ok-clause-reads
-returns-in-Ok-clause-reads c = reads_tree faults TellsPlan _ _ _ _ c.in-Ok.ensures c.read_top.ensures
+returns-in-Ok-clause-reads c = reads_tree faults DescribesPlan _ _ _ _ c.in-Ok.ensures c.read_top.ensures
 
 pub returns-in-Ok-clause-memory : goal.returns-in-Ok-clause-memory
-returns-in-Ok-clause-memory c = room_asked faults TellsPlan PlanGrows _ c.args.bytes.now _ never_grows c.in-Ok.ensures c.read_top.ensures
+returns-in-Ok-clause-memory c = room_asked faults DescribesPlan PlanGrows _ c.args.bytes.now _ never_grows c.in-Ok.ensures c.read_top.ensures
 
 pub returns-in-Err-clause-reads : goal.returns-in-Err-clause-reads
-returns-in-Err-clause-reads c = reads_none faults TellsPlan table_view c.args.bytes.now _ c.in-Err.ensures
+returns-in-Err-clause-reads c = reads_none faults DescribesPlan table_view c.args.bytes.now _ c.in-Err.ensures
 
 pub returns-in-Err-clause-memory : goal.returns-in-Err-clause-memory
 returns-in-Err-clause-memory c = λ memory. room_for_tree table_view c.args.bytes.now _ c.in-Err.ensures cc

@@ -10,5 +10,5 @@ invariant-loop-index g l =
       data_label = g.R.ReadElement.data_label;
       label = g.R.ReadElement.label;
       Grows = g.R.ReadElement.Grows l.reader;
-      Tells = g.R.ReadElement.Tells l.reader;
+      Describes = g.R.ReadElement.Describes l.reader;
     }) l.index l.items.items (items_view (drop l.index l.values)) (items_view l.values)

@@ -7,7 +7,7 @@ use Rattle.j39_timing.proofs.waiting.demand.Goals as goal
 
 pub overflow_add-sum : goal.overflow_add-sum
 overflow_add-sum c =
-    let none : Stream = record { frames = 0; period = 0; bits = 0; late = 0; wanted = None } in
+    let none : Stream = record { frames = 0; period = 0; bits = 0; jitter = 0; wanted = None } in
     let x : Stream = get_or c.args.streams.now c.loop-stream.stream-index none in
     let this : c.lesser_share-sum.result ≡ lesser_share (map as_demand c.args.all.now) c.args.span x = c.lesser_share-sum.ensures in
     let sum : c.loop-stream.sum ≡ sum_by (lesser_share (map as_demand c.args.all.now) c.args.span) (take c.loop-stream.stream-index c.args.streams.now) = c.loop-stream.invariant in

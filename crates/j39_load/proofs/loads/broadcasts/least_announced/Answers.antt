@@ -9,7 +9,7 @@ loop-broadcast-init c = record { least = sym none_announced; some = omega arith 
 
 pub loop-broadcast-preserved : goal.loop-broadcast-preserved
 loop-broadcast-preserved c =
-    let none : Broadcast = record { sender = 0; packets = 0; least_packets = 0; has_short = false; period = 0; apart = 0; late = 0; deadline = None } in
+    let none : Broadcast = record { sender = 0; packets = 0; least_packets = 0; has_short = false; period = 0; apart = 0; jitter = 0; deadline = None } in
     let bs = c.args.broadcasts.now in
     let k = c.loop-broadcast.broadcast-index in
     let old : c.loop-broadcast.least ≡ least_announced _ = c.loop-broadcast.invariant.least in
