@@ -1,11 +1,11 @@
 //! Rows: a file that a command is run on, and beside it what the command writes.
 //!
 //! `PLAN.toml` is checked, and where `PLAN.addresses`, `PLAN.load` or `PLAN.show` stands beside it also answered as to its
-//! addresses, its load or its values, but where `NAME.answer` stands beside it `NAME.toml` is a vehicle file, and answered
-//! as one; `PLAN.NAME.schedule` is run and `PLAN.NAME.log` is read by the plan beside it and, where `PLAN.NAME.follow`
-//! stands there, also followed, or `PLAN.NAME.all`, all frames of it; `NAME.line` is a frame line; `NAME.vehicle` has the
-//! files of a vehicle, and what is written of them.
-//! Standard error stays empty, and the status is one of the program's output.
+//! addresses, its load or its values, but where `NAME.answer` stands beside it `NAME.toml` is a vehicle file, and
+//! answered as one; `PLAN.NAME.schedule` is run and `PLAN.NAME.log` is read by the plan beside it and, where
+//! `PLAN.NAME.follow` stands there, also followed, or `PLAN.NAME.all`, all frames of it; `NAME.line` is a frame line;
+//! `NAME.vehicle` has the files of a vehicle, and what is written of them. Standard error stays empty, and the status
+//! is one of the program's output.
 
 use crate::outcome::perform;
 use crate::pieces::are_as_shown;

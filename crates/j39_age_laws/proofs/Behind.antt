@@ -10,7 +10,8 @@ use Rattle.j39_paths.specs.declared.point.FlowAt.{FlowAt}
 use Rattle.j39_timing.specs.Gateways.{HasBegun, IsIts, end_time, queue_time, time_of}
 use Rattle.j39_timing.specs.Traffic.{delay_of}
 use Rattle.j39_ages.specs.declared.bus_delays.Delays.{Delays}
-use Rattle.j39_ages.specs.Times.{behind_by, behind_release, delay_at, direct_feeder, first_input_at, jitter_ms, own, queued_behind, sum_known, timed, us_of_ms, within_of}
+use Rattle.j39_ages.specs.Times.{behind_by, behind_release, delay_at, direct_feeder, first_input_at, jitter_ms, own, queued_behind, sum_known, timed, us_of_ms}
+use Rattle.j39_ages.specs.Times.{within_of}
 use Rattle.j39_ages.specs.BusDelays.{AreDelays}
 use Rattle.j39_ages.proofs.DecidingTimes.{and_then_some}
 use Rattle.j39_age_laws.specs.Prompt.{IsSentDirectly, IsSentOn}
@@ -224,7 +225,8 @@ module _ (v : Vehicle) (delays : Delays) (told : AreDelays v delays) (seen : See
       (n, owns)
 
   -- what a direct forward sends, by its place
-  pub sends_directly : (at : FlowAt) (n : Forward) (source : FlowAt) (within before own_time : ℕ) → direct_feeder v at ≡ Some n → first_input_at v n ≡ Some source
+  pub sends_directly : (at : FlowAt) (n : Forward) (source : FlowAt) (within before own_time : ℕ) → direct_feeder v at ≡ Some n
+      → first_input_at v n ≡ Some source
       → within_of n ≡ Some within → IsOneFlow v delays seen at own_time → IsBehind v delays seen by source before
       → (place : ℕ) × IsFeederAt v at n place × IsSentDirectly v seen place source at within
   sends_directly at n source within before own_time feeder source_is promised one input =

@@ -1,5 +1,6 @@
 -- The buses of a vehicle as the law of vehicles knows them: what gateways send on directly keeps to its streams.
-use Rattle.std.proofs.Common.{◌≡◌, ℕ, zero, suc, ◌+◌, ◌*◌, ◌-◌, ◌<◌, Bool, true, false, cond, List, [], ◌++◌, length, is_some, unwrap_or, Option, Some, None, refl, sym, ap, ◌∙◌, subst, arith}
+use Rattle.std.proofs.Common.{◌≡◌, ℕ, zero, suc, ◌+◌, ◌*◌, ◌-◌, ◌<◌, Bool, true, false, cond, List, [], ◌++◌, length, is_some, unwrap_or, Option, Some, None}
+use Rattle.std.proofs.Common.{refl, sym, ap, ◌∙◌, subst, arith}
 use Rattle.std.proofs.lemmas.Bool.{false≢true, true≢false}
 use Rattle.std.proofs.lemmas.Option.{none-some, same_Some}
 use Rattle.std.specs.Option.{option_and_then, option_map, option_map_or}
@@ -18,7 +19,8 @@ use Rattle.j39_vehicle.specs.declared.vehicle.forward.Forward.{Forward}
 use Rattle.j39_paths.specs.declared.point.FlowAt.{FlowAt}
 use Rattle.j39_ages.specs.BusDelays.{AreDelays}
 use Rattle.j39_ages.specs.declared.bus_delays.Delays.{Delays}
-use Rattle.j39_ages.specs.Times.{behind_at, behind_by, behind_release, us_of_bit, delay_at, direct_feeder, flow_at, first_input_at, jitter_ms, own, own_of, queued_behind, queued_of, sum_known, timing_on, us_of_ms, within_of}
+use Rattle.j39_ages.specs.Times.{behind_at, behind_by, behind_release, us_of_bit, delay_at, direct_feeder, flow_at, first_input_at, jitter_ms, own, own_of}
+use Rattle.j39_ages.specs.Times.{queued_behind, queued_of, sum_known, timing_on, us_of_ms, within_of}
 use Rattle.j39_age_laws.specs.ForwardedStreams.{streams_of}
 use Rattle.j39_age_laws.specs.KeptBuses.{IsKnownBus, asked_on}
 use Rattle.j39_age_laws.specs.Prompt.{sent_from}
@@ -231,11 +233,13 @@ module _ (v : Vehicle) (delays : Delays) (told : AreDelays v delays) (seen : See
         ∙ unit_of_ms t.timing.bitrate streamed.period))
 
   -- what is known to come behind its release is what is reckoned with here
-  pub behind_value : (b i : ℕ) (t : TimedBus v b) (is : IsTold b i t) (total : ℕ) → behind_at v delays (at_of b i) ≡ Some total → behind_with b i (Some t) ≡ total
+  pub behind_value : (b i : ℕ) (t : TimedBus v b) (is : IsTold b i t) (total : ℕ) → behind_at v delays (at_of b i) ≡ Some total
+      → behind_with b i (Some t) ≡ total
   behind_value b i t is total known = some_cases (direct_feeder v (at_of b i)) (behind_with b i (Some t) ≡ total)
       (λ none.
       let release = unfed_release v delays (length v.forwards.items) (at_of b i) total none known in
-      let nothing : sent_from v delays (at_of b i) ≡ None = ap (λ (o : Option ℕ). option_and_then (λ (bits : ℕ). option_and_then (first_input_at v) (direct_feeder v
+      let nothing : sent_from v delays (at_of b i) ≡ None =
+      ap (λ (o : Option ℕ). option_and_then (λ (bits : ℕ). option_and_then (first_input_at v) (direct_feeder v
       (at_of b i))) o) is.delayed
       ∙ ap (option_and_then (first_input_at v)) none in
       ap (λ (o : Option FlowAt). cond (is_some o) (queued_value b i + unit_on v b * (wait_with b i (Some t) + (stream_of t i).bits))

@@ -1,5 +1,6 @@
 -- Where gateways are prompt, what they send on directly keeps to the streams that are planned for it, on buses that keep to their plans otherwise.
-use Rattle.std.proofs.Common.{◌≡◌, ◌≢◌, ℕ, zero, suc, ◌+◌, ◌*◌, ◌<◌, ◌≤◌, ◌⊎◌, Bool, true, false, length, is_some, unwrap_or, Option, Some, None, refl, sym, ap, ◌∙◌, subst, inl, inr, arith}
+use Rattle.std.proofs.Common.{◌≡◌, ◌≢◌, ℕ, zero, suc, ◌+◌, ◌*◌, ◌<◌, ◌≤◌, ◌⊎◌, Bool, true, false, length, is_some, unwrap_or, Option, Some, None, refl, sym, ap}
+use Rattle.std.proofs.Common.{◌∙◌, subst, inl, inr, arith}
 use Rattle.std.proofs.lemmas.Bool.{cases_Bool, false≢true}
 use Rattle.std.proofs.lemmas.Option.{same_Some}
 use Rattle.std.specs.Option.{option_and_then, option_map_or}
@@ -22,14 +23,17 @@ use Rattle.j39_paths.specs.declared.point.FlowAt.{FlowAt}
 use Rattle.j39_ages.specs.BusDelays.{AreDelays, delays_on}
 use Rattle.j39_ages.specs.declared.bus_delays.Delays.{Delays}
 use Rattle.j39_ages.specs.TimeFindings.{period_ms}
-use Rattle.j39_ages.specs.Times.{behind_at, behind_by, delay_at, direct_feeder, flow_at, first_input_at, jitter_ms, own, queued_of, sum_known, timed, timing_on, us_of_ms, within_of}
+use Rattle.j39_ages.specs.Times.{behind_at, behind_by, delay_at, direct_feeder, flow_at, first_input_at, jitter_ms, own, queued_of, sum_known, timed, timing_on}
+use Rattle.j39_ages.specs.Times.{us_of_ms, within_of}
 use Rattle.j39_ages.proofs.DecidingTimes.{and_then_some}
 use Rattle.j39_age_laws.specs.ForwardedStreams.{AreForwardsTimely, AreOtherwiseKept, AreStreamsKept, IsOtherwiseKept, streams_of}
 use Rattle.j39_age_laws.specs.KeptBuses.{AreKeptBuses, IsKnownBus, asked_on}
 use Rattle.j39_age_laws.specs.Prompt.{ArePrompt, HaveOwnReleases, IsSentDirectly, sent_from}
 use Rattle.j39_age_laws.specs.Seen.{SeenBuses, frames_at, unit_on}
 use Rattle.j39_age_laws.proofs.Behind.{fed_never, fed_parts, unfed_release}
-use Rattle.j39_age_laws.proofs.Circle.{IsTold, TimedBus, all_of, at_of, behind_value, behind_with, bounded_here, bus_with, direct_with, is_some_false, is_some_true, late_value, of_bus, owns, period_value, queued_value, single_here, stream_of, streamed, unit_positive, view, viewed, wait_is, wait_with, within_value}
+use Rattle.j39_age_laws.proofs.Circle.{IsTold, TimedBus, all_of, at_of, behind_value, behind_with, bounded_here, bus_with, direct_with, is_some_false}
+use Rattle.j39_age_laws.proofs.Circle.{is_some_true, late_value, of_bus, owns, period_value, queued_value, single_here, stream_of, streamed, unit_positive}
+use Rattle.j39_age_laws.proofs.Circle.{view, viewed, wait_is, wait_with, within_value}
 use Rattle.j39_age_laws.proofs.Feeders.{feeder_is}
 use Rattle.j39_age_laws.proofs.OneFlow.{delay_here, own_parts}
 use Rattle.j39_age_laws.proofs.Parts.{some_cases, sum_some}
@@ -75,7 +79,8 @@ abbrev flow_value : Option FlowAt → ℕ
 flow_value from = option_map_or (λ (x : FlowAt). x.flow) from 0
 
 abbrev carrier_of : Bus → ℕ → Carrier
-carrier_of bus i = record { schedule = bus.schedule; clock = bus.clock; planned = bus.planned; of = bus.of; source = i; release = bus.release; born = bus.release }
+carrier_of bus i =
+    record { schedule = bus.schedule; clock = bus.clock; planned = bus.planned; of = bus.of; source = i; release = bus.release; born = bus.release }
 
 module _ (v : Vehicle) (delays : Delays) (told : AreDelays v delays) (seen : SeenBuses) (kept : AreOtherwiseKept v delays seen)
     (prompt : ArePrompt v delays seen) (own_releases : HaveOwnReleases v delays seen) (timely : AreForwardsTimely v delays) where

@@ -1,5 +1,6 @@
 -- What is seen of a vehicle where one message is sent, and sent on.
-use Rattle.std.proofs.Common.{◌≡◌, ◌≢◌, ℕ, ◌+◌, ◌*◌, ◌<◌, ◌≤◌, ◌⊎◌, Bool, true, false, eqb, if◌then◌else◌, Option, Some, None, refl, sym, ap, ◌∙◌, subst, inl, inr, arith}
+use Rattle.std.proofs.Common.{◌≡◌, ◌≢◌, ℕ, ◌+◌, ◌*◌, ◌<◌, ◌≤◌, ◌⊎◌, Bool, true, false, eqb, if◌then◌else◌, Option, Some, None, refl, sym, ap, ◌∙◌, subst, inl}
+use Rattle.std.proofs.Common.{inr, arith}
 use Rattle.std.proofs.lemmas.Bool.{cases_Bool, cases_eq, eq-eqb, eqb-true, true≢false}
 use Rattle.std.proofs.Math.Nat.{mul-le-mul_right}
 use Rattle.std.proofs.lemmas.Option.{same_Some}
@@ -229,7 +230,8 @@ module _ (v : Vehicle) (delays : Delays) (told : AreDelays v delays) (n : ℕ) (
       record { handed = whole.handed; each = whole.each; says = λ s t leads q its. whole.says q s t }
 
   -- any other has no message to send on
-  not_heard : (m : ℕ) (other : Forward) (z : FlowAt) (p : ℕ) → m ≢ n → forward_at v m ≡ Some other → first_input_at v other ≡ Some z → IsIts (frames_at v seen z) p
+  not_heard : (m : ℕ) (other : Forward) (z : FlowAt) (p : ℕ) → m ≢ n → forward_at v m ≡ Some other → first_input_at v other ≡ Some z
+      → IsIts (frames_at v seen z) p
       → ⊥
   not_heard m other z p differ its input is = elim (occupied z p is) [
     | inl same ↦ differ (lone.heard m other its (subst (λ (f : FlowAt). first_input_at v other ≡ Some f) same input))

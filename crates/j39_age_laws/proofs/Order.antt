@@ -54,7 +54,8 @@ module _ (v : Vehicle) (delays : Delays) (seen : SeenBuses) (by : ℕ) (is : IsS
   in_order q r its begun order = elim (cases_lt ((seen at.bus).release r) ((seen at.bus).release q)) [
     | inr not_less ↦ omega arith
     | inl less ↦
-        let differ : r ≢ q = λ same. let equal : (seen at.bus).release r ≡ (seen at.bus).release q = ap (λ (n : ℕ). (seen at.bus).release n) same in omega arith in
+        let differ : r ≢ q =
+        λ same. let equal : (seen at.bus).release r ≡ (seen at.bus).release q = ap (λ (n : ℕ). (seen at.bus).release n) same in omega arith in
         let low_r = known.low r begun.0 in
         let high_q = known.high q its in
         let some : 1 ≤ (seen at.bus).schedule.bits q = known.one.some_bits q its.0 in

@@ -1,5 +1,6 @@
 -- Where no finding says that a direct forward is too often or too late, each flow that it feeds has room for it.
-use Rattle.std.proofs.Common.{◌≡◌, ℕ, zero, suc, ◌<◌, ◌≤◌, Bool, true, false, cond, List, [], ◌∷◌, get_or, Option, Some, None, refl, sym, ap, ◌∙◌, subst, inl, inr, arith}
+use Rattle.std.proofs.Common.{◌≡◌, ℕ, zero, suc, ◌<◌, ◌≤◌, Bool, true, false, cond, List, [], ◌∷◌, get_or, Option, Some, None, refl, sym, ap, ◌∙◌, subst, inl}
+use Rattle.std.proofs.Common.{inr, arith}
 use Rattle.std.proofs.lemmas.Bool.{cases_lt, lt-ltb, true≢false}
 use Rattle.std.proofs.lemmas.List.Quantifiers.{position-Some}
 use Rattle.std.proofs.lemmas.List.Sums.{sum_by-cons}
@@ -254,7 +255,8 @@ module _ (v : Vehicle) (delays : Delays) (none : AreFindings v []) (told : AreDe
       ])
 
   -- what it comes from is silent no longer than its pause allows
-  pub keeps_rarely : (flow : FlowPlan) → flow_at v.buses.items at ≡ Some flow → (from : FlowAt) → first_input_at v n ≡ Some from → (ms : ℕ) → flow.pause ≡ Some ms
+  pub keeps_rarely : (flow : FlowPlan) → flow_at v.buses.items at ≡ Some flow → (from : FlowAt) → first_input_at v n ≡ Some from → (ms : ℕ)
+      → flow.pause ≡ Some ms
       → (s : ℕ) × (interval v from ≡ Some s) × (s ≤ us_of_ms ms)
   keeps_rarely flow its from input_is ms is =
       let same : flow ≡ sends.flow = same_Some _ _ (sym its ∙ sends.its) in

@@ -111,5 +111,6 @@ module _ (timing : Timing) (all : List (Option FlowFrames)) (s : Schedule) (cont
           let most = keeps.to_last p in_p plain kept in
           let same = own p early in
           omega (arith, most, same);
-      queue_groups = λ j level goes kept is_level. queue_group_then (queue_group_of timing all (planned_at all j) level) (keeps.queue_groups j level goes kept is_level);
+      queue_groups =
+          λ j level goes kept is_level. queue_group_then (queue_group_of timing all (planned_at all j) level) (keeps.queue_groups j level goes kept is_level);
     }

@@ -26,8 +26,10 @@ use Rattle.j39_paths.proofs.Deciding.{Decides-is_direct, it_is, need_flow_decide
 use Rattle.j39_ages.specs.declared.bus_delays.Delays.{Delays}
 use Rattle.j39_ages.specs.declared.ends.Ends.{Ends}
 use Rattle.j39_ages.specs.declared.needs.NeedFlow.{NeedFlow}
-use Rattle.j39_ages.specs.TimeFindings.{IsDirectBetween, IsNearer, IsNeedTooOld, IsTooLate, IsTooOften, IsTooRare, IsUnlimited, IsKnownWithin, IsYoungFlow, written_deadline, first_output, period_ms}
-use Rattle.j39_ages.specs.FoundTimes.{direct_ends, ends_of, flow_of_need, is_long, is_nearer, is_need_too_old, is_older, is_timed_bus, goes_to_all, is_too_late, is_too_often, is_too_rare, is_unlimited, is_known_within, need_flow_at, need_flows_at}
+use Rattle.j39_ages.specs.TimeFindings.{IsDirectBetween, IsNearer, IsNeedTooOld, IsTooLate, IsTooOften, IsTooRare, IsUnlimited, IsKnownWithin, IsYoungFlow}
+use Rattle.j39_ages.specs.TimeFindings.{written_deadline, first_output, period_ms}
+use Rattle.j39_ages.specs.FoundTimes.{direct_ends, ends_of, flow_of_need, is_long, is_nearer, is_need_too_old, is_older, is_timed_bus, goes_to_all, is_too_late}
+use Rattle.j39_ages.specs.FoundTimes.{is_too_often, is_too_rare, is_unlimited, is_known_within, need_flow_at, need_flows_at}
 use Rattle.j39_ages.specs.Times.{age, flow_at, first_input_at, jitter_ms, queued_of, interval, timing_on, us_of_ms}
 use Rattle.j39_ages.proofs.Youngest.{IsLeast, youngest_among, youngest_least, youngest_some}
 use Rattle.j39_findings.proofs.Deciding.{Decides-leb}

@@ -11,7 +11,8 @@ use Rattle.j39_paths.specs.declared.point.FlowAt.{FlowAt}
 use Rattle.j39_paths.specs.declared.point.Point.{Point}
 use Rattle.j39_paths.proofs.Tracing.{one_more}
 use Rattle.j39_ages.specs.declared.bus_delays.Delays.{Delays}
-use Rattle.j39_ages.specs.Times.{age_with, behind_at, behind_by, behind_release, direct_feeder, forward_at, first_input_at, old_behind, old_by, own, pause_us, queued_behind, interval, interval_by, sum_known, timing_on, unasked_at, within_of}
+use Rattle.j39_ages.specs.Times.{age_with, behind_at, behind_by, behind_release, direct_feeder, forward_at, first_input_at, old_behind, old_by, own, pause_us}
+use Rattle.j39_ages.specs.Times.{queued_behind, interval, interval_by, sum_known, timing_on, unasked_at, within_of}
 use Rattle.j39_ages.specs.inside.Aging.{aged_by, aged_of, ends_here}
 use Rattle.j39_ages.proofs.Sums.{sum_more, sum_none, sum_swap, sum_swapped, sum_turned, sum_zero}
 

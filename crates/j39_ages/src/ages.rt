@@ -11,7 +11,8 @@ use j39_vehicle::Forward;
 
 // How much older a value becomes than at the release of the message that brings it, until the next one has ended.
 fn grown(routes: &Routes<'_>, delays: &Delays, at: FlowAt) -> Option<u64>
-    ensures value { result ≡ sum_known (interval routes.now.vehicle.now at) (behind_at routes.now.vehicle.now delays.now at) }
+    ensures value { result
+        ≡ sum_known (interval routes.now.vehicle.now at) (behind_at routes.now.vehicle.now delays.now at) }
     ensures few { IfSome result (λ grown. grown < 2 ^ 47) }
 {
     let Some(interval) = interval(routes, at) else {
@@ -23,7 +24,8 @@ fn grown(routes: &Routes<'_>, delays: &Delays, at: FlowAt) -> Option<u64>
     }
 }
 
-// How much older it becomes until what the forward sends has its release: that of the message which a direct one sends on is the same.
+// How much older it becomes until what the forward sends has its release: that of the message which a direct one sends
+// on is the same.
 fn aged(routes: &Routes<'_>, delays: &Delays, forward: &Forward, heard: FlowAt) -> Option<u64>
     ensures value { result ≡ aged_of routes.now.vehicle.now delays.now heard forward.now }
     ensures few { IfSome result (λ aged. aged < 2 ^ 48) }

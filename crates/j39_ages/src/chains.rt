@@ -1,6 +1,7 @@
 //! How long what comes along direct forwards takes, and how often it comes.
 ghost use Rattle.std.specs.Prelude.{◌≡◌, ◌<◌, ◌≤◌, ◌^◌, Some, IfSome};
-ghost use Rattle.j39_ages.specs.Times.{behind_at, behind_by, behind_release, own, queued, queued_of, interval, interval_by, sum_known, unasked_at, within_of};
+ghost use Rattle.j39_ages.specs.Times.{behind_at, behind_by, behind_release, own, queued, queued_of, interval};
+ghost use Rattle.j39_ages.specs.Times.{interval_by, sum_known, unasked_at, within_of};
 ghost use Rattle.j39_ages.specs.inside.Chains.{hop_by};
 
 use crate::bus_delays::{Delays, delay_at};
@@ -78,7 +79,8 @@ fn last_behind(routes: &Routes<'_>, delays: &Delays, hops: u64, at: FlowAt) -> O
     }
 }
 
-/// How long a message of the flow takes until it has ended: from its release, which is that of the first one where direct forwards sent it on.
+/// How long a message of the flow takes until it has ended: from its release, which is that of the first one where
+/// direct forwards sent it on.
 pub fn behind(routes: &Routes<'_>, delays: &Delays, start: FlowAt) -> Option<u64>
     ensures value { result ≡ behind_at routes.now.vehicle.now delays.now start }
     ensures few { IfSome result (λ behind_at. behind_at < 2 ^ 46) }

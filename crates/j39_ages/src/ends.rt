@@ -6,7 +6,10 @@ ghost use Rattle.j39_paths.specs.Buses.{groups_on};
 ghost use Rattle.j39_paths.specs.ForwardTests.{is_output};
 ghost use Rattle.j39_paths.specs.ForwardEnds.{output_flows};
 ghost use Rattle.j39_ages.specs.TimeFindings.{first_output, period_ms};
-ghost use Rattle.j39_ages.specs.FoundTimes.{direct_ends, ends_of, has_deadline, has_such_a_period, is_asked, is_late_asked, is_late_asked_of, is_later, is_long, is_more_often, is_nearer, is_rarer, is_timed_bus, goes_to_all, is_too_late, is_too_often, is_too_rare, is_unlimited, is_known_within};
+ghost use Rattle.j39_ages.specs.FoundTimes.{direct_ends, ends_of, has_deadline, has_such_a_period, is_asked};
+ghost use Rattle.j39_ages.specs.FoundTimes.{is_late_asked, is_late_asked_of, is_later, is_long, is_more_often};
+ghost use Rattle.j39_ages.specs.FoundTimes.{is_nearer, is_rarer, is_timed_bus, goes_to_all, is_too_late, is_too_often};
+ghost use Rattle.j39_ages.specs.FoundTimes.{is_too_rare, is_unlimited, is_known_within};
 
 use crate::bus_delays::Delays;
 use crate::chains::{interval, queued_of};
@@ -160,7 +163,8 @@ fn is_to_all(to: To) -> bool
     }
 }
 
-// Whether the flow, one of the bus where the forward sends, is a broadcast without a written deadline all of whose messages go in packets.
+// Whether the flow, one of the bus where the forward sends, is a broadcast without a written deadline all of whose
+// messages go in packets.
 fn is_unlimited(vehicle: &Vehicle, forward: &Forward, output: &FlowPlan) -> bool
     ensures { result ≡ is_unlimited vehicle.now forward.now output.now }
 {

@@ -2,7 +2,8 @@
 ghost use Rattle.std.specs.Prelude.{◌≡◌, ◌≤◌, ◌<◌, ◌^◌, IfSome};
 ghost use Rattle.std.specs.List.{find};
 ghost use Rattle.std.specs.Option.{option_copied};
-ghost use Rattle.j39_ages.specs.Times.{us_of_bit, flow_at, first_input_at, jitter_ms, own, own_of, pause_us, timed, timing_on, us_of_ms, within_of};
+ghost use Rattle.j39_ages.specs.Times.{us_of_bit, flow_at, first_input_at, jitter_ms, own, own_of, pause_us, timed};
+ghost use Rattle.j39_ages.specs.Times.{timing_on, us_of_ms, within_of};
 ghost use Rattle.j39_ages.specs.inside.Chains.{direct_place, input_by, is_direct_at};
 
 use crate::bus_delays::{Delays, delay_at};

@@ -66,8 +66,8 @@ fn add_bus(buses: &mut Vec<BusPlan>, label: Label, plan: Plan) -> Result<(), All
     Ok(())
 }
 
-// The buses of a vehicle, with their plans. The file of each is opened once that before it was read. Where one describes no plan, writes why,
-// and gives none.
+// The buses of a vehicle, with their plans. The file of each is opened once that before it was read. Where one
+// describes no plan, writes why, and gives none.
 fn buses_of<F: Folder, W: Sink>(
     alloc: Global,
     files: &F,

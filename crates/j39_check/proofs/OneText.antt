@@ -1,5 +1,6 @@
 -- Check has one text, and so have addresses, load and show.
-use Rattle.std.proofs.Common.{◌≡◌, ℕ, suc, zero, ◌+◌, Bool, cond, codes, count_by, length, List, [], ◌∷◌, ◌++◌, Option, Some, None, inl, inr, Err, refl, subst, sym, ap, ◌∙◌}
+use Rattle.std.proofs.Common.{◌≡◌, ℕ, suc, zero, ◌+◌, Bool, cond, codes, count_by, length, List, [], ◌∷◌, ◌++◌, Option, Some, None, inl, inr, Err, refl, subst}
+use Rattle.std.proofs.Common.{sym, ap, ◌∙◌}
 use Rattle.std.proofs.lemmas.Bool.{cases_Bool}
 use Rattle.std.proofs.lemmas.Option.{same_Some}
 use Rattle.std.specs.List.{AllZip, slice_get}

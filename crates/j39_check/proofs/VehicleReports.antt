@@ -186,7 +186,8 @@ module _ (plan vehicle : Plan) (is : IsVehicleOf plan vehicle) (apart : AreDisti
         over true (lines, ends) = (lines ∙ text_same, ends ∙ verdict_same)
         over false report = check_alike text verdict report
 
-  load_of_timing : (timing : Option Timing) (text : List ℕ) (verdict : Verdict) → IsLoadReport plan timing text verdict → IsLoadReport vehicle timing text verdict
+  load_of_timing : (timing : Option Timing) (text : List ℕ) (verdict : Verdict) → IsLoadReport plan timing text verdict
+      → IsLoadReport vehicle timing text verdict
   load_of_timing None text verdict report = report
   load_of_timing (Some timing) text verdict (stays, delays, asks, tells) =
       let there = (loads_alike plan vehicle is apart).standing stays asks.standing in

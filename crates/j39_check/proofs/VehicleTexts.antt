@@ -6,8 +6,11 @@ use Rattle.std.specs.Option.{option_map_or}
 use Rattle.j39_findings.specs.ConflictRuns.{conflict_run}
 use Rattle.j39_network.specs.VehiclePlans.{IsBoxOf, IsVehicleOf}
 use Rattle.j39_findings.specs.declared.checking.finding.Finding.{Finding}
-use Rattle.j39_findings.specs.declared.checking.finding.Finding.TheVariants.{SameName, SameFixedAddress, TooFewAddresses, BadPgn, SamePgn, SignalWidth, SignalOutside, SignalOverlap, FlowToOne, FlowToSelf, FlowRepeated, KeptAddress, PrivateUnsent, RecordOverlap, TextOutside, NeedUnmet}
-use Rattle.j39_findings.specs.declared.checking.finding.Finding.TheVariants.{RequestUnanswered, RequestUnheard, AnswerAstray, WhenOutside, RequestRepeated, SilentAddress, SilentInPool, FlowContested}
+use Rattle.j39_findings.specs.declared.checking.finding.Finding.TheVariants.{SameName, SameFixedAddress, TooFewAddresses, BadPgn, SamePgn, SignalWidth}
+use Rattle.j39_findings.specs.declared.checking.finding.Finding.TheVariants.{SignalOutside, SignalOverlap, FlowToOne, FlowToSelf, FlowRepeated, KeptAddress}
+use Rattle.j39_findings.specs.declared.checking.finding.Finding.TheVariants.{PrivateUnsent, RecordOverlap, TextOutside, NeedUnmet}
+use Rattle.j39_findings.specs.declared.checking.finding.Finding.TheVariants.{RequestUnanswered, RequestUnheard, AnswerAstray, WhenOutside, RequestRepeated}
+use Rattle.j39_findings.specs.declared.checking.finding.Finding.TheVariants.{SilentAddress, SilentInPool, FlowContested}
 use Rattle.j39_network.specs.declared.plan.Plan.{Plan}
 use Rattle.j39_network.specs.declared.plan.flow_plan.FlowPlan.{FlowPlan}
 use Rattle.j39_network.specs.declared.plan.group_plan.GroupPlan.{GroupPlan}
@@ -27,9 +30,11 @@ use Rattle.j39_load.specs.Asked.{Asked}
 use Rattle.j39_load.specs.LineLists.{lines_of_each}
 use Rattle.j39_load.specs.Loads.{bits_of_ms}
 use Rattle.j39_schedule.specs.StepLines.{step_line, step_lines, step_text, step_unit_text}
-use Rattle.j39_text.specs.Labels.{group_label, group_pgn, group_selector_end, group_text, need_signal_text, need_text, signal_bits, signal_end, signal_label, signals_of, text_end, text_label, texts_of, unit_address, unit_label, units_text}
+use Rattle.j39_text.specs.Labels.{group_label, group_pgn, group_selector_end, group_text, need_signal_text, need_text, signal_bits, signal_end, signal_label}
+use Rattle.j39_text.specs.Labels.{signals_of, text_end, text_label, texts_of, unit_address, unit_label, units_text}
 use Rattle.j39_check.specs.CheckText.{findings_text, ok_line}
-use Rattle.j39_check.specs.FindingLines.{finding_line, finding_lines, finding_part, finding_report, finding_text, run_lines, signal_text, address_of_unit_text, address_of_units_text, group_number_text, signal_number_text, signals_text}
+use Rattle.j39_check.specs.FindingLines.{finding_line, finding_lines, finding_part, finding_report, finding_text, run_lines, signal_text, address_of_unit_text}
+use Rattle.j39_check.specs.FindingLines.{address_of_units_text, group_number_text, signal_number_text, signals_text}
 use Rattle.j39_check.specs.LoadLines.{flow_line, flow_text, known_age_text, loads_text, need_line, receiver_text}
 use Rattle.j39_check.specs.LoadText.{untold_lines, untold_text}
 
@@ -265,7 +270,8 @@ module _ (plan vehicle : Plan) (is : IsVehicleOf plan vehicle) where
     go None = refl
     go (Some ms) = rw (need_text_same place need, age_same timing delays need (bits_of_ms timing ms)) refl
 
-  pub loads_text_same : (timing : Timing) (asked : Asked) (delays : List (Option Delay)) → loads_text vehicle timing asked delays ≡ loads_text plan timing asked delays
+  pub loads_text_same : (timing : Timing) (asked : Asked) (delays : List (Option Delay))
+      → loads_text vehicle timing asked delays ≡ loads_text plan timing asked delays
   unfolding loads_text
   loads_text_same timing asked delays =
       let flows = ap (lines_of_each (flow_line vehicle timing.bitrate asked.flows delays) 0) is.flows

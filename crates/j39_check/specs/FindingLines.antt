@@ -7,10 +7,13 @@ use Rattle.j39_network.specs.declared.steps.Step.{Step}
 use Rattle.j39_world.specs.Conflict.{LeavesWithoutAddress}
 use Rattle.j39_network.specs.declared.plan.Plan.{Plan}
 use Rattle.j39_findings.specs.declared.checking.finding.Finding.{Finding}
-use Rattle.j39_findings.specs.declared.checking.finding.Finding.TheVariants.{SameName, SameFixedAddress, TooFewAddresses, BadPgn, SamePgn, SignalWidth, SignalOutside, SignalOverlap, FlowToOne, FlowToSelf, FlowRepeated, KeptAddress, PrivateUnsent, RecordOverlap, TextOutside, NeedUnmet}
+use Rattle.j39_findings.specs.declared.checking.finding.Finding.TheVariants.{SameName, SameFixedAddress, TooFewAddresses, BadPgn, SamePgn, SignalWidth}
+use Rattle.j39_findings.specs.declared.checking.finding.Finding.TheVariants.{SignalOutside, SignalOverlap, FlowToOne, FlowToSelf, FlowRepeated, KeptAddress}
+use Rattle.j39_findings.specs.declared.checking.finding.Finding.TheVariants.{PrivateUnsent, RecordOverlap, TextOutside, NeedUnmet}
 use Rattle.j39_findings.specs.declared.checking.finding.Finding.TheVariants.{RequestUnanswered, RequestUnheard, AnswerAstray, WhenOutside, RequestRepeated}
 use Rattle.j39_findings.specs.declared.checking.finding.Finding.TheVariants.{SilentAddress, SilentInPool, FlowContested}
-use Rattle.j39_text.specs.Labels.{group_label, group_pgn, group_selector_end, group_text, signal_bits, signal_end, signal_label, text_end, text_label, unit_address, unit_label, units_text}
+use Rattle.j39_text.specs.Labels.{group_label, group_pgn, group_selector_end, group_text, signal_bits, signal_end, signal_label, text_end, text_label}
+use Rattle.j39_text.specs.Labels.{unit_address, unit_label, units_text}
 use Rattle.j39_text.specs.Texts.{field, place_field}
 use Rattle.j39_schedule.specs.Schedule.{read_as, readings_of}
 use Rattle.j39_schedule.specs.StepLines.{step_lines}

@@ -4,7 +4,8 @@ use Rattle.j39_network.specs.declared.plan.Plan.{Plan}
 use Rattle.j39_plan.specs.PlanErrors.{PlanFault, PlanError}
 use Rattle.j39_plan.specs.declared.reading.key.Key.{Key}
 use Rattle.j39_plan.specs.declared.reading.place.Table.{Table}
-use Rattle.j39_plan.specs.declared.reading.place.Table.TheVariants.{Top, Timing, TimingErrors, Unit as AUnit, UnitName, Group, GroupWhen, Signal, Text, Flow, Need, Request}
+use Rattle.j39_plan.specs.declared.reading.place.Table.TheVariants.{Top, Timing, TimingErrors, Unit as AUnit, UnitName, Group, GroupWhen, Signal, Text, Flow}
+use Rattle.j39_plan.specs.declared.reading.place.Table.TheVariants.{Need, Request}
 use Rattle.j39_tables.specs.declared.file_error.FileError.TheVariants as errors
 use Rattle.j39_plan.specs.Words.{word_of}
 use Rattle.j39_tables.specs.CauseWords.{cause_word}

@@ -13,10 +13,11 @@ use j39_load::{
     serial_numbers_change_no_load,
 };
 
-/// A plan with which and with whose load nothing is wrong is sound, and where something is known of its bus, its planned frames are in time
-/// on it, and of each need that asks for an age some flow brings nothing older while it keeps its `pause`, and reads as it was written. All
-/// of it holds of the plan of each vehicle too, whatever the serial numbers of its boxes are. It rests on the certificate of the plan and on
-/// the laws of delays, of needs and of serial numbers.
+/// A plan with which and with whose load nothing is wrong is sound, and where something is known of its bus, its
+/// planned frames are in time on it, and of each need that asks for an age some flow brings nothing older while it
+/// keeps its `pause`, and reads as it was written. All of it holds of the plan of each vehicle too, whatever the serial
+/// numbers of its boxes are. It rests on the certificate of the plan and on the laws of delays, of needs and of serial
+/// numbers.
 pub fn clean_plans_are_certified()
     ensures { (plan : Plans) → Clean plan → AreLoadFindings plan plan.timing [] → IsCertified plan }
 {

@@ -23,7 +23,8 @@ impl PlanReport for CheckReport {
     }
 }
 
-/// Writes everything that is wrong with the plan that a file describes, or that nothing is, or why the file describes none.
+/// Writes everything that is wrong with the plan that a file describes, or that nothing is, or why the file describes
+/// none.
 pub fn check_text<S: Source, W: Sink>(
     alloc: Global,
     source: &mut S,

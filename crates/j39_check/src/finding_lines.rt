@@ -1,7 +1,10 @@
 //! The lines of findings.
 ghost use Rattle.std.specs.Prelude.{◌≡◌, ◌++◌, OnOk};
 ghost use Rattle.j39_findings.specs.declared.checking.finding.Finding.TheVariants.{SamePgn, TextOutside};
-ghost use Rattle.j39_check.specs.FindingLines.{address_of_unit_text, address_of_units_text, finding_line, finding_lines, finding_part, finding_report, finding_text, group_number_text, is_between, places_text, run_lines, signal_number_text, signal_text, signals_text};
+ghost use Rattle.j39_check.specs.FindingLines.{address_of_unit_text, address_of_units_text, finding_line};
+ghost use Rattle.j39_check.specs.FindingLines.{finding_lines, finding_part, finding_report, finding_text};
+ghost use Rattle.j39_check.specs.FindingLines.{group_number_text, is_between, places_text, run_lines};
+ghost use Rattle.j39_check.specs.FindingLines.{signal_number_text, signal_text, signals_text};
 
 use j39_findings::{Finding, bad_run};
 use j39_network::Plan;
@@ -276,7 +279,8 @@ fn write_part(
     }
 }
 
-/// Writes a line for each finding whose number is between these, and behind that of a conflict the steps of the run that shows it.
+/// Writes a line for each finding whose number is between these, and behind that of a conflict the steps of the run
+/// that shows it.
 pub(super) fn write_lines(
     alloc: Global,
     text: &mut TextBuffer,

@@ -227,7 +227,8 @@ fn write_flow_line(
 ) -> Result<(), AllocError>
     requires loads { place < length loads.now.flows.items }
     requires delays { place < length delays.now }
-    ensures { OnOk result (text.new ≡ text.old ++ flow_line plan.now loads.now.timing.bitrate loads.now.flows.items delays.now place flow.now) }
+    ensures { OnOk result (text.new ≡ text.old
+        ++ flow_line plan.now loads.now.timing.bitrate loads.now.flows.items delays.now place flow.now) }
 {
     write_flow(text, plan, place, flow)?;
     write_known_delay(
@@ -318,7 +319,8 @@ fn write_needs(
     delays: &[Option<Delay>],
 ) -> Result<(), AllocError>
     requires { length delays.now ≡ length plan.now.flows.items }
-    ensures { OnOk result (text.new ≡ text.old ++ lines_of_each (need_line plan.now timing delays.now) 0 plan.now.needs.items) }
+    ensures { OnOk result (text.new ≡ text.old
+        ++ lines_of_each (need_line plan.now timing delays.now) 0 plan.now.needs.items) }
 {
     for (place, need) in plan.needs.iter().enumerate() {
         write_need_line(text, plan, timing, delays, place, need)?;
@@ -346,7 +348,8 @@ pub(super) fn write_loads(
 ) -> Result<(), AllocError>
     requires loads { length loads.now.flows.items ≡ length plan.now.flows.items }
     requires delays { length delays.now ≡ length plan.now.flows.items }
-    ensures { OnOk result (text.new ≡ text.old ++ loads_text plan.now loads.now.timing (asked_in loads.now) delays.now) }
+    ensures { OnOk result (text.new ≡ text.old
+        ++ loads_text plan.now loads.now.timing (asked_in loads.now) delays.now) }
 {
     write_flows(text, plan, loads, delays)?;
     write_needs(text, plan, loads.timing, delays)?;

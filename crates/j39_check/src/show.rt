@@ -25,8 +25,8 @@ impl PlanReport for ShowReport {
     }
 }
 
-/// Writes each value of the plan that a file describes, those too that the file leaves to their defaults, one a line, whatever is wrong with
-/// the plan; or why the file describes none.
+/// Writes each value of the plan that a file describes, those too that the file leaves to their defaults, one a line,
+/// whatever is wrong with the plan; or why the file describes none.
 pub fn show_text<S: Source, W: Sink>(
     alloc: Global,
     source: &mut S,

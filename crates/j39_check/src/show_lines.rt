@@ -1,6 +1,7 @@
 //! The lines of the values of a plan.
 ghost use Rattle.std.specs.Prelude.{◌≡◌, ◌<◌, ◌++◌, OnOk};
-ghost use Rattle.j39_check.specs.ShowText.{bits_a_second, error_lines, kept_line, kept_lines, known_timing_lines, show_text, timing_lines, top_lines};
+ghost use Rattle.j39_check.specs.ShowText.{bits_a_second, error_lines, kept_line, kept_lines, known_timing_lines};
+ghost use Rattle.j39_check.specs.ShowText.{show_text, timing_lines, top_lines};
 
 mod flows;
 mod groups;

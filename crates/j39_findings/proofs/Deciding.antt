@@ -185,7 +185,8 @@ one_frame_decides g = Decides-and _ _ (Decides-leb pdu2_first (pf_of g.pgn)) (De
 some_frame_decides : (g : GroupPlan) → Decides (may_be_one_frame_to_all g) (MayBeOneFrameToAll g)
 some_frame_decides g = Decides-and _ _ (Decides-leb pdu2_first (pf_of g.pgn)) (Decides-leb g.length frame_bytes)
 
-group_of_decides : {test : GroupPlan → Bool} (P : GroupPlan → Type 0) → ((g : GroupPlan) → Decides (test g) (P g)) → (gs : List GroupPlan) (i : ℕ) (o : Option GroupPlan)
+group_of_decides : {test : GroupPlan → Bool} (P : GroupPlan → Type 0) → ((g : GroupPlan) → Decides (test g) (P g))
+    → (gs : List GroupPlan) (i : ℕ) (o : Option GroupPlan)
     → slice_get gs i ≡ o → Decides (is_group_of test o) (ValueAt P gs i)
 group_of_decides P by gs i None is = (λ e. absurd (false≢true e), λ v. absurd (none-some _ (sym is ∙ v.value_is)))
 group_of_decides P by gs i (Some g) is =
@@ -193,7 +194,8 @@ group_of_decides P by gs i (Some g) is =
     (λ v. subst P (same_Some _ _ (sym v.value_is ∙ is)) v.meets) (by g)
 
 pub Decides-cannot_go_to_one : (gs : List GroupPlan) (f : FlowPlan) → Decides (cannot_go_to_one gs f) (CannotGoToOne gs f)
-Decides-cannot_go_to_one gs f = Decides-and _ _ (Decides-is_to_one f.to) (group_of_decides IsOneFrameToAll one_frame_decides gs f.group (slice_get gs f.group) refl)
+Decides-cannot_go_to_one gs f =
+    Decides-and _ _ (Decides-is_to_one f.to) (group_of_decides IsOneFrameToAll one_frame_decides gs f.group (slice_get gs f.group) refl)
 
 pub Decides-goes_to_its_sender : (f : FlowPlan) → Decides (goes_to_its_sender f) (GoesToItsSender f)
 Decides-goes_to_its_sender f = Decides-is_to f.to f.sender

@@ -332,7 +332,8 @@ not_live live kept strangers units flows none =
     ap (λ b. if b then each (is_contested (is_unit_alone kept strangers units) units) FlowContested 0 flows else []) none
 
 -- whether a unit is alone is decided
-pub Decides-alone : (plan : Plan) (u : ℕ) → Decides (not (is_end_contested (is_unit_alone plan.keep_free plan.strangers plan.units.items) plan.units.items u)) (IsAloneInPlan plan u)
+pub Decides-alone : (plan : Plan) (u : ℕ)
+    → Decides (not (is_end_contested (is_unit_alone plan.keep_free plan.strangers plan.units.items) plan.units.items u)) (IsAloneInPlan plan u)
 Decides-alone plan u =
     let contested : Bool = is_end_contested (is_unit_alone plan.keep_free plan.strangers plan.units.items) plan.units.items u in
     go contested (Decides-end plan (is_unit_alone plan.keep_free plan.strangers plan.units.items) (alone_by_list plan) u) (is_or_isnt u)

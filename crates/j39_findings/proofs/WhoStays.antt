@@ -136,7 +136,8 @@ placed kept (p ∷ ps) (suc i) inside = placed kept ps i (omega arith)
 pub planned_at : (kept : FinSet nat_cmp) (ps : List UnitPlan) (u : ℕ) (unit : UnitPlan) → slice_get ps u ≡ Some unit
     → (u < length (map (planned_unit kept) ps)) × (unit_at (map (planned_unit kept) ps) u ≡ planned_unit kept unit)
 planned_at kept ps u unit at =
-    let inside : u < length (map (planned_unit kept) ps) = let below = slice_get_within ps u unit at in omega (arith, below, length-map ps (planned_unit kept)) in
+    let inside : u < length (map (planned_unit kept) ps) =
+    let below = slice_get_within ps u unit at in omega (arith, below, length-map ps (planned_unit kept)) in
     let (p, at_p, is) = placed kept ps u inside in
     (inside, is ∙ ap (planned_unit kept) (same_Some _ _ (sym at_p ∙ at)))
 
@@ -204,7 +205,8 @@ module _ (plan : Plan) (firsts : List (Option ℕ)) (mover : Option ℕ) (are_fi
   -- the address is outside, or none moves
   unmoved_told : (u : ℕ) (unit : UnitPlan) → IsAt u unit → (pool : Bool) → in_pool (unit_at (units_of plan) u).preferred ≡ pool
       → (not pool || is_least mover unit.name) ≡ true
-      → IsOutsidePool (units_of plan) u ⊎ EachSmaller (units_of plan) u (λ v. is_arbitrary (unit_at (units_of plan) v).name ≡ true → IsFirstThere (units_of plan) v)
+      → IsOutsidePool (units_of plan) u
+      ⊎ EachSmaller (units_of plan) u (λ v. is_arbitrary (unit_at (units_of plan) v).name ≡ true → IsFirstThere (units_of plan) v)
   unmoved_told u unit at false outside told = inl outside
   unmoved_told u unit at true inside told = inr (none_moves_told u unit at told)
 

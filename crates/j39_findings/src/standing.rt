@@ -1,6 +1,8 @@
 //! Which units of a plan hold their planned addresses, whatever the others do, and which are alone there.
 ghost use Rattle.std.specs.Prelude.{◌≡◌, length};
-ghost use Rattle.j39_findings.specs.Standing.{AreFirsts, DecidesAtEach, AreTwoThere, DecidesWhoIsAlone, DecidesWhoStays, IsMover, alone_of, is_alone_by, is_first_by, is_least, is_mover_by, is_settled, smaller, stays_by, stays_of};
+ghost use Rattle.j39_findings.specs.Standing.{AreFirsts, DecidesAtEach, AreTwoThere, DecidesWhoIsAlone};
+ghost use Rattle.j39_findings.specs.Standing.{DecidesWhoStays, IsMover, alone_of, is_alone_by, is_first_by, is_least};
+ghost use Rattle.j39_findings.specs.Standing.{is_mover_by, is_settled, smaller, stays_by, stays_of};
 
 use j39_claim::AddressSet;
 use j39_id::Name;
@@ -79,7 +81,8 @@ fn mover_of(units: &[UnitPlan], firsts: &Firsts) -> Option<Name>
     mover
 }
 
-// Of the units that the plan has: it is the first at its planned address, and none to which others move has to go there.
+// Of the units that the plan has: it is the first at its planned address, and none to which others move has to go
+// there.
 fn stays_among(firsts: &Firsts, mover: Option<Name>, unit: &UnitPlan) -> bool
     ensures { result ≡ stays_by firsts.now mover unit.now }
 {

@@ -1,5 +1,6 @@
 -- What a frame is, and what is written at it.
-use Rattle.std.proofs.Common.{◌≡◌, ◌++◌, ◌==◌, ◌&&◌, ℕ, Bool, true, false, if◌then◌else◌, List, [], length, Option, Some, None, inl, inr, refl, sym, ap, ◌∙◌, append_assoc, arith, eq-eqb, eqb-true}
+use Rattle.std.proofs.Common.{◌≡◌, ◌++◌, ◌==◌, ◌&&◌, ℕ, Bool, true, false, if◌then◌else◌, List, [], length, Option, Some, None, inl, inr, refl, sym, ap, ◌∙◌}
+use Rattle.std.proofs.Common.{append_assoc, arith, eq-eqb, eqb-true}
 use Rattle.std.proofs.lemmas.Bool.{cases_Bool, eqb-false, ne_eqb, false≢true}
 use Rattle.std.proofs.lemmas.List.{length-append}
 use Rattle.j39_id.specs.declared.frame.Frame.{Frame}

@@ -32,7 +32,8 @@ use Rattle.j39_follow.specs.Fits.{IsPlannedAs, IsSentGroup, MayBeGroup, fitting_
 use Rattle.j39_follow.specs.FollowReports.{IsBareText, IsGroupOfMessage, IsGrouped, IsMessageReport, IsNotice, Message, frame_line, in_frame, stamp}
 use Rattle.j39_follow.specs.FollowText.{FollowedPast, FollowsFrame, FollowsLine, FollowsLines, FollowsPart, HeardSince, IsFollowedAs, IsPacketReport}
 use Rattle.j39_follow.specs.FollowText.{frames_seen, line_passed_over, lines_with, nothing_followed, one_line_more}
-use Rattle.j39_follow.specs.GroupLines.{AreToldAlike, GroupsAreToldAlike, IsNoticed, IsThinned, IsWhole, LineTexts, StayInHands, TellOneMessage, all_followed, all_read}
+use Rattle.j39_follow.specs.GroupLines.{AreToldAlike, GroupsAreToldAlike, IsNoticed, IsThinned, IsWhole, LineTexts, StayInHands, TellOneMessage, all_followed}
+use Rattle.j39_follow.specs.GroupLines.{all_read}
 use Rattle.j39_follow.specs.declared.message.Sort.{Sort}
 use Rattle.j39_follow.specs.declared.flow.sending.Sending.{Sending}
 use Rattle.j39_follow.proofs.Alike.{line_grows, lines_grow, whole_part}
@@ -392,7 +393,8 @@ over_seen BadIdent past = refl
 over_seen TooLong past = refl
 over_seen BadData past = refl
 
-part_alike : (plan : Plan) (all_frames : Bool) → HasNoPrivate plan → (past : FollowedPast) (read : Past) (line part : List ℕ) (named : Option (List ℕ)) (next : FollowedPast)
+part_alike : (plan : Plan) (all_frames : Bool) → HasNoPrivate plan
+    → (past : FollowedPast) (read : Past) (line part : List ℕ) (named : Option (List ℕ)) (next : FollowedPast)
     (other : Past) (t u : List ℕ) → part ≡ line → past.seen ≡ read.seen → FollowsPart plan all_frames past line part named next t
     → ReadsLine plan read (Short line) other u → LineAlike plan past.seen t u next.seen other.seen
 part_alike plan all_frames shared past read line part named next other t u whole seen (inl f) (inl g) =
@@ -408,7 +410,8 @@ part_alike plan all_frames shared past read line part named next other t u whole
     let there : other.seen ≡ read.seen = ap (λ (p : Past). p.seen) g.2 ∙ over_seen g.0 read in
     nothing_alike plan past.seen t u next.seen other.seen f.3 g.3 here (here ∙ seen ∙ sym there)
 
-line_alike : (plan : Plan) (all_frames : Bool) → HasNoPrivate plan → (past : FollowedPast) (read : Past) (line : Line) (next : FollowedPast) (other : Past) (t u : List ℕ)
+line_alike : (plan : Plan) (all_frames : Bool) → HasNoPrivate plan
+    → (past : FollowedPast) (read : Past) (line : Line) (next : FollowedPast) (other : Past) (t u : List ℕ)
     → past.seen ≡ read.seen → IsUndirected line → FollowsLine plan all_frames past line next t → next.elsewhere ≡ past.elsewhere
     → ReadsLine plan read line other u → LineAlike plan past.seen t u next.seen other.seen
 line_alike plan all_frames shared past read (Short line) next other t u seen undirected follows stays reads = elim follows.4 [
@@ -424,7 +427,8 @@ line_alike plan all_frames shared past read Long next other t u seen undirected 
 
 -- ---- all lines
 
-lines_alike : (plan : Plan) (all_frames : Bool) → HasNoPrivate plan → (log : List Line) (past : FollowedPast) (read : Past) (end : FollowedPast) (other : Past) (t u : List ℕ)
+lines_alike : (plan : Plan) (all_frames : Bool) → HasNoPrivate plan
+    → (log : List Line) (past : FollowedPast) (read : Past) (end : FollowedPast) (other : Past) (t u : List ℕ)
     → past.seen ≡ read.seen → All IsUndirected log → FollowsLines plan all_frames past log end t → end.elsewhere ≡ past.elsewhere
     → ReadsLines plan read log other u → AreToldAlike plan (frames_seen end.seen) t u × ((more : List Seen) × (end.seen ≡ past.seen ++ more))
 unfolding all_followed all_read
@@ -454,7 +458,8 @@ lines_alike plan all_frames shared (line ∷ log) past read end other t u seen u
     later.1.1 ∙ ap (λ (s : List Seen). s ++ later.1.0) now.grown.1 ∙ append_assoc past.seen now.grown.0 later.1.0 in (
       record {
         rows = now.row ∷ told.rows;
-        reports_are = follows.5 ∙ ap (λ (x : List ℕ). x ++ follows.2) now.text_is ∙ ap (λ (x : List ℕ). (now.row.notice ++ now.row.followed) ++ x) told.reports_are;
+        reports_are =
+            follows.5 ∙ ap (λ (x : List ℕ). x ++ follows.2) now.text_is ∙ ap (λ (x : List ℕ). (now.row.notice ++ now.row.followed) ++ x) told.reports_are;
         texts_are = reads.5 ∙ ap (λ (x : List ℕ). x ++ reads.2) now.read_is ∙ ap (λ (x : List ℕ). now.row.read ++ x) told.texts_are;
         noticed = All-cons (IsNoticed plan) now.row told.rows now.noticed told.noticed;
         thinned = All-cons (IsThinned plan) now.row told.rows now.thinned told.thinned;

@@ -16,7 +16,9 @@ use Rattle.j39_tp.proofs.Tracking.{one_message, one_pgn}
 use Rattle.j39_tp.specs.declared.packet.Packet.{Packet}
 use Rattle.j39_follow.specs.Contests.{Timed}
 use Rattle.j39_follow.specs.Fits.{IsSentGroup, fitting_flow}
-use Rattle.j39_follow.specs.FollowReports.{AreEventsOf, IsAnswerWay, IsAsked, IsBareText, IsGroupOfMessage, IsGrouped, IsMessageReport, IsNotice, IsSendingOf, IsWay, Message, aim_at, answer_way_text, bare_text, frame_line, in_frame, is_to_all, message_line, notice_text, frame_events}
+use Rattle.j39_follow.specs.FollowReports.{AreEventsOf, IsAnswerWay, IsAsked, IsBareText, IsGroupOfMessage, IsGrouped, IsMessageReport, IsNotice, IsSendingOf}
+use Rattle.j39_follow.specs.FollowReports.{IsWay, Message, aim_at, answer_way_text, bare_text, frame_line, in_frame, is_to_all, message_line, notice_text}
+use Rattle.j39_follow.specs.FollowReports.{frame_events}
 use Rattle.j39_follow.specs.FollowText.{HeardSince, IsCarriedReport, IsFollowedAs, IsPacketReport, OneChangesHands}
 use Rattle.j39_follow.specs.LoggedRequests.{asked_request, asker_or_source}
 use Rattle.j39_follow.specs.Who.{unit_of, who_text}
@@ -107,7 +109,8 @@ one_told plan log f sorts a b x y =
 
 -- ---- groups
 
-one_group : (plan : Plan) (pgn : ℕ) (bytes : List ℕ) (sent : Sending) (a b : Option ℕ) → IsSentGroup plan pgn bytes sent a → IsSentGroup plan pgn bytes sent b → a ≡ b
+one_group : (plan : Plan) (pgn : ℕ) (bytes : List ℕ) (sent : Sending) (a b : Option ℕ) → IsSentGroup plan pgn bytes sent a → IsSentGroup plan pgn bytes sent b
+    → a ≡ b
 one_group plan pgn bytes sent (Some g) (Some h) x y = elim (cases_order g h) [
   | inl same ↦ ap Some same
   | inr (inl less) ↦ absurd (y.1 g less x.0)

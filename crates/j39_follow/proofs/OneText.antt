@@ -13,7 +13,8 @@ use Rattle.j39_stream.specs.declared.verdict.Verdict.TheVariants.{Done, Findings
 use Rattle.j39_tp.specs.declared.packet.Packet.{Packet}
 use Rattle.j39_follow.specs.Contests.{Timed}
 use Rattle.j39_follow.specs.FollowReports.{AreEventsOf, IsBareText, in_frame, stamp}
-use Rattle.j39_follow.specs.FollowText.{AreUnitLines, IsFollowText, IsFollowedLog, IsPacketReport, FollowedPast, FollowsFrame, FollowsLine, FollowsLines, FollowsPart, FollowsShort, frames_seen, lines_with, nothing_followed, one_line_more, line_passed_over}
+use Rattle.j39_follow.specs.FollowText.{AreUnitLines, IsFollowText, IsFollowedLog, IsPacketReport, FollowedPast, FollowsFrame, FollowsLine, FollowsLines}
+use Rattle.j39_follow.specs.FollowText.{FollowsPart, FollowsShort, frames_seen, lines_with, nothing_followed, one_line_more, line_passed_over}
 use Rattle.j39_follow.specs.LogLines.{IsElsewhere, IsReadPart, IsTimeText, NamesInterface, interface_behind}
 use Rattle.j39_follow.specs.declared.request.event.Event.{Event}
 use Rattle.j39_follow.specs.declared.message.Sort.{Sort}
@@ -156,7 +157,8 @@ one_log_text plan all_frames log t u a b =
     ∙ ap (λ (p : FollowedPast). b.reports ++ behind_reports plan p a.units) same.0 ∙ ap (λ (x : List ℕ). b.reports ++ behind_reports plan b.past x) units
     ∙ sym b.text_is
 
-pub one_text : (plan : Plan) (all_frames : Bool) (log t u : List ℕ) (v w : Verdict) → IsFollowText plan all_frames log t v → IsFollowText plan all_frames log u w → (t ≡ u) × (v ≡ w)
+pub one_text : (plan : Plan) (all_frames : Bool) (log t u : List ℕ) (v w : Verdict) → IsFollowText plan all_frames log t v
+    → IsFollowText plan all_frames log u w → (t ≡ u) × (v ≡ w)
 one_text plan all_frames log t u Done Done a b = (one_log_text plan all_frames log t u a.1 b.1, refl)
 one_text plan all_frames log t u Refused Refused a b =
     (a.2 ∙ ap (refused_plan_line plan) (one_refused plan.groups.items a.0 b.0 a.1 b.1) ∙ sym b.2, refl)

@@ -17,7 +17,8 @@ use Rattle.j39_text.specs.Labels.{unit_label}
 use Rattle.j39_text.specs.Texts.{field, place_field}
 use Rattle.j39_follow.specs.Contests.{IsTaken, Timed}
 use Rattle.j39_follow.specs.Fits.{IsSentGroup, fitting_flow}
-use Rattle.j39_follow.specs.LoggedRequests.{acknowledged_group, acknowledges, asked_request, asked_text, control_of, control_word, is_refusal, counted_number as number_of, asker_or_source}
+use Rattle.j39_follow.specs.LoggedRequests.{acknowledged_group, acknowledges, asked_request, asked_text, control_of, control_word, is_refusal}
+use Rattle.j39_follow.specs.LoggedRequests.{counted_number as number_of, asker_or_source}
 use Rattle.j39_follow.specs.Who.{is_of_any, name_text, unit_of_name, unit_of, who_text}
 use Rattle.j39_follow.specs.declared.request.event.Event.{Event}
 use Rattle.j39_follow.specs.declared.request.event.Event.TheVariants.{Asked, Brought, Refused}

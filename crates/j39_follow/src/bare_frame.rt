@@ -33,7 +33,8 @@ pub(crate) fn write_bare(
     frame: &Frame,
 ) -> Result<(), AllocError>
     ensures { OnOk result ((log : List Timed) → ShowsParties plan.now parties.now log frame.now.ident
-        → (way : List ℕ) × IsWay plan.now log frame.now.ident way × (text.new ≡ text.old ++ frame_line (front_of stamp.entry) way frame.now)) }
+        → (way : List ℕ) × IsWay plan.now log frame.now.ident way
+        × (text.new ≡ text.old ++ frame_line (front_of stamp.entry) way frame.now)) }
 {
     let pgn = frame.ident.pgn().number();
     write_stamp(text, stamp)?;

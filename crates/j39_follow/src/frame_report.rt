@@ -39,9 +39,11 @@ fn write_packet(
     requires { InRange packet.now }
     ensures heard { OnOk result ((seen : List Seen) → HaveHeardSince groups.now listeners.old seen
         → HaveHeardOneMore groups.now listeners.new seen (record { frame = frame.now; packet = Some packet.now })) }
-    ensures carried { IfOk result (λ ended. (seen : List Seen) (log : List Timed) → ShowsParties groups.now parties.now log frame.now.ident
+    ensures carried { IfOk result (λ ended. (seen : List Seen) (log : List Timed)
+        → ShowsParties groups.now parties.now log frame.now.ident
         → HaveHeardSince groups.now listeners.old seen → AreAllInRange seen
-        → (piece : List ℕ) × IsPacketReport groups.now seen log (front_of stamp.entry) frame.now (Some packet.now) (option_to_list ended) piece
+        → (piece : List ℕ)
+        × IsPacketReport groups.now seen log (front_of stamp.entry) frame.now (Some packet.now) (option_to_list ended) piece
         × (text.new ≡ text.old ++ piece)) }
 {
     listener_completes_what_is_carried();
@@ -93,8 +95,10 @@ fn write_frame(
     stamp: Stamp<'_>,
     frame: &Frame,
 ) -> Result<(Sort, Option<Sort>), AllocError>
-    ensures { IfOk result (λ sorts. (seen : List Seen) (log : List Timed) → ShowsParties groups.now parties.now log frame.now.ident
-        → ShowsAsker groups.now parties.now log frame.now → HaveHeardSince groups.now listeners.old seen → AreAllInRange seen
+    ensures { IfOk result (λ sorts. (seen : List Seen) (log : List Timed)
+        → ShowsParties groups.now parties.now log frame.now.ident
+        → ShowsAsker groups.now parties.now log frame.now → HaveHeardSince groups.now listeners.old seen
+        → AreAllInRange seen
         → IsFrameWritten groups.now all_frames listeners.new seen log (front_of stamp.entry) frame.now sorts.0 sorts.1 text.old text.new) }
 {
     let sort = write_itself(all_frames, text, groups, parties, stamp, frame)?;
@@ -108,8 +112,8 @@ fn write_frame(
     Ok((sort, ended))
 }
 
-/// What is written at a frame whose claim was noted, what it counts as, and what the message counts as that it ends; what it tells of
-/// requests is noted, where the plan has any.
+/// What is written at a frame whose claim was noted, what it counts as, and what the message counts as that it ends;
+/// what it tells of requests is noted, where the plan has any.
 #[inline(always)]
 pub(crate) fn report_frame(
     all_frames: bool,

@@ -176,8 +176,8 @@ impl UnitReport {
         Ok(())
     }
 
-    // Reports a frame that tells of an address: it may begin and end contests, and the pairs of which an address changes
-    // hands begin anew.
+    // Reports a frame that tells of an address: it may begin and end contests, and the pairs of which an address
+    // changes hands begin anew.
     fn follow_claim(
         &mut self,
         groups: &Groups<'_>,

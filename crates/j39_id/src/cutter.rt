@@ -1,7 +1,9 @@
 //! Cutting a byte stream into lines.
-ghost use Rattle.std.specs.Prelude.{◌≡◌, ◌≤◌, ◌<◌, ◌≢◌, [], false, length, take, All, slice_index, IsTrue, IfSome, unwrap_or};
+ghost use Rattle.std.specs.Prelude.{◌≡◌, ◌≤◌, ◌<◌, ◌≢◌, [], false, length, take, All, slice_index, IsTrue, IfSome};
+ghost use Rattle.std.specs.Prelude.{unwrap_or};
 ghost use Rattle.std.specs.Option.{option_copied};
-ghost use Rattle.j39_id.specs.Lines.{is_line_feed, at_start, answer_to, behind, answer_to_end, cutter_line, tells, told, behind_all};
+ghost use Rattle.j39_id.specs.Lines.{is_line_feed, at_start, answer_to, behind, answer_to_end, cutter_line, tells};
+ghost use Rattle.j39_id.specs.Lines.{told, behind_all};
 ghost use Rattle.j39_id.specs.inside.Cutting.{pending_of, line_in, phase_after};
 
 use crate::{Advance, Cut};
@@ -69,7 +71,8 @@ fn hold(bytes: &mut ArrayVec<u8, LINE_LIMIT>, part: &[u8]) -> (Cut, usize)
     ensures within { result.1 ≤ length part.now }
     ensures some { 0 < result.1 }
     ensures told { told (pending_of CutterPhase.Inside bytes.old.items) (take result.1 part.now) ≡ tells result.0 [] }
-    ensures pending { pending_of (phase_after result.0) bytes.new.items ≡ behind_all (pending_of CutterPhase.Inside bytes.old.items) (take result.1 part.now) }
+    ensures pending { pending_of (phase_after result.0) bytes.new.items
+        ≡ behind_all (pending_of CutterPhase.Inside bytes.old.items) (take result.1 part.now) }
     ensures line { line_in (phase_after result.0) bytes.new.items ≡ [] }
 {
     let room = LINE_LIMIT - bytes.len();
@@ -162,14 +165,15 @@ impl Cutter {
         (cut, used)
     }
 
-    /// Reads on in a piece of the stream as `feed` does, to the first answer that is not More: or it answers More behind a
-    /// part of the piece, which is not empty unless the piece is. A line that lies whole in the piece is given as it lies
-    /// there, without a copy. An empty piece changes nothing.
+    /// Reads on in a piece of the stream as `feed` does, to the first answer that is not More: or it answers More
+    /// behind a part of the piece, which is not empty unless the piece is. A line that lies whole in the piece is given
+    /// as it lies there, without a copy. An empty piece changes nothing.
     #[inline(always)]
     pub fn advance<'p>(&mut self, piece: &'p [u8]) -> Advance<'p>
         ensures within { result.used ≤ length piece.now }
         ensures some { 0 < length piece.now → 0 < result.used }
-        ensures told { told self.old.pending (take result.used piece.now) ≡ tells result.cut (unwrap_or (option_copied result.whole) self.new.line) }
+        ensures told { told self.old.pending (take result.used piece.now)
+            ≡ tells result.cut (unwrap_or (option_copied result.whole) self.new.line) }
         ensures pending { self.new.pending ≡ behind_all self.old.pending (take result.used piece.now) }
         ensures whole { IfSome result.whole (λ _. (result.cut ≡ Cut.Line) × (self.new.line ≡ [])) }
         ensures line { 0 < length piece.now → result.cut ≢ Cut.Line → self.new.line ≡ [] }
@@ -210,7 +214,8 @@ impl Cutter {
         Cut::Line
     }
 
-    /// The line, where the last call that read a byte or the end answered Line and gave no line of the piece; else nothing.
+    /// The line, where the last call that read a byte or the end answered Line and gave no line of the piece; else
+    /// nothing.
     pub fn line(&self) -> &[u8]
         ensures { result.now ≡ self.now.line }
     {

@@ -1,6 +1,9 @@
 -- A bus whose units keep no order keeps to the premises of its queue groups; so frames are in time there for which the wait that is told has room.
-use Rattle.std.proofs.Common.{◌≡◌, ℕ, zero, suc, ◌+◌, ◌*◌, ◌-◌, ◌^◌, ◌<◌, ◌≤◌, ◌⊎◌, Bool, true, false, not, cond, ◌&&◌, ◌||◌, eqb, ltb, if◌then◌else◌, List, [], ◌∷◌, ◌++◌, length, get_or, min, All, IfSome, unwrap_or, is_some, Option, Some, None, refl, sym, ap, ◌∙◌, subst, inl, inr, option_map, arith}
-use Rattle.std.proofs.lemmas.Bool.{and_parts, both_ways, cases_Bool, cases_lt, eq-eqb, eqb-true, false≢true, lt-ltb, ltb-true, or_cases, or_left, or_right, true≢false}
+use Rattle.std.proofs.Common.{◌≡◌, ℕ, zero, suc, ◌+◌, ◌*◌, ◌-◌, ◌^◌, ◌<◌, ◌≤◌, ◌⊎◌, Bool, true, false, not, cond, ◌&&◌, ◌||◌, eqb, ltb, if◌then◌else◌, List, []}
+use Rattle.std.proofs.Common.{◌∷◌, ◌++◌, length, get_or, min, All, IfSome, unwrap_or, is_some, Option, Some, None, refl, sym, ap, ◌∙◌, subst, inl, inr}
+use Rattle.std.proofs.Common.{option_map, arith}
+use Rattle.std.proofs.lemmas.Bool.{and_parts, both_ways, cases_Bool, cases_lt, eq-eqb, eqb-true, false≢true, lt-ltb, ltb-true, or_cases, or_left, or_right}
+use Rattle.std.proofs.lemmas.Bool.{true≢false}
 use Rattle.std.proofs.lemmas.Bool.Decides.{eqb_tells}
 use Rattle.std.proofs.lemmas.List.{get_or-append-add, get_or_append_left, get_or_past}
 use Rattle.std.proofs.lemmas.List.FromFn.{get_or-map-range_with_len}
@@ -11,7 +14,9 @@ use Rattle.j39_id.specs.Limits.{unit_limit}
 use Rattle.j39_network.specs.declared.plan.timing.Timing.{Timing}
 use Rattle.j39_load.specs.declared.frames.flow_frames.FlowFrames.{FlowFrames}
 use Rattle.j39_load.specs.Ages.{least, smaller_known}
-use Rattle.j39_load.specs.AnyQueues.{AreAtMost, IsQueueGroupLevel, IsQueueGroupWait, IsBufferedFor, IsBuffering, Buffering, AreBufferingDelays, are_of_unit, buffered_for, is_member, is_of_queue_group, keep_order, later_frames, least_of, leasts_of, may_be_passed, buffered, own_least, unbounded_at, with_unplanned}
+use Rattle.j39_load.specs.AnyQueues.{AreAtMost, IsQueueGroupLevel, IsQueueGroupWait, IsBufferedFor, IsBuffering, Buffering, AreBufferingDelays, are_of_unit}
+use Rattle.j39_load.specs.AnyQueues.{buffered_for, is_member, is_of_queue_group, keep_order, later_frames, least_of, leasts_of, may_be_passed, buffered}
+use Rattle.j39_load.specs.AnyQueues.{own_least, unbounded_at, with_unplanned}
 use Rattle.j39_load.specs.Damage.{damage_frames}
 use Rattle.j39_load.specs.Delays.{blocking, need_of, streams_before}
 use Rattle.j39_load.specs.Demands.{demands_of}

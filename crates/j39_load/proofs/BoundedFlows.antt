@@ -22,7 +22,8 @@ use Rattle.j39_load.specs.Delays.{HasDelay, IsDelay, IsDelayOf, IsFrameDelay, Is
 use Rattle.j39_load.specs.LoadFindings.{AsksOfBus, lateness, load_findings, overload, without_period}
 use Rattle.j39_load.specs.Loads.{loads_of}
 use Rattle.j39_load.specs.LineLists.{lines_of_each}
-use Rattle.j39_load.specs.PlannedFrames.{AreAllOrdered, AreDelaysBounds, AreFramesInAnyOrder, AreFramesOfPlan, AreShortFlowsBounded, ComeInAnyOrder, IsBounded, IsInTimeInAnyOrder, IsInTimeOnEveryBus, no_frames, planned_at}
+use Rattle.j39_load.specs.PlannedFrames.{AreAllOrdered, AreDelaysBounds, AreFramesInAnyOrder, AreFramesOfPlan, AreShortFlowsBounded, ComeInAnyOrder, IsBounded}
+use Rattle.j39_load.specs.PlannedFrames.{IsInTimeInAnyOrder, IsInTimeOnEveryBus, no_frames, planned_at}
 use Rattle.j39_load.proofs.AnyTraffic.{any_in_time, any_sent, ordered_bound, ordered_sent, wait_of_queue_group}
 use Rattle.j39_load.proofs.PositivePeriods.{ArePaced, HasPeriod, of_loads, all_paced}
 use Rattle.j39_load.proofs.Sending.{IsSent, all_sent}
@@ -218,7 +219,8 @@ module _ (plan : Plan) (timing : Timing) (stays : UnitPlan → Bool) (delays : L
       let by_load : IsDelay timing asked buffering flow load delay = subst (λ (l : FlowLoad). IsDelay timing asked buffering flow l delay) same has.2 in
       (buffering, buffering_delays, subst (λ (m : Messages). IsDelayOf timing asked buffering flow m load.limit delay) is by_load)
 
-  of_short : (buffering : Buffering) → IsBuffering timing (frames_asked asked) buffering → (flow : ℕ) (load : FlowLoad) (frames : FlowFrames) (bits : ℕ) → slice_get asked.flows flow ≡ Some (Some load)
+  of_short : (buffering : Buffering) → IsBuffering timing (frames_asked asked) buffering → (flow : ℕ) (load : FlowLoad) (frames : FlowFrames) (bits : ℕ)
+      → slice_get asked.flows flow ≡ Some (Some load)
       → load.messages ≡ Short frames → IsFrameDelay timing buffering flow frames load.limit (Within bits) → IsBounded timing asked flow bits
   of_short buffering buffering_delays flow load frames bits its short delayed =
       let known : ArePaced load.limit (Short frames) = subst (ArePaced load.limit) short (of_loads timing plan stays flow load its).messages in
@@ -240,7 +242,8 @@ module _ (plan : Plan) (timing : Timing) (stays : UnitPlan → Bool) (delays : L
         bounds = λ ordered. in_order timing (frames_asked asked) ordered flow frames bound.0 bound.3;
       }
 
-  of_messages : (buffering : Buffering) → IsBuffering timing (frames_asked asked) buffering → (flow : ℕ) (load : FlowLoad) (messages : Messages) (bits : ℕ) → slice_get asked.flows flow ≡ Some (Some load)
+  of_messages : (buffering : Buffering) → IsBuffering timing (frames_asked asked) buffering → (flow : ℕ) (load : FlowLoad) (messages : Messages) (bits : ℕ)
+      → slice_get asked.flows flow ≡ Some (Some load)
       → load.messages ≡ messages → IsDelayOf timing asked buffering flow messages load.limit (Within bits) → IsBounded timing asked flow bits
   of_messages buffering buffering_delays flow load (Short frames) bits its is told = of_short buffering buffering_delays flow load frames bits its is told
   of_messages buffering buffering_delays flow load (ToOne frames) bits its is told = absurd told

@@ -1,5 +1,6 @@
 -- Frames at the places of all at the end of their buffering delays.
-use Rattle.std.proofs.Common.{◌≡◌, ℕ, zero, suc, ◌+◌, ◌<◌, false, List, [], ◌∷◌, ◌++◌, length, get_or, inl, inr, Option, Some, None, Result, Ok, Err, refl, sym, subst, ap, ◌∙◌, MatchBool, arith}
+use Rattle.std.proofs.Common.{◌≡◌, ℕ, zero, suc, ◌+◌, ◌<◌, false, List, [], ◌∷◌, ◌++◌, length, get_or, inl, inr, Option, Some, None, Result, Ok, Err, refl, sym}
+use Rattle.std.proofs.Common.{subst, ap, ◌∙◌, MatchBool, arith}
 use Rattle.std.proofs.Common.{option_map}
 use Rattle.std.proofs.Math.Seq.{get_or-append_seam}
 use Rattle.std.proofs.lemmas.Bool.{cases_lt}
@@ -44,7 +45,8 @@ buffered_read waits all j below =
 -- ---- how long frames are buffered
 
 buffered_with : {E : Type 0} (timing : Timing) (all : List (Option FlowFrames)) (frames : FlowFrames) (leasts : List (Option ℕ)) (wait : Result (Option ℕ) E)
-    → leasts ≡ leasts_of all → keep_order frames ≡ false → IfOk wait (IsQueueGroupWait timing leasts all frames) → IfOk wait (IsBufferedFor timing all (Some frames))
+    → leasts ≡ leasts_of all → keep_order frames ≡ false → IfOk wait (IsQueueGroupWait timing leasts all frames)
+    → IfOk wait (IsBufferedFor timing all (Some frames))
 buffered_with timing all frames leasts (Ok wait) same unordered is =
     subst (λ b. MatchBool b (wait ≡ Some 0) (IsQueueGroupWait timing (leasts_of all) all frames wait)) (sym unordered)
     (subst (λ (ls : List (Option ℕ)). IsQueueGroupWait timing ls all frames wait) same is)

@@ -1,5 +1,6 @@
 -- What holds of all frames that a plan asks for, where it holds of those of each kind.
-use Rattle.std.proofs.Common.{◌≡◌, ℕ, Bool, true, false, not, ◌&&◌, if◌then◌else◌, List, [], ◌∷◌, ◌++◌, length, get_or, map, All, Option, Some, None, IfSome, option_map, refl, arith}
+use Rattle.std.proofs.Common.{◌≡◌, ℕ, Bool, true, false, not, ◌&&◌, if◌then◌else◌, List, [], ◌∷◌, ◌++◌, length, get_or, map, All, Option, Some, None, IfSome}
+use Rattle.std.proofs.Common.{option_map, refl, arith}
 use Rattle.std.proofs.lemmas.List.Elements.{All-append, All-map}
 use Rattle.std.specs.List.{range_with_len, slice_get}
 use Rattle.j39_id.specs.Services.{connection_management, data_transfer}
@@ -18,7 +19,8 @@ use Rattle.j39_load.specs.declared.loads.flow_load.FlowLoad.{FlowLoad}
 use Rattle.j39_load.specs.declared.frames.messages.Messages.TheVariants.{Short}
 use Rattle.j39_load.specs.declared.loads.request_load.RequestLoad.{RequestLoad}
 use Rattle.j39_load.specs.declared.loads.unit_load.UnitLoad.{UnitLoad}
-use Rattle.j39_load.specs.Asked.{announcements_of_unit, asked_of, frames_asked, frames_of_flow, frames_of_request, own_frames, packets_of_unit, singles_of_flow, wanting}
+use Rattle.j39_load.specs.Asked.{announcements_of_unit, asked_of, frames_asked, frames_of_flow, frames_of_request, own_frames, packets_of_unit, singles_of_flow}
+use Rattle.j39_load.specs.Asked.{wanting}
 use Rattle.j39_load.specs.Broadcasts.{broadcast_frames, broadcasts_by, known_unit_load, least_packets, unit_loads_of}
 use Rattle.j39_load.specs.Demands.{announcements_demand, packets_demand}
 use Rattle.j39_load.specs.Loads.{broadcast_of, has_short, is_always_short, load_of_flow, loads_of, long_messages, packet_frames, single_frames}

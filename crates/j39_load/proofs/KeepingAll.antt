@@ -26,7 +26,8 @@ use Rattle.j39_load.specs.KeepsPlan.{KeepsQueues, KeepsToPlan}
 use Rattle.j39_load.specs.KeptTogether.{CanSendAll, HasBeenSent}
 use Rattle.j39_load.specs.Loads.{bits_per_ms, is_any}
 use Rattle.j39_load.specs.Ranks.{AreHeldApart}
-use Rattle.j39_load.specs.SentFrames.{Broadcasts, IsBroadcastFrame, FrameSources, Held, IsFrameOf, IsPart, IsSentByUnit, IsRequestFrame, IsSessionFrame, IsSingleFrame, Part, SendsPart, Source, bit_time, goes_to, part_identifier}
+use Rattle.j39_load.specs.SentFrames.{Broadcasts, IsBroadcastFrame, FrameSources, Held, IsFrameOf, IsPart, IsSentByUnit, IsRequestFrame, IsSessionFrame}
+use Rattle.j39_load.specs.SentFrames.{IsSingleFrame, Part, SendsPart, Source, bit_time, goes_to, part_identifier}
 use Rattle.j39_load.specs.SentFrames.{Announcing, Carrying, Single, InSession, Asking, RequestToSend, Packet, ClearToSend, EndAcknowledged}
 use Rattle.j39_load.proofs.KeepingApart as alone
 use Rattle.j39_load.proofs.KeepingFrames.{one_to}
@@ -319,7 +320,8 @@ module _ (plan : Plan) (timing : Timing) (apart : ArePlannedApart (units_of plan
   chosen (suc (suc (suc (suc zero)))) below = tt
   chosen (suc (suc (suc (suc (suc k))))) below = last_chosen k (omega (arith, below))
 
-  frame : (p : ℕ) (c : Choice) → p < n → bus.ident p ≡ ident_of c → Has c → IsFrameOf plan timing bus held messages_to_all (source_of f g r w c) (release_of p c) p
+  frame : (p : ℕ) (c : Choice) → p < n → bus.ident p ≡ ident_of c → Has c
+      → IsFrameOf plan timing bus held messages_to_all (source_of f g r w c) (release_of p c) p
   frame p Alone below is has = single p is
   frame p Asks below is has = request p is
   frame p (Carries x) below is has = part p x below is has

@@ -40,11 +40,13 @@ module _ (plan : Plan) (timing : Timing) (stays : UnitPlan → Bool) (tells : De
   before = keeps_any plan timing stays tells clean s bus.queued_first planned sent held keeps controllers queues i
       (keeps_premises plan timing stays tells clean s bus.queued_first planned sent held keeps i single)
 
-  its_kind : (p : ℕ) → p < bus_with.count → IsFrame plan timing stays tells clean s d bus planned sent held keeps rate errors p ⊎ IsDamage plan timing stays tells clean s d bus planned sent held keeps rate errors p
+  its_kind : (p : ℕ) → p < bus_with.count → IsFrame plan timing stays tells clean s d bus planned sent held keeps rate errors p
+      ⊎ IsDamage plan timing stays tells clean s d bus planned sent held keeps rate errors p
   its_kind p in_p = kinds plan timing stays tells clean s d bus planned sent held keeps rate errors p in_p
 
   -- what comes of damage stands behind all that the plan asks for
-  behind_all : (p : ℕ) → IsDamage plan timing stays tells clean s d bus planned sent held keeps rate errors p → planned_at all ((of plan timing stays tells clean s d bus planned sent held keeps rate errors).source p) ≡ no_frames
+  behind_all : (p : ℕ) → IsDamage plan timing stays tells clean s d bus planned sent held keeps rate errors p
+      → planned_at all ((of plan timing stays tells clean s d bus planned sent held keeps rate errors).source p) ≡ no_frames
   behind_all p at = ap (λ (o : Option FlowFrames). unwrap_or o no_frames)
       (ap (λ (j : ℕ). get_or all j None) at.source ∙ get_or_past all (length all + shift plan timing stays tells clean s d bus planned sent held keeps rate errors at.error) None (omega arith))
 
@@ -100,7 +102,8 @@ module _ (plan : Plan) (timing : Timing) (stays : UnitPlan → Bool) (tells : De
       ];
     }
 
-  pub keeps_any_with_errors : i < length all → AreFramesInAnyOrder timing all bus_with (damage_ordered s controllers more.own) is_foreseen (of plan timing stays tells clean s d bus planned sent held keeps rate errors) i
+  pub keeps_any_with_errors : i < length all
+      → AreFramesInAnyOrder timing all bus_with (damage_ordered s controllers more.own) is_foreseen (of plan timing stays tells clean s d bus planned sent held keeps rate errors) i
   keeps_any_with_errors flow = record {
     known = keeps_with_errors plan timing stays tells clean s d bus planned sent held keeps rate errors i flow single;
     of_unit = λ p in_p is un. elim (its_kind p in_p) [

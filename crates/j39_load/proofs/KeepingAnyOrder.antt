@@ -20,7 +20,8 @@ use Rattle.j39_load.specs.SentFrames.{Single, InSession, Asking, Announcing, Car
 use Rattle.j39_load.proofs.KeepingFrames.{IsKnown, TakesAny, any_known, queue_cases}
 use Rattle.j39_load.proofs.PlacedFrames.{own, read, request_frames_read, session_read}
 use Rattle.j39_load.proofs.KeepingPlan.{keeps_premises, of_source}
-use Rattle.j39_load.proofs.SharedIdentifiers.{AreAlike, broadcast_made, broadcast_or_part, no_broadcast, no_part, no_request, one_asks, one_or_alike, one_sends, part_made, parts_between, request_made, request_or_broadcast, request_or_part}
+use Rattle.j39_load.proofs.SharedIdentifiers.{AreAlike, broadcast_made, broadcast_or_part, no_broadcast, no_part, no_request, one_asks, one_or_alike, one_sends}
+use Rattle.j39_load.proofs.SharedIdentifiers.{part_made, parts_between, request_made, request_or_broadcast, request_or_part}
 use Rattle.j39_timing.specs.AnyOrder.{Controllers, IsLegalInAnyOrder, IsUnordered}
 use Rattle.j39_timing.specs.TimedFrames.{Schedule}
 use Rattle.j39_timing.specs.Traffic.{IsQueuedAt}

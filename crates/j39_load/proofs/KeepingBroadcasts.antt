@@ -1,5 +1,6 @@
 -- On a bus that keeps to a plan in the plan's own words each unit queues no more frames of long messages to all than its flows want.
-use Rattle.std.proofs.Common.{◌≡◌, ℕ, zero, suc, ◌+◌, ◌*◌, ◌<◌, ◌≤◌, ◌⊎◌, Bool, true, false, ◌&&◌, eqb, leb, ltb, cond, List, [], ◌∷◌, length, get_or, map, All, Option, Some, None, IfSome}
+use Rattle.std.proofs.Common.{◌≡◌, ℕ, zero, suc, ◌+◌, ◌*◌, ◌<◌, ◌≤◌, ◌⊎◌, Bool, true, false, ◌&&◌, eqb, leb, ltb, cond, List, [], ◌∷◌, length, get_or, map, All}
+use Rattle.std.proofs.Common.{Option, Some, None, IfSome}
 use Rattle.std.proofs.Common.{refl, sym, ap, ◌∙◌, subst, inl, inr, arith}
 use Rattle.std.proofs.lemmas.Bool.{and_parts, cases_Bool, cases_lt, eq-eqb, eqb-true}
 use Rattle.std.proofs.lemmas.List.{get_or-map, get_or_append_left, get_or_past, length-map}
@@ -52,7 +53,8 @@ module _ (plan : Plan) (timing : Timing) (stays : UnitPlan → Bool) where
       (λ flow pace group. some_bits timing.bitrate pace.period pace.period_positive) (λ request period. tt))
       (All-map (λ (o : Option FlowFrames). IfSome o WantsApart) first_of_all (damage_streams timing) (λ k d below. tt))
 
-wants_apart : (u : ℕ) (xs : List (Option FlowFrames)) → All (λ (o : Option FlowFrames). IfSome o WantsApart) xs → (k : ℕ) (d : Broadcast) → k < length (wants_of xs u)
+wants_apart : (u : ℕ) (xs : List (Option FlowFrames)) → All (λ (o : Option FlowFrames). IfSome o WantsApart) xs → (k : ℕ) (d : Broadcast)
+    → k < length (wants_of xs u)
     → IsApart (get_or (wants_of xs u) k d)
 wants_apart u [] each k d below = absurd (omega (arith, below))
 wants_apart u (x ∷ xs) each k d below = go (wanted_by u x) (of_one x (All-head (λ (o : Option FlowFrames). IfSome o WantsApart) x xs each))

@@ -30,9 +30,11 @@ use Rattle.j39_load.specs.Loads.{any_unit, bits_of_ms, destination_at, greatest_
 use Rattle.j39_load.specs.PlannedFrames.{planned_at}
 use Rattle.j39_load.specs.Ranks.{AreHeldApart, AreHeldByPlan, AreUnitsPlanned}
 use Rattle.j39_load.specs.RequestLoads.{request_ident}
-use Rattle.j39_load.specs.SentFrames.{Held, IsFrameOf, IsPart, IsRequestFrame, IsSentByUnit, IsSentEvery, IsSessionFrame, IsSingleFrame, Part, SendsPart, Source, TakesPart, goes_to, part_identifier}
+use Rattle.j39_load.specs.SentFrames.{Held, IsFrameOf, IsPart, IsRequestFrame, IsSentByUnit, IsSentEvery, IsSessionFrame, IsSingleFrame, Part, SendsPart}
+use Rattle.j39_load.specs.SentFrames.{Source, TakesPart, goes_to, part_identifier}
 use Rattle.j39_load.specs.SentFrames.{Single, InSession, Asking, RequestToSend, Packet, ClearToSend, EndAcknowledged}
-use Rattle.j39_load.proofs.PlacedFrames.{all, announcing_read, asked, carrying_read, in_request, in_session, own, read, request_frames_read, session_read, unit_asks, unit_planned, unit_told}
+use Rattle.j39_load.proofs.PlacedFrames.{all, announcing_read, asked, carrying_read, in_request, in_session, own, read, request_frames_read, session_read}
+use Rattle.j39_load.proofs.PlacedFrames.{unit_asks, unit_planned, unit_told}
 use Rattle.j39_load.proofs.Milliseconds.{within_bits, within_both}
 use Rattle.j39_load.proofs.Ranks as ranks
 use Rattle.j39_load.specs.declared.loads.unit_load.UnitLoad.{UnitLoad}
@@ -154,10 +156,12 @@ module _ (plan : Plan) (timing : Timing) (stays : UnitPlan → Bool) where
     pub of_sender : any_unit units sender ≡ Some sender → are_of_unit frames sender ≡ true
     pub of_any : (m : ℕ → Bool) → (option_map_or m frames.any_sender false || option_map_or m frames.any_receiver false) ≡ true → TakesAny plan source
 
-  pub here : (s : Schedule) (source : Source) (release p : ℕ) (known : IsKnown s source release p) → planned_at (all plan timing stays) (source_place plan source) ≡ known.frames
+  pub here : (s : Schedule) (source : Source) (release p : ℕ) (known : IsKnown s source release p)
+      → planned_at (all plan timing stays) (source_place plan source) ≡ known.frames
   here s source release p known = with_damage timing (frames_asked (asked plan timing stays)) (source_place plan source) known.frames known.read
 
-  pub inside_asked : (s : Schedule) (source : Source) (release p : ℕ) → IsKnown s source release p → source_place plan source < length (frames_asked (asked plan timing stays))
+  pub inside_asked : (s : Schedule) (source : Source) (release p : ℕ) → IsKnown s source release p
+      → source_place plan source < length (frames_asked (asked plan timing stays))
   inside_asked s source release p known = get_or_inside (frames_asked (asked plan timing stays)) (source_place plan source) known.frames known.read
 
   pub inside : (s : Schedule) (source : Source) (release p : ℕ) → IsKnown s source release p → source_place plan source < length (all plan timing stays)

@@ -23,9 +23,11 @@ use Rattle.j39_load.specs.SentFrames.{Single, InSession, Asking, Announcing, Car
 use Rattle.j39_load.specs.Twins.{are_twins}
 use Rattle.j39_load.proofs.KeepingBroadcasts.{as_wanted as as_wanted_of}
 use Rattle.j39_load.proofs.KeepingFrames.{HasPace, IsBelowGreatest, IsKnown, IsPaced, IsPacedBy, here, inside, known, of_announcements, of_packets, one_source}
-use Rattle.j39_load.proofs.PlacedFrames.{all, announcing_read, asked, carrying_read, fewest, in_request, in_session, own, read, request_frames_read, session_read, traffic, unit_asks}
+use Rattle.j39_load.proofs.PlacedFrames.{all, announcing_read, asked, carrying_read, fewest, in_request, in_session, own, read, request_frames_read}
+use Rattle.j39_load.proofs.PlacedFrames.{session_read, traffic, unit_asks}
 use Rattle.j39_load.proofs.Milliseconds.{behind_bits, gaps_bits}
-use Rattle.j39_load.proofs.SharedIdentifiers.{AreAlike, broadcast_made, never_twin, no_broadcast, no_part, no_request, one_or_alike, own_twin, part_made, request_made, same_twin}
+use Rattle.j39_load.proofs.SharedIdentifiers.{AreAlike, broadcast_made, never_twin, no_broadcast, no_part, no_request, one_or_alike, own_twin, part_made}
+use Rattle.j39_load.proofs.SharedIdentifiers.{request_made, same_twin}
 use Rattle.j39_load.proofs.StreamsBefore.{with_damage}
 use Rattle.j39_timing.specs.FrameStreams.{AreOfStreams, KeepsStream}
 use Rattle.j39_timing.specs.TimedFrames.{Schedule, IsLegal}
@@ -39,7 +41,8 @@ module _ (plan : Plan) (timing : Timing) (stays : UnitPlan → Bool) (tells : De
 
   module _ (p : ℕ) (in_p : p < s.count) (is : planned p ≡ true) where
     pub of_source : IsKnown plan timing stays s (sent.source p) (sent.release p) p
-    of_source = known plan timing stays tells s held keeps.held_by_plan keeps.held_apart sent.broadcasts keeps.broadcasts.messages (sent.source p) (sent.release p) p (queued_first p in_p)
+    of_source =
+        known plan timing stays tells s held keeps.held_by_plan keeps.held_apart sent.broadcasts keeps.broadcasts.messages (sent.source p) (sent.release p) p (queued_first p in_p)
         (keeps.frames p in_p is)
 
     pub at_its_place : planned_at (all plan timing stays) (source_place plan (sent.source p)) ≡ of_source.frames
@@ -76,7 +79,8 @@ module _ (plan : Plan) (timing : Timing) (stays : UnitPlan → Bool) (tells : De
 
     -- announcements of a unit
     announced_apart : (u m n : ℕ) → sent.source p ≡ Announcing u m → sent.source q ≡ Announcing u n → (stream : Stream)
-        → IsPaced plan timing stays (Announcing u m) stream → (sent.release p + stream.period ≤ sent.release q) ⊎ (sent.release q + stream.period ≤ sent.release p)
+        → IsPaced plan timing stays (Announcing u m) stream → (sent.release p + stream.period ≤ sent.release q)
+        ⊎ (sent.release q + stream.period ≤ sent.release p)
     announced_apart u m n first second stream paced =
         let one = subst (λ (x : Source). IsFrameOf plan timing s held sent.broadcasts x (sent.release p) p) first frame_p in
         let two = subst (λ (x : Source). IsFrameOf plan timing s held sent.broadcasts x (sent.release q) q) second frame_q in
@@ -109,7 +113,8 @@ module _ (plan : Plan) (timing : Timing) (stays : UnitPlan → Bool) (tells : De
 
     -- packets of a unit
     carried_apart : (u m n j k : ℕ) → sent.source p ≡ Carrying u m j → sent.source q ≡ Carrying u n k → (stream : Stream)
-        → IsPaced plan timing stays (Carrying u m j) stream → (sent.release p + stream.period ≤ sent.release q) ⊎ (sent.release q + stream.period ≤ sent.release p)
+        → IsPaced plan timing stays (Carrying u m j) stream → (sent.release p + stream.period ≤ sent.release q)
+        ⊎ (sent.release q + stream.period ≤ sent.release p)
     carried_apart u m n j k first second stream paced =
         let one = subst (λ (x : Source). IsFrameOf plan timing s held sent.broadcasts x (sent.release p) p) first frame_p in
         let two = subst (λ (x : Source). IsFrameOf plan timing s held sent.broadcasts x (sent.release q) q) second frame_q in
@@ -125,7 +130,8 @@ module _ (plan : Plan) (timing : Timing) (stays : UnitPlan → Bool) (tells : De
 
     -- of what comes by its own pace
     alike : (x : Source) → HasPace plan timing stays x → sent.source p ≡ x → source_place plan x ≡ source_place plan (sent.source q) → source_turn plan x ≡ source_turn plan (sent.source q)
-        → (stream : Stream) → IsPacedBy plan timing stays x stream → (sent.release p + stream.period ≤ sent.release q) ⊎ (sent.release q + stream.period ≤ sent.release p)
+        → (stream : Stream) → IsPacedBy plan timing stays x stream → (sent.release p + stream.period ≤ sent.release q)
+        ⊎ (sent.release q + stream.period ≤ sent.release p)
     alike x pace first place turn stream paced =
         let one : x ≡ sent.source q =
         one_source plan timing stays s held sent.broadcasts keeps.broadcasts.messages x (sent.source q) (sent.release p) (sent.release q) p q pace
@@ -322,7 +328,8 @@ module _ (plan : Plan) (timing : Timing) (stays : UnitPlan → Bool) (tells : De
     -- a frame at this place is one of the flow
     pub of_flow : (p : ℕ) (in_p : p < s.count) (is : planned p ≡ true) → source_place plan (sent.source p) ≡ i → sent.source p ≡ Single i
     of_flow p in_p is place =
-        let shares : may_share (traffic plan timing stays) i (source_place plan (sent.source p)) ≡ true = or_left _ _ (eq-eqb (source_place plan (sent.source p)) i place) in
+        let shares : may_share (traffic plan timing stays) i (source_place plan (sent.source p)) ≡ true =
+        or_left _ _ (eq-eqb (source_place plan (sent.source p)) i place) in
         let (f, source) = of_single (sent.source p) (sent.release p) p (keeps.frames p in_p is) shares in
         source ∙ ap Single (sym (ap (source_place plan) source) ∙ place)
 

@@ -229,7 +229,8 @@ module _ (plan : Plan) (timing : Timing) (stays : UnitPlan → Bool) (tells : De
     module _ (controllers : Controllers) (queues : KeepsQueues plan timing s controllers planned sent) where
       pub packets_in_any_turn : ComeInAnyOrder timing (frames_asked (asked_of timing plan stays)) s controllers planned (origins_of plan sent)
           (packets_place (asked_of timing plan stays) u)
-      packets_in_any_turn = subst (ComeInAnyOrder timing (frames_asked (asked_of timing plan stays)) s controllers planned (origins_of plan sent)) (sym at_packets)
+      packets_in_any_turn =
+          subst (ComeInAnyOrder timing (frames_asked (asked_of timing plan stays)) s controllers planned (origins_of plan sent)) (sym at_packets)
           (in_any_turn 60160 u (source_place plan (Carrying u m 0)) packets_none packets_there packets_only (inr refl) controllers queues)
 
       pub announcements_in_any_turn : ComeInAnyOrder timing (frames_asked (asked_of timing plan stays)) s controllers planned (origins_of plan sent)

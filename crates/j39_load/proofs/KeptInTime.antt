@@ -147,7 +147,8 @@ module _ (plan : Plan) (timing : Timing) (clean : Clean plan) (stays : UnitPlan 
       (origins_with plan s d rate (length (frames_asked (asked_of timing plan stays))) sent) (legal_in_any_order_with_errors s d controllers more.own legal)
       (keeps_any_with_errors plan timing stays asks.standing clean s d legal.bus planned sent held keeps rate errors controllers queues more i single flow)))
 
-pub kept_with_errors_in_any_order : (plan : Plan) (timing : Timing) → Clean plan → AreLoadFindings plan (Some timing) [] → AreInTimeWithErrorsInAnyOrder plan timing
+pub kept_with_errors_in_any_order : (plan : Plan) (timing : Timing) → Clean plan → AreLoadFindings plan (Some timing) []
+    → AreInTimeWithErrorsInAnyOrder plan timing
 kept_with_errors_in_any_order plan timing clean (stays, delays, asks, none) = with_errors_in_any_order plan timing clean stays delays asks
     (none_of_two (load_findings timing (total_load timing (asked_of timing plan stays)) delays)
     (old_needs timing plan.requests.items plan.flows.items delays plan.needs.items) (sym none)).0

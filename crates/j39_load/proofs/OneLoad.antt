@@ -33,13 +33,16 @@ use Rattle.j39_load.specs.declared.frames.messages.Messages.TheVariants.{Short, 
 use Rattle.j39_load.specs.declared.loads.request_load.RequestLoad.{RequestLoad}
 use Rattle.j39_load.specs.declared.loads.unit_load.UnitLoad.{UnitLoad}
 use Rattle.j39_load.specs.declared.waits.whole_time.WholeTime.{WholeTime}
-use Rattle.j39_load.specs.AnyQueues.{IsQueueGroupLevel, IsQueueGroupWait, IsBufferedFor, IsBuffering, IsWaitWith, Buffering, AreBufferingDelays, blocking_with, keep_order, leasts_of, may_be_passed, buffered, streams_with, least_unbounded, with_unplanned}
+use Rattle.j39_load.specs.AnyQueues.{IsQueueGroupLevel, IsQueueGroupWait, IsBufferedFor, IsBuffering, IsWaitWith, Buffering, AreBufferingDelays, blocking_with}
+use Rattle.j39_load.specs.AnyQueues.{keep_order, leasts_of, may_be_passed, buffered, streams_with, least_unbounded, with_unplanned}
 use Rattle.j39_load.specs.Asked.{Asked, asked_by, asked_of, frames_asked}
 use Rattle.j39_load.specs.Broadcasts.{broadcast_frames, broadcasts_by, known_unit_load, least_packets, unit_loads_of}
-use Rattle.j39_load.specs.Delays.{HasDelayBy, IsDelay, IsDelayOf, IsFrameDelay, IsLeastWait, IsShortDelay, IsTurnTimeBy, IsWaitIn, IsWaitOf, IsWholeTime, AreFlowDelays, announcements_place, any_delay, known_turn_time, need_of, packets_place, whole_time}
+use Rattle.j39_load.specs.Delays.{HasDelayBy, IsDelay, IsDelayOf, IsFrameDelay, IsLeastWait, IsShortDelay, IsTurnTimeBy, IsWaitIn, IsWaitOf, IsWholeTime}
+use Rattle.j39_load.specs.Delays.{AreFlowDelays, announcements_place, any_delay, known_turn_time, need_of, packets_place, whole_time}
 use Rattle.j39_load.specs.Demands.{announcements_demand, demands_of, packets_demand}
 use Rattle.j39_load.specs.LoadFindings.{AsksOfBus}
-use Rattle.j39_load.specs.Loads.{any_unit, destination_at, flow_load, frames_to_one, greatest_address, group_ident, is_any, least_address, load_of_flow, loads_of, long_messages}
+use Rattle.j39_load.specs.Loads.{any_unit, destination_at, flow_load, frames_to_one, greatest_address, group_ident, is_any, least_address, load_of_flow}
+use Rattle.j39_load.specs.Loads.{loads_of, long_messages}
 use Rattle.j39_load.specs.Loads.{of_unit, packet_frames, packet_ident, session_ident, single_frames}
 use Rattle.j39_load.specs.RequestLoads.{load_of_request, request_ident, request_load, request_loads_of}
 use Rattle.j39_findings.specs.Standing.{DecidesWhoStays}
@@ -99,7 +102,8 @@ module _ (timing : Timing) (stays other : UnitPlan → Bool) (units boxes : List
     asking_same request = rw (destination_same request.to, unit_same request.sender) refl
 
   -- an end of the addresses that a unit may hold, by how far it may move
-  end_same : (far : ℕ → ℕ) (x y : UnitPlan) → Alike x y → end_by far (is_arbitrary x.name) (stays x) x.address ≡ end_by far (is_arbitrary y.name) (other y) y.address
+  end_same : (far : ℕ → ℕ) (x y : UnitPlan) → Alike x y
+      → end_by far (is_arbitrary x.name) (stays x) x.address ≡ end_by far (is_arbitrary y.name) (other y) y.address
   end_same far x y alike =
       sym (ap (end_by far (is_arbitrary y.name) (other y)) alike.address
       ∙ ap (λ choice. end_by far choice (other y) x.address) alike.choice
@@ -310,7 +314,8 @@ module _ (timing : Timing) (all : List (Option FlowFrames)) (flow : ℕ) where
 -- ---- frames of units that keep no order
 
 module _ (timing : Timing) (all : List (Option FlowFrames)) where
-  one_level : (own : FlowFrames) (level other : ℕ) → IsQueueGroupLevel (leasts_of all) all own level → IsQueueGroupLevel (leasts_of all) all own other → level ≡ other
+  one_level : (own : FlowFrames) (level other : ℕ) → IsQueueGroupLevel (leasts_of all) all own level → IsQueueGroupLevel (leasts_of all) all own other
+      → level ≡ other
   one_level own level other is another =
       let below = is.least other another.is in
       let above = another.least level is.is in
@@ -340,7 +345,8 @@ module _ (timing : Timing) (all : List (Option FlowFrames)) where
       (subst (λ (n : ℕ). IsWaitWith timing (demands_of all) (streams_with timing (leasts_of all) all (with_unplanned timing own) n) (blocking_with timing own) wait) same
       is.least_wait) another.least_wait
 
-  one_buffering_delay : (frames : Option FlowFrames) (wait other : Option ℕ) → IsBufferedFor timing all frames wait → IsBufferedFor timing all frames other → wait ≡ other
+  one_buffering_delay : (frames : Option FlowFrames) (wait other : Option ℕ) → IsBufferedFor timing all frames wait → IsBufferedFor timing all frames other
+      → wait ≡ other
   one_buffering_delay None wait other is another = is ∙ sym another
   one_buffering_delay (Some f) wait other is another = go (keep_order f) is another
     where
@@ -359,7 +365,8 @@ module _ (timing : Timing) (all : List (Option FlowFrames)) where
   one_buffering buffering other is another =
       let waits = one_waits buffering.waits other.waits is.bounded another.bounded in
       let frames : buffering.frames ≡ other.frames = is.frames ∙ ap (λ (ws : List (Option ℕ)). buffered ws all) waits ∙ sym another.frames in
-      let low : buffering.least_unbounded ≡ other.least_unbounded = is.least_unbounded ∙ ap (λ (ws : List (Option ℕ)). least_unbounded ws all) waits ∙ sym another.least_unbounded in
+      let low : buffering.least_unbounded ≡ other.least_unbounded =
+      is.least_unbounded ∙ ap (λ (ws : List (Option ℕ)). least_unbounded ws all) waits ∙ sym another.least_unbounded in
       ap (λ (fs : List (Option FlowFrames)). made fs buffering.waits buffering.least_unbounded) frames
       ∙ ap (λ (ws : List (Option ℕ)). made other.frames ws buffering.least_unbounded) waits
       ∙ ap (λ (o : Option ℕ). made other.frames other.waits o) low
@@ -373,8 +380,10 @@ module _ (timing : Timing) (asked : Asked) (buffering : Buffering) where
   one_wait_in place frames wait other is another = go (keep_order frames) (may_be_passed buffering frames.greatest_ident) is another
     where
       go : (keeps passed : Bool)
-          → MatchBool keeps (MatchBool passed (wait ≡ None) (IsWaitOf timing buffering.frames place frames wait)) (wait ≡ slice_index_or buffering.waits place None)
-          → MatchBool keeps (MatchBool passed (other ≡ None) (IsWaitOf timing buffering.frames place frames other)) (other ≡ slice_index_or buffering.waits place None)
+          → MatchBool keeps (MatchBool passed (wait ≡ None) (IsWaitOf timing buffering.frames place frames wait)) (wait
+          ≡ slice_index_or buffering.waits place None)
+          → MatchBool keeps (MatchBool passed (other ≡ None) (IsWaitOf timing buffering.frames place frames other)) (other
+          ≡ slice_index_or buffering.waits place None)
           → wait ≡ other
       go true true is another = is ∙ sym another
       go true false is another = one_wait timing buffering.frames place frames wait other is another
@@ -428,7 +437,8 @@ module _ (timing : Timing) (asked : Asked) (buffering : Buffering) where
   one_delay flow (ToAll broadcast) limit Late other is another = absurd is
   one_delay flow (ToAll broadcast) limit (Long count) other is another = absurd is
 
-  one_known_delay : (flow : ℕ) (delay other : Option Delay) → HasDelayBy timing asked buffering flow delay → HasDelayBy timing asked buffering flow other → delay ≡ other
+  one_known_delay : (flow : ℕ) (delay other : Option Delay) → HasDelayBy timing asked buffering flow delay → HasDelayBy timing asked buffering flow other
+      → delay ≡ other
   one_known_delay flow None None is another = refl
   one_known_delay flow None (Some other) is another = absurd (none-some _ (same_Some _ _ (sym is ∙ another.1)))
   one_known_delay flow (Some delay) None is another = absurd (none-some _ (same_Some _ _ (sym another ∙ is.1)))

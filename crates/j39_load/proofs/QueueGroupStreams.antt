@@ -1,5 +1,6 @@
 -- A wait that has room for the streams of a queue group has room for the traffic of it.
-use Rattle.std.proofs.Common.{◌≡◌, ℕ, suc, ◌+◌, ◌*◌, ◌<◌, ◌≤◌, Bool, true, false, cond, ◌||◌, ltb, if◌then◌else◌, List, [], ◌∷◌, ◌++◌, length, get_or, map, sum_by, Option, Some, None, refl, sym, ap, ◌∙◌, subst, arith}
+use Rattle.std.proofs.Common.{◌≡◌, ℕ, suc, ◌+◌, ◌*◌, ◌<◌, ◌≤◌, Bool, true, false, cond, ◌||◌, ltb, if◌then◌else◌, List, [], ◌∷◌, ◌++◌, length, get_or, map}
+use Rattle.std.proofs.Common.{sum_by, Option, Some, None, refl, sym, ap, ◌∙◌, subst, arith}
 use Rattle.std.proofs.lemmas.List.Sums.{sum_by-append, sum_by-cons}
 use Rattle.std.specs.List.{cons_option, filter_map}
 use Rattle.j39_network.specs.declared.plan.timing.Timing.{Timing}
@@ -63,7 +64,8 @@ module _ (timing : Timing) (asked : List (Option FlowFrames)) (own : FlowFrames)
     where
       go : (frames : Option FlowFrames) → frames ≡ get_or asked place None
           → lines_of_each tell (place + 1) xs ≡ filter_map (stream_with leasts own_too level) xs
-          → tell place frames ++ lines_of_each tell (place + 1) xs ≡ cons_option (stream_with leasts own_too level frames) (filter_map (stream_with leasts own_too level) xs)
+          → tell place frames
+          ++ lines_of_each tell (place + 1) xs ≡ cons_option (stream_with leasts own_too level frames) (filter_map (stream_with leasts own_too level) xs)
       go None is rest = rest
       go (Some f) is rest =
           rw (sym is, rest) (elim (is_of_queue_group leasts own_too level f || ltb f.least_ident level)
@@ -73,7 +75,8 @@ module _ (timing : Timing) (asked : List (Option FlowFrames)) (own : FlowFrames)
             | false ↦ refl
           ])
 
-  damage_most : (place : ℕ) (streams : List Stream) → sum_by (lesser_share demands span) (lines_of_each tell place (map first_of_all streams)) ≤ sum_by (lesser_share demands span) streams
+  damage_most : (place : ℕ) (streams : List Stream)
+      → sum_by (lesser_share demands span) (lines_of_each tell place (map first_of_all streams)) ≤ sum_by (lesser_share demands span) streams
   unfolding lines_of_each
   damage_most place [] = omega arith
   damage_most place (stream ∷ streams) =

@@ -76,7 +76,8 @@ module _ (plan : Plan) (stays : UnitPlan → Bool) (tells : DecidesWhoStays plan
       ])
 
   destination_between : (to : To) → ((v : ℕ) → to ≡ One v → v < length units)
-      → (destination_at (of_unit units (least_address stays)) to ≤ destination_at held to) × (destination_at held to ≤ destination_at (of_unit units (greatest_address stays)) to)
+      → (destination_at (of_unit units (least_address stays)) to ≤ destination_at held to)
+      × (destination_at held to ≤ destination_at (of_unit units (greatest_address stays)) to)
   destination_between ToAll known = (omega arith, omega arith)
   destination_between (One v) known = unit_between v (known v refl)
 

@@ -158,7 +158,8 @@ module _ (plan : Plan) (timing : Timing) (stays : UnitPlan → Bool) (flow bits 
 -- ---- needs
 
 -- the newest frame is young, and reads as it was written
-both : (plan : Plan) → Clean plan → (g : ℕ) (group : GroupPlan) → slice_get plan.groups.items g ≡ Some group → (s : Schedule) (planned : ℕ → Bool) (of : Origins)
+both : (plan : Plan) → Clean plan → (g : ℕ) (group : GroupPlan) → slice_get plan.groups.items g ≡ Some group
+    → (s : Schedule) (planned : ℕ → Bool) (of : Origins)
     (flow : ℕ) (bytes : ℕ → List ℕ) (written : CarryWritten s planned of flow group bytes) (age from to : ℕ)
     → IsNewestFresh s planned of flow age from to → AreReadYoung s planned of flow group bytes written age from to
 both plan clean g group at s planned of flow bytes written age from to fresh t low high =
@@ -174,7 +175,8 @@ module _ (plan : Plan) (timing : Timing) (clean : Clean plan) (stays : UnitPlan 
     (fresh : IsNeedFresh plan timing (asked_of timing plan stays) delays need within) where
   group_below : fresh.flow.group < length plan.groups.items
   group_below =
-      let here : get_or plan.flows.items fresh.place fresh.flow ≡ fresh.flow = get_or_from_slice_get plan.flows.items fresh.place fresh.flow fresh.flow fresh.its in
+      let here : get_or plan.flows.items fresh.place fresh.flow ≡ fresh.flow =
+      get_or_from_slice_get plan.flows.items fresh.place fresh.flow fresh.flow fresh.its in
       rw here at (plan.flow_groups fresh.place fresh.flow (slice_get_within plan.flows.items fresh.place fresh.flow fresh.its))
 
   its_group : (group : GroupPlan) × (slice_get plan.groups.items fresh.flow.group ≡ Some group)

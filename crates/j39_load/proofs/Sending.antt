@@ -1,6 +1,7 @@
 -- What holds of all frames that a plan asks for: none is longer than the longest, answers have larger identifiers than packets, and units that keep
 -- no order are those of the plan.
-use Rattle.std.proofs.Common.{◌≡◌, ℕ, ◌+◌, ◌*◌, ◌^◌, ◌<◌, ◌≤◌, Bool, true, false, not, ◌||◌, eqb, if◌then◌else◌, List, length, get_or, unwrap_or, min, max, All, Option, Some, None, IfSome, is_some, refl, sym, ap, ◌∙◌, subst, inl, inr, arith}
+use Rattle.std.proofs.Common.{◌≡◌, ℕ, ◌+◌, ◌*◌, ◌^◌, ◌<◌, ◌≤◌, Bool, true, false, not, ◌||◌, eqb, if◌then◌else◌, List, length, get_or, unwrap_or, min, max, All}
+use Rattle.std.proofs.Common.{Option, Some, None, IfSome, is_some, refl, sym, ap, ◌∙◌, subst, inl, inr, arith}
 use Rattle.std.proofs.lemmas.Bool.{eqb-true, false≢true, leb-true, or_cases}
 use Rattle.std.proofs.lemmas.Option.{slice_get_within}
 use Rattle.std.specs.List.{slice_get}
@@ -25,7 +26,8 @@ use Rattle.j39_load.specs.declared.frames.flow_frames.FlowFrames.{FlowFrames}
 use Rattle.j39_load.specs.AnyQueues.{are_of_unit, keep_order}
 use Rattle.j39_load.specs.Asked.{asked_of, frames_asked, wanting}
 use Rattle.j39_load.specs.Broadcasts.{broadcast_frames}
-use Rattle.j39_load.specs.Loads.{any_unit, broadcast_of, destination_at, greatest_address, is_always_short, is_any, least_address, may_move, most_bytes, of_unit, packet_frames, single_frames}
+use Rattle.j39_load.specs.Loads.{any_unit, broadcast_of, destination_at, greatest_address, is_always_short, is_any, least_address, may_move, most_bytes}
+use Rattle.j39_load.specs.Loads.{of_unit, packet_frames, single_frames}
 use Rattle.j39_load.specs.RequestLoads.{request_load}
 use Rattle.j39_timing.specs.FrameBits.{longest_frame}
 use Rattle.j39_load.specs.PlannedFrames.{AreAllOrdered, no_frames, planned_at}

@@ -80,7 +80,8 @@ module _ (plan : Plan) (timing : Timing) (clean : Clean plan) (stays : UnitPlan 
       ∙ ap (option_map (load_of_flow timing plan stays)) read.fresh.its) ∙ read.fresh.bounded.its)
 
   its_pace : IsPaceOf timing read.fresh.flow read.fresh.bounded.load
-  its_pace = pace_told plan timing stays read.fresh.flow read.fresh.bounded.load read.fresh.flow.pace (slice_get plan.groups.items read.fresh.flow.group) refl refl
+  its_pace =
+      pace_told plan timing stays read.fresh.flow read.fresh.bounded.load read.fresh.flow.pace (slice_get plan.groups.items read.fresh.flow.group) refl refl
       its_load
 
   -- its messages go in one frame

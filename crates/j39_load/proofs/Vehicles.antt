@@ -111,7 +111,8 @@ module _ (plan vehicle : Plan) (is : IsVehicleOf plan vehicle) (apart : AreDisti
         asked_alike plan vehicle timing stays told seen (AllZip-long IsBoxOf units boxes is.boxes) is.groups is.flows is.requests
 
   -- what is wrong with the same
-  pub same_findings : (timing : Timing) (load : ℕ) (delays : List (Option Delay)) → all_findings plan timing load delays ≡ all_findings vehicle timing load delays
+  pub same_findings : (timing : Timing) (load : ℕ) (delays : List (Option Delay))
+      → all_findings plan timing load delays ≡ all_findings vehicle timing load delays
   same_findings timing load delays =
       ap (λ (requests : List RequestPlan). load_findings timing load delays ++ old_needs timing requests plan.flows.items delays plan.needs.items) (sym is.requests)
       ∙ ap (λ (flows : List FlowPlan). load_findings timing load delays ++ old_needs timing vehicle.requests.items flows delays plan.needs.items) (sym is.flows)

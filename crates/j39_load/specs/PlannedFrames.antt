@@ -1,5 +1,6 @@
 -- The frames of a bus that are those of a plan's flows, among what else is on it; and what a delay says of them.
-use Rattle.std.specs.Prelude.{◌≡◌, ℕ, ◌+◌, ◌^◌, ◌<◌, ◌≤◌, ◌⊎◌, Bool, true, false, List, [], ◌∷◌, ◌++◌, length, slice_index_or, unwrap_or, All, IfSome, IsPermutation, Option, Some, None}
+use Rattle.std.specs.Prelude.{◌≡◌, ℕ, ◌+◌, ◌^◌, ◌<◌, ◌≤◌, ◌⊎◌, Bool, true, false, List, [], ◌∷◌, ◌++◌, length, slice_index_or, unwrap_or, All, IfSome}
+use Rattle.std.specs.Prelude.{IsPermutation, Option, Some, None}
 use Rattle.std.specs.List.{filter_map, slice_get}
 use Rattle.j39_network.specs.declared.plan.Plan.{Plan}
 use Rattle.j39_network.specs.declared.plan.timing.Timing.{Timing}

@@ -53,7 +53,8 @@ pub record IsValueInTime (plan : Plan) (timing : Timing) (need : NeedPlan) (with
   pub in_any_order : (s : Schedule) (controllers : Controllers) (planned : ℕ → Bool) (sent : FrameSources) (held : Held) → IsLegalInAnyOrder s controllers
       → KeepsToPlan plan timing s planned sent held → KeepsQueues plan timing s controllers planned sent
       → ArriveOn plan timing s planned sent place pace pause group within
-  pub in_order : KeepsAllOrder plan → (s : Schedule) (planned : ℕ → Bool) (sent : FrameSources) (held : Held) → IsLegal s → KeepsToPlan plan timing s planned sent held
+  pub in_order : KeepsAllOrder plan → (s : Schedule) (planned : ℕ → Bool) (sent : FrameSources) (held : Held) → IsLegal s
+      → KeepsToPlan plan timing s planned sent held
       → ArriveOn plan timing s planned sent place pace pause group within
 
 -- so it is of each need that asks for an age

@@ -133,7 +133,8 @@ impl Loads {
 
     // How many bits all requests do.
     fn total_of_requests(&self) -> u64
-        ensures total { result ≡ sum_by (λ load. option_map_or (λ l. l.bits_per_second) load 0) self.now.requests.items }
+        ensures total { result
+            ≡ sum_by (λ load. option_map_or (λ l. l.bits_per_second) load 0) self.now.requests.items }
         ensures few { result < 2 ^ 42 }
     {
         let mut total = 0;

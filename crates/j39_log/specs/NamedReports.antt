@@ -1,5 +1,6 @@
 -- The lines that report a group of a plan, with the names that the plan has: of raw numbers of a signal, and of suspect parameters.
-use Rattle.std.specs.Prelude.{◌≡◌, ℕ, zero, suc, false, ◌+◌, ◌*◌, ◌/◌, ◌%◌, ◌^◌, not, ◌&&◌, ℤ, unsigned_abs, Bool, List, [], ◌∷◌, ◌++◌, ◌==◌, if◌then◌else◌, length, map, All, Option, None, option_map, codes}
+use Rattle.std.specs.Prelude.{◌≡◌, ℕ, zero, suc, false, ◌+◌, ◌*◌, ◌/◌, ◌%◌, ◌^◌, not, ◌&&◌, ℤ, unsigned_abs, Bool, List, [], ◌∷◌, ◌++◌, ◌==◌, if◌then◌else◌}
+use Rattle.std.specs.Prelude.{length, map, All, Option, None, option_map, codes}
 use Rattle.std.specs.List.{filter, find, zip}
 use Rattle.std.specs.Option.{option_map_or}
 use Rattle.j39_id.specs.declared.ident.Ident.{Ident}

@@ -1,9 +1,11 @@
 //! A listener for each pair of addresses.
-ghost use Rattle.std.specs.Prelude.{◌≡◌, ◌≢◌, ◌<◌, ◌==◌, ℕ, [], true, false, vec_len, None, OnOk, IfOk, IfSome, IfNone, if◌then◌else◌};
+ghost use Rattle.std.specs.Prelude.{◌≡◌, ◌≢◌, ◌<◌, ◌==◌, ℕ, [], true, false, vec_len, None, OnOk, IfOk, IfSome, IfNone};
+ghost use Rattle.std.specs.Prelude.{if◌then◌else◌};
 ghost use Rattle.j39_tp.specs.Packets.{is_announcement};
 ghost use Rattle.j39_tp.specs.Receiver.{fresh, message_of, receives};
 ghost use Rattle.j39_tp.specs.declared.receiving.manner.Manner.TheVariants.{Listening};
-ghost use Rattle.j39_log.specs.inside.Listening.{HasListener, completed_group, is_of_pair, is_pair, listener_at, listener_in};
+ghost use Rattle.j39_log.specs.inside.Listening.{HasListener, completed_group, is_of_pair, is_pair, listener_at};
+ghost use Rattle.j39_log.specs.inside.Listening.{listener_in};
 ghost use Rattle.j39_log.specs.inside.Listening.{listener_of_pair, slots_at};
 ghost use Rattle.j39_log.specs.LogPairs.{is_abort as aborts, is_heard_by};
 
@@ -14,7 +16,8 @@ use std::alloc::{AllocError, Global};
 // A place for the listener of one source to each destination, up to the greatest that was announced to.
 type Row = Vec<Option<Box<Receiver>>>;
 
-/// A listener for each pair of addresses that had an announcement: a row for each source, up to the greatest that announced.
+/// A listener for each pair of addresses that had an announcement: a row for each source, up to the greatest that
+/// announced.
 #[derive(Drop)]
 pub struct Listeners {
     alloc: Global,
@@ -102,7 +105,8 @@ fn open_in(alloc: Global, row: &mut Row, destination: usize) -> Result<(), Alloc
 // The group of the message that the packet completes of the listener at a place of a row.
 fn hear_at(row: &mut Row, destination: usize, packet: &Packet) -> Option<Pgn>
     requires { is_announcement packet.now ≡ true → HasListener row.old.items destination }
-    ensures heard { listener_at row.new.items destination ≡ receives (listener_at row.old.items destination) packet.now }
+    ensures heard { listener_at row.new.items destination
+        ≡ receives (listener_at row.old.items destination) packet.now }
     ensures others { (d : ℕ) → d ≢ destination → listener_at row.new.items d ≡ listener_at row.old.items d }
     ensures group { result ≡ completed_group (listener_at row.old.items destination) packet.now }
 {
@@ -142,7 +146,8 @@ impl Listeners {
         open_in(self.alloc, &mut self.rows[source], destination)
     }
 
-    // The group of the message of the pair that the packet completes. The pair has a listener where the packet opens a session.
+    // The group of the message of the pair that the packet completes. The pair has a listener where the packet opens a
+    // session.
     fn hear_by(&mut self, source: usize, destination: usize, packet: &Packet) -> Option<Pgn>
         requires { is_announcement packet.now ≡ true → HasListener (slots_at self.old.rows.items source) destination }
         ensures heard { listener_of_pair self.new.rows.items source destination
@@ -225,8 +230,8 @@ impl Listeners {
     }
 }
 
-/// The group of the message that the packet completes of the pair that it is sent from and to. An Abort is heard both ways
-/// round.
+/// The group of the message that the packet completes of the pair that it is sent from and to. An Abort is heard both
+/// ways round.
 pub fn listen(
     listeners: &mut Listeners,
     ident: Ident,

@@ -12,8 +12,8 @@ use std::alloc::Global;
 /// Writes what a log says of the groups of a plan: a report for each frame of a planned group and for each message that
 /// transport packets carry, and how many lines were read as frames, skipped and bad.
 ///
-/// The lines of the log are those that `read_frame` reads. Of a plan with a group that has no layout, or whose number is
-/// no group's, the first such group is named, and the log isn't read.
+/// The lines of the log are those that `read_frame` reads. Of a plan with a group that has no layout, or whose number
+/// is no group's, the first such group is named, and the log isn't read.
 pub fn read_text<S: Source, W: Sink>(
     alloc: Global,
     plan: &Plan,

@@ -1,5 +1,6 @@
 -- The list of findings has exactly what holds, in order.
-use Rattle.std.proofs.Common.{◌≡◌, ℕ, zero, suc, ◌<◌, ◌⊎◌, List, [], ◌∷◌, ◌++◌, Bool, false, Some, Contains, Decides, length, refl, sym, ap, ◌∙◌, subst, inl, inr, arith}
+use Rattle.std.proofs.Common.{◌≡◌, ℕ, zero, suc, ◌<◌, ◌⊎◌, List, [], ◌∷◌, ◌++◌, Bool, false, Some, Contains, Decides, length, refl, sym, ap, ◌∙◌, subst, inl}
+use Rattle.std.proofs.Common.{inr, arith}
 use Rattle.std.specs.List.{slice_get, slice_index_or}
 use Rattle.std.proofs.Math.ListN.{get_or-eq_default}
 use Rattle.std.proofs.lemmas.Bool.{false≢true, cases_lt}
@@ -12,11 +13,16 @@ use Rattle.j39_vehicle.specs.declared.vehicle.Vehicle.{Vehicle}
 use Rattle.j39_vehicle.specs.declared.vehicle.forward.Forward.{Forward}
 use Rattle.j39_paths.specs.ForwardEnds.{ComesAfter, at_once, later}
 use Rattle.j39_paths.specs.Loops.{DecidesLoops}
-use Rattle.j39_paths.specs.VehicleFindings.{AreFindings, AreTwoForwards, CopiesOtherLayout, HasManyInputs, HasManyOutputs, HasNoInput, HasNoOutput, Holds, IsBefore, IsNeedUnmet, finding_number}
-use Rattle.j39_paths.specs.FoundPaths.{are_two_forwards, content_findings, copies_other_layout, differences, end_findings, has_many_inputs, has_many_outputs, has_no_input, has_no_output, is_need_unmet, loop_findings, need_findings, path_findings, queue_findings, shared_queues, vehicle_findings}
+use Rattle.j39_paths.specs.VehicleFindings.{AreFindings, AreTwoForwards, CopiesOtherLayout, HasManyInputs, HasManyOutputs, HasNoInput, HasNoOutput, Holds}
+use Rattle.j39_paths.specs.VehicleFindings.{IsBefore, IsNeedUnmet, finding_number}
+use Rattle.j39_paths.specs.FoundPaths.{are_two_forwards, content_findings, copies_other_layout, differences, end_findings, has_many_inputs, has_many_outputs}
+use Rattle.j39_paths.specs.FoundPaths.{has_no_input, has_no_output, is_need_unmet, loop_findings, need_findings, path_findings, queue_findings, shared_queues}
+use Rattle.j39_paths.specs.FoundPaths.{vehicle_findings}
 use Rattle.j39_paths.specs.declared.finding.VehicleFinding.{VehicleFinding}
-use Rattle.j39_paths.specs.declared.finding.VehicleFinding.TheVariants.{NoInput, ManyInputs, NoOutput, ManyOutputs, LayoutDiffers, SignalDiffers, TwoForwards, ForwardLoop, NeedUnmet, SharedQueue}
-use Rattle.j39_paths.proofs.Deciding.{Decides-are_two_forwards, Decides-copies_other_layout, Decides-has_many_inputs, Decides-has_many_outputs, Decides-has_no_input, Decides-has_no_output, Decides-is_need_unmet}
+use Rattle.j39_paths.specs.declared.finding.VehicleFinding.TheVariants.{NoInput, ManyInputs, NoOutput, ManyOutputs, LayoutDiffers, SignalDiffers, TwoForwards}
+use Rattle.j39_paths.specs.declared.finding.VehicleFinding.TheVariants.{ForwardLoop, NeedUnmet, SharedQueue}
+use Rattle.j39_paths.proofs.Deciding.{Decides-are_two_forwards, Decides-copies_other_layout, Decides-has_many_inputs, Decides-has_many_outputs}
+use Rattle.j39_paths.proofs.Deciding.{Decides-has_no_input, Decides-has_no_output, Decides-is_need_unmet}
 use Rattle.j39_rules.proofs.Families.{Covers-append}
 use Rattle.j39_paths.proofs.Families.{Covers, in_order, contents_covered, differences_of, ends_covered, needs_covered, queues_covered, shared_of}
 

@@ -1,5 +1,6 @@
 -- Tables in which nothing stands at some keys, and lists of faults of which the first ones are one.
-use Rattle.std.proofs.Common.{◌≡◌, ◌↔◌, ℕ, false, List, [], ◌∷◌, ◌++◌, All, Option, Some, None, refl, sym, ap, ◌∙◌, suc, is_some, unwrap_or, get_or, Ordering, Less, Equal, Greater, nat_cmp, is_eq}
+use Rattle.std.proofs.Common.{◌≡◌, ◌↔◌, ℕ, false, List, [], ◌∷◌, ◌++◌, All, Option, Some, None, refl, sym, ap, ◌∙◌, suc, is_some, unwrap_or, get_or, Ordering}
+use Rattle.std.proofs.Common.{Less, Equal, Greater, nat_cmp, is_eq}
 use Rattle.std.specs.Option.{option_or, option_map_or}
 use Rattle.std.specs.Ordering.{match_ordering}
 use Rattle.std.specs.Cmp.Lexicographic.{slice_cmp}

@@ -18,7 +18,8 @@ use Rattle.j39_plan.specs.Since.{Since, since, versioned_faults}
 use Rattle.j39_tables.specs.InOrder.{inside}
 use Rattle.j39_plan.specs.LabelsSeen.{label_in, label_rule, repeated_faults}
 use Rattle.j39_plan.specs.MeaningTables.{optional_rule, spn_rule, values_rule, meaning_rules, optional_of, spn_of, name_table}
-use Rattle.j39_plan.specs.SignalTables.{byte_rule, bit_rule, bits_rule, is_code, kind_rule, step_rule, per_rule, offset_rule, unit_rule, repeated_rule, repeated_of, signal_table_faults, signal_faults, IsMeaningOf, IsSignalOf}
+use Rattle.j39_plan.specs.SignalTables.{byte_rule, bit_rule, bits_rule, is_code, kind_rule, step_rule, per_rule, offset_rule, unit_rule, repeated_rule}
+use Rattle.j39_plan.specs.SignalTables.{repeated_of, signal_table_faults, signal_faults, IsMeaningOf, IsSignalOf}
 use Rattle.j39_plan.specs.SelectorTables.{when_rule, when_table}
 use Rattle.j39_plan.specs.GroupTables.{signal_rule, has_records, signals_faults, group_keys_faults, group_table_faults, group_faults, IsGroupOf}
 use Rattle.j39_plan.specs.Versions.{IsThirdSignal, IsThirdGroup}

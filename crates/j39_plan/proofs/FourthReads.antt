@@ -18,7 +18,10 @@ use Rattle.j39_plan.specs.UnitTables.{IsUnitOf, unit_faults, unit_label_in}
 use Rattle.j39_plan.specs.GroupTables.{IsGroupOf, group_faults}
 use Rattle.j39_plan.specs.FlowTables.{IsFlowOf, flow_faults}
 use Rattle.j39_plan.specs.TimingTables.{timing_table_faults}
-use Rattle.j39_plan.specs.PlanFaults.{version_rule, keep_free_rule, strangers_rule, strangers_of, strangers_faults, live_rule, live_of, live_faults, timing_rule, units_rule, groups_rule, flows_rule, needs_rule, requests_rule, version_of, head_faults, timing_faults, array_rules, top_faults, unit_labels, group_labels, units_faults, groups_faults, flows_faults, needs_faults, need_tables_of, requests_faults, request_tables_of, no_label, faults}
+use Rattle.j39_plan.specs.PlanFaults.{version_rule, keep_free_rule, strangers_rule, strangers_of, strangers_faults, live_rule, live_of, live_faults}
+use Rattle.j39_plan.specs.PlanFaults.{timing_rule, units_rule, groups_rule, flows_rule, needs_rule, requests_rule, version_of, head_faults, timing_faults}
+use Rattle.j39_plan.specs.PlanFaults.{array_rules, top_faults, unit_labels, group_labels, units_faults, groups_faults, flows_faults, needs_faults}
+use Rattle.j39_plan.specs.PlanFaults.{need_tables_of, requests_faults, request_tables_of, no_label, faults}
 use Rattle.j39_plan.specs.Described.{keep_free_of}
 use Rattle.j39_plan.specs.Versions.{with_version, fourth_top_keys, Lacks, IsThirdBus, IsThirdUnit, IsThirdGroup, IsThirdFlow, IsThirdPlan, ReadAlike}
 use Rattle.j39_plan.proofs.Absent.{lacked, IsNone, only_same, Alike, alike_both, alike_unknown, alike_each, told_alike}

@@ -33,9 +33,11 @@ use Rattle.j39_plan.specs.NeedTables.{IsNeedOf, need_signal_rule, signals_at}
 use Rattle.j39_plan.specs.RequestTables.{IsRequestOf}
 use Rattle.j39_plan.specs.TimingTables.{DescribesBus, DescribesErrors, DescribesTiming, errors_table}
 use Rattle.j39_plan.specs.Schema.{tables_of, found_text}
-use Rattle.j39_plan.specs.PlanFaults.{faults, units_rule, groups_rule, flows_rule, timing_table, need_tables, request_tables, unit_labels, group_labels, group_signals, version_of}
+use Rattle.j39_plan.specs.PlanFaults.{faults, units_rule, groups_rule, flows_rule, timing_table, need_tables, request_tables, unit_labels, group_labels}
+use Rattle.j39_plan.specs.PlanFaults.{group_signals, version_of}
 use Rattle.j39_plan.specs.Described.{DescribesPlan, Described, Reads}
-use Rattle.j39_plan.specs.OnePlan.{AreOneUnit, AreOneSelector, AreOneSignal, AreOneValueName, AreOneMeaning, AreOneText, AreOneGroup, AreOneErrorRate, AreOneBus, AreOneTiming, AreOnePace, AreOneFlowPlan, AreOneNeed, AreOneRequest, AreOnePlan, AreOneAnswer}
+use Rattle.j39_plan.specs.OnePlan.{AreOneUnit, AreOneSelector, AreOneSignal, AreOneValueName, AreOneMeaning, AreOneText, AreOneGroup, AreOneErrorRate}
+use Rattle.j39_plan.specs.OnePlan.{AreOneBus, AreOneTiming, AreOnePace, AreOneFlowPlan, AreOneNeed, AreOneRequest, AreOnePlan, AreOneAnswer}
 
 -- what elements tell is one, where what each tells is
 one_each : {T : Type 0} (Is : Data → T → Type 0) (One : T → T → Type 0) (one : (d : Data) (x y : T) → Is d x → Is d y → One x y)
@@ -139,7 +141,8 @@ one_bus version ms t u a b = record {
   errors = one_errors (errors_table version ms) t.errors u.errors a.has_errors b.has_errors;
 }
 
-one_timing : (version : Version) (tree : Option Members) (t u : Option Timing) → DescribesTiming version tree t → DescribesTiming version tree u → AreOneTiming t u
+one_timing : (version : Version) (tree : Option Members) (t u : Option Timing) → DescribesTiming version tree t → DescribesTiming version tree u
+    → AreOneTiming t u
 one_timing version None None None a b = tt
 one_timing version None None (Some u) a b = absurd b
 one_timing version None (Some t) u a b = absurd a
@@ -174,7 +177,8 @@ one_need groups signals units d m n a b =
     record {
       units = same_Some _ _ (sym a.has_unit ∙ b.has_unit);
       groups = same;
-      signals = a.has_signal ∙ ap (λ g. option_and_then (place_of (signals_at signals (Some g))) (found_text need_signal_rule (inside d))) same ∙ sym b.has_signal;
+      signals =
+          a.has_signal ∙ ap (λ g. option_and_then (place_of (signals_at signals (Some g))) (found_text need_signal_rule (inside d))) same ∙ sym b.has_signal;
       senders = a.has_from ∙ sym b.has_from;
       ages = a.has_within ∙ sym b.has_within;
     }

@@ -1,5 +1,6 @@
 -- A tree with another version: all that stands at other keys stays.
-use Rattle.std.proofs.Common.{◌≡◌, ◌≢◌, ℕ, pos, Bool, true, false, if◌then◌else◌, List, Option, Some, None, option_map, unwrap_or, refl, sym, subst, ◌∙◌, Ordering, Less, Equal, Greater, nat_cmp, is_eq}
+use Rattle.std.proofs.Common.{◌≡◌, ◌≢◌, ℕ, pos, Bool, true, false, if◌then◌else◌, List, Option, Some, None, option_map, unwrap_or, refl, sym, subst, ◌∙◌}
+use Rattle.std.proofs.Common.{Ordering, Less, Equal, Greater, nat_cmp, is_eq}
 use Rattle.std.specs.Option.{option_or, option_and_then}
 use Rattle.std.specs.Ordering.{match_ordering}
 use Rattle.std.specs.Cmp.Lexicographic.{slice_cmp}

@@ -66,7 +66,8 @@ need_senders gs us = All-from_Each (IsAmong gs us) (λ n. (u : ℕ) → n.from �
     (λ d n is u one. rw length-map at (placed (unit_texts us) _ u (sym is.has_from ∙ one)))
 
 count_in : (found : Option GroupPlan)
-    → length (unwrap_or (option_map (λ (x : GroupPlan). map (λ s. s.label.bytes) x.signals.items) found) []) ≡ option_map_or (λ group. length group.signals.items) found 0
+    → length (unwrap_or (option_map (λ (x : GroupPlan). map (λ s. s.label.bytes) x.signals.items) found) [])
+    ≡ option_map_or (λ group. length group.signals.items) found 0
 count_in None = refl
 count_in (Some group) = length-map group.signals.items (λ s. s.label.bytes)
 

@@ -19,10 +19,12 @@ use Rattle.j39_plan.specs.SelectorTables.{when_table, DescribesWhen}
 use Rattle.j39_plan.specs.TextTables.{IsTextOf}
 use Rattle.j39_plan.specs.GroupTables.{length_rule, private_of, most_of, every_of, signal_rule, text_tables_of, IsGroupOf}
 use Rattle.j39_plan.specs.FlowTables.{given_period, given_deadline, jitter_of, pause_of, on_request_of, IsFlowOf}
-use Rattle.j39_plan.specs.TimingTables.{bitrate_of, bitrate_rule, unplanned_priority_of, transport_priority_of, gap_of, gap_most_of, errors_table, DescribesErrors, DescribesBus, DescribesTiming}
+use Rattle.j39_plan.specs.TimingTables.{bitrate_of, bitrate_rule, unplanned_priority_of, transport_priority_of, gap_of, gap_most_of, errors_table}
+use Rattle.j39_plan.specs.TimingTables.{DescribesErrors, DescribesBus, DescribesTiming}
 use Rattle.j39_plan.specs.NeedTables.{IsNeedOf}
 use Rattle.j39_plan.specs.RequestTables.{IsRequestOf}
-use Rattle.j39_plan.specs.PlanFaults.{version_of, strangers_of, live_of, timing_table, units_rule, groups_rule, flows_rule, group_labels, group_signals, unit_labels, need_tables, request_tables}
+use Rattle.j39_plan.specs.PlanFaults.{version_of, strangers_of, live_of, timing_table, units_rule, groups_rule, flows_rule, group_labels, group_signals}
+use Rattle.j39_plan.specs.PlanFaults.{unit_labels, need_tables, request_tables}
 use Rattle.j39_plan.specs.Described.{keep_free_of, DescribesPlan}
 
 -- ---- units

@@ -1,5 +1,6 @@
 -- Groups and flows of version 3 in whose tables nothing stands that the second doesn't know are those of version 2.
-use Rattle.std.proofs.Common.{◌↔◌, ◌≡◌, ◌≤◌, ℕ, pos, negsuc, ltb, Bool, true, false, ◌||◌, if◌then◌else◌, arith, List, [], ◌∷◌, Option, Some, None, unwrap_or, refl}
+use Rattle.std.proofs.Common.{◌↔◌, ◌≡◌, ◌≤◌, ℕ, pos, negsuc, ltb, Bool, true, false, ◌||◌, if◌then◌else◌, arith, List, [], ◌∷◌, Option, Some, None, unwrap_or}
+use Rattle.std.proofs.Common.{refl}
 use Rattle.std.specs.Option.{option_map_or, option_and_then}
 use Rattle.std.proofs.lemmas.Bool.{le-ltb, ltb-false, or_parts}
 use Rattle.toml.specs.Data.{Data, string, integer, float, boolean, datetime, array, table, no_items, Members, get_member, as_integer, as_table}
@@ -20,11 +21,14 @@ use Rattle.j39_plan.specs.Since.{known_faults, versioned_faults}
 use Rattle.j39_tables.specs.InOrder.{inside}
 use Rattle.j39_plan.specs.LabelsSeen.{label_in, label_rule, repeated_faults}
 use Rattle.j39_plan.specs.SignalTables.{signal_faults, IsMeaningOf, IsSignalOf}
-use Rattle.j39_plan.specs.GroupTables.{pgn_rule, priority_rule, length_rule, private_rule, private_of, most_rule, most_of, every_rule, every_of, signal_rule, text_rule, text_tables_of, first_rules, inner_rules, signals_faults, texts_faults, group_keys_faults, group_table_faults, group_faults, IsGroupOf}
+use Rattle.j39_plan.specs.GroupTables.{pgn_rule, priority_rule, length_rule, private_rule, private_of, most_rule, most_of, every_rule, every_of, signal_rule}
+use Rattle.j39_plan.specs.GroupTables.{text_rule, text_tables_of, first_rules, inner_rules, signals_faults, texts_faults, group_keys_faults, group_table_faults}
+use Rattle.j39_plan.specs.GroupTables.{group_faults, IsGroupOf}
 use Rattle.j39_plan.specs.FlowTables.{period_of, given_deadline, given_period, deadline_rule, flow_rules, flow_table_faults, flow_faults}
 use Rattle.j39_plan.specs.Versions.{third_group_keys, IsSecondSignal, IsSecondGroup, IsSecondFlow}
 use Rattle.j39_plan.proofs.SameParts.{SameGroup, SameFlow, signal_both, meaning_both, group_both}
-use Rattle.j39_plan.proofs.Absent.{lacked, IsNone, only_same, Alike, alike_both, alike_between, alike_behind, alike_unknown, alike_inside, alike_each, told_alike}
+use Rattle.j39_plan.proofs.Absent.{lacked, IsNone, only_same, Alike, alike_both, alike_between, alike_behind, alike_unknown, alike_inside, alike_each}
+use Rattle.j39_plan.proofs.Absent.{told_alike}
 use Rattle.j39_plan.proofs.ThirdSignals.{signal_alike, same_signal}
 
 -- ---- groups

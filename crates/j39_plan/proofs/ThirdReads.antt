@@ -18,7 +18,9 @@ use Rattle.j39_plan.specs.LabelsSeen.{label_in}
 use Rattle.j39_plan.specs.UnitTables.{IsUnitOf, name_faults, name_fields_of, name_of, unit_faults, unit_label_in, unit_table_faults}
 use Rattle.j39_plan.specs.GroupTables.{IsGroupOf, group_faults}
 use Rattle.j39_plan.specs.FlowTables.{IsFlowOf, flow_faults}
-use Rattle.j39_plan.specs.PlanFaults.{version_rule, keep_free_rule, strangers_of, strangers_faults, live_of, live_faults, timing_rule, units_rule, groups_rule, flows_rule, version_of, head_faults, timing_faults, array_rules, top_faults, unit_labels, group_labels, units_faults, groups_faults, flows_faults, needs_faults, requests_faults, no_label, faults}
+use Rattle.j39_plan.specs.PlanFaults.{version_rule, keep_free_rule, strangers_of, strangers_faults, live_of, live_faults, timing_rule, units_rule, groups_rule}
+use Rattle.j39_plan.specs.PlanFaults.{flows_rule, version_of, head_faults, timing_faults, array_rules, top_faults, unit_labels, group_labels, units_faults}
+use Rattle.j39_plan.specs.PlanFaults.{groups_faults, flows_faults, needs_faults, requests_faults, no_label, faults}
 use Rattle.j39_plan.specs.Described.{keep_free_of}
 use Rattle.j39_plan.specs.Versions.{with_version, Lacks, IsSecondGroup, IsSecondFlow, IsSecondPlan, ReadAlike}
 use Rattle.j39_plan.proofs.Absent.{lacked, IsNone, only_same, Alike, alike_both, alike_unknown, alike_each, told_alike}

@@ -18,7 +18,8 @@ use Rattle.j39_tables.specs.TableFaults.{standing_cause, key_faults, table_only_
 use Rattle.j39_plan.specs.Since.{versioned_faults}
 use Rattle.j39_tables.specs.InOrder.{inside}
 use Rattle.j39_plan.specs.LabelsSeen.{label_in, repeated_faults}
-use Rattle.j39_plan.specs.SignalTables.{kind_of, is_dtc, kind_rule, is_code, per_rule, per_of, repeated_rule, repeated_of, signal_rules, signal_table_faults, signal_faults}
+use Rattle.j39_plan.specs.SignalTables.{kind_of, is_dtc, kind_rule, is_code, per_rule, per_of, repeated_rule, repeated_of, signal_rules, signal_table_faults}
+use Rattle.j39_plan.specs.SignalTables.{signal_faults}
 use Rattle.j39_plan.specs.Versions.{is_later_kind, IsSecondSignal}
 use Rattle.j39_plan.proofs.SameParts.{SameSignal}
 use Rattle.j39_plan.proofs.Absent.{lacked, IsNone, only_same, Alike, alike_both, alike_between, alike_unknown, alike_inside}
@@ -30,7 +31,8 @@ no_repeated : (ms : Members) → IsSecondSignal ms → get_member (word_of key.R
 no_repeated ms second = lacked key.Repeated ms (second.keys 1 key.Repeated (omega arith))
 
 plain_kind : (measured discrete states signed dtc : Bool) → (states || (signed || dtc)) ≡ false
-    → is_dtc (if measured then Measured else if discrete then Discrete else if states then States else if signed then Signed else if dtc then Dtc else Raw) ≡ false
+    → is_dtc (if measured then Measured else if discrete then Discrete else if states then States else if signed then Signed else if dtc then Dtc else Raw)
+    ≡ false
 plain_kind true discrete states signed dtc none = refl
 plain_kind false true states signed dtc none = refl
 plain_kind false false true signed dtc none = refl

@@ -12,7 +12,8 @@ use Rattle.j39_plan.specs.TextTables.{text_faults}
 use Rattle.j39_plan.specs.FlowTables.{flow_faults}
 use Rattle.j39_plan.specs.NeedTables.{need_faults}
 use Rattle.j39_plan.specs.RequestTables.{request_faults}
-use Rattle.j39_plan.specs.PlanFaults.{top_faults, units_rule, groups_rule, flows_rule, units_faults, groups_faults, flows_faults, needs_faults, need_tables, request_tables}
+use Rattle.j39_plan.specs.PlanFaults.{top_faults, units_rule, groups_rule, flows_rule, units_faults, groups_faults, flows_faults, needs_faults, need_tables}
+use Rattle.j39_plan.specs.PlanFaults.{request_tables}
 use Rattle.j39_plan.specs.PlanFaults.{group_labels, group_signals, unit_labels, version_of}
 
 -- behind a signal whose table has no fault, for the names of its raw numbers

@@ -1,6 +1,7 @@
 -- The values of a plan file's keys that other files don't have: kept addresses, bitrates, divisors and tables of names. The cause for which
 -- each is refused.
-use Rattle.std.specs.Prelude.{ℕ, pos, suc, List, [], ◌∷◌, Bool, true, not, ◌&&◌, ◌||◌, ◌==◌, if◌then◌else◌, Option, Some, None, is_some, length, slice_index, nat_le, nat_lt, unwrap_or, false}
+use Rattle.std.specs.Prelude.{ℕ, pos, suc, List, [], ◌∷◌, Bool, true, not, ◌&&◌, ◌||◌, ◌==◌, if◌then◌else◌, Option, Some, None, is_some, length, slice_index}
+use Rattle.std.specs.Prelude.{nat_le, nat_lt, unwrap_or, false}
 use Rattle.std.specs.Str.{all_ascii_digits}
 use Rattle.std.specs.Str.Parse.{digits_value}
 use Rattle.std.specs.FinSet.{FinSet, empty, contains, insert}

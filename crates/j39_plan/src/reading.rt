@@ -93,13 +93,14 @@ fn read_top(alloc: Global, members: &toml::Table) -> Result<Plan, PlanError>
     })
 }
 
-/// The plan that a file describes: TOML of UTF-8 bytes, at most 128 units, 256 groups of 64 signals, 512 flows, 4096 needs and 512
-/// requests. One of
-/// version 2, 3 or 4 may keep up to 120 addresses of 128 to 247 free; one of version 1 keeps none. Versions 3 and 4 know groups of several
-/// lengths, with records of signals that are repeated, more kinds of signals, what their values are divided by, 64 texts of a group, what
-/// is known of the bus itself, and how often flows are sent. Version 4 knows more of the bus, how far behind its releases a flow is sent,
-/// for how long it is silent, whether it is sent on request alone, which unit needs what and which one asks whom for what, units that
-/// never claim, how many strangers may come, whether the bus is live, the numbers of signals, and names of their raw numbers.
+/// The plan that a file describes: TOML of UTF-8 bytes, at most 128 units, 256 groups of 64 signals, 512 flows, 4096
+/// needs and 512 requests. One of version 2, 3 or 4 may keep up to 120 addresses of 128 to 247 free; one of version 1
+/// keeps none. Versions 3 and 4 know groups of several lengths, with records of signals that are repeated, more kinds
+/// of signals, what their values are divided by, 64 texts of a group, what is known of the bus itself, and how often
+/// flows are sent. Version 4 knows more of the bus, how far behind its releases a flow is sent, for how long it is
+/// silent, whether it is sent on request alone, which unit needs what and which one asks whom for what, units that
+/// never claim, how many strangers may come, whether the bus is live, the numbers of signals, and names of their raw
+/// numbers.
 ///
 /// Refuses bytes that are no TOML text, and else the first fault, in the order of the file's tables and keys. Takes no
 /// memory of bytes that are no UTF-8, or white space and comments alone.

@@ -1,7 +1,9 @@
 -- What a table asks of its keys: one list of rules, from which both its faults and its values are read.
-use Rattle.std.specs.Prelude.{ℕ, ℤ, pos, negsuc, suc, List, [], Bool, true, false, ◌||◌, if◌then◌else◌, Option, Some, None, option_map, option_and_then, unwrap_or, nat_le, int_lt}
+use Rattle.std.specs.Prelude.{ℕ, ℤ, pos, negsuc, suc, List, [], Bool, true, false, ◌||◌, if◌then◌else◌, Option, Some, None, option_map, option_and_then}
+use Rattle.std.specs.Prelude.{unwrap_or, nat_le, int_lt}
 use Rattle.std.specs.Option.{option_or}
-use Rattle.toml.specs.Data.{Data, string, integer, boolean, array, table, Items, no_items, item, Members, get_member, as_integer, as_str, as_bool, as_table, as_array}
+use Rattle.toml.specs.Data.{Data, string, integer, boolean, array, table, Items, no_items, item, Members, get_member, as_integer, as_str, as_bool, as_table}
+use Rattle.toml.specs.Data.{as_array}
 use Rattle.j39_tables.specs.declared.cause.Cause.{Cause}
 use Rattle.j39_tables.specs.declared.cause.Cause.TheVariants.{WrongType, Range, TooMany}
 

@@ -1,7 +1,9 @@
 //! What a place of a plan names. Past the last place there is nothing.
 ghost use Rattle.std.specs.Prelude.{◌≡◌, ◌++◌, OnOk};
-ghost use Rattle.j39_text.specs.Labels.{group_label, group_pgn, group_selector_end, group_text, need_signal_text, need_text};
-ghost use Rattle.j39_text.specs.Labels.{signal_bits, signal_end, signal_label, signals_of, text_end, text_label, texts_of, unit_address, unit_label, units_text};
+ghost use Rattle.j39_text.specs.Labels.{group_label, group_pgn, group_selector_end, group_text, need_signal_text};
+ghost use Rattle.j39_text.specs.Labels.{need_text};
+ghost use Rattle.j39_text.specs.Labels.{signal_bits, signal_end, signal_label, signals_of, text_end, text_label};
+ghost use Rattle.j39_text.specs.Labels.{texts_of, unit_address, unit_label, units_text};
 
 use crate::TextBuffer;
 use j39_network::{NeedPlan, Plan, TextPlan};

@@ -5,7 +5,8 @@ use Rattle.j39_timing.specs.TimedFrames.{Schedule}
 use Rattle.j39_timing.specs.FrameStreams.{Origins}
 use Rattle.j39_timing.specs.Traffic.{Traffic, Others, DemandFits, IsSingle, delay_of}
 use Rattle.j39_timing.specs.AnyOrder.{Controllers, IsLegalInAnyOrder, IsOrderedStream, buffered_traffic}
-use Rattle.j39_timing.specs.QueueGroups.{QueueGroup, QueueGroupWaits, QueueGroupDemandFits, IsTrafficOfQueueGroup, is_unplanned_queued, is_with_queue_group, unplanned_queued}
+use Rattle.j39_timing.specs.QueueGroups.{QueueGroup, QueueGroupWaits, QueueGroupDemandFits, IsTrafficOfQueueGroup, is_unplanned_queued, is_with_queue_group}
+use Rattle.j39_timing.specs.QueueGroups.{unplanned_queued}
 use Rattle.j39_timing.specs.Prefixes.{seen_until, planned_until, IsPlannedUntil, AreBegunUntil, IsQueueGroupUntil, HaveWaitsUntil}
 use Rattle.j39_timing.proofs.QueueGroupTraffic.{begun_within}
 use Rattle.j39_timing.proofs.Buffering.{ordered_begun}
@@ -117,7 +118,8 @@ module _ (s : Schedule) (controllers : Controllers) (traffic : Traffic) (unplann
         ];
   }
 
-  pub queue_group_begun_until : IsLegalInAnyOrder s controllers → ((j : ℕ) → j < traffic.count → 0 < (traffic.stream j).period) → (i wait : ℕ) → queue_group.has i ≡ true
+  pub queue_group_begun_until : IsLegalInAnyOrder s controllers → ((j : ℕ) → j < traffic.count → 0 < (traffic.stream j).period) → (i wait : ℕ)
+      → queue_group.has i ≡ true
       → (traffic.stream i).bits ≤ longest → QueueGroupDemandFits traffic queue_group unplanned longest i wait → AreBegunUntil s planned of i wait by
   queue_group_begun_until legal positive i wait member small demand_fits p in_p is source before =
       begun_within then_seen controllers traffic unplanned longest then_planned of queue_group (still_legal_in_any_order s controllers by 0 legal seen) then_queue_group
@@ -125,10 +127,12 @@ module _ (s : Schedule) (controllers : Controllers) (traffic : Traffic) (unplann
 
 -- ---- a stream of a unit that keeps order, beside others
 
-pub ordered_begun_until : (s : Schedule) (controllers : Controllers) (traffic : Traffic) (others : Others) (longest : ℕ) (planned : ℕ → Bool) (of : Origins) (i by : ℕ)
+pub ordered_begun_until : (s : Schedule) (controllers : Controllers) (traffic : Traffic) (others : Others) (longest : ℕ) (planned : ℕ
+    → Bool) (of : Origins) (i by : ℕ)
     → by ≤ s.now → IsPlannedUntil s traffic others longest planned of i by → IsLegalInAnyOrder s controllers
     → ((j : ℕ) → j < traffic.count → 0 < (traffic.stream j).period) → IsOrderedStream s controllers planned of i
-    → (wait : ℕ) (waits : ℕ → ℕ) → HaveWaitsUntil s controllers traffic planned of i waits by → DemandFits (buffered_traffic traffic waits) others longest i wait
+    → (wait : ℕ) (waits : ℕ → ℕ) → HaveWaitsUntil s controllers traffic planned of i waits by
+    → DemandFits (buffered_traffic traffic waits) others longest i wait
     → IsSingle (traffic.stream i) → delay_of (traffic.stream i) wait ≤ (traffic.stream i).period → AreBegunUntil s planned of i wait by
 ordered_begun_until s controllers traffic others longest planned of i by seen known legal positive ordered wait waits have demand_fits single fits p in_p is source before =
     ordered_begun (seen_until s by others.least) controllers (still_legal_in_any_order s controllers by others.least legal seen) traffic others longest

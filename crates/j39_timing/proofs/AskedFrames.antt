@@ -1,6 +1,7 @@
 -- What messages that are wanted of a unit can ask for in any time: what is left of the one that is under way, one message of each flow that waits,
 -- and those whose releases lie in this time.
-use Rattle.std.proofs.Common.{◌≡◌, ℕ, zero, suc, ◌+◌, ◌*◌, ◌<◌, ◌≤◌, ◌⊎◌, Bool, true, false, cond, ◌&&◌, eqb, ltb, leb, List, [], ◌∷◌, length, take, get_or, sum_by, refl, sym, subst, ap, ◌∙◌, inl, inr, arith}
+use Rattle.std.proofs.Common.{◌≡◌, ℕ, zero, suc, ◌+◌, ◌*◌, ◌<◌, ◌≤◌, ◌⊎◌, Bool, true, false, cond, ◌&&◌, eqb, ltb, leb, List, [], ◌∷◌, length, take, get_or}
+use Rattle.std.proofs.Common.{sum_by, refl, sym, subst, ap, ◌∙◌, inl, inr, arith}
 use Rattle.std.proofs.Math.Seq.{take-suc}
 use Rattle.std.proofs.lemmas.Bool.{and_parts, and_from, cases_lt, cases_eq, cases_Bool, le-leb, lt-ltb, leb-true, ltb-true, eqb-true, eq-eqb, both_ways}
 use Rattle.std.proofs.lemmas.Grind.{div_ceil_times}
@@ -13,7 +14,8 @@ use Rattle.j39_timing.specs.Sums.{total}
 use Rattle.j39_timing.specs.TimedFrames.{Schedule}
 use Rattle.j39_timing.specs.Traffic.{releases_in}
 use Rattle.j39_timing.specs.Waits.{Demand, frames_of_want, frames_wanted}
-use Rattle.j39_timing.specs.WantedMessages.{AreAnnouncements, AreFramesOfMessages, AreWantedInTurn, HasLongest, HavePeriods, UnitMessages, nothing, want_at, want_for}
+use Rattle.j39_timing.specs.WantedMessages.{AreAnnouncements, AreFramesOfMessages, AreWantedInTurn, HasLongest, HavePeriods, UnitMessages, nothing, want_at}
+use Rattle.j39_timing.specs.WantedMessages.{want_for}
 use Rattle.j39_timing.specs.declared.wants.Want.{Want}
 use Rattle.j39_timing.proofs.StreamSums.{at_most_one, inside, inside_from, windows_sum}
 use Rattle.j39_timing.proofs.Sums.{total-le, total-none, total-two}
@@ -25,7 +27,8 @@ grouped : (n : ℕ) (passes : ℕ → Bool) (group weight : ℕ → ℕ) (k : �
     ≤ total k (λ g. total n (λ i. cond (passes i && eqb (group i) g) (weight i) 0))
 unfolding total
 grouped n passes group weight zero =
-    let none : total n (λ i. cond (passes i && ltb (group i) 0) (weight i) 0) ≡ 0 = total-none n (λ i. cond (passes i && ltb (group i) 0) (weight i) 0) (λ i below.
+    let none : total n (λ i. cond (passes i && ltb (group i) 0) (weight i) 0) ≡ 0 =
+    total-none n (λ i. cond (passes i && ltb (group i) 0) (weight i) 0) (λ i below.
     elim (cases_Bool (passes i && ltb (group i) 0)) [
       | inl is ↦ absurd (let low : group i < 0 = ltb-true (group i) 0 (and_parts (passes i) (ltb (group i) 0) is).1 in omega arith)
       | inr fails ↦ rw (fails) refl
@@ -47,7 +50,8 @@ grouped n passes group weight (suc k) =
                 let there : (passes i && eqb (group i) k) ≡ true = and_from (passes i) (eqb (group i) k) two.0 (eq-eqb (group i) k same) in
                 rw (is, there) (omega arith)
             | inr other ↦
-                let here : (passes i && ltb (group i) k) ≡ true = and_from (passes i) (ltb (group i) k) two.0 (lt-ltb (group i) k (omega (arith, low, other))) in
+                let here : (passes i && ltb (group i) k) ≡ true =
+                and_from (passes i) (ltb (group i) k) two.0 (lt-ltb (group i) k (omega (arith, low, other))) in
                 rw (is, here) (omega arith)
           ]
     ]) in

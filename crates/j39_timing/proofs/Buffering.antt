@@ -9,7 +9,8 @@ use Rattle.j39_timing.specs.Traffic.{Traffic, Others, IsPlannedTraffic, AreQueue
 use Rattle.j39_timing.specs.Traffic.{may_go_before, others_queued, is_other_queued}
 use Rattle.j39_timing.specs.Messages.{AreSentWithin}
 use Rattle.j39_timing.specs.Waits.{lesser_share}
-use Rattle.j39_timing.specs.AnyOrder.{AreBegunWithin, Controllers, IsLegalInAnyOrder, IsFromOrdered, IsOrderedStream, HaveWaits, after_buffering, is_passed_by, later_by, buffered_until, buffered_traffic}
+use Rattle.j39_timing.specs.AnyOrder.{AreBegunWithin, Controllers, IsLegalInAnyOrder, IsFromOrdered, IsOrderedStream, HaveWaits, after_buffering, is_passed_by}
+use Rattle.j39_timing.specs.AnyOrder.{later_by, buffered_until, buffered_traffic}
 use Rattle.j39_timing.proofs.PlannedTraffic.{begun_in_time, behind_in_time, stream_in_time}
 use Rattle.j39_timing.proofs.Sums.{total-le}
 

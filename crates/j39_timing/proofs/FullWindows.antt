@@ -1,6 +1,7 @@
 -- A frame that waits longer than there is room for sees more on the bus than the streams can queue: in windows of a wait and one bit more,
 -- from where the bus is busy on.
-use Rattle.std.proofs.Common.{◌≡◌, ℕ, zero, suc, ◌+◌, ◌*◌, ◌-◌, ◌/◌, ◌<◌, ◌≤◌, Bool, true, false, cond, ◌&&◌, eqb, ltb, leb, List, Option, None, Some, refl, sym, subst, arith, inl, inr}
+use Rattle.std.proofs.Common.{◌≡◌, ℕ, zero, suc, ◌+◌, ◌*◌, ◌-◌, ◌/◌, ◌<◌, ◌≤◌, Bool, true, false, cond, ◌&&◌, eqb, ltb, leb, List, Option, None, Some, refl}
+use Rattle.std.proofs.Common.{sym, subst, arith, inl, inr}
 use Rattle.std.proofs.Math.Nat.{mul-le-mul_left, div-mul-le_self, lt-div-mul-add}
 use Rattle.std.specs.Int.{div_ceil}
 use Rattle.std.proofs.lemmas.Bool.{and_parts, and_from, cases_lt, cases_Bool, le-leb, lt-ltb, leb-true, ltb-true, eqb-true}
@@ -177,7 +178,8 @@ module _ (s : Schedule) (count : ℕ) (stream : ℕ → Stream) (demands : List 
       )) in
       let most : (stream j).bits * releases_in s planned of j (t - (stream j).jitter) (wait + 1 + (stream j).jitter)
       ≤ (stream j).bits * frames_wanted (wait + 1 + (stream j).jitter) wanted = mul-le-mul_left (stream j).bits few in
-      let turned : (stream j).bits * frames_wanted (wait + 1 + (stream j).jitter) wanted ≡ frames_wanted (wait + 1 + (stream j).jitter) wanted * (stream j).bits = grind arith in
+      let turned : (stream j).bits * frames_wanted (wait + 1 + (stream j).jitter) wanted ≡ frames_wanted (wait + 1 + (stream j).jitter) wanted * (stream j).bits =
+      grind arith in
       omega (arith, each, most, turned)
 
   at_lesser : (t j : ℕ) → j < count → queued t j ≤ cond (may j) (lesser_share demands (wait + 1) (stream j)) 0

@@ -3,7 +3,9 @@ use Rattle.std.proofs.Common.{List, [], ◌∷◌, ◌≡◌, ◌≢◌, ℕ, �
 use Rattle.std.proofs.Math.Nat.{mul-le-mul_left, mul-div-le, lt-mul-div-succ, lt_of_mul-lt-mul_left}
 use Rattle.j39_timing.specs.FreshFrames.{KeepsComing}
 use Rattle.j39_timing.specs.Traffic.{IsStreamInTime, delay_of}
-use Rattle.j39_timing.specs.Gateways.{Carrier, IsIts, end_time, queue_time, time_of, Comes, IsYoung, HasOwnReleases, IsOldAtMost, KeepTo, HandsOn, SendsNewest, IsHandedOn, AreApart, EndWithin, KeepsToStream, Coming, ComesSo, age_of, Mode, directly, at_its_beat, Hop, coming_behind, IsPrompt, IsInTimeThere, AreHops, last_of, coming_at_last}
+use Rattle.j39_timing.specs.Gateways.{Carrier, IsIts, end_time, queue_time, time_of, Comes, IsYoung, HasOwnReleases, IsOldAtMost, KeepTo, HandsOn, SendsNewest}
+use Rattle.j39_timing.specs.Gateways.{IsHandedOn, AreApart, EndWithin, KeepsToStream, Coming, ComesSo, age_of, Mode, directly, at_its_beat, Hop, coming_behind}
+use Rattle.j39_timing.specs.Gateways.{IsPrompt, IsInTimeThere, AreHops, last_of, coming_at_last}
 use Rattle.j39_timing.specs.declared.stream.Stream.{Stream}
 
 -- a stream that is in time on its bus and keeps coming there, whose releases are the bus's own
@@ -24,7 +26,8 @@ comes_by_itself x stream wait pause old from to early some in_time keeps own com
     let at : x.release p ≡ time_of x.clock (x.of.since p) = own p (in_p, is, source) in
     let since_time : x.clock.unit * x.of.since p ≤ x.clock.unit * b = mul-le-mul_left x.clock.unit since in
     let near_time : x.clock.unit * (b + 1) ≤ x.clock.unit * (x.of.since p + pause) = mul-le-mul_left x.clock.unit (omega arith) in
-    let end : x.clock.unit * (x.schedule.start p + x.schedule.bits p) ≤ x.clock.unit * (x.of.since p + delay_of stream wait) = mul-le-mul_left x.clock.unit ended in
+    let end : x.clock.unit * (x.schedule.start p + x.schedule.bits p) ≤ x.clock.unit * (x.of.since p + delay_of stream wait) =
+    mul-le-mul_left x.clock.unit ended in
     (p, ((in_p, is, source), omega arith), omega arith, omega arith, omega arith, young p (in_p, is, source) (omega arith) (omega arith))
 
 -- handed on directly
@@ -41,17 +44,20 @@ comes_directly x y stream wait within old interval behind from to coming hands i
     let early : y.of.since q + (stream.jitter + wait) < y.schedule.now =
     lt_of_mul-lt-mul_left y.clock.unit (let at : time_of y.clock (y.of.since q) ≤ y.release q = floor q (in_q, is, source) in omega arith) in
     let (begun, over) = in_time q in_q is source early in
-    let end : y.clock.unit * (y.schedule.start q + y.schedule.bits q) ≤ y.clock.unit * (y.schedule.queued q + (wait + stream.bits)) = mul-le-mul_left y.clock.unit (omega arith) in
+    let end : y.clock.unit * (y.schedule.start q + y.schedule.bits q) ≤ y.clock.unit * (y.schedule.queued q + (wait + stream.bits)) =
+    mul-le-mul_left y.clock.unit (omega arith) in
     (q, ((in_q, is, source), omega arith), omega arith, omega arith, omega arith, omega arith)
 
 -- what comes is young
-pub comes_young : (x : Carrier) (old interval behind from to : ℕ) → Comes x old interval behind from to → IsYoung x (old + (interval + behind)) (from + behind) (to + behind)
+pub comes_young : (x : Carrier) (old interval behind from to : ℕ) → Comes x old interval behind from to
+    → IsYoung x (old + (interval + behind)) (from + behind) (to + behind)
 comes_young x old interval behind from to coming t low high =
     let (p, its, before, near, ended, young) = coming (t - behind) (omega arith) (omega arith) in
     (p, its, omega arith, omega arith)
 
 -- and so is what is sent of it at its own beat, at its releases
-pub old_at_most : (x y : Carrier) (within age from to : ℕ) → IsYoung x age from to → SendsNewest x y within → IsOldAtMost y (age + within) (from + within) (to + within)
+pub old_at_most : (x y : Carrier) (within age from to : ℕ) → IsYoung x age from to → SendsNewest x y within
+    → IsOldAtMost y (age + within) (from + within) (to + within)
 old_at_most x y within age from to young sends q its low high =
     let (p, begun, ended, near) = young (y.release q - within) (omega arith) (omega arith) in
     let newer : x.born p ≤ y.born q = sends p q begun its (omega arith) in

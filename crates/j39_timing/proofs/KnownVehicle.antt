@@ -94,12 +94,14 @@ demand_fits : (b i : ℕ) → DemandFits (one_bus b).traffic (one_bus b).others 
 unfolding total
 demand_fits b i = omega arith
 
-known_until : (b by : ℕ) → AreOfStreams (one_bus b).schedule (λ p. planned_until (one_bus b).schedule (one_bus b).planned by p ≡ true) 1 (one_bus b).traffic.stream (one_bus b).of
+known_until : (b by : ℕ)
+    → AreOfStreams (one_bus b).schedule (λ p. planned_until (one_bus b).schedule (one_bus b).planned by p ≡ true) 1 (one_bus b).traffic.stream (one_bus b).of
     → IsPlannedUntil (one_bus b).schedule (one_bus b).traffic (one_bus b).others 160 (one_bus b).planned (one_bus b).of 0 by
 known_until b by streams = record {
   longest_at_most = λ p in_p. omega arith;
   of_streams = streams;
-  as_wanted = nothing_wanted (one_bus b).schedule (planned_until (one_bus b).schedule (one_bus b).planned by) (one_bus b).of [] (one_bus b).traffic.stream (λ j. refl);
+  as_wanted =
+      nothing_wanted (one_bus b).schedule (planned_until (one_bus b).schedule (one_bus b).planned by) (one_bus b).of [] (one_bus b).traffic.stream (λ j. refl);
   from_least = λ p in_p is. omega arith;
   to_greatest = λ p in_p is source. omega arith;
   own_identifier = λ p q t in_p in_q seen is shared at_p at_q same. (refl, refl);

@@ -1,5 +1,6 @@
 -- Below the wait from which the loads allow it nothing has room.
-use Rattle.std.proofs.Common.{◌≡◌, ℕ, ◌+◌, ◌*◌, ◌-◌, ◌/◌, ◌^◌, ◌<◌, ◌≤◌, max, min, List, length, take, get_or, All, map, sum_by, None, Some, arith, inl, inr, sym, ap, ◌∙◌}
+use Rattle.std.proofs.Common.{◌≡◌, ℕ, ◌+◌, ◌*◌, ◌-◌, ◌/◌, ◌^◌, ◌<◌, ◌≤◌, max, min, List, length, take, get_or, All, map, sum_by, None, Some, arith, inl, inr}
+use Rattle.std.proofs.Common.{sym, ap, ◌∙◌}
 use Rattle.std.specs.Int.{div_ceil}
 use Rattle.std.specs.List.{slice_get}
 use Rattle.std.specs.Option.{option_map}
@@ -9,7 +10,8 @@ use Rattle.std.proofs.lemmas.Option.{slice_get-map}
 use Rattle.std.proofs.lemmas.List.Sums.{sum_by_more}
 use Rattle.std.proofs.Math.Nat.{div-mul-le_self, div-le_self, lt-mul-div-succ, mul-le-mul_left}
 use Rattle.j39_timing.specs.LeastShares.{NoneFitsFrom, IsLineBelow, IsStretchBelow, line_at, part_of}
-use Rattle.j39_timing.specs.Waits.{Demand, NoShorterFits, IsStream, IsWant, as_demand, demand_of, frames_of_want, frames_wanted, lesser, lesser_share, need, share}
+use Rattle.j39_timing.specs.Waits.{Demand, NoShorterFits, IsStream, IsWant, as_demand, demand_of, frames_of_want, frames_wanted, lesser, lesser_share, need}
+use Rattle.j39_timing.specs.Waits.{share}
 use Rattle.j39_timing.specs.declared.lines.Line.{Line}
 use Rattle.j39_timing.specs.declared.lines.Stretch.{Stretch}
 use Rattle.j39_timing.specs.declared.stream.Stream.{Stream}
@@ -97,7 +99,8 @@ module _ (stream : Stream) (demand : Demand) (asked : Line) (span : ℕ) (ok : I
   below-both x low from first second =
       let paced : part_of stream * x ≤ 2 ^ 32 * share x stream = takes-part x stream ok in
       let later : asked.part * x ≤ asked.part * (x + stream.jitter) = mul-le-mul_left asked.part (omega arith) in
-      let wanted : line_at (x + stream.jitter) asked ≤ 2 ^ 32 * (frames_wanted (x + stream.jitter) demand * stream.bits) = below (x + stream.jitter) (omega (arith, from)) in
+      let wanted : line_at (x + stream.jitter) asked ≤ 2 ^ 32 * (frames_wanted (x + stream.jitter) demand * stream.bits) =
+      below (x + stream.jitter) (omega (arith, from)) in
       omega (arith, first, second, paced, later, wanted)
 
   -- its pace alone, where no less is wanted
@@ -153,7 +156,8 @@ module _ (demands : List Demand) (blocking w : ℕ) (xs : List Stream) (stretch 
   -- the parts take all of the bus
   pub never : 2 ^ 32 ≤ stretch.line.part → NoneFitsFrom demands blocking xs w stretch.until
   never full v from before =
-      let taken : line_at (v + 1) stretch.line ≤ 2 ^ 32 * sum_by (lesser_share demands (v + 1)) xs = below (v + 1) (omega (arith, from)) (omega (arith, before)) in
+      let taken : line_at (v + 1) stretch.line ≤ 2 ^ 32 * sum_by (lesser_share demands (v + 1)) xs =
+      below (v + 1) (omega (arith, from)) (omega (arith, before)) in
       let most : (v + 1) * 2 ^ 32 ≤ (v + 1) * stretch.line.part = mul-le-mul_left (v + 1) full in
       let turned : (v + 1) * stretch.line.part ≡ stretch.line.part * (v + 1) = grind arith in
       omega (arith, taken, most, turned)
@@ -162,7 +166,8 @@ module _ (demands : List Demand) (blocking w : ℕ) (xs : List Stream) (stretch 
   pub allowed : (bits : ℕ) → stretch.line.part < 2 ^ 32 → bits ≡ (blocking + stretch.line.known) * 2 ^ 32 + stretch.line.part
       → NoneFitsFrom demands blocking xs w (min (div_ceil bits (2 ^ 32 - stretch.line.part)) stretch.until)
   allowed bits left bits_are v from before =
-      let taken : line_at (v + 1) stretch.line ≤ 2 ^ 32 * sum_by (lesser_share demands (v + 1)) xs = below (v + 1) (omega (arith, from)) (omega (arith, before)) in
+      let taken : line_at (v + 1) stretch.line ≤ 2 ^ 32 * sum_by (lesser_share demands (v + 1)) xs =
+      below (v + 1) (omega (arith, from)) (omega (arith, before)) in
       let parts : ℕ = stretch.line.part in
       let free : ℕ = 2 ^ 32 - parts in
       let whole : free + parts ≡ 2 ^ 32 = omega (arith, left) in

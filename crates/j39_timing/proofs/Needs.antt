@@ -1,5 +1,6 @@
 -- What streams need in a wait: a bound, and that a longer wait needs no less.
-use Rattle.std.proofs.Common.{◌≡◌, ℕ, ◌+◌, ◌*◌, ◌^◌, ◌<◌, ◌≤◌, List, [], ◌∷◌, length, map, All, sum_by, Option, None, Some, IfSome, refl, subst, arith, inl, inr}
+use Rattle.std.proofs.Common.{◌≡◌, ℕ, ◌+◌, ◌*◌, ◌^◌, ◌<◌, ◌≤◌, List, [], ◌∷◌, length, map, All, sum_by, Option, None, Some, IfSome, refl, subst, arith, inl}
+use Rattle.std.proofs.Common.{inr}
 use Rattle.std.specs.Int.{div_ceil}
 use Rattle.std.proofs.lemmas.Bool.{cases_lt}
 use Rattle.std.proofs.lemmas.Grind.{div_ceil_times}
@@ -9,7 +10,8 @@ use Rattle.std.proofs.lemmas.List.Sums.{sum_by-cons, sum_by-le}
 use Rattle.std.proofs.Math.Nat.{mul-le-mul_left, lt_of_mul-lt-mul_right}
 use Rattle.std.specs.List.{slice_get}
 use Rattle.std.specs.Option.{option_and_then}
-use Rattle.j39_timing.specs.Waits.{Demand, IsDemand, IsStream, IsWant, IsWanted, NoShorterFits, as_demand, demand_of, frames_of_want, frames_wanted, lesser, lesser_share, need, share}
+use Rattle.j39_timing.specs.Waits.{Demand, IsDemand, IsStream, IsWant, IsWanted, NoShorterFits, as_demand, demand_of, frames_of_want, frames_wanted, lesser}
+use Rattle.j39_timing.specs.Waits.{lesser_share, need, share}
 use Rattle.j39_timing.specs.declared.stream.Stream.{Stream}
 use Rattle.j39_timing.specs.declared.wants.Want.{Want}
 use Rattle.j39_timing.specs.declared.wants.Wanted.{Wanted}

@@ -1,14 +1,17 @@
 -- Frames of a stream of single frames, among planned frames of other streams and some of none, are in time where the wait has room.
-use Rattle.std.proofs.Common.{◌≡◌, ◌≢◌, ℕ, ◌+◌, ◌*◌, ◌<◌, ◌≤◌, ◌⊎◌, Bool, true, false, not, cond, ◌&&◌, ◌||◌, eqb, ltb, leb, refl, sym, subst, ap, ◌∙◌, arith, inl, inr}
+use Rattle.std.proofs.Common.{◌≡◌, ◌≢◌, ℕ, ◌+◌, ◌*◌, ◌<◌, ◌≤◌, ◌⊎◌, Bool, true, false, not, cond, ◌&&◌, ◌||◌, eqb, ltb, leb, refl, sym, subst, ap, ◌∙◌, arith}
+use Rattle.std.proofs.Common.{inl, inr}
 use Rattle.std.proofs.Math.Nat.{mul-le-mul_left}
 use Rattle.std.specs.Int.{div_ceil}
-use Rattle.std.proofs.lemmas.Bool.{and_parts, and_from, cases_lt, cases_Bool, or_cases, or_left, or_right, le-leb, lt-ltb, leb-true, ltb-true, eqb-true, eq-eqb, both_ways}
+use Rattle.std.proofs.lemmas.Bool.{and_parts, and_from, cases_lt, cases_Bool, or_cases, or_left, or_right, le-leb, lt-ltb, leb-true, ltb-true, eqb-true, eq-eqb}
+use Rattle.std.proofs.lemmas.Bool.{both_ways}
 use Rattle.std.proofs.lemmas.Grind.{div_ceil_times}
 use Rattle.j39_timing.specs.Sums.{total}
 use Rattle.j39_timing.specs.TimedFrames.{Schedule, IsLegal, Waits}
 use Rattle.j39_timing.specs.declared.stream.Stream.{Stream}
 use Rattle.j39_timing.specs.FrameStreams.{Origins, AreOfStreams}
-use Rattle.j39_timing.specs.Traffic.{Traffic, Others, IsPlannedTraffic, IsSingle, DemandFits, IsStreamInTime, PlannedFramesWait, AreQueuedBehind, AreSteady, delay_of}
+use Rattle.j39_timing.specs.Traffic.{Traffic, Others, IsPlannedTraffic, IsSingle, DemandFits, IsStreamInTime, PlannedFramesWait, AreQueuedBehind, AreSteady}
+use Rattle.j39_timing.specs.Traffic.{delay_of}
 use Rattle.j39_timing.specs.Traffic.{may_go_before, may_share, others_before, others_queued, is_other_queued}
 use Rattle.j39_timing.specs.Messages.{AreSentWithin}
 use Rattle.j39_timing.specs.Waits.{demand_of, lesser_share, share}
@@ -16,7 +19,8 @@ use Rattle.j39_timing.proofs.FullWindows.{shares_of, some_wait, too_full, window
 use Rattle.j39_timing.proofs.StreamSums.{at_most_one}
 use Rattle.j39_timing.proofs.Sums.{total-le, total-none, total-two}
 use Rattle.j39_timing.proofs.Demands.{lesser-most}
-use Rattle.j39_timing.proofs.WaitingWindow.{GoingWait, IsBusyFrom, busy_from, busy_with, is_other_going, is_planned_within, is_within, others_going, planned_demand}
+use Rattle.j39_timing.proofs.WaitingWindow.{GoingWait, IsBusyFrom, busy_from, busy_with, is_other_going, is_planned_within, is_within, others_going}
+use Rattle.j39_timing.proofs.WaitingWindow.{planned_demand}
 
 -- what counts of a stream, where it is the frame's own, or may go before
 counted : (own goes : Bool) (itself other longest : ℕ) → (own ≡ true → itself ≤ longest) → (own ≡ false → itself ≤ other)
@@ -137,7 +141,8 @@ module _ (s : Schedule) (traffic : Traffic) (others : Others) (longest : ℕ) (p
       -- of its stream no other frame is queued in a wait and the bit behind
       one_message : div_ceil (wait + 1 + (traffic.stream i).jitter) (traffic.stream i).period ≤ 1
       one_message =
-          let bits : s.bits x ≤ (traffic.stream i).bits = subst (λ j. s.bits x ≤ (traffic.stream j).bits) source (known.of_streams.keeps x in_x is_planned).bits_at_most in
+          let bits : s.bits x ≤ (traffic.stream i).bits =
+          subst (λ j. s.bits x ≤ (traffic.stream j).bits) source (known.of_streams.keeps x in_x is_planned).bits_at_most in
           let some = shortest in
           let few_slots = (div_ceil_times (wait + 1 + (traffic.stream i).jitter) (traffic.stream i).period (omega (arith, bits, some, fits))).1 in
           elim (cases_lt 1 (div_ceil (wait + 1 + (traffic.stream i).jitter) (traffic.stream i).period)) [
@@ -210,7 +215,8 @@ module _ (s : Schedule) (traffic : Traffic) (others : Others) (longest : ℕ) (p
       x_bits = let same = eq-eqb (of.source x) i source in rw (same) refl
 
       some : 1 ≤ wait
-      some = some_wait s traffic.count streams traffic.demands planned of of_streams known.as_wanted positive may with_it goes wait longest count longest x in_x is_planned x_with x_bits
+      some =
+          some_wait s traffic.count streams traffic.demands planned of of_streams known.as_wanted positive may with_it goes wait longest count longest x in_x is_planned x_with x_bits
           (omega arith) shortest short it_fits
 
       -- what goes before it: of its own identifier only planned frames do
@@ -412,7 +418,8 @@ module _ (s : Schedule) (traffic : Traffic) (others : Others) (longest : ℕ) (p
           let positive : 1 ≤ s.bits x = legal.positive x in_x in
           let shared : may_share traffic i (of.source x) ≡ true =
           or_left (eqb (of.source x) i) (traffic.are_twins i (of.source x)) (eq-eqb (of.source x) i same) in
-          let others_none : (q : ℕ) → q < s.count → q ≢ x → s.ident q ≡ s.ident x → s.queued x < s.start q → s.start q ≤ s.queued x + wait → ⊥ = λ q in_q differ equal after within.
+          let others_none : (q : ℕ) → q < s.count → q ≢ x → s.ident q ≡ s.ident x → s.queued x < s.start q → s.start q ≤ s.queued x + wait → ⊥ =
+          λ q in_q differ equal after within.
           let first : s.queued q ≤ s.start q = legal.queued_first q in_q in
           let its = known.own_identifier x q (s.start q) in_x in_q (omega arith) is_planned shared (omega arith, omega arith) (first, omega arith) (sym equal) in
           elim (behind q x in_q in_x differ its.0 is_planned (own_source q its.1) same) [

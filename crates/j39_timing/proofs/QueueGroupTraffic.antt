@@ -1,12 +1,14 @@
 -- Frames of units that keep no order are in time where the wait has room for their queue group, and for what may go before its frames.
 use Rattle.std.proofs.Common.{◌≡◌, ◌≢◌, ℕ, ◌+◌, ◌<◌, ◌≤◌, ◌⊎◌, Bool, true, false, not, cond, ◌&&◌, ◌||◌, eqb, ltb, leb, refl, sym, subst, ap, arith, inl, inr}
-use Rattle.std.proofs.lemmas.Bool.{and_parts, and_from, cases_lt, cases_eq, cases_Bool, or_cases, or_left, or_right, le-leb, lt-ltb, ltb-true, eqb-true, eq-eqb, both_ways}
+use Rattle.std.proofs.lemmas.Bool.{and_parts, and_from, cases_lt, cases_eq, cases_Bool, or_cases, or_left, or_right, le-leb, lt-ltb, ltb-true, eqb-true, eq-eqb}
+use Rattle.std.proofs.lemmas.Bool.{both_ways}
 use Rattle.j39_timing.specs.TimedFrames.{Schedule, Waits}
 use Rattle.j39_timing.specs.FrameStreams.{Origins}
 use Rattle.j39_timing.specs.Traffic.{Traffic, IsQueuedAt, IsStreamInTime}
 use Rattle.j39_timing.specs.AnyOrder.{AreBegunWithin, Controllers, IsLegalInAnyOrder}
 use Rattle.j39_timing.specs.Messages.{AreSentWithin}
-use Rattle.j39_timing.specs.QueueGroups.{QueueGroup, QueueGroupWaits, QueueGroupDemandFits, IsTrafficOfQueueGroup, is_unplanned_queued, is_with_queue_group, may_go_with, unplanned_queued}
+use Rattle.j39_timing.specs.QueueGroups.{QueueGroup, QueueGroupWaits, QueueGroupDemandFits, IsTrafficOfQueueGroup, is_unplanned_queued, is_with_queue_group}
+use Rattle.j39_timing.specs.QueueGroups.{may_go_with, unplanned_queued}
 use Rattle.j39_timing.proofs.FullWindows.{some_wait, too_full, total-one}
 use Rattle.j39_timing.proofs.Sums.{total-le}
 use Rattle.j39_timing.proofs.WaitingWindow.{GoingWait, busy_with, is_other_going, others_going}
@@ -71,7 +73,8 @@ module _ (s : Schedule) (controllers : Controllers) (traffic : Traffic) (unplann
     module _ (seen : s.queued x + wait < s.now) (late : s.queued x + wait < s.start x) where
       -- the frame itself has room in the wait
       some : 1 ≤ wait
-      some = some_wait s traffic.count traffic.stream traffic.demands planned of known.of_streams known.as_wanted positive (may_go_with traffic queue_group) with_it goes wait
+      some =
+          some_wait s traffic.count traffic.stream traffic.demands planned of known.of_streams known.as_wanted positive (may_go_with traffic queue_group) with_it goes wait
           longest unplanned (traffic.stream i).bits x in_x is_planned x_with x_bits small (legal.positive x in_x) (known.longest_at_most x in_x) demand_fits
 
       -- so no more of what isn't planned is queued than is foreseen

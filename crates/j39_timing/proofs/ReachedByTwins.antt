@@ -100,4 +100,5 @@ pub reached_by_twins : (s : Schedule) × (traffic : Traffic) × (others : Others
     × IsPlannedTraffic s traffic others 160 planned of 0 × ((j : ℕ) → j < traffic.count → 0 < (traffic.stream j).period)
     × DemandFits traffic others 160 0 320 × (2 < s.count) × (planned 1 ≡ true) × (planned 2 ≡ true) × (of.source 1 ≡ 1) × (of.source 2 ≡ 0)
     × (s.ident 1 ≡ s.ident 2) × (s.start 1 ≡ s.queued 2 + 160) × (s.queued 2 + 320 < s.now) × (s.start 2 ≡ s.queued 2 + 320)
-reached_by_twins = (three, two_streams, no_others, last_two, last_first, three_legal, three_planned, λ j _. omega arith, demand_fits, omega arith, refl, refl, refl, refl, refl, refl, omega arith, refl)
+reached_by_twins =
+    (three, two_streams, no_others, last_two, last_first, three_legal, three_planned, λ j _. omega arith, demand_fits, omega arith, refl, refl, refl, refl, refl, refl, omega arith, refl)

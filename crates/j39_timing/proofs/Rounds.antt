@@ -4,7 +4,8 @@ use Rattle.std.proofs.Math.Nat.{div-add-mod, mod-lt, mul-le-mul_left}
 use Rattle.std.proofs.lemmas.Bool.{cases_eq, cases_lt, eqb-true, le-ltb, lt-ltb, true≢false}
 use Rattle.j39_timing.specs.TimedFrames.{IsLegal}
 use Rattle.j39_timing.specs.Traffic.{AreQueuedBehind, AreSteady, IsPlannedTraffic, may_share}
-use Rattle.j39_timing.specs.Rounds.{AreSenders, Senders, all_planned, in_rounds, begins_message, nothing_else, of_rounds, stream_of, traffic_of_rounds, turn_of, sender_of}
+use Rattle.j39_timing.specs.Rounds.{AreSenders, Senders, all_planned, in_rounds, begins_message, nothing_else, of_rounds, stream_of, traffic_of_rounds, turn_of}
+use Rattle.j39_timing.specs.Rounds.{sender_of}
 use Rattle.j39_timing.proofs.Demands.{nothing_wanted}
 
 -- of two numbers with one rest the larger one has a larger quotient

@@ -1,5 +1,6 @@
 -- What streams can queue in a window.
-use Rattle.std.proofs.Common.{◌≡◌, ◌≢◌, ℕ, zero, suc, ◌+◌, ◌*◌, ◌-◌, ◌<◌, ◌≤◌, ◌⊎◌, Bool, true, false, cond, ◌&&◌, eqb, ltb, leb, refl, sym, subst, arith, inl, inr}
+use Rattle.std.proofs.Common.{◌≡◌, ◌≢◌, ℕ, zero, suc, ◌+◌, ◌*◌, ◌-◌, ◌<◌, ◌≤◌, ◌⊎◌, Bool, true, false, cond, ◌&&◌, eqb, ltb, leb, refl, sym, subst, arith, inl}
+use Rattle.std.proofs.Common.{inr}
 use Rattle.std.proofs.lemmas.Bool.{and_parts, and_from, cases_lt, cases_eq, cases_Bool, le-leb, lt-ltb, leb-true, ltb-true, eqb-true, eq-eqb}
 use Rattle.j39_timing.specs.Sums.{total}
 use Rattle.j39_timing.specs.TimedFrames.{Schedule, demand}
@@ -176,7 +177,8 @@ module _ (s : Schedule) (c count : ℕ) (stream : ℕ → Stream) (of : Origins)
   first_turns : (j k t span m : ℕ) → span + jitter j ≤ k * (stream j).period
       → total s.count (λ p. cond (of_turns j m t span p) (s.bits p) 0) ≤ m * (k * (stream j).bits)
   first_turns j k t span zero le =
-      let none : total s.count (λ p. cond (of_turns j 0 t span p) (s.bits p) 0) ≡ 0 = total-none s.count (λ p. cond (of_turns j 0 t span p) (s.bits p) 0) (λ p in_p.
+      let none : total s.count (λ p. cond (of_turns j 0 t span p) (s.bits p) 0) ≡ 0 =
+      total-none s.count (λ p. cond (of_turns j 0 t span p) (s.bits p) 0) (λ p in_p.
       elim (cases_Bool (of_turns j 0 t span p)) [
         | inl is ↦
             let rest = (and_parts (is_of j p) (ltb (of.turn p) 0 && inside t span (s.queued p)) is).1 in
@@ -248,7 +250,8 @@ module _ (s : Schedule) (c count : ℕ) (stream : ℕ → Stream) (of : Origins)
         → total s.count (λ p. cond (of_first k t span p) (s.bits p) 0) ≤ total k most
     unfolding total
     first_streams zero each =
-        let none : total s.count (λ p. cond (of_first 0 t span p) (s.bits p) 0) ≡ 0 = total-none s.count (λ p. cond (of_first 0 t span p) (s.bits p) 0) (λ p in_p.
+        let none : total s.count (λ p. cond (of_first 0 t span p) (s.bits p) 0) ≡ 0 =
+        total-none s.count (λ p. cond (of_first 0 t span p) (s.bits p) 0) (λ p in_p.
         elim (cases_Bool (of_first 0 t span p)) [
           | inl is ↦
               let rest = (and_parts (ltb (s.ident p) c) (ltb (of.source p) 0 && inside t span (s.queued p)) is).1 in

@@ -48,7 +48,8 @@ module _ (v : Vehicle) (is : IsKnown v) where
   bits_in_order b m n below = lt_of_mul-lt-mul_left (v.bus b).clock.unit (omega arith)
 
   -- releases of a stream that is handed on are apart on its bus too
-  later_there : (b i p q : ℕ) → v.direct b i ≡ true → IsIts (carrier v b i) p → IsIts (carrier v b i) q → (v.bus b).release p + v.apart b i ≤ (v.bus b).release q
+  later_there : (b i p q : ℕ) → v.direct b i ≡ true → IsIts (carrier v b i) p → IsIts (carrier v b i) q
+      → (v.bus b).release p + v.apart b i ≤ (v.bus b).release q
       → (v.bus b).of.since p + (stream_at v b i).period ≤ (v.bus b).of.since q
   later_there b i p q direct its other apart =
       let handed = is.handed b i direct in
@@ -135,7 +136,8 @@ module _ (v : Vehicle) (is : IsKnown v) where
           let by : ℕ = (v.bus a).schedule.queued x + v.wait a k + 1 in
           let seen : by ≤ (v.bus a).schedule.now = let now = begun.1 in omega arith in
           let long : 1 ≤ (v.bus a).schedule.bits x = is.some_bits a x begun.0.0 in
-          let order : time_of (v.bus a).clock by ≤ end_time (input_at v b i) x = in_time_order a by ((v.bus a).schedule.start x + (v.bus a).schedule.bits x) (omega arith) in
+          let order : time_of (v.bus a).clock by ≤ end_time (input_at v b i) x =
+          in_time_order a by ((v.bus a).schedule.start x + (v.bus a).schedule.bits x) (omega arith) in
           let streams = kept_until t a by kept apart (let end = ended in omega arith) in
           is.input_begun b i by direct seen streams x begun.0.0 begun.0.1 begun.0.2 (omega arith)
     ]
@@ -144,7 +146,8 @@ module _ (v : Vehicle) (is : IsKnown v) where
     x_behind =
         let start = in_time in
         let source : source_of a x ≡ k = begun.0.2 in
-        let small : (v.bus a).schedule.bits x ≤ (stream_at v a k).bits = subst (λ j. (v.bus a).schedule.bits x ≤ (stream_at v a j).bits) source (is.bits_at_most a x (begun.0.0, begun.0.1)) in
+        let small : (v.bus a).schedule.bits x ≤ (stream_at v a k).bits =
+        subst (λ j. (v.bus a).schedule.bits x ≤ (stream_at v a j).bits) source (is.bits_at_most a x (begun.0.0, begun.0.1)) in
         let end : end_time (input_at v b i) x ≤ time_of (v.bus a).clock ((v.bus a).schedule.queued x + (v.wait a k + (stream_at v a k).bits)) =
         in_time_order a ((v.bus a).schedule.start x + (v.bus a).schedule.bits x) ((v.bus a).schedule.queued x + (v.wait a k + (stream_at v a k).bits)) (omega arith) in
         elim (cases_Bool (v.direct a k)) [
@@ -198,8 +201,10 @@ module _ (v : Vehicle) (is : IsKnown v) where
   own_apart b i p q its other differ single own =
       let source : source_of b p ≡ i = its.2 in
       let of_p : v.direct b (source_of b p) ≡ false = subst (λ j. v.direct b j ≡ false) (sym source) own in
-      let turn_p : (v.bus b).of.turn p < (stream_at v b i).frames = subst (λ j. (v.bus b).of.turn p < (stream_at v b j).frames) source (is.turns b p (its.0, its.1)) in
-      let turn_q : (v.bus b).of.turn q < (stream_at v b i).frames = subst (λ j. (v.bus b).of.turn q < (stream_at v b j).frames) other.2 (is.turns b q (other.0, other.1)) in
+      let turn_p : (v.bus b).of.turn p < (stream_at v b i).frames =
+      subst (λ j. (v.bus b).of.turn p < (stream_at v b j).frames) source (is.turns b p (its.0, its.1)) in
+      let turn_q : (v.bus b).of.turn q < (stream_at v b i).frames =
+      subst (λ j. (v.bus b).of.turn q < (stream_at v b j).frames) other.2 (is.turns b q (other.0, other.1)) in
       let one : (stream_at v b i).frames ≡ 1 = single in
       let at_p : (v.bus b).release p ≡ time_of (v.bus b).clock ((v.bus b).of.since p) = is.own_release b p (its.0, its.1) of_p in
       let at_q : (v.bus b).release q ≡ time_of (v.bus b).clock ((v.bus b).of.since q) =

@@ -72,7 +72,8 @@ pub record IsKnown (v : Vehicle) : Type 0 where
   pub own_first : (b p : ℕ) → IsPlannedOn (v.bus b) p → v.direct b ((v.bus b).of.source p) ≡ false → (v.bus b).of.since p ≤ (v.bus b).schedule.queued p
   pub own_jitter : (b p : ℕ) → IsPlannedOn (v.bus b) p → v.direct b ((v.bus b).of.source p) ≡ false
       → (v.bus b).schedule.queued p ≤ (v.bus b).of.since p + (stream_at v b ((v.bus b).of.source p)).jitter
-  pub own_release : (b p : ℕ) → IsPlannedOn (v.bus b) p → v.direct b ((v.bus b).of.source p) ≡ false → (v.bus b).release p ≡ time_of (v.bus b).clock ((v.bus b).of.since p)
+  pub own_release : (b p : ℕ) → IsPlannedOn (v.bus b) p → v.direct b ((v.bus b).of.source p) ≡ false
+      → (v.bus b).release p ≡ time_of (v.bus b).clock ((v.bus b).of.since p)
   pub own_spaced : (b p q : ℕ) → IsPlannedOn (v.bus b) p → IsPlannedOn (v.bus b) q → p ≢ q → v.direct b ((v.bus b).of.source p) ≡ false
       → (v.bus b).of.source p ≡ (v.bus b).of.source q → (v.bus b).of.turn p ≡ (v.bus b).of.turn q
       → ((v.bus b).of.since p + (stream_at v b ((v.bus b).of.source p)).period ≤ (v.bus b).of.since q)

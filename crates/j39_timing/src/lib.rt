@@ -1,6 +1,6 @@
-//! How long frames wait on a CAN bus: the bits of frames, schedules, and the worst-case response time of a frame beside streams of others
-//! (Davis, Burns, Bril, Lukkien: Controller Area Network (CAN) schedulability analysis, Real-Time Systems 35, 2007).
-//! Time is counted in bits.
+//! How long frames wait on a CAN bus: the bits of frames, schedules, and the worst-case response time of a frame beside
+//! streams of others (Davis, Burns, Bril, Lukkien: Controller Area Network (CAN) schedulability analysis, Real-Time
+//! Systems 35, 2007). Time is counted in bits.
 #![tactic(auto)]
 
 mod frame_length;

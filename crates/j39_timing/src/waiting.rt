@@ -1,7 +1,8 @@
 //! The least wait of a frame.
 ghost use Rattle.std.specs.Prelude.{◌≡◌, ℕ, ◌+◌, ◌*◌, ◌<◌, ◌≤◌, ◌^◌, length, map, All, sum_by, IfSome, None};
 ghost use Rattle.j39_timing.specs.LeastShares.{NoneFitsFrom};
-ghost use Rattle.j39_timing.specs.Waits.{IsStream, IsWanted, as_demand, demand_of, frames_wanted, lesser_share, share, need, NoShorterFits};
+ghost use Rattle.j39_timing.specs.Waits.{IsStream, IsWanted, as_demand, demand_of, frames_wanted, lesser_share, share};
+ghost use Rattle.j39_timing.specs.Waits.{need, NoShorterFits};
 
 use crate::lines::stretch_of_all;
 use crate::stream::Stream;
@@ -77,10 +78,11 @@ fn first_allowed(all: &[Wanted], blocking: u32, streams: &[Stream], wait: u32, s
     allowed.min(stretch.until)
 }
 
-/// The length of the busy window of a frame up to its start: the least wait, of at most `most` bits, that has room for `blocking` bits
-/// (the longest frame that may have begun before, and what else isn't a stream's) and for all that the streams, which may go before
-/// the frame, can queue meanwhile, where this is wanted of some of them. A frame that is queued in the very bit in which the wait ends counts.
-/// None where no such wait has room. With the bits of the frame itself it is the worst-case response time (Davis and others 2007).
+/// The length of the busy window of a frame up to its start: the least wait, of at most `most` bits, that has room for
+/// `blocking` bits (the longest frame that may have begun before, and what else isn't a stream's) and for all that the
+/// streams, which may go before the frame, can queue meanwhile, where this is wanted of some of them. A frame that is
+/// queued in the very bit in which the wait ends counts. None where no such wait has room. With the bits of the frame
+/// itself it is the worst-case response time (Davis and others 2007).
 pub fn least_wait(wanted: &[Wanted], blocking: u32, streams: &[Stream], most: u32) -> Option<u32>
     requires positive { All IsStream streams.now }
     requires few { length streams.now ≤ 2048 }
@@ -96,7 +98,8 @@ pub fn least_wait(wanted: &[Wanted], blocking: u32, streams: &[Stream], most: u3
         if needed <= u64::from(wait) {
             return Some(wait);
         }
-        // parts of the bus count for streams that come in eight times what this wait lacks: of others they are less than is queued
+        // parts of the bus count for streams that come in eight times what this wait lacks: of others they are less
+        // than is queued
         let step = (needed - u64::from(wait)).saturating_mul(8);
         let allowed = first_allowed(wanted, blocking, streams, wait, step);
         let next = u128::from(needed).max(allowed);

@@ -5,8 +5,8 @@ ghost use Rattle.j39_timing.specs.Waits.{IsWant, IsWanted, as_demand, frames_of_
 
 use crate::lines::Line;
 
-/// Messages of at most `frames` frames that are wanted again and again. The releases of two are at least `period` bits apart, which isn't 0,
-/// and each is wanted at most `jitter` bits after its release.
+/// Messages of at most `frames` frames that are wanted again and again. The releases of two are at least `period` bits
+/// apart, which isn't 0, and each is wanted at most `jitter` bits after its release.
 #[derive(Clone, Copy, Debug, PartialEq, Eq)]
 pub struct Want {
     pub frames: u16,
@@ -34,7 +34,8 @@ fn frames_of_want(want: Want, span: u64) -> u64
     u64::from(want.frames) * messages
 }
 
-// The bits that it asks for at least in each time from `span` bits on: a message, and its part of the bus where one is wanted in each
+// The bits that it asks for at least in each time from `span` bits on: a message, and its part of the bus where one is
+// wanted in each
 // `step` bits; else what it asks for in `span` bits.
 fn want_line(want: Want, bits: u16, step: u64, span: u64) -> Line
     requires want { IsWant want }

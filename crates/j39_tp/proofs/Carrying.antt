@@ -84,7 +84,8 @@ undisturbed_before : (h : List Packet) (kind : ReceptionKind) (pgn start from to
 undisturbed_before h kind pgn start from to le u = λ j p lo hi e. u j p lo (omega arith) e
 
 -- the session stands until the next packet comes
-waits : (h : List Packet) (kind : ReceptionKind) (pgn size limit k start from to : ℕ) (bytes : List ℕ) → IsAt h (suc from) (Open (session kind pgn size limit k)) bytes
+waits : (h : List Packet) (kind : ReceptionKind) (pgn size limit k start from to : ℕ) (bytes : List ℕ)
+    → IsAt h (suc from) (Open (session kind pgn size limit k)) bytes
     → start ≤ from → from < to → Awaits h kind (suc k) from to → IsUndisturbed h kind pgn start to → IsAt h to (Open (session kind pgn size limit k)) bytes
 waits h kind pgn size limit k start from to bytes at le less a u =
     let e : suc from + (to - suc from) ≡ to = omega arith in
@@ -93,7 +94,8 @@ waits h kind pgn size limit k start from to bytes at le less a u =
     (λ j lo hi. awaited_passes h kind pgn (suc k) j from to start a u (omega arith) (omega arith) (omega arith)))
 
 -- a packet that isn't the last
-takes_more : (h : List Packet) (kind : ReceptionKind) (pgn size limit k q : ℕ) (bytes chunk : List ℕ) → slice_get h q ≡ Some (Dt (suc k) chunk) → suc k < packets_of size
+takes_more : (h : List Packet) (kind : ReceptionKind) (pgn size limit k q : ℕ) (bytes chunk : List ℕ) → slice_get h q ≡ Some (Dt (suc k) chunk)
+    → suc k < packets_of size
     → IsAt h q (Open (session kind pgn size limit k)) bytes → IsAt h (suc q) (Open (session kind pgn size limit (suc k))) (take size (bytes ++ chunk))
 takes_more h kind pgn size limit k q bytes chunk e less at =
     let same : (suc k == k + 1) ≡ true = eq-eqb (suc k) (k + 1) (sym (add-one k)) in
@@ -133,7 +135,8 @@ reaches_after h kind start zero place chunks r = let e : place ≡ start = r.0 i
 reaches_after h kind start (suc k) place chunks r = let le = reaches_after h kind start k r.0 r.1 r.3 in let less : r.0 < place = r.4 in omega arith
 
 -- the session once packet k was heard
-walked : (h : List Packet) (kind : ReceptionKind) (pgn size limit start k place : ℕ) (chunks : List ℕ) → IsAt h (suc start) (Open (session kind pgn size limit 0)) []
+walked : (h : List Packet) (kind : ReceptionKind) (pgn size limit start k place : ℕ) (chunks : List ℕ)
+    → IsAt h (suc start) (Open (session kind pgn size limit 0)) []
     → k < packets_of size → Reaches h kind start k place chunks → IsUndisturbed h kind pgn start place
     → IsAt h (suc place) (Open (session kind pgn size limit k)) (take size chunks)
 walked h kind pgn size limit start zero place chunks at less r u = rw (r.0, r.1, take-nil size) at

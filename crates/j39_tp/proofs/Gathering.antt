@@ -7,7 +7,8 @@ use Rattle.std.proofs.lemmas.Bool.{cases_order, eqb-false, leb-true}
 use Rattle.std.proofs.lemmas.Option.{slice_get_within}
 use Rattle.j39_tp.specs.Chunks.{IsSize, packets_of}
 use Rattle.j39_tp.specs.Packets.{InRange}
-use Rattle.j39_tp.specs.Receiver.{Receiving, hears, receives, gives_up, timed_out, times_out, grown, bytes_at, message_of, opened, one_more_held, asks, completed}
+use Rattle.j39_tp.specs.Receiver.{Receiving, hears, receives, gives_up, timed_out, times_out, grown, bytes_at, message_of, opened, one_more_held, asks}
+use Rattle.j39_tp.specs.Receiver.{completed}
 use Rattle.j39_tp.specs.Receiver.{going_on, takes_data, takes_next, takes_later, is_complete, is_directed}
 use Rattle.j39_tp.specs.Carried.{Announces, MayPass, Awaits, Leaves, IsUndisturbed, Carried}
 use Rattle.j39_tp.specs.Gathered.{Reaches, Gathered, Gathers, HoldsCarried}
@@ -390,7 +391,8 @@ last_carried h r bytes chunk last g =
       bytes = rw (g.bytes_are) (take_again r.size g.chunks chunk);
     }
 
-pub last_received : (s : Receiving) (p : Packet) (r : Reception) (chunk : List ℕ) → s.progress ≡ Open r → p ≡ Dt (suc r.held) chunk → suc r.held ≡ packets_of r.size
+pub last_received : (s : Receiving) (p : Packet) (r : Reception) (chunk : List ℕ) → s.progress ≡ Open r → p ≡ Dt (suc r.held) chunk
+    → suc r.held ≡ packets_of r.size
     → ((receives s p).progress ≡ Complete r.pgn) × ((receives s p).bytes ≡ take r.size (s.bytes ++ chunk))
 last_received s p r chunk o q last =
     let done : hears s.manner s.progress p ≡ (Complete r.pgn, completed s.manner r.kind r) = rw (o, q) (last_heard s.manner r chunk last) in

@@ -63,7 +63,8 @@ later_holds (Answering window) Directed r number =
     holds_if (number == r.granted) _ _ r.held (asks_if (nat_lt r.asked 2) _ _ r.held refl tt) refl
 
 -- a packet after those that are held, which isn't the last
-next_holds : (m : Manner) (r : Reception) → Holds (if r.held + 1 == r.granted then going_on m r.kind (one_more_held r) else (Open (one_more_held r), heard.Nothing)).0
+next_holds : (m : Manner) (r : Reception)
+    → Holds (if r.held + 1 == r.granted then going_on m r.kind (one_more_held r) else (Open (one_more_held r), heard.Nothing)).0
     (r.held + 1)
 next_holds m r = holds_if (r.held + 1 == r.granted) _ _ (r.held + 1) (going_holds m r.kind (one_more_held r)) refl
 

@@ -29,7 +29,8 @@ use Rattle.j39_world.specs.declared.flow.Flow.{Flow}
 use Rattle.j39_world.specs.declared.wired.Wired.{Wired}
 use Rattle.j39_world.specs.declared.wired.Wired.TheVariants as wired
 use Rattle.j39_world.specs.SwitchingOff.{switched_off}
-use Rattle.j39_world.specs.ClaimSteps.{GivenFrom, answer_items, asked as asks, asking_items, first_items, heard_and_answered, switched_on, told_to_others, without_lists_to}
+use Rattle.j39_world.specs.ClaimSteps.{GivenFrom, answer_items, asked as asks, asking_items, first_items, heard_and_answered, switched_on, told_to_others}
+use Rattle.j39_world.specs.ClaimSteps.{without_lists_to}
 use Rattle.j39_world.specs.Flows.{dest_of, flow_of, flows_of, is_short, windows_of}
 use Rattle.j39_world.specs.Opening.{AreNamesDistinct}
 use Rattle.j39_network.specs.PlannedUnits.{unit_at, units_of}
@@ -159,7 +160,8 @@ module _ (plan : Plan) (distinct : AreNamesDistinct (units_of plan)) (own : Have
   destination_below (One v) = source_below (w.stations v) (inv.standing.1 v)
 
   -- a step that tells nothing of addresses
-  silent_step : (more : List Sent) (new : List Sent) → new ≡ w.frames ++ more → ((tail : List Frame) → map sent_of tail ≡ more → AllByRecursion TellsNothing tail)
+  silent_step : (more : List Sent) (new : List Sent) → new ≡ w.frames ++ more
+      → ((tail : List Frame) → map sent_of tail ≡ more → AllByRecursion TellsNothing tail)
       → (log : List Frame) → map sent_of log ≡ new → (u a : ℕ) → (unit_at units u).claims ≡ true → (w.stations u).on ≡ true
       → (w.stations u).address ≡ Some a
       → HoldsByFrames log (name u) a ⊎ IsStillToHear w.claims u a

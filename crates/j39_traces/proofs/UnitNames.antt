@@ -1,5 +1,6 @@
 -- The unit of a planned NAME, where no two units have one.
-use Rattle.std.proofs.Common.{◌≡◌, ◌≢◌, ℕ, zero, suc, ◌+◌, ◌<◌, ◌==◌, ◌&&◌, ◌^◌, ◌%◌, ◌/◌, Bool, true, false, not, List, [], ◌∷◌, length, map, Option, Some, None, inl, inr, refl, sym, ap, ◌∙◌, arith, eqb-true}
+use Rattle.std.proofs.Common.{◌≡◌, ◌≢◌, ℕ, zero, suc, ◌+◌, ◌<◌, ◌==◌, ◌&&◌, ◌^◌, ◌%◌, ◌/◌, Bool, true, false, not, List, [], ◌∷◌, length, map, Option, Some}
+use Rattle.std.proofs.Common.{None, inl, inr, refl, sym, ap, ◌∙◌, arith, eqb-true}
 use Rattle.std.specs.FinSet.{FinSet}
 use Rattle.std.specs.List.{slice_get}
 use Rattle.std.specs.Option.{option_or}

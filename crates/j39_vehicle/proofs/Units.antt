@@ -28,7 +28,8 @@ is_of (n ∷ ns) t = rw (is_of ns t)
 is_elsewhere : (gs : List GatewayTable) (t : List ℕ)
     → is_text_among (all_units (map named_gateway gs)) t ≡ list_any (λ g. list_any (λ n. bytes_eq (string_bytes n.text) t) g.units.items) gs
 is_elsewhere [] t = refl
-is_elsewhere (g ∷ gs) t = rw (is_among_both (map (λ n. string_bytes n.text) g.units.items) (all_units (map named_gateway gs)) t, is_of g.units.items t, is_elsewhere gs t) refl
+is_elsewhere (g ∷ gs) t =
+    rw (is_among_both (map (λ n. string_bytes n.text) g.units.items) (all_units (map named_gateway gs)) t, is_of g.units.items t, is_elsewhere gs t) refl
 
 is_before : (vs : List Value) (t : List ℕ) → is_text_among (texts_in (items_view vs)) t ≡ list_any (λ v. bytes_eq (text_in (view v)) t) vs
 is_before [] t = refl

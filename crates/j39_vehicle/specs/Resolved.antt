@@ -24,7 +24,8 @@ use Rattle.j39_vehicle.specs.declared.vehicle.forward.ForwardedSignal.{Forwarded
 use Rattle.j39_vehicle.specs.declared.vehicle.vehicle_need.VehicleNeed.{VehicleNeed}
 use Rattle.j39_tables.specs.TableFaults.{fault}
 use Rattle.j39_vehicle.specs.LabelsSeen.{label_faults}
-use Rattle.j39_vehicle.specs.LabelsFound.{unit_labelled, unit_place, group_named, group_place, signal_place, receivers_on, gateway_labelled, units_by, own_unit, is_given_found}
+use Rattle.j39_vehicle.specs.LabelsFound.{unit_labelled, unit_place, group_named, group_place, signal_place, receivers_on, gateway_labelled, units_by, own_unit}
+use Rattle.j39_vehicle.specs.LabelsFound.{is_given_found}
 
 -- the faults of all tables of a kind from the i-th on
 unfoldable pub each_found : {S : Type 0} → (ℕ → S → List VehicleFault) → ℕ → List S → List VehicleFault

@@ -66,7 +66,8 @@ struct Arrays<'a> {
 fn top_arrays(members: &toml::Table) -> Result<Arrays<'_>, VehicleError>
     ensures { Gives result (top_faults (table_view members.now)) (λ a. let ms = table_view members.now in
         (items_view a.buses.now ≡ elements_at Key.Bus ms) × (items_view a.gateways.now ≡ elements_at Key.Gateway ms)
-        × (items_view a.forwards.now ≡ elements_at Key.Forward ms) × (items_view a.needs.now ≡ elements_at Key.Need ms)) }
+        × (items_view a.forwards.now ≡ elements_at Key.Forward ms)
+        × (items_view a.needs.now ≡ elements_at Key.Need ms)) }
 {
     only(members, Table::Top, &TOP_KEYS)?;
     number(members, Table::Top, Key::Version, 1, 1, true)?;
@@ -105,9 +106,9 @@ fn read_top(alloc: Global, members: &toml::Table) -> Result<VehicleFile, Vehicle
     })
 }
 
-/// What a vehicle file says: TOML of UTF-8 bytes, with at most 16 buses, 64 gateways of 128 units each, 512 forwards of 64 signals each,
-/// and 4096 needs. Labels of gateways, buses and units of gateways are those of the file; other units, groups and signals aren't looked
-/// for, since they stand in the plans of the buses.
+/// What a vehicle file says: TOML of UTF-8 bytes, with at most 16 buses, 64 gateways of 128 units each, 512 forwards of
+/// 64 signals each, and 4096 needs. Labels of gateways, buses and units of gateways are those of the file; other units,
+/// groups and signals aren't looked for, since they stand in the plans of the buses.
 ///
 /// Refuses bytes that are no TOML text, and else the first fault, in the order of the file's tables and keys. Takes no
 /// memory of bytes that are no UTF-8, or white space and comments alone.

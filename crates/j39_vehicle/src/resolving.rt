@@ -23,8 +23,8 @@ use std::alloc::Global;
 
 /// The vehicle that a file describes with the plans of its buses.
 ///
-/// Refuses the first label that names nothing in these: a unit of a gateway; of a forward a group, a unit, or a signal; of a need a unit, a
-/// group, or a signal. A repeated signal is none that can be named.
+/// Refuses the first label that names nothing in these: a unit of a gateway; of a forward a group, a unit, or a signal;
+/// of a need a unit, a group, or a signal. A repeated signal is none that can be named.
 #[tactic(auto, using(j39_tables::proofs::FirstFaults::faults_after))]
 pub fn resolve(
     alloc: Global,

@@ -1,7 +1,8 @@
 //! The lines of forwards.
 ghost use Rattle.std.specs.Prelude.{◌≡◌, ◌++◌, Some, None, OnOk};
 ghost use Rattle.j39_load.specs.LineLists.{lines_of_each};
-ghost use Rattle.j39_vehicle_check.specs.ForwardLines.{queued_text_where, forward_line, forward_lines, forward_text, output_jitter, queued_text};
+ghost use Rattle.j39_vehicle_check.specs.ForwardLines.{queued_text_where, forward_line, forward_lines, forward_text};
+ghost use Rattle.j39_vehicle_check.specs.ForwardLines.{output_jitter, queued_text};
 
 use crate::labels::{gateway_label, write_group_at};
 use j39_ages::{Delays, first_output, is_late_asked, jitter_of, queued, us_of_ms};

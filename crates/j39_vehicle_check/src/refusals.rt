@@ -1,6 +1,7 @@
 //! Why a vehicle file is refused.
 ghost use Rattle.std.specs.Prelude.{◌≡◌, ◌++◌, IfOk, OnOk};
-ghost use Rattle.j39_vehicle_check.specs.VehicleFileText.{IsVehicleRefusal, vehicle_fault_line, vehicle_key_text, vehicle_table_text};
+ghost use Rattle.j39_vehicle_check.specs.VehicleFileText.{IsVehicleRefusal, vehicle_fault_line, vehicle_key_text};
+ghost use Rattle.j39_vehicle_check.specs.VehicleFileText.{vehicle_table_text};
 
 use j39_text::TextBuffer;
 use j39_vehicle::{FileError, Key, Table, VehicleError, VehicleFault};

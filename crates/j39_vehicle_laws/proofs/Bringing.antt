@@ -27,7 +27,8 @@ use Rattle.j39_paths.specs.declared.point.FlowAt.{FlowAt}
 use Rattle.j39_paths.specs.declared.point.Point.{Point}
 use Rattle.j39_forwards.specs.Forwards.{AreOneValue}
 use Rattle.j39_forwards.proofs.Forwards.{among_whole}
-use Rattle.j39_vehicle_laws.specs.Carrying.{AreAllCopies, AreAllExact, Brings, BringsAnother, EachForward, GoesBy, another, group_of_point, is_exact, itself, more, none, nothing, signal_at}
+use Rattle.j39_vehicle_laws.specs.Carrying.{AreAllCopies, AreAllExact, Brings, BringsAnother, EachForward, GoesBy, another, group_of_point, is_exact, itself}
+use Rattle.j39_vehicle_laws.specs.Carrying.{more, none, nothing, signal_at}
 use Rattle.j39_vehicle_laws.specs.Faithful.{KeepsContents, signal_of}
 use Rattle.j39_vehicle_laws.specs.Reading.{HasNoValue, IsUnset, reading}
 use Rattle.j39_vehicle_laws.specs.Unaltered.{WasBegunBy, IsUnaltered, ReadsAsOrigin}

@@ -44,7 +44,8 @@ pub record ComesClaiming (joined : Plan) (u : ℕ) : Type 0 where
       → (unit_at (units_of joined) v).preferred ≢ (unit_at (units_of joined) u).preferred
   pub silent : EachOther (units_of joined) u (λ v. (unit_at (units_of joined) v).claims ≡ false
       → (unit_at (units_of joined) v).preferred ≢ (unit_at (units_of joined) u).preferred)
-  pub fixed : is_arbitrary (unit_at (units_of joined) u).name ≡ false → EachOther (units_of joined) u (λ v. is_arbitrary (unit_at (units_of joined) v).name ≡ false
+  pub fixed : is_arbitrary (unit_at (units_of joined) u).name ≡ false
+      → EachOther (units_of joined) u (λ v. is_arbitrary (unit_at (units_of joined) v).name ≡ false
       → (unit_at (units_of joined) v).preferred ≢ (unit_at (units_of joined) u).preferred)
 
 -- one that comes and never claims: no other unit is planned at its address, and none moves there

@@ -1,4 +1,5 @@
-//! Lengths of frames, and waits that were counted by hand: eight-byte frames at 250,000 bits a second, where 10 ms are 2,500 bits.
+//! Lengths of frames, and waits that were counted by hand: eight-byte frames at 250,000 bits a second, where 10 ms are
+//! 2,500 bits.
 use j39_timing::{
     Stream, a_bound_is_reached, a_bound_of_a_queue_group_is_reached, a_bus_with_errors_is_legal,
     ages_are_bounded, broadcasts_can_be_sent, frame_bits, frames_behind_one_another_are_in_time,

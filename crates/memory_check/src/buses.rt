@@ -82,8 +82,8 @@ fn are_alike(first: &Bus, second: &Bus) -> bool {
         && first.reports() == second.reports()
 }
 
-// Does the steps on two buses of these choosers. A step that wants memory leaves its bus like the other, and is done again.
-// (The buses have one way out, since each way drops them.)
+// Does the steps on two buses of these choosers. A step that wants memory leaves its bus like the other, and is done
+// again. (The buses have one way out, since each way drops them.)
 fn are_done(
     alloc: Global,
     plan: &Plan,

@@ -10,8 +10,8 @@ fn has_sizes(plan: &Plan, sizes: (usize, usize, usize)) -> bool {
     (plan.units.len(), plan.groups.len(), plan.flows.len()) == sizes
 }
 
-/// Whether the row's plan is found clean where its check is Done, and else comes back: also where memory was wanted, and it
-/// is then checked again.
+/// Whether the row's plan is found clean where its check is Done, and else comes back: also where memory was wanted,
+/// and it is then checked again.
 pub fn comes_back(alloc: Global, row: &Row) -> Result<bool, AllocError> {
     let plan = match read_plan(alloc, row.plan.as_bytes()) {
         Ok(plan) => plan,

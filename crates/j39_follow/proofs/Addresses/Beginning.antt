@@ -1,5 +1,6 @@
 -- The contest that a claim begins.
-use Rattle.std.proofs.Common.{◌≡◌, ◌<◌, ℕ, ◌||◌, not, nat_lt, Bool, true, false, if◌then◌else◌, List, Option, Some, None, is_some, inl, inr, refl, sym, ap, subst, ◌∙◌}
+use Rattle.std.proofs.Common.{◌≡◌, ◌<◌, ℕ, ◌||◌, not, nat_lt, Bool, true, false, if◌then◌else◌, List, Option, Some, None, is_some, inl, inr, refl, sym, ap}
+use Rattle.std.proofs.Common.{subst, ◌∙◌}
 use Rattle.std.proofs.lemmas.Bool.{cases_Bool, or_cases, lt-ltb, ltb-true, false≢true, not-true}
 use Rattle.std.proofs.lemmas.Option.{none-some}
 use Rattle.j39_id.specs.Addresses.{in_pool}
@@ -11,7 +12,8 @@ use Rattle.j39_follow.specs.Who.{IsSameParty}
 use Rattle.j39_follow.specs.declared.address.claim.Claim.{Claim}
 use Rattle.j39_follow.specs.declared.address.contest.Contention.{Contention}
 use Rattle.j39_follow.specs.declared.address.contest.Contest.{Contest}
-use Rattle.j39_follow.specs.inside.Contesting.{IsBegun, IsClaimAt, IsGuess, IsMet, contest_with, is_defended, is_place, remaining_of, running_of, smaller_of, opponent_of}
+use Rattle.j39_follow.specs.inside.Contesting.{IsBegun, IsClaimAt, IsGuess, IsMet, contest_with, is_defended, is_place, remaining_of, running_of, smaller_of}
+use Rattle.j39_follow.specs.inside.Contesting.{opponent_of}
 use Rattle.j39_follow.specs.inside.Hearing.{is_same_party}
 use Rattle.j39_follow.proofs.Addresses.Contending.{defended_so, left_so, one_guess, one_met, place_some, run_so, some_place, run_then, undefended}
 use Rattle.j39_follow.proofs.Addresses.Heard.{party_again, party_same}

@@ -7,7 +7,8 @@ use Rattle.std.proofs.lemmas.Option.{none-some, same_Some}
 use Rattle.j39_id.specs.FrameMeaning.{cannot_claim, claims_address, name_in}
 use Rattle.j39_id.specs.declared.frame.Frame.{Frame}
 use Rattle.j39_network.specs.declared.plan.Plan.{Plan}
-use Rattle.j39_follow.specs.Contests.{Begins, BeginsNone, Defends, EndsContest, IsContention, IsContentionBehind, IsContestBehind, IsGuessed, IsTakenBehind, Leads, Opposes, Runs, Timed, claim_wait, frames_of, likely_named, nothing_contended}
+use Rattle.j39_follow.specs.Contests.{Begins, BeginsNone, Defends, EndsContest, IsContention, IsContentionBehind, IsContestBehind, IsGuessed, IsTakenBehind}
+use Rattle.j39_follow.specs.Contests.{Leads, Opposes, Runs, Timed, claim_wait, frames_of, likely_named, nothing_contended}
 use Rattle.j39_follow.specs.Holders.{Claims}
 use Rattle.j39_follow.specs.Who.{IsLikeliest, IsSameParty}
 use Rattle.j39_follow.specs.declared.address.claim.Claim.{Claim}

@@ -19,7 +19,8 @@ use Rattle.j39_follow.specs.declared.address.contest.Contest.{Contest}
 use Rattle.j39_follow.specs.declared.address.contests.Contests.{Contests}
 use Rattle.j39_follow.specs.declared.address.who.Who.{Who}
 use Rattle.j39_follow.specs.declared.address.who.Who.TheVariants.{Holder, Stranger, Likely, LikelyStranger, Unknown}
-use Rattle.j39_follow.specs.inside.Contesting.{AreClaimants, AreContests, IsDefender, IsGuess, IsLikelyName, IsNameAt, contention_at, defender_in, is_heard, is_lasting, taken_party}
+use Rattle.j39_follow.specs.inside.Contesting.{AreClaimants, AreContests, IsDefender, IsGuess, IsLikelyName, IsNameAt, contention_at, defender_in, is_heard}
+use Rattle.j39_follow.specs.inside.Contesting.{is_lasting, taken_party}
 use Rattle.j39_follow.proofs.Addresses.Claimed.{known_still}
 use Rattle.j39_follow.proofs.Addresses.Contending.{contention_on, one_contention, runs_at, silent_behind}
 use Rattle.j39_follow.proofs.Addresses.Knowing.{timed_more}

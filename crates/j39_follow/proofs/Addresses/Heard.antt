@@ -15,7 +15,8 @@ use Rattle.j39_tp.specs.Receiver.{Receiving, fresh, receives}
 use Rattle.j39_tp.specs.declared.receiving.manner.Manner.TheVariants.{Listening}
 use Rattle.j39_tp.specs.declared.packet.Packet.{Packet}
 use Rattle.j39_follow.specs.FollowText.{HeardSince, OneChangesHands, frames_seen}
-use Rattle.j39_follow.specs.inside.Hearing.{AreReplaced, HaveHeardOneMore, HaveHeardSince, differs_at, is_changed, is_same_number, is_same_party, listener_between}
+use Rattle.j39_follow.specs.inside.Hearing.{AreReplaced, HaveHeardOneMore, HaveHeardSince, differs_at, is_changed, is_same_number, is_same_party}
+use Rattle.j39_follow.specs.inside.Hearing.{listener_between}
 use Rattle.j39_follow.specs.Who.{ChangesHands, IsSameParty, stranger_of, unit_of}
 use Rattle.j39_follow.specs.declared.address.who.Who.{Who}
 use Rattle.j39_follow.specs.inside.Recounting.{ArePartiesOf, party_at}

@@ -1,5 +1,6 @@
 -- Where units stand, by a table of holders.
-use Rattle.std.proofs.Common.{◌≡◌, ◌⊎◌, ◌==◌, ◌<◌, ◌≤◌, ◌+◌, ℕ, zero, suc, true, false, List, [], ◌∷◌, ◌++◌, length, codes, Option, Some, None, inl, inr, refl, sym, ap, subst, ◌∙◌, arith, eqb-true}
+use Rattle.std.proofs.Common.{◌≡◌, ◌⊎◌, ◌==◌, ◌<◌, ◌≤◌, ◌+◌, ℕ, zero, suc, true, false, List, [], ◌∷◌, ◌++◌, length, codes, Option, Some, None, inl, inr, refl}
+use Rattle.std.proofs.Common.{sym, ap, subst, ◌∙◌, arith, eqb-true}
 use Rattle.std.specs.List.{slice_get}
 use Rattle.std.proofs.lemmas.Bool.{cases_Bool, cases_order, eqb-false, true≢false}
 use Rattle.std.proofs.lemmas.Option.{slice_get_within, none-some, same_Some}

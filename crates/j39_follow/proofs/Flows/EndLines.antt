@@ -9,7 +9,8 @@ use Rattle.j39_network.specs.declared.plan.group_plan.GroupPlan.{GroupPlan}
 use Rattle.j39_network.specs.declared.plan.need_plan.NeedPlan.{NeedPlan}
 use Rattle.j39_network.specs.declared.plan.request_plan.RequestPlan.{RequestPlan}
 use Rattle.j39_network.specs.declared.plan.unit_plan.UnitPlan.{UnitPlan}
-use Rattle.j39_follow.specs.FollowText.{AreUnitLines, IsUnitLine, flow_end, flow_ends, group_end, group_ends, is_of_flow, is_without_flow, others_of_number, rest_line, flow_sent_line}
+use Rattle.j39_follow.specs.FollowText.{AreUnitLines, IsUnitLine, flow_end, flow_ends, group_end, group_ends, is_of_flow, is_without_flow, others_of_number}
+use Rattle.j39_follow.specs.FollowText.{rest_line, flow_sent_line}
 use Rattle.j39_follow.specs.FollowText.{met_by, need_end, need_ends, need_met_line, request_end, request_end_line, request_ends, times_met}
 use Rattle.j39_follow.specs.LoggedRequests.{times_answered, times_asked}
 use Rattle.j39_follow.specs.declared.request.event.Event.{Event}
@@ -80,7 +81,8 @@ unfolding need_ends
 needs_from plan sent needs k d more = let next = drop_more needs k d more in rw next refl
 
 pub one_more_need : (plan : Plan) (sent : List Sort) (needs : List NeedPlan) (old new all : List ℕ) (k times : ℕ) (need : NeedPlan)
-    → k < length needs → need ≡ get_or needs k need → times ≡ times_met plan.requests.items sent need 0 plan.flows.items → new ≡ old ++ need_met_line plan k need times
+    → k < length needs → need ≡ get_or needs k need → times ≡ times_met plan.requests.items sent need 0 plan.flows.items → new ≡ old
+    ++ need_met_line plan k need times
     → old ++ need_ends plan sent k (drop k needs) ≡ all → new ++ need_ends plan sent (k + 1) (drop (k + 1) needs) ≡ all
 one_more_need plan sent needs old new all k times need more here count written before =
     let rest : List ℕ = need_ends plan sent (k + 1) (drop (k + 1) needs) in

@@ -3,7 +3,8 @@ use Rattle.std.proofs.Common.{◌≡◌, ℕ, ◌+◌, ◌-◌, ◌<◌, ◌≤�
 use Rattle.std.proofs.Common.{inl, inr, refl, sym, ap, subst, ◌∙◌, arith}
 use Rattle.std.specs.List.{AllPass, AllWithin}
 use Rattle.std.proofs.lemmas.Bool.{both_ways, cases_order}
-use Rattle.std.proofs.lemmas.List.{drop_at, get_or-append_right, get_or-drop, get_or-take, get_or_append_left, length-append, length-drop, length-take-le, take-append-drop, take_at}
+use Rattle.std.proofs.lemmas.List.{drop_at, get_or-append_right, get_or-drop, get_or-take, get_or_append_left, length-append, length-drop, length-take-le}
+use Rattle.std.proofs.lemmas.List.{take-append-drop, take_at}
 use Rattle.j39_id.specs.FrameLine.{is_separator}
 use Rattle.j39_follow.specs.LogLines.{IsFirstWord}
 

@@ -1,5 +1,6 @@
 -- What a frame tells of requests.
-use Rattle.std.proofs.Common.{◌≡◌, ◌≤◌, ◌+◌, ◌&&◌, ℕ, Bool, true, false, if◌then◌else◌, List, [], ◌∷◌, ◌++◌, length, map, Option, Some, None, refl, sym, ap, subst, ◌∙◌, arith, append_assoc}
+use Rattle.std.proofs.Common.{◌≡◌, ◌≤◌, ◌+◌, ◌&&◌, ℕ, Bool, true, false, if◌then◌else◌, List, [], ◌∷◌, ◌++◌, length, map, Option, Some, None, refl, sym, ap}
+use Rattle.std.proofs.Common.{subst, ◌∙◌, arith, append_assoc}
 use Rattle.std.specs.Prelude.{option_map, is_some}
 use Rattle.std.specs.Option.{option_to_list}
 use Rattle.std.proofs.lemmas.List.{length-append}
@@ -9,8 +10,10 @@ use Rattle.j39_id.specs.declared.frame.Frame.{Frame}
 use Rattle.j39_network.specs.declared.plan.Plan.{Plan}
 use Rattle.j39_id.specs.FrameMeaning.{requested_group, requests_group}
 use Rattle.j39_follow.specs.Contests.{IsTaken, Timed}
-use Rattle.j39_follow.specs.FollowReports.{AreEventsOf, IsAnswerWay, IsAsked, IsSendingOf, aim_at, answer_aim, answer_way_text, in_frame, is_to_all, notice_events, reply_of, frame_events}
-use Rattle.j39_follow.specs.LoggedRequests.{acknowledged_group, acknowledges, asked_request, asker_address, is_refusal, counted_number as number_of, asker_or_source}
+use Rattle.j39_follow.specs.FollowReports.{AreEventsOf, IsAnswerWay, IsAsked, IsSendingOf, aim_at, answer_aim, answer_way_text, in_frame, is_to_all}
+use Rattle.j39_follow.specs.FollowReports.{notice_events, reply_of, frame_events}
+use Rattle.j39_follow.specs.LoggedRequests.{acknowledged_group, acknowledges, asked_request, asker_address, is_refusal, counted_number as number_of}
+use Rattle.j39_follow.specs.LoggedRequests.{asker_or_source}
 use Rattle.j39_follow.specs.Who.{unit_of}
 use Rattle.j39_follow.specs.declared.request.event.Event.{Event}
 use Rattle.j39_follow.specs.declared.request.event.Event.TheVariants.{Asked, Brought, Refused}

@@ -193,7 +193,8 @@ part_grown p all_frames past line part named next text (inl a) = record {
 part_grown p all_frames past line part named next text (inr fault) =
     subst (λ (r : FollowedPast). Grown past r) (sym fault.2) (passed_grown fault.0 past)
 
-line_grown : (p : Plan) (all_frames : Bool) (past : FollowedPast) (line : Line) (next : FollowedPast) (text : List ℕ) → FollowsLine p all_frames past line next text
+line_grown : (p : Plan) (all_frames : Bool) (past : FollowedPast) (line : Line) (next : FollowedPast) (text : List ℕ)
+    → FollowsLine p all_frames past line next text
     → Grown past next
 line_grown p all_frames past (Short line) next text follows = elim follows.4 [
   | inl away ↦ record {
@@ -211,7 +212,8 @@ line_grown p all_frames past Long next text follows = record {
   timed = ap (λ (r : FollowedPast). frames_of r.timed) follows.0 ∙ sym (append-nil (frames_of past.timed));
 }
 
-lines_grown : (p : Plan) (all_frames : Bool) (past : FollowedPast) (all : List Line) (end : FollowedPast) (text : List ℕ) → FollowsLines p all_frames past all end text
+lines_grown : (p : Plan) (all_frames : Bool) (past : FollowedPast) (all : List Line) (end : FollowedPast) (text : List ℕ)
+    → FollowsLines p all_frames past all end text
     → Grown past end
 lines_grown p all_frames past [] end text follows = subst (λ (r : FollowedPast). Grown past r) (sym follows.0) (kept past)
 lines_grown p all_frames past (line ∷ all) end text follows =

@@ -22,7 +22,8 @@ use Rattle.j39_text.specs.Labels.{unit_label}
 use Rattle.j39_text.specs.Texts.{field}
 use Rattle.j39_follow.specs.Contests.{IsTaken, Timed, frames_of}
 use Rattle.j39_follow.specs.Fits.{IsSentGroup, MayBeGroup, fits, fits_all, fitting_flow, is_unit}
-use Rattle.j39_follow.specs.FollowReports.{AreEventsOf, IsAnswerWay, IsAsked, IsBareText, IsGroupOfMessage, IsGrouped, IsMessageReport, IsNotice, IsSendingOf, IsWay, Message}
+use Rattle.j39_follow.specs.FollowReports.{AreEventsOf, IsAnswerWay, IsAsked, IsBareText, IsGroupOfMessage, IsGrouped, IsMessageReport, IsNotice, IsSendingOf}
+use Rattle.j39_follow.specs.FollowReports.{IsWay, Message}
 use Rattle.j39_follow.specs.FollowReports.{answer_aim, frame_line, answer_line, answer_way_text, asked_line, cannot_line, cannot_text, claim_line, claim_text}
 use Rattle.j39_follow.specs.FollowReports.{identity_text, in_frame, is_to_all, message_line, named_text, notice_events, notice_text, refusal_events, reply_of}
 use Rattle.j39_follow.specs.Holders.{ClaimsOrCannot}
@@ -221,7 +222,8 @@ module _ (G : ℕ → Type 0) (p q : Plan) (same : TellAlike G p q) (log : List 
             a.text_is
             ∙ ap (λ (t : List ℕ). codes " from " ++ (t ++ (codes " to " ++ (if asker_or_source p f == global_address then codes "all"
             else who_text p a.asker (asker_or_source p f))))) (same_who_text G p q same a.sender f.ident.sa)
-            ∙ ap (λ (t : List ℕ). codes " from " ++ (who_text q a.sender f.ident.sa ++ (codes " to " ++ (if asker_or_source p f == global_address then codes "all"
+            ∙ ap (λ (t : List ℕ). codes " from "
+            ++ (who_text q a.sender f.ident.sa ++ (codes " to " ++ (if asker_or_source p f == global_address then codes "all"
             else t)))) (same_who_text G p q same a.asker (asker_or_source p f))
             ∙ ap (λ (address : ℕ). answer_way_text q a.sender f.ident.sa a.asker address) told;
       }

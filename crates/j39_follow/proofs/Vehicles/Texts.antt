@@ -68,7 +68,8 @@ module _ (plan vehicle : Plan) (is : IsVehicleOf plan vehicle) (apart : AreDisti
   alike : TellAlike Given plan vehicle
   alike = tell_alike plan vehicle is apart
 
-  followed : (all_frames : Bool) (log numbered alone : List ℕ) (outcome : Verdict) → IsLogOfVehicle plan vehicle all_frames log → All IsSendable plan.groups.items
+  followed : (all_frames : Bool) (log numbered alone : List ℕ) (outcome : Verdict) → IsLogOfVehicle plan vehicle all_frames log
+      → All IsSendable plan.groups.items
       → IsFollowedLog plan all_frames log numbered → IsFollowText vehicle all_frames log alone outcome
       → (Done ≡ outcome) × DifferInNumbers plan log numbered alone
   followed all_frames log numbered alone outcome given sendable a other =
@@ -98,7 +99,8 @@ module _ (plan vehicle : Plan) (is : IsVehicleOf plan vehicle) (apart : AreDisti
         },
       )
 
-  refused : (all_frames : Bool) (log numbered alone : List ℕ) (outcome : Verdict) → IsFollowText plan all_frames log numbered Refused → IsFollowText vehicle all_frames log alone outcome
+  refused : (all_frames : Bool) (log numbered alone : List ℕ) (outcome : Verdict) → IsFollowText plan all_frames log numbered Refused
+      → IsFollowText vehicle all_frames log alone outcome
       → (Refused ≡ outcome) × DifferInNumbers plan log numbered alone
   unfolding with_numbers without_numbers lines
   refused all_frames log numbered alone outcome a other =

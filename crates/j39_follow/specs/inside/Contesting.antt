@@ -10,7 +10,8 @@ use Rattle.j39_id.specs.declared.ident.Ident.{Ident}
 use Rattle.j39_network.specs.declared.plan.Plan.{Plan}
 use Rattle.j39_network.specs.declared.plan.unit_plan.UnitPlan.{UnitPlan}
 use Rattle.j39_id.specs.FrameMeaning.{claims_address}
-use Rattle.j39_follow.specs.Contests.{Begins, BeginsNone, ClaimedLast, IsContention, IsContested, IsGuessed, IsTaken, Opposes, Timed, claim_wait, frames_of, likely_named, nothing_contended}
+use Rattle.j39_follow.specs.Contests.{Begins, BeginsNone, ClaimedLast, IsContention, IsContested, IsGuessed, IsTaken, Opposes, Timed, claim_wait, frames_of}
+use Rattle.j39_follow.specs.Contests.{likely_named, nothing_contended}
 use Rattle.j39_follow.specs.Holders.{Claims}
 use Rattle.j39_follow.specs.LoggedRequests.{asker_or_source}
 use Rattle.j39_follow.specs.declared.address.claim.Claim.{Claim}

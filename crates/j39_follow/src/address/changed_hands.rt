@@ -5,7 +5,8 @@ ghost use Rattle.j39_tp.specs.Receiver.{fresh};
 ghost use Rattle.j39_tp.specs.declared.receiving.manner.Manner.TheVariants.{Listening};
 ghost use Rattle.j39_follow.specs.Who.{stranger_of};
 ghost use Rattle.j39_follow.specs.Holders.{IsHolder};
-ghost use Rattle.j39_follow.specs.inside.Hearing.{AreReplaced, is_changed, is_same_number, is_same_party as is_one_party, listener_between};
+ghost use Rattle.j39_follow.specs.inside.Hearing.{AreReplaced, is_changed, is_same_number};
+ghost use Rattle.j39_follow.specs.inside.Hearing.{is_same_party as is_one_party, listener_between};
 
 use crate::address::who::Who;
 use j39_id::{Frame, carried_name, claims_address};

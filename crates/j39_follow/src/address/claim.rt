@@ -2,7 +2,8 @@
 ghost use Rattle.std.specs.Prelude.{◌≡◌, ◌<◌, nat_lt, List, Option, Some, None, if◌then◌else◌};
 ghost use Rattle.j39_network.specs.declared.plan.Plan.{Plan as APlan};
 ghost use Rattle.j39_follow.specs.Contests.{IsContentionBehind, IsContestBehind, IsTakenBehind, Timed, frames_of};
-ghost use Rattle.j39_follow.specs.inside.Contesting.{IsBegun, IsClaimAt, IsMet, contest_with as contest_of, defends_in, is_defended, is_place, smaller_of, opponent_of};
+ghost use Rattle.j39_follow.specs.inside.Contesting.{IsBegun, IsClaimAt, IsMet, contest_with as contest_of, defends_in};
+ghost use Rattle.j39_follow.specs.inside.Contesting.{is_defended, is_place, smaller_of, opponent_of};
 ghost use Rattle.j39_follow.specs.inside.Recounting.{Knows};
 
 use crate::address::changed_hands::is_same_party;
@@ -63,7 +64,8 @@ fn in_the_way(holder: u64, claimant: u64, is_defence: bool) -> Option<u64>
 
 // The NAME that a claim meets: one that holds the address, or is guessed there.
 fn opponent(plan: &Plan, directory: &Directory, kept: Option<Contest>, claim: Claim) -> Option<u64>
-    ensures { (before : List Timed) (x : Timed) → Knows plan.now directory.now (frames_of before) → IsClaimAt plan.now before x claim
+    ensures { (before : List Timed) (x : Timed) → Knows plan.now directory.now (frames_of before)
+        → IsClaimAt plan.now before x claim
         → IsMet plan.now before kept x claim result }
 {
     match directory.holder(claim.address) {
@@ -95,7 +97,8 @@ fn contest_with(
 
 // The contest that a claim begins.
 fn begun(plan: &Plan, directory: &Directory, old: Contention, claim: Claim) -> Option<Contest>
-    ensures { (before : List Timed) (x : Timed) → Knows plan.now directory.now (frames_of before) → IsClaimAt plan.now before x claim
+    ensures { (before : List Timed) (x : Timed) → Knows plan.now directory.now (frames_of before)
+        → IsClaimAt plan.now before x claim
         → IsBegun plan.now before old x claim.address result }
 {
     let Some(since) = claim.time else {
@@ -125,7 +128,8 @@ fn is_name(holder: Option<u64>, name: u64) -> bool
 
 // When the address was taken, behind a claim of it.
 fn taken_behind(directory: &Directory, old: Contention, claim: Claim) -> Option<u64>
-    ensures { (plan : APlan) (before : List Timed) (x : Timed) → Knows plan directory.now (frames_of before) → IsClaimAt plan before x claim
+    ensures { (plan : APlan) (before : List Timed) (x : Timed) → Knows plan directory.now (frames_of before)
+        → IsClaimAt plan before x claim
         → IsTakenBehind plan before old x claim.address result }
 {
     if is_name(directory.holder(claim.address), claim.name) {
@@ -138,14 +142,16 @@ fn taken_behind(directory: &Directory, old: Contention, claim: Claim) -> Option<
     }
 }
 
-// The contest that is kept at an address behind a claim of it: the one that it begins, or the one from before that it doesn't end.
+// The contest that is kept at an address behind a claim of it: the one that it begins, or the one from before that it
+// doesn't end.
 fn contest_behind(
     plan: &Plan,
     directory: &Directory,
     old: Contention,
     claim: Claim,
 ) -> Option<Contest>
-    ensures { (before : List Timed) (x : Timed) → Knows plan.now directory.now (frames_of before) → IsClaimAt plan.now before x claim
+    ensures { (before : List Timed) (x : Timed) → Knows plan.now directory.now (frames_of before)
+        → IsClaimAt plan.now before x claim
         → IsContestBehind plan.now before old x claim.address result }
 {
     match begun(plan, directory, old, claim) {
@@ -161,7 +167,8 @@ pub(crate) fn contention_behind(
     old: Contention,
     claim: Claim,
 ) -> Contention
-    ensures { (before : List Timed) (x : Timed) → Knows plan.now directory.now (frames_of before) → IsClaimAt plan.now before x claim
+    ensures { (before : List Timed) (x : Timed) → Knows plan.now directory.now (frames_of before)
+        → IsClaimAt plan.now before x claim
         → IsContentionBehind plan.now before old x claim.address result }
 {
     let taken = taken_behind(directory, old, claim);

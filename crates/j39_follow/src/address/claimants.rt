@@ -44,7 +44,8 @@ impl Claimants {
 
     /// Notes what is known of a NAME.
     pub fn note(&mut self, name: u64, claimant: Claimant) -> Result<(), AllocError>
-        ensures { OnOk result ((n : ℕ) → known_in self.new n ≡ (if name == n then Some claimant else known_in self.old n)) }
+        ensures { OnOk result ((n : ℕ)
+            → known_in self.new n ≡ (if name == n then Some claimant else known_in self.old n)) }
     {
         match self.known.insert(name, claimant) {
             Ok(_) => Ok(()),

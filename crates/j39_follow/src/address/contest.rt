@@ -1,7 +1,8 @@
 //! A contest for an address.
 ghost use Rattle.std.specs.Prelude.{◌≡◌};
 ghost use Rattle.j39_follow.specs.Contests.{nothing_contended};
-ghost use Rattle.j39_follow.specs.inside.Contesting.{defender_in, is_heard as can_be_heard, is_lasting as lasts_at, remaining_of, running_of};
+ghost use Rattle.j39_follow.specs.inside.Contesting.{defender_in, is_heard as can_be_heard, is_lasting as lasts_at};
+ghost use Rattle.j39_follow.specs.inside.Contesting.{remaining_of, running_of};
 
 use crate::address::changed_hands::is_same_party;
 use crate::address::who::Who;
@@ -9,8 +10,8 @@ use crate::address::who::Who;
 // How long a unit waits behind its claim of an address of the pool, in microseconds.
 const CLAIM_WAIT: u64 = 250_000;
 
-/// A contest for an address: who defends it, the time of the claim that began it, and when the one that defends it took the address, where it
-/// has the larger NAME and may be silent itself. Times are in microseconds.
+/// A contest for an address: who defends it, the time of the claim that began it, and when the one that defends it took
+/// the address, where it has the larger NAME and may be silent itself. Times are in microseconds.
 #[derive(Clone, Copy)]
 pub(crate) struct Contest {
     pub defender: Who,

@@ -1,10 +1,12 @@
 //! Contests for addresses.
-ghost use Rattle.std.specs.Prelude.{◌≡◌, ◌<◌, ◌==◌, ◌||◌, if◌then◌else◌, [], ◌∷◌, ◌++◌, ℕ, List, None, OnOk, true, is_some};
+ghost use Rattle.std.specs.Prelude.{◌≡◌, ◌<◌, ◌==◌, ◌||◌, if◌then◌else◌, [], ◌∷◌, ◌++◌, ℕ, List, None, OnOk, true};
+ghost use Rattle.std.specs.Prelude.{is_some};
 ghost use Rattle.j39_network.specs.declared.plan.Plan.{Plan as APlan};
 ghost use Rattle.j39_id.specs.FrameMeaning.{cannot_claim, claims_address, name_in};
 ghost use Rattle.j39_follow.specs.Contests.{IsContentionBehind, Timed, frames_of};
 ghost use Rattle.j39_follow.specs.LogLines.{moment_of};
-ghost use Rattle.j39_follow.specs.inside.Contesting.{AreContests, AreRemaining, IsClaimant, claimed_place, contention_at, defender_at};
+ghost use Rattle.j39_follow.specs.inside.Contesting.{AreContests, AreRemaining, IsClaimant, claimed_place};
+ghost use Rattle.j39_follow.specs.inside.Contesting.{contention_at, defender_at};
 ghost use Rattle.j39_follow.specs.inside.Recounting.{Knows};
 
 use crate::address::claim::{Claim, contention_behind};
@@ -40,7 +42,8 @@ fn leave_contests(table: &mut [Contention; ADDRESSES], party: Who)
 
 // Puts what is known of one address in its place.
 fn put_contention(table: &mut [Contention; ADDRESSES], address: u8, new: Contention)
-    ensures { (a : ℕ) → a < 256 → contention_at table.new a ≡ (if address == a then new else contention_at table.old a) }
+    ensures { (a : ℕ) → a < 256
+        → contention_at table.new a ≡ (if address == a then new else contention_at table.old a) }
 {
     table[usize::from(address)] = new;
 }
@@ -58,7 +61,8 @@ fn note_contests(
     requires either { (claims_address frame.now || cannot_claim frame.now) ≡ true }
     requires name { name_in frame.now ≡ name }
     ensures { (log : List Timed) (address : ℕ) → address < 256 → Knows plan.now directory.now (frames_of log)
-        → IsClaimant plan.now (frames_of log) name claimant → IsContentionBehind plan.now log (contention_at table.old address)
+        → IsClaimant plan.now (frames_of log) name claimant
+        → IsContentionBehind plan.now log (contention_at table.old address)
         (record { frame = frame.now; time = time }) address (contention_at table.new address) }
 {
     let address = frame.ident.sa;
@@ -112,7 +116,8 @@ impl Contests {
         }
     }
 
-    /// Notes a frame that claims an address or tells that a NAME can't, on a line with this time: what it ends and begins.
+    /// Notes a frame that claims an address or tells that a NAME can't, on a line with this time: what it ends and
+    /// begins.
     pub fn hear(
         &mut self,
         plan: &Plan,
@@ -121,7 +126,8 @@ impl Contests {
         time: Option<u64>,
     ) -> Result<(), AllocError>
         requires { (claims_address frame.now || cannot_claim frame.now) ≡ true }
-        ensures { OnOk result ((log : List Timed) → Knows plan.now directory.now (frames_of log) → AreContests plan.now self.old log
+        ensures { OnOk result ((log : List Timed) → Knows plan.now directory.now (frames_of log)
+            → AreContests plan.now self.old log
             → AreContests plan.now self.new (log ++ record { frame = frame.now; time = time } ∷ [])) }
     {
         let name = carried_name(frame).to_bits();

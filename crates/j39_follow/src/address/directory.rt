@@ -15,7 +15,8 @@ use j39_network::Plan;
 use j39_text::TextBuffer;
 use std::alloc::Global;
 
-/// Who stands behind each address, by the frames that were heard, and the texts of it as long as no memory was refused to them.
+/// Who stands behind each address, by the frames that were heard, and the texts of it as long as no memory was refused
+/// to them.
 #[derive(Drop)]
 pub(crate) struct Directory {
     alloc: Global,

@@ -1,5 +1,6 @@
 //! Which NAME holds which address.
-ghost use Rattle.std.specs.Prelude.{◌≡◌, ◌≢◌, ◌<◌, ◌≤◌, ◌+◌, ◌++◌, ◌∷◌, [], ℕ, List, Option, Some, None, true, false, length, slice_set, IfSome};
+ghost use Rattle.std.specs.Prelude.{◌≡◌, ◌≢◌, ◌<◌, ◌≤◌, ◌+◌, ◌++◌, ◌∷◌, [], ℕ, List, Option, Some, None, true, false};
+ghost use Rattle.std.specs.Prelude.{length, slice_set, IfSome};
 ghost use Rattle.std.specs.List.{slice_get};
 ghost use Rattle.j39_id.specs.Addresses.{null_address};
 ghost use Rattle.j39_id.specs.Limits.{unit_limit};
@@ -8,7 +9,8 @@ ghost use Rattle.j39_network.specs.declared.plan.Plan.{Plan as APlan};
 ghost use Rattle.j39_network.specs.declared.plan.unit_plan.UnitPlan.{UnitPlan as AUnitPlan};
 ghost use Rattle.j39_follow.specs.Holders.{IsHolder, ClaimsOrCannot};
 ghost use Rattle.j39_follow.specs.Who.{is_name_of as is_of_unit, unit_of_name};
-ghost use Rattle.j39_follow.specs.inside.Recounting.{HasNameAt, IsHeldByUnit, IsLatestBelow, IsLeft, IsMarked, IsMoved, Recounts, claimed_at, is_marked};
+ghost use Rattle.j39_follow.specs.inside.Recounting.{HasNameAt, IsHeldByUnit, IsLatestBelow, IsLeft, IsMarked, IsMoved};
+ghost use Rattle.j39_follow.specs.inside.Recounting.{Recounts, claimed_at, is_marked};
 
 use crate::address::who::unit_named;
 use j39_id::addresses::NULL_ADDRESS;
@@ -19,8 +21,8 @@ use j39_network::{Plan, UnitPlan};
 // The addresses that units hold: 0 to 253.
 const ADDRESSES: usize = NULL_ADDRESS as usize;
 
-/// The NAME that holds each address, how many frames came before the claim of it, and the units of the plan of which something was told, by
-/// their places.
+/// The NAME that holds each address, how many frames came before the claim of it, and the units of the plan of which
+/// something was told, by their places.
 #[derive(Drop)]
 pub(crate) struct Holders {
     names: [Option<u64>; ADDRESSES],
@@ -140,7 +142,8 @@ impl Holders {
 
     /// The NAME that holds the address.
     pub fn holder(&self, address: u8) -> Option<u64>
-        ensures { (plan : APlan) (frames : List AFrame) → Recounts plan self.now frames → IsHolder frames address result }
+        ensures { (plan : APlan) (frames : List AFrame) → Recounts plan self.now frames
+            → IsHolder frames address result }
     {
         self.holder_at(usize::from(address))
     }
@@ -171,7 +174,8 @@ impl Holders {
         requires best { IfSome best (λ a. a < null_address) }
         requires there { address < null_address }
         ensures later { result ≡ true → (a : ℕ) → best ≡ Some a → claimed_at self.now a ≤ claimed_at self.now address }
-        ensures not { result ≡ false → (a : ℕ) × (best ≡ Some a) × (claimed_at self.now address ≤ claimed_at self.now a) }
+        ensures not { result ≡ false → (a : ℕ) × (best ≡ Some a)
+            × (claimed_at self.now address ≤ claimed_at self.now a) }
     {
         match best {
             Some(other) => self.is_in_order(other, address),

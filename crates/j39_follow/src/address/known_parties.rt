@@ -30,14 +30,16 @@ impl Parties {
 
     /// Who sent a frame.
     pub fn source(&self, ident: Ident) -> Who
-        ensures { (plan : APlan) (log : List Timed) → ShowsParties plan self.now log ident → IsTaken plan log ident.sa result }
+        ensures { (plan : APlan) (log : List Timed) → ShowsParties plan self.now log ident
+            → IsTaken plan log ident.sa result }
     {
         self.party(ident.sa)
     }
 
     /// Who is behind the address to which a frame goes.
     pub fn receiver(&self, ident: Ident) -> Who
-        ensures { (plan : APlan) (log : List Timed) → ShowsParties plan self.now log ident → IsTaken plan log ident.ps result }
+        ensures { (plan : APlan) (log : List Timed) → ShowsParties plan self.now log ident
+            → IsTaken plan log ident.ps result }
     {
         self.party(ident.ps)
     }

@@ -1,4 +1,5 @@
-//! The texts of who stands behind each address, kept from one report to the next as long as no memory is refused to them.
+//! The texts of who stands behind each address, kept from one report to the next as long as no memory is refused to
+//! them.
 ghost use Rattle.std.specs.Prelude.{◌≡◌, IfOk};
 ghost use Rattle.j39_follow.specs.Who.{who_text};
 ghost use Rattle.j39_follow.specs.inside.Recounting.{ArePartyNames};

@@ -1,7 +1,8 @@
 //! The texts of who stands behind an address.
 ghost use Rattle.std.specs.Prelude.{◌≡◌, ◌++◌, ℕ, List, OnOk, codes, if◌then◌else◌};
 ghost use Rattle.j39_follow.specs.Contests.{Timed};
-ghost use Rattle.j39_follow.specs.FollowReports.{IsWay, answer_way_text, identity_text, is_to_all as goes_to_all, named_text};
+ghost use Rattle.j39_follow.specs.FollowReports.{IsWay, answer_way_text, identity_text, is_to_all as goes_to_all};
+ghost use Rattle.j39_follow.specs.FollowReports.{named_text};
 ghost use Rattle.j39_follow.specs.Who.{name_text, party_text, who_text};
 ghost use Rattle.j39_follow.specs.inside.Contesting.{ShowsParties};
 ghost use Rattle.j39_follow.specs.inside.Recounting.{HasNames, party_at};
@@ -115,7 +116,8 @@ fn write_receiver(
     ident: Ident,
 ) -> Result<(), AllocError>
     ensures { OnOk result (HasNames plan.now parties.now.all parties.now.names → text.new ≡ text.old
-        ++ (codes " to " ++ (if goes_to_all ident then codes "all" else who_text plan.now (party_at parties.now.all ident.ps) ident.ps))) }
+        ++ (codes " to "
+        ++ (if goes_to_all ident then codes "all" else who_text plan.now (party_at parties.now.all ident.ps) ident.ps))) }
 {
     if is_to_all(ident) {
         text.word(" to all")

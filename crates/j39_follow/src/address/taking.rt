@@ -38,9 +38,12 @@ pub(crate) fn taken(
     asker: u8,
     time: Option<u64>,
 ) -> Parties
-    ensures source { party_at result.all ident.sa ≡ taken_party (party_at parties.now.all ident.sa) (defender_at contests.now ident.sa time) }
-    ensures receiver { party_at result.all ident.ps ≡ taken_party (party_at parties.now.all ident.ps) (defender_at contests.now ident.ps time) }
-    ensures asker { party_at result.all asker ≡ taken_party (party_at parties.now.all asker) (defender_at contests.now asker time) }
+    ensures source { party_at result.all ident.sa
+        ≡ taken_party (party_at parties.now.all ident.sa) (defender_at contests.now ident.sa time) }
+    ensures receiver { party_at result.all ident.ps
+        ≡ taken_party (party_at parties.now.all ident.ps) (defender_at contests.now ident.ps time) }
+    ensures asker { party_at result.all asker
+        ≡ taken_party (party_at parties.now.all asker) (defender_at contests.now asker time) }
     ensures names { result.names ≡ None }
 {
     let mut all = parties.all;

@@ -4,7 +4,8 @@ ghost use Rattle.j39_id.specs.declared.frame.Frame.{Frame as AFrame};
 ghost use Rattle.std.specs.List.{slice_get};
 ghost use Rattle.j39_network.specs.declared.plan.unit_plan.UnitPlan.{UnitPlan as AUnitPlan};
 ghost use Rattle.j39_follow.specs.Contests.{likely_named as likely_who};
-ghost use Rattle.j39_follow.specs.Who.{IsWho, MayHold, is_of_any as is_any, numbered_unit as first_numbered, unit_of_kind as first_of_kind, unit_of_name as first_named};
+ghost use Rattle.j39_follow.specs.Who.{IsWho, MayHold, is_of_any as is_any, numbered_unit as first_numbered};
+ghost use Rattle.j39_follow.specs.Who.{unit_of_kind as first_of_kind, unit_of_name as first_named};
 ghost use Rattle.j39_follow.specs.inside.Likeliest.{IsBelowBest, IsBestOf, IsNotBelow};
 ghost use Rattle.j39_follow.specs.inside.Recounting.{Recounts};
 
@@ -130,7 +131,8 @@ fn likelier(
 ) -> Option<usize>
     requires here { place < length plan.now.units.items }
     requires best { IfSome best (λ b. b < length plan.now.units.items) }
-    ensures best { (frames : List AFrame) → Recounts plan.now holders.now frames → IsBestOf plan.now place frames address best
+    ensures best { (frames : List AFrame) → Recounts plan.now holders.now frames
+        → IsBestOf plan.now place frames address best
         → IsBestOf plan.now (place + 1) frames address result }
     ensures there { IfSome result (λ b. b < length plan.now.units.items) }
 {

@@ -3,7 +3,9 @@ ghost use Rattle.std.specs.Prelude.{◌≡◌, ◌<◌, ◌++◌, ℕ, List, Som
 ghost use Rattle.std.specs.List.{slice_get};
 ghost use Rattle.j39_id.specs.Limits.{unit_limit};
 ghost use Rattle.j39_id.specs.declared.frame.Frame.{Frame as AFrame};
-ghost use Rattle.j39_follow.specs.FollowText.{AreUnitLines, IsUnitLine, flow_ends, group_ends, ends_text, is_first_of as comes_first, others_of_number as others, rest_line, flow_sent_line, to_text, unit_end_line};
+ghost use Rattle.j39_follow.specs.FollowText.{AreUnitLines, IsUnitLine, flow_ends, group_ends, ends_text};
+ghost use Rattle.j39_follow.specs.FollowText.{is_first_of as comes_first, others_of_number as others, rest_line};
+ghost use Rattle.j39_follow.specs.FollowText.{flow_sent_line, to_text, unit_end_line};
 ghost use Rattle.j39_text.specs.Texts.{field};
 ghost use Rattle.j39_follow.specs.declared.message.Sort.{Sort as ASort};
 ghost use Rattle.j39_follow.specs.inside.Recounting.{Recounts};
@@ -163,7 +165,8 @@ fn write_unit(
 // Writes where each unit stands.
 fn write_units(text: &mut TextBuffer, plan: &Plan, holders: &Holders) -> Result<(), AllocError>
     ensures { OnOk result ((frames : List AFrame) → Recounts plan.now holders.now frames
-        → (piece : List ℕ) × AreUnitLines plan.now frames 0 plan.now.units.items piece × (text.new ≡ text.old ++ piece)) }
+        → (piece : List ℕ) × AreUnitLines plan.now frames 0 plan.now.units.items piece
+        × (text.new ≡ text.old ++ piece)) }
 {
     for place in 0..plan.units.len() {
         write_unit(text, plan, holders, place, &plan.units[place])?;
@@ -178,7 +181,8 @@ pub(crate) fn write_endings(
     tally: &Tally,
     holders: &Holders,
 ) -> Result<(), AllocError>
-    ensures { OnOk result ((sent : List ASort) (frames : List AFrame) → IsTally plan.now tally.now sent → Recounts plan.now holders.now frames
+    ensures { OnOk result ((sent : List ASort) (frames : List AFrame) → IsTally plan.now tally.now sent
+        → Recounts plan.now holders.now frames
         → (units : List ℕ) × AreUnitLines plan.now frames 0 plan.now.units.items units
         × (text.new ≡ text.old ++ (flow_ends plan.now sent 0 plan.now.flows.items
         ++ (group_ends plan.now sent 0 plan.now.groups.items ++ units)))) }

@@ -4,7 +4,8 @@ ghost use Rattle.j39_network.specs.declared.plan.Plan.{Plan as APlan};
 ghost use Rattle.j39_id.specs.Pgn.{is_pdu2};
 ghost use Rattle.j39_log.specs.inside.ReportHeads.{report_head};
 ghost use Rattle.j39_follow.specs.Contests.{IsTaken, Timed};
-ghost use Rattle.j39_follow.specs.FollowReports.{IsMessageReport, IsSendingOf, IsWay, aim_at, flow_word, message_line, is_to_all as goes_to_all, priority_text, sent_text};
+ghost use Rattle.j39_follow.specs.FollowReports.{IsMessageReport, IsSendingOf, IsWay, aim_at, flow_word, message_line};
+ghost use Rattle.j39_follow.specs.FollowReports.{is_to_all as goes_to_all, priority_text, sent_text};
 ghost use Rattle.j39_follow.specs.Who.{unit_of};
 ghost use Rattle.j39_follow.specs.declared.flow.sending.Aim.TheVariants as aims;
 ghost use Rattle.j39_follow.specs.declared.address.who.Who.{Who as AWho};
@@ -46,7 +47,8 @@ fn is_unaddressed(message: Arrival<'_>) -> bool
 
 /// Who sent a message, to whom.
 pub(crate) fn sending_of(parties: &Parties, message: Arrival<'_>) -> Sending
-    ensures { (plan : APlan) (log : List Timed) → ShowsParties plan parties.now log message.entry.ident → IsSendingOf plan log (arrived_message message.entry) result }
+    ensures { (plan : APlan) (log : List Timed) → ShowsParties plan parties.now log message.entry.ident
+        → IsSendingOf plan log (arrived_message message.entry) result }
 {
     Sending {
         sender: parties.source(message.ident).unit(),
@@ -111,7 +113,8 @@ fn write_group_line(
     requires { head.now ≡ report_head group.now }
     ensures { OnOk result ((log : List Timed) → ShowsParties plan.now parties.now log message.entry.ident
         → (way : List ℕ) × IsWay plan.now log message.entry.ident way
-        × (text.new ≡ text.old ++ message_line group.now (front_of stamp.entry) way flow (arrived_message message.entry))) }
+        × (text.new ≡ text.old
+        ++ message_line group.now (front_of stamp.entry) way flow (arrived_message message.entry))) }
 {
     write_stamp(text, stamp)?;
     text.bytes(head)?;
@@ -128,7 +131,8 @@ pub(crate) fn write_message(
     message: Arrival<'_>,
 ) -> Result<Sort, AllocError>
     ensures { IfOk result (λ sort. (log : List Timed) → ShowsParties groups.now parties.now log message.entry.ident
-        → (piece : List ℕ) × IsMessageReport groups.now log (front_of stamp.entry) (arrived_message message.entry) sort piece
+        → (piece : List ℕ)
+        × IsMessageReport groups.now log (front_of stamp.entry) (arrived_message message.entry) sort piece
         × (text.new ≡ text.old ++ piece)) }
 {
     let sent = sending_of(parties, message);

@@ -31,7 +31,8 @@ fn met_by(
 
 // How often all flows together were sent that meet it.
 fn times_met(plan: &Plan, tally: &Tally, need: &NeedPlan) -> u128
-    ensures { (sent : List ASort) → IsTally plan.now tally.now sent → result ≡ times_sent plan.now.requests.items sent need.now 0 plan.now.flows.items }
+    ensures { (sent : List ASort) → IsTally plan.now tally.now sent
+        → result ≡ times_sent plan.now.requests.items sent need.now 0 plan.now.flows.items }
 {
     let mut times = 0;
     for place in 0..plan.flows.len() {

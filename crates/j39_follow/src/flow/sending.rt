@@ -4,7 +4,8 @@ ghost use Rattle.std.specs.List.{position};
 ghost use Rattle.j39_network.specs.declared.plan.flow_plan.FlowPlan.{FlowPlan as APlannedFlow};
 ghost use Rattle.j39_log.specs.inside.Listening.{HasAllOf};
 ghost use Rattle.j39_follow.specs.inside.Reporting.{is_all};
-ghost use Rattle.j39_follow.specs.Fits.{IsSentGroup, MayBeGroup, fits, fits_all, fitting_flow, is_for_all as goes_to_all, may_have_bytes, is_unit, reaches as is_reached};
+ghost use Rattle.j39_follow.specs.Fits.{IsSentGroup, MayBeGroup, fits, fits_all, fitting_flow};
+ghost use Rattle.j39_follow.specs.Fits.{is_for_all as goes_to_all, may_have_bytes, is_unit, reaches as is_reached};
 
 use j39_log::{Groups, Span};
 use j39_network::{FlowPlan, GroupPlan, To};
@@ -90,7 +91,8 @@ fn first_flow(groups: &Groups<'_>, group: usize, sent: Sending) -> Option<usize>
 
 // The first flow of a group that goes to all and fits what was sent, by its place; none before this one fits.
 fn flow_to_all(groups: &Groups<'_>, group: usize, sent: Sending, first: usize) -> Option<usize>
-    requires { (k : ℕ) (flow : APlannedFlow) → k < first → fits group sent (get_or groups.now.flows.items k flow) ≡ false }
+    requires { (k : ℕ) (flow : APlannedFlow) → k < first
+        → fits group sent (get_or groups.now.flows.items k flow) ≡ false }
     ensures { result ≡ position (fits_all group sent) groups.now.flows.items }
 {
     let plan = groups.plan();
@@ -114,7 +116,8 @@ fn flow_of_all(groups: &Groups<'_>, group: usize, sent: Sending, first: usize) -
     }
 }
 
-/// The flow of a group that what was sent is of, by its place: the first that fits and goes to all, else the first that fits.
+/// The flow of a group that what was sent is of, by its place: the first that fits and goes to all, else the first that
+/// fits.
 pub fn flow_of(groups: &Groups<'_>, group: usize, sent: Sending) -> Option<usize>
     ensures { result ≡ fitting_flow groups.now group sent }
 {
@@ -171,8 +174,8 @@ fn group_in(groups: &Groups<'_>, span: Span, pgn: u32, bytes: &[u8], sent: Sendi
     None
 }
 
-/// The group of these bytes of a number, by its place: the first that has so many and whose selector takes them, if it isn't private, or
-/// a flow of it fits.
+/// The group of these bytes of a number, by its place: the first that has so many and whose selector takes them, if it
+/// isn't private, or a flow of it fits.
 pub fn group_of(groups: &Groups<'_>, pgn: u32, bytes: &[u8], sent: Sending) -> Option<usize>
     ensures { IsSentGroup groups.now pgn bytes.now sent result }
 {

@@ -13,7 +13,8 @@ use j39_log::Groups;
 use j39_network::Plan;
 use j39_network::limits::{FLOW_LIMIT, GROUP_LIMIT};
 
-/// How often each flow was sent, each group without a flow, and at the first group of a number what else there was of the number.
+/// How often each flow was sent, each group without a flow, and at the first group of a number what else there was of
+/// the number.
 #[derive(Drop)]
 pub(crate) struct Tally {
     flows: [u64; FLOW_LIMIT],

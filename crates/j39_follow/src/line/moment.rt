@@ -3,7 +3,8 @@ ghost use Rattle.std.specs.Prelude.{◌≡◌, ◌==◌, ◌+◌, ◌<◌, ◌�
 ghost use Rattle.std.specs.Char.{is_ascii_digit};
 ghost use Rattle.std.specs.List.{list_all, position};
 ghost use Rattle.std.specs.Str.Parse.{digits_value};
-ghost use Rattle.j39_follow.specs.LogLines.{are_decimals as have_decimals, are_seconds as have_seconds, microseconds as many_microseconds, moment_of, time_with_point};
+ghost use Rattle.j39_follow.specs.LogLines.{are_decimals as have_decimals, are_seconds as have_seconds};
+ghost use Rattle.j39_follow.specs.LogLines.{microseconds as many_microseconds, moment_of, time_with_point};
 
 use crate::line::words::WHOLE_TIME;
 

@@ -1,8 +1,10 @@
 //! The words of a line.
-ghost use Rattle.std.specs.Prelude.{◌≡◌, ◌≢◌, ◌==◌, not, ◌-◌, ◌<◌, ◌≤◌, ◌↔◌, ℕ, List, length, slice_index, take, true, false, IfNone, IfSome, IsTrue};
+ghost use Rattle.std.specs.Prelude.{◌≡◌, ◌≢◌, ◌==◌, not, ◌-◌, ◌<◌, ◌≤◌, ◌↔◌, ℕ, List, length, slice_index, take, true};
+ghost use Rattle.std.specs.Prelude.{false, IfNone, IfSome, IsTrue};
 ghost use Rattle.std.specs.List.{All, AllPass, AllWithin, list_all};
 ghost use Rattle.j39_id.specs.FrameLine.{Spells, SplitsLast, is_separator as separates};
-ghost use Rattle.j39_follow.specs.LogLines.{BeginsWithTime, HasWord, IsDirection, IsFirstWord, IsMarkedLast, IsOfTime, IsTime};
+ghost use Rattle.j39_follow.specs.LogLines.{BeginsWithTime, HasWord, IsDirection, IsFirstWord, IsMarkedLast, IsOfTime};
+ghost use Rattle.j39_follow.specs.LogLines.{IsTime};
 ghost use Rattle.j39_follow.specs.inside.Splitting.{IsEnclosed, IsWordAt, IsDirectionLetter};
 
 use j39_id::{Frame, is_separator, split_last, words_end};
@@ -69,7 +71,8 @@ fn is_parted(front: &[u8]) -> bool
 /// What stands before the last word of a line, where this tells whether the frame was received or transmitted.
 pub(crate) fn before_direction(line: &[u8]) -> Option<&[u8]>
     ensures found { IfSome result (λ front. (word : List ℕ) × SplitsLast line.now front.now word × IsDirection word) }
-    ensures none { IfNone result ((front : List ℕ) (word : List ℕ) → SplitsLast line.now front word → ¬ IsDirection word) }
+    ensures none { IfNone result ((front : List ℕ) (word : List ℕ) → SplitsLast line.now front word
+        → ¬ IsDirection word) }
 {
     let stop = words_end(line);
     if stop == 0 {

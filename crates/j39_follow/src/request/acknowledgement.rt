@@ -3,7 +3,8 @@ ghost use Rattle.std.specs.Prelude.{◌≡◌, ◌++◌, ℕ, List, length, true
 ghost use Rattle.std.specs.Option.{option_copied};
 ghost use Rattle.j39_follow.specs.Contests.{Timed};
 ghost use Rattle.j39_follow.specs.FollowReports.{IsAnswerWay, answer_line, answer_text, answer_way_text};
-ghost use Rattle.j39_follow.specs.LoggedRequests.{acknowledged_group, acknowledges, asker_address, control_of, control_word, is_acknowledgement, is_refusal, asker_or_source};
+ghost use Rattle.j39_follow.specs.LoggedRequests.{acknowledged_group, acknowledges, asker_address, control_of};
+ghost use Rattle.j39_follow.specs.LoggedRequests.{control_word, is_acknowledgement, is_refusal, asker_or_source};
 ghost use Rattle.j39_follow.specs.inside.Contesting.{ShowsAsker, ShowsParties};
 ghost use Rattle.j39_follow.specs.inside.Recounting.{HasNames, party_at};
 ghost use Rattle.j39_follow.specs.inside.Reporting.{front_of};
@@ -123,7 +124,8 @@ pub(crate) fn write_acknowledgement(
 ) -> Result<(), AllocError>
     requires acknowledged { acknowledges plan.now frame.now ≡ true }
     requires eight { length frame.now.payload.items ≡ 8 }
-    ensures { OnOk result ((log : List Timed) → ShowsParties plan.now parties.now log frame.now.ident → ShowsAsker plan.now parties.now log frame.now
+    ensures { OnOk result ((log : List Timed) → ShowsParties plan.now parties.now log frame.now.ident
+        → ShowsAsker plan.now parties.now log frame.now
         → (way : List ℕ) × IsAnswerWay plan.now log frame.now way
         × (text.new ≡ text.old ++ answer_line (front_of stamp.entry) frame.now way)) }
 {

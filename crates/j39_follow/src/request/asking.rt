@@ -1,6 +1,7 @@
 //! What frames ask for, by the requests of the plan.
 ghost use Rattle.std.specs.Prelude.{◌≡◌, ◌<◌, ◌++◌, length, OnOk};
-ghost use Rattle.j39_follow.specs.LoggedRequests.{asked_number, asked_request, asked_text, is_aimed_so, is_asked_by, number_of_group};
+ghost use Rattle.j39_follow.specs.LoggedRequests.{asked_number, asked_request, asked_text, is_aimed_so, is_asked_by};
+ghost use Rattle.j39_follow.specs.LoggedRequests.{number_of_group};
 
 use crate::flow::sending::{Aim, Sending, is_sender};
 use j39_network::{Plan, RequestPlan, To};

@@ -2,8 +2,10 @@
 ghost use Rattle.std.specs.Prelude.{◌≡◌, ◌+◌, ◌^◌, ◌<◌, ◌∷◌, List, length, option_map};
 ghost use Rattle.std.specs.Option.{option_to_list};
 ghost use Rattle.j39_follow.specs.Contests.{Timed};
-ghost use Rattle.j39_follow.specs.FollowReports.{aim_at as aim_at_unit, answer_aim as aim_of_answer, notice_events, refusal_events, reply_of};
-ghost use Rattle.j39_follow.specs.LoggedRequests.{asked_request as asked_request_of, counted_number as number_that_counts};
+ghost use Rattle.j39_follow.specs.FollowReports.{aim_at as aim_at_unit, answer_aim as aim_of_answer, notice_events};
+ghost use Rattle.j39_follow.specs.FollowReports.{refusal_events, reply_of};
+ghost use Rattle.j39_follow.specs.LoggedRequests.{asked_request as asked_request_of};
+ghost use Rattle.j39_follow.specs.LoggedRequests.{counted_number as number_that_counts};
 ghost use Rattle.j39_id.specs.FrameMeaning.{requested_group};
 ghost use Rattle.j39_follow.specs.Who.{unit_of};
 ghost use Rattle.j39_follow.specs.declared.request.event.Event.{Event as AnEvent};
@@ -110,7 +112,8 @@ fn brought(plan: &Plan, sent: Sending, sort: Sort) -> Event
 
 // The event that a message is, if there is one.
 fn brought_any(plan: &Plan, sent: Sending, sort: Option<Sort>) -> Option<Event>
-    ensures { result ≡ option_map (λ (s : ASort). Brought (reply_of (number_that_counts plan.now s) sent.sender sent.aim)) sort }
+    ensures { result
+        ≡ option_map (λ (s : ASort). Brought (reply_of (number_that_counts plan.now s) sent.sender sent.aim)) sort }
 {
     match sort {
         Some(sort) => Some(brought(plan, sent, sort)),
@@ -129,7 +132,8 @@ pub(crate) fn note(
     ended: Option<Sort>,
 )
     ensures { (log : List Timed) (events : List AnEvent) → ShowsParties plan.now parties.now log frame.now.ident
-        → ShowsAsker plan.now parties.now log frame.now → length events + 3 < 2 ^ 64 → AreExchanges plan.now exchanges.old events
+        → ShowsAsker plan.now parties.now log frame.now → length events + 3 < 2 ^ 64
+        → AreExchanges plan.now exchanges.old events
         → AreNoted plan.now log frame.now (sort ∷ option_to_list ended) events exchanges.new }
 {
     let sent = sending_of(parties, in_frame(frame));

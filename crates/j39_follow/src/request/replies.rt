@@ -1,6 +1,8 @@
 //! What events are to the requests of a plan.
 ghost use Rattle.std.specs.Prelude.{◌≡◌};
-ghost use Rattle.j39_follow.specs.LoggedRequests.{answers, asks_request as asks, is_of_asked, is_for_one_unit as is_to_one, reaches_asker, refuses, replies_to, was_asked};
+ghost use Rattle.j39_follow.specs.LoggedRequests.{answers, asks_request as asks, is_of_asked};
+ghost use Rattle.j39_follow.specs.LoggedRequests.{is_for_one_unit as is_to_one, reaches_asker, refuses, replies_to};
+ghost use Rattle.j39_follow.specs.LoggedRequests.{was_asked};
 
 use crate::flow::sending::Aim;
 use crate::request::asking::asked_number;

@@ -1,5 +1,6 @@
 -- What a plan without findings has of its units.
-use Rattle.std.proofs.Common.{◌≡◌, ◌≢◌, ℕ, zero, suc, ◌+◌, ◌^◌, ◌<◌, ◌≤◌, ◌⊎◌, Bool, true, false, cond, ◌&&◌, ◌||◌, List, [], ◌∷◌, length, map, inl, inr, Some, refl, sym}
+use Rattle.std.proofs.Common.{◌≡◌, ◌≢◌, ℕ, zero, suc, ◌+◌, ◌^◌, ◌<◌, ◌≤◌, ◌⊎◌, Bool, true, false, cond, ◌&&◌, ◌||◌, List, [], ◌∷◌, length, map, inl, inr, Some}
+use Rattle.std.proofs.Common.{refl, sym}
 use Rattle.std.proofs.Common.{ap, ◌∙◌, arith}
 use Rattle.std.proofs.lemmas.Bool.{cases_Bool, cases_lt, cases_order}
 use Rattle.std.proofs.lemmas.List.Sums.{sum_by-cons}
@@ -13,7 +14,8 @@ use Rattle.j39_id.specs.Addresses.{in_pool}
 use Rattle.j39_findings.specs.Findings.{Clean, Holds}
 use Rattle.j39_findings.specs.Found.{needed_addresses, needs_pool_address}
 use Rattle.j39_findings.proofs.Deciding.{Decides-needs_pool_address, passing_meet}
-use Rattle.j39_findings.specs.declared.checking.finding.Finding.TheVariants.{SameName, SameFixedAddress, TooFewAddresses, KeptAddress, SilentAddress, SilentInPool}
+use Rattle.j39_findings.specs.declared.checking.finding.Finding.TheVariants.{SameName, SameFixedAddress, TooFewAddresses, KeptAddress, SilentAddress}
+use Rattle.j39_findings.specs.declared.checking.finding.Finding.TheVariants.{SilentInPool}
 use Rattle.j39_findings.proofs.WhoStays.{placed}
 use Rattle.j39_network.specs.Kinds.{kind_of_name}
 use Rattle.j39_network.specs.declared.plan.Plan.{Plan}

@@ -1,5 +1,6 @@
 -- With strangers: a clean plan has room for so many as it tells, and a unit that may not choose stays.
-use Rattle.std.proofs.Common.{◌≡◌, ◌≢◌, ℕ, zero, suc, ◌+◌, ◌<◌, ◌≤◌, Bool, true, false, cond, not, ◌&&◌, List, [], ◌∷◌, ◌++◌, length, map, get_or, All, refl, sym, ap, ◌∙◌, subst, inl, inr}
+use Rattle.std.proofs.Common.{◌≡◌, ◌≢◌, ℕ, zero, suc, ◌+◌, ◌<◌, ◌≤◌, Bool, true, false, cond, not, ◌&&◌, List, [], ◌∷◌, ◌++◌, length, map, get_or, All, refl}
+use Rattle.std.proofs.Common.{sym, ap, ◌∙◌, subst, inl, inr}
 use Rattle.std.proofs.Common.{arith, leb, Some, None, ◌⊎◌}
 use Rattle.std.proofs.lemmas.Bool.{and_parts, and_from, cases_Bool, cases_lt, leb-true, or_left, or_parts, or_right, true≢false, not-true}
 use Rattle.std.proofs.lemmas.List.{length-append, length-map}
@@ -223,7 +224,8 @@ module _ (plan joined : Plan) (ss : List UnitPlan) (come : HasStrangers plan joi
   in_plan : (u : ℕ) → u < length planned → u < length (units_of plan)
   in_plan u inside = omega (arith, length-map planned (planned_unit plan.keep_free))
 
-  is_fixed_there : (u : ℕ) → u < length planned → is_arbitrary (unit_at (units_of joined) u).name ≡ false → is_arbitrary (unit_at (units_of plan) u).name ≡ false
+  is_fixed_there : (u : ℕ) → u < length planned → is_arbitrary (unit_at (units_of joined) u).name ≡ false
+      → is_arbitrary (unit_at (units_of plan) u).name ≡ false
   is_fixed_there u inside fixed = ap is_arbitrary (sym (named u inside)) ∙ fixed
 
   -- ---- addresses

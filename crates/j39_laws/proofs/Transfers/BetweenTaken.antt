@@ -1,5 +1,6 @@
 -- A message of several frames to one unit, between the two, as its receiver takes a packet or its sender an answer.
-use Rattle.std.proofs.Common.{◌≡◌, ◌≢◌, ℕ, zero, suc, ◌+◌, ◌-◌, ◌==◌, ◌<◌, ◌≤◌, ◌⊎◌, inl, inr, ◌&&◌, true, false, min, List, [], ◌∷◌, ◌++◌, length, refl, sym, ap, ◌∙◌, subst, arith, append-nil}
+use Rattle.std.proofs.Common.{◌≡◌, ◌≢◌, ℕ, zero, suc, ◌+◌, ◌-◌, ◌==◌, ◌<◌, ◌≤◌, ◌⊎◌, inl, inr, ◌&&◌, true, false, min, List, [], ◌∷◌, ◌++◌, length, refl, sym}
+use Rattle.std.proofs.Common.{ap, ◌∙◌, subst, arith, append-nil}
 use Rattle.std.specs.Prelude.{map, nat_le}
 use Rattle.std.proofs.lemmas.Bool.{cases_Bool, cond_both, cond-true, cond-false, eq-eqb, ne_eqb, eqb-true, eqb-false, and_from, and_right, le-leb}
 use Rattle.j39_tp.specs.Chunks.{packets_of, chunk}
@@ -322,7 +323,8 @@ module _ (o : Outgoing) (before : List Begun) where
       let none : answering ≡ [] = cc answers in
       let own : (o.pgn == o.pgn) ≡ true = eq-eqb o.pgn o.pgn refl in
       let all : (length o.bytes == length o.bytes) ≡ true = eq-eqb (length o.bytes) (length o.bytes) refl in
-      let ends : sender.stage_hears dests.One o.pgn (length o.bytes) Waiting (EndAck (length o.bytes) o.pgn) ≡ (Resting Acked, reactions.Ended) = rw (own, all) refl in
+      let ends : sender.stage_hears dests.One o.pgn (length o.bytes) Waiting (EndAck (length o.bytes) o.pgn) ≡ (Resting Acked, reactions.Ended) =
+      rw (own, all) refl in
       let heard : sender.stage_hears dests.One o.pgn (length o.bytes) stage p ≡ (Resting Acked, reactions.Ended) =
       (λ i. sender.stage_hears dests.One o.pgn (length o.bytes) (r.waits i) (is i)) ∙ ends in
       subst (λ (x : Stage × Reaction). IsAt o before x.0 coming answering pr reports × (sender_replies x.1 ≡ [])) (sym heard) (

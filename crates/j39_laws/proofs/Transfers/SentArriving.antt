@@ -1,5 +1,6 @@
 -- In each world of a run a frame that a unit sends alone is reported by each receiver that doesn't lose it; and each such frame can be.
-use Rattle.std.proofs.Common.{◌≡◌, ◌≢◌, ℕ, ◌+◌, true, ◌&&◌, eqb, List, [], ◌∷◌, ◌++◌, length, inl, inr, ◌⊎◌, refl, sym, ap, ◌∙◌, subst, append-nil, arith, Option, Some, None}
+use Rattle.std.proofs.Common.{◌≡◌, ◌≢◌, ℕ, ◌+◌, true, ◌&&◌, eqb, List, [], ◌∷◌, ◌++◌, length, inl, inr, ◌⊎◌, refl, sym, ap, ◌∙◌, subst, append-nil, arith}
+use Rattle.std.proofs.Common.{Option, Some, None}
 use Rattle.std.specs.Bool.{MatchBool}
 use Rattle.std.specs.Option.{is_some}
 use Rattle.std.proofs.lemmas.Bool.{and_from, cond-true, eq-eqb}
@@ -12,7 +13,8 @@ use Rattle.j39_world.specs.declared.wired.Wired.{Wired}
 use Rattle.j39_world.specs.declared.wired.Wired.TheVariants as wired
 use Rattle.j39_world.specs.Ending.{IsOfTransfers}
 use Rattle.j39_world.specs.Run.{Follows, StepsTo, count_of, refusal}
-use Rattle.j39_world.specs.SentArriving.{HasArrivedAlone, IsNextAlone, RunSparingAlone, SentAlone, SentFramesArrive, SentFramesCanArrive, SparesAlone, is_oldest_alone, lying_alone}
+use Rattle.j39_world.specs.SentArriving.{HasArrivedAlone, IsNextAlone, RunSparingAlone, SentAlone, SentFramesArrive, SentFramesCanArrive, SparesAlone}
+use Rattle.j39_world.specs.SentArriving.{is_oldest_alone, lying_alone}
 use Rattle.j39_world.specs.Sound.{IsSubsequence, reported_alone}
 use Rattle.j39_world.specs.SoundPlan.{Always}
 use Rattle.j39_world.specs.Transfers.{Begun, is_among}

@@ -116,14 +116,16 @@ module _ (n : ℕ) where
   stays : (pr : Progress) (more : ℕ) → WeighsUpTo (receiver_weight n pr + more) (pr, heards.Nothing)
   stays pr more = omega (arith, closed_weight pr)
 
-  going_weight : (window : ℕ) (kind : ReceptionKind) (r : Reception) → WeighsUpTo (2 + budget r * asking n + asking n) (receiver.going_on (Answering window) kind r)
+  going_weight : (window : ℕ) (kind : ReceptionKind) (r : Reception)
+      → WeighsUpTo (2 + budget r * asking n + asking n) (receiver.going_on (Answering window) kind r)
   going_weight window Directed r = omega (arith, asking_is)
   going_weight window Broadcast r = omega arith
 
   one_more_less : (r : Reception) → r.held < packets_of r.size → budget (receiver.one_more_held r) + 1 ≤ budget r
   one_more_less r less = omega (arith, less)
 
-  completed_weight : (window : ℕ) (kind : ReceptionKind) (r : Reception) (done most : ℕ) → 1 ≤ most → WeighsUpTo most (Complete done, receiver.completed (Answering window) kind r)
+  completed_weight : (window : ℕ) (kind : ReceptionKind) (r : Reception) (done most : ℕ) → 1 ≤ most
+      → WeighsUpTo most (Complete done, receiver.completed (Answering window) kind r)
   completed_weight window Directed r done most some = omega arith
   completed_weight window Broadcast r done most some = omega arith
 
@@ -147,7 +149,8 @@ module _ (n : ℕ) where
       cond_both (nat_lt r.asked receiver.ask_limit) _ _ (AsksUpTo (1 + budget r * asking n))
       (λ may. let paid = asked_for (budget (receiver.asking r)) (budget r) (asking_less r may) in omega (arith, paid, asking_is)) (λ _. omega arith)
 
-  later_weight : (window : ℕ) (kind : ReceptionKind) (r : Reception) (number : ℕ) → WeighsUpTo (2 + budget r * asking n) (receiver.takes_later (Answering window) kind r number)
+  later_weight : (window : ℕ) (kind : ReceptionKind) (r : Reception) (number : ℕ)
+      → WeighsUpTo (2 + budget r * asking n) (receiver.takes_later (Answering window) kind r number)
   later_weight window Broadcast r number = omega arith
   later_weight window Directed r number =
       cond_both (number == r.granted) _ _ (WeighsUpTo (2 + budget r * asking n)) (λ _. omega (arith, asks_weight window 5 r)) (λ _. omega arith)
@@ -158,7 +161,8 @@ module _ (n : ℕ) where
       cond_both (number == r.held + 1) _ _ (WeighsUpTo (2 + budget r * asking n)) (λ _. next_weight window r less)
       (λ _. cond_both (nat_le number r.held) _ _ (WeighsUpTo (2 + budget r * asking n)) (λ _. omega arith) (λ _. later_weight window r.kind r number))
 
-  opened_weight : (kind : ReceptionKind) (pgn size limit : ℕ) → budget (receiver.opened kind pgn size limit) * asking n + asking n ≤ (packets_of size + 3) * asking n
+  opened_weight : (kind : ReceptionKind) (pgn size limit : ℕ)
+      → budget (receiver.opened kind pgn size limit) * asking n + asking n ≤ (packets_of size + 3) * asking n
   opened_weight kind pgn size limit = asked_for (budget (receiver.opened kind pgn size limit)) (packets_of size + 3) (omega arith)
 
   pub hears_weight : (window : ℕ) (pr : Progress) (p : Packet) → IsWithin pr

@@ -12,7 +12,8 @@ IsShortWait wait = ForSome wait (λ bits. bits < 2 ^ 27)
 
 -- as a definition has them
 abbrev pub buffering_of : BufferingDelays → Buffering
-buffering_of buffering_delays = record { frames = buffering_delays.frames.items; waits = buffering_delays.waits.items; least_unbounded = buffering_delays.least_unbounded }
+buffering_of buffering_delays =
+    record { frames = buffering_delays.frames.items; waits = buffering_delays.waits.items; least_unbounded = buffering_delays.least_unbounded }
 
 pub record AreFitBufferingDelays (buffering_delays : BufferingDelays) : Type 0 where
   pub fit : All FitIfAny buffering_delays.frames.items

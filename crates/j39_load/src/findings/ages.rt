@@ -133,7 +133,8 @@ pub(crate) fn find_old_needs(
     needs: &[NeedPlan],
 ) -> Result<(), AllocError>
     requires { length delays.now ≡ length flows.now }
-    ensures found { OnOk result (findings.new.items ≡ findings.old.items ++ old_needs timing requests.now flows.now delays.now needs.now) }
+    ensures found { OnOk result (findings.new.items ≡ findings.old.items
+        ++ old_needs timing requests.now flows.now delays.now needs.now) }
     ensures memory { OnErr result (old_needs timing requests.now flows.now delays.now needs.now ≢ []) }
 {
     for (place, need) in needs.iter().enumerate() {

@@ -49,7 +49,8 @@ fn find_each(
     fault: FlowFault,
     delays: &[Option<Delay>],
 ) -> Result<(), AllocError>
-    ensures found { OnOk result (findings.new.items ≡ findings.old.items ++ lines_of_each (found_at fault) 0 delays.now) }
+    ensures found { OnOk result (findings.new.items ≡ findings.old.items
+        ++ lines_of_each (found_at fault) 0 delays.now) }
     ensures memory { OnErr result (lines_of_each (found_at fault) 0 delays.now ≢ []) }
 {
     for (flow, delay) in delays.iter().enumerate() {

@@ -26,7 +26,8 @@ impl LoadAnswer {
         ensures answer { IfOk result (IsLoadAnswer plan.now timing) }
         ensures flows { IfOk result (λ answer. length answer.loads.flows.items ≡ length plan.now.flows.items) }
         ensures delays { IfOk result (λ answer. length answer.delays.items ≡ length plan.now.flows.items) }
-        ensures memory { OnErr result ((plan.now.flows.items ≢ []) ⊎ ((plan.now.requests.items ≢ []) ⊎ IsFullOfDamage (Some timing))) }
+        ensures memory { OnErr result ((plan.now.flows.items ≢ [])
+            ⊎ ((plan.now.requests.items ≢ []) ⊎ IsFullOfDamage (Some timing))) }
     {
         let loads = Loads::new(alloc, timing, plan)?;
         let delays = loads.delays(alloc)?;

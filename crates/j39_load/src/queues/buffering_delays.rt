@@ -1,7 +1,8 @@
 //! Until when frames are buffered.
 ghost use Rattle.std.specs.Prelude.{◌≡◌, ◌≤◌, ◌<◌, ◌^◌, ◌∷◌, [], All, length, map, IfOk, None, slice_index_or};
 ghost use Rattle.j39_load.specs.Ages.{least};
-ghost use Rattle.j39_load.specs.AnyQueues.{IsBufferedFor, IsBuffering, AreBufferingDelays, later_frames, leasts_of, may_be_passed};
+ghost use Rattle.j39_load.specs.AnyQueues.{IsBufferedFor, IsBuffering, AreBufferingDelays, later_frames, leasts_of};
+ghost use Rattle.j39_load.specs.AnyQueues.{may_be_passed};
 ghost use Rattle.j39_load.specs.AnyQueues.{buffered_for, buffered, buffered_at, least_unbounded, unbounded_at};
 ghost use Rattle.j39_load.specs.Demands.{demands_of};
 ghost use Rattle.j39_load.specs.SoundLoads.{AreSound, AreSoundIfAny, FitIfAny};
@@ -16,8 +17,8 @@ use j39_network::Timing;
 use j39_timing::{Stream, Wanted};
 use std::alloc::{AllocError, Global};
 
-/// All frames of a plan at the end of their buffering delays: frames of a unit that keeps no order as many bits later as
-/// they wait there at most.
+/// All frames of a plan at the end of their buffering delays: frames of a unit that keeps no order as many bits later
+/// as they wait there at most.
 #[derive(Drop)]
 pub(crate) struct BufferingDelays {
     /// The frames, at their places.

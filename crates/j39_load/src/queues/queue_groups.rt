@@ -146,7 +146,8 @@ fn next_level(
 ) -> u64
     ensures above { level ≤ result }
     ensures at_most { All (AreAtMost leasts.now own.now level result) all.now }
-    ensures least { (other : ℕ) → level ≤ other → All (AreAtMost leasts.now own.now level other) all.now → result ≤ other }
+    ensures least { (other : ℕ) → level ≤ other → All (AreAtMost leasts.now own.now level other) all.now
+        → result ≤ other }
 {
     let mut most = level;
     for sent in all {
@@ -180,8 +181,8 @@ fn with_unplanned(timing: Timing, own: &FlowFrames) -> FlowFrames
     FlowFrames { last_ident, ..*own }
 }
 
-// Adds the stream of these frames, where they are of the queue group, or one of them may have a smaller identifier than its
-// level.
+// Adds the stream of these frames, where they are of the queue group, or one of them may have a smaller identifier than
+// its level.
 fn add_with(
     streams: &mut Vec<Stream>,
     leasts: &[Option<u64>],

@@ -127,9 +127,9 @@ fn wait_of(
     }
 }
 
-/// The wait of frames at their place. Those of a unit that keeps order wait among all at the end of their buffering delays,
-/// and no wait is known where frames of which it isn't known from when on they are may go before them; those of another
-/// wait for their queue group.
+/// The wait of frames at their place. Those of a unit that keeps order wait among all at the end of their buffering
+/// delays, and no wait is known where frames of which it isn't known from when on they are may go before them; those of
+/// another wait for their queue group.
 pub(crate) fn wait_in(
     alloc: Global,
     timing: Timing,
@@ -286,8 +286,8 @@ fn delay_of(
 }
 
 impl Loads {
-    // The delay of the flow at this place among all frames at the end of their buffering delays, where the broadcasts of the
-    // units take these times, and none where it isn't known how often it is sent.
+    // The delay of the flow at this place among all frames at the end of their buffering delays, where the broadcasts
+    // of the units take these times, and none where it isn't known how often it is sent.
     fn delay(
         &self,
         alloc: Global,

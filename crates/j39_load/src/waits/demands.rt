@@ -151,7 +151,8 @@ fn add_demands(
     requires sound { All AreSoundIfAny all.now }
     requires few { length all.now ≤ 2000 }
     requires demands { All IsWanted demands.old.items }
-    ensures demands { OnOk result (map as_demand demands.new.items ≡ map as_demand demands.old.items ++ demands_by part all.now) }
+    ensures demands { OnOk result (map as_demand demands.new.items ≡ map as_demand demands.old.items
+        ++ demands_by part all.now) }
     ensures sound { OnOk result (All IsWanted demands.new.items) }
 {
     for unit in 0..UNIT_LIMIT {

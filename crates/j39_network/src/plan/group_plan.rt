@@ -26,8 +26,8 @@ pub struct GroupPlan {
     pub private: bool,
     /// The length of the longest payload in bytes, to 1785.
     pub most: u16,
-    /// How many bytes each record of the signals that are repeated stands behind the one before, 1 to 255. No signal is repeated without
-    /// it.
+    /// How many bytes each record of the signals that are repeated stands behind the one before, 1 to 255. No signal is
+    /// repeated without it.
     pub every: Option<u8>,
     /// Bits by whose number messages of this group are told from those of others of its PGN.
     pub when: Option<Selector>,

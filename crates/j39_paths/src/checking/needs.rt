@@ -51,7 +51,8 @@ fn some_is_need_flow(routes: &Routes<'_>, need: &VehicleNeed, flows: &[FlowPlan]
 }
 
 fn is_need_met(routes: &Routes<'_>, need: &VehicleNeed) -> bool
-    ensures { result ≡ some_at (is_need_flow routes.now.vehicle.now need.now) 0 (flows_of_need routes.now.vehicle.now need.now) }
+    ensures { result
+        ≡ some_at (is_need_flow routes.now.vehicle.now need.now) 0 (flows_of_need routes.now.vehicle.now need.now) }
 {
     let flows = flows_on(&routes.vehicle.buses, need.unit.bus);
     some_is_need_flow(routes, need, flows)

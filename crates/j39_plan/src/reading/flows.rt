@@ -129,7 +129,8 @@ fn later_pace(
     })
 }
 
-// How often a flow is sent, for how long it is silent, and whether it is sent on request alone, where its table tells it.
+// How often a flow is sent, for how long it is silent, and whether it is sent on request alone, where its table tells
+// it.
 #[derive(Clone, Copy)]
 struct Rhythm {
     pace: Option<Pace>,
@@ -182,7 +183,8 @@ fn known_deadline(
 fn known_rhythm(members: &toml::Table, table: Table, version: Version) -> Result<Rhythm, PlanError>
     ensures { Gives result (known_faults table version (table_view members.now) (spec.pace_rules version (table_view members.now)))
         (λ rhythm. spec.DescribesPace version (table_view members.now) rhythm.pace
-        × (rhythm.pause ≡ spec.pause_of version (spec.given_period version (table_view members.now)) (table_view members.now))
+        × (rhythm.pause
+        ≡ spec.pause_of version (spec.given_period version (table_view members.now)) (table_view members.now))
         × (rhythm.on_request ≡ spec.on_request_of version (table_view members.now))) }
 {
     let period = known_period(members, table, version)?;

@@ -8,7 +8,9 @@ ghost use Rattle.j39_plan.specs.declared.reading.version.Version.TheVariants.{Th
 ghost use Rattle.j39_tables.specs.Outcome.{Gives, GivesGrowing};
 ghost use Rattle.j39_plan.specs.Growing.{GroupGrows};
 ghost use Rattle.j39_plan.specs.SelectorTables.{when_rule, when_table};
-ghost use Rattle.j39_plan.specs.GroupTables.{every_of, every_rule, group_table_faults, inner_rules, later_rules, most_of, most_rule, private_of, private_rule, signal_rule, text_rule, text_tables_of, DescribesGroup};
+ghost use Rattle.j39_plan.specs.GroupTables.{every_of, every_rule, group_table_faults, inner_rules, later_rules};
+ghost use Rattle.j39_plan.specs.GroupTables.{most_of, most_rule, private_of, private_rule, signal_rule, text_rule};
+ghost use Rattle.j39_plan.specs.GroupTables.{text_tables_of, DescribesGroup};
 
 use super::labels::untaken;
 use super::selectors::when;
@@ -39,8 +41,8 @@ const KEYS: [(Key, Version); 10] = [
     (Key::Text, Version::Third),
 ];
 
-// What stands behind the length: whether the number is a maker's own, the length of the longest messages, how far apart records stand,
-// and the table of the selector.
+// What stands behind the length: whether the number is a maker's own, the length of the longest messages, how far apart
+// records stand, and the table of the selector.
 #[derive(Clone, Copy)]
 struct LaterKeys<'a> {
     private: bool,

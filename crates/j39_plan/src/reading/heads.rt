@@ -1,4 +1,5 @@
-//! The head of a plan file: its version, the addresses that it keeps free, how many strangers may come, and whether the bus is live.
+//! The head of a plan file: its version, the addresses that it keeps free, how many strangers may come, and whether the
+//! bus is live.
 ghost use Rattle.std.specs.Prelude.{◌≡◌, ◌≤◌, ℕ, true, None, Some, IfOk, IfErr};
 ghost use Rattle.std.specs.FinSet.{empty, from_list, contains};
 ghost use Rattle.toml.specs.View.{view, table_view, items_view};
@@ -10,7 +11,8 @@ ghost use Rattle.j39_plan.specs.ValueCauses.{number_in, numbers_in, address_caus
 ghost use Rattle.j39_tables.specs.TableFaults.{key_faults};
 ghost use Rattle.j39_plan.specs.Since.{since, since_faults};
 ghost use Rattle.j39_plan.specs.declared.reading.version.Version.TheVariants.{Second, Fourth};
-ghost use Rattle.j39_plan.specs.PlanFaults.{version_of, version_numbered, keep_free_rule, strangers_rule, strangers_of, live_rule, live_of, head_faults};
+ghost use Rattle.j39_plan.specs.PlanFaults.{version_of, version_numbered, keep_free_rule, strangers_rule, strangers_of};
+ghost use Rattle.j39_plan.specs.PlanFaults.{live_rule, live_of, head_faults};
 ghost use Rattle.j39_plan.specs.Described.{keep_free_of, kept_of};
 ghost use Rattle.j39_tables.specs.Outcome.{Gives};
 
@@ -38,7 +40,8 @@ const KEYS: [(Key, Version); 10] = [
 
 /// The address that an element tells that stands behind those with the addresses seen.
 fn address(seen: &AddressSet, value: &Value) -> Result<Address, Cause>
-    ensures told { IfOk result (λ a. (address_cause seen.now (view value.now) ≡ None) × (a ≡ number_in (view value.now))) }
+    ensures told { IfOk result (λ a. (address_cause seen.now (view value.now) ≡ None)
+        × (a ≡ number_in (view value.now))) }
     ensures range { IfOk result (λ a. in_pool a ≡ true) }
     ensures refused { IfErr result (λ cause. address_cause seen.now (view value.now) ≡ Some cause) }
 {
@@ -63,7 +66,8 @@ fn address(seen: &AddressSet, value: &Value) -> Result<Address, Cause>
 
 /// The addresses that the elements tell, or the first cause for which one is refused.
 fn addresses(values: &[Value]) -> Result<AddressSet, Cause>
-    ensures told { IfOk result (λ s. (addresses_cause empty (items_view values.now) ≡ None) × (s ≡ from_list (numbers_in (items_view values.now)))) }
+    ensures told { IfOk result (λ s. (addresses_cause empty (items_view values.now) ≡ None)
+        × (s ≡ from_list (numbers_in (items_view values.now)))) }
     ensures range { IfOk result (λ s. (a : ℕ) → contains s a ≡ true → in_pool a ≡ true) }
     ensures refused { IfErr result (λ cause. addresses_cause empty (items_view values.now) ≡ Some cause) }
 {

@@ -98,7 +98,8 @@ pub fn untaken_beside<U: Labelled, T: Labelled>(
     table: Table,
 ) -> Result<(), PlanError>
     requires { takes kind label.now ≡ true }
-    ensures { Gives result (repeated_faults table kind (map U.label_bytes others.now ++ map T.label_bytes items.now) label.now) (λ _. Unit {0}) }
+    ensures { Gives result (repeated_faults table kind (map U.label_bytes others.now
+        ++ map T.label_bytes items.now) label.now) (λ _. Unit {0}) }
 {
     if is_taken(others, label) || is_taken(items, label) {
         Err(refused(Cause::Repeated, table, Key::Label))

@@ -1,5 +1,7 @@
-//! What is said of a signal beside its place and its scale: whether it is optional, its number, and the names of its raw numbers.
-ghost use Rattle.std.specs.Prelude.{◌≡◌, ◌≤◌, ◌^◌, ◌&&◌, if◌then◌else◌, true, false, Some, None, is_some, string_bytes, unwrap_or, option_map, length, IfOk, IfSome, MatchOption};
+//! What is said of a signal beside its place and its scale: whether it is optional, its number, and the names of its
+//! raw numbers.
+ghost use Rattle.std.specs.Prelude.{◌≡◌, ◌≤◌, ◌^◌, ◌&&◌, if◌then◌else◌, true, false, Some, None, is_some, string_bytes};
+ghost use Rattle.std.specs.Prelude.{unwrap_or, option_map, length, IfOk, IfSome, MatchOption};
 ghost use Rattle.std.specs.List.{list_all};
 ghost use Rattle.std.specs.Map.{keys_of, values_of};
 ghost use Rattle.std.specs.Option.{option_map_or};
@@ -11,7 +13,8 @@ ghost use Rattle.j39_network.specs.LabelForm.{is_label};
 ghost use Rattle.j39_network.specs.PlanLimits.{spn_most, value_limit};
 ghost use Rattle.j39_plan.specs.Schema as schema;
 ghost use Rattle.j39_tables.specs.Rules.{flag_of};
-ghost use Rattle.j39_plan.specs.ValueCauses.{has_labels, has_numbers, has_texts, is_decimal, is_number_below, names_cause};
+ghost use Rattle.j39_plan.specs.ValueCauses.{has_labels, has_numbers, has_texts, is_decimal, is_number_below};
+ghost use Rattle.j39_plan.specs.ValueCauses.{names_cause};
 ghost use Rattle.j39_tables.specs.TableFaults.{key_faults};
 ghost use Rattle.j39_plan.specs.MeaningTables.{AreValueNames, DescribesKeys, meaning_rules, optional_rule, raw_limit};
 ghost use Rattle.j39_plan.specs.Since.{known_faults};
@@ -138,7 +141,8 @@ fn is_label(value: &Value) -> bool
 }
 
 fn are_labels(names: &toml::Table) -> bool
-    ensures { result ≡ list_all (λ value. option_map_or is_label (as_str (view value)) false) (values_of names.now.entries) }
+    ensures { result
+        ≡ list_all (λ value. option_map_or is_label (as_str (view value)) false) (values_of names.now.entries) }
 {
     names.values().all(|value| is_label(value))
 }
@@ -220,7 +224,8 @@ fn raw_limit(bits: u32) -> u64
     1 << bits.min(32)
 }
 
-/// The same of a signal of so many bits, which is repeated or isn't, and a trouble code or none, where the version knows it.
+/// The same of a signal of so many bits, which is repeated or isn't, and a trouble code or none, where the version
+/// knows it.
 #[tactic(auto, using(j39_tables::proofs::FirstFaults::faults_after))]
 pub fn meaning_keys<'a>(
     members: &'a toml::Table,

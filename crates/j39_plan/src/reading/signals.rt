@@ -12,7 +12,9 @@ ghost use Rattle.j39_plan.specs.MeaningTables.{DescribesKeys, raw_limit};
 ghost use Rattle.j39_network.specs.PlanLimits.{spn_most};
 ghost use Rattle.j39_tables.specs.Outcome.{Gives};
 ghost use Rattle.j39_id.specs.Limits.{message_bytes};
-ghost use Rattle.j39_plan.specs.SignalTables.{is_code, is_dtc, kind_of, kind_rule, kinds, offset_rule, per_of, per_rule, repeated_of, repeated_rule, signal_table_faults, start_of, step_rule, unit_rule, DescribesSignal};
+ghost use Rattle.j39_plan.specs.SignalTables.{is_code, is_dtc, kind_of, kind_rule, kinds, offset_rule, per_of};
+ghost use Rattle.j39_plan.specs.SignalTables.{per_rule, repeated_of, repeated_rule, signal_table_faults, start_of};
+ghost use Rattle.j39_plan.specs.SignalTables.{step_rule, unit_rule, DescribesSignal};
 
 use super::labels::{Labelled, untaken};
 use super::meanings::{MeaningKeys, meaning_keys, meaning_of};
@@ -314,7 +316,8 @@ impl ReadElement<PlannedSignal, PlanFault> for SignalReader {
 
     ghost Grows = { λ r. SignalGrows r.version r.records r.group };
 
-    ghost Describes = { λ r d x. (IsSignalOf r.version d x.signal × IsFit r.records x.signal) × IsMeaningOf r.version d x.meaning };
+    ghost Describes = { λ r d x. (IsSignalOf r.version d x.signal × IsFit r.records x.signal)
+        × IsMeaningOf r.version d x.meaning };
 
     #[tactic(auto, using(j39_tables::proofs::FirstFaults::faults_after), unfolding(crate::specs::SignalTables::signal_faults))]
     fn read(

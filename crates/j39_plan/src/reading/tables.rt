@@ -78,7 +78,8 @@ fn is_known(name: &str, version: Version, keys: &[(Key, Version)]) -> bool
 }
 
 fn has_known(members: &toml::Table, version: Version, keys: &[(Key, Version)]) -> bool
-    ensures { result ≡ list_all (λ name. is_known_word version keys.now (string_bytes name)) (keys_of members.now.entries) }
+    ensures { result
+        ≡ list_all (λ name. is_known_word version keys.now (string_bytes name)) (keys_of members.now.entries) }
 {
     members
         .keys()

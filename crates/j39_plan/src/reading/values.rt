@@ -1,5 +1,6 @@
 //! The values of a table's keys.
-ghost use Rattle.std.specs.Prelude.{◌≡◌, ℕ, true, false, if◌then◌else◌, Some, None, List, IfSome, IfOk, ◌≤◌, ◌≤ℤ◌, length};
+ghost use Rattle.std.specs.Prelude.{◌≡◌, ℕ, true, false, if◌then◌else◌, Some, None, List, IfSome, IfOk, ◌≤◌, ◌≤ℤ◌};
+ghost use Rattle.std.specs.Prelude.{length};
 ghost use Rattle.std.specs.Option.{option_copied};
 ghost use Rattle.toml.specs.View.{table_view};
 ghost use Rattle.j39_tables.specs.Rules.{flag_of, integer_of, natural, number_of, text_of};

@@ -83,7 +83,8 @@ fn sent_keys(members: &toml::Table, table: Table) -> Result<SentKeys<'_>, Vehicl
     ensures { Gives result (keys_faults table (table_view members.now) spec.sent_rules) (λ k. let ms = table_view members.now in
         (text_at Key.As ms ≡ Some k.output.now) × (text_at Key.By ms ≡ option_map (λ t. t.now) k.by)
         × (text_at Key.To ms ≡ option_map (λ t. t.now) k.to) × (k.mode ≡ spec.mode_of (text_at Key.Mode ms))
-        × (k.within ≡ number_under Key.Within ms) × (array_at Key.Signal ms ≡ option_map (λ vs. items_view vs.now) k.signals)) }
+        × (k.within ≡ number_under Key.Within ms)
+        × (array_at Key.Signal ms ≡ option_map (λ vs. items_view vs.now) k.signals)) }
 {
     let output = required_text(members, table, Key::As, TextKind::OnBus)?;
     let by = given_text(members, table, Key::By, TextKind::Any)?;
@@ -109,7 +110,8 @@ fn keys(members: &toml::Table, table: Table) -> Result<ForwardKeys<'_>, VehicleE
         × (text_at Key.From ms ≡ option_map (λ t. t.now) k.from) × (text_at Key.At ms ≡ option_map (λ t. t.now) k.at)
         × (text_at Key.As ms ≡ Some k.sent.output.now) × (text_at Key.By ms ≡ option_map (λ t. t.now) k.sent.by)
         × (text_at Key.To ms ≡ option_map (λ t. t.now) k.sent.to) × (k.sent.mode ≡ spec.mode_of (text_at Key.Mode ms))
-        × (k.sent.within ≡ number_under Key.Within ms) × (array_at Key.Signal ms ≡ option_map (λ vs. items_view vs.now) k.sent.signals)) }
+        × (k.sent.within ≡ number_under Key.Within ms)
+        × (array_at Key.Signal ms ≡ option_map (λ vs. items_view vs.now) k.sent.signals)) }
 {
     only(members, table, &FORWARD_KEYS)?;
     let gateway = required_text(members, table, Key::Gateway, TextKind::Any)?;
@@ -154,9 +156,12 @@ fn told(
 ) -> Result<ForwardTable, VehicleError>
     requires { IfSome signals (λ v. length v.items ≤ signal_limit) }
     ensures told { IfOk result (λ f. (string_bytes f.gateway ≡ keys.now.gateway.now)
-        × (string_bytes f.input.text ≡ keys.now.input.now) × (option_map string_bytes f.from ≡ option_map (λ t. t.now) keys.now.from)
-        × (option_map string_bytes f.at ≡ option_map (λ t. t.now) keys.now.at) × (string_bytes f.output.text ≡ keys.now.sent.output.now)
-        × (option_map string_bytes f.by ≡ option_map (λ t. t.now) keys.now.sent.by) × (option_map string_bytes f.to ≡ option_map (λ t. t.now) keys.now.sent.to)
+        × (string_bytes f.input.text ≡ keys.now.input.now)
+        × (option_map string_bytes f.from ≡ option_map (λ t. t.now) keys.now.from)
+        × (option_map string_bytes f.at ≡ option_map (λ t. t.now) keys.now.at)
+        × (string_bytes f.output.text ≡ keys.now.sent.output.now)
+        × (option_map string_bytes f.by ≡ option_map (λ t. t.now) keys.now.sent.by)
+        × (option_map string_bytes f.to ≡ option_map (λ t. t.now) keys.now.sent.to)
         × (f.mode ≡ keys.now.sent.mode) × (f.within ≡ keys.now.sent.within) × (f.signals ≡ signals)) }
     ensures memory { IfErr result (λ e. e ≡ Memory) }
 {

@@ -4,7 +4,8 @@ use Rattle.j39_app.proofs.Ending.{no_plan, plan_known, plan_refused}
 use Rattle.j39_app.proofs.answering.follow_files.Goals as goal
 
 pub returns-in_err-plan : goal.returns-in_err-plan
-returns-in_err-plan g c = no_plan (IsFollowOf c.args.all_frames) (IsFollowFrontOf c.args.all_frames) _ _ c.plan_of.result c.plan_of.ensures.ends _ _ c.in_err-plan.was (search rules)
+returns-in_err-plan g c =
+    no_plan (IsFollowOf c.args.all_frames) (IsFollowFrontOf c.args.all_frames) _ _ c.plan_of.result c.plan_of.ensures.ends _ _ c.in_err-plan.was (search rules)
 
 pub returns-in-Some : goal.returns-in-Some
 returns-in-Some g c =

@@ -30,7 +30,8 @@ returns c =
       level = record {
         is = record {
           own_frames = c.loop-level.invariant.own_frames;
-          queue_group = subst (λ (n : ℕ). All (AreAtMost c.args.leasts.now c.args.own.now c.loop-level.level n) c.args.all.now) same c.loop-level.invariant.queue_group;
+          queue_group =
+              subst (λ (n : ℕ). All (AreAtMost c.args.leasts.now c.args.own.now c.loop-level.level n) c.args.all.now) same c.loop-level.invariant.queue_group;
         };
         least = λ other is.
             let within : c.loop-level.next ≤ other = c.loop-level.invariant.least other is in

@@ -14,7 +14,8 @@ use Rattle.j39_plan.specs.TextTables.{IsTextOf, text_faults}
 use Rattle.j39_plan.specs.GroupTables.{group_table_faults}
 use Rattle.j39_tables.proofs.FirstFaults.{fails_on, first-append}
 use Rattle.j39_plan.proofs.NoFaults.{tables_count, length-Each, All-from_Each, Each-weaken}
-use Rattle.j39_plan.proofs.ReadGroups.{IsRead, grows_among, meanings_read, signals_read, signals_apart, signal_texts, signal_texts_told, texts_apart, texts_beside, texts_count}
+use Rattle.j39_plan.proofs.ReadGroups.{IsRead, grows_among, meanings_read, signals_read, signals_apart, signal_texts, signal_texts_told, texts_apart}
+use Rattle.j39_plan.proofs.ReadGroups.{texts_beside, texts_count}
 use Rattle.j39_plan.proofs.reading.groups.group.Goals as goal
 
 pub invariant_of-result-clause-signal_count : goal.invariant_of-result-clause-signal_count
@@ -39,7 +40,8 @@ invariant_of-result-clause-signal_divisors c =
     All-from_Each (IsRead c.args.version c.is_some-records.result) (λ s. IsDivisor s.per) (λ d s read. read.1.divisor) _ _ (signals_read c.args.version c.is_some-records.result _ _ _ c.in_ok-parts.ensures.signals c.in_ok-planned.ensures.1)
 
 pub invariant_of-result-clause-signal_labels : goal.invariant_of-result-clause-signal_labels
-invariant_of-result-clause-signal_labels c = signals_apart c.args.version c.is_some-records.result c.args.index _ _ (signals_read c.args.version c.is_some-records.result _ _ _ c.in_ok-parts.ensures.signals c.in_ok-planned.ensures.gives.1) c.in_ok-planned.ensures.gives.0
+invariant_of-result-clause-signal_labels c =
+    signals_apart c.args.version c.is_some-records.result c.args.index _ _ (signals_read c.args.version c.is_some-records.result _ _ _ c.in_ok-parts.ensures.signals c.in_ok-planned.ensures.gives.1) c.in_ok-planned.ensures.gives.0
 
 pub invariant_of-result-clause-text_count : goal.invariant_of-result-clause-text_count
 invariant_of-result-clause-text_count c =
