@@ -45,10 +45,10 @@ KEPT = "laws::frames_that_keep_a_plan"
 RECEIVED = "laws::kept_plans_lose_no_receiver"
 PAIRS = (
     Pair("jitter of single frames is left out", "frames::streams::single_stream", KEPT, (
-        Turn("specs/Loads.antt", "bits = longest_frame (most_bytes group);\n  late = bits_of_ms timing pace.jitter;",
-             "bits = longest_frame (most_bytes group);\n  late = 0;"),
-        Turn("src/frames/streams.rt", "bits: frame_bits(most_bytes(group)),\n        late: bits_of_ms(timing, pace.jitter),",
-             "bits: frame_bits(most_bytes(group)),\n        late: 0,"),
+        Turn("specs/Loads.antt", "bits = longest_frame (most_bytes group);\n  jitter = bits_of_ms timing pace.jitter;",
+             "bits = longest_frame (most_bytes group);\n  jitter = 0;"),
+        Turn("src/frames/streams.rt", "bits: frame_bits(most_bytes(group)),\n        jitter: bits_of_ms(timing, pace.jitter),",
+             "bits: frame_bits(most_bytes(group)),\n        jitter: 0,"),
     )),
     Pair("a period is a bit longer", "frames::streams::single_stream", KEPT, (
         Turn("specs/Loads.antt", "period = bits_of_ms timing pace.period;\n  bits = longest_frame (most_bytes group);",
@@ -79,45 +79,45 @@ PAIRS = (
         Turn("proofs/Sending.antt", "let same : u ≡ v = eqb-true u v is in", "let same : u ≡ v = absurd (false≢true is) in"),
         Turn("src/frames/identifiers.rt", "Queue::Any => Some(unit),", "Queue::Any => None,"),
     )),
-    Pair("a long message to one unit has no receiver", "flow_loads::packet_frames", KEPT, (
+    Pair("a long message to one unit has no receiver", "loads::flow_loads::packet_frames", KEPT, (
         Turn("specs/Loads.antt", "any_receiver = any_unit units v;", "any_receiver = None;"),
         Turn("proofs/Sending.antt", "placed w (two_ends units flow.sender v w is);", "placed w (one_end units flow.sender w is);"),
         Turn("proofs/Sending.antt", "(λ flow v pace packets. two_none flow.sender v)", "(λ flow v pace packets. one_none flow.sender)"),
-        Turn("src/flow_loads.rt", "any_receiver: any_unit(network, unit),", "any_receiver: None,"),
+        Turn("src/loads/flow_loads.rt", "any_receiver: any_unit(bus, unit),", "any_receiver: None,"),
     )),
-    Pair("the last identifier of a long message leaves out its answers", "identifiers::session_ident", KEPT, (
+    Pair("the last identifier of a long message leaves out its answers", "frames::identifiers::session_ident", KEPT, (
         Turn("specs/Loads.antt", "(transport_ident timing connection_management (held flow.sender) (held v))",
              "(transport_ident timing connection_management (held v) (held flow.sender))"),
-        Turn("src/identifiers.rt", "let answered = identifier(network.timing.transport_priority, pgn, from, to);",
+        Turn("src/frames/identifiers.rt", "let answered = Ident::number_of(bus.timing.transport_priority, pgn, from, to);",
              "let answered = identifier(network.timing.transport_priority, pgn, to, from);"),
     )),
-    Pair("a long message to one unit is late by its jitter alone", "streams::packet_stream", KEPT, (
-        Turn("specs/Loads.antt", "late = bits_of_ms timing pace.period + bits_of_ms timing pace.jitter;", "late = bits_of_ms timing pace.jitter;"),
-        Turn("src/streams.rt", "late: bits_of_ms(network.timing, pace.period) + bits_of_ms(network.timing, pace.jitter),",
-             "late: bits_of_ms(network.timing, pace.jitter),"),
+    Pair("a long message to one unit is late by its jitter alone", "frames::streams::packet_stream", KEPT, (
+        Turn("specs/Loads.antt", "jitter = bits_of_ms timing pace.period + bits_of_ms timing pace.jitter;", "jitter = bits_of_ms timing pace.jitter;"),
+        Turn("src/frames/streams.rt", "jitter: bits_of_ms(bus.timing, pace.period) + bits_of_ms(bus.timing, pace.jitter),",
+             "jitter: bits_of_ms(bus.timing, pace.jitter),"),
     )),
-    Pair("a long message to one unit has a frame less", "streams::frames_to_one", KEPT, (
+    Pair("a long message to one unit has a frame less", "frames::streams::frames_to_one", KEPT, (
         Turn("specs/Loads.antt", "frames_to_one units packets v = 2 + packets", "frames_to_one units packets v = 1 + packets"),
-        Turn("src/streams.rt", "2 + packets + packets.div_ceil", "1 + packets + packets.div_ceil"),
+        Turn("src/frames/streams.rt", "2 + packets + packets.div_ceil", "1 + packets + packets.div_ceil"),
     )),
-    Pair("a request has no bytes", "streams::request_stream", KEPT, (
+    Pair("a request has no bytes", "frames::streams::request_stream", KEPT, (
         Turn("specs/RequestLoads.antt", "request_bytes = 3", "request_bytes = 0"),
-        Turn("src/streams.rt", "bits: frame_bits(3),", "bits: frame_bits(0),"),
+        Turn("src/frames/streams.rt", "bits: frame_bits(3),", "bits: frame_bits(0),"),
     )),
-    Pair("the packets of the longest message lie between two announcements", "flow_loads::broadcast", KEPT, (
+    Pair("the packets of the longest message lie between two announcements", "loads::flow_loads::broadcast", KEPT, (
         Turn("specs/Loads.antt", "least_packets = max 2 (packets_of group.length);", "least_packets = max 2 (packets_of group.most);"),
-        Turn("src/flow_loads.rt", "ensures { result ≡ max 2 (packets_of group.now.length) }", "ensures { result ≡ max 2 (packets_of group.now.most) }"),
-        Turn("src/flow_loads.rt", "match Size::new(group.length) {", "match Size::new(group.most) {"),
+        Turn("src/loads/flow_loads.rt", "ensures { result ≡ max 2 (packets_of group.now.length) }", "ensures { result ≡ max 2 (packets_of group.now.most) }"),
+        Turn("src/loads/flow_loads.rt", "match Size::new(group.length) {", "match Size::new(group.most) {"),
     )),
-    Pair("a long message to all may be late by no jitter", "flow_loads::broadcast", KEPT, (
-        Turn("specs/Loads.antt", "apart = bits_of_ms timing pace.period;\n  late = bits_of_ms timing pace.jitter;",
-             "apart = bits_of_ms timing pace.period;\n  late = 0;"),
-        Turn("src/flow_loads.rt", "apart: bits_of_ms(timing, pace.period),\n        late: bits_of_ms(timing, pace.jitter),",
-             "apart: bits_of_ms(timing, pace.period),\n        late: 0,"),
+    Pair("a long message to all may be late by no jitter", "loads::flow_loads::broadcast", KEPT, (
+        Turn("specs/Loads.antt", "apart = bits_of_ms timing pace.period;\n  jitter = bits_of_ms timing pace.jitter;",
+             "apart = bits_of_ms timing pace.period;\n  jitter = 0;"),
+        Turn("src/loads/flow_loads.rt", "apart: bits_of_ms(timing, pace.period),\n        jitter: bits_of_ms(timing, pace.jitter),",
+             "apart: bits_of_ms(timing, pace.period),\n        jitter: 0,"),
     )),
-    Pair("a receiver gives up after 7.5 seconds", "turns::known_turn_time", RECEIVED, (
+    Pair("a receiver gives up after 7.5 seconds", "waits::turns::known_turn_time", RECEIVED, (
         Turn("specs/Delays.antt", "longest_pause timing = bits_of_ms timing 750", "longest_pause timing = bits_of_ms timing 7500"),
-        Turn("src/turns.rt", "u64::from(bits_of_ms(timing, 750))", "u64::from(bits_of_ms(timing, 7500))"),
+        Turn("src/waits/turns.rt", "u64::from(bits_of_ms(timing, 750))", "u64::from(bits_of_ms(timing, 7500))"),
     )),
 )
 
