@@ -16,6 +16,8 @@ use Rattle.j39_load.specs.declared.frames.broadcast.Broadcast.{Broadcast}
 use Rattle.j39_load.specs.declared.frames.flow_frames.FlowFrames.{FlowFrames}
 use Rattle.j39_load.specs.Asked.{frames_asked, own_frames, wanting}
 use Rattle.j39_load.specs.Damage.{damage_frames, damage_streams, first_of_all}
+use Rattle.j39_load.specs.declared.frames.broadcast.BroadcastPart.{BroadcastPart}
+use Rattle.j39_load.specs.declared.frames.broadcast.BroadcastPart.TheVariants.{Announcements, Packets}
 use Rattle.j39_load.specs.Demands.{announcements_demand, demand_by, demands_of, packets_demand, want_of, wanted_by, wanted_from, wants_of}
 use Rattle.j39_load.specs.KeepsBroadcasts.{IsMessageToAll, KeepsBroadcasts}
 use Rattle.j39_load.specs.KeepsPlan.{source_place}
@@ -145,10 +147,10 @@ module _ (plan : Plan) (timing : Timing) (stays : UnitPlan → Bool) (s : Schedu
     place_wanted : (spot u whole (b.flow u m) < length (wants_of whole u)) × (get_or (wants_of whole u) (spot u whole (b.flow u m)) its ≡ its)
     place_wanted = at_spot u whole (b.flow u m) its its wanted
 
-    want_is : (announcements : Bool) → want_at (demand_by announcements (wants_of whole u)) (spot u whole (b.flow u m)) ≡ want_of announcements its
-    want_is announcements =
-        get_or-map (want_of announcements) (wants_of whole u) (spot u whole (b.flow u m)) its nothing place_wanted.0
-        ∙ ap (want_of announcements) place_wanted.1
+    want_is : (part : BroadcastPart) → want_at (demand_by part (wants_of whole u)) (spot u whole (b.flow u m)) ≡ want_of part its
+    want_is part =
+        get_or-map (want_of part) (wants_of whole u) (spot u whole (b.flow u m)) its nothing place_wanted.0
+        ∙ ap (want_of part) place_wanted.1
 
     few_packets : b.packets u m ≤ its.packets
     few_packets = let longest = one.longest in omega (arith, longest)
@@ -164,9 +166,9 @@ module _ (plan : Plan) (timing : Timing) (stays : UnitPlan → Bool) (s : Schedu
     place = λ p. number_of (sent.source p);
   }
 
-  module _ (u : ℕ) (announcements : Bool) where
+  module _ (u : ℕ) (part : BroadcastPart) where
     abbrev demand : Demand
-    demand = demand_by announcements (wants_of whole u)
+    demand = demand_by part (wants_of whole u)
 
     abbrev bs : List Broadcast
     bs = wants_of whole u
@@ -179,17 +181,17 @@ module _ (plan : Plan) (timing : Timing) (stays : UnitPlan → Bool) (s : Schedu
     periods f = elim (cases_lt f (length bs)) [
       | inl below ↦
           let its = wants_apart u whole (all_apart plan timing stays) f blank below in
-          let is = ap (λ (w : Want). w.period) (get_or-map (want_of announcements) bs f blank nothing below) in
+          let is = ap (λ (w : Want). w.period) (get_or-map (want_of part) bs f blank nothing below) in
           omega (arith, its, is)
       | inr past ↦
-          let size = length-map bs (want_of announcements) in
-          let is = ap (λ (w : Want). w.period) (get_or_past (map (want_of announcements) bs) f nothing (omega (arith, past, size))) in
+          let size = length-map bs (want_of part) in
+          let is = ap (λ (w : Want). w.period) (get_or_past (map (want_of part) bs) f nothing (omega (arith, past, size))) in
           omega (arith, is)
     ]
 
     in_turn : AreWantedInTurn demand (unit_messages u)
     in_turn = record {
-      flows = λ m below. let (inside, is) = place_wanted u m below in let size = length-map bs (want_of announcements) in omega (arith, inside, size);
+      flows = λ m below. let (inside, is) = place_wanted u m below in let size = length-map bs (want_of part) in omega (arith, inside, size);
       apart = λ m n pair.
           let (less, below, same) = pair in
           let first : m < b.count u = omega (arith, less, below) in
@@ -204,12 +206,12 @@ module _ (plan : Plan) (timing : Timing) (stays : UnitPlan → Bool) (s : Schedu
             is = refl;
           }) in
           let bits = behind_bits timing.bitrate second.pace.period (b.release u m) (b.release u n) far in
-          let period = ap (λ (w : Want). w.period) (want_is u n below announcements) in
+          let period = ap (λ (w : Want). w.period) (want_is u n below part) in
           omega (arith, bits, period);
       release_first = λ m below. (one u m below).release_first;
       jitter_at_most = λ m below.
           let bits = within_bits timing.bitrate (one u m below).pace.jitter (b.release u m) (b.wanted u m) (one u m below).jitter_at_most in
-          let late = ap (λ (w : Want). w.jitter) (want_is u m below announcements) in
+          let late = ap (λ (w : Want). w.jitter) (want_is u m below part) in
           omega (arith, bits, late);
       wanted_first = λ m below. (one u m below).wanted_first;
       one_waits = λ m n pair.
@@ -220,15 +222,15 @@ module _ (plan : Plan) (timing : Timing) (stays : UnitPlan → Bool) (s : Schedu
           keeps.one_waits u m n (less, below, flow);
     }
 
-  longest : (u : ℕ) → HasLongest (demand u false)
-  longest u f = elim (cases_lt f (length (bs u false))) [
+  longest : (u : ℕ) → HasLongest (demand u Packets)
+  longest u f = elim (cases_lt f (length (bs u Packets))) [
     | inl below ↦
-        let most = most_at_spot u (bs u false) f (blank u false) below in
-        let is = ap (λ (w : Want). w.frames) (get_or-map (want_of false) (bs u false) f (blank u false) nothing below) in
+        let most = most_at_spot u (bs u Packets) f (blank u Packets) below in
+        let is = ap (λ (w : Want). w.frames) (get_or-map (want_of Packets) (bs u Packets) f (blank u Packets) nothing below) in
         omega (arith, most, is)
     | inr past ↦
-        let size = length-map (bs u false) (want_of false) in
-        let is = ap (λ (w : Want). w.frames) (get_or_past (map (want_of false) (bs u false)) f nothing (omega (arith, past, size))) in
+        let size = length-map (bs u Packets) (want_of Packets) in
+        let is = ap (λ (w : Want). w.frames) (get_or_past (map (want_of Packets) (bs u Packets)) f nothing (omega (arith, past, size))) in
         omega (arith, is)
   ]
 
@@ -291,11 +293,11 @@ module _ (plan : Plan) (timing : Timing) (stays : UnitPlan → Bool) (s : Schedu
     ]
 
     packets_most : (u m k : ℕ) → m < b.count u → ((traffic plan timing stays).stream (source_place plan (Carrying u m k))).wanted ≡ Some (packets_demand u)
-        → (t span : ℕ) → releases_in w plans of (source_place plan (Carrying u m k)) t span ≤ frames_wanted span (demand u false)
+        → (t span : ℕ) → releases_in w plans of (source_place plan (Carrying u m k)) t span ≤ frames_wanted span (demand u Packets)
     packets_most u m k below some t span =
-        packets_asked w plans of (source_place plan (Carrying u m k)) (demand u false) (unit_messages u) (periods u false) (in_turn u false) are t span (longest u)
+        packets_asked w plans of (source_place plan (Carrying u m k)) (demand u Packets) (unit_messages u) (periods u Packets) (in_turn u Packets) are t span (longest u)
       where
-        are : AreFramesOfMessages w plans of (source_place plan (Carrying u m k)) (demand u false) (unit_messages u)
+        are : AreFramesOfMessages w plans of (source_place plan (Carrying u m k)) (demand u Packets) (unit_messages u)
         are = record {
           known = λ p its. let x = packet u m k p below some its in
               subst (λ (y : Source). message_of y < b.count u) (sym x.source) x.known;
@@ -315,18 +317,18 @@ module _ (plan : Plan) (timing : Timing) (stays : UnitPlan → Bool) (s : Schedu
               keeps.carried p q u x.message x.number x.copy.below y.copy.below x.copy.is y.copy.is x.source
               (y.source ∙ (ap (λ (n : ℕ). Carrying u n y.number) messages ∙ ap (λ (n : ℕ). Carrying u x.message n) numbers));
           places = λ p its. let x = packet u m k p below some its in
-              let frames = ap (λ (want : Want). want.frames) (want_is u x.message x.known false) in
+              let frames = ap (λ (want : Want). want.frames) (want_is u x.message x.known Packets) in
               let few = x.few in
               let most = few_packets u x.message x.known in
-              subst (λ (y : Source). number_of y < (want_at (demand u false) (spot u whole (b.flow u (message_of y)))).frames) (sym x.source)
+              subst (λ (y : Source). number_of y < (want_at (demand u Packets) (spot u whole (b.flow u (message_of y)))).frames) (sym x.source)
               (omega (arith, frames, few, most));
         }
 
     announcements_most : (u m : ℕ) → m < b.count u
         → ((traffic plan timing stays).stream (source_place plan (Announcing u m))).wanted ≡ Some (announcements_demand u)
-        → (t span : ℕ) → releases_in w plans of (source_place plan (Announcing u m)) t span ≤ frames_wanted span (demand u true)
+        → (t span : ℕ) → releases_in w plans of (source_place plan (Announcing u m)) t span ≤ frames_wanted span (demand u Announcements)
     announcements_most u m below some t span =
-        announcements_asked w plans of (source_place plan (Announcing u m)) (demand u true) (unit_messages u) (periods u true) (in_turn u true) are t span at_once
+        announcements_asked w plans of (source_place plan (Announcing u m)) (demand u Announcements) (unit_messages u) (periods u Announcements) (in_turn u Announcements) are t span at_once
       where
         announced_at : (p : ℕ) → IsOf w plans of (source_place plan (Announcing u m)) p → of.since p ≡ b.announced u (message_of (sent.source p))
         announced_at p its =
@@ -337,7 +339,7 @@ module _ (plan : Plan) (timing : Timing) (stays : UnitPlan → Bool) (s : Schedu
         at_once : AreAnnouncements w plans of (source_place plan (Announcing u m)) (unit_messages u)
         at_once p its = announced_at p its
 
-        are : AreFramesOfMessages w plans of (source_place plan (Announcing u m)) (demand u true) (unit_messages u)
+        are : AreFramesOfMessages w plans of (source_place plan (Announcing u m)) (demand u Announcements) (unit_messages u)
         are = record {
           known = λ p its. let x = announcement u m p below some its in
               subst (λ (y : Source). message_of y < b.count u) (sym x.source) x.known;
@@ -356,8 +358,8 @@ module _ (plan : Plan) (timing : Timing) (stays : UnitPlan → Bool) (s : Schedu
               let messages : y.message ≡ x.message = sym (ap message_of y.source) ∙ (sym message ∙ ap message_of x.source) in
               keeps.once p q u x.message x.copy.below y.copy.below x.copy.is y.copy.is x.source (y.source ∙ ap (λ (n : ℕ). Announcing u n) messages);
           places = λ p its. let x = announcement u m p below some its in
-              let frames = ap (λ (want : Want). want.frames) (want_is u x.message x.known true) in
-              subst (λ (y : Source). number_of y < (want_at (demand u true) (spot u whole (b.flow u (message_of y)))).frames) (sym x.source)
+              let frames = ap (λ (want : Want). want.frames) (want_is u x.message x.known Announcements) in
+              subst (λ (y : Source). number_of y < (want_at (demand u Announcements) (spot u whole (b.flow u (message_of y)))).frames) (sym x.source)
               (omega (arith, frames));
         }
 
@@ -391,13 +393,13 @@ module _ (plan : Plan) (timing : Timing) (stays : UnitPlan → Bool) (s : Schedu
       of_source (Announcing u m) release p frame paced t span demand is =
           let some : (stream (source_place plan (Announcing u m))).wanted ≡ Some (announcements_demand u) = ap (λ (x : Stream). x.wanted) paced in
           subst (λ (x : Demand). releases_in w plans of (source_place plan (Announcing u m)) t span ≤ frames_wanted span x)
-          (demand_told (source_place plan (Announcing u m)) (announcements_demand u) demand (demand_by true (wants_of whole u)) some
+          (demand_told (source_place plan (Announcing u m)) (announcements_demand u) demand (demand_by Announcements (wants_of whole u)) some
           (announcements_wanted u whole (unit_few u m frame.known)) is)
           (announcements_most u m frame.known some t span)
       of_source (Carrying u m k) release p frame paced t span demand is =
           let some : (stream (source_place plan (Carrying u m k))).wanted ≡ Some (packets_demand u) = ap (λ (x : Stream). x.wanted) paced in
           subst (λ (x : Demand). releases_in w plans of (source_place plan (Carrying u m k)) t span ≤ frames_wanted span x)
-          (demand_told (source_place plan (Carrying u m k)) (packets_demand u) demand (demand_by false (wants_of whole u)) some
+          (demand_told (source_place plan (Carrying u m k)) (packets_demand u) demand (demand_by Packets (wants_of whole u)) some
           (packets_wanted u whole (unit_few u m frame.0.known)) is)
           (packets_most u m k frame.0.known some t span)
 

@@ -1,5 +1,5 @@
 -- What is wanted of a unit's broadcasts, by the places of its flows: each flow has a place of its own among what is wanted.
-use Rattle.std.proofs.Common.{◌≡◌, ℕ, zero, suc, ◌+◌, ◌<◌, ◌≤◌, Bool, true, false, List, [], ◌∷◌, length, get_or, Option, Some, None}
+use Rattle.std.proofs.Common.{◌≡◌, ℕ, zero, suc, ◌+◌, ◌<◌, ◌≤◌, Bool, List, [], ◌∷◌, length, get_or, Option, Some, None}
 use Rattle.std.proofs.Common.{refl, sym, ap, ◌∙◌, subst, arith}
 use Rattle.std.proofs.lemmas.List.{get_or-append-add, get_or_append_left, length-append}
 use Rattle.std.proofs.lemmas.List.FromFn.{get_or-map-range_with_len, length-map-range_with_len}
@@ -12,6 +12,8 @@ use Rattle.j39_load.specs.declared.frames.broadcast.Broadcast.{Broadcast}
 use Rattle.j39_load.specs.declared.frames.flow_frames.FlowFrames.{FlowFrames}
 use Rattle.j39_load.specs.declared.loads.flow_load.FlowLoad.{FlowLoad}
 use Rattle.j39_load.specs.Broadcasts.{broadcast_by, broadcasts_by, known_unit_load, least_packets, unit_load}
+use Rattle.j39_load.specs.declared.frames.broadcast.BroadcastPart.{BroadcastPart}
+use Rattle.j39_load.specs.declared.frames.broadcast.BroadcastPart.TheVariants.{Announcements, Packets}
 use Rattle.j39_load.specs.Demands.{announcements_demand, demand_by, demands_by, demands_of, most_packets, packets_demand, wanted_by, wants_of}
 use Rattle.j39_timing.specs.Waits.{Demand}
 
@@ -92,27 +94,27 @@ module _ (u : ℕ) where
     abbrev none_wanted : Demand
     none_wanted = record { under_way = 0; wants = [] }
 
-    size : (announcements : Bool) → length (demands_by announcements all) ≡ unit_limit
-    size announcements = length-map-range_with_len (λ v. demand_by announcements (wants_of all v)) 0 unit_limit
+    size : (part : BroadcastPart) → length (demands_by part all) ≡ unit_limit
+    size part = length-map-range_with_len (λ v. demand_by part (wants_of all v)) 0 unit_limit
 
-    read_demand : (announcements : Bool) → get_or (demands_by announcements all) u none_wanted ≡ demand_by announcements (wants_of all u)
-    read_demand announcements =
-        get_or-map-range_with_len (λ v. demand_by announcements (wants_of all v)) 0 unit_limit u u none_wanted below (omega arith)
+    read_demand : (part : BroadcastPart) → get_or (demands_by part all) u none_wanted ≡ demand_by part (wants_of all u)
+    read_demand part =
+        get_or-map-range_with_len (λ v. demand_by part (wants_of all v)) 0 unit_limit u u none_wanted below (omega arith)
 
-    pub packets_wanted : slice_get (demands_of all) (packets_demand u) ≡ Some (demand_by false (wants_of all u))
+    pub packets_wanted : slice_get (demands_of all) (packets_demand u) ≡ Some (demand_by Packets (wants_of all u))
     packets_wanted =
-        let first = size false in
-        let second = size true in
-        let whole = length-append (demands_by false all) (demands_by true all) in
+        let first = size Packets in
+        let second = size Announcements in
+        let whole = length-append (demands_by Packets all) (demands_by Announcements all) in
         slice_get-get_or (demands_of all) u none_wanted (omega (arith, below, whole, first, second))
-        ∙ ap Some (get_or_append_left (demands_by false all) (demands_by true all) none_wanted u (omega (arith, below, first)) ∙ read_demand false)
+        ∙ ap Some (get_or_append_left (demands_by Packets all) (demands_by Announcements all) none_wanted u (omega (arith, below, first)) ∙ read_demand Packets)
 
-    pub announcements_wanted : slice_get (demands_of all) (announcements_demand u) ≡ Some (demand_by true (wants_of all u))
+    pub announcements_wanted : slice_get (demands_of all) (announcements_demand u) ≡ Some (demand_by Announcements (wants_of all u))
     announcements_wanted =
-        let first = size false in
-        let second = size true in
-        let whole = length-append (demands_by false all) (demands_by true all) in
-        let place : length (demands_by false all) + u ≡ announcements_demand u = omega (arith, first) in
+        let first = size Packets in
+        let second = size Announcements in
+        let whole = length-append (demands_by Packets all) (demands_by Announcements all) in
+        let place : length (demands_by Packets all) + u ≡ announcements_demand u = omega (arith, first) in
         slice_get-get_or (demands_of all) (announcements_demand u) none_wanted (omega (arith, below, whole, first, second))
         ∙ ap Some (ap (λ (k : ℕ). get_or (demands_of all) k none_wanted) (sym place)
-        ∙ (get_or-append-add (demands_by false all) (demands_by true all) u none_wanted ∙ read_demand true))
+        ∙ (get_or-append-add (demands_by Packets all) (demands_by Announcements all) u none_wanted ∙ read_demand Announcements))
