@@ -187,7 +187,7 @@ divisor_of v p s is =
     let (j, signal, there) = parts_of (signal_of v (group_of_point p.at.bus flow)) p.signal s rest in
     let (g, g_is, at) = parts_of (λ (group : GroupPlan). slice_get group.signals.items j) (group_at v.buses.items (group_of_point p.at.bus flow)) s there in
     let divides = one_of_all (λ (s : SignalParts). IsDivisor s.per) g.signals.items j s g.signal_divisors at in
-    leb-true 1 s.per (and_parts _ _ divides).1
+    leb-true 1 s.per (and_parts _ _ divides).0
 
 no_value_if_exact : (t : SignalParts) (exact : Bool) (bytes : List ℕ) → exact ≡ true → IsUnset t exact (reading t bytes) → HasNoValue (reading t bytes)
 no_value_if_exact t exact bytes is (inl no_value) = no_value
