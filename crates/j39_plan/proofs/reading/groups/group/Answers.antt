@@ -37,7 +37,7 @@ invariant_of-result-clause-signal_ranges c =
 
 pub invariant_of-result-clause-signal_divisors : goal.invariant_of-result-clause-signal_divisors
 invariant_of-result-clause-signal_divisors c =
-    All-from_Each (IsRead c.args.version c.is_some-records.result) (λ s. IsDivisor s.per) (λ d s read. read.1.divisor) _ _ (signals_read c.args.version c.is_some-records.result _ _ _ c.in_ok-parts.ensures.signals c.in_ok-planned.ensures.1)
+    All-from_Each (IsRead c.args.version c.is_some-records.result) (λ s. IsDivisor s.per) (λ d s read. read.1.divisor) _ _ (signals_read c.args.version c.is_some-records.result _ _ _ c.in_ok-parts.ensures.signals c.in_ok-planned.ensures.gives.1)
 
 pub invariant_of-result-clause-signal_labels : goal.invariant_of-result-clause-signal_labels
 invariant_of-result-clause-signal_labels c =
