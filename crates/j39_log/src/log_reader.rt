@@ -11,7 +11,7 @@ use std::alloc::AllocError;
 #[derive(Drop)]
 pub(crate) struct LogReader<'a, R> {
     pub groups: &'a Groups<'a>,
-    pub report: R,
+    pub report: &'a mut R,
     pub counts: LineCounts,
     // The number of the last line that was read, counted from 1.
     pub number: u64,
@@ -28,9 +28,9 @@ impl<'a, R: LogReport> LineReader for LogReader<'a, R> {
     ghost goes = { λ _. true };
 
     ghost has_read = { λ reader ls written. (reader.number ≡ length ls)
-        × R.has_reported reader.report reader.groups.now reader.counts ls (written ++ reader.text) };
+        × R.has_reported reader.report.now reader.groups.now reader.counts ls (written ++ reader.text) };
 
-    ghost is_text = { λ reader log text verdict. R.is_log_text reader.report reader.groups.now log text
+    ghost is_text = { λ reader log text verdict. R.is_log_text reader.report.now reader.groups.now log text
         × (verdict ≡ Done) };
 
     ghost within = { λ reader most. (reader.number ≤ most) × AreWithin reader.counts most };

@@ -22,5 +22,6 @@ pub fn read_text<S: Source, W: Sink>(
 ) -> Result<Verdict, Fault>
     ensures { AnswersInPieces (IsReadText plan.now) log_limits (S.state source.old) (S.state source.new) W.state sink.old sink.new result }
 {
-    report_log(alloc, plan, AddressReport::new(alloc), source, sink)
+    let mut report = AddressReport::new(alloc);
+    report_log(alloc, plan, &mut report, source, sink)
 }

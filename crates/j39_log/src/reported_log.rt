@@ -44,12 +44,12 @@ fn refuse<W: Sink>(alloc: Global, plan: &Plan, group: usize, sink: &mut W) -> Re
 pub fn report_log<R: LogReport, S: Source, W: Sink>(
     alloc: Global,
     plan: &Plan,
-    report: R,
+    report: &mut R,
     source: &mut S,
     sink: &mut W,
 ) -> Result<Verdict, Fault>
-    requires { R.has_reported report plan.now no_lines [] [] }
-    ensures { AnswersInPieces (IsTextFor plan.now (R.is_log_text report plan.now)) log_limits
+    requires { R.has_reported report.old plan.now no_lines [] [] }
+    ensures { AnswersInPieces (IsTextFor plan.now (R.is_log_text report.old plan.now)) log_limits
         (S.state source.old) (S.state source.new) W.state sink.old sink.new result }
 {
     match Groups::new(alloc, plan) {

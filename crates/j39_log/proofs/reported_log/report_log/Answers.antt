@@ -8,7 +8,7 @@ use Rattle.j39_log.proofs.reported_log.report_log.Goals as goal
 
 pub read_lines-requires-clause-begins : goal.read_lines-requires-clause-begins
 read_lines-requires-clause-begins g c =
-    let report = c.args.report in
+    let report = c.args.report.now in
     let plan = c.in-Ok.groups in
     let counts = c.new-in-Ok.result in
     so_far (g.R.LogReport.has_reported report plan counts) (g.R.LogReport.is_log_text report plan) (g.met.R.LogReport.ends report plan counts)
@@ -24,14 +24,14 @@ returns-in-Ok g c =
     said_of c.read_lines.result
     (λ log text verdict is. rw is.1 (
       c.in-Ok.ensures.readable,
-      subst (λ (p : Plan). g.R.LogReport.is_log_text c.args.report p log text) c.in-Ok.ensures.plan is.0,
+      subst (λ (p : Plan). g.R.LogReport.is_log_text c.args.report.now p log text) c.in-Ok.ensures.plan is.0,
     ))
     c.read_lines.ensures.answers
 
 pub returns-in-Err-Memory : goal.returns-in-Err-Memory
 returns-in-Err-Memory g c = not_begun _ refl
 
-pub returns : goal.returns
-returns g c =
+pub returns-in-Err-BadGroup : goal.returns-in-Err-BadGroup
+returns-in-Err-BadGroup g c =
     let first = rw c.in-Err-BadGroup.field-0-is at c.in-Err-BadGroup.ensures.refused in
     put_unread c.refuse.result (λ text verdict is. rw is.1 ((c.in-Err-BadGroup.group, first, is.0, refl), λ done. cc done)) c.refuse.ensures

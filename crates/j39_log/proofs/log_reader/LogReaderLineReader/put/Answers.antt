@@ -8,6 +8,6 @@ returns-clause-lines g c =
     let plan = self.groups.now in
     IfOk-weaker c.put_text.result _ _
     (λ _ empty. λ ls written read.
-    put (g.R.LogReport.has_reported self.report plan self.counts) (g.R.LogReport.is_log_text self.report plan)
-    (g.met.R.LogReport.ends self.report plan self.counts) self.number self.text c.put_text.new.text ls written empty read)
+    put (g.R.LogReport.has_reported self.report.now plan self.counts) (g.R.LogReport.is_log_text self.report.now plan)
+    (g.met.R.LogReport.ends self.report.now plan self.counts) self.number self.text c.put_text.new.text ls written empty read)
     c.put_text.ensures.empty

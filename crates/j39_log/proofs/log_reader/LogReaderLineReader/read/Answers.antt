@@ -17,13 +17,13 @@ pub returns-in-More-clause-lines : goal.returns-in-More-clause-lines
 returns-in-More-clause-lines g c before written kept =
     let self = c.args.self.now in
     let plan = self.groups.now in
-    let Reported : List Line → List ℕ → Type 0 = g.R.LogReport.has_reported self.report plan self.counts in
-    let IsText : List ℕ → List ℕ → Type 0 = g.R.LogReport.is_log_text self.report plan in
+    let Reported : List Line → List ℕ → Type 0 = g.R.LogReport.has_reported self.report.now plan self.counts in
+    let IsText : List ℕ → List ℕ → Type 0 = g.R.LogReport.is_log_text self.report.now plan in
     subst
     (λ (cut : Cut). IsSoFar (Keeps Reported self.number self.text) (λ log text verdict. IsText log text × (verdict ≡ Done)) true self.text
     (before ++ tells cut c.args.line.now) written)
     (sym c.in-More.is)
-    (none_more Reported IsText (g.met.R.LogReport.ends self.report plan self.counts) self.number self.text before written kept)
+    (none_more Reported IsText (g.met.R.LogReport.ends self.report.now plan self.counts) self.number self.text before written kept)
 
 pub returns-in-Line-clause-lines : goal.returns-in-Line-clause-lines
 returns-in-Line-clause-lines g c =
@@ -32,7 +32,7 @@ returns-in-Line-clause-lines g c =
     let report = c.read_line.new.self in
     let counts = c.read_line.new.counts in
     let text = c.read_line.new.text in
-    let Old : List Line → List ℕ → Type 0 = g.R.LogReport.has_reported self.report plan self.counts in
+    let Old : List Line → List ℕ → Type 0 = g.R.LogReport.has_reported self.report.now plan self.counts in
     let Reported : List Line → List ℕ → Type 0 = g.R.LogReport.has_reported report plan counts in
     let IsText : List ℕ → List ℕ → Type 0 = g.R.LogReport.is_log_text report plan in
     IfOk-weaker c.read_line.result _ _
@@ -50,14 +50,14 @@ returns-in-Long-clause-lines g c before written kept =
     let self = c.args.self.now in
     let plan = self.groups.now in
     let counts : LineCounts = one_more_bad self.counts in
-    let Old : List Line → List ℕ → Type 0 = g.R.LogReport.has_reported self.report plan self.counts in
-    let Reported : List Line → List ℕ → Type 0 = g.R.LogReport.has_reported self.report plan counts in
-    let IsText : List ℕ → List ℕ → Type 0 = g.R.LogReport.is_log_text self.report plan in
+    let Old : List Line → List ℕ → Type 0 = g.R.LogReport.has_reported self.report.now plan self.counts in
+    let Reported : List Line → List ℕ → Type 0 = g.R.LogReport.has_reported self.report.now plan counts in
+    let IsText : List ℕ → List ℕ → Type 0 = g.R.LogReport.is_log_text self.report.now plan in
     let reports : List ℕ = written ++ self.text in
-    let long = g.met.R.LogReport.long_line self.report plan self.counts before reports kept.1 in
+    let long = g.met.R.LogReport.long_line self.report.now plan self.counts before reports kept.1 in
     subst
     (λ (cut : Cut). IsSoFar (Keeps Reported (self.number + 1) self.text) (λ log text verdict. IsText log text × (verdict ≡ Done)) true self.text
     (before ++ tells cut c.args.line.now) written)
     (sym c.in-Long.is)
-    (one_more Reported IsText (g.met.R.LogReport.ends self.report plan counts) Old self.number Long self.text self.text before written
+    (one_more Reported IsText (g.met.R.LogReport.ends self.report.now plan counts) Old self.number Long self.text self.text before written
     (λ _. ([], subst (Reported (before ++ Long ∷ [])) (sym (append-nil reports)) long, sym (append-nil self.text))) kept)
