@@ -35,7 +35,7 @@ NEARLY = 4
 # What a check takes for each processor, about, and the whole build: in the folders `out`, and the most that all of it takes.
 JOB_BYTES = 2_000_000_000
 DISK_BYTES = int(os.environ.get("J39PLAN_DISK_BYTES", "13000000000"))
-NEEDS = "some 30 minutes on four processors and 110 on one, 2 GB of memory for each processor, 13 GB of disk"
+NEEDS = "30 to 40 minutes on four processors and 110 on one, 2 GB of memory for each processor, 13 GB of disk"
 
 
 def say(text: str) -> None:
