@@ -42,41 +42,98 @@ class Pair:
 
 
 KEPT = "laws::frames_that_keep_a_plan"
+RECEIVED = "laws::kept_plans_lose_no_receiver"
+LOSSLESS = "laws::long_messages_take_the_frames_told"
+LONG_RUN = "laws::loads_hold_in_the_long_run"
 PAIRS = (
-    Pair("jitter of single frames is left out", "streams::single_stream", KEPT, (
-        Turn("specs/Loads.antt", "bits = longest_frame (most_bytes group);\n  late = bits_of_ms timing pace.jitter;",
-             "bits = longest_frame (most_bytes group);\n  late = 0;"),
-        Turn("src/streams.rt", "bits: frame_bits(most_bytes(group)),\n        late: bits_of_ms(timing, pace.jitter),",
-             "bits: frame_bits(most_bytes(group)),\n        late: 0,"),
+    Pair("jitter of single frames is left out", "frames::streams::single_stream", KEPT, (
+        Turn("specs/Loads.antt", "bits = longest_frame (most_bytes group);\n  jitter = bits_of_ms timing pace.jitter;",
+             "bits = longest_frame (most_bytes group);\n  jitter = 0;"),
+        Turn("src/frames/streams.rt", "bits: frame_bits(most_bytes(group)),\n        jitter: bits_of_ms(timing, pace.jitter),",
+             "bits: frame_bits(most_bytes(group)),\n        jitter: 0,"),
     )),
-    Pair("a period is a bit longer", "streams::single_stream", KEPT, (
+    Pair("a period is a bit longer", "frames::streams::single_stream", KEPT, (
         Turn("specs/Loads.antt", "period = bits_of_ms timing pace.period;\n  bits = longest_frame (most_bytes group);",
              "period = bits_of_ms timing pace.period + 1;\n  bits = longest_frame (most_bytes group);"),
-        Turn("src/streams.rt", "period: bits_of_ms(timing, pace.period),\n        bits: frame_bits(most_bytes(group)),",
+        Turn("src/frames/streams.rt", "period: bits_of_ms(timing, pace.period),\n        bits: frame_bits(most_bytes(group)),",
              "period: bits_of_ms(timing, pace.period) + 1,\n        bits: frame_bits(most_bytes(group)),"),
     )),
-    Pair("a single frame's last identifier is its least", "flow_loads::single_frames", KEPT, (
+    Pair("a single frame's last identifier is its least", "loads::flow_loads::single_frames", KEPT, (
         Turn("specs/Loads.antt", "last_ident = group_ident (of_unit units (greatest_address stays)) group flow;",
              "last_ident = group_ident (of_unit units (least_address stays)) group flow;"),
-        Turn("src/flow_loads.rt", "last_ident: greatest_ident,", "last_ident: group_ident(network, Extreme::Least, group, flow),"),
+        Turn("src/loads/flow_loads.rt", "last_ident: greatest_ident,", "last_ident: group_ident(bus, Extreme::Least, group, flow),"),
     )),
-    Pair("125 kbit are counted as 250", "streams::bits_of_ms", KEPT, (
+    Pair("125 kbit are counted as 250", "frames::streams::bits_of_ms", KEPT, (
         Turn("specs/Loads.antt", "bits_per_ms Kbit125 = 125", "bits_per_ms Kbit125 = 250"),
-        Turn("src/streams.rt", "Bitrate::Kbit125 => 125,", "Bitrate::Kbit125 => 250,"),
+        Turn("src/frames/streams.rt", "Bitrate::Kbit125 => 125,", "Bitrate::Kbit125 => 250,"),
     )),
-    Pair("one damaged attempt comes in a window", "damage::damage_stream", KEPT, (
+    Pair("one damaged attempt comes in a window", "frames::damage::damage_stream", KEPT, (
         Turn("specs/Damage.antt", "record { frames = rate.count; period", "record { frames = 1; period"),
-        Turn("src/damage.rt", "frames: rate.count,", "frames: 1,"),
+        Turn("src/frames/damage.rt", "frames: rate.count,", "frames: 1,"),
     )),
-    Pair("unplanned frames of the very priority go before none", "delays::blocking", KEPT, (
+    Pair("unplanned frames of the very priority go before none", "waits::delays::blocking", KEPT, (
         Turn("specs/Delays.antt", "unplanned_idents timing = timing.unplanned_priority * 2 ^ 26",
              "unplanned_idents timing = (timing.unplanned_priority + 1) * 2 ^ 26"),
-        Turn("src/delays.rt", "u64::from(timing.unplanned_priority) * 67_108_864", "(u64::from(timing.unplanned_priority) + 1) * 67_108_864"),
+        Turn("src/waits/delays.rt", "ident >= first_of_priority(timing.unplanned_priority)", "ident >= first_of_priority(timing.unplanned_priority + 1)"),
     )),
-    Pair("units that keep no order are taken for others", "identifiers::any_unit", KEPT, (
+    Pair("units that keep no order are taken for others", "frames::identifiers::any_unit", KEPT, (
         Turn("specs/Loads.antt", "is_any Any = true", "is_any Any = false"),
         Turn("proofs/Sending.antt", "let same : u ≡ v = eqb-true u v is in", "let same : u ≡ v = absurd (false≢true is) in"),
-        Turn("src/identifiers.rt", "Queue::Any => Some(unit),", "Queue::Any => None,"),
+        Turn("src/frames/identifiers.rt", "Queue::Any => Some(unit),", "Queue::Any => None,"),
+    )),
+    Pair("a long message to one unit has no receiver", "loads::flow_loads::packet_frames", KEPT, (
+        Turn("specs/Loads.antt", "any_receiver = any_unit units v;", "any_receiver = None;"),
+        Turn("proofs/Sending.antt", "placed w (two_ends units flow.sender v w is);", "placed w (one_end units flow.sender w is);"),
+        Turn("proofs/Sending.antt", "(λ flow v pace packets. two_none flow.sender v)", "(λ flow v pace packets. one_none flow.sender)"),
+        Turn("src/loads/flow_loads.rt", "any_receiver: any_unit(bus, unit),", "any_receiver: None,"),
+    )),
+    Pair("the last identifier of a long message leaves out its answers", "frames::identifiers::session_ident", KEPT, (
+        Turn("specs/Loads.antt", "(transport_ident timing connection_management (held flow.sender) (held v))",
+             "(transport_ident timing connection_management (held v) (held flow.sender))"),
+        Turn("src/frames/identifiers.rt", "let answered = Ident::number_of(bus.timing.transport_priority, pgn, from, to);",
+             "let answered = Ident::number_of(bus.timing.transport_priority, pgn, to, from);"),
+    )),
+    Pair("a long message to one unit is late by its jitter alone", "frames::streams::packet_stream", KEPT, (
+        Turn("specs/Loads.antt", "jitter = bits_of_ms timing pace.period + bits_of_ms timing pace.jitter;", "jitter = bits_of_ms timing pace.jitter;"),
+        Turn("src/frames/streams.rt", "jitter: bits_of_ms(bus.timing, pace.period) + bits_of_ms(bus.timing, pace.jitter),",
+             "jitter: bits_of_ms(bus.timing, pace.jitter),"),
+    )),
+    Pair("a long message to one unit has a frame less", "frames::streams::frames_to_one", KEPT, (
+        Turn("specs/Loads.antt", "frames_to_one units packets v = 2 + packets", "frames_to_one units packets v = 1 + packets"),
+        Turn("src/frames/streams.rt", "2 + packets + packets.div_ceil", "1 + packets + packets.div_ceil"),
+    )),
+    Pair("a long message to all has a frame less", "frames::streams::frames_to_all", LOSSLESS, (
+        Turn("specs/Loads.antt", "frames_to_all packets = 1 + packets", "frames_to_all packets = packets"),
+        Turn("src/frames/streams.rt", "1 + u16::from(packets)", "u16::from(packets)"),
+    )),
+    Pair("the load leaves requests out", "loads::Loads::total", LONG_RUN, (
+        Turn("specs/Asked.antt", "    + (sum_by (λ load. option_map_or (λ (l : UnitLoad). l.bits_per_second) load 0) asked.units\n"
+             "    + sum_by (λ load. option_map_or (λ (l : RequestLoad). l.bits_per_second) load 0) asked.requests))",
+             "    + sum_by (λ load. option_map_or (λ (l : UnitLoad). l.bits_per_second) load 0) asked.units)"),
+        Turn("src/loads.rt", "(self.total_of_units() + self.total_of_requests())", "self.total_of_units()"),
+    )),
+    Pair("the load leaves error frames out", "frames::damage::load_of_damage", LONG_RUN, (
+        Turn("specs/Damage.antt", "1000 * (rate.count * (longest_frame frame_bytes + error_frame))", "1000 * (rate.count * longest_frame frame_bytes)"),
+        Turn("src/frames/damage.rt", "u32::from(frame_bits(8) + ERROR_FRAME)", "u32::from(frame_bits(8))"),
+    )),
+    Pair("a request has no bytes", "frames::streams::request_stream", KEPT, (
+        Turn("specs/RequestLoads.antt", "request_bytes = 3", "request_bytes = 0"),
+        Turn("src/frames/streams.rt", "bits: frame_bits(3),", "bits: frame_bits(0),"),
+    )),
+    Pair("the packets of the longest message lie between two announcements", "loads::flow_loads::broadcast", KEPT, (
+        Turn("specs/Loads.antt", "least_packets = max 2 (packets_of group.length);", "least_packets = max 2 (packets_of group.most);"),
+        Turn("src/loads/flow_loads.rt", "ensures { result ≡ max 2 (packets_of group.now.length) }", "ensures { result ≡ max 2 (packets_of group.now.most) }"),
+        Turn("src/loads/flow_loads.rt", "match Size::new(group.length) {", "match Size::new(group.most) {"),
+    )),
+    Pair("a long message to all may be late by no jitter", "loads::flow_loads::broadcast", KEPT, (
+        Turn("specs/Loads.antt", "apart = bits_of_ms timing pace.period;\n  jitter = bits_of_ms timing pace.jitter;",
+             "apart = bits_of_ms timing pace.period;\n  jitter = 0;"),
+        Turn("src/loads/flow_loads.rt", "apart: bits_of_ms(timing, pace.period),\n        jitter: bits_of_ms(timing, pace.jitter),",
+             "apart: bits_of_ms(timing, pace.period),\n        jitter: 0,"),
+    )),
+    Pair("a receiver gives up after 7.5 seconds", "waits::turns::known_turn_time", RECEIVED, (
+        Turn("specs/Delays.antt", "longest_pause timing = bits_of_ms timing 750", "longest_pause timing = bits_of_ms timing 7500"),
+        Turn("src/waits/turns.rt", "u64::from(bits_of_ms(timing, 750))", "u64::from(bits_of_ms(timing, 7500))"),
     )),
 )
 

@@ -1,9 +1,13 @@
-"""The edits that must fail: each is of names that its file knows. One of another name is refused for that, whatever its contract says."""
+"""The edits that must fail, and the pairs of gate/pairs.py: each is of names that its file knows. One of another name is refused for that,
+whatever its contract says."""
 
 import glob
+import importlib.util
 import os
 import re
+import sys
 import unittest
+from typing import Any
 
 from tests.support import TOP, text_of
 
@@ -32,6 +36,32 @@ class Edits(unittest.TestCase):
         code = "ensures { IsQuiet w.claims }  // as in the first world, all.off"
         self.assertEqual(unknown("new: IsQuiet first.claims × IsQuiet w.claims × all.off\n", code), ["first", "all"])
         self.assertEqual(unknown("new: w.claims.map(|claim| claim.name + other.name)\n", code), ["other"])
+
+
+def pairs() -> Any:
+    """The module of gate/pairs.py."""
+    sys.path.insert(0, f"{TOP}/gate")
+    try:
+        spec = importlib.util.spec_from_file_location("pairs", f"{TOP}/gate/pairs.py")
+        assert spec is not None and spec.loader is not None
+        module = importlib.util.module_from_spec(spec)
+        sys.modules[spec.name] = module
+        spec.loader.exec_module(module)
+        return module
+    finally:
+        sys.path.remove(f"{TOP}/gate")
+
+
+class Pairs(unittest.TestCase):
+    def test_pairs_are_of_texts_and_names_that_stand_in_their_files(self) -> None:
+        module = pairs()
+        self.assertGreaterEqual(len(module.PAIRS), 14)
+        for pair in module.PAIRS:
+            for turn in pair.turns:
+                code = text_of(f"{TOP}/crates/{module.CRATE}/{turn.file}")
+                self.assertEqual(code.count(turn.old), 1, (pair.name, turn.file))
+                known = set(re.findall(r"\w+", re.sub(r"(//|--).*", "", code)))
+                self.assertEqual([word for word in re.findall(r"[a-zA-Z_]\w*", turn.new) if word not in known], [], (pair.name, turn.file))
 
 
 if __name__ == "__main__":

@@ -29,6 +29,9 @@ OTHERS = {"gate/times.md", ".taplo.toml", ".vscode/tasks.json", "drive.log", "j1
 # A definition, by the head of its line: an abbreviation, a function, a record or a family. Fields and constructors have no such head.
 DEFINITION = re.compile(r"^(?: *(?:abbrev|unfoldable)(?: pub)?| *pub (?:record|data)|record|data) ([^\s({:]+)", re.MULTILINE)
 
+# A type, by the head of its line.
+TYPE = re.compile(r"^ *(?:pub(?:\(\w+\))? )?(?:struct|enum|trait) (\w+)", re.MULTILINE)
+
 
 def page(name: str) -> str:
     """A page's text."""
@@ -152,6 +155,9 @@ class Form(unittest.TestCase):
 # A vehicle file has tables and findings as a plan has them: the rules that both have stand under one name in either crate.
 PARALLEL = (("j39_plan", "j39_vehicle"), ("j39_findings", "j39_paths"))
 
+# The types that the reader of plan files and that of vehicle files each have, for tables of their own.
+READERS = ["Key", "NeedReader", "SignalReader", "Table", "TextKind"]
+
 
 def crates_of(files: list[str]) -> tuple[str, ...]:
     return tuple(sorted(file.split("/")[1] for file in files))
@@ -219,6 +225,24 @@ class Names(InFolder):
         self.assertGreaterEqual(len(homes), 150)
         shared = {name: sorted(files) for name, files in homes.items() if len(files) > 1 and crates_of(files) not in PARALLEL}
         self.assertEqual({name: files for name, files in shared.items() if name not in ("Lib.antt", "inside.antt")}, {})
+
+    def test_a_type_has_one_home(self) -> None:
+        """No two crates have a struct, an enum or a trait of one name, but for those that both readers of files have."""
+        homes = homes_of_types(TOP)
+        self.assertGreaterEqual(len(homes), 250)
+        shared = {name: crates for name, crates in sorted(homes.items()) if len(crates) > 1}
+        self.assertEqual({name: crates for name, crates in shared.items() if name not in READERS}, {})
+        self.assertEqual({name: homes.get(name, []) for name in READERS}, {name: ["j39_plan", "j39_vehicle"] for name in READERS})
+
+    def test_each_form_of_a_type_is_seen(self) -> None:
+        for crate, file, text in (
+            ("lower", "one", "pub struct Shared {\n    pub one: u8,\n}\n\n// struct Named\n"),
+            ("lower", "inside/two", "enum Own {\n    One,\n}\n\npub(crate) trait Seen<T> {}\n"),
+            ("upper", "three", "#[derive(Drop)]\nstruct Shared<'a>(&'a u8);\n\nfn one() {\n    enum Local {}\n}\n"),
+        ):
+            os.makedirs(self.path(f"crates/{crate}/src/inside"), exist_ok=True)
+            self.write(f"crates/{crate}/src/{file}.rt", text)
+        self.assertEqual(homes_of_types(self.folder), {"Own": ["lower"], "Seen": ["lower"], "Shared": ["lower", "upper"], "Local": ["upper"]})
 
     def test_each_form_of_a_definition_is_seen(self) -> None:
         for crate, module, text in (
@@ -302,6 +326,17 @@ def homes_of_definitions(top: str) -> dict[str, list[str]]:
     for file in sorted(glob.glob("crates/*/specs/**/*.antt", root_dir=top, recursive=True)):
         for name in dict.fromkeys(re.findall(DEFINITION, text_of(os.path.join(top, file)))):
             homes.setdefault(name, []).append(file)
+    return homes
+
+
+def homes_of_types(top: str) -> dict[str, list[str]]:
+    """The crates that have a type of each name in src/."""
+    homes: dict[str, list[str]] = {}
+    for file in sorted(glob.glob("crates/*/src/**/*.rt", root_dir=top, recursive=True)):
+        crate = file.split("/")[1]
+        for name in re.findall(TYPE, text_of(os.path.join(top, file))):
+            if crate not in homes.setdefault(name, []):
+                homes[name].append(crate)
     return homes
 
 

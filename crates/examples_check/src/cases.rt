@@ -5,7 +5,7 @@
 //! lie in the folder too.
 
 use crate::outcome::perform;
-use crate::stage::Stage;
+use crate::stage::ProgramStage;
 use std::fs;
 use std::io::ErrorKind;
 use std::rt::Files;
@@ -68,7 +68,7 @@ pub fn run_case<R: Files + Print + AllocGlobal>(
     let words = words_of(rt, lines.as_slice())?;
     let input = input_of(rt, folder)?;
     let room = number_of(rt, folder, "room", usize::MAX)?;
-    let outcome = perform(Stage::new(rt, folder, words.as_slice(), input.as_slice(), room));
+    let outcome = perform(ProgramStage::new(rt, folder, words.as_slice(), input.as_slice(), room));
     let output = bytes_of(rt, folder, "stdout")?.unwrap_or(Vec::new(rt.alloc()));
     let complaints = bytes_of(rt, folder, "stderr")?.unwrap_or(Vec::new(rt.alloc()));
     let status = number_of(rt, folder, "status", 0)?;

@@ -1,74 +1,74 @@
 //! Rows: a file that a command is run on, and beside it what the command writes.
 //!
 //! `PLAN.toml` is checked, and where `PLAN.addresses`, `PLAN.load` or `PLAN.show` stands beside it also answered as to its
-//! addresses, its load or its values, but where `NAME.answer` stands beside it `NAME.toml` is a vehicle file, and answered
-//! as one; `PLAN.NAME.schedule` is run and `PLAN.NAME.log` is read by the plan beside it and, where `PLAN.NAME.follow`
-//! stands there, also followed, or `PLAN.NAME.all`, all frames of it; `NAME.line` is a frame line; `NAME.vehicle` has the
-//! files of a vehicle, and what is written of them.
-//! Standard error stays empty, and the status is one of the program's output.
+//! addresses, its load or its values, but where `NAME.answer` stands beside it `NAME.toml` is a vehicle file, and
+//! answered as one; `PLAN.NAME.schedule` is run and `PLAN.NAME.log` is read by the plan beside it and, where
+//! `PLAN.NAME.follow` stands there, also followed, or `PLAN.NAME.all`, all frames of it; `NAME.line` is a frame line;
+//! `NAME.vehicle` has the files of a vehicle, and what is written of them. Standard error stays empty, and the status
+//! is one of the program's output.
 
 use crate::outcome::perform;
 use crate::pieces::are_as_shown;
-use crate::stage::Stage;
+use crate::stage::ProgramStage;
 use crate::vehicles::run_vehicle;
 use std::fs;
 use std::rt::Files;
 
 /// How files of one ending are run.
 #[derive(Clone, Copy)]
-struct Kind {
+struct RowKind {
     command: &'static str,
     ending: &'static str,
     shown: &'static str,
 }
 
-const KINDS: [Kind; 10] = [
-    Kind {
+const KINDS: [RowKind; 10] = [
+    RowKind {
         command: "check",
         ending: ".toml",
         shown: ".check",
     },
-    Kind {
+    RowKind {
         command: "vehicle",
         ending: ".answer",
         shown: ".answer",
     },
-    Kind {
+    RowKind {
         command: "addresses",
         ending: ".addresses",
         shown: ".addresses",
     },
-    Kind {
+    RowKind {
         command: "load",
         ending: ".load",
         shown: ".load",
     },
-    Kind {
+    RowKind {
         command: "show",
         ending: ".show",
         shown: ".show",
     },
-    Kind {
+    RowKind {
         command: "run",
         ending: ".schedule",
         shown: ".run",
     },
-    Kind {
+    RowKind {
         command: "read",
         ending: ".log",
         shown: ".read",
     },
-    Kind {
+    RowKind {
         command: "follow",
         ending: ".follow",
         shown: ".follow",
     },
-    Kind {
+    RowKind {
         command: "follow --all",
         ending: ".all",
         shown: ".all",
     },
-    Kind {
+    RowKind {
         command: "frame",
         ending: ".line",
         shown: ".frame",
@@ -88,7 +88,7 @@ fn plan_of<R: AllocGlobal>(rt: &R, name: &str) -> Result<String, anyhow::Error> 
 fn words_of<R: Files + AllocGlobal>(
     rt: &R,
     folder: &str,
-    kind: Kind,
+    kind: RowKind,
     name: &str,
 ) -> Result<Vec<Vec<u8>>, anyhow::Error> {
     let file = format!(in rt.alloc(); "{name}{}", kind.ending)?;
@@ -116,7 +116,7 @@ fn words_of<R: Files + AllocGlobal>(
 fn is_shown_in_pieces<R: Files + AllocGlobal>(
     rt: &R,
     folder: &str,
-    kind: Kind,
+    kind: RowKind,
     name: &str,
     wanted: &[u8],
 ) -> Result<bool, anyhow::Error> {
@@ -140,11 +140,11 @@ fn is_shown_in_pieces<R: Files + AllocGlobal>(
 fn run_row<R: Files + Print + AllocGlobal>(
     rt: &R,
     folder: &str,
-    kind: Kind,
+    kind: RowKind,
     name: &str,
 ) -> Result<(), anyhow::Error> {
     let words = words_of(rt, folder, kind, name)?;
-    let outcome = perform(Stage::new(rt, folder, words.as_slice(), &[], usize::MAX));
+    let outcome = perform(ProgramStage::new(rt, folder, words.as_slice(), &[], usize::MAX));
     let shown = format!(in rt.alloc(); "{folder}{name}{}", kind.shown)?;
     let wanted = fs::read(rt, shown.as_str())?;
     let is_as_shown = outcome.output.as_slice() == wanted.as_slice()
@@ -156,7 +156,7 @@ fn run_row<R: Files + Print + AllocGlobal>(
 }
 
 // Whether a file of this name has a row of this kind. What has the answer of a vehicle beside it is no plan.
-fn has_row(kind: Kind, files: &[String], name: &str) -> bool {
+fn has_row(kind: RowKind, files: &[String], name: &str) -> bool {
     if kind.command == "check" {
         for file in files {
             if let Some(vehicle) = file.strip_suffix(".answer") {

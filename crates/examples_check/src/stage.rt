@@ -11,7 +11,7 @@ use std::rt::Env;
 
 /// What a program is given, and what it has written so far.
 #[derive(Drop)]
-pub struct Stage<'a, R> {
+pub struct ProgramStage<'a, R> {
     rt: &'a R,
     // The folder that file names start from, with a slash at its end.
     folder: &'a str,
@@ -21,7 +21,7 @@ pub struct Stage<'a, R> {
     complaints: Kept,
 }
 
-impl<'a, R: AllocGlobal> Stage<'a, R> {
+impl<'a, R: AllocGlobal> ProgramStage<'a, R> {
     /// A stage on which nothing was written. The words are those behind the program's name, and standard output takes
     /// so many bytes.
     pub fn new(
@@ -31,7 +31,7 @@ impl<'a, R: AllocGlobal> Stage<'a, R> {
         input: &'a [u8],
         room: usize,
     ) -> Self {
-        Stage {
+        ProgramStage {
             rt,
             folder,
             words,
@@ -43,7 +43,7 @@ impl<'a, R: AllocGlobal> Stage<'a, R> {
 
     /// What was written on standard output, and on standard error.
     pub fn into_written(self) -> (Vec<u8>, Vec<u8>) {
-        let Stage {
+        let ProgramStage {
             output,
             complaints,
             ..
@@ -52,7 +52,7 @@ impl<'a, R: AllocGlobal> Stage<'a, R> {
     }
 }
 
-impl<R: AllocGlobal> Alloc for Stage<'_, R> {
+impl<R: AllocGlobal> Alloc for ProgramStage<'_, R> {
     type A = Global;
 
     fn alloc(&self) -> Global {
@@ -60,7 +60,7 @@ impl<R: AllocGlobal> Alloc for Stage<'_, R> {
     }
 }
 
-impl<R> Env for Stage<'_, R> {
+impl<R> Env for ProgramStage<'_, R> {
     fn arg(&self, i: usize, buf: &mut [u8]) -> Result<usize, FillError> {
         let word = match i.checked_sub(1) {
             None => b"j39plan",

@@ -60,8 +60,8 @@ pub fn stops_where_there_is_no_room(alloc: Global) -> Result<bool, AllocError> {
     )
 }
 
-// Whether a schedule of this length that begins so, and goes on with empty lines, is answered so, and whether this is what
-// is written of it first, or all where it is too long.
+// Whether a schedule of this length that begins so, and goes on with empty lines, is answered so, and whether this is
+// what is written of it first, or all where it is too long.
 fn is_run(
     alloc: Global,
     first: &[u8],

@@ -1,4 +1,4 @@
--- How long behind its moment a message ends, from one direct forward to the next.
+-- How long behind its release a message ends, from one direct forward to the next.
 use Rattle.std.proofs.Common.{◌≡◌, ℕ, zero, suc, ◌+◌, ◌*◌, ◌<◌, ◌≤◌, Option, Some, None, sym, ◌∙◌, subst, inl, inr, arith}
 use Rattle.std.proofs.Math.Nat.{mul-le-mul_left, lt_of_mul-lt-mul_left}
 use Rattle.std.proofs.lemmas.Bool.{cases_lt}
@@ -10,14 +10,16 @@ use Rattle.j39_paths.specs.declared.point.FlowAt.{FlowAt}
 use Rattle.j39_timing.specs.Gateways.{HasBegun, IsIts, end_time, queue_time, time_of}
 use Rattle.j39_timing.specs.Traffic.{delay_of}
 use Rattle.j39_ages.specs.declared.bus_delays.Delays.{Delays}
-use Rattle.j39_ages.specs.Times.{behind_by, behind_moment, delay_at, direct_feeder, first_input_at, jitter_ms, own, queued_behind, sum_known, timed, us_of_ms, within_of}
+use Rattle.j39_ages.specs.Times.{behind_by, behind_release, delay_at, direct_feeder, first_input_at, jitter_ms, own, queued_behind, sum_known, timed, us_of_ms}
+use Rattle.j39_ages.specs.Times.{within_of}
 use Rattle.j39_ages.specs.BusDelays.{AreDelays}
+use Rattle.j39_ages.proofs.DecidingTimes.{and_then_some}
 use Rattle.j39_age_laws.specs.Prompt.{IsSentDirectly, IsSentOn}
 use Rattle.j39_age_laws.specs.Seen.{SeenBuses, clock_on, frames_at, unit_on}
 use Rattle.j39_age_laws.specs.YoungValues.{IsSeenVehicle}
 use Rattle.j39_age_laws.proofs.Feeders.{IsFeederAt, feeder_is}
 use Rattle.j39_age_laws.proofs.OneFlow.{IsOneFlow, one_flow, own_parts}
-use Rattle.j39_age_laws.proofs.Parts.{and_then_some, some_cases, sum_some}
+use Rattle.j39_age_laws.proofs.Parts.{some_cases, sum_some}
 
 -- ---- the parts of what is known
 
@@ -33,20 +35,20 @@ pub record IsFed (v : Vehicle) (delays : Delays) (steps : ℕ) (n : Forward) (at
   pub own_is : own v delays at ≡ Some own_time
   pub sum : time ≡ before + (within + own_time)
 
-pub unfed_moment : (v : Vehicle) (delays : Delays) (steps : ℕ) (at : FlowAt) (time : ℕ) → direct_feeder v at ≡ None → behind_by v delays steps at ≡ Some time
-    → behind_moment v delays at ≡ Some time
+pub unfed_release : (v : Vehicle) (delays : Delays) (steps : ℕ) (at : FlowAt) (time : ℕ) → direct_feeder v at ≡ None → behind_by v delays steps at ≡ Some time
+    → behind_release v delays at ≡ Some time
 unfolding behind_by
-unfed_moment v delays zero at time none is =
-    subst (λ (o : Option Forward). option_map_or (λ n. None) o (behind_moment v delays at) ≡ Some time) none is
-unfed_moment v delays (suc steps) at time none is =
+unfed_release v delays zero at time none is =
+    subst (λ (o : Option Forward). option_map_or (λ n. None) o (behind_release v delays at) ≡ Some time) none is
+unfed_release v delays (suc steps) at time none is =
     subst (λ (o : Option Forward). option_map_or (λ n. sum_known (queued_behind v n (behind_by v delays steps)) (own v delays at)) o
-    (behind_moment v delays at) ≡ Some time) none is
+    (behind_release v delays at) ≡ Some time) none is
 
 pub fed_never : (v : Vehicle) (delays : Delays) (at : FlowAt) (time : ℕ) (n : Forward) → direct_feeder v at ≡ Some n → behind_by v delays zero at ≡ Some time
     → ⊥
 unfolding behind_by
 fed_never v delays at time n feeder is =
-    none-some time (subst (λ (o : Option Forward). option_map_or (λ n. None) o (behind_moment v delays at) ≡ Some time) feeder is)
+    none-some time (subst (λ (o : Option Forward). option_map_or (λ n. None) o (behind_release v delays at) ≡ Some time) feeder is)
 
 pub fed_parts : (v : Vehicle) (delays : Delays) (steps : ℕ) (at : FlowAt) (time : ℕ) (n : Forward) → direct_feeder v at ≡ Some n
     → behind_by v delays (suc steps) at ≡ Some time
@@ -55,7 +57,7 @@ unfolding behind_by
 fed_parts v delays steps at time n feeder is =
     let here : sum_known (queued_behind v n (behind_by v delays steps)) (own v delays at) ≡ Some time =
     subst (λ (o : Option Forward). option_map_or (λ n. sum_known (queued_behind v n (behind_by v delays steps)) (own v delays at)) o
-    (behind_moment v delays at) ≡ Some time) feeder is in
+    (behind_release v delays at) ≡ Some time) feeder is in
     let (until, own_time, of_queued, owns, more) = sum_some (queued_behind v n (behind_by v delays steps)) (own v delays at) time here in
     let (before, within, of_source, promised, sum) = sum_some (option_and_then (behind_by v delays steps) (first_input_at v n)) (within_of n) until of_queued in
     let (source, source_is, known) = and_then_some (behind_by v delays steps) (first_input_at v n) before of_source in
@@ -83,21 +85,21 @@ not_sent_on v delays at none (from, is) =
 pub record IsBehind (v : Vehicle) (delays : Delays) (seen : SeenBuses) (by : ℕ) (at : FlowAt) (time : ℕ) : Type 0 where
   pub own_time : ℕ
   pub one : IsOneFlow v delays seen at own_time
-  -- a message is queued from its moment on, which is in the bit that its bus has for it
-  pub first : (q : ℕ) → IsIts (frames_at v seen at) q → (seen at.bus).moment q ≤ queue_time (frames_at v seen at) q
-  pub low : (q : ℕ) → IsIts (frames_at v seen at) q → time_of (clock_on v seen at.bus) ((seen at.bus).of.since q) ≤ (seen at.bus).moment q
-  pub high : (q : ℕ) → IsIts (frames_at v seen at) q → (seen at.bus).moment q < time_of (clock_on v seen at.bus) ((seen at.bus).of.since q + 1)
+  -- a message is queued from its release on, which is in the bit that its bus has for it
+  pub first : (q : ℕ) → IsIts (frames_at v seen at) q → (seen at.bus).release q ≤ queue_time (frames_at v seen at) q
+  pub low : (q : ℕ) → IsIts (frames_at v seen at) q → time_of (clock_on v seen at.bus) ((seen at.bus).of.since q) ≤ (seen at.bus).release q
+  pub high : (q : ℕ) → IsIts (frames_at v seen at) q → (seen at.bus).release q < time_of (clock_on v seen at.bus) ((seen at.bus).of.since q + 1)
   -- it begins where there is time for it, and ends in time
-  pub begun : (q : ℕ) → IsIts (frames_at v seen at) q → (seen at.bus).moment q + time ≤ by → HasBegun (frames_at v seen at) q
-  pub ended : (q : ℕ) → HasBegun (frames_at v seen at) q → end_time (frames_at v seen at) q ≤ (seen at.bus).moment q + time
+  pub begun : (q : ℕ) → IsIts (frames_at v seen at) q → (seen at.bus).release q + time ≤ by → HasBegun (frames_at v seen at) q
+  pub ended : (q : ℕ) → HasBegun (frames_at v seen at) q → end_time (frames_at v seen at) q ≤ (seen at.bus).release q + time
 
 -- sums over a gateway: the message x of the input ends, the one of the output is queued, and ends
 in_all : (queue end x y before within own by : ℕ) → queue ≤ end + within → end ≤ x + before → y ≡ x → y + (before + (within + own)) ≤ by → queue + own ≤ by
-in_all queue end x y before within own by soon timely moment early = omega arith
+in_all queue end x y before within own by soon timely release early = omega arith
 
 in_sum : (last queue end x y before within own : ℕ) → last ≤ queue + own → queue ≤ end + within → end ≤ x + before → y ≡ x
     → last ≤ y + (before + (within + own))
-in_sum last queue end x y before within own ends soon timely moment = omega arith
+in_sum last queue end x y before within own ends soon timely release = omega arith
 
 module _ (v : Vehicle) (delays : Delays) (told : AreDelays v delays) (seen : SeenBuses) (by : ℕ) (is : IsSeenVehicle v delays seen by) where
   module _ (at : FlowAt) (time : ℕ) (one : IsOneFlow v delays seen at time) where
@@ -143,37 +145,37 @@ module _ (v : Vehicle) (delays : Delays) (told : AreDelays v delays) (seen : See
         (its, omega (arith, start, soon))
 
     -- of a flow of the bus itself
-    by_itself : direct_feeder v at ≡ None → (behind : ℕ) → behind_moment v delays at ≡ Some behind → IsBehind v delays seen by at behind
+    by_itself : direct_feeder v at ≡ None → (behind : ℕ) → behind_release v delays at ≡ Some behind → IsBehind v delays seen by at behind
     by_itself none behind known =
-        let total : behind ≡ u * delay_of one.stream one.wait = same_Some _ _ (sym known ∙ one.moment_time) in
+        let total : behind ≡ u * delay_of one.stream one.wait = same_Some _ _ (sym known ∙ one.release_time) in
         let unit : 1 ≤ u = one.some_unit in
         record {
           own_time = time;
           one = one;
           first = λ q its.
-              let moment : (seen at.bus).moment q ≡ time_of (clock_on v seen at.bus) ((seen at.bus).of.since q) = is.own_moments at
+              let release : (seen at.bus).release q ≡ time_of (clock_on v seen at.bus) ((seen at.bus).of.since q) = is.own_releases at
               (not_sent_on v delays at none) q its in
-              let order : u * (seen at.bus).of.since q ≤ u * (seen at.bus).schedule.queued q = mul-le-mul_left u (one.moment_first q its) in
+              let order : u * (seen at.bus).of.since q ≤ u * (seen at.bus).schedule.queued q = mul-le-mul_left u (one.release_first q its) in
               omega arith;
           low = λ q its.
-              let moment : (seen at.bus).moment q ≡ time_of (clock_on v seen at.bus) ((seen at.bus).of.since q) = is.own_moments at
+              let release : (seen at.bus).release q ≡ time_of (clock_on v seen at.bus) ((seen at.bus).of.since q) = is.own_releases at
               (not_sent_on v delays at none) q its in
               omega arith;
           high = λ q its.
-              let moment : (seen at.bus).moment q ≡ time_of (clock_on v seen at.bus) ((seen at.bus).of.since q) = is.own_moments at
+              let release : (seen at.bus).release q ≡ time_of (clock_on v seen at.bus) ((seen at.bus).of.since q) = is.own_releases at
               (not_sent_on v delays at none) q its in
               omega arith;
           begun = λ q its early.
-              let moment : (seen at.bus).moment q ≡ time_of (clock_on v seen at.bus) ((seen at.bus).of.since q) = is.own_moments at
+              let release : (seen at.bus).release q ≡ time_of (clock_on v seen at.bus) ((seen at.bus).of.since q) = is.own_releases at
               (not_sent_on v delays at none) q its in
-              let late : u * (seen at.bus).schedule.queued q ≤ u * ((seen at.bus).of.since q + one.stream.late) = mul-le-mul_left u (one.late q its) in
+              let late : u * (seen at.bus).schedule.queued q ≤ u * ((seen at.bus).of.since q + one.stream.jitter) = mul-le-mul_left u (one.jitter q its) in
               let sum : time ≡ u * (one.wait + one.stream.bits) = one.own_time in
               begins_in_view q its (omega arith);
           ended = λ q begun.
-              let moment : (seen at.bus).moment q ≡ time_of (clock_on v seen at.bus) ((seen at.bus).of.since q) = is.own_moments at
+              let release : (seen at.bus).release q ≡ time_of (clock_on v seen at.bus) ((seen at.bus).of.since q) = is.own_releases at
               (not_sent_on v delays at none) q begun.0 in
               let timely = ends_from q begun in
-              let late : u * (seen at.bus).schedule.queued q ≤ u * ((seen at.bus).of.since q + one.stream.late) = mul-le-mul_left u (one.late q begun.0) in
+              let late : u * (seen at.bus).schedule.queued q ≤ u * ((seen at.bus).of.since q + one.stream.jitter) = mul-le-mul_left u (one.jitter q begun.0) in
               let sum : time ≡ u * (one.wait + one.stream.bits) = one.own_time in
               omega arith;
         }
@@ -185,7 +187,7 @@ module _ (v : Vehicle) (delays : Delays) (told : AreDelays v delays) (seen : See
       own_time = time;
       one = one;
       first = λ q its.
-          let moment : (seen at.bus).moment q ≡ (seen x.bus).moment (sent.handed.what q) = sent.handed.moments q its in
+          let release : (seen at.bus).release q ≡ (seen x.bus).release (sent.handed.what q) = sent.handed.releases q its in
           let begun : HasBegun (frames_at v seen x) (sent.handed.what q) = sent.handed.begun q its in
           let early = input.first (sent.handed.what q) begun.0 in
           let sends = queued_before_of x input (sent.handed.what q) begun.0 in
@@ -194,13 +196,13 @@ module _ (v : Vehicle) (delays : Delays) (told : AreDelays v delays) (seen : See
       low = λ q its. sent.handed.first_bit q its;
       high = λ q its. sent.handed.last_bit q its;
       begun = λ q its early. begins_in_view q its
-          (in_all (queue_time (frames_at v seen at) q) (end_time (frames_at v seen x) (sent.handed.what q)) ((seen x.bus).moment (sent.handed.what q))
-          ((seen at.bus).moment q)
-          before within time by (sent.handed.within_time q its) (input.ended (sent.handed.what q) (sent.handed.begun q its)) (sent.handed.moments q its) early);
+          (in_all (queue_time (frames_at v seen at) q) (end_time (frames_at v seen x) (sent.handed.what q)) ((seen x.bus).release (sent.handed.what q))
+          ((seen at.bus).release q)
+          before within time by (sent.handed.within_time q its) (input.ended (sent.handed.what q) (sent.handed.begun q its)) (sent.handed.releases q its) early);
       ended = λ q begun.
           in_sum (end_time (frames_at v seen at) q) (queue_time (frames_at v seen at) q) (end_time (frames_at v seen x) (sent.handed.what q))
-          ((seen x.bus).moment (sent.handed.what q)) ((seen at.bus).moment q) before within time (ends_from q begun) (sent.handed.within_time q begun.0)
-          (input.ended (sent.handed.what q) (sent.handed.begun q begun.0)) (sent.handed.moments q begun.0);
+          ((seen x.bus).release (sent.handed.what q)) ((seen at.bus).release q) before within time (ends_from q begun) (sent.handed.within_time q begun.0)
+          (input.ended (sent.handed.what q) (sent.handed.begun q begun.0)) (sent.handed.releases q begun.0);
     }
       where
         queued_before_of : (y : FlowAt) → IsBehind v delays seen by y before → (q : ℕ) → IsIts (frames_at v seen y) q
@@ -217,13 +219,14 @@ module _ (v : Vehicle) (delays : Delays) (told : AreDelays v delays) (seen : See
   flow_of : (at : FlowAt) (time : ℕ) → own v delays at ≡ Some time → IsOneFlow v delays seen at time
   flow_of at time known = one_flow v delays told at time (own_parts v delays at time known) seen is.kept known
 
-  own_of_moment : (at : FlowAt) (time : ℕ) → behind_moment v delays at ≡ Some time → (n : ℕ) × (own v delays at ≡ Some n)
-  own_of_moment at time known =
+  own_of_release : (at : FlowAt) (time : ℕ) → behind_release v delays at ≡ Some time → (n : ℕ) × (own v delays at ≡ Some n)
+  own_of_release at time known =
       let (n, jitter, owns, late, sum) = sum_some (own v delays at) (timed v at (λ timing flow. Some (us_of_ms (jitter_ms flow)))) time known in
       (n, owns)
 
   -- what a direct forward sends, by its place
-  pub sends_directly : (at : FlowAt) (n : Forward) (source : FlowAt) (within before own_time : ℕ) → direct_feeder v at ≡ Some n → first_input_at v n ≡ Some source
+  pub sends_directly : (at : FlowAt) (n : Forward) (source : FlowAt) (within before own_time : ℕ) → direct_feeder v at ≡ Some n
+      → first_input_at v n ≡ Some source
       → within_of n ≡ Some within → IsOneFlow v delays seen at own_time → IsBehind v delays seen by source before
       → (place : ℕ) × IsFeederAt v at n place × IsSentDirectly v seen place source at within
   sends_directly at n source within before own_time feeder source_is promised one input =
@@ -238,15 +241,15 @@ module _ (v : Vehicle) (delays : Delays) (told : AreDelays v delays) (seen : See
   pub is_behind : (steps : ℕ) (at : FlowAt) (time : ℕ) → behind_by v delays steps at ≡ Some time → IsBehind v delays seen by at time
   is_behind zero at time known = some_cases (direct_feeder v at) (IsBehind v delays seen by at time)
       (λ none.
-      let moment = unfed_moment v delays zero at time none known in
-      let (n, owns) = own_of_moment at time moment in
-      by_itself at n (flow_of at n owns) none time moment)
+      let release = unfed_release v delays zero at time none known in
+      let (n, owns) = own_of_release at time release in
+      by_itself at n (flow_of at n owns) none time release)
       (λ n feeder. absurd (fed_never v delays at time n feeder known))
   is_behind (suc steps) at time known = some_cases (direct_feeder v at) (IsBehind v delays seen by at time)
       (λ none.
-      let moment = unfed_moment v delays (suc steps) at time none known in
-      let (n, owns) = own_of_moment at time moment in
-      by_itself at n (flow_of at n owns) none time moment)
+      let release = unfed_release v delays (suc steps) at time none known in
+      let (n, owns) = own_of_release at time release in
+      by_itself at n (flow_of at n owns) none time release)
       (λ n feeder.
       let fed = fed_parts v delays steps at time n feeder known in
       let input = is_behind steps fed.source fed.before fed.before_is in

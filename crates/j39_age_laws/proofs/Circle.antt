@@ -1,11 +1,12 @@
 -- The buses of a vehicle as the law of vehicles knows them: what gateways send on directly keeps to its streams.
-use Rattle.std.proofs.Common.{◌≡◌, ℕ, zero, suc, ◌+◌, ◌*◌, ◌-◌, ◌<◌, Bool, true, false, cond, List, [], ◌++◌, length, is_some, unwrap_or, Option, Some, None, refl, sym, ap, ◌∙◌, subst, arith}
+use Rattle.std.proofs.Common.{◌≡◌, ℕ, zero, suc, ◌+◌, ◌*◌, ◌-◌, ◌<◌, Bool, true, false, cond, List, [], ◌++◌, length, is_some, unwrap_or, Option, Some, None}
+use Rattle.std.proofs.Common.{refl, sym, ap, ◌∙◌, subst, arith}
 use Rattle.std.proofs.lemmas.Bool.{false≢true, true≢false}
 use Rattle.std.proofs.lemmas.Option.{none-some, same_Some}
 use Rattle.std.specs.Option.{option_and_then, option_map, option_map_or}
 use Rattle.j39_network.specs.declared.plan.flow_plan.FlowPlan.{FlowPlan}
 use Rattle.j39_network.specs.declared.plan.timing.Timing.{Timing}
-use Rattle.j39_load.specs.declared.flow_frames.FlowFrames.{FlowFrames}
+use Rattle.j39_load.specs.declared.frames.flow_frames.FlowFrames.{FlowFrames}
 use Rattle.j39_load.specs.Asked.{frames_asked}
 use Rattle.j39_load.specs.Loads.{bits_of_ms}
 use Rattle.j39_load.specs.PlannedFrames.{IsBounded, no_frames, others_of, planned_at}
@@ -18,13 +19,14 @@ use Rattle.j39_vehicle.specs.declared.vehicle.forward.Forward.{Forward}
 use Rattle.j39_paths.specs.declared.point.FlowAt.{FlowAt}
 use Rattle.j39_ages.specs.BusDelays.{AreDelays}
 use Rattle.j39_ages.specs.declared.bus_delays.Delays.{Delays}
-use Rattle.j39_ages.specs.Times.{behind_at, behind_by, behind_moment, us_of_bit, delay_at, direct_feeder, flow_at, first_input_at, jitter_ms, own, own_of, queued_behind, queued_of, sum_known, timing_on, us_of_ms, within_of}
+use Rattle.j39_ages.specs.Times.{behind_at, behind_by, behind_release, us_of_bit, delay_at, direct_feeder, flow_at, first_input_at, jitter_ms, own, own_of}
+use Rattle.j39_ages.specs.Times.{queued_behind, queued_of, sum_known, timing_on, us_of_ms, within_of}
 use Rattle.j39_age_laws.specs.ForwardedStreams.{streams_of}
-use Rattle.j39_age_laws.specs.KeptBuses.{IsToldBus, asked_on}
+use Rattle.j39_age_laws.specs.KeptBuses.{IsKnownBus, asked_on}
 use Rattle.j39_age_laws.specs.Prompt.{sent_from}
 use Rattle.j39_age_laws.specs.Seen.{SeenBuses, clock_on, unit_on}
-use Rattle.j39_age_laws.proofs.Behind.{fed_never, fed_parts, unfed_moment}
-use Rattle.j39_age_laws.proofs.OneFlow.{HasOwn, HasStream, bound, its_stream, jitter_bits, moment_is, own_is, placed, told_bus, unit_here}
+use Rattle.j39_age_laws.proofs.Behind.{fed_never, fed_parts, unfed_release}
+use Rattle.j39_age_laws.proofs.OneFlow.{HasOwn, HasStream, bound, its_stream, jitter_bits, release_is, own_is, placed, known_bus, unit_here}
 use Rattle.j39_age_laws.proofs.Parts.{some_cases, some_unit, unit_of_ms}
 
 -- ---- numbers
@@ -53,25 +55,25 @@ pub fed_make : (v : Vehicle) (delays : Delays) (steps : ℕ) (at : FlowAt) (n : 
 unfolding behind_by
 fed_make v delays steps at n source before within own_time feeder input known promised owns =
     ap (λ (o : Option Forward). option_map_or (λ m. sum_known (queued_behind v m (behind_by v delays steps)) (own v delays at)) o
-    (behind_moment v delays at)) feeder
+    (behind_release v delays at)) feeder
     ∙ (ap (λ (o : Option ℕ). sum_known (sum_known o (within_of n)) (own v delays at)) (ap (option_and_then (behind_by v delays steps)) input ∙ known)
     ∙ (ap (λ (o : Option ℕ). sum_known (sum_known (Some before) o) (own v delays at)) promised
     ∙ ap (λ (o : Option ℕ). sum_known (Some (before + within)) o) owns))
 
 unfed_make : (v : Vehicle) (delays : Delays) (steps : ℕ) (at : FlowAt) → direct_feeder v at ≡ None
-    → behind_by v delays (suc steps) at ≡ behind_moment v delays at
+    → behind_by v delays (suc steps) at ≡ behind_release v delays at
 unfolding behind_by
 unfed_make v delays steps at none =
     ap (λ (o : Option Forward). option_map_or (λ m. sum_known (queued_behind v m (behind_by v delays steps)) (own v delays at)) o
-    (behind_moment v delays at)) none
+    (behind_release v delays at)) none
 
 pub known_on : (v : Vehicle) (delays : Delays) (steps : ℕ) (at : FlowAt) (time : ℕ) → behind_by v delays steps at ≡ Some time
     → behind_by v delays (suc steps) at ≡ Some time
 known_on v delays zero at time known = some_cases (direct_feeder v at) (behind_by v delays (suc zero) at ≡ Some time)
-    (λ none. unfed_make v delays zero at none ∙ unfed_moment v delays zero at time none known)
+    (λ none. unfed_make v delays zero at none ∙ unfed_release v delays zero at time none known)
     (λ n feeder. absurd (fed_never v delays at time n feeder known))
 known_on v delays (suc steps) at time known = some_cases (direct_feeder v at) (behind_by v delays (suc (suc steps)) at ≡ Some time)
-    (λ none. unfed_make v delays (suc steps) at none ∙ unfed_moment v delays (suc steps) at time none known)
+    (λ none. unfed_make v delays (suc steps) at none ∙ unfed_release v delays (suc steps) at time none known)
     (λ n feeder.
     let fed = fed_parts v delays steps at time n feeder known in
     let more = known_on v delays steps fed.source fed.before fed.before_is in
@@ -114,8 +116,8 @@ viewed v b timing timed = go (timing_on v.buses.items b) refl timed
     go (Some x) e is = (record { timing = x; timed = e }, refl)
 
 module _ (v : Vehicle) (delays : Delays) (told : AreDelays v delays) (seen : SeenBuses) where
-  abbrev pub of_bus : {b : ℕ} → (t : TimedBus v b) → IsToldBus v delays b t.timing
-  of_bus {b} t = told_bus v delays told b t.timing t.timed
+  abbrev pub of_bus : {b : ℕ} → (t : TimedBus v b) → IsKnownBus v delays b t.timing
+  of_bus {b} t = known_bus v delays told b t.timing t.timed
 
   abbrev pub all_of : {b : ℕ} → TimedBus v b → List (Option FlowFrames)
   all_of t = frames_asked (asked_on (of_bus t))
@@ -132,7 +134,7 @@ module _ (v : Vehicle) (delays : Delays) (told : AreDelays v delays) (seen : See
     traffic = no_traffic;
     others = record { least = 0; count = 0 };
     longest = 0;
-    moment = λ p. 0;
+    release = λ p. 0;
   }
   bus_with b (Some t) = record {
     schedule = (seen b).schedule;
@@ -142,7 +144,7 @@ module _ (v : Vehicle) (delays : Delays) (told : AreDelays v delays) (seen : See
     traffic = streams_of t.timing (all_of t);
     others = others_of t.timing;
     longest = longest_frame 8;
-    moment = (seen b).moment;
+    release = (seen b).release;
   }
 
   -- ---- numbers of streams, where they are those of flows of which a delay is told
@@ -159,7 +161,7 @@ module _ (v : Vehicle) (delays : Delays) (told : AreDelays v delays) (seen : See
 
   abbrev pub wait_with : (b i : ℕ) → Option (TimedBus v b) → ℕ
   wait_with b i None = 0
-  wait_with b i (Some t) = unwrap_or (delay_at delays (at_of b i)) 0 - ((stream_of t i).late + (stream_of t i).bits)
+  wait_with b i (Some t) = unwrap_or (delay_at delays (at_of b i)) 0 - ((stream_of t i).jitter + (stream_of t i).bits)
 
   abbrev pub behind_with : (b i : ℕ) → Option (TimedBus v b) → ℕ
   behind_with b i None = 0
@@ -202,8 +204,8 @@ module _ (v : Vehicle) (delays : Delays) (told : AreDelays v delays) (seen : See
     pub wait_is : wait_with b i (Some t) ≡ bounded_here.wait
     wait_is =
         let total : is.bits ≡ delay_of bounded_here.frames.stream bounded_here.wait = bounded_here.sum in
-        ap (λ (o : Option ℕ). unwrap_or o 0 - ((stream_of t i).late + (stream_of t i).bits)) is.delayed
-        ∙ (ap (λ (x : Stream). is.bits - (x.late + x.bits)) stream_is ∙ omega (arith, total))
+        ap (λ (o : Option ℕ). unwrap_or o 0 - ((stream_of t i).jitter + (stream_of t i).bits)) is.delayed
+        ∙ (ap (λ (x : Stream). is.bits - (x.jitter + x.bits)) stream_is ∙ omega (arith, total))
 
     pub own_value : unit_on v b * (wait_with b i (Some t) + (stream_of t i).bits) ≡ own_of t.timing is.flow is.bits
     own_value =
@@ -211,16 +213,16 @@ module _ (v : Vehicle) (delays : Delays) (told : AreDelays v delays) (seen : See
         ∙ (ap (λ (x : Stream). unit_on v b * (bounded_here.wait + x.bits)) stream_is
         ∙ sym (own_is v delays told (at_of b i) (own_of t.timing is.flow is.bits) has))
 
-    pub moment_value : behind_moment v delays (at_of b i) ≡ Some (unit_on v b * delay_of (stream_of t i) (wait_with b i (Some t)))
-    moment_value =
-        moment_is v delays told (at_of b i) (own_of t.timing is.flow is.bits) has owns
+    pub release_value : behind_release v delays (at_of b i) ≡ Some (unit_on v b * delay_of (stream_of t i) (wait_with b i (Some t)))
+    release_value =
+        release_is v delays told (at_of b i) (own_of t.timing is.flow is.bits) has owns
         ∙ ap (λ (m : ℕ). Some m) (sym (ap (λ (w : ℕ). unit_on v b * delay_of (stream_of t i) w) wait_is
         ∙ ap (λ (x : Stream). unit_on v b * delay_of x bounded_here.wait) stream_is))
 
     -- its jitter, and its period, in microseconds
-    pub late_value : unit_on v b * (stream_of t i).late ≡ us_of_ms (jitter_ms is.flow)
+    pub late_value : unit_on v b * (stream_of t i).jitter ≡ us_of_ms (jitter_ms is.flow)
     late_value =
-        ap (λ (x : Stream). unit_on v b * x.late) stream_is
+        ap (λ (x : Stream). unit_on v b * x.jitter) stream_is
         ∙ jitter_bits v delays told (at_of b i) (own_of t.timing is.flow is.bits) has
 
     pub period_value : unit_on v b * (stream_of t i).period ≡ us_of_ms streamed.period
@@ -230,17 +232,19 @@ module _ (v : Vehicle) (delays : Delays) (told : AreDelays v delays) (seen : See
         ∙ (ap (λ (u : ℕ). u * bits_of_ms t.timing streamed.period) (unit_here v delays told (at_of b i) (own_of t.timing is.flow is.bits) has)
         ∙ unit_of_ms t.timing.bitrate streamed.period))
 
-  -- what is known to come behind its moment is what is reckoned with here
-  pub behind_value : (b i : ℕ) (t : TimedBus v b) (is : IsTold b i t) (total : ℕ) → behind_at v delays (at_of b i) ≡ Some total → behind_with b i (Some t) ≡ total
+  -- what is known to come behind its release is what is reckoned with here
+  pub behind_value : (b i : ℕ) (t : TimedBus v b) (is : IsTold b i t) (total : ℕ) → behind_at v delays (at_of b i) ≡ Some total
+      → behind_with b i (Some t) ≡ total
   behind_value b i t is total known = some_cases (direct_feeder v (at_of b i)) (behind_with b i (Some t) ≡ total)
       (λ none.
-      let moment = unfed_moment v delays (length v.forwards.items) (at_of b i) total none known in
-      let nothing : sent_from v delays (at_of b i) ≡ None = ap (λ (o : Option ℕ). option_and_then (λ (bits : ℕ). option_and_then (first_input_at v) (direct_feeder v
+      let release = unfed_release v delays (length v.forwards.items) (at_of b i) total none known in
+      let nothing : sent_from v delays (at_of b i) ≡ None =
+      ap (λ (o : Option ℕ). option_and_then (λ (bits : ℕ). option_and_then (first_input_at v) (direct_feeder v
       (at_of b i))) o) is.delayed
       ∙ ap (option_and_then (first_input_at v)) none in
       ap (λ (o : Option FlowAt). cond (is_some o) (queued_value b i + unit_on v b * (wait_with b i (Some t) + (stream_of t i).bits))
       (unit_on v b * delay_of (stream_of t i) (wait_with b i (Some t)))) nothing
-      ∙ same_Some _ _ (sym (moment_value b i t is) ∙ moment))
+      ∙ same_Some _ _ (sym (release_value b i t is) ∙ release))
       (λ n feeder. by_feeder n feeder (length v.forwards.items) refl known)
     where
       by_feeder : (n : Forward) → direct_feeder v (at_of b i) ≡ Some n → (steps : ℕ) → steps ≡ length v.forwards.items

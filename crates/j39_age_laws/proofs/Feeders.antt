@@ -1,5 +1,6 @@
 -- Which forward feeds a flow, and what it takes for its first input.
-use Rattle.std.proofs.Common.{◌≡◌, ℕ, ◌<◌, ◌&&◌, ◌==◌, Bool, true, false, List, [], cond, length, get_or, Option, Some, None, refl, sym, ap, ◌∙◌, subst, inl, inr, arith}
+use Rattle.std.proofs.Common.{◌≡◌, ℕ, ◌<◌, ◌&&◌, ◌==◌, Bool, true, false, List, [], cond, length, get_or, Option, Some, None, refl, sym, ap, ◌∙◌, subst, inl}
+use Rattle.std.proofs.Common.{inr, arith}
 use Rattle.std.proofs.lemmas.Bool.{and_parts, and_from, cases_lt, eqb-true, false≢true, lt-ltb, true≢false}
 use Rattle.std.proofs.lemmas.List.Quantifiers.{position-Some}
 use Rattle.std.proofs.lemmas.List.Sums.{fails_before_first}
@@ -19,7 +20,8 @@ use Rattle.j39_paths.specs.declared.point.FlowAt.{FlowAt}
 use Rattle.j39_paths.specs.declared.point.Point.{Point}
 use Rattle.j39_paths.proofs.Deciding.{Decides-is_direct, Decides-is_output}
 use Rattle.j39_ages.specs.Times.{direct_feeder, forward_at, first_input_at}
-use Rattle.j39_age_laws.proofs.Parts.{and_then_some, map_some, some_cases}
+use Rattle.j39_ages.proofs.DecidingTimes.{and_then_some, map_some}
+use Rattle.j39_age_laws.proofs.Parts.{some_cases}
 
 -- ---- the direct forward of a flow
 

@@ -1,5 +1,6 @@
 -- Where gateways are prompt, what they send on directly keeps to the streams that are planned for it, on buses that keep to their plans otherwise.
-use Rattle.std.proofs.Common.{◌≡◌, ◌≢◌, ℕ, zero, suc, ◌+◌, ◌*◌, ◌<◌, ◌≤◌, ◌⊎◌, Bool, true, false, length, is_some, unwrap_or, Option, Some, None, refl, sym, ap, ◌∙◌, subst, inl, inr, arith}
+use Rattle.std.proofs.Common.{◌≡◌, ◌≢◌, ℕ, zero, suc, ◌+◌, ◌*◌, ◌<◌, ◌≤◌, ◌⊎◌, Bool, true, false, length, is_some, unwrap_or, Option, Some, None, refl, sym, ap}
+use Rattle.std.proofs.Common.{◌∙◌, subst, inl, inr, arith}
 use Rattle.std.proofs.lemmas.Bool.{cases_Bool, false≢true}
 use Rattle.std.proofs.lemmas.Option.{same_Some}
 use Rattle.std.specs.Option.{option_and_then, option_map_or}
@@ -22,26 +23,30 @@ use Rattle.j39_paths.specs.declared.point.FlowAt.{FlowAt}
 use Rattle.j39_ages.specs.BusDelays.{AreDelays, delays_on}
 use Rattle.j39_ages.specs.declared.bus_delays.Delays.{Delays}
 use Rattle.j39_ages.specs.TimeFindings.{period_ms}
-use Rattle.j39_ages.specs.Times.{behind_at, behind_by, delay_at, direct_feeder, flow_at, first_input_at, jitter_ms, own, queued_of, sum_known, timed, timing_on, us_of_ms, within_of}
+use Rattle.j39_ages.specs.Times.{behind_at, behind_by, delay_at, direct_feeder, flow_at, first_input_at, jitter_ms, own, queued_of, sum_known, timed, timing_on}
+use Rattle.j39_ages.specs.Times.{us_of_ms, within_of}
+use Rattle.j39_ages.proofs.DecidingTimes.{and_then_some}
 use Rattle.j39_age_laws.specs.ForwardedStreams.{AreForwardsTimely, AreOtherwiseKept, AreStreamsKept, IsOtherwiseKept, streams_of}
-use Rattle.j39_age_laws.specs.KeptBuses.{AreKeptBuses, IsToldBus, asked_on}
-use Rattle.j39_age_laws.specs.Prompt.{ArePrompt, HaveOwnMoments, IsSentDirectly, sent_from}
+use Rattle.j39_age_laws.specs.KeptBuses.{AreKeptBuses, IsKnownBus, asked_on}
+use Rattle.j39_age_laws.specs.Prompt.{ArePrompt, HaveOwnReleases, IsSentDirectly, sent_from}
 use Rattle.j39_age_laws.specs.Seen.{SeenBuses, frames_at, unit_on}
-use Rattle.j39_age_laws.proofs.Behind.{fed_never, fed_parts, unfed_moment}
-use Rattle.j39_age_laws.proofs.Circle.{IsTold, TimedBus, all_of, at_of, behind_value, behind_with, bounded_here, bus_with, direct_with, is_some_false, is_some_true, late_value, of_bus, owns, period_value, queued_value, single_here, stream_of, streamed, unit_positive, view, viewed, wait_is, wait_with, within_value}
+use Rattle.j39_age_laws.proofs.Behind.{fed_never, fed_parts, unfed_release}
+use Rattle.j39_age_laws.proofs.Circle.{IsTold, TimedBus, all_of, at_of, behind_value, behind_with, bounded_here, bus_with, direct_with, is_some_false}
+use Rattle.j39_age_laws.proofs.Circle.{is_some_true, late_value, of_bus, owns, period_value, queued_value, single_here, stream_of, streamed, unit_positive}
+use Rattle.j39_age_laws.proofs.Circle.{view, viewed, wait_is, wait_with, within_value}
 use Rattle.j39_age_laws.proofs.Feeders.{feeder_is}
 use Rattle.j39_age_laws.proofs.OneFlow.{delay_here, own_parts}
-use Rattle.j39_age_laws.proofs.Parts.{and_then_some, some_cases, sum_some}
+use Rattle.j39_age_laws.proofs.Parts.{some_cases, sum_some}
 use Rattle.j39_age_laws.proofs.Starts.{starts_within}
 use Rattle.j39_age_laws.proofs.Until.{frames_then, with_streams}
 
--- what comes so long behind its moment has a time of its own
+-- what comes so long behind its release has a time of its own
 behind_own : (v : Vehicle) (delays : Delays) (steps : ℕ) (at : FlowAt) (total : ℕ) → behind_by v delays steps at ≡ Some total → (n : ℕ)
     × (own v delays at ≡ Some n)
 behind_own v delays steps at total known = some_cases (direct_feeder v at) ((n : ℕ) × (own v delays at ≡ Some n))
     (λ none.
     let (n, late, owns, jitter, sum) = sum_some (own v delays at) (timed v at (λ timing flow. Some (us_of_ms (jitter_ms flow)))) total
-    (unfed_moment v delays steps at total none known) in
+    (unfed_release v delays steps at total none known) in
     (n, owns))
     (λ n feeder. by_steps n feeder steps known)
   where
@@ -50,7 +55,7 @@ behind_own v delays steps at total known = some_cases (direct_feeder v at) ((n :
     by_steps n feeder (suc k) known = let fed = fed_parts v delays k at total n feeder known in (fed.own_time, fed.own_is)
 
 -- whoever tells who stays, the streams are the same
-pub one_traffic : (v : Vehicle) (delays : Delays) (b : ℕ) (timing other : Timing) (one : IsToldBus v delays b timing) (two : IsToldBus v delays b other)
+pub one_traffic : (v : Vehicle) (delays : Delays) (b : ℕ) (timing other : Timing) (one : IsKnownBus v delays b timing) (two : IsKnownBus v delays b other)
     → streams_of timing (frames_asked (asked_on one)) ≡ streams_of other (frames_asked (asked_on two))
 one_traffic v delays b timing other one two =
     let bus : one.bus ≡ two.bus = same_Some _ _ (sym one.its ∙ two.its) in
@@ -74,10 +79,11 @@ abbrev flow_value : Option FlowAt → ℕ
 flow_value from = option_map_or (λ (x : FlowAt). x.flow) from 0
 
 abbrev carrier_of : Bus → ℕ → Carrier
-carrier_of bus i = record { schedule = bus.schedule; clock = bus.clock; planned = bus.planned; of = bus.of; source = i; moment = bus.moment; born = bus.moment }
+carrier_of bus i =
+    record { schedule = bus.schedule; clock = bus.clock; planned = bus.planned; of = bus.of; source = i; release = bus.release; born = bus.release }
 
 module _ (v : Vehicle) (delays : Delays) (told : AreDelays v delays) (seen : SeenBuses) (kept : AreOtherwiseKept v delays seen)
-    (prompt : ArePrompt v delays seen) (own_moments : HaveOwnMoments v delays seen) (timely : AreForwardsTimely v delays) where
+    (prompt : ArePrompt v delays seen) (own_releases : HaveOwnReleases v delays seen) (timely : AreForwardsTimely v delays) where
   abbrev with_bus : (b : ℕ) → Option (TimedBus v b) → Bus
   with_bus b o = bus_with v delays told seen b o
 
@@ -254,15 +260,15 @@ module _ (v : Vehicle) (delays : Delays) (told : AreDelays v delays) (seen : See
     source_behind = at_source (λ a k. behind_with v delays told seen a k (view v a) ≡ l.before)
         (at_source_bus (λ o. behind_with v delays told seen l.x.bus l.x.flow o ≡ l.before) before_value)
 
-    late_enough : behind_with v delays told seen (bus_value (sent_from v delays (at_of b i))) (flow_value (sent_from v delays (at_of b i)))
+    jitter_enough : behind_with v delays told seen (bus_value (sent_from v delays (at_of b i))) (flow_value (sent_from v delays (at_of b i)))
         (view v (bus_value (sent_from v delays (at_of b i)))) + within_value v delays told seen b i
-        ≤ unit_on v b * ((with_bus b (view v b)).traffic.stream i).late
-    late_enough =
+        ≤ unit_on v b * ((with_bus b (view v b)).traffic.stream i).jitter
+    jitter_enough =
         let one = source_behind in
         let two = within_is in
         let most = l.in_jitter in
-        let late : unit_on v b * ((with_bus b (view v b)).traffic.stream i).late ≡ us_of_ms (jitter_ms l.here.flow) =
-        at_bus (λ o. unit_on v b * ((with_bus b o).traffic.stream i).late ≡ us_of_ms (jitter_ms l.here.flow)) (late_value v delays told seen b i l.t l.here) in
+        let late : unit_on v b * ((with_bus b (view v b)).traffic.stream i).jitter ≡ us_of_ms (jitter_ms l.here.flow) =
+        at_bus (λ o. unit_on v b * ((with_bus b o).traffic.stream i).jitter ≡ us_of_ms (jitter_ms l.here.flow)) (late_value v delays told seen b i l.t l.here) in
         omega (arith, one, two, most, late)
 
     behind_is : behind_with v delays told seen b i (Some l.t)
@@ -336,14 +342,14 @@ module _ (v : Vehicle) (delays : Delays) (told : AreDelays v delays) (seen : See
         (λ p its. absurd (omega (arith, its.0))) (λ t p its. (any_frame b t p its.0 its.1).2) (view v b);
     own_first = λ b. case_view v b (λ o. (p : ℕ) → IsPlannedOn (with_bus b o) p → direct_with v delays told seen b ((with_bus b o).of.source p) o ≡ false
         → (with_bus b o).of.since p ≤ (with_bus b o).schedule.queued p)
-        (λ p its. absurd (omega (arith, its.0))) (λ t p its own. (own_frame b t p its.0 its.1 own).moment_first) (view v b);
-    own_late = λ b. case_view v b (λ o. (p : ℕ) → IsPlannedOn (with_bus b o) p → direct_with v delays told seen b ((with_bus b o).of.source p) o ≡ false
-        → (with_bus b o).schedule.queued p ≤ (with_bus b o).of.since p + ((with_bus b o).traffic.stream ((with_bus b o).of.source p)).late)
-        (λ p its. absurd (omega (arith, its.0))) (λ t p its own. (own_frame b t p its.0 its.1 own).late_at_most) (view v b);
-    own_moment = λ b. case_view v b (λ o. (p : ℕ) → IsPlannedOn (with_bus b o) p → direct_with v delays told seen b ((with_bus b o).of.source p) o ≡ false
-        → (with_bus b o).moment p ≡ Rattle.j39_timing.specs.Gateways.time_of (with_bus b o).clock ((with_bus b o).of.since p))
+        (λ p its. absurd (omega (arith, its.0))) (λ t p its own. (own_frame b t p its.0 its.1 own).release_first) (view v b);
+    own_jitter = λ b. case_view v b (λ o. (p : ℕ) → IsPlannedOn (with_bus b o) p → direct_with v delays told seen b ((with_bus b o).of.source p) o ≡ false
+        → (with_bus b o).schedule.queued p ≤ (with_bus b o).of.since p + ((with_bus b o).traffic.stream ((with_bus b o).of.source p)).jitter)
+        (λ p its. absurd (omega (arith, its.0))) (λ t p its own. (own_frame b t p its.0 its.1 own).jitter_at_most) (view v b);
+    own_release = λ b. case_view v b (λ o. (p : ℕ) → IsPlannedOn (with_bus b o) p → direct_with v delays told seen b ((with_bus b o).of.source p) o ≡ false
+        → (with_bus b o).release p ≡ Rattle.j39_timing.specs.Gateways.time_of (with_bus b o).clock ((with_bus b o).of.since p))
         (λ p its. absurd (omega (arith, its.0)))
-        (λ t p its own. own_moments (at_of b ((seen b).of.source p)) (is_some_false (sent_from v delays (at_of b ((seen b).of.source p))) own) p
+        (λ t p its own. own_releases (at_of b ((seen b).of.source p)) (is_some_false (sent_from v delays (at_of b ((seen b).of.source p))) own) p
         (its.0, its.1, refl)) (view v b);
     own_spaced = λ b. case_view v b (λ o. (p q : ℕ) → IsPlannedOn (with_bus b o) p → IsPlannedOn (with_bus b o) q → p ≢ q
         → direct_with v delays told seen b ((with_bus b o).of.source p) o ≡ false
@@ -357,10 +363,10 @@ module _ (v : Vehicle) (delays : Delays) (told : AreDelays v delays) (seen : See
     single = λ b i direct. its_single b i (link b i direct);
     input_single = λ b i direct. input_single b i (link b i direct);
     input_begun = λ b i by direct. input_begun b i (link b i direct) by;
-    late_enough = λ b i direct.
-        let enough = late_enough b i (link b i direct) in
-        case_view v b (λ o. Rattle.j39_timing.specs.Vehicles.queued_within vehicle b i ≤ unit_on v b * ((with_bus b o).traffic.stream i).late
-        → Rattle.j39_timing.specs.Vehicles.queued_within vehicle b i ≤ (with_bus b o).clock.unit * ((with_bus b o).traffic.stream i).late)
+    jitter_enough = λ b i direct.
+        let enough = jitter_enough b i (link b i direct) in
+        case_view v b (λ o. Rattle.j39_timing.specs.Vehicles.queued_within vehicle b i ≤ unit_on v b * ((with_bus b o).traffic.stream i).jitter
+        → Rattle.j39_timing.specs.Vehicles.queued_within vehicle b i ≤ (with_bus b o).clock.unit * ((with_bus b o).traffic.stream i).jitter)
         (λ le. le) (λ t le. le) (view v b) enough;
     often_enough = λ b i direct. case_view v b (λ o. (with_bus b o).clock.unit * ((with_bus b o).traffic.stream i).period
         ≤ unit_on v b * ((with_bus b o).traffic.stream i).period) (omega arith) (λ t. omega arith) (view v b);
@@ -409,4 +415,4 @@ module _ (v : Vehicle) (delays : Delays) (told : AreDelays v delays) (seen : See
       }
 
 pub streams_are_kept : (v : Vehicle) (delays : Delays) → AreStreamsKept v delays
-streams_are_kept v delays timely told seen kept prompt own_moments = buses_kept v delays told seen kept prompt own_moments timely
+streams_are_kept v delays timely told seen kept prompt own_releases = buses_kept v delays told seen kept prompt own_releases timely

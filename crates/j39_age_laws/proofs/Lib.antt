@@ -2,12 +2,13 @@ mod Behind
 mod Circle
 mod Feeders
 mod Kept
+mod LoneFrame
 mod Old
 mod Once
 mod OneFlow
 mod Order
 mod Parts
-mod Silent
+mod Interval
 mod Starts
 mod Timely
 mod Until

@@ -1,5 +1,6 @@
--- How old a value is at the moment of the message that brings it.
-use Rattle.std.proofs.Common.{◌≡◌, ℕ, zero, suc, ◌+◌, ◌-◌, ◌<◌, ◌≤◌, if◌then◌else◌, Bool, true, false, [], length, Option, Some, None, refl, sym, ap, ◌∙◌, subst, inl, inr, arith}
+-- How old a value is at the release of the message that brings it.
+use Rattle.std.proofs.Common.{◌≡◌, ℕ, zero, suc, ◌+◌, ◌-◌, ◌<◌, ◌≤◌, if◌then◌else◌, Bool, true, false, [], length, Option, Some, None, refl, sym, ap, ◌∙◌}
+use Rattle.std.proofs.Common.{subst, inl, inr, arith}
 use Rattle.std.proofs.lemmas.Bool.{cases_Bool}
 use Rattle.std.proofs.lemmas.Option.{none-some, same_Some}
 use Rattle.std.specs.Option.{option_and_then, option_map_or}
@@ -13,16 +14,18 @@ use Rattle.j39_paths.specs.declared.point.FlowAt.{FlowAt}
 use Rattle.j39_paths.specs.declared.point.Point.{Point}
 use Rattle.j39_timing.specs.Gateways.{HasBegun, IsIts, end_time, queue_time}
 use Rattle.j39_ages.specs.declared.bus_delays.Delays.{Delays}
-use Rattle.j39_ages.specs.Times.{age_with, behind_at, behind_by, direct_feeder, forward_at, first_input_at, old_behind, old_by, silent, sum_known, timing_on, within_of}
+use Rattle.j39_ages.specs.Times.{age_with, behind_at, behind_by, direct_feeder, forward_at, first_input_at, old_behind, old_by, interval, sum_known, timing_on}
+use Rattle.j39_ages.specs.Times.{within_of}
 use Rattle.j39_ages.specs.BusDelays.{AreDelays}
+use Rattle.j39_ages.proofs.DecidingTimes.{and_then_some}
 use Rattle.j39_age_laws.specs.Prompt.{IsSentDirectly}
 use Rattle.j39_age_laws.specs.Seen.{SeenBuses, frames_at}
 use Rattle.j39_age_laws.specs.YoungValues.{IsOnTheWay, IsSeenVehicle, KeepPauses, behind_it}
 use Rattle.j39_age_laws.proofs.Behind.{fed_never, fed_parts, is_behind, sends_directly}
 use Rattle.j39_age_laws.proofs.Feeders.{goes_on_input, next_feeds, one_feeder, some_feeder}
 use Rattle.j39_age_laws.proofs.Order.{ends_behind, in_order, queued_till_end}
-use Rattle.j39_age_laws.proofs.Parts.{and_then_some, some_cases, sum_some}
-use Rattle.j39_age_laws.proofs.Silent.{KeepsOn, keeps_on}
+use Rattle.j39_age_laws.proofs.Parts.{some_cases, sum_some}
+use Rattle.j39_age_laws.proofs.Interval.{KeepsOn, keeps_on}
 
 -- ---- the parts of what is known
 
@@ -84,7 +87,7 @@ record IsPeriodicOld (v : Vehicle) (delays : Delays) (forward : Forward) (at : F
   old : ℕ
   old_is : known ≡ Some old
   pause : ℕ
-  pause_is : silent v at ≡ Some pause
+  pause_is : interval v at ≡ Some pause
   before : ℕ
   before_is : behind_at v delays at ≡ Some before
   within : ℕ
@@ -97,8 +100,8 @@ periodic_old v delays at known forward periodic total is =
     let here : sum_known (age_with v delays at known) (within_of forward) ≡ Some total =
     subst (λ (b : Bool). (if b then known else sum_known (age_with v delays at known) (within_of forward)) ≡ Some total) periodic is in
     let (age, within, of_age, promised, one) = sum_some (age_with v delays at known) (within_of forward) total here in
-    let (old, rest, of_old, of_rest, two) = sum_some known (sum_known (silent v at) (behind_at v delays at)) age of_age in
-    let (pause, before, of_pause, of_behind, three) = sum_some (silent v at) (behind_at v delays at) rest of_rest in
+    let (old, rest, of_old, of_rest, two) = sum_some known (sum_known (interval v at) (behind_at v delays at)) age of_age in
+    let (pause, before, of_pause, of_behind, three) = sum_some (interval v at) (behind_at v delays at) rest of_rest in
     record {
       old = old;
       old_is = of_old;
@@ -111,7 +114,7 @@ periodic_old v delays at known forward periodic total is =
       sum = omega (arith, one, two, three);
     }
 
--- ---- sums, where a message of the output has its moment m, one of the input r, and what is carried c
+-- ---- sums, where a message of the output has its release m, one of the input r, and what is carried c
 
 trans3 : (a b c d : ℕ) → a ≤ b → b ≤ c → c ≤ d → a ≤ d
 trans3 a b c d one two three = omega arith
@@ -145,11 +148,11 @@ old_there from old pause before within m r c time late near order so = omega ari
 
 module _ (v : Vehicle) (delays : Delays) (none : AreFindings v []) (told : AreDelays v delays) (seen : SeenBuses) (by : ℕ) (is : IsSeenVehicle v delays seen by)
     (start : Point) (from : ℕ) (pauses : KeepPauses v seen start from by) where
-  -- each message that has ended says what was so no more than `old` before its moment, where this is so much behind the time from which on pauses
+  -- each message that has ended says what was so no more than `old` before its release, where this is so much behind the time from which on pauses
   -- are kept
   abbrev pub IsOldAtMost : Point → ℕ → Type 0
-  IsOldAtMost p old = (q : ℕ) → IsIts (frames_at v seen p.at) q → end_time (frames_at v seen p.at) q ≤ by → from + old ≤ (seen p.at.bus).moment q
-      → (time : ℕ) × ((seen p.at.bus).born q p.signal ≡ Some time) × ((seen p.at.bus).moment q ≤ time + old) × (time ≤ end_time (frames_at v seen p.at) q)
+  IsOldAtMost p old = (q : ℕ) → IsIts (frames_at v seen p.at) q → end_time (frames_at v seen p.at) q ≤ by → from + old ≤ (seen p.at.bus).release q
+      → (time : ℕ) × ((seen p.at.bus).born q p.signal ≡ Some time) × ((seen p.at.bus).release q ≤ time + old) × (time ≤ end_time (frames_at v seen p.at) q)
 
   at_origin : (p : Point) (old : ℕ) → next_forward v p ≡ None → old ≡ 0 → (k time : ℕ) → behind_by v delays k p.at ≡ Some time → IsOldAtMost p old
   at_origin p old last zero_old k time behind_p q its ended late =
@@ -183,17 +186,17 @@ module _ (v : Vehicle) (delays : Delays) (none : AreFindings v []) (told : AreDe
           (subst (λ (f : FlowAt). IsSentDirectly v seen place f p.at fed.within) there sent_there) in
           λ q it ended late.
           let begun : HasBegun (frames_at v seen x.at) (sent.handed.what q) = sent.handed.begun q it in
-          let moment : (seen p.at.bus).moment q ≡ (seen x.at.bus).moment (sent.handed.what q) = sent.handed.moments q it in
+          let release : (seen p.at.bus).release q ≡ (seen x.at.bus).release (sent.handed.what q) = sent.handed.releases q it in
           let after : end_time (frames_at v seen x.at) (sent.handed.what q) ≤ queue_time (frames_at v seen p.at) q = sent.handed.after q it in
           let till = queued_till_end v delays seen by is p.at time behind_p q it in
           let (born, says, so, past) = input steps fed.before before (sent.handed.what q) begun.0 (omega (arith, after, till, ended)) (omega
-          (arith, late, moment)) in
-          (born, sent.says x.signal p.signal (record { by = next; on = on }) q it ∙ says, omega (arith, so, moment), omega (arith, past, after, till))
+          (arith, late, release)) in
+          (born, sent.says x.signal p.signal (record { by = next; on = on }) q it ∙ says, omega (arith, so, release), omega (arith, past, after, till))
 
-  -- by one that has its own moments
+  -- by one that has its own releases
   at_its_beat : (p x : Point) (n : ℕ) (forward : Forward) (old pause before within : ℕ) → IsOnTheWay v start x → next_forward v p ≡ Some n
       → goes_on v p n ≡ Some x
-      → forward_at v n ≡ Some forward → is_direct forward ≡ false → silent v x.at ≡ Some pause → behind_at v delays x.at ≡ Some before
+      → forward_at v n ≡ Some forward → is_direct forward ≡ false → interval v x.at ≡ Some pause → behind_at v delays x.at ≡ Some before
       → within_of forward ≡ Some within
       → (steps time : ℕ) → behind_by v delays steps p.at ≡ Some time → IsOldAtMost x old → IsOldAtMost p (old + (pause + before) + within)
   at_its_beat p x n forward old pause before within way next on its periodic pauses_x behind_x promised steps time known input =
@@ -205,22 +208,22 @@ module _ (v : Vehicle) (delays : Delays) (none : AreFindings v []) (told : AreDe
       let keeps : KeepsOn v seen x.at pause before from by = keeps_on v delays told seen by is start from pauses x way (length v.forwards.items) pause pauses_x
       (length v.forwards.items) before behind_x in
       λ q it ended late.
-      let early : (seen p.at.bus).moment q ≤ by = trans3 _ _ _ _ (of_p.first q it) (queued_till_end v delays seen by is p.at time of_p q it) ended in
-      let (r, rits, earlier, near) = keeps ((seen p.at.bus).moment q - (before + within))
-      (into_reach from old pause before within ((seen p.at.bus).moment q) late) (within_reach from old pause by before within
-      ((seen p.at.bus).moment q) late early) in
-      let begun = of_x.begun r rits (begun_reach from old pause by before within ((seen p.at.bus).moment q) ((seen x.at.bus).moment r) late early earlier) in
+      let early : (seen p.at.bus).release q ≤ by = trans3 _ _ _ _ (of_p.first q it) (queued_till_end v delays seen by is p.at time of_p q it) ended in
+      let (r, rits, earlier, near) = keeps ((seen p.at.bus).release q - (before + within))
+      (into_reach from old pause before within ((seen p.at.bus).release q) late) (within_reach from old pause by before within
+      ((seen p.at.bus).release q) late early) in
+      let begun = of_x.begun r rits (begun_reach from old pause by before within ((seen p.at.bus).release q) ((seen x.at.bus).release r) late early earlier) in
       let later = ends_behind v delays seen by is x.at before of_x r rits in
       let (c, carried, newer, over, says) = sent.newest x.signal p.signal (record { by = next; on = on }) r q begun it
-      (had_ended from old pause before within ((seen p.at.bus).moment q) ((seen x.at.bus).moment r) _ late earlier (of_x.ended r begun))
-      (not_too_old from old pause before within ((seen p.at.bus).moment q) ((seen x.at.bus).moment r) _ late near later) in
+      (had_ended from old pause before within ((seen p.at.bus).release q) ((seen x.at.bus).release r) _ late earlier (of_x.ended r begun))
+      (not_too_old from old pause before within ((seen p.at.bus).release q) ((seen x.at.bus).release r) _ late near later) in
       let over_by = trans3 _ _ _ _ over (queued_till_end v delays seen by is p.at time of_p q it) ended in
       let order = in_order v delays seen by is x.at before of_x r c rits carried newer in
       let (born, tells, so, past) = input c carried.0 over_by
-      (still_late from old pause before within ((seen p.at.bus).moment q) ((seen x.at.bus).moment r) ((seen x.at.bus).moment c) late near order) in (
+      (still_late from old pause before within ((seen p.at.bus).release q) ((seen x.at.bus).release r) ((seen x.at.bus).release c) late near order) in (
         born,
         says ∙ tells,
-        old_there from old pause before within ((seen p.at.bus).moment q) ((seen x.at.bus).moment r) ((seen x.at.bus).moment c) born late near order so,
+        old_there from old pause before within ((seen p.at.bus).release q) ((seen x.at.bus).release r) ((seen x.at.bus).release c) born late near order so,
         trans3 _ _ _ _ past over (queued_till_end v delays seen by is p.at time of_p q it),
       )
 

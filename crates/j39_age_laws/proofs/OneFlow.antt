@@ -1,5 +1,6 @@
 -- One flow of which a delay is told, on its own bus.
-use Rattle.std.proofs.Common.{◌≡◌, ◌≢◌, ℕ, ◌+◌, ◌*◌, ◌-◌, ◌<◌, ◌≤◌, ◌⊎◌, Bool, true, false, List, [], ◌++◌, if◌then◌else◌, Option, Some, refl, sym, ap, ◌∙◌, subst, arith}
+use Rattle.std.proofs.Common.{◌≡◌, ◌≢◌, ℕ, ◌+◌, ◌*◌, ◌-◌, ◌<◌, ◌≤◌, ◌⊎◌, Bool, true, false, List, [], ◌++◌, if◌then◌else◌, Option, Some, refl, sym, ap, ◌∙◌}
+use Rattle.std.proofs.Common.{subst, arith}
 use Rattle.std.proofs.lemmas.Bool.{leb-true}
 use Rattle.std.proofs.lemmas.Option.{same_Some, slice_get-map}
 use Rattle.std.specs.List.{slice_get}
@@ -12,11 +13,11 @@ use Rattle.j39_network.specs.declared.plan.timing.Timing.{Timing}
 use Rattle.j39_network.specs.declared.plan.to.To.{To}
 use Rattle.j39_network.specs.declared.plan.to.To.TheVariants.{All, One}
 use Rattle.j39_network.specs.declared.plan.unit_plan.UnitPlan.{UnitPlan}
-use Rattle.j39_load.specs.declared.delay.Delay.{Delay}
-use Rattle.j39_load.specs.declared.delay.Delay.TheVariants.{Within}
-use Rattle.j39_load.specs.declared.flow_frames.FlowFrames.{FlowFrames}
-use Rattle.j39_load.specs.declared.flow_load.FlowLoad.{FlowLoad}
-use Rattle.j39_load.specs.declared.messages.Messages.TheVariants.{Short}
+use Rattle.j39_load.specs.declared.waits.delay.Delay.{Delay}
+use Rattle.j39_load.specs.declared.waits.delay.Delay.TheVariants.{Within}
+use Rattle.j39_load.specs.declared.frames.flow_frames.FlowFrames.{FlowFrames}
+use Rattle.j39_load.specs.declared.loads.flow_load.FlowLoad.{FlowLoad}
+use Rattle.j39_load.specs.declared.frames.messages.Messages.TheVariants.{Short}
 use Rattle.j39_load.specs.Asked.{Asked, frames_asked}
 use Rattle.j39_load.specs.Damage.{damage_frames}
 use Rattle.j39_load.specs.Loads.{bits_of_ms, flow_load, is_always_short, load_of_flow, loads_of, long_messages, messages_of, single_frames}
@@ -33,12 +34,13 @@ use Rattle.j39_vehicle.specs.declared.vehicle.bus_plan.BusPlan.{BusPlan}
 use Rattle.j39_paths.specs.declared.point.FlowAt.{FlowAt}
 use Rattle.j39_ages.specs.declared.bus_delays.Delays.{Delays}
 use Rattle.j39_ages.specs.TimeFindings.{period_ms}
-use Rattle.j39_ages.specs.Times.{behind_moment, us_of_bit, bits_within, delay_at, flow_at, jitter_ms, own, own_of, sum_known, timing_on, us_of_ms}
+use Rattle.j39_ages.specs.Times.{behind_release, us_of_bit, bits_within, delay_at, flow_at, jitter_ms, own, own_of, sum_known, timing_on, us_of_ms}
 use Rattle.j39_ages.specs.BusDelays.{AreDelays, AreDelaysOn, delays_on}
-use Rattle.j39_age_laws.specs.KeptBuses.{AreKeptBuses, IsKeptBus, IsToldBus, asked_on}
+use Rattle.j39_ages.proofs.DecidingTimes.{and_then_some, map_some}
+use Rattle.j39_age_laws.specs.KeptBuses.{AreKeptBuses, IsKeptBus, IsKnownBus, asked_on}
 use Rattle.j39_age_laws.specs.Seen.{SeenBuses, frames_at, unit_on}
 use Rattle.j39_age_laws.proofs.Starts.{starts_within}
-use Rattle.j39_age_laws.proofs.Parts.{and_then_some, map_some, some_unit, unit_of_ms, within_some}
+use Rattle.j39_age_laws.proofs.Parts.{some_unit, unit_of_ms, within_some}
 
 -- ---- what its own time has for parts
 
@@ -60,9 +62,9 @@ own_parts v delays at time is =
 
 -- ---- what is told of its bus
 
-pub told_bus : (v : Vehicle) (delays : Delays) → AreDelays v delays → (b : ℕ) (timing : Timing) → timing_on v.buses.items b ≡ Some timing
-    → IsToldBus v delays b timing
-told_bus v delays told b timing timed =
+pub known_bus : (v : Vehicle) (delays : Delays) → AreDelays v delays → (b : ℕ) (timing : Timing) → timing_on v.buses.items b ≡ Some timing
+    → IsKnownBus v delays b timing
+known_bus v delays told b timing timed =
     let (bus, its, has) = and_then_some (λ (bus : BusPlan). bus.plan.timing) (slice_get v.buses.items b) timing timed in
     let (stays, asks) = subst (λ (o : Option Timing). AreDelaysOn bus.plan o (delays_on delays b)) has (told.each b bus its) in
     record { bus = bus; its = its; timed = has; stays = stays; asks = asks }
@@ -72,7 +74,7 @@ told_bus v delays told b timing timed =
 pub record HasStream (timing : Timing) (flow : FlowPlan) (frames : FlowFrames) (limit : ℕ) : Type 0 where
   pub single : IsSingle frames.stream
   pub limited : limit ≤ frames.stream.period
-  pub late : frames.stream.late ≡ bits_of_ms timing (jitter_ms flow)
+  pub jitter : frames.stream.jitter ≡ bits_of_ms timing (jitter_ms flow)
   pub period : ℕ
   pub period_is : period_ms flow ≡ Some period
   pub apart : frames.stream.period ≡ bits_of_ms timing period
@@ -111,7 +113,7 @@ stream_of timing plan stays place flow its load at frames short =
     record {
       single = paces.1;
       limited = paces.2;
-      late = ap (λ (f : FlowFrames). f.stream.late) (sym same) ∙ ap (λ (p : Option Pace). bits_of_ms timing (option_map_or (λ (x : Pace). x.jitter) p 0))
+      jitter = ap (λ (f : FlowFrames). f.stream.jitter) (sym same) ∙ ap (λ (p : Option Pace). bits_of_ms timing (option_map_or (λ (x : Pace). x.jitter) p 0))
           (sym paced);
       period = pace.period;
       period_is = ap (option_map (λ (x : Pace). x.period)) paced;
@@ -152,12 +154,12 @@ pub record IsOneFlow (v : Vehicle) (delays : Delays) (seen : SeenBuses) (at : Fl
   pub fits : bits ≤ stream.period
   pub some_unit : 1 ≤ unit_on v at.bus
   pub own_time : time ≡ unit_on v at.bus * (wait + stream.bits)
-  pub moment_time : behind_moment v delays at ≡ Some (unit_on v at.bus * delay_of stream wait)
+  pub release_time : behind_release v delays at ≡ Some (unit_on v at.bus * delay_of stream wait)
   pub some_bits : (p : ℕ) → p < (seen at.bus).schedule.count → 1 ≤ (seen at.bus).schedule.bits p
   pub queued_first : (p : ℕ) → p < (seen at.bus).schedule.count → (seen at.bus).schedule.queued p ≤ (seen at.bus).schedule.start p
   pub few_bits : (p : ℕ) → IsIts (frames_at v seen at) p → (seen at.bus).schedule.bits p ≤ stream.bits
-  pub moment_first : (p : ℕ) → IsIts (frames_at v seen at) p → (seen at.bus).of.since p ≤ (seen at.bus).schedule.queued p
-  pub late : (p : ℕ) → IsIts (frames_at v seen at) p → (seen at.bus).schedule.queued p ≤ (seen at.bus).of.since p + stream.late
+  pub release_first : (p : ℕ) → IsIts (frames_at v seen at) p → (seen at.bus).of.since p ≤ (seen at.bus).schedule.queued p
+  pub jitter : (p : ℕ) → IsIts (frames_at v seen at) p → (seen at.bus).schedule.queued p ≤ (seen at.bus).of.since p + stream.jitter
   pub starts : AreBegunWithin (seen at.bus).schedule (seen at.bus).planned (seen at.bus).of at.flow wait
   pub spaced : (p q : ℕ) → IsIts (frames_at v seen at) p → IsIts (frames_at v seen at) q → p ≢ q
       → ((seen at.bus).of.since p + stream.period ≤ (seen at.bus).of.since q) ⊎ ((seen at.bus).of.since q + stream.period ≤ (seen at.bus).of.since p)
@@ -166,8 +168,8 @@ module _ (v : Vehicle) (delays : Delays) (told : AreDelays v delays) (at : FlowA
   abbrev pub timing : Timing
   timing = has.timing
 
-  abbrev pub of_bus : IsToldBus v delays at.bus has.timing
-  of_bus = told_bus v delays told at.bus has.timing has.timed
+  abbrev pub of_bus : IsKnownBus v delays at.bus has.timing
+  of_bus = known_bus v delays told at.bus has.timing has.timed
 
   abbrev pub asked : Asked
   asked = asked_on of_bus
@@ -198,19 +200,19 @@ module _ (v : Vehicle) (delays : Delays) (told : AreDelays v delays) (at : FlowA
   placed = with_damage has.timing (frames_asked asked) at.flow bound.frames
       (own_read asked.flows asked.units asked.requests at.flow bound.load bound.frames bound.its bound.short)
 
-  pub jitter_bits : unit_on v at.bus * bound.frames.stream.late ≡ 1000 * jitter_ms has.flow
-  jitter_bits = ap (λ (n : ℕ). unit_on v at.bus * n) its_stream.late ∙ (ap (λ (u : ℕ). u * bits_of_ms has.timing (jitter_ms has.flow)) unit_here
+  pub jitter_bits : unit_on v at.bus * bound.frames.stream.jitter ≡ 1000 * jitter_ms has.flow
+  jitter_bits = ap (λ (n : ℕ). unit_on v at.bus * n) its_stream.jitter ∙ (ap (λ (u : ℕ). u * bits_of_ms has.timing (jitter_ms has.flow)) unit_here
       ∙ unit_of_ms has.timing.bitrate (jitter_ms has.flow))
 
   pub own_is : time ≡ unit_on v at.bus * (bound.wait + bound.frames.stream.bits)
   own_is =
       let total = bound.sum in
-      let late = its_stream.late in
+      let late = its_stream.jitter in
       let rest : has.bits - bits_of_ms has.timing (jitter_ms has.flow) ≡ bound.wait + bound.frames.stream.bits = omega (arith, total, late) in
       has.sum ∙ (ap (λ (n : ℕ). us_of_bit has.timing.bitrate * n) rest ∙ ap (λ (u : ℕ). u * (bound.wait + bound.frames.stream.bits)) (sym unit_here))
 
-  pub moment_is : own v delays at ≡ Some time → behind_moment v delays at ≡ Some (unit_on v at.bus * delay_of bound.frames.stream bound.wait)
-  moment_is is =
+  pub release_is : own v delays at ≡ Some time → behind_release v delays at ≡ Some (unit_on v at.bus * delay_of bound.frames.stream bound.wait)
+  release_is is =
       let jitter : (Rattle.j39_ages.specs.Times.timed v at (λ timing flow. Some (us_of_ms (jitter_ms flow)))) ≡ Some (us_of_ms (jitter_ms has.flow)) =
       ap (λ (o : Option Timing). Rattle.std.specs.Option.option_and_then (λ (t : Timing). Rattle.std.specs.Option.option_and_then (λ (f : FlowPlan). Some
       (us_of_ms (jitter_ms f))) (flow_at v.buses.items at)) o) has.timed
@@ -230,14 +232,14 @@ module _ (v : Vehicle) (delays : Delays) (told : AreDelays v delays) (at : FlowA
 
     keeps : (p : ℕ) → IsIts (frames_at v seen at) p
         → ((seen at.bus).schedule.bits p ≤ bound.frames.stream.bits) × ((seen at.bus).of.since p ≤ (seen at.bus).schedule.queued p)
-        × ((seen at.bus).schedule.queued p ≤ (seen at.bus).of.since p + bound.frames.stream.late)
+        × ((seen at.bus).schedule.queued p ≤ (seen at.bus).of.since p + bound.frames.stream.jitter)
     keeps p (in_p, is, source) =
         let one = frames_here.known.of_streams.keeps p in_p is in
         let here : planned_at (frames_asked asked ++ damage_frames has.timing) ((seen at.bus).of.source p) ≡ bound.frames =
         subst (λ (j : ℕ). planned_at (frames_asked asked ++ damage_frames has.timing) j ≡ bound.frames) (sym source) placed in (
           subst (λ (f : FlowFrames). (seen at.bus).schedule.bits p ≤ f.stream.bits) here one.bits_at_most,
-          one.moment_first,
-          subst (λ (f : FlowFrames). (seen at.bus).schedule.queued p ≤ (seen at.bus).of.since p + f.stream.late) here one.late_at_most,
+          one.release_first,
+          subst (λ (f : FlowFrames). (seen at.bus).schedule.queued p ≤ (seen at.bus).of.since p + f.stream.jitter) here one.jitter_at_most,
         )
 
     one_turn : (p : ℕ) → IsIts (frames_at v seen at) p → (seen at.bus).of.turn p ≡ 0
@@ -272,12 +274,12 @@ module _ (v : Vehicle) (delays : Delays) (told : AreDelays v delays) (at : FlowA
       fits = let inside = bound.inside in let limited = its_stream.limited in omega (arith, inside, limited);
       some_unit = let some = some_unit has.timing.bitrate in let same = unit_here in omega (arith, some, same);
       own_time = own_is;
-      moment_time = moment_is is;
+      release_time = release_is is;
       some_bits = keeps_bus.legal.positive;
       queued_first = keeps_bus.legal.queued_first;
       few_bits = λ p its. (keeps p its).0;
-      moment_first = λ p its. (keeps p its).1;
-      late = λ p its. (keeps p its).2;
+      release_first = λ p its. (keeps p its).1;
+      jitter = λ p its. (keeps p its).2;
       starts = starts_within of_bus.bus.plan has.timing of_bus.stays (delays_on delays at.bus) of_bus.asks at.flow has.bits delay_here (seen at.bus).schedule
           (seen at.bus).controllers
           (seen at.bus).planned (seen at.bus).of keeps_bus.legal frames_here;

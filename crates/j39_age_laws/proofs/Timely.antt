@@ -1,5 +1,6 @@
 -- Where no finding says that a direct forward is too often or too late, each flow that it feeds has room for it.
-use Rattle.std.proofs.Common.{◌≡◌, ℕ, zero, suc, ◌<◌, ◌≤◌, Bool, true, false, cond, List, [], ◌∷◌, get_or, Option, Some, None, refl, sym, ap, ◌∙◌, subst, inl, inr, arith}
+use Rattle.std.proofs.Common.{◌≡◌, ℕ, zero, suc, ◌<◌, ◌≤◌, Bool, true, false, cond, List, [], ◌∷◌, get_or, Option, Some, None, refl, sym, ap, ◌∙◌, subst, inl}
+use Rattle.std.proofs.Common.{inr, arith}
 use Rattle.std.proofs.lemmas.Bool.{cases_lt, lt-ltb, true≢false}
 use Rattle.std.proofs.lemmas.List.Quantifiers.{position-Some}
 use Rattle.std.proofs.lemmas.List.Sums.{sum_by-cons}
@@ -9,7 +10,7 @@ use Rattle.std.specs.Option.{option_and_then, option_map, option_map_or}
 use Rattle.j39_network.specs.declared.plan.flow_plan.FlowPlan.{FlowPlan}
 use Rattle.j39_network.specs.declared.plan.group_plan.GroupPlan.{GroupPlan}
 use Rattle.j39_network.specs.declared.plan.timing.Timing.{Timing}
-use Rattle.j39_load.specs.declared.delay.Delay.{Delay}
+use Rattle.j39_load.specs.declared.waits.delay.Delay.{Delay}
 use Rattle.j39_vehicle.specs.declared.vehicle.Vehicle.{Vehicle}
 use Rattle.j39_vehicle.specs.declared.vehicle.bus_plan.BusPlan.{BusPlan}
 use Rattle.j39_vehicle.specs.declared.vehicle.forward.Forward.{Forward}
@@ -23,14 +24,15 @@ use Rattle.j39_paths.specs.declared.point.FlowAt.{FlowAt}
 use Rattle.j39_paths.proofs.Deciding.{Decides-has_many_outputs, Decides-is_direct, Decides-is_input}
 use Rattle.j39_ages.specs.BusDelays.{AreDelays, AreDelaysOn, delays_on}
 use Rattle.j39_ages.specs.TimeFindings.{AreTimeFindings, IsDirectBetween, IsUnlimited, first_output, period_ms}
-use Rattle.j39_ages.specs.Times.{bits_within, delay_at, direct_feeder, flow_at, first_input_at, jitter_ms, queued_of, silent, timing_on, us_of_ms}
+use Rattle.j39_ages.specs.Times.{bits_within, delay_at, direct_feeder, flow_at, first_input_at, jitter_ms, queued_of, interval, timing_on, us_of_ms}
 use Rattle.j39_ages.specs.declared.bus_delays.Delays.{Delays}
 use Rattle.j39_ages.specs.declared.ends.Ends.{Ends}
 use Rattle.j39_ages.specs.declared.finding.TimeFinding.TheVariants.{TooLate, TooOften, TooRare}
+use Rattle.j39_ages.proofs.DecidingTimes.{and_then_some}
 use Rattle.j39_age_laws.specs.ForwardedStreams.{AreForwardsTimely, IsForwardTimely}
 use Rattle.j39_age_laws.proofs.Feeders.{IsFeederAt, IsOutputAt, feeder_is, feeds_parts, none_passes}
-use Rattle.j39_age_laws.proofs.OneFlow.{HasOwn, short_group, told_bus}
-use Rattle.j39_age_laws.proofs.Parts.{and_then_some, some_cases}
+use Rattle.j39_age_laws.proofs.OneFlow.{HasOwn, short_group, known_bus}
+use Rattle.j39_age_laws.proofs.Parts.{some_cases}
 
 -- ---- two values that pass
 
@@ -176,7 +178,7 @@ module _ (v : Vehicle) (delays : Delays) (none : AreFindings v []) (told : AreDe
       let has : HasOwn v delays at (Rattle.j39_ages.specs.Times.own_of timing sends.flow bits) =
       record { timing = timing; timed = time; flow = sends.flow; its = sends.its; bits = bits; delayed = delayed; sum = refl } in
       let (short, of_flow, few) = short_group v delays told at (Rattle.j39_ages.specs.Times.own_of timing sends.flow bits) has in
-      let its_bus : (told_bus v delays told at.bus timing time).bus ≡ bus = same_Some _ _ (sym (told_bus v delays told at.bus timing time).its ∙ bus_is) in
+      let its_bus : (known_bus v delays told at.bus timing time).bus ≡ bus = same_Some _ _ (sym (known_bus v delays told at.bus timing time).its ∙ bus_is) in
       let here : slice_get bus.plan.groups.items sends.flow.group ≡ Some group =
       subst (λ (o : Option BusPlan). slice_get (option_map_or (λ (x : BusPlan). x.plan.groups.items) o []) sends.flow.group ≡ Some group) bus_is
       (subst (λ (b : ℕ). slice_get (groups_on v.buses.items b) sends.flow.group ≡ Some group) sends.bus its) in
@@ -238,13 +240,13 @@ module _ (v : Vehicle) (delays : Delays) (none : AreFindings v []) (told : AreDe
         | inr far ↦ (q, its, omega (arith, far))
       ])
 
-  too_rare : (ms : ℕ) → sends.flow.pause ≡ Some ms → ¬ ((s : ℕ) × (silent v source ≡ Some s) × (s ≤ us_of_ms ms)) → ⊥
+  too_rare : (ms : ℕ) → sends.flow.pause ≡ Some ms → ¬ ((s : ℕ) × (interval v source ≡ Some s) × (s ≤ us_of_ms ms)) → ⊥
   too_rare ms is rarer =
       let finding = in_time.complete (TooRare place) (record { value = n; value_is = feeding.its; meets = between _ (ms, is, rarer) }) in
       omega (arith, finding.1)
 
-  pauses : (ms : ℕ) → sends.flow.pause ≡ Some ms → (s : ℕ) × (silent v source ≡ Some s) × (s ≤ us_of_ms ms)
-  pauses ms is = some_cases (silent v source) ((s : ℕ) × (silent v source ≡ Some s) × (s ≤ us_of_ms ms))
+  pauses : (ms : ℕ) → sends.flow.pause ≡ Some ms → (s : ℕ) × (interval v source ≡ Some s) × (s ≤ us_of_ms ms)
+  pauses ms is = some_cases (interval v source) ((s : ℕ) × (interval v source ≡ Some s) × (s ≤ us_of_ms ms))
       (λ unknown. absurd (too_rare ms is (λ known. none-some known.0 (sym unknown ∙ known.1))))
       (λ s its. elim (cases_lt (us_of_ms ms) s) [
         | inl above ↦ absurd (too_rare ms is (λ known. let same : known.0 ≡ s = same_Some _ _ (sym known.1
@@ -253,13 +255,14 @@ module _ (v : Vehicle) (delays : Delays) (none : AreFindings v []) (told : AreDe
       ])
 
   -- what it comes from is silent no longer than its pause allows
-  pub keeps_rarely : (flow : FlowPlan) → flow_at v.buses.items at ≡ Some flow → (from : FlowAt) → first_input_at v n ≡ Some from → (ms : ℕ) → flow.pause ≡ Some ms
-      → (s : ℕ) × (silent v from ≡ Some s) × (s ≤ us_of_ms ms)
+  pub keeps_rarely : (flow : FlowPlan) → flow_at v.buses.items at ≡ Some flow → (from : FlowAt) → first_input_at v n ≡ Some from → (ms : ℕ)
+      → flow.pause ≡ Some ms
+      → (s : ℕ) × (interval v from ≡ Some s) × (s ≤ us_of_ms ms)
   keeps_rarely flow its from input_is ms is =
       let same : flow ≡ sends.flow = same_Some _ _ (sym its ∙ sends.its) in
       let there : source ≡ from = same_Some _ _ (sym source_is ∙ input_is) in
       let (s, known, few) = pauses ms (ap (λ (f : FlowPlan). f.pause) (sym same) ∙ is) in
-      (s, subst (λ (f : FlowAt). silent v f ≡ Some s) there known, few)
+      (s, subst (λ (f : FlowAt). interval v f ≡ Some s) there known, few)
 
   pub is_timely : IsForwardTimely v delays at n
   unfolding source

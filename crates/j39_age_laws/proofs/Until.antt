@@ -1,16 +1,17 @@
 -- What is seen of a bus up to a bit keeps to its plan, where the frames that are queued before it keep to their streams.
-use Rattle.std.proofs.Common.{◌≡◌, ℕ, ◌+◌, ◌<◌, ◌≤◌, Bool, true, not, cond, ◌&&◌, ◌||◌, eqb, ltb, leb, List, Option, refl, sym, ap, ◌∙◌, subst, arith, inl, inr}
-use Rattle.std.proofs.lemmas.Bool.{and_parts, and_from, cases_Bool, leb-true, both_ways}
+use Rattle.std.proofs.Common.{◌≡◌, ℕ, ◌+◌, ◌<◌, ◌≤◌, Bool, true, cond, ◌&&◌, eqb, ltb, leb, List, Option, sym, ◌∙◌, arith, inl, inr}
+use Rattle.std.proofs.lemmas.Bool.{cases_Bool}
 use Rattle.j39_network.specs.declared.plan.timing.Timing.{Timing}
-use Rattle.j39_load.specs.declared.flow_frames.FlowFrames.{FlowFrames}
-use Rattle.j39_load.specs.PlannedFrames.{AreFramesInAnyOrder, KeepToCompany, company_of, others_of, planned_at}
+use Rattle.j39_load.specs.declared.frames.flow_frames.FlowFrames.{FlowFrames}
+use Rattle.j39_load.specs.PlannedFrames.{AreFramesInAnyOrder, KeepToQueueGroup, queue_group_of, others_of, planned_at}
 use Rattle.j39_timing.specs.AnyOrder.{Controllers}
-use Rattle.j39_timing.specs.Companies.{Company, CompanyWaits, is_unplanned_queued, is_with_company, unplanned_queued}
+use Rattle.j39_timing.specs.QueueGroups.{QueueGroup}
 use Rattle.j39_timing.specs.FrameBits.{longest_frame}
 use Rattle.j39_timing.specs.FrameStreams.{AreOfStreams, Origins}
 use Rattle.j39_timing.specs.Prefixes.{IsPlannedUntil, planned_until, seen_until}
 use Rattle.j39_timing.specs.TimedFrames.{Schedule}
-use Rattle.j39_timing.specs.Traffic.{AreAsWanted, moments_in}
+use Rattle.j39_timing.specs.Traffic.{AreAsWanted, releases_in}
+use Rattle.j39_timing.proofs.AnyPrefixes.{queue_group_before, fewer_unplanned}
 use Rattle.j39_timing.proofs.Prefixes.{is_planned_then, its_own, then_is_planned, then_known}
 use Rattle.j39_timing.proofs.Sums.{total-le}
 use Rattle.j39_age_laws.specs.ForwardedStreams.{KeepsOtherwise, streams_of}
@@ -33,7 +34,7 @@ module _ (timing : Timing) (all : List (Option FlowFrames)) (s : Schedule) (cont
     };
     of_unit = keeps.of_unit;
     to_last = keeps.to_last;
-    companies = keeps.companies;
+    queue_groups = keeps.queue_groups;
   }
 
   module _ (by : ℕ) (seen : by ≤ s.now)
@@ -50,8 +51,8 @@ module _ (timing : Timing) (all : List (Option FlowFrames)) (s : Schedule) (cont
     own : (p : ℕ) → s.queued p < by → then_seen.ident p ≡ s.ident p
     own p early = its_own s by (others_of timing).least p early
 
-    fewer_moments : (j t span : ℕ) → moments_in s then_planned of j t span ≤ moments_in s planned of j t span
-    fewer_moments j t span = total-le s.count (λ p. cond (then_planned p && (eqb (of.source p) j && (leb t (of.since p) && ltb (of.since p) (t + span)))) 1 0)
+    fewer_releases : (j t span : ℕ) → releases_in s then_planned of j t span ≤ releases_in s planned of j t span
+    fewer_releases j t span = total-le s.count (λ p. cond (then_planned p && (eqb (of.source p) j && (leb t (of.since p) && ltb (of.since p) (t + span)))) 1 0)
         (λ p. cond (planned p && (eqb (of.source p) j && (leb t (of.since p) && ltb (of.since p) (t + span)))) 1 0)
         (λ p in_p. one (planned p) (ltb (s.queued p) by) (eqb (of.source p) j && (leb t (of.since p) && ltb (of.since p) (t + span))))
       where
@@ -62,7 +63,7 @@ module _ (timing : Timing) (all : List (Option FlowFrames)) (s : Schedule) (cont
 
     wanted_then : AreAsWanted s then_planned of (streams_of timing all).demands (streams_of timing all).stream
     wanted_then j t span demand has =
-        let fewer = fewer_moments j t span in
+        let fewer = fewer_releases j t span in
         let most = keeps.as_wanted j t span demand has in
         omega (arith, fewer, most)
 
@@ -78,39 +79,11 @@ module _ (timing : Timing) (all : List (Option FlowFrames)) (s : Schedule) (cont
       few_others = keeps.few_others;
     }
 
-    -- ---- a company
+    -- ---- a queue group
 
-    module _ (company : Company) (kept : KeepToCompany timing s planned of company) where
-      with_company : (p : ℕ) → s.queued p < by → is_with_company then_seen of company p ≡ is_with_company s of company p
-      with_company p early = ap (λ c. company.has (of.source p) || ltb c company.level) (own p early)
-
-      company_before : (from to : ℕ) → CompanyWaits then_seen then_planned of company from to → CompanyWaits s planned of company from to
-      company_before from to stretch t after within =
-          let (p, in_p, is, with_it, waits) = stretch t after within in
-          let (plain, early) = is_planned_then s planned by p is in
-          (p, in_p, plain, subst (λ x. x ≡ true) (with_company p early) with_it, waits)
-
-      fewer : (from to : ℕ) → to < by → unplanned_queued then_seen then_planned from to ≤ unplanned_queued s planned from to
-      fewer from to before =
-          total-le s.count (λ q. cond (is_unplanned_queued then_seen then_planned from to q) 1 0) (λ q. cond (is_unplanned_queued s planned from to q) 1 0)
-          (λ q in_q.
-          elim (cases_Bool (is_unplanned_queued then_seen then_planned from to q)) [
-            | inr fails ↦ rw (fails) (omega arith)
-            | inl it ↦
-                let one = and_parts (not (then_planned q)) (leb (s.queued q) to && ltb from (s.start q)) it in
-                let two = and_parts (leb (s.queued q) to) (ltb from (s.start q)) one.1 in
-                let until : s.queued q ≤ to = leb-true (s.queued q) to two.0 in
-                let isnt : not (planned q) ≡ true = elim (cases_Bool (planned q)) [
-                  | inl is ↦ absurd (both_ways (not (then_planned q)) (ap not (then_is_planned s planned by q is (omega arith))) one.0)
-                  | inr unplanned_one ↦ rw (unplanned_one) refl
-                ] in
-                let there : is_unplanned_queued s planned from to q ≡ true = and_from (not (planned q)) (leb (s.queued q) to && ltb from
-                (s.start q)) isnt one.1 in
-                rw (it, there) (omega arith)
-          ])
-
-      company_then : KeepToCompany timing then_seen then_planned of company
-      company_then = record {
+    module _ (queue_group : QueueGroup) (kept : KeepToQueueGroup timing s planned of queue_group) where
+      queue_group_then : KeepToQueueGroup timing then_seen then_planned of queue_group
+      queue_group_then = record {
         identifiers = λ p in_p. elim (cases_Bool (ltb (s.queued p) by)) [
           | inl early ↦ rw (early) (kept.identifiers p in_p)
           | inr late ↦ rw (late) (let few = timing.unplanned_priority_range in omega arith)
@@ -124,8 +97,8 @@ module _ (timing : Timing) (all : List (Option FlowFrames)) (s : Schedule) (cont
             (then_is_planned s planned by q both.0 ready, both.1);
         few_unplanned = λ p from to in_p is has before waits stretch.
             let (plain, early) = is_planned_then s planned by p is in
-            let most = kept.few_unplanned p from to in_p plain has (omega arith) waits (company_before from to stretch) in
-            let less = fewer from to before in
+            let most = kept.few_unplanned p from to in_p plain has (omega arith) waits (queue_group_before s planned of queue_group by (others_of timing).least from to stretch) in
+            let less = fewer_unplanned s planned of queue_group by (others_of timing).least from to before in
             omega (arith, most, less);
       }
 
@@ -138,5 +111,6 @@ module _ (timing : Timing) (all : List (Option FlowFrames)) (s : Schedule) (cont
           let most = keeps.to_last p in_p plain kept in
           let same = own p early in
           omega (arith, most, same);
-      companies = λ j level goes kept is_level. company_then (company_of timing all (planned_at all j) level) (keeps.companies j level goes kept is_level);
+      queue_groups =
+          λ j level goes kept is_level. queue_group_then (queue_group_of timing all (planned_at all j) level) (keeps.queue_groups j level goes kept is_level);
     }

@@ -21,13 +21,14 @@ use Rattle.j39_ages.specs.TimeFindings.{IsYoungFlow}
 use Rattle.j39_ages.specs.Times.{age, us_of_bit, delay_at, direct_feeder, first_input_at, us_of_ms}
 use Rattle.j39_ages.specs.declared.bus_delays.Delays.{Delays}
 use Rattle.j39_ages.specs.declared.finding.TimeFinding.TheVariants.{NeedTooOld}
+use Rattle.j39_ages.proofs.DecidingTimes.{and_then_some}
 use Rattle.j39_age_laws.specs.Seen.{SeenBuses, clock_on, unit_on}
 use Rattle.j39_age_laws.specs.VehicleAges.{AreAgesKept, AreForwardedPausesKept, AreVehicleNeedsKept, IsNeedKept, IsPromptVehicle, IsSoundVehicle}
 use Rattle.j39_age_laws.specs.YoungValues.{IsSeenVehicle, itself}
 use Rattle.j39_age_laws.proofs.Behind.{is_behind}
 use Rattle.j39_age_laws.proofs.Kept.{streams_are_kept}
-use Rattle.j39_age_laws.proofs.Parts.{and_then_some, some_cases, unit_of_ms}
-use Rattle.j39_age_laws.proofs.Silent.{KeepsOn, source_keeps_on}
+use Rattle.j39_age_laws.proofs.Parts.{some_cases, unit_of_ms}
+use Rattle.j39_age_laws.proofs.Interval.{KeepsOn, source_keeps_on}
 use Rattle.j39_age_laws.proofs.Timely.{are_timely, keeps_rarely}
 use Rattle.j39_age_laws.proofs.Young.{brought_young}
 
@@ -36,10 +37,10 @@ use Rattle.j39_age_laws.proofs.Young.{brought_young}
 pub seen_vehicle : (v : Vehicle) (delays : Delays) → IsSoundVehicle v delays → (seen : SeenBuses) (by : ℕ) → IsPromptVehicle v delays seen by
     → IsSeenVehicle v delays seen by
 seen_vehicle v delays sound seen by is = record {
-  kept = streams_are_kept v delays (are_timely v delays sound.paths sound.told sound.times) sound.told seen is.kept is.prompt is.own_moments;
+  kept = streams_are_kept v delays (are_timely v delays sound.paths sound.told sound.times) sound.told seen is.kept is.prompt is.own_releases;
   until = is.until;
   prompt = is.prompt;
-  own_moments = is.own_moments;
+  own_releases = is.own_releases;
   origins = is.origins;
 }
 
@@ -160,11 +161,11 @@ needs_kept v delays sound d need within its asks = need_kept v delays sound d ne
 
 -- ---- pauses
 
--- of a moment less than `pause` before the end of a bit, the bit is less than so many behind that of the moment
-in_bits : (phase u bit since moment pause bits silent : ℕ) → 1 ≤ u → phase + u * since ≤ moment → moment < phase + u * (since + 1)
-    → moment ≤ phase + u * (bit + 1) - 1
-    → phase + u * (bit + 1) - 1 < moment + silent → silent ≤ pause → u * bits ≡ pause → (since ≤ bit) × (bit < since + bits)
-in_bits phase u bit since moment pause bits silent unit low high before near most same =
+-- of a release less than `pause` before the end of a bit, the bit is less than so many behind that of the release
+in_bits : (phase u bit since release pause bits interval : ℕ) → 1 ≤ u → phase + u * since ≤ release → release < phase + u * (since + 1)
+    → release ≤ phase + u * (bit + 1) - 1
+    → phase + u * (bit + 1) - 1 < release + interval → interval ≤ pause → u * bits ≡ pause → (since ≤ bit) × (bit < since + bits)
+in_bits phase u bit since release pause bits interval unit low high before near most same =
     let floor : since < bit + 1 = lt_of_mul-lt-mul_left u (omega arith) in
     let ceiling : bit + 1 < since + bits + 1 = lt_of_mul-lt-mul_left u (omega arith) in
     (omega (arith, floor), omega (arith, ceiling))
@@ -181,11 +182,11 @@ pauses_kept v delays sound seen by at timing flow ms time first last (from, sent
     let (bits, delayed, rest) = and_then_some (λ (bits : ℕ). option_and_then (first_input_at v) (direct_feeder v at)) (delay_at delays at) from sent in
     let (n, feeder, input) = and_then_some (first_input_at v) (direct_feeder v at) from rest in
     let whole = seen_vehicle v delays sound seen by is in
-    let (silent, silent_is, few) = keeps_rarely v delays sound.paths sound.told sound.times at bits n delayed feeder flow its from input ms paused in
+    let (interval, interval_is, few) = keeps_rarely v delays sound.paths sound.told sound.times at bits n delayed feeder flow its from input ms paused in
     let ends = is_behind v delays sound.told seen by whole (length v.forwards.items) at time known in
-    let keeps : KeepsOn v seen at silent time (time_of (clock_on v seen at.bus) first) by =
+    let keeps : KeepsOn v seen at interval time (time_of (clock_on v seen at.bus) first) by =
     source_keeps_on v delays sound.told seen by whole (record { at = at; signal = None }) (time_of (clock_on v seen at.bus) first) pauses
-    (record { at = at; signal = None }) itself from silent n feeder input silent_is (length v.forwards.items) time known in
+    (record { at = at; signal = None }) itself from interval n feeder input interval_is (length v.forwards.items) time known in
     let unit : 1 ≤ unit_on v at.bus = ends.one.some_unit in
     let same_unit : unit_on v at.bus ≡ us_of_bit timing.bitrate = ap (λ (o : Option Timing). option_map_or (λ (t : Timing). us_of_bit t.bitrate) o 1) timed in
     let whole_ms : unit_on v at.bus * bits_of_ms timing ms ≡ us_of_ms ms = ap (λ (u : ℕ). u * bits_of_ms timing ms) same_unit ∙ unit_of_ms timing.bitrate ms in
@@ -195,7 +196,7 @@ pauses_kept v delays sound seen by at timing flow ms time first last (from, sent
     let (q, it, before, near) = keeps (time_of (clock_on v seen at.bus) (bit + 1) - 1)
     (starts_late (seen at.bus).phase (unit_on v at.bus) first bit unit (omega (arith, order)))
     (ends_early (seen at.bus).phase (unit_on v at.bus) bit last time by unit until room) in
-    let (since, soon) = in_bits (seen at.bus).phase (unit_on v at.bus) bit ((seen at.bus).of.since q) ((seen at.bus).moment q) (us_of_ms ms)
-    (bits_of_ms timing ms) silent unit
+    let (since, soon) = in_bits (seen at.bus).phase (unit_on v at.bus) bit ((seen at.bus).of.since q) ((seen at.bus).release q) (us_of_ms ms)
+    (bits_of_ms timing ms) interval unit
     (ends.low q it) (ends.high q it) before near few whole_ms in
     (q, it.0, it.1, it.2, since, soon)

@@ -3,12 +3,12 @@ use Rattle.std.specs.Prelude.{◌≡◌, ◌≢◌, ℕ, ◌+◌, ◌<◌, ◌�
 use Rattle.std.specs.List.{slice_get}
 use Rattle.j39_network.specs.declared.plan.flow_plan.FlowPlan.{FlowPlan}
 use Rattle.j39_network.specs.declared.plan.timing.Timing.{Timing}
-use Rattle.j39_load.specs.declared.delay.Delay.TheVariants.{Within}
-use Rattle.j39_load.specs.declared.flow_frames.FlowFrames.{FlowFrames}
-use Rattle.j39_load.specs.AnyQueues.{IsCompanyLevel, are_of_unit, keep_order, leasts_of, with_unplanned}
+use Rattle.j39_load.specs.declared.waits.delay.Delay.TheVariants.{Within}
+use Rattle.j39_load.specs.declared.frames.flow_frames.FlowFrames.{FlowFrames}
+use Rattle.j39_load.specs.AnyQueues.{IsQueueGroupLevel, are_of_unit, keep_order, leasts_of, with_unplanned}
 use Rattle.j39_load.specs.Asked.{frames_asked}
 use Rattle.j39_load.specs.Damage.{damage_frames}
-use Rattle.j39_load.specs.PlannedFrames.{KeepToCompany, company_of, others_of, planned_at, traffic_of}
+use Rattle.j39_load.specs.PlannedFrames.{KeepToQueueGroup, queue_group_of, others_of, planned_at, traffic_of}
 use Rattle.j39_timing.specs.AnyOrder.{Controllers, IsLegalInAnyOrder, IsUnordered}
 use Rattle.j39_timing.specs.FrameBits.{longest_frame}
 use Rattle.j39_timing.specs.FrameStreams.{KeepsStream, Origins}
@@ -21,8 +21,8 @@ use Rattle.j39_ages.specs.BusDelays.{AreDelays, delays_on}
 use Rattle.j39_ages.specs.TimeFindings.{period_ms}
 use Rattle.j39_ages.specs.Times.{delay_at, direct_feeder, flow_at, first_input_at, jitter_ms, queued_of, us_of_ms}
 use Rattle.j39_ages.specs.declared.bus_delays.Delays.{Delays}
-use Rattle.j39_age_laws.specs.KeptBuses.{AreKeptBuses, IsToldBus, asked_on}
-use Rattle.j39_age_laws.specs.Prompt.{ArePrompt, HaveOwnMoments, IsSentOn}
+use Rattle.j39_age_laws.specs.KeptBuses.{AreKeptBuses, IsKnownBus, asked_on}
+use Rattle.j39_age_laws.specs.Prompt.{ArePrompt, HaveOwnReleases, IsSentOn}
 use Rattle.j39_age_laws.specs.Seen.{SeenBus, SeenBuses}
 
 -- the streams of a plan's frames, and of what comes of damage
@@ -45,13 +45,13 @@ pub record KeepsOtherwise (timing : Timing) (all : List (Option FlowFrames)) (s 
       → are_of_unit (planned_at all (of.source p)) (controllers.unit p) ≡ true
   pub to_last : (p : ℕ) → p < s.count → planned p ≡ true → keep_order (planned_at all (of.source p)) ≡ false
       → s.ident p ≤ (planned_at all (of.source p)).last_ident
-  pub companies : (j level : ℕ) → (j ≡ i) ⊎ ((planned_at all j).least_ident < (planned_at all i).greatest_ident)
-      → keep_order (planned_at all j) ≡ false → IsCompanyLevel (leasts_of all) all (with_unplanned timing (planned_at all j)) level
-      → KeepToCompany timing s planned of (company_of timing all (planned_at all j) level)
+  pub queue_groups : (j level : ℕ) → (j ≡ i) ⊎ ((planned_at all j).least_ident < (planned_at all i).greatest_ident)
+      → keep_order (planned_at all j) ≡ false → IsQueueGroupLevel (leasts_of all) all (with_unplanned timing (planned_at all j)) level
+      → KeepToQueueGroup timing s planned of (queue_group_of timing all (planned_at all j) level)
 
 -- ---- flows that are sent on directly
 
--- the bus keeps to its plan; but it isn't asked when messages are queued that are sent on directly, nor how far apart their moments are
+-- the bus keeps to its plan; but it isn't asked when messages are queued that are sent on directly, nor how far apart their releases are
 pub record IsOtherwiseKept (v : Vehicle) (delays : Delays) (b : ℕ) (timing : Timing) (all : List (Option FlowFrames)) (bus : SeenBus) : Type 0 where
   pub legal : IsLegalInAnyOrder bus.schedule bus.controllers
   pub own : (p : ℕ) → p < bus.schedule.count → bus.planned p ≡ true → ¬ IsSentOn v delays (record { bus = b; flow = bus.of.source p })
@@ -68,7 +68,7 @@ pub record IsOtherwiseKept (v : Vehicle) (delays : Delays) (b : ℕ) (timing : T
 
 -- so it is of each bus that has timing
 abbrev pub AreOtherwiseKept : Vehicle → Delays → SeenBuses → Type 0
-AreOtherwiseKept v delays seen = (b : ℕ) (timing : Timing) (of_bus : IsToldBus v delays b timing)
+AreOtherwiseKept v delays seen = (b : ℕ) (timing : Timing) (of_bus : IsKnownBus v delays b timing)
     → IsOtherwiseKept v delays b timing (frames_asked (asked_on of_bus)) (seen b)
 
 -- ---- what follows
@@ -93,4 +93,4 @@ AreForwardsTimely v delays = (at : FlowAt) (bits : ℕ) (n : Forward) → delay_
 -- where gateways are prompt, each frame of a bus keeps to its stream, those that are sent on directly too
 abbrev pub AreStreamsKept : Vehicle → Delays → Type 0
 AreStreamsKept v delays = AreForwardsTimely v delays → AreDelays v delays → (seen : SeenBuses) → AreOtherwiseKept v delays seen → ArePrompt v delays seen
-    → HaveOwnMoments v delays seen → AreKeptBuses v delays seen
+    → HaveOwnReleases v delays seen → AreKeptBuses v delays seen

@@ -3,8 +3,8 @@ use Rattle.std.specs.Prelude.{◌≡◌, ℕ, ◌≤◌, Bool, List, Option, Som
 use Rattle.std.specs.List.{slice_get}
 use Rattle.j39_network.specs.declared.plan.timing.Timing.{Timing}
 use Rattle.j39_network.specs.declared.plan.unit_plan.UnitPlan.{UnitPlan}
-use Rattle.j39_load.specs.declared.delay.Delay.{Delay}
-use Rattle.j39_load.specs.declared.delay.Delay.TheVariants.{Within}
+use Rattle.j39_load.specs.declared.waits.delay.Delay.{Delay}
+use Rattle.j39_load.specs.declared.waits.delay.Delay.TheVariants.{Within}
 use Rattle.j39_load.specs.Asked.{Asked, asked_of, frames_asked}
 use Rattle.j39_load.specs.LoadFindings.{AsksOfBus}
 use Rattle.j39_load.specs.PlannedFrames.{AreFramesInAnyOrder}
@@ -18,14 +18,14 @@ use Rattle.j39_ages.specs.Times.{timing_on}
 use Rattle.j39_age_laws.specs.Seen.{SeenBus, SeenBuses, clock_on}
 
 -- what is told of a bus of the vehicle that has timing: by who stays, the delay of each of its flows
-pub record IsToldBus (v : Vehicle) (delays : Delays) (b : ℕ) (timing : Timing) : Type 0 where
+pub record IsKnownBus (v : Vehicle) (delays : Delays) (b : ℕ) (timing : Timing) : Type 0 where
   pub bus : BusPlan
   pub its : slice_get v.buses.items b ≡ Some bus
   pub timed : bus.plan.timing ≡ Some timing
   pub stays : UnitPlan → Bool
   pub asks : AsksOfBus bus.plan timing stays (delays_on delays b)
 
-abbrev pub asked_on : {v : Vehicle} {delays : Delays} {b : ℕ} {timing : Timing} → IsToldBus v delays b timing → Asked
+abbrev pub asked_on : {v : Vehicle} {delays : Delays} {b : ℕ} {timing : Timing} → IsKnownBus v delays b timing → Asked
 asked_on {timing = timing} of_bus = asked_of timing of_bus.bus.plan of_bus.stays
 
 -- the planned frames of the bus are those of its plan's flows, and what else is on it keeps to what is told of it, while frames of flows wait of
@@ -37,7 +37,7 @@ pub record IsKeptBus (timing : Timing) (asked : Asked) (told : List (Option Dela
 
 -- so it is of each bus that has timing
 abbrev pub AreKeptBuses : Vehicle → Delays → SeenBuses → Type 0
-AreKeptBuses v delays seen = (b : ℕ) (timing : Timing) (of_bus : IsToldBus v delays b timing)
+AreKeptBuses v delays seen = (b : ℕ) (timing : Timing) (of_bus : IsKnownBus v delays b timing)
     → IsKeptBus timing (asked_on of_bus) (delays_on delays b) (seen b)
 
 -- and is seen until this time

@@ -12,8 +12,8 @@ use Rattle.j39_paths.specs.declared.point.FlowAt.{FlowAt}
 use Rattle.j39_ages.specs.BusDelays.{AreDelays}
 use Rattle.j39_ages.specs.Times.{direct_feeder, forward_at, first_input_at, timing_on}
 use Rattle.j39_ages.specs.declared.bus_delays.Delays.{Delays}
-use Rattle.j39_age_laws.specs.KeptBuses.{IsToldBus, asked_on}
-use Rattle.j39_age_laws.specs.Prompt.{IsDelayTold, SendsOn}
+use Rattle.j39_age_laws.specs.KeptBuses.{IsKnownBus, asked_on}
+use Rattle.j39_age_laws.specs.Prompt.{IsDelayKnown, SendsOn}
 use Rattle.j39_age_laws.specs.Seen.{SeenBuses, frames_at}
 use Rattle.j39_age_laws.specs.VehicleAges.{IsPromptVehicle}
 
@@ -24,8 +24,8 @@ pub record IsLoneForward (v : Vehicle) (delays : Delays) (n : ℕ) (forward : Fo
   pub direct : is_direct forward ≡ true
   pub timed_x : (timing : Timing) × (timing_on v.buses.items x.bus ≡ Some timing)
   pub timed_y : (timing : Timing) × (timing_on v.buses.items y.bus ≡ Some timing)
-  pub told_x : IsDelayTold delays x
-  pub told_y : IsDelayTold delays y
+  pub told_x : IsDelayKnown delays x
+  pub told_y : IsDelayKnown delays y
   pub other_bus : x.bus ≢ y.bus
   pub first : direct_feeder v x ≡ None
   pub fed : direct_feeder v y ≡ Some forward
@@ -33,7 +33,7 @@ pub record IsLoneForward (v : Vehicle) (delays : Delays) (n : ℕ) (forward : Fo
   pub last : (m : ℕ) (other : Forward) → forward_at v m ≡ Some other → ¬ (first_input_at v other ≡ Some y)
   pub only : (z : FlowAt) → feeds v z forward ≡ true → z ≡ y
   pub alone : (m : ℕ) (other : Forward) → forward_at v m ≡ Some other → feeds v y other ≡ true → m ≡ n
-  pub in_order : (b : ℕ) (timing : Timing) (of_bus : IsToldBus v delays b timing) (j : ℕ) → keep_order (planned_at (frames_asked (asked_on of_bus)) j) ≡ true
+  pub in_order : (b : ℕ) (timing : Timing) (of_bus : IsKnownBus v delays b timing) (j : ℕ) → keep_order (planned_at (frames_asked (asked_on of_bus)) j) ≡ true
 
 -- until a time, such things are seen of the vehicle: a message of x, and the one by which it is sent on
 pub record CanBeSentOn (v : Vehicle) (delays : Delays) (x y : FlowAt) (by : ℕ) : Type 0 where

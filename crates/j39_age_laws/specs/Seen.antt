@@ -18,8 +18,8 @@ pub record SeenBus : Type 0 where
   pub phase : ℕ
   pub planned : ℕ → Bool
   pub of : Origins
-  -- the moment of a frame's message: of one that a gateway sends on directly, that of the message which it sends on
-  pub moment : ℕ → ℕ
+  -- the release of a frame's message: of one that a gateway sends on directly, that of the message which it sends on
+  pub release : ℕ → ℕ
   -- when what a frame says of a signal of its group was so at its origin, or without a signal what its message says; none of what a gateway
   -- gave up on the way
   pub born : ℕ → Option ℕ → Option ℕ
@@ -43,6 +43,6 @@ frames_at v seen at = record {
   planned = (seen at.bus).planned;
   of = (seen at.bus).of;
   source = at.flow;
-  moment = (seen at.bus).moment;
-  born = (seen at.bus).moment;
+  release = (seen at.bus).release;
+  born = (seen at.bus).release;
 }

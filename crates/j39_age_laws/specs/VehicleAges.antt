@@ -20,7 +20,7 @@ use Rattle.j39_ages.specs.Times.{age, behind_at, flow_at, timing_on, us_of_ms}
 use Rattle.j39_ages.specs.declared.bus_delays.Delays.{Delays}
 use Rattle.j39_age_laws.specs.ForwardedStreams.{AreOtherwiseKept}
 use Rattle.j39_age_laws.specs.KeptBuses.{AreSeenUntil}
-use Rattle.j39_age_laws.specs.Prompt.{ArePrompt, HaveOwnMoments, IsSentOn, SayWhatIsSo}
+use Rattle.j39_age_laws.specs.Prompt.{ArePrompt, HaveOwnReleases, IsSentOn, SayWhatIsSo}
 use Rattle.j39_age_laws.specs.Seen.{SeenBuses, clock_on}
 use Rattle.j39_age_laws.specs.YoungValues.{IsBroughtYoung, KeepPauses}
 
@@ -36,7 +36,7 @@ pub record IsPromptVehicle (v : Vehicle) (delays : Delays) (seen : SeenBuses) (b
   pub kept : AreOtherwiseKept v delays seen
   pub until : AreSeenUntil v seen by
   pub prompt : ArePrompt v delays seen
-  pub own_moments : HaveOwnMoments v delays seen
+  pub own_releases : HaveOwnReleases v delays seen
   pub origins : SayWhatIsSo v seen
 
 -- ---- ages
@@ -63,7 +63,7 @@ AreVehicleNeedsKept v delays = (d : ℕ) (need : VehicleNeed) (within : ℕ) →
 
 -- ---- pauses
 
--- a flow that is sent on directly has a moment in each of the pauses that the plan of its bus has for it, from one bit to another, while what it
+-- a flow that is sent on directly has a release in each of the pauses that the plan of its bus has for it, from one bit to another, while what it
 -- comes from keeps its own
 abbrev pub AreForwardedPausesKept : Vehicle → Delays → Type 0
 AreForwardedPausesKept v delays = (seen : SeenBuses) (by : ℕ) (at : FlowAt) (timing : Timing) (flow : FlowPlan) (ms time first last : ℕ)

@@ -12,7 +12,7 @@ use Rattle.j39_ages.specs.BusDelays.{AreDelays}
 use Rattle.j39_ages.specs.declared.bus_delays.Delays.{Delays}
 use Rattle.j39_ages.specs.Times.{age, direct_feeder, first_input_at, pause_us, unasked_at}
 use Rattle.j39_age_laws.specs.KeptBuses.{AreKeptBuses, AreSeenUntil}
-use Rattle.j39_age_laws.specs.Prompt.{ArePrompt, HaveOwnMoments, SayWhatIsSo}
+use Rattle.j39_age_laws.specs.Prompt.{ArePrompt, HaveOwnReleases, SayWhatIsSo}
 use Rattle.j39_age_laws.specs.Seen.{SeenBuses, frames_at}
 
 -- the trace of the first point goes on to the other one, or is there
@@ -25,16 +25,16 @@ pub data ComesDirectly (v : Vehicle) (at : FlowAt) : FlowAt → Type 0 where
   by_itself : ComesDirectly v at at
   sent_on : (x y : FlowAt) (n : Forward) → ComesDirectly v at y → direct_feeder v y ≡ Some n → first_input_at v n ≡ Some x → ComesDirectly v at x
 
--- the longest time between two moments of a flow, as its own plan has it
+-- the longest time between two releases of a flow, as its own plan has it
 abbrev pub pause_at : Vehicle → FlowAt → Option ℕ
 pause_at v at = option_and_then pause_us (unasked_at v at)
 
--- from one time to another, a message of the flow has had its moment less than its pause ago
+-- from one time to another, a message of the flow has had its release less than its pause ago
 abbrev pub KeepsItsPause : Vehicle → SeenBuses → FlowAt → ℕ → ℕ → Type 0
 KeepsItsPause v seen at from to = (pause : ℕ) → pause_at v at ≡ Some pause → (t : ℕ) → from ≤ t → t ≤ to
-    → (p : ℕ) × IsIts (frames_at v seen at) p × ((seen at.bus).moment p ≤ t) × (t < (seen at.bus).moment p + pause)
+    → (p : ℕ) × IsIts (frames_at v seen at) p × ((seen at.bus).release p ≤ t) × (t < (seen at.bus).release p + pause)
 
--- so do all on the way that have moments of their own: the origin's flow, and those that gateways send at their own beat
+-- so do all on the way that have releases of their own: the origin's flow, and those that gateways send at their own beat
 abbrev pub KeepPauses : Vehicle → SeenBuses → Point → ℕ → ℕ → Type 0
 KeepPauses v seen p from to = (q : Point) → IsOnTheWay v p q → (at : FlowAt) → ComesDirectly v q.at at → direct_feeder v at ≡ None
     → KeepsItsPause v seen at from to
@@ -54,7 +54,7 @@ pub record IsSeenVehicle (v : Vehicle) (delays : Delays) (seen : SeenBuses) (by 
   pub kept : AreKeptBuses v delays seen
   pub until : AreSeenUntil v seen by
   pub prompt : ArePrompt v delays seen
-  pub own_moments : HaveOwnMoments v delays seen
+  pub own_releases : HaveOwnReleases v delays seen
   pub origins : SayWhatIsSo v seen
 
 -- each age that is known bounds how old what the flow brings is: at each time before which pauses were kept for as long

@@ -3,7 +3,8 @@ ghost use Rattle.j39_vehicle.specs.declared.vehicle.Vehicle.{Vehicle};
 ghost use Rattle.j39_ages.specs.declared.bus_delays.Delays.{Delays};
 ghost use Rattle.j39_age_laws.specs.ForwardedStreams.{AreStreamsKept};
 ghost use Rattle.j39_age_laws.specs.OnceSentOn.{AreSentOnOnce};
-ghost use Rattle.j39_age_laws.specs.VehicleAges.{AreAgesKept, AreForwardedPausesKept, AreVehicleNeedsKept, IsSoundVehicle};
+ghost use Rattle.j39_age_laws.specs.VehicleAges.{AreAgesKept, AreForwardedPausesKept, AreVehicleNeedsKept};
+ghost use Rattle.j39_age_laws.specs.VehicleAges.{IsSoundVehicle};
 ghost use Rattle.j39_age_laws.specs.YoungValues.{AreAgesBounds};
 
 /// Each age that is known of what a flow brings over gateways bounds it, on buses whose frames keep to their

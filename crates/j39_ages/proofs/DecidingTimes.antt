@@ -1,9 +1,9 @@
 -- Each test of times decides its statement.
 use Rattle.std.proofs.Common.{◌≡◌, ℕ, ◌<◌, ◌≤◌, ◌⊎◌, List, Bool, true, false, not, if◌then◌else◌, ◌&&◌, Option, Some, None, Contains, Decides}
-use Rattle.std.proofs.Common.{nat_le, refl, sym, ap, ◌∙◌, subst, inl, inr, arith}
+use Rattle.std.proofs.Common.{refl, sym, ap, ◌∙◌, subst, inl, inr, arith}
 use Rattle.std.specs.List.{slice_get}
 use Rattle.std.specs.Option.{option_and_then, option_map, option_map_or}
-use Rattle.std.proofs.lemmas.Bool.{false≢true, le-leb, leb-true}
+use Rattle.std.proofs.lemmas.Bool.{false≢true}
 use Rattle.std.proofs.lemmas.Bool.Decides.{Decides-and, Decides-like, Decides-ltb, Decides-not, Decides-or}
 use Rattle.std.proofs.lemmas.Option.{none-some, same_Some}
 use Rattle.j39_rules.specs.ListPlaces.{ValueAt, in_each}
@@ -11,35 +11,28 @@ use Rattle.j39_network.specs.declared.plan.flow_plan.FlowPlan.{FlowPlan}
 use Rattle.j39_network.specs.declared.plan.group_plan.GroupPlan.{GroupPlan}
 use Rattle.j39_network.specs.declared.plan.to.To.{To}
 use Rattle.j39_network.specs.declared.plan.to.To.TheVariants.{All, One}
-use Rattle.j39_network.proofs.Served.{Decides-meets}
+use Rattle.j39_network.proofs.Served.{not_is}
 use Rattle.j39_rules.proofs.Members.{found_if_of, in_each_of, of_found_if, of_in_each}
 use Rattle.j39_vehicle.specs.declared.vehicle.Vehicle.{Vehicle}
 use Rattle.j39_vehicle.specs.declared.vehicle.forward.Forward.{Forward}
 use Rattle.j39_vehicle.specs.declared.vehicle.vehicle_need.VehicleNeed.{VehicleNeed}
-use Rattle.j39_paths.specs.Buses.{groups_on, requests_on}
+use Rattle.j39_paths.specs.Buses.{groups_on}
 use Rattle.j39_paths.specs.FoundPaths.{is_need_flow}
 use Rattle.j39_paths.specs.ForwardEnds.{IsDirect}
 use Rattle.j39_paths.specs.ForwardTests.{is_direct}
-use Rattle.j39_paths.specs.Traces.{IsNeedFlow, flows_of_need, is_from_origin, need_on_bus, point_on}
+use Rattle.j39_paths.specs.Traces.{IsNeedFlow, flows_of_need, point_on}
 use Rattle.j39_paths.specs.declared.point.FlowAt.{FlowAt}
-use Rattle.j39_paths.proofs.Deciding.{Decides-is_direct}
+use Rattle.j39_paths.proofs.Deciding.{Decides-is_direct, it_is, need_flow_decides}
 use Rattle.j39_ages.specs.declared.bus_delays.Delays.{Delays}
 use Rattle.j39_ages.specs.declared.ends.Ends.{Ends}
 use Rattle.j39_ages.specs.declared.needs.NeedFlow.{NeedFlow}
-use Rattle.j39_ages.specs.TimeFindings.{IsDirectBetween, IsNearer, IsNeedTooOld, IsTooLate, IsTooOften, IsTooRare, IsUnlimited, IsKnownWithin, IsYoungFlow, written_deadline, first_output, period_ms}
-use Rattle.j39_ages.specs.FoundTimes.{direct_ends, ends_of, flow_of_need, is_long, is_nearer, is_need_too_old, is_older, is_timed_bus, goes_to_all, is_too_late, is_too_often, is_too_rare, is_unlimited, is_known_within, need_flow_at, need_flows_at}
-use Rattle.j39_ages.specs.Times.{age, flow_at, first_input_at, jitter_ms, queued_of, silent, timing_on, us_of_ms}
+use Rattle.j39_ages.specs.TimeFindings.{IsDirectBetween, IsNearer, IsNeedTooOld, IsTooLate, IsTooOften, IsTooRare, IsUnlimited, IsKnownWithin, IsYoungFlow}
+use Rattle.j39_ages.specs.TimeFindings.{written_deadline, first_output, period_ms}
+use Rattle.j39_ages.specs.FoundTimes.{direct_ends, ends_of, flow_of_need, is_long, is_nearer, is_need_too_old, is_older, is_timed_bus, goes_to_all, is_too_late}
+use Rattle.j39_ages.specs.FoundTimes.{is_too_often, is_too_rare, is_unlimited, is_known_within, need_flow_at, need_flows_at}
+use Rattle.j39_ages.specs.Times.{age, flow_at, first_input_at, jitter_ms, queued_of, interval, timing_on, us_of_ms}
 use Rattle.j39_ages.proofs.Youngest.{IsLeast, youngest_among, youngest_least, youngest_some}
-
-leb_decides : (a b : ℕ) → Decides (nat_le a b) (a ≤ b)
-leb_decides a b = (leb-true a b, le-leb a b)
-
-it_is : (b : Bool) → Decides b (b ≡ true)
-it_is b = (λ e. e, λ e. e)
-
-it_isnt : (b : Bool) → Decides (not b) (b ≡ false)
-it_isnt true = (λ e. absurd (false≢true e), λ e. absurd (false≢true (sym e)))
-it_isnt false = (λ e. refl, λ e. refl)
+use Rattle.j39_findings.proofs.Deciding.{Decides-leb}
 
 -- some value is there and meets the statement
 some_decides : {A : Type 0} {test : A → Bool} (P : A → Type 0) → ((x : A) → Decides (test x) (P x)) → (o : Option A)
@@ -56,17 +49,17 @@ none_decides None = (λ e. refl, λ e. refl)
 none_decides (Some x) = (λ e. absurd (false≢true e), λ e. absurd (none-some _ (sym e)))
 
 within_decides : (most : ℕ) (o : Option ℕ) → Decides (is_known_within most o) (IsKnownWithin most o)
-within_decides most o = some_decides (λ n. n ≤ most) (λ n. leb_decides n most) o
+within_decides most o = some_decides (λ n. n ≤ most) (λ n. Decides-leb n most) o
 
 -- ---- direct forwards
 
-of_and_then : {A B : Type 0} (f : A → Option B) (o : Option A) (b : B) → option_and_then f o ≡ Some b → (a : A) × (o ≡ Some a) × (f a ≡ Some b)
-of_and_then f None b is = absurd (none-some _ is)
-of_and_then f (Some a) b is = (a, refl, is)
+pub and_then_some : {A B : Type 0} (f : A → Option B) (o : Option A) (b : B) → option_and_then f o ≡ Some b → (a : A) × (o ≡ Some a) × (f a ≡ Some b)
+and_then_some f None b is = absurd (none-some _ is)
+and_then_some f (Some a) b is = (a, refl, is)
 
-of_map : {A B : Type 0} (f : A → B) (o : Option A) (b : B) → option_map f o ≡ Some b → (a : A) × (o ≡ Some a) × (f a ≡ b)
-of_map f None b is = absurd (none-some _ is)
-of_map f (Some a) b is = (a, refl, same_Some _ _ is)
+pub map_some : {A B : Type 0} (f : A → B) (o : Option A) (b : B) → option_map f o ≡ Some b → (a : A) × (o ≡ Some a) × (f a ≡ b)
+map_some f None b is = absurd (none-some _ is)
+map_some f (Some a) b is = (a, refl, same_Some _ _ is)
 
 of_if : {A : Type 0} (test : Bool) (o : Option A) (a : A) → (if test then o else None) ≡ Some a → (test ≡ true) × (o ≡ Some a)
 of_if true o a is = (refl, is)
@@ -86,9 +79,9 @@ with_input v n at = option_and_then (with_output v n at) (flow_at v.buses.items 
 
 ends_told : (v : Vehicle) (n : Forward) (ends : Ends) → ends_of v n ≡ Some ends → HasEnds v n ends
 ends_told v n ends is =
-    let a = of_and_then (with_input v n) (first_input_at v n) ends is in
-    let i = of_and_then (with_output v n a.0) (flow_at v.buses.items a.0) ends a.2 in
-    let f = of_map (λ (f : FlowPlan). record { at = a.0; input = i.0; output = f }) (first_output v n) ends i.2 in
+    let a = and_then_some (with_input v n) (first_input_at v n) ends is in
+    let i = and_then_some (with_output v n a.0) (flow_at v.buses.items a.0) ends a.2 in
+    let f = map_some (λ (f : FlowPlan). record { at = a.0; input = i.0; output = f }) (first_output v n) ends i.2 in
     let same_at : a.0 ≡ ends.at = ap (λ (e : Ends). e.at) f.2 in
     let same_input : i.0 ≡ ends.input = ap (λ (e : Ends). e.input) f.2 in
     let same_output : f.0 ≡ ends.output = ap (λ (e : Ends). e.output) f.2 in
@@ -135,13 +128,13 @@ between_decides v n P by =
 nearer_decides : (i f : FlowPlan) → Decides (is_nearer i f) (IsNearer i f)
 nearer_decides i f =
     some_decides (λ p. ¬ ((q : ℕ) × (period_ms i ≡ Some q) × (p ≤ q)))
-    (λ p. Decides-not _ (some_decides (λ q. p ≤ q) (λ q. leb_decides p q) (period_ms i))) (period_ms f)
+    (λ p. Decides-not _ (some_decides (λ q. p ≤ q) (λ q. Decides-leb p q) (period_ms i))) (period_ms f)
 
 pub Decides-is_too_often : (v : Vehicle) (n : Forward) → Decides (is_too_often v n) (IsTooOften v n)
 Decides-is_too_often v n =
     between_decides v n (λ ends. IsNearer ends.input ends.output ⊎ ((ends.output.on_request ≡ true) × (ends.input.on_request ≡ false)))
     (λ ends. Decides-or _ _ (nearer_decides ends.input ends.output)
-    (Decides-and _ _ (it_is ends.output.on_request) (it_isnt ends.input.on_request)))
+    (Decides-and _ _ (it_is ends.output.on_request) (not_is ends.input.on_request)))
 
 to_all_decides : (to : To) → Decides (goes_to_all to) (to ≡ All)
 to_all_decides All = (λ e. refl, λ e. refl)
@@ -166,16 +159,11 @@ Decides-is_too_late v delays n =
 
 pub Decides-is_too_rare : (v : Vehicle) (n : Forward) → Decides (is_too_rare v n) (IsTooRare v n)
 Decides-is_too_rare v n =
-    between_decides v n (λ ends. (ms : ℕ) × (ends.output.pause ≡ Some ms) × (¬ IsKnownWithin (us_of_ms ms) (silent v ends.at)))
-    (λ ends. some_decides (λ ms. ¬ IsKnownWithin (us_of_ms ms) (silent v ends.at))
-    (λ ms. Decides-not _ (within_decides (us_of_ms ms) (silent v ends.at))) ends.output.pause)
+    between_decides v n (λ ends. (ms : ℕ) × (ends.output.pause ≡ Some ms) × (¬ IsKnownWithin (us_of_ms ms) (interval v ends.at)))
+    (λ ends. some_decides (λ ms. ¬ IsKnownWithin (us_of_ms ms) (interval v ends.at))
+    (λ ms. Decides-not _ (within_decides (us_of_ms ms) (interval v ends.at))) ends.output.pause)
 
 -- ---- needs
-
-need_flow_decides : (v : Vehicle) (d : VehicleNeed) (f : ℕ) (flow : FlowPlan) → Decides (is_need_flow v d f flow) (IsNeedFlow v d f flow)
-need_flow_decides v d f flow =
-    Decides-like _ (λ h. record { meets = h.0; from = h.1 }) (λ m. (m.meets, m.from))
-    (Decides-and _ _ (Decides-meets (requests_on v.buses.items d.unit.bus) (need_on_bus d) flow) (it_is (is_from_origin v d f)))
 
 abbrev IsFlowOf : Vehicle → VehicleNeed → ℕ → Type 0
 IsFlowOf v d f = ValueAt (IsNeedFlow v d f) (flows_of_need v d) f

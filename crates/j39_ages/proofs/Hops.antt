@@ -9,13 +9,12 @@ use Rattle.j39_paths.specs.ForwardTests.{is_direct}
 use Rattle.j39_paths.specs.Traces.{goes_on, next_forward}
 use Rattle.j39_paths.specs.declared.point.FlowAt.{FlowAt}
 use Rattle.j39_paths.specs.declared.point.Point.{Point}
+use Rattle.j39_paths.proofs.Tracing.{one_more}
 use Rattle.j39_ages.specs.declared.bus_delays.Delays.{Delays}
-use Rattle.j39_ages.specs.Times.{age_with, behind_at, behind_by, behind_moment, direct_feeder, forward_at, first_input_at, old_behind, old_by, own, pause_us, queued_behind, silent, silent_by, sum_known, timing_on, unasked_at, within_of}
+use Rattle.j39_ages.specs.Times.{age_with, behind_at, behind_by, behind_release, direct_feeder, forward_at, first_input_at, old_behind, old_by, own, pause_us}
+use Rattle.j39_ages.specs.Times.{queued_behind, interval, interval_by, sum_known, timing_on, unasked_at, within_of}
 use Rattle.j39_ages.specs.inside.Aging.{aged_by, aged_of, ends_here}
 use Rattle.j39_ages.proofs.Sums.{sum_more, sum_none, sum_swap, sum_swapped, sum_turned, sum_zero}
-
-one_more : (n i : ℕ) → i < n → n - i ≡ suc (n - (i + 1))
-one_more n i less = omega arith
 
 less_none : (n : ℕ) → n - 0 ≡ n
 less_none n = omega arith
@@ -23,17 +22,17 @@ less_none n = omega arith
 -- ---- behind
 
 pub behind_here : (v : Vehicle) (delays : Delays) (steps : ℕ) (at : FlowAt) → direct_feeder v at ≡ None
-    → behind_by v delays steps at ≡ behind_moment v delays at
+    → behind_by v delays steps at ≡ behind_release v delays at
 unfolding behind_by
-behind_here v delays zero at none = ap (λ n. option_map_or (λ m. None) n (behind_moment v delays at)) none
+behind_here v delays zero at none = ap (λ n. option_map_or (λ m. None) n (behind_release v delays at)) none
 behind_here v delays (suc steps) at none =
-    ap (λ n. option_map_or (λ m. sum_known (queued_behind v m (behind_by v delays steps)) (own v delays at)) n (behind_moment v delays at)) none
+    ap (λ n. option_map_or (λ m. sum_known (queued_behind v m (behind_by v delays steps)) (own v delays at)) n (behind_release v delays at)) none
 
 behind_step : (v : Vehicle) (delays : Delays) (steps : ℕ) (at : FlowAt) (n : Forward) → direct_feeder v at ≡ Some n
     → behind_by v delays (suc steps) at ≡ sum_known (queued_behind v n (behind_by v delays steps)) (own v delays at)
 unfolding behind_by
 behind_step v delays steps at n some =
-    ap (λ k. option_map_or (λ m. sum_known (queued_behind v m (behind_by v delays steps)) (own v delays at)) k (behind_moment v delays at)) some
+    ap (λ k. option_map_or (λ m. sum_known (queued_behind v m (behind_by v delays steps)) (own v delays at)) k (behind_release v delays at)) some
 
 -- with what the forward heard, and how long it and what it sends take
 behind_hop : (v : Vehicle) (delays : Delays) (steps : ℕ) (at : FlowAt) (n : Forward) → direct_feeder v at ≡ Some n
@@ -74,7 +73,7 @@ behind_without_input v delays all i hops at n less some none =
 pub behind_no_further : (v : Vehicle) (delays : Delays) (hops : ℕ) (at : FlowAt) (n : Forward) → direct_feeder v at ≡ Some n
     → sum_known (Some hops) (behind_by v delays zero at) ≡ None
 unfolding behind_by
-behind_no_further v delays hops at n some = ap (λ k. sum_known (Some hops) (option_map_or (λ m. None) k (behind_moment v delays at))) some
+behind_no_further v delays hops at n some = ap (λ k. sum_known (Some hops) (option_map_or (λ m. None) k (behind_release v delays at))) some
 
 pub behind_first : (v : Vehicle) (delays : Delays) (all : ℕ) (at : FlowAt)
     → sum_known (Some 0) (behind_by v delays (all - 0) at) ≡ behind_by v delays all at
@@ -82,46 +81,46 @@ behind_first v delays all at = ap (λ k. sum_known (Some 0) (behind_by v delays 
 
 -- ---- silent
 
-pub silent_here : (v : Vehicle) (steps : ℕ) (at : FlowAt) (flow : FlowPlan) → unasked_at v at ≡ Some flow → direct_feeder v at ≡ None
-    → silent_by v steps at ≡ pause_us flow
-unfolding silent_by
-silent_here v zero at flow is none =
+pub interval_here : (v : Vehicle) (steps : ℕ) (at : FlowAt) (flow : FlowPlan) → unasked_at v at ≡ Some flow → direct_feeder v at ≡ None
+    → interval_by v steps at ≡ pause_us flow
+unfolding interval_by
+interval_here v zero at flow is none =
     ap (λ o. option_and_then (λ f. option_map_or (λ n. None) (direct_feeder v at) (pause_us f)) o) is
     ∙ ap (λ d. option_map_or (λ n. None) d (pause_us flow)) none
-silent_here v (suc steps) at flow is none =
-    ap (λ o. option_and_then (λ f. option_map_or (λ n. option_and_then (silent_by v steps) (first_input_at v n)) (direct_feeder v at) (pause_us f)) o) is
-    ∙ ap (λ d. option_map_or (λ n. option_and_then (silent_by v steps) (first_input_at v n)) d (pause_us flow)) none
+interval_here v (suc steps) at flow is none =
+    ap (λ o. option_and_then (λ f. option_map_or (λ n. option_and_then (interval_by v steps) (first_input_at v n)) (direct_feeder v at) (pause_us f)) o) is
+    ∙ ap (λ d. option_map_or (λ n. option_and_then (interval_by v steps) (first_input_at v n)) d (pause_us flow)) none
 
-pub silent_unknown : (v : Vehicle) (steps : ℕ) (at : FlowAt) → unasked_at v at ≡ None → silent_by v steps at ≡ None
-unfolding silent_by
-silent_unknown v zero at none =
+pub interval_unknown : (v : Vehicle) (steps : ℕ) (at : FlowAt) → unasked_at v at ≡ None → interval_by v steps at ≡ None
+unfolding interval_by
+interval_unknown v zero at none =
     ap (λ o. option_and_then (λ f. option_map_or (λ n. None) (direct_feeder v at) (pause_us f)) o) none
-silent_unknown v (suc steps) at none =
-    ap (λ o. option_and_then (λ f. option_map_or (λ n. option_and_then (silent_by v steps) (first_input_at v n)) (direct_feeder v at) (pause_us f)) o) none
+interval_unknown v (suc steps) at none =
+    ap (λ o. option_and_then (λ f. option_map_or (λ n. option_and_then (interval_by v steps) (first_input_at v n)) (direct_feeder v at) (pause_us f)) o) none
 
-silent_step : (v : Vehicle) (steps : ℕ) (at : FlowAt) (flow : FlowPlan) (n : Forward) → unasked_at v at ≡ Some flow → direct_feeder v at ≡ Some n
-    → silent_by v (suc steps) at ≡ option_and_then (silent_by v steps) (first_input_at v n)
-unfolding silent_by
-silent_step v steps at flow n is some =
-    ap (λ o. option_and_then (λ f. option_map_or (λ n. option_and_then (silent_by v steps) (first_input_at v n)) (direct_feeder v at) (pause_us f)) o) is
-    ∙ ap (λ d. option_map_or (λ n. option_and_then (silent_by v steps) (first_input_at v n)) d (pause_us flow)) some
+interval_step : (v : Vehicle) (steps : ℕ) (at : FlowAt) (flow : FlowPlan) (n : Forward) → unasked_at v at ≡ Some flow → direct_feeder v at ≡ Some n
+    → interval_by v (suc steps) at ≡ option_and_then (interval_by v steps) (first_input_at v n)
+unfolding interval_by
+interval_step v steps at flow n is some =
+    ap (λ o. option_and_then (λ f. option_map_or (λ n. option_and_then (interval_by v steps) (first_input_at v n)) (direct_feeder v at) (pause_us f)) o) is
+    ∙ ap (λ d. option_map_or (λ n. option_and_then (interval_by v steps) (first_input_at v n)) d (pause_us flow)) some
 
-pub silent_further : (v : Vehicle) (all i : ℕ) (at source : FlowAt) (flow : FlowPlan) (n : Forward) → i < all → unasked_at v at ≡ Some flow
-    → direct_feeder v at ≡ Some n → first_input_at v n ≡ Some source → silent_by v (all - (i + 1)) source ≡ silent_by v (all - i) at
-silent_further v all i at source flow n less is some from =
-    sym (ap (λ m. silent_by v m at) (one_more all i less) ∙ silent_step v (all - (i + 1)) at flow n is some
-    ∙ ap (option_and_then (silent_by v (all - (i + 1)))) from)
+pub interval_further : (v : Vehicle) (all i : ℕ) (at source : FlowAt) (flow : FlowPlan) (n : Forward) → i < all → unasked_at v at ≡ Some flow
+    → direct_feeder v at ≡ Some n → first_input_at v n ≡ Some source → interval_by v (all - (i + 1)) source ≡ interval_by v (all - i) at
+interval_further v all i at source flow n less is some from =
+    sym (ap (λ m. interval_by v m at) (one_more all i less) ∙ interval_step v (all - (i + 1)) at flow n is some
+    ∙ ap (option_and_then (interval_by v (all - (i + 1)))) from)
 
-pub silent_without_input : (v : Vehicle) (all i : ℕ) (at : FlowAt) (flow : FlowPlan) (n : Forward) → i < all → unasked_at v at ≡ Some flow
-    → direct_feeder v at ≡ Some n → first_input_at v n ≡ None → silent_by v (all - i) at ≡ None
-silent_without_input v all i at flow n less is some none =
-    ap (λ m. silent_by v m at) (one_more all i less) ∙ silent_step v (all - (i + 1)) at flow n is some
-    ∙ ap (option_and_then (silent_by v (all - (i + 1)))) none
+pub interval_without_input : (v : Vehicle) (all i : ℕ) (at : FlowAt) (flow : FlowPlan) (n : Forward) → i < all → unasked_at v at ≡ Some flow
+    → direct_feeder v at ≡ Some n → first_input_at v n ≡ None → interval_by v (all - i) at ≡ None
+interval_without_input v all i at flow n less is some none =
+    ap (λ m. interval_by v m at) (one_more all i less) ∙ interval_step v (all - (i + 1)) at flow n is some
+    ∙ ap (option_and_then (interval_by v (all - (i + 1)))) none
 
-pub silent_no_further : (v : Vehicle) (at : FlowAt) (flow : FlowPlan) (n : Forward) → unasked_at v at ≡ Some flow → direct_feeder v at ≡ Some n
-    → silent_by v zero at ≡ None
-unfolding silent_by
-silent_no_further v at flow n is some =
+pub interval_no_further : (v : Vehicle) (at : FlowAt) (flow : FlowPlan) (n : Forward) → unasked_at v at ≡ Some flow → direct_feeder v at ≡ Some n
+    → interval_by v zero at ≡ None
+unfolding interval_by
+interval_no_further v at flow n is some =
     ap (λ o. option_and_then (λ f. option_map_or (λ n. None) (direct_feeder v at) (pause_us f)) o) is
     ∙ ap (λ d. option_map_or (λ n. None) d (pause_us flow)) some
 
@@ -136,7 +135,7 @@ at_forward : (v : Vehicle) (delays : Delays) (at : FlowAt) (old : Option ℕ) (n
     → option_map_or (λ forward. if is_direct forward then old else sum_known (age_with v delays at old) (within_of forward)) n None
     ≡ sum_known (option_map_or (aged_of v delays at) n None) old
 at_forward v delays at old None = refl
-at_forward v delays at old (Some n) = by_mode (is_direct n) old (sum_known (silent v at) (behind_at v delays at)) (within_of n)
+at_forward v delays at old (Some n) = by_mode (is_direct n) old (sum_known (interval v at) (behind_at v delays at)) (within_of n)
 
 aged_from : (v : Vehicle) (delays : Delays) (n : ℕ) (at : FlowAt) (old : Option ℕ)
     → old_behind v delays n at old ≡ sum_known (aged_by v delays n at) old

@@ -7,13 +7,13 @@ use Rattle.std.specs.declared.vec.Vec.{Vec}
 use Rattle.std.proofs.lemmas.Bool.{cases_lt}
 use Rattle.std.proofs.lemmas.List.{length-append}
 use Rattle.std.proofs.lemmas.Option.{same_Some, slice_get_within}
-use Rattle.j39_findings.specs.Standing.{TellsWhoStays}
+use Rattle.j39_findings.specs.Standing.{DecidesWhoStays}
 use Rattle.j39_network.specs.declared.plan.Plan.{Plan}
 use Rattle.j39_network.specs.declared.plan.timing.Timing.{Timing}
 use Rattle.j39_network.specs.declared.plan.unit_plan.UnitPlan.{UnitPlan}
 use Rattle.j39_load.specs.Asked.{Asked, asked_of}
-use Rattle.j39_load.specs.Delays.{TellDelays}
-use Rattle.j39_load.specs.declared.delay.Delay.{Delay}
+use Rattle.j39_load.specs.Delays.{AreFlowDelays}
+use Rattle.j39_load.specs.declared.waits.delay.Delay.{Delay}
 use Rattle.j39_vehicle.specs.declared.vehicle.Vehicle.{Vehicle}
 use Rattle.j39_vehicle.specs.declared.vehicle.bus_plan.BusPlan.{BusPlan}
 use Rattle.j39_ages.specs.BusDelays.{AreDelays, AreDelaysOn}
@@ -42,11 +42,11 @@ all_told v delays count told = record {
 
 -- those of a bus of whose timing something is known
 pub delays_known : (plan : Plan) (timing : Timing) (o : Option Timing) → o ≡ Some timing → (stays : UnitPlan → Bool) (asked : Asked)
-    (delays : List (Option Delay)) → TellsWhoStays plan stays → asked ≡ asked_of timing plan stays → TellDelays timing asked delays
+    (delays : List (Option Delay)) → DecidesWhoStays plan stays → asked ≡ asked_of timing plan stays → AreFlowDelays timing asked delays
     → AreDelaysOn plan o delays
 delays_known plan timing o is stays asked delays tells same waits =
     subst (λ t. AreDelaysOn plan t delays) (sym is)
-    (stays, record { standing = tells; waits = subst (λ a. TellDelays timing a delays) same waits })
+    (stays, record { standing = tells; waits = subst (λ a. AreFlowDelays timing a delays) same waits })
 
 kept_at : {A : Type 0} (xs : List A) (y : A) (b : ℕ) → b < length xs → slice_get (xs ++ y ∷ []) b ≡ slice_get xs b
 kept_at [] y b less = absurd (omega arith)

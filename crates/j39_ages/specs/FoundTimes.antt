@@ -22,7 +22,7 @@ use Rattle.j39_ages.specs.declared.finding.TimeFinding.{TimeFinding}
 use Rattle.j39_ages.specs.declared.finding.TimeFinding.TheVariants.{TooOften, TooLate, TooRare, NeedTooOld}
 use Rattle.j39_ages.specs.declared.needs.NeedFlow.{NeedFlow}
 use Rattle.j39_ages.specs.TimeFindings.{written_deadline, first_output, period_ms}
-use Rattle.j39_ages.specs.Times.{age, flow_at, forward_at, first_input_at, jitter_ms, queued_of, silent, timing_on, us_of_ms}
+use Rattle.j39_ages.specs.Times.{age, flow_at, forward_at, first_input_at, jitter_ms, queued_of, interval, timing_on, us_of_ms}
 
 abbrev pub is_known_within : ℕ → Option ℕ → Bool
 is_known_within most number = option_map_or (λ n. nat_le n most) number false
@@ -82,7 +82,7 @@ abbrev pub is_too_late : Vehicle → Delays → Forward → Bool
 is_too_late v delays n = option_map_or (λ (ends : Ends). is_later v delays n ends.output) (direct_ends v n) false
 
 abbrev pub is_rarer : Vehicle → FlowAt → FlowPlan → Bool
-is_rarer v at f = option_map_or (λ ms. not (is_known_within (us_of_ms ms) (silent v at))) f.pause false
+is_rarer v at f = option_map_or (λ ms. not (is_known_within (us_of_ms ms) (interval v at))) f.pause false
 
 abbrev pub is_too_rare : Vehicle → Forward → Bool
 is_too_rare v n = option_map_or (λ (ends : Ends). is_rarer v ends.at ends.output) (direct_ends v n) false

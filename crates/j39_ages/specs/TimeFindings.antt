@@ -20,7 +20,7 @@ use Rattle.j39_ages.specs.declared.bus_delays.Delays.{Delays}
 use Rattle.j39_ages.specs.declared.ends.Ends.{Ends}
 use Rattle.j39_ages.specs.declared.finding.TimeFinding.{TimeFinding}
 use Rattle.j39_ages.specs.declared.finding.TimeFinding.TheVariants.{TooOften, TooLate, TooRare, NeedTooOld}
-use Rattle.j39_ages.specs.Times.{age, flow_at, first_input_at, jitter_ms, queued_of, silent, timing_on, us_of_ms}
+use Rattle.j39_ages.specs.Times.{age, flow_at, first_input_at, jitter_ms, queued_of, interval, timing_on, us_of_ms}
 
 -- a number is known, and at most so large
 abbrev pub IsKnownWithin : ℕ → Option ℕ → Type 0
@@ -67,10 +67,10 @@ abbrev pub IsTooLate : Vehicle → Delays → Forward → Type 0
 IsTooLate v delays n = IsDirectBetween v n (λ ends.
     (¬ IsUnlimited v n ends.output) × (¬ IsKnownWithin (us_of_ms (jitter_ms ends.output)) (queued_of v delays n)))
 
--- a message of the output has its moment in each of its pauses, and none of the input need have
+-- a message of the output has its release in each of its pauses, and none of the input need have
 abbrev pub IsTooRare : Vehicle → Forward → Type 0
 IsTooRare v n = IsDirectBetween v n (λ ends.
-    (ms : ℕ) × (ends.output.pause ≡ Some ms) × (¬ IsKnownWithin (us_of_ms ms) (silent v ends.at)))
+    (ms : ℕ) × (ends.output.pause ≡ Some ms) × (¬ IsKnownWithin (us_of_ms ms) (interval v ends.at)))
 
 -- ---- needs
 

@@ -9,8 +9,8 @@ use Rattle.j39_network.specs.declared.plan.timing.Bitrate.{Bitrate}
 use Rattle.j39_network.specs.declared.plan.timing.Bitrate.TheVariants.{Kbit125, Kbit250, Kbit500, Mbit1}
 use Rattle.j39_network.specs.declared.plan.timing.Timing.{Timing}
 use Rattle.j39_load.specs.Loads.{bits_of_ms}
-use Rattle.j39_load.specs.declared.delay.Delay.{Delay}
-use Rattle.j39_load.specs.declared.delay.Delay.TheVariants.{Within}
+use Rattle.j39_load.specs.declared.waits.delay.Delay.{Delay}
+use Rattle.j39_load.specs.declared.waits.delay.Delay.TheVariants.{Within}
 use Rattle.j39_vehicle.specs.declared.vehicle.Vehicle.{Vehicle}
 use Rattle.j39_vehicle.specs.declared.vehicle.bus_plan.BusPlan.{BusPlan}
 use Rattle.j39_vehicle.specs.declared.vehicle.forward.Forward.{Forward}
@@ -64,7 +64,7 @@ bits_within _ = None
 abbrev pub delay_at : Delays → FlowAt → Option ℕ
 delay_at delays at = option_and_then bits_within (slice_get (delays_on delays at.bus) at.flow)
 
--- how long a frame takes that was queued: its delay counts from the moment of the message, and it was queued within the jitter behind this
+-- how long a frame takes that was queued: its delay counts from the release of the message, and it was queued within the jitter behind this
 abbrev pub own_of : Timing → FlowPlan → ℕ → ℕ
 own_of timing flow delay = us_of_bit timing.bitrate * (delay - bits_of_ms timing (jitter_ms flow))
 
@@ -87,11 +87,11 @@ first_input_at v n = option_map (λ flow. record { bus = n.input.bus; flow = flo
 abbrev pub within_of : Forward → Option ℕ
 within_of n = option_map us_of_ms n.within
 
--- ---- from the moment of a message until it has ended
+-- ---- from the release of a message until it has ended
 
--- of a flow that has moments of its own
-abbrev pub behind_moment : Vehicle → Delays → FlowAt → Option ℕ
-behind_moment v delays at = sum_known (own v delays at) (timed v at (λ timing flow. Some (us_of_ms (jitter_ms flow))))
+-- of a flow that has releases of its own
+abbrev pub behind_release : Vehicle → Delays → FlowAt → Option ℕ
+behind_release v delays at = sum_known (own v delays at) (timed v at (λ timing flow. Some (us_of_ms (jitter_ms flow))))
 
 -- until a forward has queued what it sends, where that which it heard took so long
 abbrev pub queued_behind : Vehicle → Forward → (FlowAt → Option ℕ) → Option ℕ
@@ -99,9 +99,9 @@ queued_behind v n behind_at = sum_known (option_and_then behind_at (first_input_
 
 -- of any flow, where so many direct forwards come one after another at most
 unfoldable pub behind_by : Vehicle → Delays → ℕ → FlowAt → Option ℕ
-behind_by v delays zero at = option_map_or (λ n. None) (direct_feeder v at) (behind_moment v delays at)
+behind_by v delays zero at = option_map_or (λ n. None) (direct_feeder v at) (behind_release v delays at)
 behind_by v delays (suc steps) at =
-    option_map_or (λ n. sum_known (queued_behind v n (behind_by v delays steps)) (own v delays at)) (direct_feeder v at) (behind_moment v delays at)
+    option_map_or (λ n. sum_known (queued_behind v n (behind_by v delays steps)) (own v delays at)) (direct_feeder v at) (behind_release v delays at)
 
 -- no more of them do than there are, unless they go round in a circle
 abbrev pub behind_at : Vehicle → Delays → FlowAt → Option ℕ
@@ -113,7 +113,7 @@ queued_of v delays n = queued_behind v n (behind_at v delays)
 abbrev pub queued : Vehicle → Delays → ℕ → Option ℕ
 queued v delays n = option_and_then (queued_of v delays) (forward_at v n)
 
--- ---- from one moment to the next
+-- ---- from one release to the next
 
 abbrev pub pause_us : FlowPlan → Option ℕ
 pause_us flow = option_map us_of_ms flow.pause
@@ -123,27 +123,27 @@ abbrev pub unasked_at : Vehicle → FlowAt → Option FlowPlan
 unasked_at v at = option_and_then (λ (timing : Timing). option_and_then (λ (flow : FlowPlan). if flow.on_request then None else Some flow)
     (flow_at v.buses.items at)) (timing_on v.buses.items at.bus)
 
-unfoldable pub silent_by : Vehicle → ℕ → FlowAt → Option ℕ
-silent_by v zero at = option_and_then (λ flow. option_map_or (λ n. None) (direct_feeder v at) (pause_us flow)) (unasked_at v at)
-silent_by v (suc steps) at =
-    option_and_then (λ flow. option_map_or (λ n. option_and_then (silent_by v steps) (first_input_at v n)) (direct_feeder v at) (pause_us flow)) (unasked_at v at)
+unfoldable pub interval_by : Vehicle → ℕ → FlowAt → Option ℕ
+interval_by v zero at = option_and_then (λ flow. option_map_or (λ n. None) (direct_feeder v at) (pause_us flow)) (unasked_at v at)
+interval_by v (suc steps) at =
+    option_and_then (λ flow. option_map_or (λ n. option_and_then (interval_by v steps) (first_input_at v n)) (direct_feeder v at) (pause_us flow)) (unasked_at v at)
 
-abbrev pub silent : Vehicle → FlowAt → Option ℕ
-silent v at = silent_by v (length v.forwards.items) at
+abbrev pub interval : Vehicle → FlowAt → Option ℕ
+interval v at = interval_by v (length v.forwards.items) at
 
 -- ---- ages
 
--- where a message is received whose value was so old at its moment
+-- where a message is received whose value was so old at its release
 abbrev pub age_with : Vehicle → Delays → FlowAt → Option ℕ → Option ℕ
-age_with v delays at old = sum_known old (sum_known (silent v at) (behind_at v delays at))
+age_with v delays at old = sum_known old (sum_known (interval v at) (behind_at v delays at))
 
--- at the moment of what a forward sends of a point: of a direct one as old as it was at that of what it heard; of a periodic one as old as it
+-- at the release of what a forward sends of a point: of a direct one as old as it was at that of what it heard; of a periodic one as old as it
 -- may have grown where it was heard, and waited
 abbrev pub old_behind : Vehicle → Delays → ℕ → FlowAt → Option ℕ → Option ℕ
 old_behind v delays n at old =
     option_map_or (λ forward. if is_direct forward then old else sum_known (age_with v delays at old) (within_of forward)) (forward_at v n) None
 
--- how old a value is at the moment of the message that brings it, where its trace goes on so many times at most
+-- how old a value is at the release of the message that brings it, where its trace goes on so many times at most
 unfoldable pub old_by : Vehicle → Delays → ℕ → Point → Option ℕ
 old_by v delays zero p = option_and_then (λ (timing : Timing). option_map_or (λ n. None) (next_forward v p) (Some 0)) (timing_on v.buses.items p.at.bus)
 old_by v delays (suc steps) p = option_and_then (λ (timing : Timing).

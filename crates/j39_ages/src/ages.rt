@@ -1,29 +1,31 @@
 //! How old the values are that flows bring.
 ghost use Rattle.std.specs.Prelude.{◌≡◌, ◌<◌, ◌^◌, Some, IfSome};
-ghost use Rattle.j39_ages.specs.Times.{age, behind_at, old, silent, sum_known};
+ghost use Rattle.j39_ages.specs.Times.{age, behind_at, old, interval, sum_known};
 ghost use Rattle.j39_ages.specs.inside.Aging.{aged_by, aged_of, ends_here};
 
 use crate::bus_delays::Delays;
-use crate::chains::{behind, silent};
+use crate::chains::{behind, interval};
 use crate::flows::{timing_on, within_of};
 use j39_paths::{FlowAt, Point, Routes, is_direct};
 use j39_vehicle::Forward;
 
-// How much older a value becomes than at the moment of the message that brings it, until the next one has ended.
+// How much older a value becomes than at the release of the message that brings it, until the next one has ended.
 fn grown(routes: &Routes<'_>, delays: &Delays, at: FlowAt) -> Option<u64>
-    ensures value { result ≡ sum_known (silent routes.now.vehicle.now at) (behind_at routes.now.vehicle.now delays.now at) }
+    ensures value { result
+        ≡ sum_known (interval routes.now.vehicle.now at) (behind_at routes.now.vehicle.now delays.now at) }
     ensures few { IfSome result (λ grown. grown < 2 ^ 47) }
 {
-    let Some(silent) = silent(routes, at) else {
+    let Some(interval) = interval(routes, at) else {
         return None;
     };
     match behind(routes, delays, at) {
-        Some(behind) => Some(silent + behind),
+        Some(behind) => Some(interval + behind),
         None => None,
     }
 }
 
-// How much older it becomes until what the forward sends has its moment: that of the message which a direct one sends on is the same.
+// How much older it becomes until what the forward sends has its release: that of the message which a direct one sends
+// on is the same.
 fn aged(routes: &Routes<'_>, delays: &Delays, forward: &Forward, heard: FlowAt) -> Option<u64>
     ensures value { result ≡ aged_of routes.now.vehicle.now delays.now heard forward.now }
     ensures few { IfSome result (λ aged. aged < 2 ^ 48) }
@@ -61,7 +63,7 @@ fn ends_here(routes: &Routes<'_>, point: Point) -> bool
     routes.next_forward(point).is_none()
 }
 
-/// How old a value is, in microseconds, at the moment of the message that brings it.
+/// How old a value is, in microseconds, at the release of the message that brings it.
 pub fn old(routes: &Routes<'_>, delays: &Delays, start: Point) -> Option<u64>
     ensures value { result ≡ old routes.now.vehicle.now delays.now start }
     ensures few { IfSome result (λ old. old < 2 ^ 58) }

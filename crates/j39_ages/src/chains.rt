@@ -1,6 +1,7 @@
 //! How long what comes along direct forwards takes, and how often it comes.
 ghost use Rattle.std.specs.Prelude.{◌≡◌, ◌<◌, ◌≤◌, ◌^◌, Some, IfSome};
-ghost use Rattle.j39_ages.specs.Times.{behind_at, behind_by, behind_moment, own, queued, queued_of, silent, silent_by, sum_known, unasked_at, within_of};
+ghost use Rattle.j39_ages.specs.Times.{behind_at, behind_by, behind_release, own, queued, queued_of, interval};
+ghost use Rattle.j39_ages.specs.Times.{interval_by, sum_known, unasked_at, within_of};
 ghost use Rattle.j39_ages.specs.inside.Chains.{hop_by};
 
 use crate::bus_delays::{Delays, delay_at};
@@ -12,9 +13,9 @@ use j39_network::FlowPlan;
 use j39_paths::{FlowAt, Routes};
 use j39_vehicle::{Forward, Vehicle};
 
-// How long a message of the flow takes from its moment until it has ended, if no direct forward feeds it.
-fn behind_moment(vehicle: &Vehicle, delays: &Delays, at: FlowAt) -> Option<u64>
-    ensures value { result ≡ behind_moment vehicle.now delays.now at }
+// How long a message of the flow takes from its release until it has ended, if no direct forward feeds it.
+fn behind_release(vehicle: &Vehicle, delays: &Delays, at: FlowAt) -> Option<u64>
+    ensures value { result ≡ behind_release vehicle.now delays.now at }
     ensures few { IfSome result (λ behind_at. behind_at < 2 ^ 36) }
 {
     let Some(timing) = timing_on(&vehicle.buses, at.bus) else {
@@ -57,10 +58,10 @@ fn hop_by(vehicle: &Vehicle, delays: &Delays, forward: usize, at: FlowAt) -> Opt
 // How long it takes in all, where direct forwards took so long up to the flow, and none feeds this.
 fn first_behind(vehicle: &Vehicle, delays: &Delays, hops: u64, at: FlowAt) -> Option<u64>
     requires { hops ≤ 2 ^ 45 }
-    ensures value { result ≡ sum_known (Some hops) (behind_moment vehicle.now delays.now at) }
+    ensures value { result ≡ sum_known (Some hops) (behind_release vehicle.now delays.now at) }
     ensures few { IfSome result (λ behind_at. behind_at < 2 ^ 46) }
 {
-    match behind_moment(vehicle, delays, at) {
+    match behind_release(vehicle, delays, at) {
         Some(behind) => Some(hops + behind),
         None => None,
     }
@@ -78,7 +79,8 @@ fn last_behind(routes: &Routes<'_>, delays: &Delays, hops: u64, at: FlowAt) -> O
     }
 }
 
-/// How long a message of the flow takes until it has ended: from its moment, which is that of the first one where direct forwards sent it on.
+/// How long a message of the flow takes until it has ended: from its release, which is that of the first one where
+/// direct forwards sent it on.
 pub fn behind(routes: &Routes<'_>, delays: &Delays, start: FlowAt) -> Option<u64>
     ensures value { result ≡ behind_at routes.now.vehicle.now delays.now start }
     ensures few { IfSome result (λ behind_at. behind_at < 2 ^ 46) }
@@ -101,7 +103,7 @@ pub fn behind(routes: &Routes<'_>, delays: &Delays, start: FlowAt) -> Option<u64
     last_behind(routes, delays, hops, at)
 }
 
-/// In how many microseconds behind the moment of the message that it sends the forward has queued it, if it is direct.
+/// In how many microseconds behind the release of the message that it sends the forward has queued it, if it is direct.
 pub fn queued_of(routes: &Routes<'_>, delays: &Delays, forward: &Forward) -> Option<u64>
     ensures { result ≡ queued_of routes.now.vehicle.now delays.now forward.now }
 {
@@ -140,10 +142,10 @@ fn unasked_at(vehicle: &Vehicle, at: FlowAt) -> Option<FlowPlan>
     }
 }
 
-// In how many microseconds a message of the flow has its moment, where no more direct forwards are followed.
-fn last_silent(routes: &Routes<'_>, at: FlowAt) -> Option<u64>
-    ensures value { result ≡ silent_by routes.now.vehicle.now 0 at }
-    ensures few { IfSome result (λ silent. silent < 2 ^ 26) }
+// In how many microseconds a message of the flow has its release, where no more direct forwards are followed.
+fn last_interval(routes: &Routes<'_>, at: FlowAt) -> Option<u64>
+    ensures value { result ≡ interval_by routes.now.vehicle.now 0 at }
+    ensures few { IfSome result (λ interval. interval < 2 ^ 26) }
 {
     let Some(flow) = unasked_at(routes.vehicle, at) else {
         return None;
@@ -154,10 +156,10 @@ fn last_silent(routes: &Routes<'_>, at: FlowAt) -> Option<u64>
     }
 }
 
-/// In how many microseconds a message of the flow has its moment, however they lie.
-pub fn silent(routes: &Routes<'_>, start: FlowAt) -> Option<u64>
-    ensures value { result ≡ silent routes.now.vehicle.now start }
-    ensures few { IfSome result (λ silent. silent < 2 ^ 26) }
+/// In how many microseconds a message of the flow has its release, however they lie.
+pub fn interval(routes: &Routes<'_>, start: FlowAt) -> Option<u64>
+    ensures value { result ≡ interval routes.now.vehicle.now start }
+    ensures few { IfSome result (λ interval. interval < 2 ^ 26) }
 {
     let mut at = start;
     'chain: for _step in 0..routes.vehicle.forwards.len() {
@@ -172,5 +174,5 @@ pub fn silent(routes: &Routes<'_>, start: FlowAt) -> Option<u64>
         };
         at = heard;
     }
-    last_silent(routes, at)
+    last_interval(routes, at)
 }

@@ -1,7 +1,8 @@
 //! Everything that is wrong with the times of what the gateways of a vehicle send on.
 ghost use Rattle.std.specs.Prelude.{◌≡◌, ◌≢◌, [], IfOk, OnErr};
 ghost use Rattle.j39_rules.specs.Adding.{Adds};
-ghost use Rattle.j39_ages.specs.FoundTimes.{forward_time_findings, is_need_too_old, is_too_late, is_too_often, is_too_rare, need_time_findings, time_findings};
+ghost use Rattle.j39_ages.specs.FoundTimes.{forward_time_findings, is_need_too_old, is_too_late, is_too_often};
+ghost use Rattle.j39_ages.specs.FoundTimes.{is_too_rare, need_time_findings, time_findings};
 
 use crate::bus_delays::Delays;
 use crate::ends::{is_too_late, is_too_often, is_too_rare};
@@ -163,8 +164,8 @@ fn find_all(
     find_in_needs(findings, routes, delays)
 }
 
-/// What is wrong with the times of the forwards and of what is needed, where the buses have these delays: G10 to G13, by their numbers and then
-/// by their places in rising order.
+/// What is wrong with the times of the forwards and of what is needed, where the buses have these delays: G10 to G13,
+/// by their numbers and then by their places in rising order.
 pub fn find_in_times(
     alloc: Global,
     routes: &Routes<'_>,

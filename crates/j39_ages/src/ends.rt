@@ -6,10 +6,13 @@ ghost use Rattle.j39_paths.specs.Buses.{groups_on};
 ghost use Rattle.j39_paths.specs.ForwardTests.{is_output};
 ghost use Rattle.j39_paths.specs.ForwardEnds.{output_flows};
 ghost use Rattle.j39_ages.specs.TimeFindings.{first_output, period_ms};
-ghost use Rattle.j39_ages.specs.FoundTimes.{direct_ends, ends_of, has_deadline, has_such_a_period, is_asked, is_late_asked, is_late_asked_of, is_later, is_long, is_more_often, is_nearer, is_rarer, is_timed_bus, goes_to_all, is_too_late, is_too_often, is_too_rare, is_unlimited, is_known_within};
+ghost use Rattle.j39_ages.specs.FoundTimes.{direct_ends, ends_of, has_deadline, has_such_a_period, is_asked};
+ghost use Rattle.j39_ages.specs.FoundTimes.{is_late_asked, is_late_asked_of, is_later, is_long, is_more_often};
+ghost use Rattle.j39_ages.specs.FoundTimes.{is_nearer, is_rarer, is_timed_bus, goes_to_all, is_too_late, is_too_often};
+ghost use Rattle.j39_ages.specs.FoundTimes.{is_too_rare, is_unlimited, is_known_within};
 
 use crate::bus_delays::Delays;
-use crate::chains::{queued_of, silent};
+use crate::chains::{interval, queued_of};
 use crate::flows::{flow_at, input_at, jitter_of, timing_on, us_of_ms};
 use j39_network::{FlowPlan, To};
 use j39_paths::{FlowAt, Routes, group_at, is_direct, is_output, output_flows};
@@ -33,7 +36,8 @@ fn output_place(vehicle: &Vehicle, forward: &Forward) -> Option<usize>
         .position(|flow| is_output(forward, flow))
 }
 
-fn first_output<'a>(vehicle: &'a Vehicle, forward: &Forward) -> Option<&'a FlowPlan>
+/// The first of the flows that the forward feeds.
+pub fn first_output<'a>(vehicle: &'a Vehicle, forward: &Forward) -> Option<&'a FlowPlan>
     ensures { option_copied result ≡ first_output vehicle.now forward.now }
 {
     match output_place(vehicle, forward) {
@@ -159,7 +163,8 @@ fn is_to_all(to: To) -> bool
     }
 }
 
-// Whether the flow, one of the bus where the forward sends, is a broadcast without a written deadline all of whose messages go in packets.
+// Whether the flow, one of the bus where the forward sends, is a broadcast without a written deadline all of whose
+// messages go in packets.
 fn is_unlimited(vehicle: &Vehicle, forward: &Forward, output: &FlowPlan) -> bool
     ensures { result ≡ is_unlimited vehicle.now forward.now output.now }
 {
@@ -220,7 +225,7 @@ fn is_rarer(routes: &Routes<'_>, at: FlowAt, output: &FlowPlan) -> bool
     ensures { result ≡ is_rarer routes.now.vehicle.now at output.now }
 {
     match output.pause {
-        Some(ms) => !is_within(us_of_ms(ms), silent(routes, at)),
+        Some(ms) => !is_within(us_of_ms(ms), interval(routes, at)),
         None => false,
     }
 }

@@ -1,8 +1,8 @@
 //! What can be wrong with the times of what gateways send on.
 ghost use Rattle.std.specs.Prelude.{◌≡◌};
 
-/// One thing that is wrong with the times of what the gateways of a vehicle send on, named by places from 0. Findings are in order by their
-/// number, then by their places.
+/// One thing that is wrong with the times of what the gateways of a vehicle send on, named by places from 0. Findings
+/// are in order by their number, then by their places.
 #[derive(Clone, Copy, Debug, PartialEq, Eq)]
 pub enum TimeFinding {
     /// G10: what the direct forward hears may come more often than its output may be sent.

@@ -2,7 +2,8 @@
 ghost use Rattle.std.specs.Prelude.{◌≡◌, ◌≤◌, ◌<◌, ◌^◌, IfSome};
 ghost use Rattle.std.specs.List.{find};
 ghost use Rattle.std.specs.Option.{option_copied};
-ghost use Rattle.j39_ages.specs.Times.{us_of_bit, flow_at, first_input_at, jitter_ms, own, own_of, pause_us, timed, timing_on, us_of_ms, within_of};
+ghost use Rattle.j39_ages.specs.Times.{us_of_bit, flow_at, first_input_at, jitter_ms, own, own_of, pause_us, timed};
+ghost use Rattle.j39_ages.specs.Times.{timing_on, us_of_ms, within_of};
 ghost use Rattle.j39_ages.specs.inside.Chains.{direct_place, input_by, is_direct_at};
 
 use crate::bus_delays::{Delays, delay_at};
@@ -32,7 +33,7 @@ pub fn us_of_ms(ms: u16) -> u64
     1_000 * u64::from(ms)
 }
 
-/// How many milliseconds behind its moment a message of the flow is queued at most.
+/// How many milliseconds behind its release a message of the flow is queued at most.
 pub fn jitter_of(flow: &FlowPlan) -> u16
     ensures { result ≡ jitter_ms flow.now }
 {
@@ -42,7 +43,7 @@ pub fn jitter_of(flow: &FlowPlan) -> u16
     }
 }
 
-/// In how many microseconds a message of the flow has its moment, however they lie.
+/// In how many microseconds a message of the flow has its release, however they lie.
 pub fn pause_of(flow: &FlowPlan) -> Option<u64>
     ensures value { result ≡ pause_us flow.now }
     ensures few { IfSome result (λ pause. pause < 2 ^ 26) }

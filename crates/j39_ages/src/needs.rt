@@ -1,7 +1,8 @@
 //! By which flow a need across buses is met, and how old what it brings is.
 ghost use Rattle.std.specs.Prelude.{◌≡◌, Some};
 ghost use Rattle.j39_rules.specs.ListPlaces.{in_each};
-ghost use Rattle.j39_ages.specs.FoundTimes.{flow_of_need, is_need_too_old, is_older, is_younger, joined, need_flow_at, need_flows_at, younger_of, youngest};
+ghost use Rattle.j39_ages.specs.FoundTimes.{flow_of_need, is_need_too_old, is_older, is_younger, joined, need_flow_at};
+ghost use Rattle.j39_ages.specs.FoundTimes.{need_flows_at, younger_of, youngest};
 
 use crate::ages::age;
 use crate::bus_delays::Delays;
@@ -11,8 +12,8 @@ use j39_network::FlowPlan;
 use j39_paths::{FlowAt, Point, Routes, flows_on};
 use j39_vehicle::VehicleNeed;
 
-/// A flow that brings a need's unit what it needs, by its place on the unit's bus, and how old that is where it is received, in
-/// microseconds, at most, where this is known.
+/// A flow that brings a need's unit what it needs, by its place on the unit's bus, and how old that is where it is
+/// received, in microseconds, at most, where this is known.
 #[derive(Clone, Copy, Debug, PartialEq, Eq)]
 pub struct NeedFlow {
     pub flow: usize,
@@ -75,7 +76,8 @@ fn joined_with(
     place: usize,
     flow: &FlowPlan,
 ) -> Option<NeedFlow>
-    ensures { result ≡ joined best (youngest (need_flows_at routes.now.vehicle.now delays.now need.now place flow.now)) }
+    ensures { result
+        ≡ joined best (youngest (need_flows_at routes.now.vehicle.now delays.now need.now place flow.now)) }
 {
     if !routes.is_need_flow(need, place, flow) {
         return best;
@@ -100,8 +102,8 @@ fn youngest_of(
     best
 }
 
-/// Of the flows that bring the need's unit what it needs, from the unit that is named, the first one of the least age, else the first. There
-/// is none where the need is unmet.
+/// Of the flows that bring the need's unit what it needs, from the unit that is named, the first one of the least age,
+/// else the first. There is none where the need is unmet.
 pub fn flow_of_need(routes: &Routes<'_>, delays: &Delays, need: &VehicleNeed) -> Option<NeedFlow>
     ensures { result ≡ flow_of_need routes.now.vehicle.now delays.now need.now }
 {

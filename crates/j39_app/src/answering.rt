@@ -1,6 +1,7 @@
 //! What is written for an order.
 ghost use Rattle.std.specs.Prelude.{◌≡◌, IfOk, IsErrOf, OnOk, OnSome};
-ghost use Rattle.j39_app.specs.Answers.{IsAnswer, IsAnswerOfTwo, IsFollowFrontOf, IsFollowOf, IsFrontAnswer, IsOfBytes, IsReadFrontOf};
+ghost use Rattle.j39_app.specs.Answers.{IsAnswer, IsAnswerOfTwo, IsFollowFrontOf, IsFollowOf, IsFrontAnswer, IsOfBytes};
+ghost use Rattle.j39_app.specs.Answers.{IsReadFrontOf};
 ghost use Rattle.j39_app.specs.Answers.{IsOfSome, IsReadOf, IsRefusedOf, IsRunFrontOf, IsRunOf};
 ghost use Rattle.j39_app.specs.Faults.{AsksForMemory, Ends, EndsByFile, EndsByTwo, HasFileFailed, IsOfRead};
 ghost use Rattle.j39_app.specs.Faults.{PutsAtOnce};
@@ -22,7 +23,8 @@ use crate::{
 use j39_network::Plan;
 use std::alloc::Global;
 
-// Each command holds its buffers and tables in a frame of its own, since that of `answer` lies on the stack below all of them.
+// Each command holds its buffers and tables in a frame of its own, since that of `answer` lies on the stack below all
+// of them.
 #[inline(never)]
 fn input_by<S: Source, W: Sink>(
     alloc: Global,
@@ -43,7 +45,7 @@ fn plan_of<F: Folder, W: Sink>(
 ) -> Result<Option<Plan>, Fault>
     ensures ends { EndsByFile (IsOfBytes IsPlanText) IsRefusedOf (Unit {0}) plan_limits
         (F.stays_shut files.now) (F.bytes_of files.now) F.File.state name.now W.state sink.old sink.new result }
-    ensures silent { IfOk result (λ plan. OnSome plan (sink.new ≡ sink.old)) }
+    ensures writes_nothing { IfOk result (λ plan. OnSome plan (sink.new ≡ sink.old)) }
 {
     plan_text(alloc, &mut files.open(name)?, sink)
 }
@@ -195,8 +197,8 @@ fn follow_files<F: Folder, W: Sink>(
     }
 }
 
-/// Writes what is asked for by an order: of the bytes of the files that it names, of its own line, or of the first line of the
-/// input. A file is opened once what comes before it was read.
+/// Writes what is asked for by an order: of the bytes of the files that it names, of its own line, or of the first line
+/// of the input. A file is opened once what comes before it was read.
 pub fn answer<F: Folder, S: Source, W: Sink>(
     alloc: Global,
     files: &F,

@@ -23,7 +23,7 @@ fn vehicle_of<F: Folder, W: Sink>(
 ) -> Result<Option<VehicleFile>, Fault>
     ensures ends { EndsByFile (IsOfBytes IsVehicleFileText) IsRefusedVehicleOf (Unit {0}) plan_limits
         (F.stays_shut files.now) (F.bytes_of files.now) F.File.state name.now W.state sink.old sink.new result }
-    ensures silent { IfOk result (λ file. OnSome file (sink.new ≡ sink.old)) }
+    ensures writes_nothing { IfOk result (λ file. OnSome file (sink.new ≡ sink.old)) }
 {
     vehicle_file(alloc, &mut files.open(name)?, sink)
 }
@@ -38,7 +38,7 @@ fn plan_named<F: Folder, W: Sink>(
 ) -> Result<Option<Plan>, Fault>
     ensures ends { EndsByFile (IsOfBytes (IsBusPlanText label.now.bytes)) (IsRefusedBusOf label.now.bytes) (Unit {0}) plan_limits
         (F.stays_shut files.now) (F.bytes_of files.now) F.File.state name.now W.state sink.old sink.new result }
-    ensures silent { IfOk result (λ plan. OnSome plan (sink.new ≡ sink.old)) }
+    ensures writes_nothing { IfOk result (λ plan. OnSome plan (sink.new ≡ sink.old)) }
 {
     bus_plan(alloc, label, &mut files.open(name)?, sink)
 }
@@ -52,7 +52,7 @@ fn plan_of_bus<F: Folder, W: Sink>(
     sink: &mut W,
 ) -> Result<Option<Plan>, Fault>
     ensures ends { EndsByBus (F.stays_shut files.now) (F.bytes_of files.now) F.File.state vehicle.now table.now W.state sink.old sink.new result }
-    ensures silent { IfOk result (λ plan. OnSome plan (sink.new ≡ sink.old)) }
+    ensures writes_nothing { IfOk result (λ plan. OnSome plan (sink.new ≡ sink.old)) }
 {
     let name = plan_file(alloc, vehicle, table.plan.as_str())?;
     plan_named(alloc, files, &table.label, name.as_str(), sink)
@@ -66,8 +66,8 @@ fn add_bus(buses: &mut Vec<BusPlan>, label: Label, plan: Plan) -> Result<(), All
     Ok(())
 }
 
-// The buses of a vehicle, with their plans. The file of each is opened once that before it was read. Where one describes no plan, writes why,
-// and gives none.
+// The buses of a vehicle, with their plans. The file of each is opened once that before it was read. Where one
+// describes no plan, writes why, and gives none.
 fn buses_of<F: Folder, W: Sink>(
     alloc: Global,
     files: &F,
@@ -76,7 +76,7 @@ fn buses_of<F: Folder, W: Sink>(
     sink: &mut W,
 ) -> Result<Option<Vec<BusPlan>>, Fault>
     ensures ends { EndsByBuses (F.stays_shut files.now) (F.bytes_of files.now) F.File.state vehicle.now tables.now W.state sink.old sink.new result }
-    ensures silent { IfOk result (λ buses. OnSome buses (sink.new ≡ sink.old)) }
+    ensures writes_nothing { IfOk result (λ buses. OnSome buses (sink.new ≡ sink.old)) }
     ensures count { IfOk result (λ found. IfSome found (λ buses. length buses.items ≡ length tables.now)) }
 {
     let mut buses = Vec::new(alloc);

@@ -105,7 +105,8 @@ noted_by_answer c s n (Told (Claim a)) says new answers k h =
     notes_are true true (inr (none, said, is)) = ap (λ (t : ClaimState). t.notes) is
     notes_are true false (said, is) = ap (λ (t : ClaimState). t.notes) is
     notes_are false d (said, is) = ap (λ (t : ClaimState). t.notes) is
-noted_by_answer c s n (Told Cannot) says new answers k h = inr (noted_without s.notes n k (sym (ap (λ (t : ClaimState). is_some (get t.notes k)) answers.1) ∙ h))
+noted_by_answer c s n (Told Cannot) says new answers k h =
+    inr (noted_without s.notes n k (sym (ap (λ (t : ClaimState). is_some (get t.notes k)) answers.1) ∙ h))
 noted_by_answer c s n Request says new answers k h = inr (sym (ap (λ (t : ClaimState). is_some (get t.notes k)) answers.1) ∙ h)
 
 -- nor does one that doesn't claim

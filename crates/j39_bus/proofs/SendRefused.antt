@@ -15,7 +15,8 @@ use Rattle.j39_world.specs.World.{World}
 use Rattle.j39_bus.proofs.Opened.{got}
 
 -- it is sent by a flow
-pub flow_inside : (live : Bool) (n : ℕ) (w : World) (flows : List Flow) (f : ℕ) (bytes : List ℕ) → send_refusal live n w (slice_get flows f) bytes ≡ None → f < length flows
+pub flow_inside : (live : Bool) (n : ℕ) (w : World) (flows : List Flow) (f : ℕ) (bytes : List ℕ) → send_refusal live n w (slice_get flows f) bytes ≡ None
+    → f < length flows
 flow_inside live n w [] f bytes allowed = absurd (cc allowed)
 flow_inside live n w (x ∷ flows) zero bytes allowed = omega arith
 flow_inside live n w (x ∷ flows) (suc f) bytes allowed = let less : f < length flows = flow_inside live n w flows f bytes allowed in omega arith

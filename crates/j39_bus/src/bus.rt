@@ -16,8 +16,8 @@ use j39_tp::Outcome;
 use std::marker::Model;
 
 /// The units of a plan on one bus, named by their places from 0. What each has still to hear is delivered by steps.
-/// Contracts see what each unit is, what is undelivered from each to each, what the units send one another, and the frames that
-/// were sent.
+/// Contracts see what each unit is, what is undelivered from each to each, what the units send one another, and the
+/// frames that were sent.
 #[derive(Drop)]
 pub struct Bus {
     pub(crate) network: Network,

@@ -5,7 +5,8 @@ ghost use Rattle.j39_world.specs.ClaimSteps.{switched_on, asked, GivenFrom};
 ghost use Rattle.j39_bus.specs.inside.Claims.{HasRoomForOthers};
 ghost use Rattle.j39_queues.specs.Queued.{pair_in};
 ghost use Rattle.j39_bus.specs.BusState.{Histories};
-ghost use Rattle.j39_bus.specs.inside.Network.{IsAllowed, IsNetwork, IsSameNetwork, KeepsPlan, planned_units, world_in, Steps};
+ghost use Rattle.j39_bus.specs.inside.Network.{IsAllowed, IsNetwork, IsSameNetwork, KeepsPlan, planned_units, world_in};
+ghost use Rattle.j39_bus.specs.inside.Network.{Steps};
 
 use crate::hearing::hear;
 use crate::network::Network;
@@ -68,8 +69,10 @@ impl Network {
         requires frames { vec_len self.old.frames < vec_capacity self.old.frames }
         ensures network { IsNetwork self.new }
         ensures plan { KeepsPlan self.old self.new }
-        ensures rest { self.new ≡ record self.old { claimers = self.new.claimers; claims = self.new.claims; wire = self.new.wire; frames = self.new.frames } }
-        ensures world { (h : Histories) → world_in h self.new ≡ switched_on (planned_units self.old.claimers.items) (world_in h self.old) unit }
+        ensures rest { self.new
+            ≡ record self.old { claimers = self.new.claimers; claims = self.new.claims; wire = self.new.wire; frames = self.new.frames } }
+        ensures world { (h : Histories)
+            → world_in h self.new ≡ switched_on (planned_units self.old.claimers.items) (world_in h self.old) unit }
     {
         self.claims.clear_to(unit);
         self.wire.clear_to(unit);
@@ -90,7 +93,8 @@ impl Network {
         requires frames { vec_len self.old.frames < vec_capacity self.old.frames }
         ensures network { IsNetwork self.new }
         ensures plan { KeepsPlan self.old self.new }
-        ensures rest { self.new ≡ record self.old { claimers = self.new.claimers; claims = self.new.claims; frames = self.new.frames } }
+        ensures rest { self.new
+            ≡ record self.old { claimers = self.new.claimers; claims = self.new.claims; frames = self.new.frames } }
         ensures world { (h : Histories) → GivenFrom (planned_units self.old.claimers.items)
             (world_in h self.old) from to (pair_in self.old.claims.lists from to)
             (world_in h self.new) }
@@ -113,8 +117,10 @@ impl Network {
         requires frames { vec_len self.old.frames + 2 ≤ vec_capacity self.old.frames }
         ensures network { IsNetwork self.new }
         ensures plan { KeepsPlan self.old self.new }
-        ensures rest { self.new ≡ record self.old { claimers = self.new.claimers; claims = self.new.claims; frames = self.new.frames } }
-        ensures world { (h : Histories) → world_in h self.new ≡ asked (planned_units self.old.claimers.items) (world_in h self.old) unit }
+        ensures rest { self.new
+            ≡ record self.old { claimers = self.new.claimers; claims = self.new.claims; frames = self.new.frames } }
+        ensures world { (h : Histories)
+            → world_in h self.new ≡ asked (planned_units self.old.claimers.items) (world_in h self.old) unit }
     {
         let answer = self.claimers[unit].hear_request();
         match answer {

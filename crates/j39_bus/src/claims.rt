@@ -37,7 +37,8 @@ fn post_to(claims: &mut Queues<Item>, from: usize, to: usize, item: &Item)
     requires to { to < length claims.old.lists }
     requires room { 0 < room_at claims.old from to }
     ensures table { IsTable (length claims.old.lists) claims.new.lists }
-    ensures lists { pair_in claims.new.lists ≡ changed_in (pair_in claims.old.lists) from to (pair_in claims.old.lists from to ++ item.now ∷ []) }
+    ensures lists { pair_in claims.new.lists
+        ≡ changed_in (pair_in claims.old.lists) from to (pair_in claims.old.lists from to ++ item.now ∷ []) }
     ensures room { (s t : ℕ) → room_at claims.old s t ≤ room_at claims.new s t + one_at from to s t }
 {
     match item {
@@ -58,8 +59,10 @@ pub(crate) fn post_to_others(
     requires from { from < length claims.old.lists }
     requires room { HasRoomForOthers claims.old claimers.now from 1 }
     ensures table { IsTable (length claims.old.lists) claims.new.lists }
-    ensures lists { pair_in claims.new.lists ≡ told_to_others (station_at claimers.now) (pair_in claims.old.lists) from (item.now ∷ []) }
-    ensures room { (more : ℕ) → HasRoomForOthers claims.old claimers.now from (1 + more) → HasRoomForOthers claims.new claimers.now from more }
+    ensures lists { pair_in claims.new.lists
+        ≡ told_to_others (station_at claimers.now) (pair_in claims.old.lists) from (item.now ∷ []) }
+    ensures room { (more : ℕ) → HasRoomForOthers claims.old claimers.now from (1 + more)
+        → HasRoomForOthers claims.new claimers.now from more }
 {
     for (to, claimer) in claimers.iter().enumerate() {
         if to != from && claimer.is_started() {
@@ -92,7 +95,8 @@ fn are_settled_of(claims: &Queues<Item>, from: usize, units: usize) -> bool
 /// Whether no claim is undelivered between so many units.
 pub(crate) fn are_settled(claims: &Queues<Item>, units: usize) -> bool
     requires units { units ≡ length claims.now.lists }
-    ensures { result ≡ list_all (λ u. list_all (λ v. are_requests (pair_in claims.now.lists u v)) (range_with_len 0 units)) (range_with_len 0 units) }
+    ensures { result
+        ≡ list_all (λ u. list_all (λ v. are_requests (pair_in claims.now.lists u v)) (range_with_len 0 units)) (range_with_len 0 units) }
 {
     for from in 0..units {
         if !are_settled_of(claims, from, units) {

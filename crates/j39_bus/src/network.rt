@@ -15,8 +15,9 @@ use j39_queues::Queues;
 use j39_world::{Flow, Wired};
 use std::alloc::AllocError;
 
-/// The units of a plan by their places, all that is undelivered of claims, whether the plan's bus is live, the flows, the message
-/// that each unit sends, what is not taken of it, the receivers, and all messages received and all frames sent, each in order.
+/// The units of a plan by their places, all that is undelivered of claims, whether the plan's bus is live, the flows,
+/// the message that each unit sends, what is not taken of it, the receivers, and all messages received and all frames
+/// sent, each in order.
 #[derive(Drop)]
 pub(crate) struct Network {
     pub(crate) claimers: Vec<Claimer>,
@@ -54,7 +55,9 @@ impl Network {
         requires frames { vec_len self.old.frames < vec_capacity self.old.frames }
         ensures claimers { self.new.claimers ≡ self.old.claimers }
         ensures rest { self.new ≡ record self.old { claims = self.new.claims; frames = self.new.frames } }
-        ensures world { (h : Histories) → world_in h self.new ≡ tell (planned_units self.old.claimers.items) (world_in h self.old) from (item ∷ []) }
+        ensures world { (h : Histories)
+            → world_in h self.new
+            ≡ tell (planned_units self.old.claimers.items) (world_in h self.old) from (item ∷ []) }
         ensures table { IsTable (length self.old.claimers.items) self.new.claims.lists }
         ensures room { (more : ℕ) → HasRoomForOthers self.old.claims self.old.claimers.items from (1 + more)
             → HasRoomForOthers self.new.claims self.old.claimers.items from more }

@@ -1,6 +1,6 @@
 //! A new bus.
 ghost use Rattle.std.specs.Prelude.{◌≡◌, ◌<◌, ℕ, length, map, All, IfOk, IfErr, IfSome, IfNone, OnOk};
-ghost use Rattle.j39_network.specs.Kinds.{MayBeOneAt, AreToldApart};
+ghost use Rattle.j39_network.specs.Kinds.{MayBeOneAt, AreDistinctUnits};
 ghost use Rattle.j39_bus.specs.Stations.{unstarted};
 ghost use Rattle.j39_world.specs.Opening.{AreFirstThatMayBeOne, CanOpen, IsNotOpened};
 ghost use Rattle.j39_bus.specs.BusState.{histories_of};
@@ -23,7 +23,8 @@ use std::alloc::{AllocError, Global};
 /// The least place after the first whose unit may be the first's.
 fn same_name_after(plan: &Plan, first: usize) -> Option<usize>
     requires { first < length plan.now.units.items }
-    ensures some { IfSome result (λ second. MayBeOneAt plan.now first second × ((k : ℕ) → k < second → ¬ MayBeOneAt plan.now first k)) }
+    ensures some { IfSome result (λ second. MayBeOneAt plan.now first second
+        × ((k : ℕ) → k < second → ¬ MayBeOneAt plan.now first k)) }
     ensures none { IfNone result ((k : ℕ) → ¬ MayBeOneAt plan.now first k) }
 {
     let units = plan.units.as_slice();
@@ -39,7 +40,7 @@ fn same_name_after(plan: &Plan, first: usize) -> Option<usize>
 /// The first two places whose units may be one.
 fn same_name(plan: &Plan) -> Option<(usize, usize)>
     ensures some { IfSome result (λ places. AreFirstThatMayBeOne plan.now places.0 places.1) }
-    ensures none { IfNone result (AreToldApart plan.now) }
+    ensures none { IfNone result (AreDistinctUnits plan.now) }
 {
     for first in 0..plan.units.len() {
         if let Some(second) = same_name_after(plan, first) {
@@ -113,8 +114,8 @@ fn network_of(alloc: Global, plan: &Plan) -> Result<Network, AllocError>
 }
 
 impl Bus {
-    /// A bus of the plan, on which no unit is started, with a chooser for each unit by its place. It keeps the allocator.
-    /// On an error the choosers are dropped.
+    /// A bus of the plan, on which no unit is started, with a chooser for each unit by its place. It keeps the
+    /// allocator. On an error the choosers are dropped.
     pub fn new(alloc: Global, plan: &Plan, choosers: Vec<Box<dyn Choose>>) -> Result<Self, BusError>
         ensures ok { OnOk result (CanOpen (length choosers.items) plan.now) }
         ensures stands { IfOk result (λ bus. Stands bus plan.now all_off) }

@@ -1,11 +1,13 @@
 //! A receiver of each unit for what each other sends.
-ghost use Rattle.std.specs.Prelude.{◌≡◌, ℕ, ◌<◌, ◌≤◌, true, cond, nat_eq, [], length, map, vec_capacity, OnOk, OnErr, IfOk};
+ghost use Rattle.std.specs.Prelude.{◌≡◌, ℕ, ◌<◌, ◌≤◌, true, cond, nat_eq, [], length, map, vec_capacity, OnOk, OnErr};
+ghost use Rattle.std.specs.Prelude.{IfOk};
 ghost use Rattle.j39_tp.specs.declared.receiving.manner.Manner.TheVariants.{Answering};
 ghost use Rattle.j39_world.specs.Flows.{window_at};
 ghost use Rattle.j39_tp.specs.Receiver.{hears, is_complete, receives, timed_out, gives_up, is_open_at, message_of};
 ghost use Rattle.j39_world.specs.World.{changed_pair};
 ghost use Rattle.j39_bus.specs.BusState.{closed, holding_at};
-ghost use Rattle.j39_bus.specs.inside.Receivers.{HasRoomFor, IsAnswering, IsReady, answering, holding_of, left_at, left_of, message_in, without_holdings_of};
+ghost use Rattle.j39_bus.specs.inside.Receivers.{HasRoomFor, IsAnswering, IsReady, answering, holding_of, left_at};
+ghost use Rattle.j39_bus.specs.inside.Receivers.{left_of, message_in, without_holdings_of};
 ghost use Rattle.j39_bus.specs.inside.Receivers.{receiver_at};
 
 use crate::places::empty_places;
@@ -14,8 +16,8 @@ use j39_tp::{Heard, Packet, Receiver};
 use std::alloc::{AllocError, Global};
 use std::marker::Model;
 
-/// Of each unit for each that sends to it: a receiver from the announcement of a message until it is closed or the message is
-/// complete, with how many packets each unit lets be sent to it for one CTS.
+/// Of each unit for each that sends to it: a receiver from the announcement of a message until it is closed or the
+/// message is complete, with how many packets each unit lets be sent to it for one CTS.
 #[derive(Drop)]
 pub(crate) struct Receivers {
     windows: Vec<u8>,
@@ -59,7 +61,8 @@ fn fill(
 // What a receiver does with a packet; where there is none, nothing.
 fn tell(slot: &mut Option<Box<Receiver>>, packet: &Packet) -> Heard
     requires ready { IsReady packet.now slot.old }
-    ensures heard { (window : ℕ) → IsAnswering window slot.old → result ≡ (hears (Answering window) (holding_of slot.old).progress packet.now).1 }
+    ensures heard { (window : ℕ) → IsAnswering window slot.old
+        → result ≡ (hears (Answering window) (holding_of slot.old).progress packet.now).1 }
     ensures after { (window : ℕ) → IsAnswering window slot.old
         → answering window (holding_of slot.new) ≡ receives (answering window (holding_of slot.old)) packet.now }
     ensures answering { (window : ℕ) → IsAnswering window slot.old → IsAnswering window slot.new }
@@ -121,8 +124,8 @@ fn collect(slot: &Option<Box<Receiver>>, bytes: &mut Vec<u8>)
     }
 }
 
-// What a receiver of this window does with a packet, and the message that the packet completes. A receiver is made by an
-// announcement, and given up where it is not open.
+// What a receiver of this window does with a packet, and the message that the packet completes. A receiver is made by
+// an announcement, and given up where it is not open.
 fn hear_in(
     alloc: Global,
     slot: &mut Option<Box<Receiver>>,
@@ -150,8 +153,10 @@ fn hear_in(
 
 // What a receiver sends that has heard nothing in time. It is given up where it is not open.
 fn late_in(slot: &mut Option<Box<Receiver>>) -> Option<Packet>
-    ensures packet { (window : ℕ) → IsAnswering window slot.old → result ≡ (timed_out (Answering window) (holding_of slot.old).progress).1 }
-    ensures after { (window : ℕ) → IsAnswering window slot.old → holding_of slot.new ≡ left_of (gives_up (answering window (holding_of slot.old))) }
+    ensures packet { (window : ℕ) → IsAnswering window slot.old
+        → result ≡ (timed_out (Answering window) (holding_of slot.old).progress).1 }
+    ensures after { (window : ℕ) → IsAnswering window slot.old
+        → holding_of slot.new ≡ left_of (gives_up (answering window (holding_of slot.old))) }
     ensures answering { (window : ℕ) → IsAnswering window slot.old → IsAnswering window slot.new }
 {
     let packet = match slot {
@@ -202,7 +207,8 @@ impl Receivers {
         ensures heard { IfOk result (λ x. let r = receiver_at self.old to from in x.0 ≡ (hears r.manner r.progress packet.now).1) }
         ensures after { OnOk result (holding_at self.new.holdings ≡ changed_pair (holding_at self.old.holdings) to from
             (left_of (receives (receiver_at self.old to from) packet.now))) }
-        ensures message { IfOk result (λ x. is_complete x.0 ≡ true → x.1.items ≡ message_in (receives (receiver_at self.old to from) packet.now)) }
+        ensures message { IfOk result (λ x. is_complete x.0 ≡ true
+            → x.1.items ≡ message_in (receives (receiver_at self.old to from) packet.now)) }
         ensures same { OnErr result (self.new ≡ self.old) }
     {
         let window = self.windows[to];
@@ -217,7 +223,8 @@ impl Receivers {
         requires to { to < length self.old.windows }
         ensures windows { self.new.windows ≡ self.old.windows }
         ensures packet { let r = receiver_at self.old to from in result ≡ (timed_out r.manner r.progress).1 }
-        ensures after { holding_at self.new.holdings ≡ changed_pair (holding_at self.old.holdings) to from (left_of (gives_up (receiver_at self.old to from))) }
+        ensures after { holding_at self.new.holdings
+            ≡ changed_pair (holding_at self.old.holdings) to from (left_of (gives_up (receiver_at self.old to from))) }
     {
         let row = &mut self.rows[to];
         let slot = &mut row[from];
@@ -240,7 +247,8 @@ impl Receivers {
     fn close_for(&mut self, unit: usize)
         requires { unit < length self.old.windows }
         ensures windows { self.new.windows ≡ self.old.windows }
-        ensures after { holding_at self.new.holdings ≡ (λ v s. cond (nat_eq v unit) closed (holding_at self.old.holdings v s)) }
+        ensures after { holding_at self.new.holdings
+            ≡ (λ v s. cond (nat_eq v unit) closed (holding_at self.old.holdings v s)) }
     {
         for from in 0..self.windows.len() {
             self.close(from, unit);
@@ -251,7 +259,8 @@ impl Receivers {
     fn close_to(&mut self, unit: usize)
         requires { unit < length self.old.windows }
         ensures windows { self.new.windows ≡ self.old.windows }
-        ensures after { holding_at self.new.holdings ≡ (λ v s. cond (nat_eq s unit) closed (holding_at self.old.holdings v s)) }
+        ensures after { holding_at self.new.holdings
+            ≡ (λ v s. cond (nat_eq s unit) closed (holding_at self.old.holdings v s)) }
     {
         for to in 0..self.windows.len() {
             self.close(unit, to);

@@ -1,12 +1,14 @@
 //! Why steps are refused.
 ghost use Rattle.std.specs.Prelude.{◌≡◌, ◌&&◌, ◌||◌, not, Some, length};
-ghost use Rattle.j39_network.specs.declared.steps.Step.TheVariants.{Up, Give, Ask, Emit, Take, LateSender, LateReceiver, Rest};
+ghost use Rattle.j39_network.specs.declared.steps.Step.TheVariants.{Up, Give, Ask, Emit, Take, LateSender};
+ghost use Rattle.j39_network.specs.declared.steps.Step.TheVariants.{LateReceiver, Rest};
 ghost use Rattle.j39_world.specs.Flows.{can_be_sent, has_length};
 ghost use Rattle.j39_bus.specs.Stations.{station_at};
 ghost use Rattle.j39_bus.specs.BusState.{Histories, nowhere};
 ghost use Rattle.j39_bus.specs.inside.Network.{IsNetwork, IsRefusal, world_in};
 ghost use Rattle.j39_id.specs.FirstFault.{first_fault};
-ghost use Rattle.j39_world.specs.Run.{at_ends, begin_refusal, has_address, is_a_transfer_open, is_nothing_undelivered, is_on, pair_refusals, unit_refusals};
+ghost use Rattle.j39_world.specs.Run.{at_ends, begin_refusal, has_address, is_a_transfer_open, is_nothing_undelivered};
+ghost use Rattle.j39_world.specs.Run.{is_on, pair_refusals, unit_refusals};
 ghost use Rattle.j39_bus.specs.inside.KeptMessages.{IsFlow};
 ghost use Rattle.j39_queues.specs.Queued.{pair_in};
 
@@ -69,7 +71,8 @@ impl Network {
 
     // Of a unit that has to be on.
     fn refusal_of_unit(&self, unit: usize) -> Option<StepError>
-        ensures { result ≡ first_fault (unit_refusals (length self.now.claimers.items) (station_at self.now.claimers.items) unit) }
+        ensures { result
+            ≡ first_fault (unit_refusals (length self.now.claimers.items) (station_at self.now.claimers.items) unit) }
     {
         if unit >= self.claimers.len() {
             return Some(StepError::UnknownUnit);
@@ -82,7 +85,8 @@ impl Network {
 
     // Of two units that have to be on.
     fn refusal_of_pair(&self, from: usize, to: usize) -> Option<StepError>
-        ensures { result ≡ first_fault (pair_refusals (length self.now.claimers.items) (station_at self.now.claimers.items) from to) }
+        ensures { result
+            ≡ first_fault (pair_refusals (length self.now.claimers.items) (station_at self.now.claimers.items) from to) }
     {
         let count = self.claimers.len();
         if from >= count || to >= count {
@@ -145,7 +149,8 @@ impl Network {
     fn refusal_of_flow(&self, flow: &Flow, bytes: &[u8]) -> Option<StepError>
         requires network { IsNetwork self.now }
         requires flow { IsFlow (length self.now.claimers.items) flow.now }
-        ensures { (h : Histories) → result ≡ begin_refusal self.now.live (length self.now.claimers.items) (world_in h self.now) (Some flow.now) bytes.now }
+        ensures { (h : Histories)
+            → result ≡ begin_refusal self.now.live (length self.now.claimers.items) (world_in h self.now) (Some flow.now) bytes.now }
     {
         if !can_be_sent(flow) {
             return Some(StepError::NoSuchFlow);
@@ -250,7 +255,8 @@ impl Network {
     // Whether a unit can't be switched or ask for claims yet: a transfer is open, and the bus isn't live.
     fn waits_for_transfers(&self) -> bool
         requires { IsNetwork self.now }
-        ensures { result ≡ (not self.now.live && is_a_transfer_open (length self.now.claimers.items) (world_in nowhere self.now)) }
+        ensures { result
+            ≡ (not self.now.live && is_a_transfer_open (length self.now.claimers.items) (world_in nowhere self.now)) }
     {
         !self.live && self.is_transfer_open()
     }
@@ -258,7 +264,9 @@ impl Network {
     /// Whether no unit can send yet: a claim or a request is undelivered, and the bus isn't live.
     pub(crate) fn waits_for_claims(&self) -> bool
         requires { IsNetwork self.now }
-        ensures { result ≡ (not self.now.live && not (is_nothing_undelivered (length self.now.claimers.items) (pair_in self.now.claims.lists))) }
+        ensures { result
+            ≡ (not self.now.live
+            && not (is_nothing_undelivered (length self.now.claimers.items) (pair_in self.now.claims.lists))) }
     {
         !self.live && !self.is_nothing_undelivered()
     }

@@ -30,7 +30,8 @@ impl Network {
     fn refusal_of_frame(&self, flow: &Flow, bytes: &[u8]) -> Option<StepError>
         requires network { IsNetwork self.now }
         requires flow { IsFlow (length self.now.claimers.items) flow.now }
-        ensures { (h : Histories) → result ≡ send_refusal self.now.live (length self.now.claimers.items) (world_in h self.now) (Some flow.now) bytes.now }
+        ensures { (h : Histories)
+            → result ≡ send_refusal self.now.live (length self.now.claimers.items) (world_in h self.now) (Some flow.now) bytes.now }
     {
         if !can_be_sent(flow) {
             return Some(StepError::NoSuchFlow);

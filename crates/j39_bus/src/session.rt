@@ -4,7 +4,8 @@ ghost use Rattle.std.specs.List.{filter};
 ghost use Rattle.j39_id.specs.Limits.{message_bytes};
 ghost use Rattle.j39_network.specs.declared.plan.to.To.{To};
 ghost use Rattle.j39_tp.specs.declared.sending.outcome.Outcome.TheVariants.{GaveUp};
-ghost use Rattle.j39_tp.specs.Sender.{data_next, after_packet, ended, timeout_packet, after_timeout, outcome_of, phase_of};
+ghost use Rattle.j39_tp.specs.Sender.{data_next, after_packet, ended, timeout_packet, after_timeout, outcome_of};
+ghost use Rattle.j39_tp.specs.Sender.{phase_of};
 ghost use Rattle.j39_world.specs.Flows.{dest_of};
 ghost use Rattle.j39_bus.specs.inside.Content.{GoesTo, bytes_in, group_in, stage_in};
 ghost use Rattle.j39_world.specs.TransferSteps.{begun_stage, first_item, outgoing_hears};
@@ -18,7 +19,8 @@ use j39_tp::{Dest, Message, Outcome, Packet, Phase, Reaction, Transfer};
 use j39_world::{Flow, Short, Wired};
 use std::marker::Model;
 
-/// A message from its beginning until its sender rests, with the units that it goes to. Contracts see it as a world has it.
+/// A message from its beginning until its sender rests, with the units that it goes to. Contracts see it as a world has
+/// it.
 #[derive(Drop)]
 pub(crate) struct Session {
     flow: usize,
@@ -27,7 +29,8 @@ pub(crate) struct Session {
     content: Content,
 }
 
-// What is sent: a message of one frame, with the PGN of its group, which has ended, or one that the transport protocol carries.
+// What is sent: a message of one frame, with the PGN of its group, which has ended, or one that the transport protocol
+// carries.
 #[derive(Drop)]
 enum Content {
     Short(Pgn, Short),
@@ -107,7 +110,8 @@ impl Model for Session {
 }
 
 impl Session {
-    /// The message of the flow at a place, which is begun, and what is sent first: the whole message, or its announcement.
+    /// The message of the flow at a place, which is begun, and what is sent first: the whole message, or its
+    /// announcement.
     pub(crate) fn begin(
         place: usize,
         flow: &Flow,
@@ -188,7 +192,8 @@ impl Session {
         }
     }
 
-    /// What the sender does with a packet of a unit: it hears the one alone that its message goes to, and of a message to all nobody.
+    /// What the sender does with a packet of a unit: it hears the one alone that its message goes to, and of a message
+    /// to all nobody.
     pub(crate) fn hear(&mut self, from: usize, packet: &Packet) -> Reaction
         ensures reaction { result ≡ (outgoing_hears self.old from packet.now).1 }
         ensures after { self.new ≡ record self.old { stage = (outgoing_hears self.old from packet.now).0 } }

@@ -86,7 +86,8 @@ pub(crate) fn flow_of(sessions: &[Option<Session>], unit: usize) -> usize
 /// The next data packet of a unit.
 pub(crate) fn next_packet(sessions: &mut Vec<Option<Session>>, unit: usize) -> Option<Packet>
     requires { unit < length sessions.old.items }
-    ensures packet { result ≡ option_and_then (λ (s : Outgoing). data_next s.bytes s.stage) (session_at sessions.old.items unit) }
+    ensures packet { result
+        ≡ option_and_then (λ (s : Outgoing). data_next s.bytes s.stage) (session_at sessions.old.items unit) }
     ensures session { session_at sessions.new.items ≡ changed (session_at sessions.old.items) unit
         (at_stage (λ s. after_packet (dest_of s.to) s.stage) (session_at sessions.old.items unit)) }
     ensures count { length sessions.new.items ≡ length sessions.old.items }
@@ -97,7 +98,8 @@ pub(crate) fn next_packet(sessions: &mut Vec<Option<Session>>, unit: usize) -> O
 /// What a unit sends that has heard nothing in time.
 pub(crate) fn late(sessions: &mut Vec<Option<Session>>, unit: usize) -> Option<Packet>
     requires { unit < length sessions.old.items }
-    ensures packet { result ≡ option_and_then (λ (s : Outgoing). timeout_packet s.pgn s.stage) (session_at sessions.old.items unit) }
+    ensures packet { result
+        ≡ option_and_then (λ (s : Outgoing). timeout_packet s.pgn s.stage) (session_at sessions.old.items unit) }
     ensures session { session_at sessions.new.items ≡ changed (session_at sessions.old.items) unit
         (at_stage (λ s. after_timeout s.stage) (session_at sessions.old.items unit)) }
     ensures count { length sessions.new.items ≡ length sessions.old.items }

@@ -61,8 +61,10 @@ impl Bus {
     /// `StepError`. Want of memory comes only where no cause holds, and never for `Down`, `Lose` and `Rest`; it changes nothing either.
     pub fn step(&mut self, step: &Step) -> Result<(), StepError>
         ensures ok { OnOk result ((plan : Plan) (w : World) → Stands self.old plan w
-            → (refusal plan w step.now ≡ None) × ((after : World) × StepsTo plan w step.now after × Stands self.new plan after)) }
-        ensures refused { IfErr result (λ e. (plan : Plan) (w : World) → Stands self.old plan w → refusal plan w step.now ≡ cause_of e) }
+            → (refusal plan w step.now ≡ None)
+            × ((after : World) × StepsTo plan w step.now after × Stands self.new plan after)) }
+        ensures refused { IfErr result (λ e. (plan : Plan) (w : World) → Stands self.old plan w
+            → refusal plan w step.now ≡ cause_of e) }
         ensures memory { IfErr result (λ e. e ≡ StepError.Memory → takes_memory step.now ≡ true) }
         ensures same { OnErr result (self.new ≡ self.old) }
         ensures units { length self.new.units ≡ length self.old.units }
@@ -76,7 +78,8 @@ impl Bus {
         Ok(())
     }
 
-    /// Does the steps in turn, up to the first that is refused. An error has that step's place; those before it are done.
+    /// Does the steps in turn, up to the first that is refused. An error has that step's place; those before it are
+    /// done.
     pub fn run(&mut self, steps: &[Step]) -> Result<(), (usize, StepError)>
         ensures ok { OnOk result ((plan : Plan) (w : World) → Stands self.old plan w
             → (after : World) × RunsThrough plan w steps.now after × Stands self.new plan after) }

@@ -6,8 +6,8 @@ use crate::network::Network;
 use crate::sessions;
 
 impl Network {
-    /// The unit is switched off. What was sent to it is gone, and its message with all that it sent of messages; of what it told of
-    /// addresses others still hear. Others send it nothing more: a message to it alone is given up.
+    /// The unit is switched off. What was sent to it is gone, and its message with all that it sent of messages; of
+    /// what it told of addresses others still hear. Others send it nothing more: a message to it alone is given up.
     pub(crate) fn down(&mut self, unit: usize)
         requires network { IsNetwork self.old }
         requires allowed { IsAllowed self.old (Down unit) }

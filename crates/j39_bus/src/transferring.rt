@@ -113,7 +113,8 @@ impl Network {
         ensures wire { room_at self.old.wire from to ≤ room_at self.new.wire from to + length (packets_in packet) }
         ensures frames { vec_capacity self.old.frames ≤ vec_capacity self.new.frames }
         ensures frames_len { vec_len self.new.frames ≡ vec_len self.old.frames + length (packets_in packet) }
-        ensures world { (h : Histories) → world_in h self.new ≡ replied (world_in h self.old) from to (packets_in packet) }
+        ensures world { (h : Histories)
+            → world_in h self.new ≡ replied (world_in h self.old) from to (packets_in packet) }
     {
         if let Some(packet) = packet {
             let claimers = self.claimers.as_slice();

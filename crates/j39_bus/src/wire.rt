@@ -54,7 +54,8 @@ pub(crate) fn post_each(wire: &mut Queues<Wired>, from: usize, targets: &[usize]
     }
 }
 
-// What a sender sends its receivers, and an Abort, which may be of either; nobody waits for a frame that was sent alone.
+// What a sender sends its receivers, and an Abort, which may be of either; nobody waits for a frame that was sent
+// alone.
 fn is_of_sender(item: &Wired) -> bool
     ensures { result ≡ is_of_sender item.now }
 {

@@ -4,6 +4,7 @@ use Rattle.std.proofs.lemmas.Bool.{and_from, and_parts, eq-eqb, eqb-true, or_cas
 use Rattle.std.specs.List.{slice_get}
 use Rattle.j39_findings.specs.Findings.{Clean, IsAloneInPlan}
 use Rattle.j39_findings.proofs.CleanLaws.{parts_of}
+use Rattle.j39_findings.proofs.WhoStays.{placed}
 use Rattle.j39_network.specs.declared.plan.Plan.{Plan}
 use Rattle.j39_network.specs.declared.plan.flow_plan.FlowPlan.{FlowPlan}
 use Rattle.j39_network.specs.declared.plan.group_plan.GroupPlan.{GroupPlan}
@@ -14,7 +15,6 @@ use Rattle.j39_load.proofs.Different.{different}
 use Rattle.j39_load.specs.Loads.{group_ident}
 use Rattle.j39_load.specs.Ranks.{AreHeldApart, AreTwinFlows, IsShortFlow}
 use Rattle.j39_laws.proofs.Addresses.CleanEnds.{flow_at}
-use Rattle.j39_laws.proofs.Addresses.CleanUnits.{placed}
 use Rattle.j39_laws.proofs.Transfers.LiveEnds.{undisturbed_on}
 use Rattle.j39_world.specs.LiveEnds.{StandsAlone}
 use Rattle.j39_network.specs.PlannedUnits.{unit_at, units_of}

@@ -1,32 +1,33 @@
 -- Check has one text, and so have addresses, load and show.
-use Rattle.std.proofs.Common.{◌≡◌, ℕ, suc, zero, ◌+◌, Bool, cond, codes, count_by, length, List, [], ◌∷◌, ◌++◌, Option, Some, None, inl, inr, Err, refl, subst, sym, ap, ◌∙◌}
+use Rattle.std.proofs.Common.{◌≡◌, ℕ, suc, zero, ◌+◌, Bool, cond, codes, count_by, length, List, [], ◌∷◌, ◌++◌, Option, Some, None, inl, inr, Err, refl, subst}
+use Rattle.std.proofs.Common.{sym, ap, ◌∙◌}
 use Rattle.std.proofs.lemmas.Bool.{cases_Bool}
 use Rattle.std.proofs.lemmas.Option.{same_Some}
 use Rattle.std.specs.List.{AllZip, slice_get}
 use Rattle.j39_network.specs.declared.plan.Plan.{Plan}
 use Rattle.j39_network.specs.declared.plan.unit_plan.UnitPlan.{UnitPlan}
-use Rattle.j39_plan.specs.declared.reading.fault.Fault.{Fault}
-use Rattle.j39_plan.specs.declared.reading.plan_error.PlanError.{PlanError}
-use Rattle.j39_plan.specs.declared.reading.plan_error.PlanError.TheVariants as errors
-use Rattle.j39_plan.specs.Described.{Reads, tree_of}
+use Rattle.j39_plan.specs.PlanErrors.{PlanFault, PlanError}
+use Rattle.j39_tables.specs.declared.file_error.FileError.TheVariants as errors
+use Rattle.j39_plan.specs.Described.{Reads}
+use Rattle.j39_tables.specs.FileTrees.{tree_of}
 use Rattle.j39_plan.specs.PlanFaults.{faults}
-use Rattle.j39_plan.specs.Outcome.{first}
+use Rattle.j39_tables.specs.Outcome.{first}
 use Rattle.j39_network.specs.declared.plan.timing.Timing.{Timing}
 use Rattle.j39_findings.specs.Found.{found}
 use Rattle.j39_findings.proofs.FoundLaws.{none_from_clean}
-use Rattle.j39_load.specs.declared.delay.Delay.{Delay}
-use Rattle.j39_load.specs.declared.load_finding.LoadFinding.{LoadFinding}
+use Rattle.j39_load.specs.declared.waits.delay.Delay.{Delay}
+use Rattle.j39_load.specs.declared.findings.load_finding.LoadFinding.{LoadFinding}
 use Rattle.j39_load.specs.LoadFindings.{AreLoadFindings, all_findings}
 use Rattle.j39_load.specs.Asked.{Asked, asked_of, total_load}
 use Rattle.j39_load.proofs.OneLoad.{one_asked, told_once}
 use Rattle.j39_check.specs.AddressesText.{HasOneAddressesReport}
-use Rattle.j39_check.proofs.StaysTexts.{IsToldAlike, stays_text_same}
+use Rattle.j39_check.proofs.StaysTexts.{StayAlike, stays_text_same}
 use Rattle.j39_check.specs.PlanText.{Describes, IsRefusalLine, fault_line}
 use Rattle.j39_stream.specs.declared.verdict.Verdict.TheVariants.{Done, Findings, Refused, Unreadable}
 use Rattle.j39_check.specs.CheckText.{HasOneRefusal, HasOneReport, IsNotRefused, IsReport, findings_text}
 use Rattle.j39_check.specs.LoadLines.{loads_text}
 use Rattle.j39_check.specs.ShowText.{HasOneShowReport}
-use Rattle.j39_check.specs.LoadText.{HasOneLoadReport, IsLoadReport, TellsLoads, load_verdict, tells_times, untold_text}
+use Rattle.j39_check.specs.LoadText.{HasOneLoadReport, IsLoadReport, WritesLoads, load_verdict, shows_times, untold_text}
 use Rattle.j39_stream.specs.declared.verdict.Verdict.{Verdict}
 
 -- what is wrong with what a plan asks of its bus is one
@@ -54,7 +55,7 @@ one_report plan text other Refused another_verdict is another = absurd is
 one_report plan text other Unreadable another_verdict is another = absurd is
 
 -- what two trees are refused for that are one
-one_fault : {X : Type 0} (faults_of : X → List Fault) (s t : X) (f g : Fault) → s ≡ t → first (faults_of s) ≡ Some f
+one_fault : {X : Type 0} (faults_of : X → List PlanFault) (s t : X) (f g : PlanFault) → s ≡ t → first (faults_of s) ≡ Some f
     → first (faults_of t) ≡ Some g → f ≡ g
 one_fault faults_of s t f g same is another = same_Some _ _ (sym is ∙ (ap (λ x. first (faults_of x)) same ∙ another))
 
@@ -76,10 +77,10 @@ pub one_refusal : (bytes : List ℕ) → HasOneRefusal bytes
 one_refusal bytes text other is another = refused_once bytes is.0 another.0 text other is.1 is.2 another.1 another.2
 
 -- a tree without faults isn't refused
-none_refused : {X : Type 0} (faults_of : X → List Fault) (s t : X) (f : Fault) → s ≡ t → faults_of s ≡ [] → first (faults_of t) ≡ Some f → ⊥
+none_refused : {X : Type 0} (faults_of : X → List PlanFault) (s t : X) (f : PlanFault) → s ≡ t → faults_of s ≡ [] → first (faults_of t) ≡ Some f → ⊥
 none_refused faults_of s t f same clean told =
     let here : faults_of t ≡ [] = ap faults_of (sym same) ∙ clean in
-    let none : first [] ≡ Some f = subst (λ (fs : List Fault). first fs ≡ Some f) here told in
+    let none : first [] ≡ Some f = subst (λ (fs : List PlanFault). first fs ≡ Some f) here told in
     cc none
 
 described_only : (bytes : List ℕ) (plan : Plan) (e : PlanError) (text : List ℕ)
@@ -97,7 +98,7 @@ not_refused bytes plan text described refused = described_only bytes plan refuse
 
 -- each unit, as the two tell of it
 told_same : (stays other : UnitPlan → Bool) (units : List UnitPlan)
-    → ((u : ℕ) (unit : UnitPlan) → slice_get units u ≡ Some unit → stays unit ≡ other unit) → AllZip (IsToldAlike stays other) units units
+    → ((u : ℕ) (unit : UnitPlan) → slice_get units u ≡ Some unit → stays unit ≡ other unit) → AllZip (StayAlike stays other) units units
 told_same stays other [] same = tt
 told_same stays other (unit ∷ units) same = (
   record { label = refl; address = refl; standing = sym (same zero unit refl) },
@@ -136,8 +137,8 @@ module _ (plan : Plan) (timing : Timing) (stays other : UnitPlan → Bool) (dela
   abbrev ends_by : (UnitPlan → Bool) → List (Option Delay) → Verdict
   ends_by who ds = load_verdict (found plan) (findings_by (asked_of timing plan who) ds)
 
-  one_told : TellsLoads plan timing stays delays text verdict → TellsLoads plan timing other others more another → (text ≡ more) × (verdict ≡ another)
-  one_told is are = elim (cases_Bool (tells_times (found plan))) [
+  one_told : WritesLoads plan timing stays delays text verdict → WritesLoads plan timing other others more another → (text ≡ more) × (verdict ≡ another)
+  one_told is are = elim (cases_Bool (shows_times (found plan))) [
     | inl shown ↦
         let first : (text ≡ loads_and_rest stays delays) × (verdict ≡ ends_by stays delays) = rw shown at is in
         let second : (more ≡ loads_and_rest other others) × (another ≡ ends_by other others) = rw shown at are in (

@@ -5,7 +5,7 @@ use Rattle.std.specs.List.{AllZip, slice_get}
 use Rattle.std.proofs.lemmas.Bool.{false≢true}
 use Rattle.j39_findings.specs.Findings.{Holds}
 use Rattle.j39_findings.specs.Found.{found}
-use Rattle.j39_network.specs.Kinds.{AreToldApart, MayHaveName}
+use Rattle.j39_network.specs.Kinds.{AreDistinctUnits, MayHaveName}
 use Rattle.j39_network.specs.VehiclePlans.{IsBoxOf, IsVehicleOf}
 use Rattle.j39_findings.specs.declared.checking.finding.Finding.{Finding}
 use Rattle.j39_network.specs.declared.plan.Plan.{Plan}
@@ -13,20 +13,20 @@ use Rattle.j39_network.specs.declared.plan.timing.Timing.{Timing}
 use Rattle.j39_network.specs.declared.plan.unit_plan.UnitPlan.{UnitPlan}
 use Rattle.j39_findings.proofs.FoundLaws.{are_findings}
 use Rattle.j39_findings.proofs.Vehicles.{clean_vehicle, found_alike}
-use Rattle.j39_load.specs.declared.delay.Delay.{Delay}
-use Rattle.j39_load.specs.declared.load_finding.LoadFinding.{LoadFinding}
+use Rattle.j39_load.specs.declared.waits.delay.Delay.{Delay}
+use Rattle.j39_load.specs.declared.findings.load_finding.LoadFinding.{LoadFinding}
 use Rattle.j39_load.specs.Asked.{Asked, asked_of, total_load}
-use Rattle.j39_load.specs.LoadFindings.{AreLoadFindings, all_findings}
+use Rattle.j39_load.specs.LoadFindings.{all_findings}
 use Rattle.j39_load.proofs.Vehicles.{asks_alike, loads_alike, same_findings}
 use Rattle.j39_stream.specs.declared.verdict.Verdict.{Verdict}
 use Rattle.j39_stream.specs.declared.verdict.Verdict.TheVariants.{Done, Findings, Refused, Unreadable}
-use Rattle.j39_check.specs.AddressesText.{IsAddressesReport, StayingHolds, is_of_addresses}
+use Rattle.j39_check.specs.AddressesText.{IsAddressesReport, StayingHolds}
 use Rattle.j39_check.specs.Certified.{IsCertified}
 use Rattle.j39_check.specs.CheckText.{IsReport, findings_text}
 use Rattle.j39_check.specs.LoadLines.{loads_text}
-use Rattle.j39_check.specs.LoadText.{IsLoadReport, TellsLoads, load_verdict, tells_times, untold_text}
+use Rattle.j39_check.specs.LoadText.{IsLoadReport, WritesLoads, load_verdict, shows_times, untold_text}
 use Rattle.j39_check.specs.VehicleReports.{AreReportedAlike}
-use Rattle.j39_check.proofs.StaysTexts.{IsToldAlike, stays_text_same}
+use Rattle.j39_check.proofs.StaysTexts.{StayAlike, stays_text_same}
 use Rattle.j39_check.proofs.VehicleTexts.{findings_text_same, loads_text_same, ok_line_same, untold_text_same}
 
 -- ---- a vehicle of a vehicle is one of its type
@@ -73,7 +73,7 @@ vehicle_of_vehicle plan vehicle other first second = record {
 -- of each box the same is told as of its unit
 told_alike_each : (stays told : UnitPlan → Bool) (units boxes : List UnitPlan) → AllZip IsBoxOf units boxes
     → ((u : ℕ) (unit box : UnitPlan) → slice_get units u ≡ Some unit → slice_get boxes u ≡ Some box → told box ≡ stays unit)
-    → AllZip (IsToldAlike stays told) units boxes
+    → AllZip (StayAlike stays told) units boxes
 told_alike_each stays told [] [] all same = tt
 told_alike_each stays told [] (box ∷ boxes) all same = absurd all
 told_alike_each stays told (unit ∷ units) [] all same = absurd all
@@ -82,7 +82,7 @@ told_alike_each stays told (unit ∷ units) (box ∷ boxes) all same = (
   told_alike_each stays told units boxes all.1 (λ u. same (suc u)),
 )
 
-module _ (plan vehicle : Plan) (is : IsVehicleOf plan vehicle) (apart : AreToldApart plan) where
+module _ (plan vehicle : Plan) (is : IsVehicleOf plan vehicle) (apart : AreDistinctUnits plan) where
   found_is : found vehicle ≡ found plan
   found_is = (found_alike plan vehicle is apart).findings
 
@@ -174,8 +174,8 @@ module _ (plan vehicle : Plan) (is : IsVehicleOf plan vehicle) (apart : AreToldA
         × (verdict ≡ load_verdict (found vehicle) (others_by vehicle (asked_of timing vehicle told))))
         (IsReport vehicle text verdict)
 
-    told_alike : TellsLoads plan timing stays delays text verdict → TellsLoads vehicle timing told delays text verdict
-    told_alike tells = subst (λ (all : List Finding). Told (tells_times all)) (sym found_is) (over (tells_times (found plan)) tells)
+    told_alike : WritesLoads plan timing stays delays text verdict → WritesLoads vehicle timing told delays text verdict
+    told_alike tells = subst (λ (all : List Finding). Told (shows_times all)) (sym found_is) (over (shows_times (found plan)) tells)
       where
         over : (shown : Bool)
             → MatchBool shown
@@ -186,7 +186,8 @@ module _ (plan vehicle : Plan) (is : IsVehicleOf plan vehicle) (apart : AreToldA
         over true (lines, ends) = (lines ∙ text_same, ends ∙ verdict_same)
         over false report = check_alike text verdict report
 
-  load_of_timing : (timing : Option Timing) (text : List ℕ) (verdict : Verdict) → IsLoadReport plan timing text verdict → IsLoadReport vehicle timing text verdict
+  load_of_timing : (timing : Option Timing) (text : List ℕ) (verdict : Verdict) → IsLoadReport plan timing text verdict
+      → IsLoadReport vehicle timing text verdict
   load_of_timing None text verdict report = report
   load_of_timing (Some timing) text verdict (stays, delays, asks, tells) =
       let there = (loads_alike plan vehicle is apart).standing stays asks.standing in

@@ -1,21 +1,20 @@
 -- The texts of the plan of each vehicle are those of the plan: no line has a NAME.
-use Rattle.std.proofs.Common.{◌≡◌, ℕ, ◌+◌, codes, length, List, [], ◌∷◌, ◌++◌, Option, Some, None, refl, sym, ap, ◌∙◌}
+use Rattle.std.proofs.Common.{◌≡◌, ℕ, ◌+◌, codes, List, [], ◌∷◌, ◌++◌, Option, Some, None, refl, ap, ◌∙◌}
 use Rattle.std.proofs.lemmas.Slice.Zip.{AllZip-long}
 use Rattle.std.specs.List.{slice_get}
 use Rattle.std.specs.Option.{option_map_or}
-use Rattle.j39_signal.specs.Parts.{SignalParts}
 use Rattle.j39_findings.specs.ConflictRuns.{conflict_run}
-use Rattle.j39_findings.specs.Found.{is_unmet}
 use Rattle.j39_network.specs.VehiclePlans.{IsBoxOf, IsVehicleOf}
 use Rattle.j39_findings.specs.declared.checking.finding.Finding.{Finding}
-use Rattle.j39_findings.specs.declared.checking.finding.Finding.TheVariants.{SameName, SameFixedAddress, TooFewAddresses, BadPgn, SamePgn, SignalWidth, SignalOutside, SignalOverlap, FlowToOne, FlowToSelf, FlowRepeated, KeptAddress, PrivateUnsent, RecordOverlap, TextOutside, NeedUnmet}
-use Rattle.j39_findings.specs.declared.checking.finding.Finding.TheVariants.{RequestUnanswered, RequestUnheard, AnswerAstray, WhenOutside, RequestRepeated, SilentAddress, SilentInPool, FlowContested}
+use Rattle.j39_findings.specs.declared.checking.finding.Finding.TheVariants.{SameName, SameFixedAddress, TooFewAddresses, BadPgn, SamePgn, SignalWidth}
+use Rattle.j39_findings.specs.declared.checking.finding.Finding.TheVariants.{SignalOutside, SignalOverlap, FlowToOne, FlowToSelf, FlowRepeated, KeptAddress}
+use Rattle.j39_findings.specs.declared.checking.finding.Finding.TheVariants.{PrivateUnsent, RecordOverlap, TextOutside, NeedUnmet}
+use Rattle.j39_findings.specs.declared.checking.finding.Finding.TheVariants.{RequestUnanswered, RequestUnheard, AnswerAstray, WhenOutside, RequestRepeated}
+use Rattle.j39_findings.specs.declared.checking.finding.Finding.TheVariants.{SilentAddress, SilentInPool, FlowContested}
 use Rattle.j39_network.specs.declared.plan.Plan.{Plan}
 use Rattle.j39_network.specs.declared.plan.flow_plan.FlowPlan.{FlowPlan}
 use Rattle.j39_network.specs.declared.plan.group_plan.GroupPlan.{GroupPlan}
 use Rattle.j39_network.specs.declared.plan.need_plan.NeedPlan.{NeedPlan}
-use Rattle.j39_network.specs.declared.plan.request_plan.RequestPlan.{RequestPlan}
-use Rattle.j39_network.specs.declared.plan.text_plan.TextPlan.{TextPlan}
 use Rattle.j39_network.specs.declared.plan.timing.Bitrate.{Bitrate}
 use Rattle.j39_network.specs.declared.plan.timing.Timing.{Timing}
 use Rattle.j39_network.specs.declared.plan.to.To.{To}
@@ -24,19 +23,19 @@ use Rattle.j39_network.specs.declared.plan.unit_plan.UnitPlan.{UnitPlan}
 use Rattle.j39_network.specs.declared.steps.Step.{Step}
 use Rattle.j39_network.specs.declared.steps.Step.TheVariants.{Up, Down, Give, Ask, Begin, Send, Emit, Take, Lose, LateSender, LateReceiver, Rest}
 use Rattle.j39_network.proofs.VehicleUnits.{AreBoth, both_at}
-use Rattle.j39_load.specs.declared.delay.Delay.{Delay}
-use Rattle.j39_load.specs.declared.flow_load.FlowLoad.{FlowLoad}
-use Rattle.j39_load.specs.declared.load_finding.LoadFinding.{LoadFinding}
-use Rattle.j39_load.specs.Ages.{least_age}
+use Rattle.j39_load.specs.declared.waits.delay.Delay.{Delay}
+use Rattle.j39_load.specs.declared.loads.flow_load.FlowLoad.{FlowLoad}
+use Rattle.j39_load.specs.declared.findings.load_finding.LoadFinding.{LoadFinding}
 use Rattle.j39_load.specs.Asked.{Asked}
 use Rattle.j39_load.specs.LineLists.{lines_of_each}
 use Rattle.j39_load.specs.Loads.{bits_of_ms}
 use Rattle.j39_schedule.specs.StepLines.{step_line, step_lines, step_text, step_unit_text}
-use Rattle.j39_text.specs.Labels.{group_label, group_pgn, group_selector_end, group_text, signal_bits, signal_end, signal_label, signals_of, text_end, text_label, texts_of, unit_address, unit_label, units_text}
-use Rattle.j39_text.specs.Texts.{field}
+use Rattle.j39_text.specs.Labels.{group_label, group_pgn, group_selector_end, group_text, need_signal_text, need_text, signal_bits, signal_end, signal_label}
+use Rattle.j39_text.specs.Labels.{signals_of, text_end, text_label, texts_of, unit_address, unit_label, units_text}
 use Rattle.j39_check.specs.CheckText.{findings_text, ok_line}
-use Rattle.j39_check.specs.FindingLines.{finding_line, finding_lines, finding_part, finding_report, finding_text, run_lines, signal_text}
-use Rattle.j39_check.specs.LoadLines.{age_text, flow_line, flow_text, known_age_text, loads_text, need_line, need_signal_text, need_text, receiver_text}
+use Rattle.j39_check.specs.FindingLines.{finding_line, finding_lines, finding_part, finding_report, finding_text, run_lines, signal_text, address_of_unit_text}
+use Rattle.j39_check.specs.FindingLines.{address_of_units_text, group_number_text, signal_number_text, signals_text}
+use Rattle.j39_check.specs.LoadLines.{flow_line, flow_text, known_age_text, loads_text, need_line, receiver_text}
 use Rattle.j39_check.specs.LoadText.{untold_lines, untold_text}
 
 -- the lines of each are those of two ways of telling that tell the same
@@ -127,31 +126,51 @@ module _ (plan vehicle : Plan) (is : IsVehicleOf plan vehicle) where
   unfolding signal_text
   signal_text_same word g s = rw (group_label_same g, signal_label_same g s) refl
 
+  address_of_unit_same : (word : List ℕ) (u : ℕ) → address_of_unit_text word vehicle u ≡ address_of_unit_text word plan u
+  unfolding address_of_unit_text
+  address_of_unit_same word u = rw (unit_label_same u, unit_address_same u) refl
+
+  address_of_units_same : (word : List ℕ) (u v : ℕ) → address_of_units_text word vehicle u v ≡ address_of_units_text word plan u v
+  unfolding address_of_units_text
+  address_of_units_same word u v = rw (units_text_same word u v, unit_address_same u) refl
+
+  group_number_same : (word : List ℕ) (g n : ℕ) → group_number_text word vehicle g n ≡ group_number_text word plan g n
+  unfolding group_number_text
+  group_number_same word g n = rw (group_text_same word g) refl
+
+  signal_number_same : (word : List ℕ) (g s n : ℕ) → signal_number_text word vehicle g s n ≡ signal_number_text word plan g s n
+  unfolding signal_number_text
+  signal_number_same word g s n = rw (signal_text_same word g s) refl
+
+  signals_text_same : (word : List ℕ) (g s t : ℕ) → signals_text word vehicle g s t ≡ signals_text word plan g s t
+  unfolding signals_text
+  signals_text_same word g s t = rw (signal_text_same word g s, signal_label_same g t) refl
+
   finding_text_same : (finding : Finding) → finding_text vehicle finding ≡ finding_text plan finding
   unfolding finding_text
   finding_text_same (SameName i j) = units_text_same (codes "F1 SameName ") i j
-  finding_text_same (SameFixedAddress i j) = rw (units_text_same (codes "F2 SameFixedAddress ") i j, unit_address_same i) refl
+  finding_text_same (SameFixedAddress i j) = address_of_units_same (codes "F2 SameFixedAddress ") i j
   finding_text_same (TooFewAddresses n) = refl
-  finding_text_same (BadPgn g) = rw (group_text_same (codes "F4 BadPgn ") g, group_pgn_same g) refl
+  finding_text_same (BadPgn g) = rw (group_pgn_same g) (group_number_same (codes "F4 BadPgn ") g (group_pgn plan g))
   finding_text_same (SamePgn g h) = rw (group_text_same (codes "F5 SamePgn ") g, group_text_same (codes " ") h, group_pgn_same g) refl
-  finding_text_same (SignalWidth g s) = rw (signal_text_same (codes "F6 SignalWidth ") g s, signal_bits_same g s) refl
-  finding_text_same (SignalOutside g s) = rw (signal_text_same (codes "F7 SignalOutside ") g s, signal_end_same g s) refl
-  finding_text_same (SignalOverlap g s t) = rw (signal_text_same (codes "F8 SignalOverlap ") g s, signal_label_same g t) refl
+  finding_text_same (SignalWidth g s) = rw (signal_bits_same g s) (signal_number_same (codes "F6 SignalWidth ") g s (signal_bits plan g s))
+  finding_text_same (SignalOutside g s) = rw (signal_end_same g s) (signal_number_same (codes "F7 SignalOutside ") g s (signal_end plan g s))
+  finding_text_same (SignalOverlap g s t) = signals_text_same (codes "F8 SignalOverlap ") g s t
   finding_text_same (FlowToOne f) = refl
   finding_text_same (FlowToSelf f) = refl
   finding_text_same (FlowRepeated f h) = refl
-  finding_text_same (KeptAddress i) = rw (unit_label_same i, unit_address_same i) refl
+  finding_text_same (KeptAddress i) = address_of_unit_same (codes "F12 KeptAddress ") i
   finding_text_same (PrivateUnsent g) = group_text_same (codes "F13 PrivateUnsent ") g
-  finding_text_same (RecordOverlap g s t) = rw (signal_text_same (codes "F14 RecordOverlap ") g s, signal_label_same g t) refl
+  finding_text_same (RecordOverlap g s t) = signals_text_same (codes "F14 RecordOverlap ") g s t
   finding_text_same (TextOutside g t) = rw (group_text_same (codes "F15 TextOutside ") g, text_label_same g t, text_end_same g t) refl
   finding_text_same (NeedUnmet n) = refl
   finding_text_same (RequestUnanswered r) = refl
   finding_text_same (RequestUnheard r) = refl
   finding_text_same (AnswerAstray r) = refl
-  finding_text_same (WhenOutside g) = rw (group_text_same (codes "F24 WhenOutside ") g, selector_end_same g) refl
+  finding_text_same (WhenOutside g) = rw (selector_end_same g) (group_number_same (codes "F24 WhenOutside ") g (group_selector_end plan g))
   finding_text_same (RequestRepeated r s) = refl
-  finding_text_same (SilentAddress u v) = rw (units_text_same (codes "F26 SilentAddress ") u v, unit_address_same u) refl
-  finding_text_same (SilentInPool u) = rw (unit_label_same u, unit_address_same u) refl
+  finding_text_same (SilentAddress u v) = address_of_units_same (codes "F26 SilentAddress ") u v
+  finding_text_same (SilentInPool u) = address_of_unit_same (codes "F27 SilentInPool ") u
   finding_text_same (FlowContested f) = refl
 
   step_unit_same : (word : List ℕ) (u : ℕ) → step_unit_text word vehicle u ≡ step_unit_text word plan u
@@ -251,7 +270,8 @@ module _ (plan vehicle : Plan) (is : IsVehicleOf plan vehicle) where
     go None = refl
     go (Some ms) = rw (need_text_same place need, age_same timing delays need (bits_of_ms timing ms)) refl
 
-  pub loads_text_same : (timing : Timing) (asked : Asked) (delays : List (Option Delay)) → loads_text vehicle timing asked delays ≡ loads_text plan timing asked delays
+  pub loads_text_same : (timing : Timing) (asked : Asked) (delays : List (Option Delay))
+      → loads_text vehicle timing asked delays ≡ loads_text plan timing asked delays
   unfolding loads_text
   loads_text_same timing asked delays =
       let flows = ap (lines_of_each (flow_line vehicle timing.bitrate asked.flows delays) 0) is.flows

@@ -3,9 +3,10 @@ use Rattle.std.specs.Prelude.{◌≡◌, ◌<◌, ℕ, Bool, true, false, List, 
 use Rattle.j39_network.specs.declared.plan.Plan.{Plan}
 use Rattle.j39_network.specs.declared.plan.unit_plan.UnitPlan.{UnitPlan}
 use Rattle.j39_findings.specs.declared.checking.finding.Finding.{Finding}
-use Rattle.j39_findings.specs.declared.checking.finding.Finding.TheVariants.{SameName, SameFixedAddress, TooFewAddresses, KeptAddress, SilentAddress, SilentInPool}
+use Rattle.j39_findings.specs.declared.checking.finding.Finding.TheVariants.{SameName, SameFixedAddress, TooFewAddresses, KeptAddress, SilentAddress}
+use Rattle.j39_findings.specs.declared.checking.finding.Finding.TheVariants.{SilentInPool}
 use Rattle.j39_findings.specs.Findings.{Holds}
-use Rattle.j39_findings.specs.Standing.{TellsWhoStays}
+use Rattle.j39_findings.specs.Standing.{DecidesWhoStays}
 use Rattle.j39_network.specs.PlannedUnits.{units_of}
 use Rattle.j39_world.specs.SoundPlan.{Always, AlwaysBeside}
 use Rattle.j39_network.specs.Staying.{StaysBeside}
@@ -56,7 +57,7 @@ stays_text stays units =
 -- what is written for a plan, with the verdict: where nothing is wrong with NAMEs and addresses who stays, else what check writes
 abbrev pub IsAddressesReport : Plan → List ℕ → Verdict → Type 0
 IsAddressesReport plan text Done = ((finding : Finding) → is_of_addresses finding ≡ true → ¬ Holds plan finding)
-    × StayingHolds plan × (stays : UnitPlan → Bool) × TellsWhoStays plan stays × (text ≡ stays_text stays plan.units.items)
+    × StayingHolds plan × (stays : UnitPlan → Bool) × DecidesWhoStays plan stays × (text ≡ stays_text stays plan.units.items)
 IsAddressesReport plan text Findings =
     ((finding : Finding) × (is_of_addresses finding ≡ true) × Holds plan finding) × IsReport plan text Findings
 IsAddressesReport plan text Refused = ⊥

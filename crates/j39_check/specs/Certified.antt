@@ -6,8 +6,9 @@ use Rattle.j39_network.specs.VehiclePlans.{IsVehicleOf}
 use Rattle.j39_network.specs.declared.plan.Plan.{Plan}
 use Rattle.j39_network.specs.declared.plan.timing.Timing.{Timing}
 use Rattle.j39_load.specs.FreshNeeds.{AreNeedsFresh}
-use Rattle.j39_load.specs.KeepsErrors.{AreInTimeWithErrors}
+use Rattle.j39_load.specs.KeepsErrors.{AreInTimeWithErrors, AreInTimeWithErrorsInAnyOrder}
 use Rattle.j39_load.specs.KeepsPlan.{AreFramesInTime}
+use Rattle.j39_load.specs.KeptReceivers.{AreNotGivenUp}
 use Rattle.j39_load.specs.PlannedFrames.{ArePlannedFramesInTime}
 use Rattle.j39_load.specs.ReadInTime.{AreNeedsRead}
 use Rattle.j39_load.specs.ValuesInTime.{AreValuesInTime}
@@ -24,10 +25,13 @@ pub record IsSoundInTime (plan : Plan) : Type 0 where
   -- and where the frames of this flow carry bytes that were written signal after signal, each signal reads as it was written in those that
   -- were received last, which are no older than that
   pub read : (timing : Timing) → plan.timing ≡ Some timing → AreNeedsRead plan timing
-  -- in the plan's own words: on every bus that keeps to it each frame is sent in time, also where frames are damaged, and each value that is
-  -- needed arrives within its age
+  -- in the plan's own words: on every bus that keeps to it each frame that is a whole message is sent in time, also where frames are damaged, and
+  -- each value that is needed arrives within its age
   pub kept : (timing : Timing) → plan.timing ≡ Some timing → AreFramesInTime plan timing
   pub damaged : (timing : Timing) → plan.timing ≡ Some timing → AreInTimeWithErrors plan timing
+  pub damaged_in_any_order : (timing : Timing) → plan.timing ≡ Some timing → AreInTimeWithErrorsInAnyOrder plan timing
+  -- nor does a receiver give up a long message to all that has a deadline
+  pub receivers : (timing : Timing) → plan.timing ≡ Some timing → AreNotGivenUp plan timing
   pub values : (timing : Timing) → plan.timing ≡ Some timing → AreValuesInTime plan timing
 
 pub record IsCertified (plan : Plan) : Type 0 where

@@ -4,7 +4,7 @@ use Rattle.j39_network.specs.declared.plan.Plan.{Plan}
 use Rattle.j39_findings.specs.declared.checking.finding.Finding.{Finding}
 use Rattle.j39_findings.specs.Findings.{Clean}
 use Rattle.j39_findings.specs.Found.{found}
-use Rattle.j39_load.specs.declared.load_finding.LoadFinding.{LoadFinding}
+use Rattle.j39_load.specs.declared.findings.load_finding.LoadFinding.{LoadFinding}
 use Rattle.j39_load.specs.LoadFindings.{AreLoadFindings}
 use Rattle.j39_check.specs.Certified.{IsCertified}
 use Rattle.j39_check.specs.FindingLines.{finding_lines}

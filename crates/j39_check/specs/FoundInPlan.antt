@@ -5,7 +5,7 @@ use Rattle.j39_findings.specs.Found.{found}
 use Rattle.j39_findings.specs.declared.checking.finding.Finding.{Finding}
 use Rattle.j39_network.specs.declared.plan.Plan.{Plan}
 use Rattle.j39_load.specs.LoadFindings.{AreLoadFindings, load_finding_number}
-use Rattle.j39_load.specs.declared.load_finding.LoadFinding.{LoadFinding}
+use Rattle.j39_load.specs.declared.findings.load_finding.LoadFinding.{LoadFinding}
 use Rattle.j39_check.specs.declared.plan_findings.PlanFindings.{PlanFindings}
 
 -- these are the findings of a plan

@@ -6,22 +6,22 @@ use Rattle.j39_network.specs.declared.plan.Plan.{Plan}
 use Rattle.j39_network.specs.declared.plan.flow_plan.FlowPlan.{FlowPlan}
 use Rattle.j39_network.specs.declared.plan.need_plan.NeedPlan.{NeedPlan}
 use Rattle.j39_network.specs.declared.plan.timing.Bitrate.{Bitrate}
-use Rattle.j39_network.specs.declared.plan.timing.Bitrate.TheVariants.{Kbit125, Kbit250, Kbit500, Mbit1}
 use Rattle.j39_network.specs.declared.plan.timing.Timing.{Timing}
 use Rattle.j39_network.specs.declared.plan.to.To.{To}
 use Rattle.j39_network.specs.declared.plan.to.To.TheVariants.{All, One}
-use Rattle.j39_load.specs.declared.delay.Delay.{Delay}
-use Rattle.j39_load.specs.declared.delay.Delay.TheVariants.{Within, Late, Long, Whole}
-use Rattle.j39_load.specs.declared.flow_load.FlowLoad.{FlowLoad}
-use Rattle.j39_load.specs.declared.load_finding.LoadFinding.{LoadFinding}
-use Rattle.j39_load.specs.declared.load_finding.LoadFinding.TheVariants.{NoPeriod, Overload, LateFlow, NeedTooOld}
+use Rattle.j39_load.specs.declared.waits.delay.Delay.{Delay}
+use Rattle.j39_load.specs.declared.waits.delay.Delay.TheVariants.{Within, Late, Long, Whole}
+use Rattle.j39_load.specs.declared.loads.flow_load.FlowLoad.{FlowLoad}
+use Rattle.j39_load.specs.declared.findings.load_finding.LoadFinding.{LoadFinding}
+use Rattle.j39_load.specs.declared.findings.load_finding.LoadFinding.TheVariants.{NoPeriod, Overload, LateFlow, NeedTooOld}
 use Rattle.j39_load.specs.Ages.{least_age}
 use Rattle.j39_load.specs.Asked.{Asked, total_load}
 use Rattle.j39_load.specs.LoadFindings.{load_finding_number}
 use Rattle.j39_load.specs.Loads.{bits_of_ms, bits_of_second}
+use Rattle.j39_load.specs.SentFrames.{bit_time}
 use Rattle.j39_load.specs.LineLists.{lines_of_each}
 use Rattle.j39_check.specs.FindingLines.{is_between}
-use Rattle.j39_text.specs.Labels.{group_label, signal_label, unit_label}
+use Rattle.j39_text.specs.Labels.{group_label, need_text, unit_label}
 use Rattle.j39_text.specs.Texts.{field, place_field}
 
 -- ---- findings
@@ -45,16 +45,9 @@ load_finding_lines from below = lines_of_each (λ _. load_finding_part from belo
 
 -- ---- delays
 
--- how long a bit takes
-abbrev pub bit_microseconds : Bitrate → ℕ
-bit_microseconds Kbit125 = 8
-bit_microseconds Kbit250 = 4
-bit_microseconds Kbit500 = 2
-bit_microseconds Mbit1 = 1
-
 -- so many bits, in microseconds
 unfoldable pub microseconds_field : List ℕ → Bitrate → ℕ → List ℕ
-microseconds_field word bitrate bits = field word (bits * bit_microseconds bitrate)
+microseconds_field word bitrate bits = field word (bits * bit_time bitrate)
 
 -- with their unit
 unfoldable pub time_text : List ℕ → Bitrate → ℕ → List ℕ
@@ -103,15 +96,6 @@ flow_line plan bitrate loads delays place flow = flow_text plan place flow
     ++ (known_delay_text bitrate (slice_index_or loads place None) (slice_index_or delays place None) ++ 10 ∷ [])
 
 -- ---- needs
-
--- the signal that a need names, if it names one
-unfoldable pub need_signal_text : Plan → NeedPlan → List ℕ
-need_signal_text plan need = option_map_or (λ s. codes " " ++ signal_label plan need.group s) need.signal []
-
--- a need: its place, its unit, its group, and its signal where it names one
-unfoldable pub need_text : Plan → ℕ → NeedPlan → List ℕ
-need_text plan place need = place_field (codes "need ") place ++ (codes " " ++ (unit_label plan need.unit
-    ++ (codes " " ++ (group_label plan need.group ++ need_signal_text plan need))))
 
 -- how old what is needed is at most, of a limit in bits; or that it isn't shown to be within it
 unfoldable pub age_text : Bitrate → ℕ → Option ℕ → List ℕ

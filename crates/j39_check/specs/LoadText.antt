@@ -8,8 +8,8 @@ use Rattle.j39_network.specs.declared.plan.timing.Timing.{Timing}
 use Rattle.j39_network.specs.declared.plan.unit_plan.UnitPlan.{UnitPlan}
 use Rattle.j39_findings.specs.Findings.{finding_number}
 use Rattle.j39_findings.specs.Found.{found}
-use Rattle.j39_load.specs.declared.delay.Delay.{Delay}
-use Rattle.j39_load.specs.declared.load_finding.LoadFinding.{LoadFinding}
+use Rattle.j39_load.specs.declared.waits.delay.Delay.{Delay}
+use Rattle.j39_load.specs.declared.findings.load_finding.LoadFinding.{LoadFinding}
 use Rattle.j39_load.specs.Asked.{asked_of, total_load}
 use Rattle.j39_load.specs.LoadFindings.{AsksOfBus, all_findings, load_finding_number}
 use Rattle.j39_check.specs.CheckText.{IsReport}
@@ -25,8 +25,8 @@ abbrev pub hides_times : ℕ → Bool
 hides_times number = is_between 1 6 number || (is_between 9 13 number || is_between 26 29 number)
 
 -- none of these does
-abbrev pub tells_times : List Finding → Bool
-tells_times findings = list_all (λ finding. not (hides_times (finding_number finding))) findings
+abbrev pub shows_times : List Finding → Bool
+shows_times findings = list_all (λ finding. not (hides_times (finding_number finding))) findings
 
 -- those of which the lines of the load don't tell: of a bus that is too full, of late flows and of old needs they do
 abbrev pub is_untold : LoadFinding → Bool
@@ -55,11 +55,11 @@ load_verdict findings others = if length findings + length others == 0 then Done
 
 -- what is written for a plan of which this is asked of its bus, with the verdict: the loads, and behind them the findings of which they don't
 -- tell; or what check writes, where no times are told
-abbrev pub TellsLoads : Plan → Timing → (UnitPlan → Bool) → List (Option Delay) → List ℕ → Verdict → Type 0
-TellsLoads plan timing stays delays text verdict =
+abbrev pub WritesLoads : Plan → Timing → (UnitPlan → Bool) → List (Option Delay) → List ℕ → Verdict → Type 0
+WritesLoads plan timing stays delays text verdict =
     let asked = asked_of timing plan stays in
     let others = all_findings plan timing (total_load timing asked) delays in
-    MatchBool (tells_times (found plan))
+    MatchBool (shows_times (found plan))
     ((text ≡ loads_text plan timing asked delays ++ untold_text plan (found plan) others) × (verdict ≡ load_verdict (found plan) others))
     (IsReport plan text verdict)
 
@@ -67,7 +67,7 @@ TellsLoads plan timing stays delays text verdict =
 abbrev pub IsLoadReport : Plan → Option Timing → List ℕ → Verdict → Type 0
 IsLoadReport plan None text verdict = (text ≡ codes "refused plan NoTiming\n") × (verdict ≡ Refused)
 IsLoadReport plan (Some timing) text verdict = (stays : UnitPlan → Bool) × (delays : List (Option Delay))
-    × AsksOfBus plan timing stays delays × TellsLoads plan timing stays delays text verdict
+    × AsksOfBus plan timing stays delays × WritesLoads plan timing stays delays text verdict
 
 -- what is written for a file
 abbrev pub IsLoadText : List ℕ → List ℕ → Verdict → Type 0

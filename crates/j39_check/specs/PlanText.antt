@@ -1,14 +1,16 @@
 -- What is written of a plan file: nothing of one that describes a plan, else why it is refused.
 use Rattle.std.specs.Prelude.{◌≡◌, ◌⊎◌, ℕ, List, [], ◌∷◌, ◌++◌, codes, Option, Some, None, Ok, Err}
 use Rattle.j39_network.specs.declared.plan.Plan.{Plan}
-use Rattle.j39_plan.specs.declared.reading.fault.Fault.{Fault}
+use Rattle.j39_plan.specs.PlanErrors.{PlanFault, PlanError}
 use Rattle.j39_plan.specs.declared.reading.key.Key.{Key}
 use Rattle.j39_plan.specs.declared.reading.place.Table.{Table}
-use Rattle.j39_plan.specs.declared.reading.place.Table.TheVariants.{Top, Timing, TimingErrors, Unit as AUnit, UnitName, Group, GroupWhen, Signal, Text, Flow, Need, Request}
-use Rattle.j39_plan.specs.declared.reading.plan_error.PlanError.{PlanError}
-use Rattle.j39_plan.specs.declared.reading.plan_error.PlanError.TheVariants as errors
-use Rattle.j39_plan.specs.Words.{word_of, cause_word}
-use Rattle.j39_plan.specs.Described.{Reads, tree_of}
+use Rattle.j39_plan.specs.declared.reading.place.Table.TheVariants.{Top, Timing, TimingErrors, Unit as AUnit, UnitName, Group, GroupWhen, Signal, Text, Flow}
+use Rattle.j39_plan.specs.declared.reading.place.Table.TheVariants.{Need, Request}
+use Rattle.j39_tables.specs.declared.file_error.FileError.TheVariants as errors
+use Rattle.j39_plan.specs.Words.{word_of}
+use Rattle.j39_tables.specs.CauseWords.{cause_word}
+use Rattle.j39_plan.specs.Described.{Reads}
+use Rattle.j39_tables.specs.FileTrees.{tree_of}
 use Rattle.j39_stream.specs.declared.verdict.Verdict.{Verdict}
 use Rattle.j39_stream.specs.declared.verdict.Verdict.TheVariants.{Unreadable}
 use Rattle.j39_text.specs.Texts.{place_field}
@@ -33,7 +35,7 @@ unfoldable pub key_text : Option Key → List ℕ
 key_text None = []
 key_text (Some key) = codes " key " ++ word_of key
 
-unfoldable pub fault_line : Fault → List ℕ
+unfoldable pub fault_line : PlanFault → List ℕ
 fault_line fault =
     codes "refused " ++ (cause_word fault.cause ++ (codes " " ++ (table_text fault.place.table ++ (key_text fault.place.key ++ 10 ∷ []))))
 

@@ -23,8 +23,6 @@ use Rattle.j39_network.specs.declared.plan.queue.Queue.{Queue}
 use Rattle.j39_network.specs.declared.plan.queue.Queue.TheVariants as queues
 use Rattle.j39_network.specs.declared.plan.request_plan.RequestPlan.{RequestPlan}
 use Rattle.j39_network.specs.declared.plan.text_plan.TextPlan.{TextPlan}
-use Rattle.j39_network.specs.declared.plan.timing.Bitrate.{Bitrate}
-use Rattle.j39_network.specs.declared.plan.timing.Bitrate.TheVariants.{Kbit125, Kbit250, Kbit500, Mbit1}
 use Rattle.j39_network.specs.declared.plan.timing.ErrorRate.{ErrorRate}
 use Rattle.j39_network.specs.declared.plan.timing.Timing.{Timing}
 use Rattle.j39_network.specs.declared.plan.to.To.{To}
@@ -42,6 +40,7 @@ use Rattle.j39_text.specs.Labels.{group_label, signal_label, unit_label}
 use Rattle.j39_stream.specs.declared.verdict.Verdict.{Verdict}
 use Rattle.j39_stream.specs.declared.verdict.Verdict.TheVariants.{Done, Findings, Refused, Unreadable}
 use Rattle.j39_check.specs.PlanText.{IsReportedText, table_text}
+use Rattle.j39_load.specs.Loads.{bits_of_second}
 
 -- ---- a value
 
@@ -77,12 +76,6 @@ unfoldable pub kept_lines : FinSet nat_cmp → ℕ → List ℕ
 kept_lines kept zero = []
 kept_lines kept (suc n) = kept_lines kept n ++ kept_line kept (128 + n)
 
-abbrev pub bits_a_second : Bitrate → ℕ
-bits_a_second Kbit125 = 125000
-bits_a_second Kbit250 = 250000
-bits_a_second Kbit500 = 500000
-bits_a_second Mbit1 = 1000000
-
 unfoldable pub error_lines : Option ErrorRate → List ℕ
 error_lines None = []
 error_lines (Some errors) =
@@ -90,7 +83,7 @@ error_lines (Some errors) =
 
 unfoldable pub known_timing_lines : Timing → List ℕ
 known_timing_lines t =
-    value_line at.Timing key.Bitrate (decimal (bits_a_second t.bitrate)) ++ (value_line at.Timing key.Unplanned (decimal t.unplanned)
+    value_line at.Timing key.Bitrate (decimal (bits_of_second t.bitrate)) ++ (value_line at.Timing key.Unplanned (decimal t.unplanned)
     ++ (value_line at.Timing key.UnplannedPriority (decimal t.unplanned_priority)
     ++ (value_line at.Timing key.TransportPriority (decimal t.transport_priority)
     ++ (value_line at.Timing key.BroadcastGap (decimal t.broadcast_gap) ++ (value_line at.Timing key.BroadcastGapMost (decimal t.broadcast_gap_most)

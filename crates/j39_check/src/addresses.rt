@@ -3,7 +3,7 @@ ghost use Rattle.j39_check.specs.AddressesText.{IsAddressesText};
 ghost use Rattle.j39_stream.specs.CommandEnds.{AnswersWhole, IsOfAny};
 ghost use Rattle.j39_stream.specs.Streams.{plan_limits};
 
-use crate::report_text::{Report, report_text};
+use crate::report_text::{PlanReport, report_text};
 use crate::stays_report::stays_report;
 use j39_network::Plan;
 use j39_stream::{Fault, Sink, Source, Verdict};
@@ -13,7 +13,7 @@ use std::alloc::{AllocError, Global};
 // What is reported of the addresses of a plan.
 struct AddressesReport;
 
-impl Report for AddressesReport {
+impl PlanReport for AddressesReport {
     ghost use Rattle.j39_check.specs.AddressesText.{IsAddressesReport};
 
     ghost says = { IsAddressesReport };
@@ -23,8 +23,8 @@ impl Report for AddressesReport {
     }
 }
 
-/// Writes which units of the plan that a file describes hold their planned addresses whatever happens, and which may move; of a plan
-/// whose NAMEs or addresses have findings, what `check_text` writes; or why the file describes no plan.
+/// Writes which units of the plan that a file describes hold their planned addresses whatever happens, and which may
+/// move; of a plan whose NAMEs or addresses have findings, what `check_text` writes; or why the file describes no plan.
 pub fn addresses_text<S: Source, W: Sink>(
     alloc: Global,
     source: &mut S,

@@ -4,7 +4,7 @@ ghost use Rattle.j39_stream.specs.CommandEnds.{AnswersWhole, IsOfAny};
 ghost use Rattle.j39_stream.specs.Streams.{plan_limits};
 
 use crate::plan_report::report;
-use crate::report_text::{Report, report_text};
+use crate::report_text::{PlanReport, report_text};
 use j39_network::Plan;
 use j39_stream::{Fault, Sink, Source, Verdict};
 use j39_text::TextBuffer;
@@ -13,7 +13,7 @@ use std::alloc::{AllocError, Global};
 // What is reported of everything that is wrong with a plan.
 struct CheckReport;
 
-impl Report for CheckReport {
+impl PlanReport for CheckReport {
     ghost use Rattle.j39_check.specs.CheckText.{IsReport};
 
     ghost says = { IsReport };
@@ -23,7 +23,8 @@ impl Report for CheckReport {
     }
 }
 
-/// Writes everything that is wrong with the plan that a file describes, or that nothing is, or why the file describes none.
+/// Writes everything that is wrong with the plan that a file describes, or that nothing is, or why the file describes
+/// none.
 pub fn check_text<S: Source, W: Sink>(
     alloc: Global,
     source: &mut S,

@@ -1,8 +1,10 @@
 //! The lines of findings.
 ghost use Rattle.std.specs.Prelude.{◌≡◌, ◌++◌, OnOk};
-ghost use Rattle.j39_findings.specs.declared.checking.finding.Finding.TheVariants.{SameFixedAddress, BadPgn, SamePgn, SignalWidth, SignalOutside, SignalOverlap, FlowRepeated, KeptAddress, RecordOverlap, TextOutside, WhenOutside, RequestRepeated};
-ghost use Rattle.j39_findings.specs.declared.checking.finding.Finding.TheVariants.{SilentAddress, SilentInPool};
-ghost use Rattle.j39_check.specs.FindingLines.{finding_line, finding_lines, finding_part, finding_report, finding_text, is_between, run_lines, signal_text};
+ghost use Rattle.j39_findings.specs.declared.checking.finding.Finding.TheVariants.{SamePgn, TextOutside};
+ghost use Rattle.j39_check.specs.FindingLines.{address_of_unit_text, address_of_units_text, finding_line};
+ghost use Rattle.j39_check.specs.FindingLines.{finding_lines, finding_part, finding_report, finding_text};
+ghost use Rattle.j39_check.specs.FindingLines.{group_number_text, is_between, places_text, run_lines};
+ghost use Rattle.j39_check.specs.FindingLines.{signal_number_text, signal_text, signals_text};
 
 use j39_findings::{Finding, bad_run};
 use j39_network::Plan;
@@ -29,25 +31,96 @@ fn write_signal(
     text.word(signal_label(plan, group, signal))
 }
 
-#[tactic(auto, unfolding(crate::specs::FindingLines::finding_text))]
-fn write_same_fixed_address(
+// A word, two places.
+#[tactic(auto, unfolding(crate::specs::FindingLines::places_text))]
+fn write_places(
     text: &mut TextBuffer,
+    word: &str,
+    first: usize,
+    second: usize,
+) -> Result<(), AllocError>
+    ensures { OnOk result (text.new ≡ text.old ++ places_text word.now first second) }
+{
+    text.place(word, first)?;
+    text.place(" ", second)
+}
+
+// A word, a unit and its address.
+#[tactic(auto, unfolding(crate::specs::FindingLines::address_of_unit_text))]
+fn write_address_of_unit(
+    text: &mut TextBuffer,
+    word: &str,
+    plan: &Plan,
+    unit: usize,
+) -> Result<(), AllocError>
+    ensures { OnOk result (text.new ≡ text.old ++ address_of_unit_text word.now plan.now unit) }
+{
+    text.word(word)?;
+    text.word(unit_label(plan, unit))?;
+    text.field(" ", unit_address(plan, unit))
+}
+
+// A word, two units and the address of the first.
+#[tactic(auto, unfolding(crate::specs::FindingLines::address_of_units_text))]
+fn write_address_of_units(
+    text: &mut TextBuffer,
+    word: &str,
     plan: &Plan,
     first: usize,
     second: usize,
 ) -> Result<(), AllocError>
-    ensures { OnOk result (text.new ≡ text.old ++ finding_text plan.now (SameFixedAddress first second)) }
+    ensures { OnOk result (text.new ≡ text.old ++ address_of_units_text word.now plan.now first second) }
 {
-    write_units(text, "F2 SameFixedAddress ", plan, first, second)?;
+    write_units(text, word, plan, first, second)?;
     text.field(" ", unit_address(plan, first))
 }
 
-#[tactic(auto, unfolding(crate::specs::FindingLines::finding_text))]
-fn write_bad_pgn(text: &mut TextBuffer, plan: &Plan, group: usize) -> Result<(), AllocError>
-    ensures { OnOk result (text.new ≡ text.old ++ finding_text plan.now (BadPgn group)) }
+// A word, a group and a number of it.
+#[tactic(auto, unfolding(crate::specs::FindingLines::group_number_text))]
+fn write_group_number(
+    text: &mut TextBuffer,
+    word: &str,
+    plan: &Plan,
+    group: usize,
+    number: u32,
+) -> Result<(), AllocError>
+    ensures { OnOk result (text.new ≡ text.old ++ group_number_text word.now plan.now group number) }
 {
-    write_group(text, "F4 BadPgn ", plan, group)?;
-    text.field(" ", group_pgn(plan, group))
+    write_group(text, word, plan, group)?;
+    text.field(" ", number)
+}
+
+// A word, a signal and a number of it.
+#[tactic(auto, unfolding(crate::specs::FindingLines::signal_number_text))]
+fn write_signal_number(
+    text: &mut TextBuffer,
+    word: &str,
+    plan: &Plan,
+    group: usize,
+    signal: usize,
+    number: u32,
+) -> Result<(), AllocError>
+    ensures { OnOk result (text.new ≡ text.old ++ signal_number_text word.now plan.now group signal number) }
+{
+    write_signal(text, word, plan, group, signal)?;
+    text.field(" ", number)
+}
+
+// A word, and two signals of a group.
+#[tactic(auto, unfolding(crate::specs::FindingLines::signals_text))]
+fn write_signals(
+    text: &mut TextBuffer,
+    word: &str,
+    plan: &Plan,
+    group: usize,
+    first: usize,
+    second: usize,
+) -> Result<(), AllocError>
+    ensures { OnOk result (text.new ≡ text.old ++ signals_text word.now plan.now group first second) }
+{
+    write_signal(text, word, plan, group, first)?;
+    text.word(" ")?;
+    text.word(signal_label(plan, group, second))
 }
 
 #[tactic(auto, unfolding(crate::specs::FindingLines::finding_text))]
@@ -62,84 +135,6 @@ fn write_same_pgn(
     write_group(text, "F5 SamePgn ", plan, first)?;
     write_group(text, " ", plan, second)?;
     text.field(" ", group_pgn(plan, first))
-}
-
-#[tactic(auto, unfolding(crate::specs::FindingLines::finding_text))]
-fn write_signal_width(
-    text: &mut TextBuffer,
-    plan: &Plan,
-    group: usize,
-    signal: usize,
-) -> Result<(), AllocError>
-    ensures { OnOk result (text.new ≡ text.old ++ finding_text plan.now (SignalWidth group signal)) }
-{
-    write_signal(text, "F6 SignalWidth ", plan, group, signal)?;
-    text.field(" ", signal_bits(plan, group, signal))
-}
-
-#[tactic(auto, unfolding(crate::specs::FindingLines::finding_text))]
-fn write_signal_outside(
-    text: &mut TextBuffer,
-    plan: &Plan,
-    group: usize,
-    signal: usize,
-) -> Result<(), AllocError>
-    ensures { OnOk result (text.new ≡ text.old ++ finding_text plan.now (SignalOutside group signal)) }
-{
-    write_signal(text, "F7 SignalOutside ", plan, group, signal)?;
-    text.field(" ", signal_end(plan, group, signal))
-}
-
-#[tactic(auto, unfolding(crate::specs::FindingLines::finding_text))]
-fn write_signal_overlap(
-    text: &mut TextBuffer,
-    plan: &Plan,
-    group: usize,
-    first: usize,
-    second: usize,
-) -> Result<(), AllocError>
-    ensures { OnOk result (text.new ≡ text.old ++ finding_text plan.now (SignalOverlap group first second)) }
-{
-    write_signal(text, "F8 SignalOverlap ", plan, group, first)?;
-    text.word(" ")?;
-    text.word(signal_label(plan, group, second))
-}
-
-#[tactic(auto, unfolding(crate::specs::FindingLines::finding_text))]
-fn write_flow_repeated(
-    text: &mut TextBuffer,
-    plan: &Plan,
-    first: usize,
-    second: usize,
-) -> Result<(), AllocError>
-    ensures { OnOk result (text.new ≡ text.old ++ finding_text plan.now (FlowRepeated first second)) }
-{
-    text.place("F11 FlowRepeated ", first)?;
-    text.place(" ", second)
-}
-
-#[tactic(auto, unfolding(crate::specs::FindingLines::finding_text))]
-fn write_kept_address(text: &mut TextBuffer, plan: &Plan, unit: usize) -> Result<(), AllocError>
-    ensures { OnOk result (text.new ≡ text.old ++ finding_text plan.now (KeptAddress unit)) }
-{
-    text.word("F12 KeptAddress ")?;
-    text.word(unit_label(plan, unit))?;
-    text.field(" ", unit_address(plan, unit))
-}
-
-#[tactic(auto, unfolding(crate::specs::FindingLines::finding_text))]
-fn write_record_overlap(
-    text: &mut TextBuffer,
-    plan: &Plan,
-    group: usize,
-    first: usize,
-    second: usize,
-) -> Result<(), AllocError>
-    ensures { OnOk result (text.new ≡ text.old ++ finding_text plan.now (RecordOverlap group first second)) }
-{
-    write_signal(text, "F14 RecordOverlap ", plan, group, first)?;
-    text.word(" ")?;
-    text.word(signal_label(plan, group, second))
 }
 
 #[tactic(auto, unfolding(crate::specs::FindingLines::finding_text))]
@@ -158,76 +153,65 @@ fn write_text_outside(
 }
 
 #[tactic(auto, unfolding(crate::specs::FindingLines::finding_text))]
-fn write_when_outside(text: &mut TextBuffer, plan: &Plan, group: usize) -> Result<(), AllocError>
-    ensures { OnOk result (text.new ≡ text.old ++ finding_text plan.now (WhenOutside group)) }
-{
-    write_group(text, "F24 WhenOutside ", plan, group)?;
-    text.field(" ", group_selector_end(plan, group))
-}
-
-#[tactic(auto, unfolding(crate::specs::FindingLines::finding_text))]
-fn write_request_repeated(
-    text: &mut TextBuffer,
-    plan: &Plan,
-    first: usize,
-    second: usize,
-) -> Result<(), AllocError>
-    ensures { OnOk result (text.new ≡ text.old ++ finding_text plan.now (RequestRepeated first second)) }
-{
-    text.place("F25 RequestRepeated ", first)?;
-    text.place(" ", second)
-}
-
-#[tactic(auto, unfolding(crate::specs::FindingLines::finding_text))]
-fn write_silent_address(
-    text: &mut TextBuffer,
-    plan: &Plan,
-    first: usize,
-    second: usize,
-) -> Result<(), AllocError>
-    ensures { OnOk result (text.new ≡ text.old ++ finding_text plan.now (SilentAddress first second)) }
-{
-    write_units(text, "F26 SilentAddress ", plan, first, second)?;
-    text.field(" ", unit_address(plan, first))
-}
-
-#[tactic(auto, unfolding(crate::specs::FindingLines::finding_text))]
-fn write_silent_in_pool(text: &mut TextBuffer, plan: &Plan, unit: usize) -> Result<(), AllocError>
-    ensures { OnOk result (text.new ≡ text.old ++ finding_text plan.now (SilentInPool unit)) }
-{
-    text.word("F27 SilentInPool ")?;
-    text.word(unit_label(plan, unit))?;
-    text.field(" ", unit_address(plan, unit))
-}
-
-#[tactic(auto, unfolding(crate::specs::FindingLines::finding_text))]
 fn write_finding(text: &mut TextBuffer, plan: &Plan, finding: Finding) -> Result<(), AllocError>
     ensures { OnOk result (text.new ≡ text.old ++ finding_text plan.now finding) }
 {
     match finding {
         Finding::SameName(i, j) => write_units(text, "F1 SameName ", plan, i, j),
-        Finding::SameFixedAddress(i, j) => write_same_fixed_address(text, plan, i, j),
+        Finding::SameFixedAddress(i, j) => write_address_of_units(
+            text,
+            "F2 SameFixedAddress ",
+            plan,
+            i,
+            j,
+        ),
         Finding::TooFewAddresses(count) => text.field("F3 TooFewAddresses ", count),
-        Finding::BadPgn(g) => write_bad_pgn(text, plan, g),
+        Finding::BadPgn(g) => write_group_number(text, "F4 BadPgn ", plan, g, group_pgn(plan, g)),
         Finding::SamePgn(g, h) => write_same_pgn(text, plan, g, h),
-        Finding::SignalWidth(g, s) => write_signal_width(text, plan, g, s),
-        Finding::SignalOutside(g, s) => write_signal_outside(text, plan, g, s),
-        Finding::SignalOverlap(g, s, t) => write_signal_overlap(text, plan, g, s, t),
+        Finding::SignalWidth(g, s) => write_signal_number(
+            text,
+            "F6 SignalWidth ",
+            plan,
+            g,
+            s,
+            u32::from(signal_bits(plan, g, s)),
+        ),
+        Finding::SignalOutside(g, s) => write_signal_number(
+            text,
+            "F7 SignalOutside ",
+            plan,
+            g,
+            s,
+            signal_end(plan, g, s),
+        ),
+        Finding::SignalOverlap(g, s, t) => write_signals(text, "F8 SignalOverlap ", plan, g, s, t),
         Finding::FlowToOne(f) => text.place("F9 FlowToOne ", f),
         Finding::FlowToSelf(f) => text.place("F10 FlowToSelf ", f),
-        Finding::FlowRepeated(f, h) => write_flow_repeated(text, plan, f, h),
-        Finding::KeptAddress(i) => write_kept_address(text, plan, i),
+        Finding::FlowRepeated(f, h) => write_places(text, "F11 FlowRepeated ", f, h),
+        Finding::KeptAddress(i) => write_address_of_unit(text, "F12 KeptAddress ", plan, i),
         Finding::PrivateUnsent(g) => write_group(text, "F13 PrivateUnsent ", plan, g),
-        Finding::RecordOverlap(g, s, t) => write_record_overlap(text, plan, g, s, t),
+        Finding::RecordOverlap(g, s, t) => write_signals(text, "F14 RecordOverlap ", plan, g, s, t),
         Finding::TextOutside(g, t) => write_text_outside(text, plan, g, t),
         Finding::NeedUnmet(n) => text.place("F19 NeedUnmet ", n),
         Finding::RequestUnanswered(r) => text.place("F21 RequestUnanswered ", r),
         Finding::RequestUnheard(r) => text.place("F22 RequestUnheard ", r),
         Finding::AnswerAstray(r) => text.place("F23 AnswerAstray ", r),
-        Finding::WhenOutside(g) => write_when_outside(text, plan, g),
-        Finding::RequestRepeated(r, s) => write_request_repeated(text, plan, r, s),
-        Finding::SilentAddress(u, v) => write_silent_address(text, plan, u, v),
-        Finding::SilentInPool(u) => write_silent_in_pool(text, plan, u),
+        Finding::WhenOutside(g) => write_group_number(
+            text,
+            "F24 WhenOutside ",
+            plan,
+            g,
+            group_selector_end(plan, g),
+        ),
+        Finding::RequestRepeated(r, s) => write_places(text, "F25 RequestRepeated ", r, s),
+        Finding::SilentAddress(u, v) => write_address_of_units(
+            text,
+            "F26 SilentAddress ",
+            plan,
+            u,
+            v,
+        ),
+        Finding::SilentInPool(u) => write_address_of_unit(text, "F27 SilentInPool ", plan, u),
         Finding::FlowContested(f) => text.place("F28 FlowContested ", f),
     }
 }
@@ -295,7 +279,8 @@ fn write_part(
     }
 }
 
-/// Writes a line for each finding whose number is between these, and behind that of a conflict the steps of the run that shows it.
+/// Writes a line for each finding whose number is between these, and behind that of a conflict the steps of the run
+/// that shows it.
 pub(super) fn write_lines(
     alloc: Global,
     text: &mut TextBuffer,

@@ -1,6 +1,6 @@
 //! The laws of what check, addresses, load and show write.
 ghost use Rattle.std.specs.Prelude.{ℕ, List};
-ghost use Rattle.j39_network.specs.Kinds.{AreToldApart};
+ghost use Rattle.j39_network.specs.Kinds.{AreDistinctUnits};
 ghost use Rattle.j39_network.specs.VehiclePlans.{IsVehicleOf};
 ghost use Rattle.j39_network.specs.declared.plan.Plan.{Plan};
 ghost use Rattle.j39_check.specs.AddressesText.{HasOneAddressesReport};
@@ -12,7 +12,8 @@ ghost use Rattle.j39_check.specs.VehicleReports.{AreReportedAlike};
 
 use j39_laws::{who_stays, who_stays_with_strangers};
 
-/// A plan has one text of check, with one verdict; so has a file that is refused, and no file that describes a plan is refused.
+/// A plan has one text of check, with one verdict; so has a file that is refused, and no file that describes a plan is
+/// refused.
 pub fn check_has_one_text()
     ensures report { (plan : Plan) → HasOneReport plan }
     ensures refusal { (bytes : List ℕ) → HasOneRefusal bytes }
@@ -34,22 +35,22 @@ pub fn show_has_one_text()
     ensures { (plan : Plan) → HasOneShowReport plan }
 {}
 
-/// The lines that are written below a finding are a schedule of the run that shows its conflict, and there are none below a
-/// finding that tells of no conflict.
+/// The lines that are written below a finding are a schedule of the run that shows its conflict, and there are none
+/// below a finding that tells of no conflict.
 pub fn written_runs_read_back()
     ensures { RunReadsBack }
 {}
 
-/// Below each finding of two fixed units that have one address and can't be one stands a schedule that can be run, and whoever
-/// runs it meets no refusal and leaves the unit of the larger NAME on and without an address.
+/// Below each finding of two fixed units that have one address and can't be one stands a schedule that can be run, and
+/// whoever runs it meets no refusal and leaves the unit of the larger NAME on and without an address.
 pub fn written_runs_show_the_conflict()
     ensures { RunShowsConflict }
 {}
 
-/// What check, addresses and load write of a plan they write of the plan of each vehicle, whatever the serial numbers of its boxes are, where no
-/// two units of the plan may be one: also of one with other findings.
+/// What check, addresses and load write of a plan they write of the plan of each vehicle, whatever the serial numbers
+/// of its boxes are, where no two units of the plan may be one: also of one with other findings.
 pub fn serial_numbers_change_no_text()
-    ensures { (plan vehicle : Plan) → IsVehicleOf plan vehicle → AreToldApart plan → AreReportedAlike plan vehicle }
+    ensures { (plan vehicle : Plan) → IsVehicleOf plan vehicle → AreDistinctUnits plan → AreReportedAlike plan vehicle }
 {
     who_stays();
     who_stays_with_strangers();

@@ -4,7 +4,7 @@ ghost use Rattle.j39_stream.specs.CommandEnds.{AnswersWhole, IsOfAny};
 ghost use Rattle.j39_stream.specs.Streams.{plan_limits};
 
 use crate::load_report::load_report;
-use crate::report_text::{Report, report_text};
+use crate::report_text::{PlanReport, report_text};
 use j39_network::Plan;
 use j39_stream::{Fault, Sink, Source, Verdict};
 use j39_text::TextBuffer;
@@ -13,7 +13,7 @@ use std::alloc::{AllocError, Global};
 // What is reported of the load of a plan.
 struct LoadReport;
 
-impl Report for LoadReport {
+impl PlanReport for LoadReport {
     ghost use Rattle.j39_check.specs.LoadText.{IsLoadReport};
 
     ghost says = { λ plan. IsLoadReport plan plan.timing };
@@ -23,8 +23,9 @@ impl Report for LoadReport {
     }
 }
 
-/// Writes of each flow of the plan that a file describes how long its frames wait at most, that they aren't shown to be in time, or that it
-/// has no period, how much of the bus all flows take, and the findings of which these lines say nothing; where a finding hides the times, what
+/// Writes of each flow of the plan that a file describes how long its frames wait at most, that they aren't shown to be
+/// in time, or that it has no period, how much of the bus all flows take, and the findings of which these lines say
+/// nothing; where a finding hides the times, what
 /// `check_text` writes; that nothing is known of its bus; or why the file describes no plan.
 pub fn load_text<S: Source, W: Sink>(
     alloc: Global,

@@ -1,17 +1,21 @@
 //! The lines of what a plan asks of its bus.
 ghost use Rattle.std.specs.Prelude.{◌≡◌, ◌+◌, ◌*◌, ◌++◌, ◌<◌, ◌^◌, length, OnOk};
-ghost use Rattle.j39_check.specs.LoadLines.{age_text, bit_microseconds, delay_text, flow_line, flow_text, known_age_text, known_delay_text, limited_text};
-ghost use Rattle.j39_check.specs.LoadLines.{load_finding_line, load_finding_lines, load_finding_part, load_finding_text, load_line, loads_text};
-ghost use Rattle.j39_check.specs.LoadLines.{microseconds_field, need_line, need_signal_text, need_text, receiver_text, time_text, whole_text, within_text};
-ghost use Rattle.j39_load.specs.Asked.{asked_by};
+ghost use Rattle.j39_check.specs.LoadLines.{age_text, delay_text, flow_line, flow_text};
+ghost use Rattle.j39_check.specs.LoadLines.{known_age_text, known_delay_text, limited_text};
+ghost use Rattle.j39_check.specs.LoadLines.{load_finding_line, load_finding_lines, load_finding_part};
+ghost use Rattle.j39_check.specs.LoadLines.{load_finding_text, load_line, loads_text};
+ghost use Rattle.j39_check.specs.LoadLines.{microseconds_field, need_line, receiver_text, time_text, whole_text};
+ghost use Rattle.j39_check.specs.LoadLines.{within_text};
+ghost use Rattle.j39_load.specs.AskedLoads.{asked_in};
 ghost use Rattle.j39_load.specs.LineLists.{lines_of_each};
+ghost use Rattle.j39_load.specs.SentFrames.{bit_time};
 
 use crate::finding_lines::is_between;
 use j39_load::{
     Delay, FlowLoad, LoadFinding, Loads, WholeTime, bits_of_ms, bits_of_second, least_age,
 };
 use j39_network::{Bitrate, FlowPlan, NeedPlan, Plan, Timing, To, is_met};
-use j39_text::{TextBuffer, group_label, signal_label, unit_label};
+use j39_text::{TextBuffer, group_label, unit_label, write_need};
 use std::alloc::AllocError;
 
 #[tactic(auto, unfolding(crate::specs::LoadLines::load_finding_text))]
@@ -67,8 +71,8 @@ pub(super) fn write_load_findings(
     Ok(())
 }
 
-fn bit_microseconds(bitrate: Bitrate) -> u64
-    ensures { result ≡ bit_microseconds bitrate }
+fn bit_time(bitrate: Bitrate) -> u64
+    ensures { result ≡ bit_time bitrate }
 {
     match bitrate {
         Bitrate::Kbit125 => 8,
@@ -87,10 +91,7 @@ fn write_microseconds(
 ) -> Result<(), AllocError>
     ensures { OnOk result (text.new ≡ text.old ++ microseconds_field word.now bitrate bits) }
 {
-    text.field(
-        word,
-        u128::from(bits) * u128::from(bit_microseconds(bitrate)),
-    )
+    text.field(word, u128::from(bits) * u128::from(bit_time(bitrate)))
 }
 
 #[tactic(auto, unfolding(crate::specs::LoadLines::time_text))]
@@ -224,7 +225,8 @@ fn write_flow_line(
 ) -> Result<(), AllocError>
     requires loads { place < length loads.now.flows.items }
     requires delays { place < length delays.now }
-    ensures { OnOk result (text.new ≡ text.old ++ flow_line plan.now loads.now.timing.bitrate loads.now.flows.items delays.now place flow.now) }
+    ensures { OnOk result (text.new ≡ text.old
+        ++ flow_line plan.now loads.now.timing.bitrate loads.now.flows.items delays.now place flow.now) }
 {
     write_flow(text, plan, place, flow)?;
     write_known_delay(
@@ -252,36 +254,6 @@ fn write_flows(
         write_flow_line(text, plan, loads, delays, place, flow)?;
     }
     Ok(())
-}
-
-#[tactic(auto, unfolding(crate::specs::LoadLines::need_signal_text))]
-fn write_need_signal(text: &mut TextBuffer, plan: &Plan, need: &NeedPlan) -> Result<(), AllocError>
-    ensures { OnOk result (text.new ≡ text.old ++ need_signal_text plan.now need.now) }
-{
-    match need.signal {
-        Some(signal) => {
-            text.word(" ")?;
-            text.word(signal_label(plan, need.group, signal))
-        }
-        None => Ok(()),
-    }
-}
-
-#[tactic(auto, unfolding(crate::specs::LoadLines::need_text))]
-fn write_need(
-    text: &mut TextBuffer,
-    plan: &Plan,
-    place: usize,
-    need: &NeedPlan,
-) -> Result<(), AllocError>
-    ensures { OnOk result (text.new ≡ text.old ++ need_text plan.now place need.now) }
-{
-    text.place("need ", place)?;
-    text.word(" ")?;
-    text.word(unit_label(plan, need.unit))?;
-    text.word(" ")?;
-    text.word(group_label(plan, need.group))?;
-    write_need_signal(text, plan, need)
 }
 
 #[tactic(auto, unfolding(crate::specs::LoadLines::age_text))]
@@ -345,7 +317,8 @@ fn write_needs(
     delays: &[Option<Delay>],
 ) -> Result<(), AllocError>
     requires { length delays.now ≡ length plan.now.flows.items }
-    ensures { OnOk result (text.new ≡ text.old ++ lines_of_each (need_line plan.now timing delays.now) 0 plan.now.needs.items) }
+    ensures { OnOk result (text.new ≡ text.old
+        ++ lines_of_each (need_line plan.now timing delays.now) 0 plan.now.needs.items) }
 {
     for (place, need) in plan.needs.iter().enumerate() {
         write_need_line(text, plan, timing, delays, place, need)?;
@@ -356,8 +329,7 @@ fn write_needs(
 /// Writes how much of the bus all flows take.
 #[tactic(auto, unfolding(crate::specs::LoadLines::load_line))]
 pub fn write_load(text: &mut TextBuffer, loads: &Loads) -> Result<(), AllocError>
-    ensures { OnOk result (text.new ≡ text.old ++ load_line loads.now.timing
-        (asked_by loads.now.flows.items loads.now.units.items loads.now.requests.items)) }
+    ensures { OnOk result (text.new ≡ text.old ++ load_line loads.now.timing (asked_in loads.now)) }
 {
     text.field("load ", loads.total())?;
     text.field(" of ", bits_of_second(loads.timing.bitrate))?;
@@ -374,8 +346,8 @@ pub(super) fn write_loads(
 ) -> Result<(), AllocError>
     requires loads { length loads.now.flows.items ≡ length plan.now.flows.items }
     requires delays { length delays.now ≡ length plan.now.flows.items }
-    ensures { OnOk result (text.new ≡ text.old ++ loads_text plan.now loads.now.timing
-        (asked_by loads.now.flows.items loads.now.units.items loads.now.requests.items) delays.now) }
+    ensures { OnOk result (text.new ≡ text.old
+        ++ loads_text plan.now loads.now.timing (asked_in loads.now) delays.now) }
 {
     write_flows(text, plan, loads, delays)?;
     write_needs(text, plan, loads.timing, delays)?;

@@ -1,12 +1,13 @@
 //! What is written of what a plan asks of its bus.
 ghost use Rattle.std.specs.Prelude.{◌≡◌, ◌+◌, ◌++◌, ◌≤◌, IfOk, OnOk, count_by, length};
-ghost use Rattle.j39_check.specs.LoadText.{IsLoadReport, hides_times, is_untold, load_verdict, tells_times, untold_count, untold_lines, untold_text};
+ghost use Rattle.j39_check.specs.LoadText.{IsLoadReport, hides_times, is_untold, load_verdict, shows_times};
+ghost use Rattle.j39_check.specs.LoadText.{untold_count, untold_lines, untold_text};
 
 use crate::finding_lines::{is_between, write_lines};
 use crate::load_lines::{write_load_findings, write_loads};
 use crate::plan_report::write_findings;
 use j39_findings::{Finding, check};
-use j39_load::{LoadFinding, Loads, all_findings};
+use j39_load::{LoadAnswer, LoadFinding};
 use j39_network::Plan;
 use j39_stream::Verdict;
 use j39_text::TextBuffer;
@@ -20,8 +21,8 @@ fn hides_times(number: u8) -> bool
 }
 
 // Whether there is none of these.
-fn tells_times(findings: &[Finding]) -> bool
-    ensures { result ≡ tells_times findings.now }
+fn shows_times(findings: &[Finding]) -> bool
+    ensures { result ≡ shows_times findings.now }
 {
     findings
         .iter()
@@ -107,15 +108,14 @@ pub(super) fn load_report(alloc: Global, plan: &Plan) -> Result<(TextBuffer, Ver
         text.word("refused plan NoTiming\n")?;
         return Ok((text, Verdict::Refused));
     };
-    let loads = Loads::new(alloc, timing, plan)?;
-    let delays = loads.delays(alloc)?;
-    let others = all_findings(alloc, plan, timing, loads.total(), delays.as_slice())?;
+    let answer = LoadAnswer::new(alloc, timing, plan)?;
+    let others = answer.findings.as_slice();
     let findings = check(alloc, plan)?;
-    if tells_times(&findings) {
-        write_loads(&mut text, plan, &loads, delays.as_slice())?;
-        write_untold(alloc, &mut text, plan, &findings, others.as_slice())?;
-        return Ok((text, verdict_of(&findings, others.as_slice())));
+    if shows_times(&findings) {
+        write_loads(&mut text, plan, &answer.loads, answer.delays.as_slice())?;
+        write_untold(alloc, &mut text, plan, &findings, others)?;
+        return Ok((text, verdict_of(&findings, others)));
     }
-    write_findings(alloc, &mut text, plan, &findings, others.as_slice())?;
+    write_findings(alloc, &mut text, plan, &findings, others)?;
     Ok((text, Verdict::Findings))
 }

@@ -30,7 +30,7 @@ pub fn plan_text<S: Source, W: Sink>(
     sink: &mut W,
 ) -> Result<Option<Plan>, Fault>
     ensures answers { AnswersWhole IsPlanText IsRefusedText plan_limits (S.state source.old) (S.state source.new) W.state sink.old sink.new result }
-    ensures silent { IfOk result (λ plan. OnSome plan (sink.new ≡ sink.old)) }
+    ensures writes_nothing { IfOk result (λ plan. OnSome plan (sink.new ≡ sink.old)) }
 {
     let input = read_whole(alloc, source)?;
     match read_plan(alloc, input.as_slice()) {

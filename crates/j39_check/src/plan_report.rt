@@ -51,7 +51,8 @@ pub fn write_check(
     found: &PlanFindings,
 ) -> Result<Verdict, AllocError>
     requires { ArePlanFindings plan.now found.now }
-    ensures { IfOk result (λ verdict. (report : List ℕ) × IsReport plan.now report verdict × (text.new ≡ text.old ++ report)) }
+    ensures { IfOk result (λ verdict. (report : List ℕ) × IsReport plan.now report verdict
+        × (text.new ≡ text.old ++ report)) }
 {
     if found.findings.is_empty() && found.others.is_empty() {
         clean_where_none();

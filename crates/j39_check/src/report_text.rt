@@ -10,7 +10,7 @@ use j39_text::TextBuffer;
 use std::alloc::{AllocError, Global};
 
 /// What is reported of a plan.
-pub(crate) trait Report {
+pub(crate) trait PlanReport {
     ghost use Rattle.std.specs.Prelude.{ℕ, List, IfOk};
     ghost use Rattle.j39_network.specs.declared.plan.Plan.{Plan as APlan};
     ghost use Rattle.j39_stream.specs.declared.verdict.Verdict.{Verdict as AVerdict};
@@ -23,7 +23,7 @@ pub(crate) trait Report {
 }
 
 // Writes the report of a plan.
-fn put_report<R: Report, W: Sink>(
+fn put_report<R: PlanReport, W: Sink>(
     alloc: Global,
     report: &R,
     plan: Plan,
@@ -37,7 +37,7 @@ fn put_report<R: Report, W: Sink>(
 }
 
 /// Writes the report of the plan that a file describes, or why the file describes none.
-pub(crate) fn report_text<R: Report, S: Source, W: Sink>(
+pub(crate) fn report_text<R: PlanReport, S: Source, W: Sink>(
     alloc: Global,
     report: &R,
     source: &mut S,

@@ -3,7 +3,7 @@ ghost use Rattle.j39_check.specs.ShowText.{IsShowText};
 ghost use Rattle.j39_stream.specs.CommandEnds.{AnswersWhole, IsOfAny};
 ghost use Rattle.j39_stream.specs.Streams.{plan_limits};
 
-use crate::report_text::{Report, report_text};
+use crate::report_text::{PlanReport, report_text};
 use crate::show_lines::write_plan;
 use j39_network::Plan;
 use j39_stream::{Fault, Sink, Source, Verdict};
@@ -13,7 +13,7 @@ use std::alloc::{AllocError, Global};
 // What is shown of a plan.
 struct ShowReport;
 
-impl Report for ShowReport {
+impl PlanReport for ShowReport {
     ghost use Rattle.j39_check.specs.ShowText.{IsShowReport};
 
     ghost says = { IsShowReport };
@@ -25,8 +25,8 @@ impl Report for ShowReport {
     }
 }
 
-/// Writes each value of the plan that a file describes, those too that the file leaves to their defaults, one a line, whatever is wrong with
-/// the plan; or why the file describes none.
+/// Writes each value of the plan that a file describes, those too that the file leaves to their defaults, one a line,
+/// whatever is wrong with the plan; or why the file describes none.
 pub fn show_text<S: Source, W: Sink>(
     alloc: Global,
     source: &mut S,

@@ -1,6 +1,7 @@
 //! The lines of the values of a plan.
 ghost use Rattle.std.specs.Prelude.{◌≡◌, ◌<◌, ◌++◌, OnOk};
-ghost use Rattle.j39_check.specs.ShowText.{bits_a_second, error_lines, kept_line, kept_lines, known_timing_lines, show_text, timing_lines, top_lines};
+ghost use Rattle.j39_check.specs.ShowText.{error_lines, kept_line, kept_lines, known_timing_lines};
+ghost use Rattle.j39_check.specs.ShowText.{show_text, timing_lines, top_lines};
 
 mod flows;
 mod groups;
@@ -11,7 +12,8 @@ use flows::{write_flows, write_needs, write_requests};
 use groups::write_groups;
 use j39_claim::AddressSet;
 use j39_id::Address;
-use j39_network::{Bitrate, ErrorRate, Plan, Timing};
+use j39_load::bits_of_second;
+use j39_network::{ErrorRate, Plan, Timing};
 use j39_plan::{Key, Table};
 use j39_text::TextBuffer;
 use std::alloc::AllocError;
@@ -44,17 +46,6 @@ fn write_all_kept(text: &mut TextBuffer, kept: &AddressSet) -> Result<(), AllocE
     Ok(())
 }
 
-fn bits_a_second(bitrate: Bitrate) -> u32
-    ensures { result ≡ bits_a_second bitrate }
-{
-    match bitrate {
-        Bitrate::Kbit125 => 125_000,
-        Bitrate::Kbit250 => 250_000,
-        Bitrate::Kbit500 => 500_000,
-        Bitrate::Mbit1 => 1_000_000,
-    }
-}
-
 #[tactic(auto, unfolding(crate::specs::ShowText::error_lines))]
 fn write_errors(text: &mut TextBuffer, errors: Option<ErrorRate>) -> Result<(), AllocError>
     ensures { OnOk result (text.new ≡ text.old ++ error_lines errors) }
@@ -73,7 +64,7 @@ fn write_known_timing(text: &mut TextBuffer, timing: Timing) -> Result<(), Alloc
     ensures { OnOk result (text.new ≡ text.old ++ known_timing_lines timing) }
 {
     let table = Table::Timing;
-    write_number(text, table, Key::Bitrate, bits_a_second(timing.bitrate))?;
+    write_number(text, table, Key::Bitrate, bits_of_second(timing.bitrate))?;
     write_number(text, table, Key::Unplanned, timing.unplanned)?;
     write_number(
         text,

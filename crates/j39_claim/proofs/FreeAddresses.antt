@@ -7,7 +7,8 @@ use Rattle.std.specs.Option.{unwrap_or, MatchOption}
 use Rattle.std.specs.List.{find, count_by, range_with_len}
 use Rattle.std.specs.Ordering.{nat_cmp}
 use Rattle.std.specs.FinSet.{FinSet, contains}
-use Rattle.j39_claim.specs.AddressSets.{IsFirstFreeAbove, IsFreeIn, IsLeastFree, IsTakenAbove, LowestFreeIsLeast, NextFreeIsNext, is_free, free_count, lowest_free, free_above, next_free, first_of_two}
+use Rattle.j39_claim.specs.AddressSets.{IsFirstFreeAbove, IsFreeIn, IsLeastFree, IsTakenAbove, LowestFreeIsLeast, NextFreeIsNext, is_free, free_count}
+use Rattle.j39_claim.specs.AddressSets.{lowest_free, free_above, next_free, first_of_two}
 use Rattle.j39_id.specs.Addresses.{in_pool}
 
 -- b is one of the n numbers from k on, and passes

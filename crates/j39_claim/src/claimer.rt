@@ -11,8 +11,8 @@ use crate::{AddressSet, Choose, Say};
 use j39_id::{Address, Name};
 use std::marker::Model;
 
-/// A unit that claims an address under a NAME (SAE J1939-81, address claim procedures). One that doesn't claim, as older ones, is set to
-/// its address: it hears what others say and does nothing.
+/// A unit that claims an address under a NAME (SAE J1939-81, address claim procedures). One that doesn't claim, as
+/// older ones, is set to its address: it hears what others say and does nothing.
 #[derive(Drop)]
 pub struct Claimer {
     name: Name,
@@ -43,21 +43,24 @@ impl Model for Claimer {
 impl Claimer {
     /// A unit that is not started. It holds no address and has no notes.
     pub fn new(name: Name, preferred: Address) -> Self
-        ensures { result ≡ record { planned = record { name = name; preferred = preferred; kept = set.empty; claims = true }; state = off } }
+        ensures { result
+            ≡ record { planned = record { name = name; preferred = preferred; kept = set.empty; claims = true }; state = off } }
     {
         Claimer::with_kept(name, preferred, AddressSet::new())
     }
 
     /// The same, of a unit that never moves to one of the kept addresses.
     pub fn with_kept(name: Name, preferred: Address, kept: AddressSet) -> Self
-        ensures { result ≡ record { planned = record { name = name; preferred = preferred; kept = kept; claims = true }; state = off } }
+        ensures { result
+            ≡ record { planned = record { name = name; preferred = preferred; kept = kept; claims = true }; state = off } }
     {
         Claimer::planned(name, preferred, kept, true)
     }
 
     /// The same, of a unit that may not claim.
     pub fn planned(name: Name, preferred: Address, kept: AddressSet, claims: bool) -> Self
-        ensures { result ≡ record { planned = record { name = name; preferred = preferred; kept = kept; claims = claims }; state = off } }
+        ensures { result
+            ≡ record { planned = record { name = name; preferred = preferred; kept = kept; claims = claims }; state = off } }
     {
         Claimer {
             name,
@@ -126,8 +129,8 @@ impl Claimer {
         self.notes.can_note(name)
     }
 
-    /// What it answers to a request for Address Claimed: Claim of its address, or Cannot where it holds none. One that doesn't claim
-    /// answers nothing.
+    /// What it answers to a request for Address Claimed: Claim of its address, or Cannot where it holds none. One that
+    /// doesn't claim answers nothing.
     pub fn hear_request(&self) -> Option<Say>
         ensures { result ≡ said_by self.now.planned (claim_of self.now.state.address) }
     {
@@ -135,12 +138,13 @@ impl Claimer {
     }
 
     /// What it answers to Address Claimed of this address under the NAME. A number above 253 is Cannot Claim.
-    /// The smaller NAME keeps an address, and an arbitrary unit that loses its own moves to what the chooser picks. One that doesn't claim
-    /// answers nothing and stays as it was.
+    /// The smaller NAME keeps an address, and an arbitrary unit that loses its own moves to what the chooser picks. One
+    /// that doesn't claim answers nothing and stays as it was.
     pub fn hear_claim(&mut self, name: Name, address: u8, chooser: &dyn Choose) -> Option<Say>
         requires { can_note self.old.state.notes name ≡ true }
         ensures said { result ≡ said_exactly (pick chooser.now) self.old.planned self.old.state name (say_of address) }
-        ensures left { self.new ≡ record self.old { state = left_exactly (pick chooser.now) self.old.planned self.old.state name (say_of address) } }
+        ensures left { self.new
+            ≡ record self.old { state = left_exactly (pick chooser.now) self.old.planned self.old.state name (say_of address) } }
         ensures rule { Reacts self.old.planned self.old.state name (Told (say_of address)) result self.new.state }
     {
         if !self.claims {
@@ -176,7 +180,8 @@ fn claim_of(address: Option<Address>) -> Say
     }
 }
 
-/// Where a unit moves that loses an address: a fixed one holds none from then on, nor does one with no free address left.
+/// Where a unit moves that loses an address: a fixed one holds none from then on, nor does one with no free address
+/// left.
 fn moved_to(name: Name, lost: Address, taken: &AddressSet, chooser: &dyn Choose) -> Option<Address>
     ensures place { result ≡ moved_to (pick chooser.now) name lost taken.now }
     ensures free { IsFreeMove (pick chooser.now) name lost taken.now }

@@ -40,7 +40,8 @@ impl FreePool {
 
     /// Those above an address.
     pub fn above(self, address: u8) -> Self
-        ensures { (p : ℕ → Bool) → ArePassing p self.low self.high → ArePassing (is_above address p) result.low result.high }
+        ensures { (p : ℕ → Bool) → ArePassing p self.low self.high
+            → ArePassing (is_above address p) result.low result.high }
     {
         FreePool {
             low: self.low & bits_above(address, POOL_FIRST),

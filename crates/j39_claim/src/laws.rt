@@ -2,13 +2,14 @@
 ghost use Rattle.j39_claim.specs.AddressSets.{LowestFreeIsLeast, NextFreeIsNext};
 ghost use Rattle.j39_claim.specs.ExactAnswer.{LawfulPicksFollowTheRule};
 
-/// The lowest free address is free, and each lower one of the pool is taken; where there is none, the whole pool is taken.
+/// The lowest free address is free, and each lower one of the pool is taken; where there is none, the whole pool is
+/// taken.
 pub fn lowest_free_is_least()
     ensures { LowestFreeIsLeast }
 {}
 
-/// The next free address is the first free one above the one that is lost, or, where none above is free, the least free one; where there
-/// is none, the whole pool is taken.
+/// The next free address is the first free one above the one that is lost, or, where none above is free, the least free
+/// one; where there is none, the whole pool is taken.
 pub fn next_free_is_next()
     ensures { NextFreeIsNext }
 {}

@@ -16,7 +16,7 @@ use Rattle.j39_findings.specs.declared.checking.finding.Finding.TheVariants.{Sil
 use Rattle.j39_network.specs.declared.steps.Step.{Step}
 use Rattle.j39_network.specs.Kinds.{MayBeOne}
 use Rattle.j39_findings.specs.Findings.{HaveSameFixedAddress}
-use Rattle.j39_findings.specs.ConflictRuns.{conflict_steps, AreInConflict, TellsOfConflict, IsConflictRun, are_in_conflict, steps_between, run_of_units}
+use Rattle.j39_findings.specs.ConflictRuns.{conflict_steps, AreInConflict, IsOfConflict, IsConflictRun, are_in_conflict, steps_between, run_of_units}
 use Rattle.j39_findings.specs.ConflictRuns.{run_of_places, conflict_run, RunsAreExact}
 use Rattle.j39_findings.proofs.Deciding.{Decides-have_same_fixed_address}
 use Rattle.j39_network.proofs.Served.{Decides-may_be_one}
@@ -44,7 +44,7 @@ run_of : (plan : Plan) (i j : ℕ) (u v : UnitPlan) (steps : List Step) → slic
     → HaveSameFixedAddress u v × (¬ MayBeOne u v) → steps_between i j u v ≡ steps → IsConflictRun plan (SameFixedAddress i j) steps
 run_of plan i j u v steps first second below apart is =
     let both : AreInConflict plan i j = record { first = u; second = v; below = below; first_is = first; second_is = second; related = apart } in
-    let tells : TellsOfConflict plan (SameFixedAddress i j) = (i, j, refl, both) in
+    let tells : IsOfConflict plan (SameFixedAddress i j) = (i, j, refl, both) in
     elim (larger_of i j u v (names_apart u v apart.1)) [
       | inl (above, e) ↦ record {
         tells = tells;
@@ -119,7 +119,7 @@ given plan i j u v first second below apart =
     let conflict = (conflict_decides u v).1 apart in
     rw (less, first, second, conflict) refl
 
-complete : (plan : Plan) (finding : Finding) → TellsOfConflict plan finding → conflict_run plan finding ≢ None
+complete : (plan : Plan) (finding : Finding) → IsOfConflict plan finding → conflict_run plan finding ≢ None
 unfolding conflict_run
 complete plan finding (i, j, is, pair) = λ none.
     let run = given plan i j pair.first pair.second pair.first_is pair.second_is pair.below pair.related in

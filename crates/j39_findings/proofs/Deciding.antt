@@ -48,7 +48,7 @@ use Rattle.j39_network.specs.PlannedGroups.{IsSelectorInside}
 use Rattle.j39_network.proofs.Served.{not_is, Decides-is_to_one, Decides-is_to, some_decides, to_all_decides, Decides-serves, Decides-is_served}
 use Rattle.j39_network.proofs.Served.{Decides-some_meets}
 
-Decides-leb : (a b : ℕ) → Decides (nat_le a b) (a ≤ b)
+pub Decides-leb : (a b : ℕ) → Decides (nat_le a b) (a ≤ b)
 Decides-leb a b = (leb-true a b, le-leb a b)
 
 -- ---- units
@@ -174,7 +174,7 @@ Decides-lies_outside g t = Decides-or _ _ (Decides-ltb (g.length + 1) t.byte) (D
 
 -- ---- flows
 
-Decides-have_same_receiver : (to other : To) → Decides (have_same_receiver to other) (to ≡ other)
+pub Decides-have_same_receiver : (to other : To) → Decides (have_same_receiver to other) (to ≡ other)
 Decides-have_same_receiver All All = (λ e. refl, λ e. refl)
 Decides-have_same_receiver All (One receiver) = (λ e. absurd (false≢true e), λ e. cc)
 Decides-have_same_receiver (One receiver) other = Decides-like _ (λ e. sym e) (λ e. sym e) (Decides-is_to other receiver)
@@ -185,7 +185,8 @@ one_frame_decides g = Decides-and _ _ (Decides-leb pdu2_first (pf_of g.pgn)) (De
 some_frame_decides : (g : GroupPlan) → Decides (may_be_one_frame_to_all g) (MayBeOneFrameToAll g)
 some_frame_decides g = Decides-and _ _ (Decides-leb pdu2_first (pf_of g.pgn)) (Decides-leb g.length frame_bytes)
 
-group_of_decides : {test : GroupPlan → Bool} (P : GroupPlan → Type 0) → ((g : GroupPlan) → Decides (test g) (P g)) → (gs : List GroupPlan) (i : ℕ) (o : Option GroupPlan)
+group_of_decides : {test : GroupPlan → Bool} (P : GroupPlan → Type 0) → ((g : GroupPlan) → Decides (test g) (P g))
+    → (gs : List GroupPlan) (i : ℕ) (o : Option GroupPlan)
     → slice_get gs i ≡ o → Decides (is_group_of test o) (ValueAt P gs i)
 group_of_decides P by gs i None is = (λ e. absurd (false≢true e), λ v. absurd (none-some _ (sym is ∙ v.value_is)))
 group_of_decides P by gs i (Some g) is =
@@ -193,7 +194,8 @@ group_of_decides P by gs i (Some g) is =
     (λ v. subst P (same_Some _ _ (sym v.value_is ∙ is)) v.meets) (by g)
 
 pub Decides-cannot_go_to_one : (gs : List GroupPlan) (f : FlowPlan) → Decides (cannot_go_to_one gs f) (CannotGoToOne gs f)
-Decides-cannot_go_to_one gs f = Decides-and _ _ (Decides-is_to_one f.to) (group_of_decides IsOneFrameToAll one_frame_decides gs f.group (slice_get gs f.group) refl)
+Decides-cannot_go_to_one gs f =
+    Decides-and _ _ (Decides-is_to_one f.to) (group_of_decides IsOneFrameToAll one_frame_decides gs f.group (slice_get gs f.group) refl)
 
 pub Decides-goes_to_its_sender : (f : FlowPlan) → Decides (goes_to_its_sender f) (GoesToItsSender f)
 Decides-goes_to_its_sender f = Decides-is_to f.to f.sender

@@ -205,7 +205,8 @@ of_five xs ys zs us vs f (inr more) = Contains-append_right xs (ys ++ (zs ++ (us
 
 unit_found : (plan : Plan) (f : Finding)
     → Contains (pairs may_be_one SameName plan.units.items) f
-    ⊎ (Contains (pairs have_same_fixed_address SameFixedAddress plan.units.items) f ⊎ Contains (too_few_addresses plan.keep_free plan.strangers plan.units.items) f)
+    ⊎ (Contains (pairs have_same_fixed_address SameFixedAddress plan.units.items) f
+    ⊎ Contains (too_few_addresses plan.keep_free plan.strangers plan.units.items) f)
     → Contains (found plan) f
 unfolding unit_findings
 unit_found plan f h =
@@ -272,7 +273,8 @@ found_of plan (TooFewAddresses n) ((m, are, with_strangers), more) =
     let passes = (Decides-ltb (free_count plan.keep_free) needed).1 (subst Q is more) in
     unit_found plan _ (inr (inr (subst P (sym is) (found_if_of _ (TooFewAddresses needed) passes))))
 found_of plan (BadPgn g) h = group_found plan _ (inl (each_of HasBadPgn Decides-has_bad_pgn BadPgn plan.groups.items g h))
-found_of plan (SamePgn g k) h = group_found plan _ (inr (pairs_of (HaveSamePgn plan.groups.items plan.flows.items) (Decides-have_same_pgn plan.groups.items plan.flows.items) SamePgn plan.groups.items g k h))
+found_of plan (SamePgn g k) h =
+    group_found plan _ (inr (pairs_of (HaveSamePgn plan.groups.items plan.flows.items) (Decides-have_same_pgn plan.groups.items plan.flows.items) SamePgn plan.groups.items g k h))
 found_of plan (SignalWidth g s) h =
     signal_found plan _ (inl (of_group plan width_findings g h.value (SignalWidth g s) h.value_is
     (each_of (λ signal. ¬ WidthFits signal) Decides-has_other_width (SignalWidth g) h.value.signals.items s h.meets)))

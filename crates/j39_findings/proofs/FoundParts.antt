@@ -9,7 +9,7 @@ use Rattle.j39_findings.specs.declared.checking.finding.Finding.{Finding}
 use Rattle.j39_network.specs.declared.plan.Plan.{Plan}
 use Rattle.j39_findings.proofs.FoundLaws.{none_from_clean, rest}
 
-on_err : {A : Type 0} (P : Type 0) (Q : AllocError → Type 0) (r : Result A AllocError) → IsErrAnd r Q → P → OnErr r P
+pub on_err : {A : Type 0} (P : Type 0) (Q : AllocError → Type 0) (r : Result A AllocError) → IsErrAnd r Q → P → OnErr r P
 on_err P Q (Ok done) is holds = absurd is
 on_err P Q (Err e) is holds = holds
 

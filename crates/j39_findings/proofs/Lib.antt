@@ -9,6 +9,7 @@ pub mod FoundParts
 pub mod LastWrites
 pub mod Meeting
 pub mod Optional
+pub mod Pairs
 pub mod PrivateGroups
 pub mod RecordBits
 pub mod Selectors

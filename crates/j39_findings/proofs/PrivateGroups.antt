@@ -14,6 +14,7 @@ use Rattle.j39_network.specs.declared.plan.group_plan.GroupPlan.{GroupPlan}
 use Rattle.j39_network.specs.declared.plan.flow_plan.FlowPlan.{FlowPlan}
 use Rattle.j39_network.specs.declared.plan.to.To.{To}
 use Rattle.j39_findings.specs.declared.checking.finding.Finding.TheVariants.{SamePgn}
+use Rattle.j39_findings.proofs.Pairs.{pair_with}
 use Rattle.j39_rules.proofs.Members.{all_at}
 
 -- ---- one group fits
@@ -130,22 +131,8 @@ found_as_before plan none = record {
     },
   );
   pairs = λ g h. (
-    λ p. record {
-      first = p.first;
-      second = p.second;
-      below = p.below;
-      first_is = p.first_is;
-      second_is = p.second_is;
-      related = (p.related.0, p.related.1);
-    },
-    λ p. record {
-      first = p.first;
-      second = p.second;
-      below = p.below;
-      first_is = p.first_is;
-      second_is = p.second_is;
-      related = (p.related.0, p.related.1, inl (shared_at plan.groups.items none g p.first p.first_is));
-    },
+    λ p. pair_with plan.groups.items g h p (p.related.0, p.related.1),
+    λ p. pair_with plan.groups.items g h p (p.related.0, p.related.1, inl (shared_at plan.groups.items none g p.first p.first_is)),
   );
   unsent = λ g v. not_both (shared_at plan.groups.items none g v.value v.value_is) v.meets.0;
 }

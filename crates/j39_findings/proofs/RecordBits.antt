@@ -50,7 +50,8 @@ one_record g apart i j k bit v w =
         below = less;
         first_is = v.value_is;
         second_is = w.value_is;
-        related = (bit - 8 * n, (omega (arith, v.meets.0.0), omega (arith, v.meets.0.0, v.meets.0.1)), (omega (arith, w.meets.0.0), omega (arith, w.meets.0.0, w.meets.0.1)));
+        related =
+            (bit - 8 * n, (omega (arith, v.meets.0.0), omega (arith, v.meets.0.0, v.meets.0.1)), (omega (arith, w.meets.0.0), omega (arith, w.meets.0.0, w.meets.0.1)));
       }))
       | inr least ↦ elim (cases_lt j i) [
         | inl more ↦ absurd (apart.singles j i (record {
@@ -59,7 +60,8 @@ one_record g apart i j k bit v w =
           below = more;
           first_is = w.value_is;
           second_is = v.value_is;
-          related = (bit - 8 * n, (omega (arith, w.meets.0.0), omega (arith, w.meets.0.0, w.meets.0.1)), (omega (arith, v.meets.0.0), omega (arith, v.meets.0.0, v.meets.0.1)));
+          related =
+              (bit - 8 * n, (omega (arith, w.meets.0.0), omega (arith, w.meets.0.0, w.meets.0.1)), (omega (arith, v.meets.0.0), omega (arith, v.meets.0.0, v.meets.0.1)));
         }))
         | inr most ↦ omega arith
       ]

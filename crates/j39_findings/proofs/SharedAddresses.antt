@@ -11,14 +11,14 @@ use Rattle.std.specs.List.{count_by, slice_get}
 use Rattle.j39_network.specs.declared.plan.unit_plan.UnitPlan.{UnitPlan}
 use Rattle.j39_findings.specs.Found.{is_shared}
 use Rattle.j39_rules.specs.ListPlaces.{SomeMeets}
-use Rattle.j39_findings.specs.Standing.{TellsAtEach, AreTwoThere, IsPlannedThere}
+use Rattle.j39_findings.specs.Standing.{DecidesAtEach, AreTwoThere, IsPlannedThere}
 use Rattle.j39_findings.proofs.WhoStays.{told_by}
 
 -- ---- what is planned at an address, of the first so many units
 
 -- one more unit: its address is taken
-pub taken : (units : List UnitPlan) (count : ℕ) (planned : List Bool) → TellsAtEach (IsPlannedThere units count) planned
-    → (unit : UnitPlan) → slice_get units count ≡ Some unit → TellsAtEach (IsPlannedThere units (count + 1)) (set planned unit.address true)
+pub taken : (units : List UnitPlan) (count : ℕ) (planned : List Bool) → DecidesAtEach (IsPlannedThere units count) planned
+    → (unit : UnitPlan) → slice_get units count ≡ Some unit → DecidesAtEach (IsPlannedThere units (count + 1)) (set planned unit.address true)
 taken units count planned old unit at =
     let place : unit.address < length planned = let size = old.size in omega (arith, size, unit.address_range) in
     record {
@@ -44,9 +44,9 @@ taken units count planned old unit at =
     ]
 
 -- and it is shared, if it was taken before
-pub shared_by_one_more : (units : List UnitPlan) (count : ℕ) (planned shared : List Bool) → TellsAtEach (IsPlannedThere units count) planned
-    → TellsAtEach (AreTwoThere units count) shared → (unit : UnitPlan) → slice_get units count ≡ Some unit
-    → TellsAtEach (AreTwoThere units (count + 1)) (set shared unit.address (get_or shared unit.address false || get_or planned unit.address false))
+pub shared_by_one_more : (units : List UnitPlan) (count : ℕ) (planned shared : List Bool) → DecidesAtEach (IsPlannedThere units count) planned
+    → DecidesAtEach (AreTwoThere units count) shared → (unit : UnitPlan) → slice_get units count ≡ Some unit
+    → DecidesAtEach (AreTwoThere units (count + 1)) (set shared unit.address (get_or shared unit.address false || get_or planned unit.address false))
 shared_by_one_more units count planned shared taken old unit at =
     let value : Bool = get_or shared unit.address false || get_or planned unit.address false in
     let within : unit.address < 256 = omega (arith, unit.address_range) in
@@ -127,16 +127,16 @@ shared_by_one_more units count planned shared taken old unit at =
       | inr differ ↦ none (fewer unit.address two differ)
     ]
 
-none_told : (There : ℕ → Type 0) → ((a : ℕ) → ¬ There a) → TellsAtEach There (replicate 256 false)
+none_told : (There : ℕ → Type 0) → ((a : ℕ) → ¬ There a) → DecidesAtEach There (replicate 256 false)
 none_told There none = record {
   size = length-replicate {A = Bool} 256 false;
   each = λ a inside. subst (λ b. MatchBool b (There a) (¬ There a)) (sym (get_or-replicate 256 a false false inside)) (none a);
 }
 
-pub none_taken : (units : List UnitPlan) → TellsAtEach (IsPlannedThere units 0) (replicate 256 false)
+pub none_taken : (units : List UnitPlan) → DecidesAtEach (IsPlannedThere units 0) (replicate 256 false)
 none_taken units = none_told (IsPlannedThere units 0) (λ a (u, x, below, at_u, there). absurd (omega (arith, below)))
 
-pub none_shared : (units : List UnitPlan) → TellsAtEach (AreTwoThere units 0) (replicate 256 false)
+pub none_shared : (units : List UnitPlan) → DecidesAtEach (AreTwoThere units 0) (replicate 256 false)
 none_shared units = none_told (AreTwoThere units 0) (λ a two. let below = two.inside in absurd (omega (arith, below)))
 
 -- ---- counted on the list

@@ -17,7 +17,7 @@ use Rattle.j39_findings.specs.declared.checking.finding.Finding.TheVariants.{Tex
 use Rattle.j39_findings.specs.declared.checking.finding.Finding.TheVariants.{WhenOutside, RequestRepeated}
 use Rattle.j39_network.specs.declared.steps.Step.{Step}
 use Rattle.j39_rules.specs.ListPlaces.{pairs, PairAt}
-use Rattle.j39_network.specs.Kinds.{MayBeOne, AreToldApart, may_be_one}
+use Rattle.j39_network.specs.Kinds.{MayBeOne, AreDistinctUnits, may_be_one}
 use Rattle.j39_findings.specs.Findings.{Clean, IsAloneInPlan, IsFlowContested}
 use Rattle.j39_network.specs.PlannedUnits.{units_of}
 use Rattle.j39_network.specs.Staying.{IsAloneThere}
@@ -49,7 +49,7 @@ none_paired units none =
 
 -- ---- a plan and the plan of a vehicle
 
-module _ (plan vehicle : Plan) (is : IsVehicleOf plan vehicle) (apart : AreToldApart plan) where
+module _ (plan vehicle : Plan) (is : IsVehicleOf plan vehicle) (apart : AreDistinctUnits plan) where
   abbrev units : List UnitPlan
   units = plan.units.items
 

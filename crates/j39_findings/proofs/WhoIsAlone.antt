@@ -23,7 +23,7 @@ use Rattle.j39_findings.specs.Found.{contested_findings, has_to_move, is_unit_al
 use Rattle.j39_rules.specs.ListPlaces.{each, SomeMeets}
 use Rattle.j39_network.specs.PlannedUnits.{units_of, unit_at}
 use Rattle.j39_network.specs.Staying.{EachOther, IsFirstThere, Stays}
-use Rattle.j39_findings.specs.Standing.{AreFirsts, TellsAtEach, AreTwoThere, IsMover, TellsWhoIsAlone, is_alone_by, is_first_by, is_mover_by}
+use Rattle.j39_findings.specs.Standing.{AreFirsts, DecidesAtEach, AreTwoThere, IsMover, DecidesWhoIsAlone, is_alone_by, is_first_by, is_mover_by}
 use Rattle.j39_network.proofs.Served.{some_decides}
 use Rattle.j39_rules.proofs.PlaceLemmas.{each_same}
 use Rattle.j39_findings.proofs.WhoStays.{first_told, not_first_told, placed, planned_at, some_come, told_by}
@@ -148,7 +148,7 @@ module _ (plan : Plan) where
           inl none,
         )
 
-    pub alone_told : TellsWhoIsAlone plan
+    pub alone_told : DecidesWhoIsAlone plan
         (λ unit. not (shared unit.address) && (not (in_pool unit.address) || (not come && (contains plan.keep_free unit.address || not moves))))
     alone_told u unit at =
         let (_, is_u) = planned_at plan.keep_free plan.units.items u unit at in
@@ -169,8 +169,8 @@ module _ (plan : Plan) where
 
 pub alone_by_arrays : (plan : Plan) (firsts : List (Option ℕ)) (mover : Option ℕ) (shared : List Bool)
     → AreFirsts plan.units.items (length plan.units.items) firsts → IsMover plan.units.items (length plan.units.items) firsts mover
-    → TellsAtEach (AreTwoThere plan.units.items (length plan.units.items)) shared
-    → TellsWhoIsAlone plan (is_alone_by shared mover (nat_lt 0 plan.strangers) plan.keep_free)
+    → DecidesAtEach (AreTwoThere plan.units.items (length plan.units.items)) shared
+    → DecidesWhoIsAlone plan (is_alone_by shared mover (nat_lt 0 plan.strangers) plan.keep_free)
 alone_by_arrays plan firsts mover shared are_firsts is_mover are_shared =
     let told = alone_told plan (λ a. get_or shared a false) are_shared.each (is_some mover) (move_told mover refl)
     (nat_lt 0 plan.strangers) (some_come plan.strangers) in
@@ -217,7 +217,7 @@ IsSmaller unit other = (other.address ≡ unit.address) × (other.name < unit.na
 abbrev Moves : List UnitPlan → UnitPlan → Type 0
 Moves units unit = (is_arbitrary unit.name ≡ true) × SomeMeets (IsSmaller unit) units
 
-pub alone_by_list : (plan : Plan) → TellsWhoIsAlone plan (is_unit_alone plan.keep_free plan.strangers plan.units.items)
+pub alone_by_list : (plan : Plan) → DecidesWhoIsAlone plan (is_unit_alone plan.keep_free plan.strangers plan.units.items)
 alone_by_list plan =
     alone_told plan (is_shared plan.units.items) (λ a inside. shared_told plan.units.items a) (list_any (has_to_move plan.units.items) plan.units.items)
     (told_by (list_any (has_to_move plan.units.items) plan.units.items) _ _ (λ is. one_moves (decided.0 is))
@@ -278,7 +278,7 @@ Decides-both false false P Q p q over back = refl
 abbrev not_alone : (UnitPlan → Bool) → Option UnitPlan → Bool
 not_alone alone unit = option_map_or (λ unit. not (alone unit)) unit true
 
-module _ (plan : Plan) (alone : UnitPlan → Bool) (tells : TellsWhoIsAlone plan alone) where
+module _ (plan : Plan) (alone : UnitPlan → Bool) (tells : DecidesWhoIsAlone plan alone) where
   Decides-end : (u : ℕ) → Decides (is_end_contested alone plan.units.items u) (¬ IsAloneInPlan plan u)
   Decides-end u = go (slice_get plan.units.items u) refl where
     told : (b : Bool) → MatchBool b (IsAloneInPlan plan u) (¬ IsAloneInPlan plan u) → Decides (not b) (¬ IsAloneInPlan plan u)
@@ -308,14 +308,14 @@ module _ (plan : Plan) (alone : UnitPlan → Bool) (tells : TellsWhoIsAlone plan
       (Decides-or _ _ (Decides-end flow.sender) (Decides-receiver flow.to))
 
 -- two tests decide it alike
-pub contested_alike : (plan : Plan) (alone other : UnitPlan → Bool) → TellsWhoIsAlone plan alone → TellsWhoIsAlone plan other
+pub contested_alike : (plan : Plan) (alone other : UnitPlan → Bool) → DecidesWhoIsAlone plan alone → DecidesWhoIsAlone plan other
     → plan.live ≡ true → (flow : FlowPlan) → is_contested alone plan.units.items flow ≡ is_contested other plan.units.items flow
 contested_alike plan alone other one two live flow =
     Decides-both _ _ (IsFlowContested plan flow) (IsFlowContested plan flow) (Decides-contested plan alone one live flow)
     (Decides-contested plan other two live flow) (λ is. is) (λ is. is)
 
 -- the findings by any test that tells who is alone are those of the list
-pub contested_by : (plan : Plan) (alone : UnitPlan → Bool) → TellsWhoIsAlone plan alone → plan.live ≡ true
+pub contested_by : (plan : Plan) (alone : UnitPlan → Bool) → DecidesWhoIsAlone plan alone → plan.live ≡ true
     → each (is_contested alone plan.units.items) FlowContested 0 plan.flows.items
     ≡ contested_findings plan.live plan.keep_free plan.strangers plan.units.items plan.flows.items
 unfolding contested_findings
@@ -332,7 +332,8 @@ not_live live kept strangers units flows none =
     ap (λ b. if b then each (is_contested (is_unit_alone kept strangers units) units) FlowContested 0 flows else []) none
 
 -- whether a unit is alone is decided
-pub Decides-alone : (plan : Plan) (u : ℕ) → Decides (not (is_end_contested (is_unit_alone plan.keep_free plan.strangers plan.units.items) plan.units.items u)) (IsAloneInPlan plan u)
+pub Decides-alone : (plan : Plan) (u : ℕ)
+    → Decides (not (is_end_contested (is_unit_alone plan.keep_free plan.strangers plan.units.items) plan.units.items u)) (IsAloneInPlan plan u)
 Decides-alone plan u =
     let contested : Bool = is_end_contested (is_unit_alone plan.keep_free plan.strangers plan.units.items) plan.units.items u in
     go contested (Decides-end plan (is_unit_alone plan.keep_free plan.strangers plan.units.items) (alone_by_list plan) u) (is_or_isnt u)

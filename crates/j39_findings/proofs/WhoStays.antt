@@ -15,7 +15,7 @@ use Rattle.j39_network.specs.declared.plan.Plan.{Plan}
 use Rattle.j39_network.specs.declared.plan.unit_plan.UnitPlan.{UnitPlan}
 use Rattle.j39_network.specs.PlannedUnits.{planned_unit, units_of, unit_at}
 use Rattle.j39_network.specs.Staying.{EachSmaller, IsFirstThere, IsOutsidePool, Stays}
-use Rattle.j39_findings.specs.Standing.{AreFirsts, TellsWhoStays, IsLeastName, IsMover, is_first_by, is_least, is_mover_by, is_settled, smaller, stays_by}
+use Rattle.j39_findings.specs.Standing.{AreFirsts, DecidesWhoStays, IsLeastName, IsMover, is_first_by, is_least, is_mover_by, is_settled, smaller, stays_by}
 
 module _ (units : List UnitPlan) (count : ℕ) (Among : UnitPlan → Type 0) (least : Option ℕ) (old : IsLeastName units count Among least)
     (unit : UnitPlan) (at : slice_get units count ≡ Some unit) where
@@ -136,7 +136,8 @@ placed kept (p ∷ ps) (suc i) inside = placed kept ps i (omega arith)
 pub planned_at : (kept : FinSet nat_cmp) (ps : List UnitPlan) (u : ℕ) (unit : UnitPlan) → slice_get ps u ≡ Some unit
     → (u < length (map (planned_unit kept) ps)) × (unit_at (map (planned_unit kept) ps) u ≡ planned_unit kept unit)
 planned_at kept ps u unit at =
-    let inside : u < length (map (planned_unit kept) ps) = let below = slice_get_within ps u unit at in omega (arith, below, length-map ps (planned_unit kept)) in
+    let inside : u < length (map (planned_unit kept) ps) =
+    let below = slice_get_within ps u unit at in omega (arith, below, length-map ps (planned_unit kept)) in
     let (p, at_p, is) = placed kept ps u inside in
     (inside, is ∙ ap (planned_unit kept) (same_Some _ _ (sym at_p ∙ at)))
 
@@ -204,7 +205,8 @@ module _ (plan : Plan) (firsts : List (Option ℕ)) (mover : Option ℕ) (are_fi
   -- the address is outside, or none moves
   unmoved_told : (u : ℕ) (unit : UnitPlan) → IsAt u unit → (pool : Bool) → in_pool (unit_at (units_of plan) u).preferred ≡ pool
       → (not pool || is_least mover unit.name) ≡ true
-      → IsOutsidePool (units_of plan) u ⊎ EachSmaller (units_of plan) u (λ v. is_arbitrary (unit_at (units_of plan) v).name ≡ true → IsFirstThere (units_of plan) v)
+      → IsOutsidePool (units_of plan) u
+      ⊎ EachSmaller (units_of plan) u (λ v. is_arbitrary (unit_at (units_of plan) v).name ≡ true → IsFirstThere (units_of plan) v)
   unmoved_told u unit at false outside told = inl outside
   unmoved_told u unit at true inside told = inr (none_moves_told u unit at told)
 
@@ -248,6 +250,6 @@ module _ (plan : Plan) (firsts : List (Option ℕ)) (mover : Option ℕ) (are_fi
       ])
 
   pub told : (strangers : Bool) → MatchBool strangers (0 < plan.strangers) (plan.strangers ≡ 0)
-      → TellsWhoStays plan (λ unit. stays_by firsts mover unit && is_settled strangers unit)
+      → DecidesWhoStays plan (λ unit. stays_by firsts mover unit && is_settled strangers unit)
   told strangers come u unit at =
       both_told (stays_by firsts mover unit) (is_settled strangers unit) _ _ (stays_told u unit at) (settled_told strangers come u unit at)

@@ -24,8 +24,8 @@ abbrev pub AreInConflict : Plan → ℕ → ℕ → Type 0
 AreInConflict plan = PairAt (λ u v. HaveSameFixedAddress u v × (¬ MayBeOne u v)) plan.units.items
 
 -- the finding tells of two units that are in conflict
-abbrev pub TellsOfConflict : Plan → Finding → Type 0
-TellsOfConflict plan finding = (i : ℕ) × (j : ℕ) × (finding ≡ SameFixedAddress i j) × AreInConflict plan i j
+abbrev pub IsOfConflict : Plan → Finding → Type 0
+IsOfConflict plan finding = (i : ℕ) × (j : ℕ) × (finding ≡ SameFixedAddress i j) × AreInConflict plan i j
 
 -- the NAME of the unit at the first place is larger than that of the unit at the second
 pub record HasLargerName (plan : Plan) (larger smaller : ℕ) : Type 0 where
@@ -37,7 +37,7 @@ pub record HasLargerName (plan : Plan) (larger smaller : ℕ) : Type 0 where
 
 -- the steps show the conflict of which the finding tells
 pub record IsConflictRun (plan : Plan) (finding : Finding) (steps : List Step) : Type 0 where
-  pub tells : TellsOfConflict plan finding
+  pub tells : IsOfConflict plan finding
   pub larger : ℕ
   pub smaller : ℕ
   pub both : (finding ≡ SameFixedAddress larger smaller) ⊎ (finding ≡ SameFixedAddress smaller larger)
@@ -73,4 +73,4 @@ conflict_run plan _ = None
 -- the test gives a run exactly where the finding tells of a conflict, and then the one that shows it
 pub record RunsAreExact (plan : Plan) (finding : Finding) : Type 0 where
   pub sound : (steps : List Step) → conflict_run plan finding ≡ Some steps → IsConflictRun plan finding steps
-  pub complete : TellsOfConflict plan finding → conflict_run plan finding ≢ None
+  pub complete : IsOfConflict plan finding → conflict_run plan finding ≢ None

@@ -15,13 +15,13 @@ use Rattle.j39_network.specs.PlannedUnits.{units_of}
 use Rattle.j39_network.specs.Staying.{StaysBeside}
 
 -- of the unit at each place this tells whether it stays
-abbrev pub TellsWhoStays : Plan → (UnitPlan → Bool) → Type 0
-TellsWhoStays plan stays = (u : ℕ) (unit : UnitPlan) → slice_get plan.units.items u ≡ Some unit
+abbrev pub DecidesWhoStays : Plan → (UnitPlan → Bool) → Type 0
+DecidesWhoStays plan stays = (u : ℕ) (unit : UnitPlan) → slice_get plan.units.items u ≡ Some unit
     → MatchBool (stays unit) (StaysBeside plan.strangers (units_of plan) u) (¬ StaysBeside plan.strangers (units_of plan) u)
 
 -- and this whether it is alone at its address
-abbrev pub TellsWhoIsAlone : Plan → (UnitPlan → Bool) → Type 0
-TellsWhoIsAlone plan alone = (u : ℕ) (unit : UnitPlan) → slice_get plan.units.items u ≡ Some unit
+abbrev pub DecidesWhoIsAlone : Plan → (UnitPlan → Bool) → Type 0
+DecidesWhoIsAlone plan alone = (u : ℕ) (unit : UnitPlan) → slice_get plan.units.items u ≡ Some unit
     → MatchBool (alone unit) (IsAloneInPlan plan u) (¬ IsAloneInPlan plan u)
 
 -- this is the least NAME of those of the first so many units of which it holds, if it holds of one
@@ -87,7 +87,7 @@ pub record AreTwoThere (units : List UnitPlan) (count address : ℕ) : Type 0 wh
   pub other_there : other.address ≡ address
 
 -- at each address this tells whether it is so
-pub record TellsAtEach (There : ℕ → Type 0) (told : List Bool) : Type 0 where
+pub record DecidesAtEach (There : ℕ → Type 0) (told : List Bool) : Type 0 where
   pub size : length told ≡ 256
   pub each : (a : ℕ) → a < 256 → MatchBool (slice_index_or told a false) (There a) (¬ There a)
 

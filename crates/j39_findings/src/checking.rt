@@ -37,8 +37,8 @@ use std::alloc::{AllocError, Global};
 use texts::find_in_texts;
 use units::find_in_units;
 
-/// All that is wrong with the plan, and nothing else, by the findings' numbers and then by their places in rising order.
-/// A plan in which nothing is wrong takes no memory.
+/// All that is wrong with the plan, and nothing else, by the findings' numbers and then by their places in rising
+/// order. A plan in which nothing is wrong takes no memory.
 pub fn check(alloc: Global, plan: &Plan) -> Result<Findings, AllocError>
     ensures list { IfOk result (λ findings. findings.items ≡ found plan.now) }
     ensures exact { IfOk result (λ findings. AreFindings plan.now findings.items) }

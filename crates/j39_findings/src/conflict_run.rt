@@ -1,6 +1,7 @@
 //! A run that shows the conflict of two units.
 ghost use Rattle.std.specs.Prelude.{◌≡◌, ◌≢◌, IfOk, OnErr, option_map};
-ghost use Rattle.j39_findings.specs.ConflictRuns.{are_in_conflict, conflict_steps, steps_between, run_of_places, conflict_run};
+ghost use Rattle.j39_findings.specs.ConflictRuns.{are_in_conflict, conflict_steps, steps_between, run_of_places};
+ghost use Rattle.j39_findings.specs.ConflictRuns.{conflict_run};
 
 use crate::checking::Finding;
 use j39_network::{Plan, Step, UnitPlan, may_be_one};

@@ -1,6 +1,8 @@
 //! Which units of a plan hold their planned addresses, whatever the others do, and which are alone there.
 ghost use Rattle.std.specs.Prelude.{◌≡◌, length};
-ghost use Rattle.j39_findings.specs.Standing.{AreFirsts, TellsAtEach, AreTwoThere, TellsWhoIsAlone, TellsWhoStays, IsMover, alone_of, is_alone_by, is_first_by, is_least, is_mover_by, is_settled, smaller, stays_by, stays_of};
+ghost use Rattle.j39_findings.specs.Standing.{AreFirsts, DecidesAtEach, AreTwoThere, DecidesWhoIsAlone};
+ghost use Rattle.j39_findings.specs.Standing.{DecidesWhoStays, IsMover, alone_of, is_alone_by, is_first_by, is_least};
+ghost use Rattle.j39_findings.specs.Standing.{is_mover_by, is_settled, smaller, stays_by, stays_of};
 
 use j39_claim::AddressSet;
 use j39_id::Name;
@@ -47,7 +49,7 @@ fn firsts_of(units: &[UnitPlan]) -> Firsts
 
 // At which addresses more than one unit is planned.
 fn shared_addresses(units: &[UnitPlan]) -> [bool; 256]
-    ensures { TellsAtEach (AreTwoThere units.now (length units.now)) result }
+    ensures { DecidesAtEach (AreTwoThere units.now (length units.now)) result }
 {
     let mut planned = [false; 256];
     let mut shared = [false; 256];
@@ -79,7 +81,8 @@ fn mover_of(units: &[UnitPlan], firsts: &Firsts) -> Option<Name>
     mover
 }
 
-// Of the units that the plan has: it is the first at its planned address, and none to which others move has to go there.
+// Of the units that the plan has: it is the first at its planned address, and none to which others move has to go
+// there.
 fn stays_among(firsts: &Firsts, mover: Option<Name>, unit: &UnitPlan) -> bool
     ensures { result ≡ stays_by firsts.now mover unit.now }
 {
@@ -123,8 +126,8 @@ pub struct Standing {
 
 impl Standing {
     pub fn new(plan: &Plan) -> Self
-        ensures stays { TellsWhoStays plan.now (stays_of result) }
-        ensures alone { TellsWhoIsAlone plan.now (alone_of result plan.now.keep_free) }
+        ensures stays { DecidesWhoStays plan.now (stays_of result) }
+        ensures alone { DecidesWhoIsAlone plan.now (alone_of result plan.now.keep_free) }
     {
         let firsts = firsts_of(plan.units.as_slice());
         let mover = mover_of(plan.units.as_slice(), &firsts);

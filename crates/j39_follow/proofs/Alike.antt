@@ -13,7 +13,7 @@ use Rattle.j39_log.specs.ReadText.{Past, ReadsLine, ReadsLines, nothing_yet, pas
 use Rattle.j39_follow.specs.Alike.{FollowAndReadSeeAlike, IsUndirected, SawAlike}
 use Rattle.j39_follow.specs.FollowText.{FollowedPast, FollowsLine, FollowsLines, FollowsPart, frames_seen, line_passed_over, nothing_followed, one_line_more}
 use Rattle.j39_follow.specs.LogLines.{IsReadPart}
-use Rattle.j39_follow.proofs.Heard.{frames_more}
+use Rattle.j39_follow.proofs.Addresses.Heard.{frames_more}
 
 -- ---- lines elsewhere
 
@@ -30,7 +30,8 @@ part_stays : (plan : Plan) (all_frames : Bool) (past : FollowedPast) (line part 
 part_stays plan all_frames past line part named next text (inl frame) = ap (λ (p : FollowedPast). p.elsewhere) frame.4.next_is
 part_stays plan all_frames past line part named next text (inr fault) = ap (λ (p : FollowedPast). p.elsewhere) fault.2 ∙ same_elsewhere fault.0 past
 
-pub line_grows : (plan : Plan) (all_frames : Bool) (past : FollowedPast) (line : Line) (next : FollowedPast) (text : List ℕ) → FollowsLine plan all_frames past line next text
+pub line_grows : (plan : Plan) (all_frames : Bool) (past : FollowedPast) (line : Line) (next : FollowedPast) (text : List ℕ)
+    → FollowsLine plan all_frames past line next text
     → past.elsewhere ≤ next.elsewhere
 line_grows plan all_frames past (Short line) next text follows = elim follows.4 [
   | inl away ↦ (let e = ap (λ (p : FollowedPast). p.elsewhere) away.1 in omega (arith, e))
@@ -38,7 +39,8 @@ line_grows plan all_frames past (Short line) next text follows = elim follows.4 
 ]
 line_grows plan all_frames past Long next text follows = let e = ap (λ (p : FollowedPast). p.elsewhere) follows.0 in omega (arith, e)
 
-pub lines_grow : (plan : Plan) (all_frames : Bool) (past : FollowedPast) (log : List Line) (end : FollowedPast) (text : List ℕ) → FollowsLines plan all_frames past log end text
+pub lines_grow : (plan : Plan) (all_frames : Bool) (past : FollowedPast) (log : List Line) (end : FollowedPast) (text : List ℕ)
+    → FollowsLines plan all_frames past log end text
     → past.elsewhere ≤ end.elsewhere
 lines_grow plan all_frames past [] end text follows = let e = ap (λ (p : FollowedPast). p.elsewhere) follows.0 in omega (arith, e)
 lines_grow plan all_frames past (line ∷ log) end text follows =

@@ -1,30 +1,32 @@
 -- What a frame is, and what is written at it.
-use Rattle.std.proofs.Common.{◌≡◌, ◌++◌, ◌==◌, ◌&&◌, ℕ, Bool, true, false, if◌then◌else◌, List, [], length, Option, Some, None, inl, inr, refl, sym, ap, ◌∙◌, append_assoc, arith, eq-eqb, eqb-true}
-use Rattle.std.proofs.lemmas.Bool.{cases_Bool, eqb-false, ne_eqb}
+use Rattle.std.proofs.Common.{◌≡◌, ◌++◌, ◌==◌, ◌&&◌, ℕ, Bool, true, false, if◌then◌else◌, List, [], length, Option, Some, None, inl, inr, refl, sym, ap, ◌∙◌}
+use Rattle.std.proofs.Common.{append_assoc, arith, eq-eqb, eqb-true}
+use Rattle.std.proofs.lemmas.Bool.{cases_Bool, eqb-false, ne_eqb, false≢true}
 use Rattle.std.proofs.lemmas.List.{length-append}
+use Rattle.j39_id.specs.declared.frame.Frame.{Frame}
 use Rattle.j39_network.specs.declared.plan.Plan.{Plan}
+use Rattle.j39_log.specs.declared.listeners.Listeners.{Listeners}
 use Rattle.j39_follow.specs.Contests.{Timed}
 use Rattle.j39_follow.specs.Fits.{IsSentGroup}
 use Rattle.j39_follow.specs.FollowReports.{IsGroupOfMessage, IsGrouped, IsSendingOf, Message, bare_text}
 use Rattle.j39_follow.specs.declared.message.Sort.{Sort}
-use Rattle.j39_follow.specs.declared.sending.Sending.{Sending}
+use Rattle.j39_follow.specs.declared.request.exchanges.Exchanges.{Exchanges}
+use Rattle.j39_follow.specs.declared.flow.sending.Sending.{Sending}
+use Rattle.j39_follow.specs.inside.FrameWriting.{WritesFrame}
 use Rattle.j39_follow.specs.inside.Reporting.{is_grouped}
-
-false_true : false ≡ true → ⊥
-false_true e = cc
 
 -- what counts as of a group is one
 pub is_a_group : (plan : Plan) (log : List Timed) (front : List ℕ) (m : Message) (sort : Sort) (text : List ℕ) (sent : Sending) (group : Option ℕ)
     → IsSendingOf plan log m sent → IsSentGroup plan m.pgn m.bytes sent group → IsGrouped plan log front m sent group sort text
     → is_grouped sort ≡ true → (g : ℕ) × IsGroupOfMessage plan log m (Some g)
 is_a_group plan log front m sort text sent (Some g) sending of grouped e = (g, (sent, sending, of))
-is_a_group plan log front m sort text sent None sending of grouped e = absurd (false_true (sym (ap is_grouped grouped.0) ∙ e))
+is_a_group plan log front m sort text sent None sending of grouped e = absurd (false≢true (sym (ap is_grouped grouped.0) ∙ e))
 
 -- and what doesn't is none
 pub is_no_group : (plan : Plan) (log : List Timed) (front : List ℕ) (m : Message) (sort : Sort) (text : List ℕ) (sent : Sending) (group : Option ℕ)
     → IsSendingOf plan log m sent → IsSentGroup plan m.pgn m.bytes sent group → IsGrouped plan log front m sent group sort text
     → is_grouped sort ≡ false → IsGroupOfMessage plan log m None
-is_no_group plan log front m sort text sent (Some g) sending of grouped e = absurd (false_true (sym e ∙ ap is_grouped grouped.0))
+is_no_group plan log front m sort text sent (Some g) sending of grouped e = absurd (false≢true (sym e ∙ ap is_grouped grouped.0))
 is_no_group plan log front m sort text sent None sending of grouped e = (sent, sending, of)
 
 -- three texts after one another
@@ -76,3 +78,15 @@ has_another all_frames old new written line n m is now before asked other =
 -- or none, since none is asked for
 pub has_none : (all_frames : Bool) (written line : List ℕ) → all_frames ≡ false → [] ≡ bare_text all_frames written line
 has_none all_frames written line unasked = sym (ap (λ (b : Bool). if b && length written == 0 then line else []) unasked)
+
+-- ---- what is written at a frame
+
+-- by logs that are so in other words
+pub written_so : {IsSo IsOther : List Timed → Type 0} {plan : Plan} {all_frames : Bool} {front : List ℕ} {f : Frame} {sorts : Sort × Option Sort}
+    {listened listeners : Listeners} {kept exchanges : Exchanges} {old new : List ℕ} → ((log : List Timed) → IsOther log → IsSo log)
+    → WritesFrame IsSo plan all_frames front f sorts listened listeners kept exchanges old new
+    → WritesFrame IsOther plan all_frames front f sorts listened listeners kept exchanges old new
+written_so so writes = record {
+  written = λ seen log is. writes.written seen log (so log is);
+  noted = λ log events is. writes.noted log events (so log is);
+}

@@ -5,7 +5,7 @@ use Rattle.std.specs.List.{All, slice_get}
 use Rattle.std.proofs.lemmas.Bool.{cases_Bool, true≢false}
 use Rattle.std.proofs.lemmas.List.{append-nil, length-append, map-append}
 use Rattle.std.proofs.lemmas.List.Elements.{All-cons, All-head, All-nil, All-tail}
-use Rattle.std.proofs.lemmas.Option.{get_or_from_slice_get, slice_get-get_or, slice_get_within}
+use Rattle.std.proofs.lemmas.Option.{get_or_from_slice_get, slice_get-get_or, slice_get_within, none-some, same_Some}
 use Rattle.j39_id.proofs.LineLaws.{not_both, one_spelled}
 use Rattle.j39_id.specs.FrameLine.{HasLineFault, Spells}
 use Rattle.j39_id.specs.Ident.{pgn_of}
@@ -32,9 +32,10 @@ use Rattle.j39_follow.specs.Fits.{IsPlannedAs, IsSentGroup, MayBeGroup, fitting_
 use Rattle.j39_follow.specs.FollowReports.{IsBareText, IsGroupOfMessage, IsGrouped, IsMessageReport, IsNotice, Message, frame_line, in_frame, stamp}
 use Rattle.j39_follow.specs.FollowText.{FollowedPast, FollowsFrame, FollowsLine, FollowsLines, FollowsPart, HeardSince, IsFollowedAs, IsPacketReport}
 use Rattle.j39_follow.specs.FollowText.{frames_seen, line_passed_over, lines_with, nothing_followed, one_line_more}
-use Rattle.j39_follow.specs.GroupLines.{AreToldAlike, GroupsAreToldAlike, IsNoticed, IsThinned, IsWhole, LineTexts, StayInHands, TellOneMessage, all_followed, all_read}
+use Rattle.j39_follow.specs.GroupLines.{AreToldAlike, GroupsAreToldAlike, IsNoticed, IsThinned, IsWhole, LineTexts, StayInHands, TellOneMessage, all_followed}
+use Rattle.j39_follow.specs.GroupLines.{all_read}
 use Rattle.j39_follow.specs.declared.message.Sort.{Sort}
-use Rattle.j39_follow.specs.declared.sending.Sending.{Sending}
+use Rattle.j39_follow.specs.declared.flow.sending.Sending.{Sending}
 use Rattle.j39_follow.proofs.Alike.{line_grows, lines_grow, whole_part}
 
 empty_list : (t : List ℕ) → length t ≡ 0 → t ≡ []
@@ -199,12 +200,6 @@ all_since plan seen s d h since stay = elim since.anew [
 
 -- ---- a frame
 
-some_same : {A : Type 0} (x y : A) → Some x ≡ Some y → x ≡ y
-some_same x y e = cc
-
-none_some : {A : Type 0} (x : A) → None ≡ Some x → ⊥
-none_some x e = cc
-
 planned_there : (plan : Plan) → HasNoPrivate plan → (log : List Timed) (f : Frame) (group : Option ℕ) → IsGroupOfMessage plan log (in_frame f) group
     → planned_group plan f ≡ group
 planned_there plan shared log f group is = same_group plan shared (pgn_of f.ident) f.payload.items is.0 group is.2
@@ -216,7 +211,7 @@ same_packet plan shared log f (Some p) None a (inl b) = absurd (b (planned_there
 same_packet plan shared log f (Some p) None a (inr b) = absurd (b p a.1)
 same_packet plan shared log f None (Some q) (inl a) b = absurd (a q b.1)
 same_packet plan shared log f None (Some q) (inr a) b =
-    absurd (none_some a.0 (sym b.0 ∙ planned_there plan shared log f (Some a.0) a.1))
+    absurd (none-some a.0 (sym b.0 ∙ planned_there plan shared log f (Some a.0) a.1))
 same_packet plan shared log f None None a b = refl
 
 -- what both write of one message
@@ -228,7 +223,7 @@ grouped_alike : (plan : Plan) (log : List Timed) (front : List ℕ) (m : Message
 grouped_alike plan log front m sent None sort t u a b = inl (a.1, b)
 grouped_alike plan log front m sent (Some g) sort t u a b =
     let there = a.3 in
-    let same : b.value ≡ there.value = some_same b.value there.value (sym b.value_is ∙ there.value_is) in
+    let same : b.value ≡ there.value = same_Some b.value there.value (sym b.value_is ∙ there.value_is) in
     inr (record {
       place = g;
       group = there.value;
@@ -290,7 +285,7 @@ carried_alike plan shared before log front f p sorts t u (h, since, inr (none, i
 no_report : (plan : Plan) → HasNoPrivate plan → (log : List Timed) (front : List ℕ) (f : Frame) (sort : Sort) (t : List ℕ)
     → IsGroupOfMessage plan log (in_frame f) None → IsMessageReport plan log front (in_frame f) sort t → t ≡ []
 no_report plan shared log front f sort t none (sent, Some g, sending, is, report) =
-    absurd (none_some g (sym (planned_there plan shared log f None none) ∙ planned_there plan shared log f (Some g) (sent, sending, is)))
+    absurd (none-some g (sym (planned_there plan shared log f None none) ∙ planned_there plan shared log f (Some g) (sent, sending, is)))
 no_report plan shared log front f sort t none (sent, None, sending, is, report) = report.1
 
 body_alike : (plan : Plan) → HasNoPrivate plan → (before : List Seen) (log : List Timed) (front : List ℕ) (f : Frame) (p : Option Packet) (sort : Sort)
@@ -398,7 +393,8 @@ over_seen BadIdent past = refl
 over_seen TooLong past = refl
 over_seen BadData past = refl
 
-part_alike : (plan : Plan) (all_frames : Bool) → HasNoPrivate plan → (past : FollowedPast) (read : Past) (line part : List ℕ) (named : Option (List ℕ)) (next : FollowedPast)
+part_alike : (plan : Plan) (all_frames : Bool) → HasNoPrivate plan
+    → (past : FollowedPast) (read : Past) (line part : List ℕ) (named : Option (List ℕ)) (next : FollowedPast)
     (other : Past) (t u : List ℕ) → part ≡ line → past.seen ≡ read.seen → FollowsPart plan all_frames past line part named next t
     → ReadsLine plan read (Short line) other u → LineAlike plan past.seen t u next.seen other.seen
 part_alike plan all_frames shared past read line part named next other t u whole seen (inl f) (inl g) =
@@ -414,7 +410,8 @@ part_alike plan all_frames shared past read line part named next other t u whole
     let there : other.seen ≡ read.seen = ap (λ (p : Past). p.seen) g.2 ∙ over_seen g.0 read in
     nothing_alike plan past.seen t u next.seen other.seen f.3 g.3 here (here ∙ seen ∙ sym there)
 
-line_alike : (plan : Plan) (all_frames : Bool) → HasNoPrivate plan → (past : FollowedPast) (read : Past) (line : Line) (next : FollowedPast) (other : Past) (t u : List ℕ)
+line_alike : (plan : Plan) (all_frames : Bool) → HasNoPrivate plan
+    → (past : FollowedPast) (read : Past) (line : Line) (next : FollowedPast) (other : Past) (t u : List ℕ)
     → past.seen ≡ read.seen → IsUndirected line → FollowsLine plan all_frames past line next t → next.elsewhere ≡ past.elsewhere
     → ReadsLine plan read line other u → LineAlike plan past.seen t u next.seen other.seen
 line_alike plan all_frames shared past read (Short line) next other t u seen undirected follows stays reads = elim follows.4 [
@@ -430,7 +427,8 @@ line_alike plan all_frames shared past read Long next other t u seen undirected 
 
 -- ---- all lines
 
-lines_alike : (plan : Plan) (all_frames : Bool) → HasNoPrivate plan → (log : List Line) (past : FollowedPast) (read : Past) (end : FollowedPast) (other : Past) (t u : List ℕ)
+lines_alike : (plan : Plan) (all_frames : Bool) → HasNoPrivate plan
+    → (log : List Line) (past : FollowedPast) (read : Past) (end : FollowedPast) (other : Past) (t u : List ℕ)
     → past.seen ≡ read.seen → All IsUndirected log → FollowsLines plan all_frames past log end t → end.elsewhere ≡ past.elsewhere
     → ReadsLines plan read log other u → AreToldAlike plan (frames_seen end.seen) t u × ((more : List Seen) × (end.seen ≡ past.seen ++ more))
 unfolding all_followed all_read
@@ -460,7 +458,8 @@ lines_alike plan all_frames shared (line ∷ log) past read end other t u seen u
     later.1.1 ∙ ap (λ (s : List Seen). s ++ later.1.0) now.grown.1 ∙ append_assoc past.seen now.grown.0 later.1.0 in (
       record {
         rows = now.row ∷ told.rows;
-        reports_are = follows.5 ∙ ap (λ (x : List ℕ). x ++ follows.2) now.text_is ∙ ap (λ (x : List ℕ). (now.row.notice ++ now.row.followed) ++ x) told.reports_are;
+        reports_are =
+            follows.5 ∙ ap (λ (x : List ℕ). x ++ follows.2) now.text_is ∙ ap (λ (x : List ℕ). (now.row.notice ++ now.row.followed) ++ x) told.reports_are;
         texts_are = reads.5 ∙ ap (λ (x : List ℕ). x ++ reads.2) now.read_is ∙ ap (λ (x : List ℕ). now.row.read ++ x) told.texts_are;
         noticed = All-cons (IsNoticed plan) now.row told.rows now.noticed told.noticed;
         thinned = All-cons (IsThinned plan) now.row told.rows now.thinned told.thinned;

@@ -3,6 +3,7 @@ use Rattle.std.proofs.Common.{◌≡◌, ◌⊎◌, ℕ, Bool, List, [], ◌∷�
 use Rattle.std.proofs.Common.{append_assoc}
 use Rattle.std.proofs.lemmas.Bool.{cases_order}
 use Rattle.std.proofs.lemmas.List.{same_from_push}
+use Rattle.std.proofs.lemmas.Option.{none-some, same_Some}
 use Rattle.j39_id.specs.declared.frame.Frame.{Frame}
 use Rattle.j39_id.specs.declared.ident.Ident.{Ident}
 use Rattle.j39_network.specs.declared.plan.Plan.{Plan}
@@ -15,24 +16,20 @@ use Rattle.j39_tp.proofs.Tracking.{one_message, one_pgn}
 use Rattle.j39_tp.specs.declared.packet.Packet.{Packet}
 use Rattle.j39_follow.specs.Contests.{Timed}
 use Rattle.j39_follow.specs.Fits.{IsSentGroup, fitting_flow}
-use Rattle.j39_follow.specs.FollowReports.{AreTold, IsAnswerWay, IsAsked, IsBareText, IsGroupOfMessage, IsGrouped, IsMessageReport, IsNotice, IsSendingOf, IsWay, Message, aim_at, answer_way_text, bare_text, frame_line, in_frame, is_to_all, message_line, notice_text, told_events}
+use Rattle.j39_follow.specs.FollowReports.{AreEventsOf, IsAnswerWay, IsAsked, IsBareText, IsGroupOfMessage, IsGrouped, IsMessageReport, IsNotice, IsSendingOf}
+use Rattle.j39_follow.specs.FollowReports.{IsWay, Message, aim_at, answer_way_text, bare_text, frame_line, in_frame, is_to_all, message_line, notice_text}
+use Rattle.j39_follow.specs.FollowReports.{frame_events}
 use Rattle.j39_follow.specs.FollowText.{HeardSince, IsCarriedReport, IsFollowedAs, IsPacketReport, OneChangesHands}
-use Rattle.j39_follow.specs.LoggedRequests.{asked_request, told_address}
+use Rattle.j39_follow.specs.LoggedRequests.{asked_request, asker_or_source}
 use Rattle.j39_follow.specs.Who.{unit_of, who_text}
-use Rattle.j39_follow.specs.declared.event.Event.{Event}
+use Rattle.j39_follow.specs.declared.request.event.Event.{Event}
 use Rattle.j39_follow.specs.declared.message.Sort.{Sort}
-use Rattle.j39_follow.specs.declared.sending.Aim.{Aim}
-use Rattle.j39_follow.specs.declared.sending.Aim.TheVariants as aims
-use Rattle.j39_follow.specs.declared.sending.Sending.{Sending}
-use Rattle.j39_follow.specs.declared.who.Who.{Who}
-use Rattle.j39_follow.proofs.Holding.{ending}
-use Rattle.j39_follow.proofs.Contested.{one_taken}
-
-some_same : {A : Type 0} (x y : A) → Some x ≡ Some y → x ≡ y
-some_same x y e = cc
-
-none_some : {A : Type 0} (x : A) → None ≡ Some x → ⊥
-none_some x e = cc
+use Rattle.j39_follow.specs.declared.flow.sending.Aim.{Aim}
+use Rattle.j39_follow.specs.declared.flow.sending.Aim.TheVariants as aims
+use Rattle.j39_follow.specs.declared.flow.sending.Sending.{Sending}
+use Rattle.j39_follow.specs.declared.address.who.Who.{Who}
+use Rattle.j39_follow.proofs.Addresses.Holding.{ending}
+use Rattle.j39_follow.proofs.Addresses.Contested.{one_taken}
 
 -- ---- from whom to whom
 
@@ -68,7 +65,7 @@ one_sending plan log m s t a b =
 
 one_answer_way : (plan : Plan) (log : List Timed) (f : Frame) (t u : List ℕ) → IsAnswerWay plan log f t → IsAnswerWay plan log f u → t ≡ u
 one_answer_way plan log f t u a b =
-    let there = told_address plan f in
+    let there = asker_or_source plan f in
     let sender = one_taken plan log f.ident.sa a.sender b.sender a.sender_is b.sender_is in
     let asker = one_taken plan log there a.asker b.asker a.asker_is b.asker_is in
     a.text_is
@@ -101,18 +98,19 @@ one_bare plan all_frames log front f written t u a b =
 
 -- what a frame tells of requests is one list
 pub one_told : (plan : Plan) (log : List Timed) (f : Frame) (sorts : List Sort) (a b : List Event)
-    → AreTold plan log f sorts a → AreTold plan log f sorts b → a ≡ b
+    → AreEventsOf plan log f sorts a → AreEventsOf plan log f sorts b → a ≡ b
 one_told plan log f sorts a b x y =
     let sent = one_sending plan log (in_frame f) x.sent y.sent x.sent_is y.sent_is in
-    let asker = one_taken plan log (told_address plan f) x.asker y.asker x.asker_is y.asker_is in
+    let asker = one_taken plan log (asker_or_source plan f) x.asker y.asker x.asker_is y.asker_is in
     x.events_are
-    ∙ ap (λ (s : Sending). told_events plan f s x.asker sorts) sent
-    ∙ ap (λ (w : Who). told_events plan f y.sent w sorts) asker
+    ∙ ap (λ (s : Sending). frame_events plan f s x.asker sorts) sent
+    ∙ ap (λ (w : Who). frame_events plan f y.sent w sorts) asker
     ∙ sym y.events_are
 
 -- ---- groups
 
-one_group : (plan : Plan) (pgn : ℕ) (bytes : List ℕ) (sent : Sending) (a b : Option ℕ) → IsSentGroup plan pgn bytes sent a → IsSentGroup plan pgn bytes sent b → a ≡ b
+one_group : (plan : Plan) (pgn : ℕ) (bytes : List ℕ) (sent : Sending) (a b : Option ℕ) → IsSentGroup plan pgn bytes sent a → IsSentGroup plan pgn bytes sent b
+    → a ≡ b
 one_group plan pgn bytes sent (Some g) (Some h) x y = elim (cases_order g h) [
   | inl same ↦ ap Some same
   | inr (inl less) ↦ absurd (y.1 g less x.0)
@@ -133,7 +131,7 @@ one_grouped : (plan : Plan) (log : List Timed) (front : List ℕ) (m : Message) 
 one_grouped plan log front m sent None s z t u a b = (a.0 ∙ sym b.0, a.1 ∙ sym b.1)
 one_grouped plan log front m sent (Some g) s z t u a b =
     let way = one_way plan log m.ident a.1 b.1 a.2 b.2 in
-    let group = some_same a.3.value b.3.value (sym a.3.value_is ∙ b.3.value_is) in (
+    let group = same_Some a.3.value b.3.value (sym a.3.value_is ∙ b.3.value_is) in (
       a.0 ∙ sym b.0,
       a.3.meets
           ∙ ap (λ (w : List ℕ). message_line a.3.value front w (fitting_flow plan g sent) m ++ named_reading_lines plan a.3.value m.bytes) way
@@ -155,10 +153,10 @@ pub one_heard_as : (plan : Plan) (log : List Timed) (f : Frame) (p q : Option Pa
 one_heard_as plan log f (Some p) (Some q) a b = ap Some (one_packet f p q a.1 b.1)
 one_heard_as plan log f (Some p) None a (inl none) = absurd (none p a.1)
 one_heard_as plan log f (Some p) None a (inr group) =
-    absurd (none_some group.0 (one_group_of_message plan log (in_frame f) None (Some group.0) a.0 group.1))
+    absurd (none-some group.0 (one_group_of_message plan log (in_frame f) None (Some group.0) a.0 group.1))
 one_heard_as plan log f None (Some q) (inl none) b = absurd (none q b.1)
 one_heard_as plan log f None (Some q) (inr group) b =
-    absurd (none_some group.0 (one_group_of_message plan log (in_frame f) None (Some group.0) b.0 group.1))
+    absurd (none-some group.0 (one_group_of_message plan log (in_frame f) None (Some group.0) b.0 group.1))
 one_heard_as plan log f None None a b = refl
 
 -- ---- what a pair heard

@@ -1,5 +1,5 @@
 -- For a plan and a log there is one text.
-use Rattle.std.proofs.Common.{◌≡◌, ◌⊎◌, ◌+◌, ℕ, Bool, List, [], ◌∷◌, ◌++◌, codes, Option, Some, None, inl, inr, refl, sym, ap, subst, ◌∙◌}
+use Rattle.std.proofs.Common.{◌≡◌, ◌⊎◌, ◌+◌, ℕ, Bool, List, [], ◌∷◌, ◌++◌, Option, Some, None, inl, inr, refl, sym, ap, subst, ◌∙◌}
 use Rattle.j39_id.proofs.LineLaws.{not_both, one_fault, one_spelled}
 use Rattle.j39_id.specs.FrameLine.{IsLastWord}
 use Rattle.j39_id.specs.Lines.{Line, Short, Long, lines}
@@ -12,16 +12,17 @@ use Rattle.j39_stream.specs.declared.verdict.Verdict.{Verdict}
 use Rattle.j39_stream.specs.declared.verdict.Verdict.TheVariants.{Done, Findings, Refused, Unreadable}
 use Rattle.j39_tp.specs.declared.packet.Packet.{Packet}
 use Rattle.j39_follow.specs.Contests.{Timed}
-use Rattle.j39_follow.specs.FollowReports.{AreTold, IsBareText, in_frame, stamp}
-use Rattle.j39_follow.specs.FollowText.{AreUnitLines, IsFollowText, IsFollowedLog, IsPacketReport, FollowedPast, FollowsFrame, FollowsLine, FollowsLines, FollowsPart, FollowsShort, frames_seen, lines_with, nothing_followed, one_line_more, line_passed_over}
+use Rattle.j39_follow.specs.FollowReports.{AreEventsOf, IsBareText, in_frame, stamp}
+use Rattle.j39_follow.specs.FollowText.{AreUnitLines, IsFollowText, IsFollowedLog, IsPacketReport, FollowedPast, FollowsFrame, FollowsLine, FollowsLines}
+use Rattle.j39_follow.specs.FollowText.{FollowsPart, FollowsShort, frames_seen, lines_with, nothing_followed, one_line_more, line_passed_over}
 use Rattle.j39_follow.specs.LogLines.{IsElsewhere, IsReadPart, IsTimeText, NamesInterface, interface_behind}
-use Rattle.j39_follow.specs.declared.event.Event.{Event}
+use Rattle.j39_follow.specs.declared.request.event.Event.{Event}
 use Rattle.j39_follow.specs.declared.message.Sort.{Sort}
 use Rattle.j39_follow.specs.inside.FollowedSoFar.{behind_reports}
-use Rattle.j39_follow.proofs.FirstWords.{one_first_word}
+use Rattle.j39_follow.proofs.Lines.FirstWords.{one_first_word}
 use Rattle.j39_follow.proofs.OneFrame.{one_bare, one_heard_as, one_message_report, one_notice, one_packet_report, one_told}
-use Rattle.j39_follow.proofs.Splitting.{one_split}
-use Rattle.j39_follow.proofs.Standing.{one_unit_lines}
+use Rattle.j39_follow.proofs.Lines.Splitting.{one_split}
+use Rattle.j39_follow.proofs.Addresses.Standing.{one_unit_lines}
 
 -- ---- a line
 
@@ -55,7 +56,7 @@ with_frame past time named f packet sort sorts events = record past {
   timed = lines_with past f time;
   interface = interface_behind past.interface named;
   sent = past.sent ++ sort ∷ sorts;
-  told = past.told ++ events;
+  events = past.events ++ events;
 }
 
 one_frame_read : (plan : Plan) (all_frames : Bool) (past : FollowedPast) (time : List ℕ) (named : Option (List ℕ)) (f : Frame) (next other : FollowedPast) (t u : List ℕ)
@@ -72,8 +73,8 @@ one_frame_read plan all_frames past time named f next other t u a b =
     let there = subst (λ (p : Option Packet). IsPacketReport plan past.seen log front f p a.sorts a.carried) packet a.carried_is in
     let carried = one_packet_report plan past.seen log front f b.packet a.sorts b.sorts a.carried b.carried there b.carried_is in
     let told = one_told plan log f (b.sort ∷ b.sorts) a.events b.events
-    (subst (λ (s : List Sort). AreTold plan log f (b.sort ∷ s) a.events) carried.0
-    (subst (λ (s : Sort). AreTold plan log f (s ∷ a.sorts) a.events) report.0 a.events_are)) b.events_are in (
+    (subst (λ (s : List Sort). AreEventsOf plan log f (b.sort ∷ s) a.events) carried.0
+    (subst (λ (s : Sort). AreEventsOf plan log f (s ∷ a.sorts) a.events) report.0 a.events_are)) b.events_are in (
       a.next_is
           ∙ ap (λ (p : Option Packet). with_frame past time named f p a.sort a.sorts a.events) packet
           ∙ ap (λ (s : Sort). with_frame past time named f b.packet s a.sorts a.events) report.0
@@ -156,7 +157,8 @@ one_log_text plan all_frames log t u a b =
     ∙ ap (λ (p : FollowedPast). b.reports ++ behind_reports plan p a.units) same.0 ∙ ap (λ (x : List ℕ). b.reports ++ behind_reports plan b.past x) units
     ∙ sym b.text_is
 
-pub one_text : (plan : Plan) (all_frames : Bool) (log t u : List ℕ) (v w : Verdict) → IsFollowText plan all_frames log t v → IsFollowText plan all_frames log u w → (t ≡ u) × (v ≡ w)
+pub one_text : (plan : Plan) (all_frames : Bool) (log t u : List ℕ) (v w : Verdict) → IsFollowText plan all_frames log t v
+    → IsFollowText plan all_frames log u w → (t ≡ u) × (v ≡ w)
 one_text plan all_frames log t u Done Done a b = (one_log_text plan all_frames log t u a.1 b.1, refl)
 one_text plan all_frames log t u Refused Refused a b =
     (a.2 ∙ ap (refused_plan_line plan) (one_refused plan.groups.items a.0 b.0 a.1 b.1) ∙ sym b.2, refl)

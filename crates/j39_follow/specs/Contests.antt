@@ -7,12 +7,12 @@ use Rattle.j39_id.specs.Addresses.{in_pool}
 use Rattle.j39_id.specs.FrameMeaning.{name_in}
 use Rattle.j39_id.specs.declared.frame.Frame.{Frame}
 use Rattle.j39_network.specs.declared.plan.Plan.{Plan}
-use Rattle.j39_follow.specs.Holders.{Claims, HoldsByFrames, IsHolder, TellsOf}
+use Rattle.j39_follow.specs.Holders.{Claims, HoldsByFrames, IsHolder, ClaimsOrCannot}
 use Rattle.j39_follow.specs.Who.{IsLikeliest, IsSameParty, IsWho, unit_of_name}
-use Rattle.j39_follow.specs.declared.contest.Contention.{Contention}
-use Rattle.j39_follow.specs.declared.contest.Contest.{Contest}
-use Rattle.j39_follow.specs.declared.who.Who.{Who}
-use Rattle.j39_follow.specs.declared.who.Who.TheVariants.{Likely, LikelyStranger}
+use Rattle.j39_follow.specs.declared.address.contest.Contention.{Contention}
+use Rattle.j39_follow.specs.declared.address.contest.Contest.{Contest}
+use Rattle.j39_follow.specs.declared.address.who.Who.{Who}
+use Rattle.j39_follow.specs.declared.address.who.Who.TheVariants.{Likely, LikelyStranger}
 
 -- a frame, and the time of its line in microseconds, if it has one
 pub record Timed : Type 0 where
@@ -39,7 +39,7 @@ pub record ClaimedLast (frames : List Frame) (name address : ℕ) : Type 0 where
   pub behind : List Frame
   pub row : frames ≡ before ++ claim ∷ behind
   pub claims : Claims claim name address
-  pub untold : All (λ f. ¬ TellsOf f name) behind
+  pub unheard : All (λ f. ¬ ClaimsOrCannot f name) behind
 
 -- a contest runs at this time
 pub record Runs (kept : Option Contest) (time : Option ℕ) (c : Contest) : Type 0 where
@@ -87,7 +87,7 @@ BeginsNone plan before old x address = (c : Contest) → ¬ Begins plan before o
 
 -- a frame ends it: it tells anything of the NAME that defends the address, or of another one of its unit
 abbrev pub EndsContest : Plan → Frame → Contest → Type 0
-EndsContest plan f c = (name : ℕ) × TellsOf f name × IsSameParty (likely_named plan name) c.defender
+EndsContest plan f c = (name : ℕ) × ClaimsOrCannot f name × IsSameParty (likely_named plan name) c.defender
 
 -- the contest that is kept behind a line: the one that it begins, or the one from before that it doesn't end
 abbrev pub IsContestBehind : Plan → List Timed → Contention → Timed → ℕ → Option Contest → Type 0

@@ -9,9 +9,9 @@ use Rattle.j39_network.specs.declared.plan.flow_plan.FlowPlan.{FlowPlan}
 use Rattle.j39_network.specs.declared.plan.group_plan.GroupPlan.{GroupPlan}
 use Rattle.j39_network.specs.declared.plan.to.To.{To}
 use Rattle.j39_network.specs.declared.plan.to.To.TheVariants.{All as ToAll, One as ToOne}
-use Rattle.j39_follow.specs.declared.sending.Aim.{Aim}
-use Rattle.j39_follow.specs.declared.sending.Aim.TheVariants.{All, One}
-use Rattle.j39_follow.specs.declared.sending.Sending.{Sending}
+use Rattle.j39_follow.specs.declared.flow.sending.Aim.{Aim}
+use Rattle.j39_follow.specs.declared.flow.sending.Aim.TheVariants.{All, One}
+use Rattle.j39_follow.specs.declared.flow.sending.Sending.{Sending}
 
 -- who is meant by a flow gets the message: all of a flow to all, one of a flow to one;
 -- a single frame of PDU2 names no destination, so one of a flow to a unit goes to all

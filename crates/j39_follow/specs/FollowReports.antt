@@ -17,17 +17,18 @@ use Rattle.j39_text.specs.Labels.{unit_label}
 use Rattle.j39_text.specs.Texts.{field, place_field}
 use Rattle.j39_follow.specs.Contests.{IsTaken, Timed}
 use Rattle.j39_follow.specs.Fits.{IsSentGroup, fitting_flow}
-use Rattle.j39_follow.specs.LoggedRequests.{acknowledged_group, acknowledges, asked_request, asked_text, control_of, control_word, is_refusal, counted_number as number_of, told_address}
+use Rattle.j39_follow.specs.LoggedRequests.{acknowledged_group, acknowledges, asked_request, asked_text, control_of, control_word, is_refusal}
+use Rattle.j39_follow.specs.LoggedRequests.{counted_number as number_of, asker_or_source}
 use Rattle.j39_follow.specs.Who.{is_of_any, name_text, unit_of_name, unit_of, who_text}
-use Rattle.j39_follow.specs.declared.event.Event.{Event}
-use Rattle.j39_follow.specs.declared.event.Event.TheVariants.{Asked, Brought, Refused}
-use Rattle.j39_follow.specs.declared.event.Reply.{Reply}
+use Rattle.j39_follow.specs.declared.request.event.Event.{Event}
+use Rattle.j39_follow.specs.declared.request.event.Event.TheVariants.{Asked, Brought, Refused}
+use Rattle.j39_follow.specs.declared.request.event.Reply.{Reply}
 use Rattle.j39_follow.specs.declared.message.Sort.{Sort}
 use Rattle.j39_follow.specs.declared.message.Sort.TheVariants.{Grouped, Other}
-use Rattle.j39_follow.specs.declared.sending.Aim.{Aim}
-use Rattle.j39_follow.specs.declared.sending.Aim.TheVariants as aims
-use Rattle.j39_follow.specs.declared.sending.Sending.{Sending}
-use Rattle.j39_follow.specs.declared.who.Who.{Who}
+use Rattle.j39_follow.specs.declared.flow.sending.Aim.{Aim}
+use Rattle.j39_follow.specs.declared.flow.sending.Aim.TheVariants as aims
+use Rattle.j39_follow.specs.declared.flow.sending.Sending.{Sending}
+use Rattle.j39_follow.specs.declared.address.who.Who.{Who}
 
 -- what stands before a report: the number of the line, and its time
 unfoldable pub stamp : ℕ → List ℕ → List ℕ
@@ -117,8 +118,8 @@ pub record IsAnswerWay (plan : Plan) (log : List Timed) (f : Frame) (text : List
   pub sender : Who
   pub asker : Who
   pub sender_is : IsTaken plan log f.ident.sa sender
-  pub asker_is : IsTaken plan log (told_address plan f) asker
-  pub text_is : text ≡ answer_way_text plan sender f.ident.sa asker (told_address plan f)
+  pub asker_is : IsTaken plan log (asker_or_source plan f) asker
+  pub text_is : text ≡ answer_way_text plan sender f.ident.sa asker (asker_or_source plan f)
 
 unfoldable pub answer_text : List ℕ → List ℕ → Frame → List ℕ → List ℕ
 answer_text front word f way = front ++ (field word (acknowledged_group f) ++ (way ++ 10 ∷ []))
@@ -156,7 +157,7 @@ answer_aim address asker = if address == global_address then aims.All else aim_a
 -- what an acknowledgement refuses
 abbrev pub refusal_events : Plan → Frame → Sending → Who → List Event
 refusal_events plan f sent asker =
-    if is_refusal f then Refused (reply_of (acknowledged_group f) sent.sender (answer_aim (told_address plan f) asker)) ∷ [] else []
+    if is_refusal f then Refused (reply_of (acknowledged_group f) sent.sender (answer_aim (asker_or_source plan f) asker)) ∷ [] else []
 
 -- what a frame asks or refuses
 abbrev pub notice_events : Plan → Frame → Sending → Who → List Event
@@ -164,17 +165,17 @@ notice_events plan f sent asker =
     if requests_group f then option_to_list (option_map Asked (asked_request plan (requested_group f) sent))
     else if acknowledges plan f then refusal_events plan f sent asker else []
 
-abbrev pub told_events : Plan → Frame → Sending → Who → List Sort → List Event
-told_events plan f sent asker sorts =
+abbrev pub frame_events : Plan → Frame → Sending → Who → List Sort → List Event
+frame_events plan f sent asker sorts =
     notice_events plan f sent asker ++ map (λ (sort : Sort). Brought (reply_of (number_of plan sort) sent.sender sent.aim)) sorts
 
 -- what a frame tells of requests: what it asks or refuses, and then the messages that it is and ends
-pub record AreTold (plan : Plan) (log : List Timed) (f : Frame) (sorts : List Sort) (events : List Event) : Type 0 where
+pub record AreEventsOf (plan : Plan) (log : List Timed) (f : Frame) (sorts : List Sort) (events : List Event) : Type 0 where
   pub sent : Sending
   pub asker : Who
   pub sent_is : IsSendingOf plan log (in_frame f) sent
-  pub asker_is : IsTaken plan log (told_address plan f) asker
-  pub events_are : events ≡ told_events plan f sent asker sorts
+  pub asker_is : IsTaken plan log (asker_or_source plan f) asker
+  pub events_are : events ≡ frame_events plan f sent asker sorts
 
 -- ---- groups
 

@@ -2,7 +2,7 @@
 use Rattle.std.specs.Prelude.{◌≡◌, ℕ, ◌+◌, ◌≤◌, ◌==◌, ◌⊎◌, Bool, true, false, if◌then◌else◌, List}
 use Rattle.std.specs.Prelude.{[], ◌∷◌, ◌++◌, length, map, count_by, codes, Some, None, Option}
 use Rattle.std.specs.List.{All, position}
-use Rattle.std.specs.Option.{option_eq, option_map_or}
+use Rattle.std.specs.Option.{option_eq}
 use Rattle.j39_id.specs.FrameLine.{Spells, HasLineFault}
 use Rattle.j39_id.specs.Lines.{Line, Short, Long, lines}
 use Rattle.j39_id.specs.declared.frame.Frame.{Frame}
@@ -23,19 +23,19 @@ use Rattle.j39_log.specs.LogPairs.{Seen, heard}
 use Rattle.j39_log.specs.ReadText.{CarriesNone, refused_plan_line}
 use Rattle.j39_tp.specs.Carried.{Carried}
 use Rattle.j39_tp.specs.declared.packet.Packet.{Packet}
-use Rattle.j39_text.specs.Labels.{group_label, signal_label, unit_label}
+use Rattle.j39_text.specs.Labels.{group_label, need_text, unit_label}
 use Rattle.j39_text.specs.Texts.{field, place_field}
 use Rattle.j39_stream.specs.declared.verdict.Verdict.{Verdict}
 use Rattle.j39_stream.specs.declared.verdict.Verdict.TheVariants.{Done, Findings, Refused, Unreadable}
 use Rattle.j39_follow.specs.Contests.{Timed}
-use Rattle.j39_follow.specs.FollowReports.{AreTold, IsBareText, IsGroupOfMessage, IsMessageReport, IsNotice, in_frame, stamp}
+use Rattle.j39_follow.specs.FollowReports.{AreEventsOf, IsBareText, IsGroupOfMessage, IsMessageReport, IsNotice, in_frame, stamp}
 use Rattle.j39_follow.specs.LoggedRequests.{times_answered, times_asked, times_refused}
-use Rattle.j39_follow.specs.declared.event.Event.{Event}
+use Rattle.j39_follow.specs.declared.request.event.Event.{Event}
 use Rattle.j39_follow.specs.declared.message.Sort.{Sort}
 use Rattle.j39_follow.specs.declared.message.Sort.TheVariants.{Grouped, Other}
 use Rattle.j39_follow.specs.Holders.{HoldsByFrames}
 use Rattle.j39_follow.specs.LogLines.{IsElsewhere, IsReadPart, IsTimeText, NamesInterface, interface_behind, moment_of}
-use Rattle.j39_follow.specs.Who.{ChangesHands, IsUnitTold, is_name_of}
+use Rattle.j39_follow.specs.Who.{ChangesHands, IsUnitHeard, is_name_of}
 
 -- ---- what each two addresses heard
 
@@ -93,13 +93,13 @@ pub record FollowedPast : Type 0 where
   pub timed : List Timed
   pub interface : Option (List ℕ)
   pub sent : List Sort
-  pub told : List Event
+  pub events : List Event
   pub skipped : ℕ
   pub bad : ℕ
   pub elsewhere : ℕ
 
 abbrev pub nothing_followed : FollowedPast
-nothing_followed = record { number = 0; seen = []; timed = []; interface = None; sent = []; told = []; skipped = 0; bad = 0; elsewhere = 0 }
+nothing_followed = record { number = 0; seen = []; timed = []; interface = None; sent = []; events = []; skipped = 0; bad = 0; elsewhere = 0 }
 
 abbrev pub with_bad_line : FollowedPast → FollowedPast
 with_bad_line past = record past { bad = past.bad + 1 }
@@ -131,14 +131,14 @@ pub record FollowsFrame (plan : Plan) (all_frames : Bool) (past : FollowedPast) 
   pub report_is : IsMessageReport plan (lines_with past f time) (stamp past.number time) (in_frame f) sort report
   pub bare_is : IsBareText plan all_frames (lines_with past f time) (stamp past.number time) f (notice ++ report) bare
   pub carried_is : IsPacketReport plan past.seen (lines_with past f time) (stamp past.number time) f packet sorts carried
-  pub events_are : AreTold plan (lines_with past f time) f (sort ∷ sorts) events
+  pub events_are : AreEventsOf plan (lines_with past f time) f (sort ∷ sorts) events
   pub text_is : text ≡ notice ++ (report ++ (bare ++ carried))
   pub next_is : next ≡ record past {
     seen = past.seen ++ record { frame = f; packet = packet } ∷ [];
     timed = lines_with past f time;
     interface = interface_behind past.interface named;
     sent = past.sent ++ sort ∷ sorts;
-    told = past.told ++ events;
+    events = past.events ++ events;
   }
 
 -- a line that isn't elsewhere is read: as the frame that its part spells, or it is passed over
@@ -242,8 +242,8 @@ pub record StandsAt (plan : Plan) (frames : List Frame) (u : ℕ) (unit : UnitPl
 abbrev pub IsUnitLine : Plan → List Frame → ℕ → UnitPlan → List ℕ → Type 0
 IsUnitLine plan frames u unit text =
     ((address : ℕ) × StandsAt plan frames u unit address × (text ≡ unit_end_line unit (field (codes " address ") address)))
-    ⊎ (IsUnitTold plan frames u unit × ((address : ℕ) → ¬ HoldsForUnit plan frames u unit address) × (text ≡ unit_end_line unit (codes " none")))
-    ⊎ ((¬ IsUnitTold plan frames u unit) × (text ≡ unit_end_line unit (codes " unclaimed")))
+    ⊎ (IsUnitHeard plan frames u unit × ((address : ℕ) → ¬ HoldsForUnit plan frames u unit address) × (text ≡ unit_end_line unit (codes " none")))
+    ⊎ ((¬ IsUnitHeard plan frames u unit) × (text ≡ unit_end_line unit (codes " unclaimed")))
 
 -- so it is with these units, the first of which is at this place
 abbrev pub AreUnitLines : Plan → List Frame → ℕ → List UnitPlan → List ℕ → Type 0
@@ -268,12 +268,12 @@ request_end_line plan n r asked answered refused =
 
 -- of each request how often it was asked, answered and refused
 abbrev pub request_end : Plan → List Event → ℕ → RequestPlan → List ℕ
-request_end plan told n r =
-    request_end_line plan n r (times_asked n told) (times_answered plan n r told) (times_refused plan n r told)
+request_end plan events n r =
+    request_end_line plan n r (times_asked n events) (times_answered plan n r events) (times_refused plan n r events)
 
 unfoldable pub request_ends : Plan → List Event → ℕ → List RequestPlan → List ℕ
-request_ends plan told n [] = []
-request_ends plan told n (r ∷ requests) = request_end plan told n r ++ request_ends plan told (n + 1) requests
+request_ends plan events n [] = []
+request_ends plan events n (r ∷ requests) = request_end plan events n r ++ request_ends plan events (n + 1) requests
 
 -- how often the flow at a place was sent, where it meets the need of a plan with these requests
 abbrev pub met_by : List RequestPlan → List Sort → NeedPlan → ℕ → FlowPlan → ℕ
@@ -284,18 +284,9 @@ unfoldable pub times_met : List RequestPlan → List Sort → NeedPlan → ℕ �
 times_met requests sent need n [] = 0
 times_met requests sent need n (flow ∷ flows) = met_by requests sent need n flow + times_met requests sent need (n + 1) flows
 
--- the signal that a need names, if it names one
-unfoldable pub met_signal_text : Plan → NeedPlan → List ℕ
-met_signal_text plan need = option_map_or (λ s. codes " " ++ signal_label plan need.group s) need.signal []
-
--- a need: its place, its unit, its group, and its signal where it names one
-unfoldable pub met_need_text : Plan → ℕ → NeedPlan → List ℕ
-met_need_text plan n need = place_field (codes "need ") n ++ (codes " " ++ (unit_label plan need.unit
-    ++ (codes " " ++ (group_label plan need.group ++ met_signal_text plan need))))
-
 -- a need that was met so often
 unfoldable pub need_met_line : Plan → ℕ → NeedPlan → ℕ → List ℕ
-need_met_line plan n need times = met_need_text plan n need ++ (field (codes " met ") times ++ 10 ∷ [])
+need_met_line plan n need times = need_text plan n need ++ (field (codes " met ") times ++ 10 ∷ [])
 
 -- of each need how often it was met
 abbrev pub need_end : Plan → List Sort → ℕ → NeedPlan → List ℕ
@@ -319,7 +310,7 @@ pub record IsFollowedLog (plan : Plan) (all_frames : Bool) (log text : List ℕ)
   pub read : FollowsLines plan all_frames nothing_followed (lines log) past reports
   pub units_are : AreUnitLines plan (frames_seen past.seen) 0 plan.units.items units
   pub text_is : text ≡ reports ++ (flow_ends plan past.sent 0 plan.flows.items ++ (group_ends plan past.sent 0 plan.groups.items
-      ++ (units ++ (request_ends plan past.told 0 plan.requests.items ++ (need_ends plan past.sent 0 plan.needs.items
+      ++ (units ++ (request_ends plan past.events 0 plan.requests.items ++ (need_ends plan past.sent 0 plan.needs.items
       ++ follow_counts_line (length past.seen) past.skipped past.bad past.elsewhere)))))
 
 -- what is written for a plan and a log, with the verdict, where all frames are told or those of planned groups alone; of the log of a refused plan nothing is read

@@ -11,13 +11,13 @@ pub record Claims (f : Frame) (name address : ℕ) : Type 0 where
   pub source_is : f.ident.sa ≡ address
 
 -- the unit of this NAME claims an address or can't; a frame from the global address tells nothing
-pub record TellsOf (f : Frame) (name : ℕ) : Type 0 where
-  pub told : (claims_address f || cannot_claim f) ≡ true
+pub record ClaimsOrCannot (f : Frame) (name : ℕ) : Type 0 where
+  pub either : (claims_address f || cannot_claim f) ≡ true
   pub name_is : name_in f ≡ name
 
 -- the frame takes the address from the NAME: the unit itself tells something else, or another claims it
 abbrev pub TakesFrom : ℕ → ℕ → Frame → Type 0
-TakesFrom name address f = TellsOf f name ⊎ ((other : ℕ) × Claims f other address)
+TakesFrom name address f = ClaimsOrCannot f name ⊎ ((other : ℕ) × Claims f other address)
 
 -- a claim of the address by the NAME, and behind it nothing that takes the address from it
 pub record HoldsByFrames (frames : List Frame) (name address : ℕ) : Type 0 where
@@ -29,12 +29,12 @@ pub record HoldsByFrames (frames : List Frame) (name address : ℕ) : Type 0 whe
   pub kept : All (λ f. ¬ TakesFrom name address f) behind
 
 -- it claimed an address or could not
-pub record IsTold (frames : List Frame) (name : ℕ) : Type 0 where
+pub record IsNameHeard (frames : List Frame) (name : ℕ) : Type 0 where
   pub before : List Frame
   pub frame : Frame
   pub behind : List Frame
   pub row : frames ≡ before ++ frame ∷ behind
-  pub tells : TellsOf frame name
+  pub says : ClaimsOrCannot frame name
 
 -- the NAME that holds the address, or that none does
 abbrev pub IsHolder : List Frame → ℕ → Option ℕ → Type 0

@@ -1,5 +1,7 @@
 pub mod Alike
+pub mod ContestOrigins
 pub mod Contests
+pub mod CountedOnce
 pub mod Fits
 pub mod FollowReports
 pub mod FollowText

@@ -13,14 +13,14 @@ use Rattle.j39_network.specs.declared.plan.to.To.{To}
 use Rattle.j39_network.specs.declared.plan.to.To.TheVariants.{All as ToAll, One as ToOne}
 use Rattle.j39_text.specs.Texts.{place_field}
 use Rattle.j39_follow.specs.Fits.{is_unit}
-use Rattle.j39_follow.specs.declared.event.Event.{Event}
-use Rattle.j39_follow.specs.declared.event.Event.TheVariants.{Asked, Brought, Refused}
-use Rattle.j39_follow.specs.declared.event.Reply.{Reply}
+use Rattle.j39_follow.specs.declared.request.event.Event.{Event}
+use Rattle.j39_follow.specs.declared.request.event.Event.TheVariants.{Asked, Brought, Refused}
+use Rattle.j39_follow.specs.declared.request.event.Reply.{Reply}
 use Rattle.j39_follow.specs.declared.message.Sort.{Sort}
 use Rattle.j39_follow.specs.declared.message.Sort.TheVariants.{Grouped, Other}
-use Rattle.j39_follow.specs.declared.sending.Aim.{Aim}
-use Rattle.j39_follow.specs.declared.sending.Aim.TheVariants.{All, One}
-use Rattle.j39_follow.specs.declared.sending.Sending.{Sending}
+use Rattle.j39_follow.specs.declared.flow.sending.Aim.{Aim}
+use Rattle.j39_follow.specs.declared.flow.sending.Aim.TheVariants.{All, One}
+use Rattle.j39_follow.specs.declared.flow.sending.Sending.{Sending}
 
 -- the number of the group at a place
 abbrev pub number_of_group : Plan → ℕ → ℕ
@@ -80,8 +80,8 @@ abbrev pub asker_address : Frame → ℕ
 asker_address f = slice_index f.payload.items 4
 
 -- the address of which the frame speaks beside its own ones; of another frame it is the source
-abbrev pub told_address : Plan → Frame → ℕ
-told_address plan f = if acknowledges plan f then asker_address f else f.ident.sa
+abbrev pub asker_or_source : Plan → Frame → ℕ
+asker_or_source plan f = if acknowledges plan f then asker_address f else f.ident.sa
 
 -- the group that was asked for
 abbrev pub acknowledged_group : Frame → ℕ

@@ -4,7 +4,7 @@ use Rattle.std.specs.List.{All, slice_get}
 use Rattle.j39_id.specs.FrameMeaning.{cannot_claim, claims_address, name_in}
 use Rattle.j39_id.specs.Lines.{lines}
 use Rattle.j39_id.specs.declared.frame.Frame.{Frame}
-use Rattle.j39_network.specs.Kinds.{AreToldApart, kind_of_name}
+use Rattle.j39_network.specs.Kinds.{AreDistinctUnits, kind_of_name}
 use Rattle.j39_network.specs.VehiclePlans.{IsVehicleOf}
 use Rattle.j39_network.specs.declared.plan.Plan.{Plan}
 use Rattle.j39_network.specs.declared.plan.unit_plan.UnitPlan.{UnitPlan}
@@ -13,7 +13,7 @@ use Rattle.j39_text.specs.Texts.{field}
 use Rattle.j39_follow.specs.Contests.{Timed}
 use Rattle.j39_follow.specs.FollowReports.{IsNotice, named_text, notice_text}
 use Rattle.j39_follow.specs.FollowText.{IsFollowText, IsFollowedLog, frames_seen}
-use Rattle.j39_follow.specs.Holders.{TellsOf}
+use Rattle.j39_follow.specs.Holders.{ClaimsOrCannot}
 
 -- ---- the NAMEs of a vehicle
 
@@ -26,7 +26,7 @@ IsOfVehicle plan vehicle name =
 -- so is each NAME of which these frames tell
 abbrev pub TellOfVehicle : Plan → Plan → List Frame → Type 0
 TellOfVehicle plan vehicle frames =
-    (before : List Frame) (f : Frame) (behind : List Frame) → frames ≡ before ++ f ∷ behind → (name : ℕ) → TellsOf f name
+    (before : List Frame) (f : Frame) (behind : List Frame) → frames ≡ before ++ f ∷ behind → (name : ℕ) → ClaimsOrCannot f name
     → IsOfVehicle plan vehicle name
 
 -- by this plan the log is followed, and its frames tell of no other box of a unit than the vehicle's
@@ -91,6 +91,6 @@ pub record DifferInNumbers (plan : Plan) (log numbered alone : List ℕ) : Type 
 -- the vehicle's plan, and the serial numbers of boxes
 abbrev pub TypesTellVehicles : Type 0
 TypesTellVehicles = (plan vehicle : Plan) (all_frames : Bool) (log numbered alone : List ℕ) (verdict outcome : Verdict) → IsVehicleOf plan vehicle
-    → AreToldApart plan → IsLogOfVehicle plan vehicle all_frames log → IsFollowText plan all_frames log numbered verdict
+    → AreDistinctUnits plan → IsLogOfVehicle plan vehicle all_frames log → IsFollowText plan all_frames log numbered verdict
     → IsFollowText vehicle all_frames log alone outcome
     → (verdict ≡ outcome) × DifferInNumbers plan log numbered alone

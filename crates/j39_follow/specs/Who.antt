@@ -11,9 +11,9 @@ use Rattle.j39_network.specs.Kinds.{kind_of_name}
 use Rattle.j39_rules.specs.ListPlaces.{ValueAt}
 use Rattle.j39_text.specs.Labels.{unit_label}
 use Rattle.j39_text.specs.Texts.{field}
-use Rattle.j39_follow.specs.Holders.{HoldsByFrames, IsHolder, IsTold}
-use Rattle.j39_follow.specs.declared.who.Who.{Who}
-use Rattle.j39_follow.specs.declared.who.Who.TheVariants.{Holder, Stranger, Likely, LikelyStranger, Unknown}
+use Rattle.j39_follow.specs.Holders.{HoldsByFrames, IsHolder, IsNameHeard}
+use Rattle.j39_follow.specs.declared.address.who.Who.{Who}
+use Rattle.j39_follow.specs.declared.address.who.Who.TheVariants.{Holder, Stranger, Likely, LikelyStranger, Unknown}
 
 -- the first unit with a number whose NAME this is
 abbrev pub numbered_unit : Plan → ℕ → Option ℕ
@@ -37,15 +37,15 @@ abbrev pub is_name_of : Plan → ℕ → UnitPlan → ℕ → Bool
 is_name_of plan u unit name = if unit.any_identity then option_eq (λ a b. a == b) (unit_of_name plan name) (Some u) else unit.name == name
 
 -- one of its NAMEs claimed an address or could not
-pub record IsUnitTold (plan : Plan) (frames : List Frame) (u : ℕ) (unit : UnitPlan) : Type 0 where
+pub record IsUnitHeard (plan : Plan) (frames : List Frame) (u : ℕ) (unit : UnitPlan) : Type 0 where
   pub name : ℕ
   pub name_of : is_name_of plan u unit name ≡ true
-  pub told : IsTold frames name
+  pub heard : IsNameHeard frames name
 
 -- a unit that prefers the address and of which nothing was told
 pub record MayHold (plan : Plan) (frames : List Frame) (address u : ℕ) (unit : UnitPlan) : Type 0 where
   pub prefers : unit.address ≡ address
-  pub untold : ¬ IsUnitTold plan frames u unit
+  pub unheard : ¬ IsUnitHeard plan frames u unit
 
 -- of these the one with the smallest NAME (one of any serial number counts as 0), and of two with one NAME the first
 pub record IsLikeliest (plan : Plan) (frames : List Frame) (address u : ℕ) : Type 0 where

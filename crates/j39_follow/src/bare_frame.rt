@@ -5,9 +5,9 @@ ghost use Rattle.j39_follow.specs.FollowReports.{IsWay, priority_and_bytes, fram
 ghost use Rattle.j39_follow.specs.inside.Contesting.{ShowsParties};
 ghost use Rattle.j39_follow.specs.inside.Reporting.{front_of};
 
-use crate::known_parties::Parties;
-use crate::party_text::write_way;
-use crate::stamp::{Stamp, write_stamp};
+use crate::address::known_parties::Parties;
+use crate::address::party_text::write_way;
+use crate::line::stamp::{Stamp, write_stamp};
 use j39_id::Frame;
 use j39_network::Plan;
 use j39_text::TextBuffer;
@@ -33,7 +33,8 @@ pub(crate) fn write_bare(
     frame: &Frame,
 ) -> Result<(), AllocError>
     ensures { OnOk result ((log : List Timed) → ShowsParties plan.now parties.now log frame.now.ident
-        → (way : List ℕ) × IsWay plan.now log frame.now.ident way × (text.new ≡ text.old ++ frame_line (front_of stamp.entry) way frame.now)) }
+        → (way : List ℕ) × IsWay plan.now log frame.now.ident way
+        × (text.new ≡ text.old ++ frame_line (front_of stamp.entry) way frame.now)) }
 {
     let pgn = frame.ident.pgn().number();
     write_stamp(text, stamp)?;

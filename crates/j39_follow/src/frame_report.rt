@@ -1,5 +1,5 @@
 //! What is written at a frame: what it tells, what it is, or a line of its own, and the message that it ends.
-ghost use Rattle.std.specs.Prelude.{◌≡◌, ◌++◌, ◌+◌, ◌^◌, ◌<◌, ◌∷◌, [], ℕ, List, Some, length, IfOk, OnOk};
+ghost use Rattle.std.specs.Prelude.{◌≡◌, ◌++◌, ℕ, List, Some, IfOk, OnOk};
 ghost use Rattle.std.specs.Option.{option_to_list};
 ghost use Rattle.j39_log.specs.LogPairs.{Seen};
 ghost use Rattle.j39_log.specs.inside.Listening.{AreAllInRange};
@@ -7,21 +7,19 @@ ghost use Rattle.j39_tp.specs.Packets.{InRange};
 ghost use Rattle.j39_follow.specs.Contests.{Timed};
 ghost use Rattle.j39_follow.specs.FollowReports.{IsMessageReport};
 ghost use Rattle.j39_follow.specs.FollowText.{IsPacketReport};
-ghost use Rattle.j39_follow.specs.declared.event.Event.{Event as AnEvent};
-ghost use Rattle.j39_follow.specs.inside.Exchanging.{AreExchanges, AreNoted};
-ghost use Rattle.j39_follow.specs.inside.FrameWriting.{IsFrameWritten, IsItselfWritten};
+ghost use Rattle.j39_follow.specs.inside.FrameWriting.{IsFrameWritten, IsItselfWritten, WritesFrame};
 ghost use Rattle.j39_follow.specs.inside.Hearing.{HaveHeardOneMore, HaveHeardSince};
 ghost use Rattle.j39_follow.specs.inside.Contesting.{ShowsAsker, ShowsParties};
 ghost use Rattle.j39_follow.specs.inside.Reporting.{front_of, arrived_message};
 
+use crate::address::known_parties::Parties;
 use crate::bare_frame::write_bare;
-use crate::exchanges::Exchanges;
-use crate::group_line::write_message;
-use crate::known_parties::Parties;
+use crate::flow::group_line::write_message;
+use crate::line::stamp::Stamp;
 use crate::message::{Arrival, Sort, in_frame};
 use crate::notice::write_notice;
-use crate::stamp::Stamp;
-use crate::telling::note;
+use crate::request::exchanges::Exchanges;
+use crate::request::noting::note;
 use j39_id::Frame;
 use j39_log::{Groups, Listeners, listen, transport_packet};
 use j39_text::TextBuffer;
@@ -41,9 +39,11 @@ fn write_packet(
     requires { InRange packet.now }
     ensures heard { OnOk result ((seen : List Seen) → HaveHeardSince groups.now listeners.old seen
         → HaveHeardOneMore groups.now listeners.new seen (record { frame = frame.now; packet = Some packet.now })) }
-    ensures carried { IfOk result (λ ended. (seen : List Seen) (log : List Timed) → ShowsParties groups.now parties.now log frame.now.ident
+    ensures carried { IfOk result (λ ended. (seen : List Seen) (log : List Timed)
+        → ShowsParties groups.now parties.now log frame.now.ident
         → HaveHeardSince groups.now listeners.old seen → AreAllInRange seen
-        → (piece : List ℕ) × IsPacketReport groups.now seen log (front_of stamp.entry) frame.now (Some packet.now) (option_to_list ended) piece
+        → (piece : List ℕ)
+        × IsPacketReport groups.now seen log (front_of stamp.entry) frame.now (Some packet.now) (option_to_list ended) piece
         × (text.new ≡ text.old ++ piece)) }
 {
     listener_completes_what_is_carried();
@@ -95,8 +95,10 @@ fn write_frame(
     stamp: Stamp<'_>,
     frame: &Frame,
 ) -> Result<(Sort, Option<Sort>), AllocError>
-    ensures { IfOk result (λ sorts. (seen : List Seen) (log : List Timed) → ShowsParties groups.now parties.now log frame.now.ident
-        → ShowsAsker groups.now parties.now log frame.now → HaveHeardSince groups.now listeners.old seen → AreAllInRange seen
+    ensures { IfOk result (λ sorts. (seen : List Seen) (log : List Timed)
+        → ShowsParties groups.now parties.now log frame.now.ident
+        → ShowsAsker groups.now parties.now log frame.now → HaveHeardSince groups.now listeners.old seen
+        → AreAllInRange seen
         → IsFrameWritten groups.now all_frames listeners.new seen log (front_of stamp.entry) frame.now sorts.0 sorts.1 text.old text.new) }
 {
     let sort = write_itself(all_frames, text, groups, parties, stamp, frame)?;
@@ -110,8 +112,8 @@ fn write_frame(
     Ok((sort, ended))
 }
 
-/// What is written at a frame whose claim was noted, what it counts as, and what the message counts as that it ends; what it tells of
-/// requests is noted, where the plan has any.
+/// What is written at a frame whose claim was noted, what it counts as, and what the message counts as that it ends;
+/// what it tells of requests is noted, where the plan has any.
 #[inline(always)]
 pub(crate) fn report_frame(
     all_frames: bool,
@@ -123,12 +125,10 @@ pub(crate) fn report_frame(
     stamp: Stamp<'_>,
     frame: &Frame,
 ) -> Result<(Sort, Option<Sort>), AllocError>
-    ensures written { IfOk result (λ sorts. (seen : List Seen) (log : List Timed) → ShowsParties groups.now parties.now log frame.now.ident
-        → ShowsAsker groups.now parties.now log frame.now → HaveHeardSince groups.now listeners.old seen → AreAllInRange seen
-        → IsFrameWritten groups.now all_frames listeners.new seen log (front_of stamp.entry) frame.now sorts.0 sorts.1 text.old text.new) }
-    ensures noted { IfOk result (λ sorts. (log : List Timed) (events : List AnEvent) → ShowsParties groups.now parties.now log frame.now.ident
-        → ShowsAsker groups.now parties.now log frame.now → length events + 3 < 2 ^ 64 → AreExchanges groups.now exchanges.old events
-        → AreNoted groups.now log frame.now (sorts.0 ∷ option_to_list sorts.1) events exchanges.new) }
+    ensures { IfOk result (λ sorts. WritesFrame (λ log. ShowsParties groups.now parties.now log frame.now.ident
+        × ShowsAsker groups.now parties.now log frame.now)
+        groups.now all_frames (front_of stamp.entry) frame.now sorts listeners.old listeners.new exchanges.old
+        exchanges.new text.old text.new) }
 {
     let (sort, ended) = write_frame(all_frames, text, listeners, groups, parties, stamp, frame)?;
     if groups.plan().requests.is_empty() {

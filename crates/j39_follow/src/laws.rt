@@ -1,5 +1,7 @@
 //! Laws of what frames tell of addresses, and of the text of a log.
 ghost use Rattle.j39_follow.specs.Alike.{FollowAndReadSeeAlike};
+ghost use Rattle.j39_follow.specs.ContestOrigins.{ContestsAreShort};
+ghost use Rattle.j39_follow.specs.CountedOnce.{NeedsAreMetOnce, RequestsAreAnsweredOnce};
 ghost use Rattle.j39_follow.specs.FollowText.{LogHasOneFollowText};
 ghost use Rattle.j39_follow.specs.GroupLines.{GroupsAreToldAlike};
 ghost use Rattle.j39_follow.specs.Holders.{HasOneHolder, HoldsOneAddress};
@@ -12,8 +14,8 @@ pub fn holders_are_one_to_one()
     ensures address { HoldsOneAddress }
 {}
 
-/// Where no two units of a plan may be one, each NAME that a box of a unit may have is taken for this unit's: so a plan of a type knows the
-/// boxes of each vehicle.
+/// Where no two units of a plan may be one, each NAME that a box of a unit may have is taken for this unit's: so a plan
+/// of a type knows the boxes of each vehicle.
 pub fn names_are_of_their_units()
     ensures { NamesAreOfTheirUnits }
 {}
@@ -23,13 +25,14 @@ pub fn a_followed_log_has_one_text()
     ensures { LogHasOneFollowText }
 {}
 
-/// Of a log in which no line ends in a direction and none is of another interface `follow` and `read` see the same frames in one order,
-/// and count as many lines as skipped and as bad.
+/// Of a log in which no line ends in a direction and none is of another interface `follow` and `read` see the same
+/// frames in one order, and count as many lines as skipped and as bad.
 pub fn follow_and_read_see_alike()
     ensures { FollowAndReadSeeAlike }
 {}
 
-/// Of a plan without private groups, and a log in which no line ends in a direction and none is of another interface, the messages that
+/// Of a plan without private groups, and a log in which no line ends in a direction and none is of another interface,
+/// the messages that
 /// `follow` tells of groups are told by `read` too, line after line, and all that `read` tells are where no address changes hands.
 pub fn groups_are_told_alike()
     ensures { GroupsAreToldAlike }
@@ -39,4 +42,19 @@ pub fn groups_are_told_alike()
 /// plan of this vehicle, with the serial numbers of boxes behind their claims and Cannots.
 pub fn types_tell_vehicles()
     ensures { TypesTellVehicles }
+{}
+
+/// Whoever `follow` takes to be behind an address stands there, or less than 250 ms ago another NAME claimed the
+/// address, and it is the party of a NAME that held the address up to there, or where none held it the unit that would
+/// claim it first.
+pub fn contests_are_short()
+    ensures { ContestsAreShort }
+{}
+
+/// No message counts twice at the end of a log. Each time that a request is asked counts one answer or one refusal at
+/// most, and each of these counts once at most (`requests`); a need was met as often as messages came of flows that
+/// meet it (`needs`).
+pub fn messages_count_once()
+    ensures requests { RequestsAreAnsweredOnce }
+    ensures needs { NeedsAreMetOnce }
 {}

@@ -3,11 +3,10 @@ ghost use Rattle.j39_follow.specs.FollowText.{IsFollowText};
 ghost use Rattle.j39_stream.specs.CommandEnds.{AnswersInPieces};
 ghost use Rattle.j39_stream.specs.Streams.{log_limits};
 
-use crate::log_reader::LogReader;
-use crate::reading::Reading;
-use j39_log::{CatalogError, Groups, refuse};
+use crate::unit_report::UnitReport;
+use j39_log::report_log;
 use j39_network::Plan;
-use j39_stream::{Fault, LOG_LIMITS, Sink, Source, Verdict, read_lines};
+use j39_stream::{Fault, Sink, Source, Verdict};
 use std::alloc::Global;
 
 /// Writes who sent what in a log, by the claims of the log itself: each claim, each request with the request of the
@@ -30,16 +29,6 @@ pub fn follow_text<S: Source, W: Sink>(
 ) -> Result<Verdict, Fault>
     ensures { AnswersInPieces (IsFollowText plan.now all_frames) log_limits (S.state source.old) (S.state source.new) W.state sink.old sink.new result }
 {
-    match Groups::new(alloc, plan) {
-        Ok(groups) => {
-            let reading = Reading::new(alloc, plan, all_frames);
-            let mut reader = LogReader {
-                groups: &groups,
-                reading,
-            };
-            read_lines(LOG_LIMITS, &mut reader, source, sink)
-        }
-        Err(CatalogError::Memory) => Err(Fault::Memory),
-        Err(CatalogError::BadGroup(group)) => refuse(alloc, plan, group, sink),
-    }
+    let mut report = UnitReport::new(alloc, plan, all_frames);
+    report_log(alloc, plan, &mut report, source, sink)
 }

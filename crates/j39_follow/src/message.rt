@@ -5,7 +5,8 @@ ghost use Rattle.j39_follow.specs.inside.Reporting.{arrived_message};
 
 use j39_id::{Frame, Ident};
 
-/// A message: its group's number and its bytes, the identifier of its last frame, and the priority of the frame where it came in one.
+/// A message: its group's number and its bytes, the identifier of its last frame, and the priority of the frame where
+/// it came in one.
 #[derive(Clone, Copy)]
 pub(crate) struct Arrival<'a> {
     pub pgn: u32,

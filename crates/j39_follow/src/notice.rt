@@ -1,17 +1,18 @@
 //! What is written first at a frame: what it tells of addresses, or what it asks for.
 ghost use Rattle.std.specs.Prelude.{◌≡◌, ◌++◌, ℕ, List, Option, length, OnOk};
 ghost use Rattle.j39_follow.specs.Contests.{Timed};
-ghost use Rattle.j39_follow.specs.FollowReports.{IsAsked, IsNotice, IsWay, cannot_text, claim_text, asked_line as request_line};
+ghost use Rattle.j39_follow.specs.FollowReports.{IsAsked, IsNotice, IsWay, cannot_text, claim_text};
+ghost use Rattle.j39_follow.specs.FollowReports.{asked_line as request_line};
 ghost use Rattle.j39_follow.specs.inside.Contesting.{ShowsAsker, ShowsParties};
 ghost use Rattle.j39_follow.specs.inside.Reporting.{front_of};
 
-use crate::acknowledgement::{acknowledges, write_acknowledgement};
-use crate::asking::{asked_request, write_asked};
-use crate::group_line::sending_of;
-use crate::known_parties::Parties;
+use crate::address::known_parties::Parties;
+use crate::address::party_text::{write_identity, write_named, write_way};
+use crate::flow::group_line::sending_of;
+use crate::line::stamp::{Stamp, write_stamp};
 use crate::message::in_frame;
-use crate::party_text::{write_identity, write_named, write_way};
-use crate::stamp::{Stamp, write_stamp};
+use crate::request::acknowledgement::{acknowledges, write_acknowledgement};
+use crate::request::asking::{asked_request, write_asked};
 use j39_id::{Frame, cannot_claim, carried_name, claims_address, requested_group, requests_group};
 use j39_network::Plan;
 use j39_text::TextBuffer;
@@ -60,7 +61,8 @@ fn write_request(
 ) -> Result<(), AllocError>
     requires { length frame.now.payload.items ≡ 3 }
     ensures { OnOk result ((log : List Timed) → ShowsParties plan.now parties.now log frame.now.ident
-        → (way : List ℕ) × (asked : Option ℕ) × IsWay plan.now log frame.now.ident way × IsAsked plan.now log frame.now asked
+        → (way : List ℕ) × (asked : Option ℕ) × IsWay plan.now log frame.now.ident way
+        × IsAsked plan.now log frame.now asked
         × (text.new ≡ text.old ++ request_line (front_of stamp.entry) frame.now way asked)) }
 {
     let number = requested_group(frame);
@@ -82,8 +84,10 @@ pub(crate) fn write_notice(
     stamp: Stamp<'_>,
     frame: &Frame,
 ) -> Result<(), AllocError>
-    ensures { OnOk result ((log : List Timed) → ShowsParties plan.now parties.now log frame.now.ident → ShowsAsker plan.now parties.now log frame.now
-        → (piece : List ℕ) × IsNotice plan.now log (front_of stamp.entry) frame.now piece × (text.new ≡ text.old ++ piece)) }
+    ensures { OnOk result ((log : List Timed) → ShowsParties plan.now parties.now log frame.now.ident
+        → ShowsAsker plan.now parties.now log frame.now
+        → (piece : List ℕ) × IsNotice plan.now log (front_of stamp.entry) frame.now piece
+        × (text.new ≡ text.old ++ piece)) }
 {
     if claims_address(frame) {
         write_claim(

@@ -1,7 +1,9 @@
 //! Cutting a byte stream into lines.
-ghost use Rattle.std.specs.Prelude.{◌≡◌, ◌≤◌, ◌<◌, ◌≢◌, [], false, length, take, All, slice_index, IsTrue, IfSome, unwrap_or};
+ghost use Rattle.std.specs.Prelude.{◌≡◌, ◌≤◌, ◌<◌, ◌≢◌, [], false, length, take, All, slice_index, IsTrue, IfSome};
+ghost use Rattle.std.specs.Prelude.{unwrap_or};
 ghost use Rattle.std.specs.Option.{option_copied};
-ghost use Rattle.j39_id.specs.Lines.{is_line_feed, at_start, answer_to, behind, answer_to_end, cutter_line, tells, told, behind_all};
+ghost use Rattle.j39_id.specs.Lines.{is_line_feed, at_start, answer_to, behind, answer_to_end, cutter_line, tells};
+ghost use Rattle.j39_id.specs.Lines.{told, behind_all};
 ghost use Rattle.j39_id.specs.inside.Cutting.{pending_of, line_in, phase_after};
 
 use crate::{Advance, Cut};
@@ -16,7 +18,7 @@ const LINE_FEED: u8 = b'\n';
 
 // What the bytes of a cutter are.
 #[derive(Clone, Copy, Debug, PartialEq, Eq)]
-pub(crate) enum Phase {
+pub(crate) enum CutterPhase {
     // Those of the line so far.
     Inside,
     // The first ones of a line that was told as long.
@@ -31,7 +33,7 @@ pub(crate) enum Phase {
 #[derive(Drop)]
 pub struct Cutter {
     bytes: ArrayVec<u8, LINE_LIMIT>,
-    phase: Phase,
+    phase: CutterPhase,
 }
 
 impl Model for Cutter {
@@ -53,12 +55,12 @@ fn bytes_to_feed(piece: &[u8]) -> usize
 }
 
 // Where a cutter is within a line once it answered so.
-fn phase_after(cut: Cut) -> Phase
+fn phase_after(cut: Cut) -> CutterPhase
     ensures { result ≡ phase_after cut }
 {
     match cut {
-        Cut::Long => Phase::Beyond,
-        _ => Phase::Inside,
+        Cut::Long => CutterPhase::Beyond,
+        _ => CutterPhase::Inside,
     }
 }
 
@@ -68,8 +70,9 @@ fn hold(bytes: &mut ArrayVec<u8, LINE_LIMIT>, part: &[u8]) -> (Cut, usize)
     requires none { All (λ b. is_line_feed b ≡ false) part.now }
     ensures within { result.1 ≤ length part.now }
     ensures some { 0 < result.1 }
-    ensures told { told (pending_of Phase.Inside bytes.old.items) (take result.1 part.now) ≡ tells result.0 [] }
-    ensures pending { pending_of (phase_after result.0) bytes.new.items ≡ behind_all (pending_of Phase.Inside bytes.old.items) (take result.1 part.now) }
+    ensures told { told (pending_of CutterPhase.Inside bytes.old.items) (take result.1 part.now) ≡ tells result.0 [] }
+    ensures pending { pending_of (phase_after result.0) bytes.new.items
+        ≡ behind_all (pending_of CutterPhase.Inside bytes.old.items) (take result.1 part.now) }
     ensures line { line_in (phase_after result.0) bytes.new.items ≡ [] }
 {
     let room = LINE_LIMIT - bytes.len();
@@ -89,7 +92,7 @@ impl Cutter {
     {
         Cutter {
             bytes: ArrayVec::new(),
-            phase: Phase::Inside,
+            phase: CutterPhase::Inside,
         }
     }
 
@@ -99,7 +102,7 @@ impl Cutter {
         ensures line { self.new.line ≡ [] }
     {
         self.bytes.clear();
-        self.phase = Phase::Inside;
+        self.phase = CutterPhase::Inside;
     }
 
     /// The answer to the next byte of the stream.
@@ -109,23 +112,23 @@ impl Cutter {
         ensures line { self.new.line ≡ cutter_line result self.old.pending }
     {
         match self.phase {
-            Phase::Inside => {}
-            Phase::Beyond if byte == LINE_FEED => {
+            CutterPhase::Inside => {}
+            CutterPhase::Beyond if byte == LINE_FEED => {
                 self.start_anew();
                 return Cut::More;
             }
-            Phase::Beyond => return Cut::More,
-            Phase::Ended => {
+            CutterPhase::Beyond => return Cut::More,
+            CutterPhase::Ended => {
                 self.bytes.clear();
-                self.phase = Phase::Inside;
+                self.phase = CutterPhase::Inside;
             }
         }
         if byte == LINE_FEED {
-            self.phase = Phase::Ended;
+            self.phase = CutterPhase::Ended;
             return Cut::Line;
         }
         if self.bytes.try_push(byte).is_err() {
-            self.phase = Phase::Beyond;
+            self.phase = CutterPhase::Beyond;
             return Cut::Long;
         }
         Cut::More
@@ -136,9 +139,9 @@ impl Cutter {
         ensures { IsTrue result → self.now.pending ≡ at_start }
     {
         match self.phase {
-            Phase::Inside => self.bytes.is_empty(),
-            Phase::Beyond => false,
-            Phase::Ended => true,
+            CutterPhase::Inside => self.bytes.is_empty(),
+            CutterPhase::Beyond => false,
+            CutterPhase::Ended => true,
         }
     }
 
@@ -153,23 +156,24 @@ impl Cutter {
         ensures line { self.new.line ≡ [] }
     {
         match self.phase {
-            Phase::Inside => {}
-            Phase::Beyond => return (Cut::More, part.len()),
-            Phase::Ended => self.bytes.clear(),
+            CutterPhase::Inside => {}
+            CutterPhase::Beyond => return (Cut::More, part.len()),
+            CutterPhase::Ended => self.bytes.clear(),
         }
         let (cut, used) = hold(&mut self.bytes, part);
         self.phase = phase_after(cut);
         (cut, used)
     }
 
-    /// Reads on in a piece of the stream as `feed` does, to the first answer that is not More: or it answers More behind a
-    /// part of the piece, which is not empty unless the piece is. A line that lies whole in the piece is given as it lies
-    /// there, without a copy. An empty piece changes nothing.
+    /// Reads on in a piece of the stream as `feed` does, to the first answer that is not More: or it answers More
+    /// behind a part of the piece, which is not empty unless the piece is. A line that lies whole in the piece is given
+    /// as it lies there, without a copy. An empty piece changes nothing.
     #[inline(always)]
     pub fn advance<'p>(&mut self, piece: &'p [u8]) -> Advance<'p>
         ensures within { result.used ≤ length piece.now }
         ensures some { 0 < length piece.now → 0 < result.used }
-        ensures told { told self.old.pending (take result.used piece.now) ≡ tells result.cut (unwrap_or (option_copied result.whole) self.new.line) }
+        ensures told { told self.old.pending (take result.used piece.now)
+            ≡ tells result.cut (unwrap_or (option_copied result.whole) self.new.line) }
         ensures pending { self.new.pending ≡ behind_all self.old.pending (take result.used piece.now) }
         ensures whole { IfSome result.whole (λ _. (result.cut ≡ Cut.Line) × (self.new.line ≡ [])) }
         ensures line { 0 < length piece.now → result.cut ≢ Cut.Line → self.new.line ≡ [] }
@@ -202,20 +206,21 @@ impl Cutter {
         ensures pending { self.new.pending ≡ at_start }
         ensures line { self.new.line ≡ cutter_line result self.old.pending }
     {
-        if self.phase != Phase::Inside || self.bytes.is_empty() {
+        if self.phase != CutterPhase::Inside || self.bytes.is_empty() {
             self.start_anew();
             return Cut::More;
         }
-        self.phase = Phase::Ended;
+        self.phase = CutterPhase::Ended;
         Cut::Line
     }
 
-    /// The line, where the last call that read a byte or the end answered Line and gave no line of the piece; else nothing.
+    /// The line, where the last call that read a byte or the end answered Line and gave no line of the piece; else
+    /// nothing.
     pub fn line(&self) -> &[u8]
         ensures { result.now ≡ self.now.line }
     {
         match self.phase {
-            Phase::Ended => self.bytes.as_slice(),
+            CutterPhase::Ended => self.bytes.as_slice(),
             _ => &[],
         }
     }

@@ -1,6 +1,7 @@
 //! What a frame of the network itself says: a claim of an address, that none could be claimed, or a request.
 ghost use Rattle.std.specs.Prelude.{◌≡◌, length};
-ghost use Rattle.j39_id.specs.FrameMeaning.{cannot_claim, carries_name, claims_address, name_in, requested_group, requests_group};
+ghost use Rattle.j39_id.specs.FrameMeaning.{cannot_claim, carries_name, claims_address, name_in, requested_group};
+ghost use Rattle.j39_id.specs.FrameMeaning.{requests_group};
 
 use crate::addresses::NULL_ADDRESS;
 use crate::services::{ADDRESS_CLAIMED, REQUEST};

@@ -1,4 +1,5 @@
-//! Reading hex digits, at the speed that a log wants: the `hex` crate's branches on each digit cost as much as all else of a line.
+//! Reading hex digits, at the speed that a log wants: the `hex` crate's branches on each digit cost as much as all else
+//! of a line.
 ghost use Rattle.std.specs.Prelude.{◌≡◌, ◌+◌, ◌^◌, ◌<◌, length, MatchResult};
 ghost use Rattle.hex.specs.Hex.{decode_sized, pair_value, value_at};
 

@@ -3,8 +3,11 @@ ghost use Rattle.std.specs.Prelude.{◌≡◌, ◌<◌, ◌≤◌, ◌↔◌, Is
 
 use crate::{PDU2_FIRST, Pgn, pf_of};
 
-// Identifiers have 29 bits.
-const IDENTIFIER_END: u32 = 1 << 29;
+/// Identifiers have 29 bits: the first number that is none.
+pub const IDENTIFIER_END: u32 = 1 << 29;
+
+// So many identifiers have one priority.
+const PRIORITY_SIZE: u64 = 1 << 26;
 
 /// The 29-bit identifier of a frame (SAE J1939-21), by its parts.
 ///
@@ -49,6 +52,19 @@ impl Ident {
             },
             sa: source,
         }
+    }
+
+    /// The number of the identifier by which a group is sent. The group's number may be none, and the priority may be
+    /// above 7.
+    pub fn number_of(priority: u8, pgn: u32, destination: u8, source: u8) -> u64
+        ensures { result ≡ identifier_of priority pgn destination source }
+    {
+        let named = if pf_of(pgn) >= PDU2_FIRST {
+            0
+        } else {
+            u64::from(destination) * 256
+        };
+        u64::from(priority) * PRIORITY_SIZE + u64::from(pgn) * 256 + named + u64::from(source)
     }
 
     /// The identifier with this number, or `None` from 2^29 on.

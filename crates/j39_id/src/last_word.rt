@@ -24,7 +24,8 @@ pub fn words_end(line: &[u8]) -> usize
     stop
 }
 
-// Where the last word begins of a line that ends in one. By itself its loop takes six instructions a byte, within its caller ten.
+// Where the last word begins of a line that ends in one. By itself its loop takes six instructions a byte, within its
+// caller ten.
 #[inline(never)]
 fn word_start(line: &[u8]) -> usize
     requires some { 0 < length line.now }

@@ -1,4 +1,5 @@
-//! Laws of frame lines, NAMEs and lines: facts about the definitions, each the contract of a function that does nothing.
+//! Laws of frame lines, NAMEs and lines: facts about the definitions, each the contract of a function that does
+//! nothing.
 ghost use Rattle.hex.specs.Hex.{IsBytes};
 ghost use Rattle.j39_id.specs.Lines.{TellsLines, TellsPieces, IsBehindPieces};
 ghost use Rattle.j39_id.specs.Name.{NamesReadBack, NameBytesReadBack};

@@ -31,7 +31,7 @@ pub use frame::Frame;
 pub use frame_meaning::{
     cannot_claim, carried_name, claims_address, requested_group, requests_group,
 };
-pub use ident::Ident;
+pub use ident::{IDENTIFIER_END, Ident};
 pub use label::Label;
 pub use last_word::{is_separator, split_last, words_end};
 pub use laws::{

@@ -15,8 +15,8 @@ const PGN_END: u32 = 1 << 18;
 
 /// A parameter group number (SAE J1939-21): EDP, DP, PF and, in PDU2, PS.
 ///
-/// A number of 18 bits. In PDU1, where the PF is below `PDU2_FIRST`, the frame names its destination in place of a group
-/// extension, and the low byte is 0.
+/// A number of 18 bits. In PDU1, where the PF is below `PDU2_FIRST`, the frame names its destination in place of a
+/// group extension, and the low byte is 0.
 #[derive(Clone, Copy, Debug, PartialEq, Eq, PartialOrd, Ord)]
 pub struct Pgn {
     pub(crate) number: u32,

@@ -2,7 +2,8 @@
 ghost use Rattle.std.specs.Prelude.{◌≡◌};
 ghost use Rattle.j39_id.specs.Proprietary.{is_proprietary};
 
-/// Whether the number is that of a group of proprietary A (61184), A2 (126720), B (65280 to 65535) or B2 (130816 to 131071).
+/// Whether the number is that of a group of proprietary A (61184), A2 (126720), B (65280 to 65535) or B2 (130816 to
+/// 131071).
 pub fn is_proprietary(number: u32) -> bool
     ensures { result ≡ is_proprietary number }
 {

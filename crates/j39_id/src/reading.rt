@@ -4,7 +4,8 @@ ghost use Rattle.std.specs.Prelude.{Some, None, Ok, IsOk, IsSome, IfSome, IfNone
 ghost use Rattle.std.specs.List.{AllPass, list_all, position};
 ghost use Rattle.hex.specs.Hex.{decode_of, is_hex_digit};
 ghost use Rattle.j39_id.specs.Ident.{bits};
-ghost use Rattle.j39_id.specs.FrameLine.{HasLineFault, IsFirstFault, Spells, WordSpells, identifier_in, is_hash, payload_digits};
+ghost use Rattle.j39_id.specs.FrameLine.{HasLineFault, IsFirstFault, Spells, WordSpells, identifier_in, is_hash};
+ghost use Rattle.j39_id.specs.FrameLine.{payload_digits};
 ghost use Rattle.j39_id.specs.Limits.{frame_bytes};
 ghost use Rattle.j39_id.specs.inside.LineEnd.{MayBeginAt};
 
@@ -150,7 +151,8 @@ fn read_last_word(line: &[u8]) -> Result<Frame, LineError>
 }
 
 /// The frame that the last word of a line spells, as `candump -L` writes it: eight hex digits, `#` and two hex digits a
-/// byte, in either case. Words are parted by spaces, tabs and carriage returns, and those before the last may be any bytes.
+/// byte, in either case. Words are parted by spaces, tabs and carriage returns, and those before the last may be any
+/// bytes.
 ///
 /// A line that spells no frame is refused with the first `LineError` that holds.
 #[inline(always)]

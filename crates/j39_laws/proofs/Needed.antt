@@ -138,7 +138,8 @@ module _ (plan : Plan) (m : NeededMessage plan) where
       ≡ reported w.reports m.need.unit m.flow.sender ++ record { flow = m.place; bytes = bytes_of m } ∷ []
   from_delivery steps w after run on (inl (flow, more, planned, unanswered, allowed, sparing, through)) =
       let same : flow ≡ flow_of plan.groups.items m.flow = flow_here flow planned in
-      let itself : is_among (m.need.unit ∷ []) m.need.unit ≡ true = (let e : eqb m.need.unit m.need.unit ≡ true = eq-eqb m.need.unit m.need.unit refl in rw e refl) in
+      let itself : is_among (m.need.unit ∷ []) m.need.unit ≡ true =
+      (let e : eqb m.need.unit m.need.unit ≡ true = eq-eqb m.need.unit m.need.unit refl in rw e refl) in
       from_arrival w after flow (m.need.unit ∷ []) Sent itself same
       (arrives_unanswered plan steps w run m.place flow (bytes_of m) (m.need.unit ∷ []) more after planned unanswered allowed
       (λ v is. subst (λ k. is_among (targets_of (count_of plan) w.stations flow.sender flow.to) k ≡ true) (sym (among_one m.need.unit v is))
@@ -165,7 +166,8 @@ is_reported_alone plan steps w run n =
     let m = n.message in
     let has : HasArrivedAlone w n.frame.after n.frame.flow.sender n.frame.receiver (record { flow = n.frame.place; bytes = n.frame.bytes }) =
     arrives_alone plan steps w run n.frame in
-    let planned : slice_get (flows_of plan) m.place ≡ Some n.frame.flow = subst (λ (k : ℕ). slice_get (flows_of plan) k ≡ Some n.frame.flow) n.place n.frame.planned in
+    let planned : slice_get (flows_of plan) m.place ≡ Some n.frame.flow =
+    subst (λ (k : ℕ). slice_get (flows_of plan) k ≡ Some n.frame.flow) n.place n.frame.planned in
     let by : n.frame.flow.sender ≡ m.flow.sender = ap (λ (f : Flow). f.sender) (flow_here plan m n.frame.flow planned) in
     let unit = subst (λ (k : ℕ). HasArrivedAlone w n.frame.after n.frame.flow.sender k (record { flow = n.frame.place; bytes = n.frame.bytes })) n.receiver has in
     let from = subst (λ (k : ℕ). HasArrivedAlone w n.frame.after k m.need.unit (record { flow = n.frame.place; bytes = n.frame.bytes })) by unit in

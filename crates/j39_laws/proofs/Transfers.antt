@@ -25,6 +25,7 @@ pub mod BetweenTaken
 pub mod Answered
 pub mod AnsweredTaken
 pub mod ArrivingAnswered
+pub mod ByLowering
 pub mod AnsweredRuns
 pub mod UnansweredRuns
 pub mod SentArriving

@@ -15,13 +15,14 @@ use j39_findings::{
     signals_are_sound,
 };
 
-/// A plan in which nothing is wrong is sound: in every world of every run of it, with all lawful choices and whatever is lost, addresses and
-/// reports are sound, addresses also with strangers, planned addresses stay where they differ, a unit that is alone at its own is undisturbed, and so
-/// is one that never claims, what units have noted of one another is right where no claim is undelivered, what it keeps free stays free,
-/// claims die down, messages come to their end, on a live bus nobody disturbs their ends, those of which nothing is lost arrive, its
-/// signals read back what they were last given, some flow of it answers each request, some flow brings each unit what it needs, and a
-/// message of such a flow of which nothing is lost reads there as it was written. So is the plan of each vehicle, whatever the serial
-/// numbers of its boxes are. `docs/PROMISES.md` has it in plain words. It rests on the laws that it calls.
+/// A plan in which nothing is wrong is sound: in every world of every run of it, with all lawful choices and whatever
+/// is lost, addresses and reports are sound, addresses also with strangers, planned addresses stay where they differ, a
+/// unit that is alone at its own is undisturbed, and so is one that never claims, what units have noted of one another
+/// is right where no claim is undelivered, what it keeps free stays free, claims die down, messages come to their end,
+/// on a live bus nobody disturbs their ends, those of which nothing is lost arrive, its signals read back what they
+/// were last given, some flow of it answers each request, some flow brings each unit what it needs, and a message of
+/// such a flow of which nothing is lost reads there as it was written. So is the plan of each vehicle, whatever the
+/// serial numbers of its boxes are. `docs/PROMISES.md` has it in plain words. It rests on the laws that it calls.
 pub fn clean_plans_are_sound()
     ensures sound { (plan : Plans) → Clean plan → IsSound plan }
     ensures vehicles { (plan : Plans) → Clean plan → AreVehiclesSound plan }
@@ -50,7 +51,8 @@ pub fn clean_plans_are_sound()
     a_sent_value_arrives();
 }
 
-/// A checked plan is sound, and so is the plan of each vehicle, whatever the serial numbers of its boxes are. It does nothing when it runs.
+/// A checked plan is sound, and so is the plan of each vehicle, whatever the serial numbers of its boxes are. It does
+/// nothing when it runs.
 pub fn certify(checked: &CheckedPlan)
     ensures sound { IsSound checked.now }
     ensures vehicles { AreVehiclesSound checked.now }

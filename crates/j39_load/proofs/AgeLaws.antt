@@ -1,5 +1,6 @@
 -- How old what a unit needs is at most.
-use Rattle.std.proofs.Common.{◌≡◌, ℕ, suc, if◌then◌else◌, ◌+◌, ◌<◌, ◌≤◌, ◌⊎◌, Bool, true, false, not, ◌&&◌, List, [], ◌∷◌, ◌++◌, length, get_or, Option, Some, None, refl, sym, ap, ◌∙◌, subst, inl, inr, arith}
+use Rattle.std.proofs.Common.{◌≡◌, ℕ, suc, if◌then◌else◌, ◌+◌, ◌<◌, ◌≤◌, ◌⊎◌, Bool, true, false, not, ◌&&◌, List, [], ◌∷◌, ◌++◌, length, get_or, Option, Some}
+use Rattle.std.proofs.Common.{None, refl, sym, ap, ◌∙◌, subst, inl, inr, arith}
 use Rattle.std.proofs.lemmas.Bool.{cases_Bool, cases_lt, false≢true, leb-true, true≢false}
 use Rattle.std.proofs.lemmas.List.{length-map}
 use Rattle.std.proofs.lemmas.Option.{none-some, same_Some, get_or_from_slice_get, slice_get-get_or, slice_get_within}
@@ -19,9 +20,9 @@ use Rattle.j39_network.specs.declared.plan.need_plan.NeedPlan.{NeedPlan}
 use Rattle.j39_network.specs.declared.plan.request_plan.RequestPlan.{RequestPlan}
 use Rattle.j39_network.specs.declared.plan.timing.Timing.{Timing}
 use Rattle.j39_network.specs.declared.plan.unit_plan.UnitPlan.{UnitPlan}
-use Rattle.j39_load.specs.declared.delay.Delay.{Delay}
-use Rattle.j39_load.specs.declared.delay.Delay.TheVariants.{Within, Late, Long, Whole}
-use Rattle.j39_load.specs.declared.load_finding.LoadFinding.TheVariants.{NeedTooOld}
+use Rattle.j39_load.specs.declared.waits.delay.Delay.{Delay}
+use Rattle.j39_load.specs.declared.waits.delay.Delay.TheVariants.{Within, Late, Long, Whole}
+use Rattle.j39_load.specs.declared.findings.load_finding.LoadFinding.TheVariants.{NeedTooOld}
 use Rattle.j39_load.specs.Ages.{ages_for, ages_of, is_in_limit, is_too_old, least, old_needs, oldness, smaller_known}
 use Rattle.j39_load.specs.FreshNeeds.{AreNeedsFresh, IsNeedFresh}
 use Rattle.j39_load.specs.LoadFindings.{AreLoadFindings, AsksOfBus, load_findings}
@@ -123,8 +124,10 @@ young_where false false met none = absurd (true≢false none)
 
 module _ (plan : Plan) (timing : Timing) (clean : Clean plan) (stays : UnitPlan → Bool) (delays : List (Option Delay)) (asks : AsksOfBus plan timing stays delays)
     (none : load_findings timing (total_load timing (asked_of timing plan stays)) delays ++ old_needs timing plan.requests.items plan.flows.items delays plan.needs.items ≡ []) where
-  parts : (load_findings timing (total_load timing (asked_of timing plan stays)) delays ≡ []) × (old_needs timing plan.requests.items plan.flows.items delays plan.needs.items ≡ [])
-  parts = none_of_two (load_findings timing (total_load timing (asked_of timing plan stays)) delays) (old_needs timing plan.requests.items plan.flows.items delays plan.needs.items) none
+  parts : (load_findings timing (total_load timing (asked_of timing plan stays)) delays ≡ [])
+      × (old_needs timing plan.requests.items plan.flows.items delays plan.needs.items ≡ [])
+  parts =
+      none_of_two (load_findings timing (total_load timing (asked_of timing plan stays)) delays) (old_needs timing plan.requests.items plan.flows.items delays plan.needs.items) none
 
   module _ (n : ℕ) (need : NeedPlan) (within : ℕ) (at : slice_get plan.needs.items n ≡ Some need) (asked : need.within ≡ Some within) where
     not_too_old : is_too_old timing plan.requests.items plan.flows.items delays need within ≡ false

@@ -1,11 +1,11 @@
--- A higher level has a larger company.
+-- A higher level has a larger queue group.
 use Rattle.std.proofs.Common.{◌≡◌, ℕ, ◌≤◌, ◌<◌, true, false, ◌||◌, ltb, List, All, Option, Some, None, get_or, arith, inl, inr}
 use Rattle.std.proofs.lemmas.Bool.{or_cases, or_left, or_right, lt-ltb, ltb-true}
 use Rattle.std.proofs.lemmas.List.Elements.{All-from_get_or, All-get_or}
 use Rattle.std.specs.Option.{option_map_or}
 use Rattle.std.specs.Prelude.{slice_index_or}
-use Rattle.j39_load.specs.AnyQueues.{AreAtMost, IsLevel, are_of_unit, is_member, is_of_company}
-use Rattle.j39_load.specs.declared.flow_frames.FlowFrames.{FlowFrames}
+use Rattle.j39_load.specs.AnyQueues.{AreAtMost, IsLevel, are_of_unit, is_member, is_of_queue_group}
+use Rattle.j39_load.specs.declared.frames.flow_frames.FlowFrames.{FlowFrames}
 
 pub at_most_more : (leasts : List (Option ℕ)) (own : FlowFrames) (level a b : ℕ) → a ≤ b → (sent : Option FlowFrames)
     → AreAtMost leasts own level a sent → AreAtMost leasts own level b sent
@@ -36,8 +36,8 @@ module _ (leasts : List (Option ℕ)) (own : FlowFrames) (a b : ℕ) (le : a ≤
   end_more None is = is
   end_more (Some v) is = member_more v is
 
-  company_more : (x : FlowFrames) → is_of_company leasts own a x ≡ true → is_of_company leasts own b x ≡ true
-  company_more x is =
+  queue_group_more : (x : FlowFrames) → is_of_queue_group leasts own a x ≡ true → is_of_queue_group leasts own b x ≡ true
+  queue_group_more x is =
       elim (or_cases (option_map_or (is_member leasts own a) x.any_sender false) (option_map_or (is_member leasts own a) x.any_receiver false) is) [
         | inl sends ↦
             or_left (option_map_or (is_member leasts own b) x.any_sender false) (option_map_or (is_member leasts own b) x.any_receiver false)
@@ -49,10 +49,10 @@ module _ (leasts : List (Option ℕ)) (own : FlowFrames) (a b : ℕ) (le : a ≤
 
   one_at_most : (most : ℕ) (sent : Option FlowFrames) → AreAtMost leasts own b most sent → AreAtMost leasts own a most sent
   one_at_most most None known = known
-  one_at_most most (Some x) known = λ is. known (company_more x is)
+  one_at_most most (Some x) known = λ is. known (queue_group_more x is)
 
--- what the company up to a level reaches is within each higher level
+-- what the queue group up to a level reaches is within each higher level
 pub within_level : (leasts : List (Option ℕ)) (all : List (Option FlowFrames)) (own : FlowFrames) (level other : ℕ) → level ≤ other
     → IsLevel leasts all own other → All (AreAtMost leasts own level other) all
 within_level leasts all own level other le is = All-from_get_or (AreAtMost leasts own level other) all None (λ k inside.
-    one_at_most leasts own level other le other (get_or all k None) (All-get_or (AreAtMost leasts own other other) all k None inside is.company))
+    one_at_most leasts own level other le other (get_or all k None) (All-get_or (AreAtMost leasts own other other) all k None inside is.queue_group))

@@ -4,7 +4,7 @@ use Rattle.std.proofs.Math.Nat.{mul-le-mul_right}
 use Rattle.std.proofs.lemmas.Bool.{cases_lt, le-ltb, lt-ltb}
 use Rattle.j39_network.specs.declared.plan.timing.Timing.{Timing}
 use Rattle.j39_load.specs.KeepsErrors.{attempts_within, begins_within}
-use Rattle.j39_load.specs.KeepsPlan.{IsMsBehind, bit_time}
+use Rattle.j39_load.specs.SentFrames.{IsMsBehind, bit_time}
 use Rattle.j39_timing.specs.Errors.{Damaged}
 use Rattle.j39_timing.specs.Sums.{total}
 

@@ -8,22 +8,23 @@ use Rattle.std.specs.List.{slice_get}
 use Rattle.j39_network.specs.declared.plan.Plan.{Plan}
 use Rattle.j39_network.specs.declared.plan.timing.Timing.{Timing}
 use Rattle.j39_network.specs.declared.plan.unit_plan.UnitPlan.{UnitPlan}
-use Rattle.j39_load.specs.declared.delay.Delay.{Delay}
-use Rattle.j39_load.specs.declared.delay.Delay.TheVariants.{Within, Late, Long, Whole}
-use Rattle.j39_load.specs.declared.flow_frames.FlowFrames.{FlowFrames}
-use Rattle.j39_load.specs.declared.flow_load.FlowLoad.{FlowLoad}
-use Rattle.j39_load.specs.declared.messages.Messages.{Messages}
-use Rattle.j39_load.specs.declared.messages.Messages.TheVariants.{Short, ToAll, ToOne}
-use Rattle.j39_load.specs.declared.whole_time.WholeTime.{WholeTime}
-use Rattle.j39_load.specs.AnyQueues.{IsOffer, Offer, keep_order, may_be_passed}
+use Rattle.j39_load.specs.declared.waits.delay.Delay.{Delay}
+use Rattle.j39_load.specs.declared.waits.delay.Delay.TheVariants.{Within, Late, Long, Whole}
+use Rattle.j39_load.specs.declared.frames.flow_frames.FlowFrames.{FlowFrames}
+use Rattle.j39_load.specs.declared.loads.flow_load.FlowLoad.{FlowLoad}
+use Rattle.j39_load.specs.declared.frames.messages.Messages.{Messages}
+use Rattle.j39_load.specs.declared.frames.messages.Messages.TheVariants.{Short, ToAll, ToOne}
+use Rattle.j39_load.specs.declared.waits.whole_time.WholeTime.{WholeTime}
+use Rattle.j39_load.specs.AnyQueues.{IsBuffering, Buffering, keep_order, may_be_passed}
 use Rattle.j39_load.specs.Asked.{Asked, asked_of, frames_asked, total_load}
 use Rattle.j39_load.specs.Damage.{damage_frames}
 use Rattle.j39_load.specs.Delays.{HasDelay, IsDelay, IsDelayOf, IsFrameDelay, IsShortDelay, IsWaitIn, IsWaitOf, any_delay}
 use Rattle.j39_load.specs.LoadFindings.{AsksOfBus, lateness, load_findings, overload, without_period}
 use Rattle.j39_load.specs.Loads.{loads_of}
 use Rattle.j39_load.specs.LineLists.{lines_of_each}
-use Rattle.j39_load.specs.PlannedFrames.{AreAllOrdered, AreDelaysBounds, AreFramesInAnyOrder, AreFramesOfPlan, AreShortFlowsBounded, ComeInAnyOrder, IsBounded, IsInTimeInAnyOrder, IsInTimeOnEveryBus, no_frames, planned_at}
-use Rattle.j39_load.proofs.AnyTraffic.{any_in_time, any_sent, ordered_bound, ordered_sent, wait_of_company}
+use Rattle.j39_load.specs.PlannedFrames.{AreAllOrdered, AreDelaysBounds, AreFramesInAnyOrder, AreFramesOfPlan, AreShortFlowsBounded, ComeInAnyOrder, IsBounded}
+use Rattle.j39_load.specs.PlannedFrames.{IsInTimeInAnyOrder, IsInTimeOnEveryBus, no_frames, planned_at}
+use Rattle.j39_load.proofs.AnyTraffic.{any_in_time, any_sent, ordered_bound, ordered_sent, wait_of_queue_group}
 use Rattle.j39_load.proofs.PositivePeriods.{ArePaced, HasPeriod, of_loads, all_paced}
 use Rattle.j39_load.proofs.Sending.{IsSent, all_sent}
 use Rattle.j39_load.proofs.StreamsBefore.{none_of_two, own_read, told_nothing}
@@ -54,7 +55,7 @@ known_in_order timing all ordered s planned of i known = record {
   known = known;
   of_unit = λ p in_p is un. absurd (true≢false un);
   to_last = λ p in_p is un. absurd (true≢false (sym (ordered (of.source p)) ∙ un));
-  companies = λ j level goes un is_level. absurd (true≢false (sym (ordered j) ∙ un));
+  queue_groups = λ j level goes un is_level. absurd (true≢false (sym (ordered j) ∙ un));
 }
 
 pub in_order : (timing : Timing) (all : List (Option FlowFrames)) → AreAllOrdered all → (i : ℕ) (frames : FlowFrames) (wait : ℕ)
@@ -68,14 +69,14 @@ within_late : (bits : ℕ) → Within bits ≡ Late → ⊥
 within_late bits is = cc
 
 module _ (timing : Timing) (asked : List (Option FlowFrames)) (paced : All HasPeriod (asked ++ damage_frames timing))
-    (sent : All (λ (f : Option FlowFrames). IfSome f IsSent) asked) (offer : Offer) (is : IsOffer timing asked offer) (flow : ℕ) (frames : FlowFrames)
+    (sent : All (λ (f : Option FlowFrames). IfSome f IsSent) asked) (buffering : Buffering) (is : IsBuffering timing asked buffering) (flow : ℕ) (frames : FlowFrames)
     (at : get_or asked flow None ≡ Some frames) (limit bits : ℕ) where
   abbrev Bound : Type 0
   Bound = (wait : ℕ) × (bits ≡ delay_of frames.stream wait) × (bits ≤ limit) × IsInTimeInAnyOrder timing asked flow frames wait
 
   -- of a unit that keeps order
-  ordered_frames : keep_order frames ≡ true → (passed : Bool) → may_be_passed offer frames.greatest_ident ≡ passed
-      → MatchBool passed (Within bits ≡ Late) (IsShortDelay timing offer.frames flow frames limit (Within bits))
+  ordered_frames : keep_order frames ≡ true → (passed : Bool) → may_be_passed buffering frames.greatest_ident ≡ passed
+      → MatchBool passed (Within bits ≡ Late) (IsShortDelay timing buffering.frames flow frames limit (Within bits))
       → IsSingle frames.stream → limit ≤ frames.stream.period → Bound
   ordered_frames ordered true passed told single limited = absurd (within_late bits told)
   ordered_frames ordered false passed (wait, inside, least, sum) single limited =
@@ -84,7 +85,7 @@ module _ (timing : Timing) (asked : List (Option FlowFrames)) (paced : All HasPe
         sum,
         omega (arith, within, sum),
         λ s controllers planned of legal known.
-            ordered_bound timing asked paced sent offer is flow frames at ordered passed wait inside.room s controllers planned of legal known single
+            ordered_bound timing asked paced sent buffering is flow frames at ordered passed wait inside.demand_fits s controllers planned of legal known single
             (omega (arith, within, limited)),
       )
 
@@ -106,25 +107,25 @@ module _ (timing : Timing) (asked : List (Option FlowFrames)) (paced : All HasPe
           same_bits : (a b : ℕ) → Within a ≡ Within b → a ≡ b
           same_bits a b e = cc
 
-  unordered_frames : keep_order frames ≡ false → Within bits ≡ any_delay frames limit (get_or offer.waits flow None) → Bound
+  unordered_frames : keep_order frames ≡ false → Within bits ≡ any_delay frames limit (get_or buffering.waits flow None) → Bound
   unordered_frames kept told =
-      let (w, known_wait, sum, inside) = told_within (get_or offer.waits flow None) told in
-      let by_company = wait_of_company timing asked paced sent offer.waits is.held flow frames at kept w known_wait in (
+      let (w, known_wait, sum, inside) = told_within (get_or buffering.waits flow None) told in
+      let by_queue_group = wait_of_queue_group timing asked paced sent buffering.waits is.bounded flow frames at kept w known_wait in (
         w,
         sum,
         inside,
         λ s controllers planned of legal known.
-            any_in_time timing asked paced sent s controllers planned of legal flow known flow frames at kept (inl refl) w by_company,
+            any_in_time timing asked paced sent s controllers planned of legal flow known flow frames at kept (inl refl) w by_queue_group,
       )
 
-  pub frames_bounded : IsFrameDelay timing offer flow frames limit (Within bits) → IsSingle frames.stream → limit ≤ frames.stream.period → Bound
+  pub frames_bounded : IsFrameDelay timing buffering flow frames limit (Within bits) → IsSingle frames.stream → limit ≤ frames.stream.period → Bound
   frames_bounded delayed single limited = go (keep_order frames) refl delayed
     where
       go : (keeps : Bool) → keep_order frames ≡ keeps
           → MatchBool keeps
-          (MatchBool (may_be_passed offer frames.greatest_ident) (Within bits ≡ Late) (IsShortDelay timing offer.frames flow frames limit (Within bits)))
-          (Within bits ≡ any_delay frames limit (get_or offer.waits flow None)) → Bound
-      go true keeps told = ordered_frames keeps (may_be_passed offer frames.greatest_ident) refl told single limited
+          (MatchBool (may_be_passed buffering frames.greatest_ident) (Within bits ≡ Late) (IsShortDelay timing buffering.frames flow frames limit (Within bits)))
+          (Within bits ≡ any_delay frames limit (get_or buffering.waits flow None)) → Bound
+      go true keeps told = ordered_frames keeps (may_be_passed buffering frames.greatest_ident) refl told single limited
       go false keeps told = unordered_frames keeps told
 
 whole_within : (whole : WholeTime) (bits : ℕ) → Whole whole ≡ Within bits → ⊥
@@ -139,74 +140,64 @@ long_within count bits is = cc
 long_late : (count : ℕ) → Long count ≡ Late → ⊥
 long_late count is = cc
 
--- no frames of single messages are told as long ones
-pub never_whole : (timing : Timing) (offer : Offer) (flow : ℕ) (frames : FlowFrames) (limit : ℕ) (whole : WholeTime)
-    → IsFrameDelay timing offer flow frames limit (Whole whole) → ⊥
-never_whole timing offer flow frames limit whole told = go (keep_order frames) (may_be_passed offer frames.greatest_ident) told
+-- the delay of frames of single messages is a bound, or none is told
+never_told : (timing : Timing) (buffering : Buffering) (flow : ℕ) (frames : FlowFrames) (limit : ℕ) (delay : Delay) → ((bits : ℕ) → delay ≡ Within bits → ⊥)
+    → (delay ≡ Late → ⊥) → (IsShortDelay timing buffering.frames flow frames limit delay → ⊥) → IsFrameDelay timing buffering flow frames limit delay → ⊥
+never_told timing buffering flow frames limit delay bound none short told = go (keep_order frames) (may_be_passed buffering frames.greatest_ident) told
   where
-    late : (wait : Option ℕ) → Whole whole ≡ any_delay frames limit wait → ⊥
-    late None is = whole_late whole is
+    late : (wait : Option ℕ) → delay ≡ any_delay frames limit wait → ⊥
+    late None is = none is
     late (Some w) is = by (leb (delay_of frames.stream w) limit) is
       where
-        by : (fits : Bool) → Whole whole ≡ (if fits then Within (delay_of frames.stream w) else Late) → ⊥
-        by true is = whole_within whole (delay_of frames.stream w) is
-        by false is = whole_late whole is
+        by : (fits : Bool) → delay ≡ (if fits then Within (delay_of frames.stream w) else Late) → ⊥
+        by true is = bound (delay_of frames.stream w) is
+        by false is = none is
 
-    go : (keeps passed : Bool)
-        → MatchBool keeps (MatchBool passed (Whole whole ≡ Late) (IsShortDelay timing offer.frames flow frames limit (Whole whole)))
-        (Whole whole ≡ any_delay frames limit (get_or offer.waits flow None)) → ⊥
-    go true true is = whole_late whole is
-    go true false is = is
-    go false passed is = late (get_or offer.waits flow None) is
+    go : (keeps passed : Bool) → MatchBool keeps (MatchBool passed (delay ≡ Late) (IsShortDelay timing buffering.frames flow frames limit delay))
+        (delay ≡ any_delay frames limit (get_or buffering.waits flow None)) → ⊥
+    go true true is = none is
+    go true false is = short is
+    go false passed is = late (get_or buffering.waits flow None) is
 
-pub never_long : (timing : Timing) (offer : Offer) (flow : ℕ) (frames : FlowFrames) (limit count : ℕ)
-    → IsFrameDelay timing offer flow frames limit (Long count) → ⊥
-never_long timing offer flow frames limit count told = go (keep_order frames) (may_be_passed offer frames.greatest_ident) told
-  where
-    late : (wait : Option ℕ) → Long count ≡ any_delay frames limit wait → ⊥
-    late None is = long_late count is
-    late (Some w) is = by (leb (delay_of frames.stream w) limit) is
-      where
-        by : (fits : Bool) → Long count ≡ (if fits then Within (delay_of frames.stream w) else Late) → ⊥
-        by true is = long_within count (delay_of frames.stream w) is
-        by false is = long_late count is
+pub never_whole : (timing : Timing) (buffering : Buffering) (flow : ℕ) (frames : FlowFrames) (limit : ℕ) (whole : WholeTime)
+    → IsFrameDelay timing buffering flow frames limit (Whole whole) → ⊥
+never_whole timing buffering flow frames limit whole =
+    never_told timing buffering flow frames limit (Whole whole) (whole_within whole) (whole_late whole) (λ short. short)
 
-    go : (keeps passed : Bool)
-        → MatchBool keeps (MatchBool passed (Long count ≡ Late) (IsShortDelay timing offer.frames flow frames limit (Long count)))
-        (Long count ≡ any_delay frames limit (get_or offer.waits flow None)) → ⊥
-    go true true is = long_late count is
-    go true false is = is
-    go false passed is = late (get_or offer.waits flow None) is
+pub never_long : (timing : Timing) (buffering : Buffering) (flow : ℕ) (frames : FlowFrames) (limit count : ℕ)
+    → IsFrameDelay timing buffering flow frames limit (Long count) → ⊥
+never_long timing buffering flow frames limit count =
+    never_told timing buffering flow frames limit (Long count) (long_within count) (long_late count) (λ short. short)
 
 -- frames of a unit's broadcasts, for which a wait is told
 module _ (timing : Timing) (asked : List (Option FlowFrames)) (paced : All HasPeriod (asked ++ damage_frames timing))
-    (sent : All (λ (f : Option FlowFrames). IfSome f IsSent) asked) (offer : Offer) (is : IsOffer timing asked offer) (place : ℕ) (frames : FlowFrames)
+    (sent : All (λ (f : Option FlowFrames). IfSome f IsSent) asked) (buffering : Buffering) (is : IsBuffering timing asked buffering) (place : ℕ) (frames : FlowFrames)
     (at : get_or asked place None ≡ Some frames) (wait : ℕ) (s : Schedule) (controllers : Controllers) (planned : ℕ → Bool) (of : Origins)
     (legal : IsLegalInAnyOrder s controllers) (turn : ComeInAnyOrder timing asked s controllers planned of place) (single : frames.twin_ident ≡ None) where
   here : planned_at asked place ≡ frames
   here = ap (λ (o : Option FlowFrames). unwrap_or o no_frames) at
 
-  ordered_turn : keep_order frames ≡ true → (passed : Bool) → may_be_passed offer frames.greatest_ident ≡ passed
-      → MatchBool passed (Some wait ≡ None) (IsWaitOf timing offer.frames place frames (Some wait)) → AreSentWithin s planned of place frames.stream wait
+  ordered_turn : keep_order frames ≡ true → (passed : Bool) → may_be_passed buffering frames.greatest_ident ≡ passed
+      → MatchBool passed (Some wait ≡ None) (IsWaitOf timing buffering.frames place frames (Some wait)) → AreSentWithin s planned of place frames.stream wait
   ordered_turn ordered true passed told = absurd (none-some wait (sym told))
   ordered_turn ordered false passed told =
       let keeps : keep_order (planned_at asked place) ≡ true = subst (λ (f : FlowFrames). keep_order f ≡ true) (sym here) ordered in
-      ordered_sent timing asked paced sent offer is place frames at ordered passed wait told.1 s controllers planned of legal turn.known single
+      ordered_sent timing asked paced sent buffering is place frames at ordered passed wait told.1 s controllers planned of legal turn.known single
       (turn.behind keeps) (turn.steady keeps)
 
-  unordered_turn : keep_order frames ≡ false → Some wait ≡ get_or offer.waits place None → AreSentWithin s planned of place frames.stream wait
+  unordered_turn : keep_order frames ≡ false → Some wait ≡ get_or buffering.waits place None → AreSentWithin s planned of place frames.stream wait
   unordered_turn kept told =
       any_sent timing asked paced sent s controllers planned of legal place turn.known place frames at kept (inl refl) wait
-      (wait_of_company timing asked paced sent offer.waits is.held place frames at kept wait (sym told))
+      (wait_of_queue_group timing asked paced sent buffering.waits is.bounded place frames at kept wait (sym told))
 
-  pub sent_in_any_order : IsWaitIn timing offer place frames (Some wait) → AreSentWithin s planned of place frames.stream wait
+  pub sent_in_any_order : IsWaitIn timing buffering place frames (Some wait) → AreSentWithin s planned of place frames.stream wait
   sent_in_any_order told = go (keep_order frames) refl told
     where
       go : (keeps : Bool) → keep_order frames ≡ keeps
           → MatchBool keeps
-          (MatchBool (may_be_passed offer frames.greatest_ident) (Some wait ≡ None) (IsWaitOf timing offer.frames place frames (Some wait)))
-          (Some wait ≡ get_or offer.waits place None) → AreSentWithin s planned of place frames.stream wait
-      go true keeps told = ordered_turn keeps (may_be_passed offer frames.greatest_ident) refl told
+          (MatchBool (may_be_passed buffering frames.greatest_ident) (Some wait ≡ None) (IsWaitOf timing buffering.frames place frames (Some wait)))
+          (Some wait ≡ get_or buffering.waits place None) → AreSentWithin s planned of place frames.stream wait
+      go true keeps told = ordered_turn keeps (may_be_passed buffering frames.greatest_ident) refl told
       go false keeps told = unordered_turn keeps told
 
 module _ (plan : Plan) (timing : Timing) (stays : UnitPlan → Bool) (delays : List (Option Delay)) (asks : AsksOfBus plan timing stays delays) where
@@ -221,19 +212,20 @@ module _ (plan : Plan) (timing : Timing) (stays : UnitPlan → Bool) (delays : L
   -- what is told of a flow by its messages
   pub told_of : (flow : ℕ) (load : FlowLoad) (messages : Messages) (delay : Delay) → slice_get asked.flows flow ≡ Some (Some load)
       → load.messages ≡ messages → slice_get delays flow ≡ Some (Some delay)
-      → (offer : Offer) × IsOffer timing (frames_asked asked) offer × IsDelayOf timing asked offer flow messages load.limit delay
+      → (buffering : Buffering) × IsBuffering timing (frames_asked asked) buffering × IsDelayOf timing asked buffering flow messages load.limit delay
   told_of flow load messages delay its is at =
-      let (offer, offers, has) = delay_at flow (Some delay) at in
+      let (buffering, buffering_delays, has) = delay_at flow (Some delay) at in
       let same : has.0 ≡ load = same_Some _ _ (same_Some _ _ (sym has.1 ∙ its)) in
-      let by_load : IsDelay timing asked offer flow load delay = subst (λ (l : FlowLoad). IsDelay timing asked offer flow l delay) same has.2 in
-      (offer, offers, subst (λ (m : Messages). IsDelayOf timing asked offer flow m load.limit delay) is by_load)
+      let by_load : IsDelay timing asked buffering flow load delay = subst (λ (l : FlowLoad). IsDelay timing asked buffering flow l delay) same has.2 in
+      (buffering, buffering_delays, subst (λ (m : Messages). IsDelayOf timing asked buffering flow m load.limit delay) is by_load)
 
-  of_short : (offer : Offer) → IsOffer timing (frames_asked asked) offer → (flow : ℕ) (load : FlowLoad) (frames : FlowFrames) (bits : ℕ) → slice_get asked.flows flow ≡ Some (Some load)
-      → load.messages ≡ Short frames → IsFrameDelay timing offer flow frames load.limit (Within bits) → IsBounded timing asked flow bits
-  of_short offer offers flow load frames bits its short delayed =
+  of_short : (buffering : Buffering) → IsBuffering timing (frames_asked asked) buffering → (flow : ℕ) (load : FlowLoad) (frames : FlowFrames) (bits : ℕ)
+      → slice_get asked.flows flow ≡ Some (Some load)
+      → load.messages ≡ Short frames → IsFrameDelay timing buffering flow frames load.limit (Within bits) → IsBounded timing asked flow bits
+  of_short buffering buffering_delays flow load frames bits its short delayed =
       let known : ArePaced load.limit (Short frames) = subst (ArePaced load.limit) short (of_loads timing plan stays flow load its).messages in
       let at = own_read asked.flows asked.units asked.requests flow load frames its short in
-      let bound = frames_bounded timing (frames_asked asked) (all_paced timing plan stays) (all_sent timing plan stays) offer offers flow frames at
+      let bound = frames_bounded timing (frames_asked asked) (all_paced timing plan stays) (all_sent timing plan stays) buffering buffering_delays flow frames at
       load.limit bits delayed known.1 known.2 in
       record {
         load = load;
@@ -243,23 +235,24 @@ module _ (plan : Plan) (timing : Timing) (stays : UnitPlan → Bool) (delays : L
         wait = bound.0;
         sum = bound.1;
         inside = bound.2;
-        offer = offer;
-        is = offers;
+        buffering = buffering;
+        is = buffering_delays;
         delayed = delayed;
         in_any_order = bound.3;
         bounds = λ ordered. in_order timing (frames_asked asked) ordered flow frames bound.0 bound.3;
       }
 
-  of_messages : (offer : Offer) → IsOffer timing (frames_asked asked) offer → (flow : ℕ) (load : FlowLoad) (messages : Messages) (bits : ℕ) → slice_get asked.flows flow ≡ Some (Some load)
-      → load.messages ≡ messages → IsDelayOf timing asked offer flow messages load.limit (Within bits) → IsBounded timing asked flow bits
-  of_messages offer offers flow load (Short frames) bits its is told = of_short offer offers flow load frames bits its is told
-  of_messages offer offers flow load (ToOne frames) bits its is told = absurd told
-  of_messages offer offers flow load (ToAll broadcast) bits its is told = absurd told
+  of_messages : (buffering : Buffering) → IsBuffering timing (frames_asked asked) buffering → (flow : ℕ) (load : FlowLoad) (messages : Messages) (bits : ℕ)
+      → slice_get asked.flows flow ≡ Some (Some load)
+      → load.messages ≡ messages → IsDelayOf timing asked buffering flow messages load.limit (Within bits) → IsBounded timing asked flow bits
+  of_messages buffering buffering_delays flow load (Short frames) bits its is told = of_short buffering buffering_delays flow load frames bits its is told
+  of_messages buffering buffering_delays flow load (ToOne frames) bits its is told = absurd told
+  of_messages buffering buffering_delays flow load (ToAll broadcast) bits its is told = absurd told
 
   pub bounded : AreDelaysBounds timing asked delays
   bounded flow bits at =
-      let (offer, offers, (load, its, is)) = delay_at flow (Some (Within bits)) at in
-      of_messages offer offers flow load load.messages bits its refl is
+      let (buffering, buffering_delays, (load, its, is)) = delay_at flow (Some (Within bits)) at in
+      of_messages buffering buffering_delays flow load load.messages bits its refl is
 
 -- where nothing is found each flow has a period, and none is late
 pub nothing_found : (timing : Timing) (load : ℕ) (delays : List (Option Delay)) → load_findings timing load delays ≡ []

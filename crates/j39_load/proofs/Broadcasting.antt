@@ -1,12 +1,13 @@
--- The broadcasts of a unit, one flow after another.
-use Rattle.std.proofs.Common.{◌≡◌, ℕ, suc, ◌+◌, ◌<◌, List, [], ◌∷◌, ◌++◌, length, take, get_or, min, refl, ap, ◌∙◌, arith, Option, Some, None}
+-- Broadcasts, one after another.
+use Rattle.std.proofs.Common.{◌≡◌, ℕ, suc, ◌+◌, ◌<◌, ◌≤◌, List, [], ◌∷◌, ◌++◌, length, length-append, take, get_or, min, All, refl, sym, ap, ◌∙◌, arith}
+use Rattle.std.proofs.Common.{Option, Some, None}
 use Rattle.std.proofs.Math.Seq.{take-suc}
-use Rattle.std.proofs.lemmas.List.{append-nil}
-use Rattle.std.proofs.lemmas.List.Elements.{filter_map-append}
-use Rattle.std.specs.List.{cons_option}
-use Rattle.j39_load.specs.declared.broadcast.Broadcast.{Broadcast}
-use Rattle.j39_load.specs.declared.flow_load.FlowLoad.{FlowLoad}
-use Rattle.j39_load.specs.Broadcasts.{announced_packets, broadcast_by, broadcasts_by, least_announced, least_packets}
+use Rattle.std.proofs.lemmas.List.{append-nil, take_more}
+use Rattle.std.proofs.lemmas.List.Elements.{All-append, All-cons, filter_map-append}
+use Rattle.std.specs.List.{cons_option, filter_map}
+use Rattle.j39_load.specs.declared.frames.broadcast.Broadcast.{Broadcast}
+use Rattle.j39_load.specs.Broadcasts.{announced_packets, least_announced, least_packets}
+use Rattle.j39_load.specs.SoundLoads.{IsSoundBroadcast}
 
 least_of_more : (bs : List Broadcast) (b : Broadcast) → least_packets (bs ++ b ∷ []) ≡ min b.least_packets (least_packets bs)
 unfolding least_packets
@@ -40,21 +41,31 @@ next_announced bs k d inside =
     let next : k + 1 ≡ suc k = omega arith in
     ap (λ (n : ℕ). least_announced (take n bs)) next ∙ ap least_announced (take-suc bs k d inside) ∙ least_of_one_more (take k bs) (get_or bs k d)
 
--- with those of the next flow
-next_flow : (u : ℕ) (loads : List (Option FlowLoad)) (k : ℕ) → k < length loads
-    → broadcasts_by u (take (k + 1) loads) ≡ broadcasts_by u (take k loads) ++ broadcasts_by u (get_or loads k None ∷ [])
-next_flow u loads k inside =
-    let next : k + 1 ≡ suc k = omega arith in
-    ap (λ (n : ℕ). broadcasts_by u (take n loads)) next ∙ ap (broadcasts_by u) (take-suc loads k None inside)
-    ∙ filter_map-append (broadcast_by u) (take k loads) (get_or loads k None ∷ [])
+-- ---- what is kept of a list, one value after another
 
-pub next_some : (u : ℕ) (loads : List (Option FlowLoad)) (k : ℕ) (b : Broadcast) → k < length loads → broadcast_by u (get_or loads k None) ≡ Some b
-    → broadcasts_by u (take (k + 1) loads) ≡ broadcasts_by u (take k loads) ++ b ∷ []
-next_some u loads k b inside is =
-    next_flow u loads k inside ∙ ap (λ (x : Option Broadcast). broadcasts_by u (take k loads) ++ cons_option x []) is
+-- of the values before a place these are kept
+pub record AreKept {X : Type 0} (keep : Option X → Option Broadcast) (xs : List (Option X)) (k : ℕ) (kept : List Broadcast) : Type 0 where
+  pub these : kept ≡ filter_map keep (take k xs)
+  pub sound : All IsSoundBroadcast kept
+  pub few : length kept ≤ k
 
-pub next_none : (u : ℕ) (loads : List (Option FlowLoad)) (k : ℕ) → k < length loads → broadcast_by u (get_or loads k None) ≡ None
-    → broadcasts_by u (take (k + 1) loads) ≡ broadcasts_by u (take k loads)
-next_none u loads k inside is =
-    next_flow u loads k inside ∙ ap (λ (x : Option Broadcast). broadcasts_by u (take k loads) ++ cons_option x []) is
-    ∙ append-nil (broadcasts_by u (take k loads))
+module _ {X : Type 0} (keep : Option X → Option Broadcast) (xs : List (Option X)) (k : ℕ) (inside : k < length xs) (kept : List Broadcast)
+    (old : AreKept keep xs k kept) where
+  next : (o : Option Broadcast) → keep (get_or xs k None) ≡ o → filter_map keep (take (k + 1) xs) ≡ filter_map keep (take k xs) ++ cons_option o []
+  next o is =
+      ap (filter_map keep) (take_more xs k None inside) ∙ filter_map-append keep (take k xs) (get_or xs k None ∷ [])
+      ∙ ap (λ (x : Option Broadcast). filter_map keep (take k xs) ++ cons_option x []) is
+
+  pub one_kept : (b : Broadcast) → keep (get_or xs k None) ≡ Some b → IsSoundBroadcast b → AreKept keep xs (k + 1) (kept ++ b ∷ [])
+  one_kept b is sound = record {
+    these = ap (λ (bs : List Broadcast). bs ++ b ∷ []) old.these ∙ sym (next (Some b) is);
+    sound = All-append IsSoundBroadcast kept (b ∷ []) old.sound (All-cons IsSoundBroadcast b [] sound (λ j d below. absurd (omega arith)));
+    few = omega (arith, length-append kept (b ∷ []), old.few);
+  }
+
+  pub none_kept : keep (get_or xs k None) ≡ None → AreKept keep xs (k + 1) kept
+  none_kept is = record {
+    these = old.these ∙ sym (next None is ∙ append-nil (filter_map keep (take k xs)));
+    sound = old.sound;
+    few = omega (arith, old.few);
+  }

@@ -7,7 +7,7 @@ use Rattle.j39_timing.specs.Errors.{Damaged, IsBusWithErrors, IsDamagedAt, IsLeg
 use Rattle.j39_timing.specs.FrameBits.{error_frame}
 use Rattle.j39_timing.specs.TimedFrames.{IsOnBusAt, Schedule, Waits}
 
--- where frames go by their identifiers alone units may keep order or not: each offers the frame that is asked
+-- where frames go by their identifiers alone units may keep order or not: each takes part with the frame that is asked
 pub any_order : (s : Schedule) (d : Damaged) → IsLegalWithErrors s d → (controllers : Controllers) → IsLegalInAnyOrderWithErrors s controllers d
 any_order s d legal controllers = record {
   bus = legal.bus;
@@ -17,8 +17,8 @@ any_order s d legal controllers = record {
       (p, (in_p, refl, (let first = waits.0 in omega (arith, first), waits.1), λ _. refl), legal.in_order_damaged p e in_p in_e seen waits);
 }
 
--- so many frames of this length, each queued so late behind its moment
-module _ (n step late bits ident : ℕ) (some : 1 ≤ bits) (room : bits + bits + 31 ≤ step) where
+-- so many frames of this length, each queued so late behind its release
+module _ (n step jitter bits ident : ℕ) (some : 1 ≤ bits) (room : bits + bits + 31 ≤ step) where
   -- the first waits for the attempt that is damaged
   abbrev pub first_wait : ℕ → ℕ
   first_wait zero = bits + 31
@@ -27,15 +27,15 @@ module _ (n step late bits ident : ℕ) (some : 1 ≤ bits) (room : bits + bits 
   abbrev pub frames : Schedule
   frames = record {
     count = suc n;
-    queued = λ p. p * step + late;
-    start = λ p. p * step + late + first_wait p;
+    queued = λ p. p * step + jitter;
+    start = λ p. p * step + jitter + first_wait p;
     bits = λ p. bits;
     ident = λ p. ident;
-    now = suc n * step + late;
+    now = suc n * step + jitter;
   }
 
   abbrev pub damage : Damaged
-  damage = record { count = 1; frame = λ e. 0; begin = λ e. late; sent = λ e. bits; error = λ e. error_frame }
+  damage = record { count = 1; frame = λ e. 0; begin = λ e. jitter; sent = λ e. bits; error = λ e. error_frame }
 
   few_wait : (p : ℕ) → first_wait p ≤ bits + 31
   few_wait zero = omega arith
@@ -51,8 +51,8 @@ module _ (n step late bits ident : ℕ) (some : 1 ≤ bits) (room : bits + bits 
   not_both p q t less on_p on_q =
       let behind = step_behind p q less in
       let few = few_wait p in
-      let ends : t < p * step + late + first_wait p + bits = on_p.1 in
-      let begins : q * step + late + first_wait q ≤ t = on_q.0 in
+      let ends : t < p * step + jitter + first_wait p + bits = on_p.1 in
+      let begins : q * step + jitter + first_wait q ≤ t = on_q.0 in
       omega (arith, behind, few, ends, begins, room)
 
   alone : (p q t : ℕ) → IsOnBusAt frames p t → IsOnBusAt frames q t → p ≡ q
@@ -68,21 +68,21 @@ module _ (n step late bits ident : ℕ) (some : 1 ≤ bits) (room : bits + bits 
   none_of_both zero e t on hurt = let begins = on.0 in let ends = hurt.1 in omega (arith, begins, ends)
   none_of_both (suc p) e t on hurt =
       let behind = step_behind 0 (suc p) (omega arith) in
-      let begins : suc p * step + late + 0 ≤ t = on.0 in
-      let ends : t < late + (bits + error_frame) = hurt.1 in
+      let begins : suc p * step + jitter + 0 ≤ t = on.0 in
+      let ends : t < jitter + (bits + error_frame) = hurt.1 in
       omega (arith, behind, begins, ends, room)
 
   never_idle : (p t : ℕ) → p < suc n → Waits frames p t → ((q : ℕ) × (q < suc n) × IsOnBusAt frames q t) ⊎ ((e : ℕ) × (e < 1) × IsDamagedAt damage e t)
   never_idle zero t in_p waits =
-      let queued : 0 * step + late < t = waits.0 in
-      let before : t ≤ 0 * step + late + (bits + 31) = waits.1 in
-      elim (cases_lt t (late + (bits + 31))) [
+      let queued : 0 * step + jitter < t = waits.0 in
+      let before : t ≤ 0 * step + jitter + (bits + 31) = waits.1 in
+      elim (cases_lt t (jitter + (bits + 31))) [
         | inl less ↦ inr (0, omega arith, (omega (arith, queued), omega (arith, less)))
         | inr more ↦ inl (0, in_p, (omega (arith, more), omega (arith, before, some)))
       ]
   never_idle (suc p) t in_p waits =
-      let queued : suc p * step + late < t = waits.0 in
-      let before : t ≤ suc p * step + late + 0 = waits.1 in
+      let queued : suc p * step + jitter < t = waits.0 in
+      let before : t ≤ suc p * step + jitter + 0 = waits.1 in
       absurd (omega (arith, queued, before))
 
   bus : IsBusWithErrors frames damage

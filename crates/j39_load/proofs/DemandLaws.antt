@@ -1,41 +1,44 @@
--- What is wanted of the broadcasts of units is the same where frames count from when they are offered for good, and with what comes of damage.
-use Rattle.std.proofs.Common.{◌≡◌, ℕ, suc, ◌+◌, ◌<◌, ◌≤◌, length, take, get_or, max, Bool, true, false, cond, ◌&&◌, eqb, ltb, leb, List, [], ◌∷◌, ◌++◌, map, Option, None, Some, option_map, refl, sym, ap, ◌∙◌, inl, inr, arith}
+-- What is wanted of the broadcasts of units is the same where frames count from the end of their buffering delays, and with what comes of damage.
+use Rattle.std.proofs.Common.{◌≡◌, ℕ, suc, ◌+◌, ◌<◌, length, take, get_or, max, Bool, true, cond, ◌&&◌, eqb, ltb, leb, List, [], ◌∷◌, ◌++◌, map, Option, None}
+use Rattle.std.proofs.Common.{Some, option_map, refl, sym, ap, ◌∙◌, inl, inr, arith}
 use Rattle.std.proofs.Math.Seq.{take-suc}
 use Rattle.std.proofs.lemmas.Bool.{and_parts, cases_Bool, eqb-true}
+use Rattle.std.proofs.lemmas.List.{append-nil}
 use Rattle.std.proofs.lemmas.List.Elements.{filter_map-append}
 use Rattle.std.proofs.lemmas.Option.{none-some}
 use Rattle.std.specs.List.{cons_option, filter_map, range_with_len, slice_get}
 use Rattle.std.specs.Option.{option_and_then}
 use Rattle.j39_id.specs.Limits.{unit_limit}
 use Rattle.j39_network.specs.declared.plan.timing.Timing.{Timing}
-use Rattle.j39_load.specs.declared.broadcast.Broadcast.{Broadcast}
-use Rattle.j39_load.specs.declared.flow_frames.FlowFrames.{FlowFrames}
-use Rattle.j39_load.specs.AnyQueues.{held_at, later_frames, offered, offered_at}
+use Rattle.j39_load.specs.declared.frames.broadcast.Broadcast.{Broadcast}
+use Rattle.j39_load.specs.declared.frames.broadcast.BroadcastPart.{BroadcastPart}
+use Rattle.j39_load.specs.declared.frames.broadcast.BroadcastPart.TheVariants.{Announcements, Packets}
+use Rattle.j39_load.specs.declared.frames.flow_frames.FlowFrames.{FlowFrames}
+use Rattle.j39_load.specs.AnyQueues.{buffered_for, later_frames, buffered, buffered_at}
 use Rattle.j39_load.specs.Damage.{damage_frames, damage_streams, first_of_all}
 use Rattle.j39_load.specs.Demands.{demand_by, demands_by, demands_of, most_packets, wanted_by, wants_of}
 use Rattle.j39_load.specs.LineLists.{lines_of_each}
 use Rattle.j39_timing.specs.FrameStreams.{Origins}
-use Rattle.j39_timing.specs.Sums.{total}
 use Rattle.j39_timing.specs.TimedFrames.{Schedule}
-use Rattle.j39_timing.specs.Traffic.{AreAsWanted, moments_in}
-use Rattle.j39_timing.specs.Waits.{Demand, demand_of, frames_wanted}
+use Rattle.j39_timing.specs.Traffic.{AreAsWanted, releases_in}
+use Rattle.j39_timing.specs.Waits.{Demand, demand_of}
 use Rattle.j39_timing.specs.declared.stream.Stream.{Stream}
 use Rattle.j39_timing.proofs.Sums.{total-none}
 
 -- ---- of two lists in which flows want the same
 
 module _ (xs ys : List (Option FlowFrames)) (same : (u : ℕ) → wants_of xs u ≡ wants_of ys u) where
-  each_demand : (announcements : Bool) (places : List ℕ)
-      → map (λ u. demand_by announcements (wants_of xs u)) places ≡ map (λ u. demand_by announcements (wants_of ys u)) places
-  each_demand announcements [] = refl
-  each_demand announcements (u ∷ us) =
-      ap (λ (bs : List Broadcast). demand_by announcements bs ∷ map (λ v. demand_by announcements (wants_of xs v)) us) (same u)
-      ∙ ap (λ (ds : List Demand). demand_by announcements (wants_of ys u) ∷ ds) (each_demand announcements us)
+  each_demand : (part : BroadcastPart) (places : List ℕ)
+      → map (λ u. demand_by part (wants_of xs u)) places ≡ map (λ u. demand_by part (wants_of ys u)) places
+  each_demand part [] = refl
+  each_demand part (u ∷ us) =
+      ap (λ (bs : List Broadcast). demand_by part bs ∷ map (λ v. demand_by part (wants_of xs v)) us) (same u)
+      ∙ ap (λ (ds : List Demand). demand_by part (wants_of ys u) ∷ ds) (each_demand part us)
 
   same_demands : demands_of xs ≡ demands_of ys
   same_demands =
-      ap (λ (ds : List Demand). ds ++ demands_by true xs) (each_demand false (range_with_len 0 unit_limit))
-      ∙ ap (λ (ds : List Demand). demands_by false ys ++ ds) (each_demand true (range_with_len 0 unit_limit))
+      ap (λ (ds : List Demand). ds ++ demands_by Announcements xs) (each_demand Packets (range_with_len 0 unit_limit))
+      ∙ ap (λ (ds : List Demand). demands_by Packets ys ++ ds) (each_demand Announcements (range_with_len 0 unit_limit))
 
 -- ---- with what comes of damage
 
@@ -43,34 +46,33 @@ nothing_wanted : (u : ℕ) (streams : List Stream) → filter_map (wanted_by u) 
 nothing_wanted u [] = refl
 nothing_wanted u (stream ∷ streams) = nothing_wanted u streams
 
-nothing_behind : {X : Type 0} (xs : List X) → xs ++ [] ≡ xs
-nothing_behind [] = refl
-nothing_behind (x ∷ xs) = ap (λ (ys : List _). x ∷ ys) (nothing_behind xs)
-
-pub demands_with_damage : (timing : Timing) (asked : List (Option FlowFrames)) → demands_of (asked ++ damage_frames timing) ≡ demands_of asked
-demands_with_damage timing asked = same_demands (asked ++ damage_frames timing) asked (λ u.
+pub wants_with_damage : (u : ℕ) (timing : Timing) (asked : List (Option FlowFrames)) → wants_of (asked ++ damage_frames timing) u ≡ wants_of asked u
+wants_with_damage u timing asked =
     filter_map-append (wanted_by u) asked (damage_frames timing)
     ∙ ap (λ (bs : List Broadcast). wants_of asked u ++ bs) (nothing_wanted u (damage_streams timing))
-    ∙ nothing_behind (wants_of asked u))
+    ∙ append-nil (wants_of asked u)
 
--- ---- where frames are offered for good
+pub demands_with_damage : (timing : Timing) (asked : List (Option FlowFrames)) → demands_of (asked ++ damage_frames timing) ≡ demands_of asked
+demands_with_damage timing asked = same_demands (asked ++ damage_frames timing) asked (λ u. wants_with_damage u timing asked)
+
+-- ---- where frames are buffered no longer
 
 module _ (waits : List (Option ℕ)) (u : ℕ) where
   later_wanted : (more : ℕ) (frames : Option FlowFrames) → wanted_by u (option_map (later_frames more) frames) ≡ wanted_by u frames
   later_wanted more None = refl
   later_wanted more (Some f) = refl
 
-  wanted_where_offered : (place : ℕ) (all : List (Option FlowFrames))
-      → filter_map (wanted_by u) (lines_of_each (offered_at waits) place all) ≡ filter_map (wanted_by u) all
+  wanted_where_buffered : (place : ℕ) (all : List (Option FlowFrames))
+      → filter_map (wanted_by u) (lines_of_each (buffered_at waits) place all) ≡ filter_map (wanted_by u) all
   unfolding lines_of_each
-  wanted_where_offered place [] = refl
-  wanted_where_offered place (frames ∷ all) =
-      ap (λ (b : Option Broadcast). cons_option b (filter_map (wanted_by u) (lines_of_each (offered_at waits) (place + 1) all)))
-      (later_wanted (held_at waits place) frames)
-      ∙ ap (λ (bs : List Broadcast). cons_option (wanted_by u frames) bs) (wanted_where_offered (place + 1) all)
+  wanted_where_buffered place [] = refl
+  wanted_where_buffered place (frames ∷ all) =
+      ap (λ (b : Option Broadcast). cons_option b (filter_map (wanted_by u) (lines_of_each (buffered_at waits) (place + 1) all)))
+      (later_wanted (buffered_for waits place) frames)
+      ∙ ap (λ (bs : List Broadcast). cons_option (wanted_by u frames) bs) (wanted_where_buffered (place + 1) all)
 
-pub demands_where_offered : (waits : List (Option ℕ)) (all : List (Option FlowFrames)) → demands_of (offered waits all) ≡ demands_of all
-demands_where_offered waits all = same_demands (offered waits all) all (λ u. wanted_where_offered waits u 0 all)
+pub demands_where_buffered : (waits : List (Option ℕ)) (all : List (Option FlowFrames)) → demands_of (buffered waits all) ≡ demands_of all
+demands_where_buffered waits all = same_demands (buffered waits all) all (λ u. wanted_where_buffered waits u 0 all)
 
 -- ---- where no planned frame is of a stream of which less may be wanted
 
@@ -78,7 +80,7 @@ pub never_wanted : (s : Schedule) (planned : ℕ → Bool) (of : Origins) (deman
     → ((p : ℕ) → p < s.count → planned p ≡ true → (stream (of.source p)).wanted ≡ None) → AreAsWanted s planned of demands stream
 never_wanted s planned of demands stream none j t span demand its =
     let counts : ℕ → Bool = λ p. planned p && (eqb (of.source p) j && (leb t (of.since p) && ltb (of.since p) (t + span))) in
-    let few : moments_in s planned of j t span ≡ 0 = total-none s.count
+    let few : releases_in s planned of j t span ≡ 0 = total-none s.count
     (λ p. cond (planned p && (eqb (of.source p) j && (leb t (of.since p) && ltb (of.since p) (t + span)))) 1 0) (λ p in_p.
     elim (cases_Bool (planned p && (eqb (of.source p) j && (leb t (of.since p) && ltb (of.since p) (t + span))))) [
       | inr fails ↦ rw (fails) refl
@@ -92,24 +94,6 @@ never_wanted s planned of demands stream none j t span demand its =
     omega (arith, few)
 
 -- ---- one flow after another
-
-next_want : (u : ℕ) (all : List (Option FlowFrames)) (k : ℕ) → k < length all
-    → wants_of (take (k + 1) all) u ≡ wants_of (take k all) u ++ wants_of (get_or all k None ∷ []) u
-next_want u all k inside =
-    let next : k + 1 ≡ suc k = omega arith in
-    ap (λ (n : ℕ). wants_of (take n all) u) next ∙ ap (λ (xs : List (Option FlowFrames)). wants_of xs u) (take-suc all k None inside)
-    ∙ filter_map-append (wanted_by u) (take k all) (get_or all k None ∷ [])
-
-pub one_want_more : (u : ℕ) (all : List (Option FlowFrames)) (k : ℕ) (b : Broadcast) → k < length all → wanted_by u (get_or all k None) ≡ Some b
-    → wants_of (take (k + 1) all) u ≡ wants_of (take k all) u ++ b ∷ []
-one_want_more u all k b inside is =
-    next_want u all k inside ∙ ap (λ (x : Option Broadcast). wants_of (take k all) u ++ cons_option x []) is
-
-pub no_want_more : (u : ℕ) (all : List (Option FlowFrames)) (k : ℕ) → k < length all → wanted_by u (get_or all k None) ≡ None
-    → wants_of (take (k + 1) all) u ≡ wants_of (take k all) u
-no_want_more u all k inside is =
-    next_want u all k inside ∙ ap (λ (x : Option Broadcast). wants_of (take k all) u ++ cons_option x []) is
-    ∙ nothing_behind (wants_of (take k all) u)
 
 most_of_more : (bs : List Broadcast) (b : Broadcast) → most_packets (bs ++ b ∷ []) ≡ max b.packets (most_packets bs)
 unfolding most_packets
@@ -125,7 +109,3 @@ pub next_most : (bs : List Broadcast) (k : ℕ) (d : Broadcast) → k < length b
 next_most bs k d inside =
     let next : k + 1 ≡ suc k = omega arith in
     ap (λ (n : ℕ). most_packets (take n bs)) next ∙ ap most_packets (take-suc bs k d inside) ∙ most_of_more (take k bs) (get_or bs k d)
-
-pub map_one_more : {X Y : Type 0} (f : X → Y) (xs : List X) (x : X) → map f (xs ++ x ∷ []) ≡ map f xs ++ f x ∷ []
-map_one_more f [] x = refl
-map_one_more f (y ∷ ys) x = ap (λ (zs : List _). f y ∷ zs) (map_one_more f ys x)

@@ -28,7 +28,7 @@ use Rattle.j39_load.specs.Ranks.{AreHeldApart, AreTwinFlows, IsAskedBetween, IsS
 use Rattle.j39_load.specs.RequestLoads.{request_ident}
 
 -- an identifier tells its group, its source, and in PDU1 its destination
-tells : (p q n m d e s t : ℕ) → n < 131072 → m < 131072 → d < 256 → e < 256 → s < 256 → t < 256 → (pf_of n < 240 → n % 256 ≡ 0)
+pub tells : (p q n m d e s t : ℕ) → n < 131072 → m < 131072 → d < 256 → e < 256 → s < 256 → t < 256 → (pf_of n < 240 → n % 256 ≡ 0)
     → (pf_of m < 240 → m % 256 ≡ 0) → identifier_of p n d s ≡ identifier_of q m e t → (p ≡ q) × (n ≡ m) × (s ≡ t) × (is_pdu2 n ≡ false → d ≡ e)
 tells p q n m d e s t n_few m_few d_few e_few s_few t_few n_low m_low = go (is_pdu2 n) (is_pdu2 m) refl refl
   where
@@ -61,21 +61,21 @@ no_second None none = none
 no_second (Some w) none = none
 
 module _ (plan : Plan) (clean : Clean plan) (on : ℕ → Bool) (held : ℕ → ℕ) (apart : AreHeldApart on held) where
-  planned : (g : ℕ) (group : GroupPlan) → slice_get plan.groups.items g ≡ Some group → CanBePlanned group
+  pub planned : (g : ℕ) (group : GroupPlan) → slice_get plan.groups.items g ≡ Some group → CanBePlanned group
   planned g group at = subst CanBePlanned (get_or_from_slice_get plan.groups.items g group group at)
       ((parts_of plan clean).groups g group (slice_get_within plan.groups.items g group at))
 
-  one_unit : (u v : ℕ) → on u ≡ true → on v ≡ true → held u ≡ held v → u ≡ v
+  pub one_unit : (u v : ℕ) → on u ≡ true → on v ≡ true → held u ≡ held v → u ≡ v
   one_unit u v on_u on_v same = elim (cases_eq u v) [ inl is ↦ is | inr other ↦ absurd (apart.apart u v other on_u on_v same) ]
 
-  one_receiver : (to other : To) → ((v : ℕ) → to ≡ One v → on v ≡ true) → ((v : ℕ) → other ≡ One v → on v ≡ true)
+  pub one_receiver : (to other : To) → ((v : ℕ) → to ≡ One v → on v ≡ true) → ((v : ℕ) → other ≡ One v → on v ≡ true)
       → destination_at held to ≡ destination_at held other → to ≡ other
   one_receiver ToAll ToAll on_to on_other same = refl
   one_receiver ToAll (One v) on_to on_other same = absurd (let low = apart.range v (on_other v refl) in omega (arith, low, same))
   one_receiver (One v) ToAll on_to on_other same = absurd (let low = apart.range v (on_to v refl) in omega (arith, low, same))
   one_receiver (One u) (One v) on_to on_other same = ap One (one_unit u v (on_to u refl) (on_other v refl) same)
 
-  few : (to : To) → ((v : ℕ) → to ≡ One v → on v ≡ true) → destination_at held to < 256
+  pub few : (to : To) → ((v : ℕ) → to ≡ One v → on v ≡ true) → destination_at held to < 256
   few ToAll known = omega arith
   few (One v) known = let low = apart.range v (known v refl) in omega (arith, low)
 

@@ -1,15 +1,15 @@
 -- A wait that was searched for, by the values that the search was given.
 use Rattle.std.proofs.Common.{◌≡◌, ℕ, ◌+◌, ◌-◌, ◌*◌, ◌≤◌, List, subst, ap, ◌∙◌}
-use Rattle.j39_timing.specs.Waits.{Demand, HaveNoRoom, need}
+use Rattle.j39_timing.specs.Waits.{Demand, NoShorterFits, need}
 use Rattle.j39_timing.specs.declared.stream.Stream.{Stream}
 
 -- the least wait that has room, of at most so many bits
 abbrev pub IsFound : List Demand → ℕ → List Stream → ℕ → ℕ → Type 0
-IsFound demands blocking streams most wait = (wait ≤ most) × (need demands blocking streams wait ≤ wait) × HaveNoRoom demands blocking streams wait
+IsFound demands blocking streams most wait = (wait ≤ most) × (need demands blocking streams wait ≤ wait) × NoShorterFits demands blocking streams wait
 
 -- no wait of at most so many bits has
 abbrev pub AreNone : List Demand → ℕ → List Stream → ℕ → Type 0
-AreNone demands blocking streams most = HaveNoRoom demands blocking streams (most + 1)
+AreNone demands blocking streams most = NoShorterFits demands blocking streams (most + 1)
 
 module _ {ds es : List Demand} {a b : ℕ} {ss ts : List Stream} {m n : ℕ} (demands : ds ≡ es) (blocking : a ≡ b) (streams : ss ≡ ts) (most : m ≡ n) where
   pub same_found : (wait : ℕ) → IsFound ds a ss m wait → IsFound es b ts n wait

@@ -1,11 +1,12 @@
 -- A bus can keep to a plan in the plan's own words: one flow of it alone, whose frames come one behind the other, in time or as late as its
 -- jitter allows, undamaged or with the first one damaged once.
-use Rattle.std.proofs.Common.{◌≡◌, ℕ, ◌+◌, ◌*◌, ◌^◌, ◌%◌, ◌<◌, ◌≤◌, ◌⊎◌, Bool, true, false, not, ◌&&◌, cond, if◌then◌else◌, ltb, nat_le, nat_lt, length, Option, Some}
+use Rattle.std.proofs.Common.{◌≡◌, ℕ, ◌+◌, ◌*◌, ◌^◌, ◌%◌, ◌<◌, ◌≤◌, ◌⊎◌, Bool, true, false, not, ◌&&◌, cond, if◌then◌else◌, ltb, nat_le, nat_lt, length, Option}
+use Rattle.std.proofs.Common.{None, Some}
 use Rattle.std.proofs.Common.{refl, sym, ap, ◌∙◌, subst, inl, inr, arith}
 use Rattle.std.proofs.Math.Nat.{mul-le-mul_left}
 use Rattle.std.proofs.lemmas.Bool.{cases_lt, cond_both, leb-false, lt-ltb, ltb-true, true≢false}
 use Rattle.std.proofs.lemmas.List.{length-map}
-use Rattle.std.proofs.lemmas.Option.{same_Some}
+use Rattle.std.proofs.lemmas.Option.{same_Some, slice_get_cases}
 use Rattle.std.specs.List.{slice_get}
 use Rattle.std.specs.Option.{option_map_or}
 use Rattle.j39_claim.specs.ClaimRule.{PlannedUnit}
@@ -24,17 +25,19 @@ use Rattle.j39_network.specs.declared.plan.to.To.{To}
 use Rattle.j39_network.specs.declared.plan.to.To.TheVariants.{All, One}
 use Rattle.j39_network.specs.declared.plan.unit_plan.UnitPlan.{UnitPlan}
 use Rattle.j39_rules.proofs.Members.{all_at}
-use Rattle.j39_load.specs.KeepsErrors.{KeepsErrors, begins_within, planned_with}
-use Rattle.j39_load.specs.KeepsPlan.{CanBeKept, Held, IsFrameOf, IsMsBehind, KeepsQueues, KeepsToPlan, FrameFlows, bit_time, goes_to}
+use Rattle.j39_load.specs.KeepsErrors.{KeepsErrors, KeepsErrorsInAnyOrder, begins_within, planned_with}
+use Rattle.j39_load.specs.KeepsPlan.{CanBeKept, KeepsQueues, KeepsToPlan}
 use Rattle.j39_load.specs.KeptTogether.{CanBeKeptTogether}
 use Rattle.j39_load.specs.Loads.{bits_per_ms, is_any}
 use Rattle.j39_load.specs.Ranks.{AreHeldApart}
+use Rattle.j39_load.specs.KeepsBroadcasts.{KeepsBroadcasts}
+use Rattle.j39_load.specs.SentFrames.{Announcing, Broadcasts, Carrying, FrameSources, HasPeriodMs, Held, IsMsBehind, IsSingleFrame, Single, bit_time, goes_to}
 use Rattle.j39_load.proofs.DamagedFirst as damaged_first
 use Rattle.j39_findings.proofs.WhoStays.{placed}
 use Rattle.j39_timing.proofs.Rounds.{rounds_legal}
 use Rattle.j39_timing.proofs.Sums.{total-none}
 use Rattle.j39_timing.specs.AnyOrder.{Controllers}
-use Rattle.j39_timing.specs.Companies.{unplanned_queued}
+use Rattle.j39_timing.specs.QueueGroups.{unplanned_queued}
 use Rattle.j39_timing.specs.Errors.{Damaged, with_errors}
 use Rattle.j39_timing.specs.Rounds.{AreSenders, Senders, all_planned, in_rounds}
 use Rattle.j39_timing.specs.Sums.{total}
@@ -43,7 +46,7 @@ use Rattle.j39_timing.specs.Traffic.{others_queued}
 use Rattle.j39_network.specs.PlannedUnits.{planned_unit, unit_at, units_of}
 use Rattle.j39_world.specs.HeldAddresses.{ArePlannedApart}
 
-in_ms_behind : (bitrate : Bitrate) (ms a b : ℕ) → a + ms * bits_per_ms bitrate ≤ b → a * bit_time bitrate + 1000 * ms ≤ b * bit_time bitrate
+pub in_ms_behind : (bitrate : Bitrate) (ms a b : ℕ) → a + ms * bits_per_ms bitrate ≤ b → a * bit_time bitrate + 1000 * ms ≤ b * bit_time bitrate
 in_ms_behind Kbit125 ms a b behind = omega arith
 in_ms_behind Kbit250 ms a b behind = omega arith
 in_ms_behind Kbit500 ms a b behind = omega arith
@@ -56,7 +59,7 @@ within_ms Kbit500 ms a = omega arith
 within_ms Mbit1 ms a = omega arith
 
 -- an identifier has 29 bits
-few_bits : (priority pgn d s : ℕ) → priority ≤ 7 → IsPgn pgn → d ≤ 255 → s ≤ 255 → identifier_of priority pgn d s < 2 ^ 29
+pub few_bits : (priority pgn d s : ℕ) → priority ≤ 7 → IsPgn pgn → d ≤ 255 → s ≤ 255 → identifier_of priority pgn d s < 2 ^ 29
 few_bits priority pgn d s top number few_d few_s = go (is_pdu2 pgn) refl
   where
     range : pgn < 2 ^ 18
@@ -71,8 +74,40 @@ none_other : (s : Schedule) (planned : ℕ → Bool) → ((p : ℕ) → planned 
 none_other s planned all c from to = total-none s.count _ (λ p in_p.
     ap (λ (b : Bool). cond (not b && (nat_lt (s.ident p) c && (nat_le (s.queued p) to && nat_lt from (s.start p)))) 1 0) (all p))
 
+none_foreseen : (s : Schedule) (planned : ℕ → Bool) → ((p : ℕ) → planned p ≡ true) → (from to : ℕ) → unplanned_queued s planned from to ≡ 0
+none_foreseen s planned all from to = total-none s.count _ (λ p in_p.
+    ap (λ (b : Bool). cond (not b && (nat_le (s.queued p) to && nat_lt from (s.start p))) 1 0) (all p))
+
 none_unplanned : (s : Schedule) (from to : ℕ) → unplanned_queued s all_planned from to ≡ 0
 none_unplanned s from to = total-none s.count _ (λ p in_p. refl)
+
+-- ---- without long messages to all
+
+abbrev pub no_broadcasts : Broadcasts
+no_broadcasts = record {
+  count = λ u. 0;
+  flow = λ u m. 0;
+  release = λ u m. 0;
+  wanted = λ u m. 0;
+  announced = λ u m. 0;
+  packets = λ u m. 0;
+}
+
+pub none_sent : (plan : Plan) (timing : Timing) (s : Schedule) (planned : ℕ → Bool) (sent : FrameSources)
+    → ((u : ℕ) → sent.broadcasts.count u ≡ 0) → ((p u m : ℕ) → sent.source p ≡ Announcing u m → ⊥)
+    → ((p u m k : ℕ) → sent.source p ≡ Carrying u m k → ⊥) → KeepsBroadcasts plan timing s planned sent
+none_sent plan timing s planned sent none announced carried = record {
+  messages = λ u m below. absurd (let zero_is = none u in omega (arith, below, zero_is));
+  apart = λ u m n ms pair. absurd (let zero_is = none u in let below = pair.1 in omega (arith, below, zero_is));
+  one_waits = λ u m n pair. absurd (let zero_is = none u in let below = pair.1 in omega (arith, below, zero_is));
+  in_turn = λ u m n less below. absurd (let zero_is = none u in omega (arith, below, zero_is));
+  announced = λ p u m in_p is source. absurd (announced p u m source);
+  once = λ p q u m in_p in_q is_p is_q first second. absurd (announced p u m first);
+  carried = λ p q u m k in_p in_q is_p is_q first second. absurd (carried p u m k first);
+  behind = λ p u m k in_p is source. absurd (carried p u m k source);
+  before = λ p u m k n in_p is source. absurd (carried p u m k source);
+  gaps = λ p q u m n j k in_p in_q other is_p is_q first. absurd (carried p u m j first);
+}
 
 -- one attempt is no more than one
 one_at_most : (f : ℕ → ℕ) → f 0 ≤ 1 → total 1 f ≤ 1
@@ -83,10 +118,10 @@ module _ (plan : Plan) (timing : Timing) (apart : ArePlannedApart (units_of plan
     (its : slice_get plan.flows.items f ≡ Some flow) (paced : flow.pace ≡ Some pace) (of : slice_get plan.groups.items flow.group ≡ Some group)
     (short : group.most ≤ 8) (n : ℕ) where
   -- each unit holds its planned address
-  abbrev address : ℕ → ℕ
+  abbrev pub address : ℕ → ℕ
   address u = (unit_at (units_of plan) u).preferred
 
-  abbrev held : Held
+  abbrev pub held : Held
   held = record { on = λ t u. ltb u (length plan.units.items); address = λ t. address }
 
   -- from one frame to the next is a period, and a frame
@@ -106,8 +141,8 @@ module _ (plan : Plan) (timing : Timing) (apart : ArePlannedApart (units_of plan
   abbrev bus : Schedule
   bus = in_rounds alone n
 
-  abbrev sent : FrameFlows
-  sent = record { flow = λ p. f; moment = λ p. p * step }
+  abbrev sent : FrameSources
+  sent = record { source = λ p. Single f; release = λ p. p * step; broadcasts = no_broadcasts }
 
   are_senders : AreSenders alone
   are_senders = record {
@@ -127,7 +162,7 @@ module _ (plan : Plan) (timing : Timing) (apart : ArePlannedApart (units_of plan
   units_on : (u : ℕ) → u < length plan.units.items → ltb u (length plan.units.items) ≡ true
   units_on u below = lt-ltb u (length plan.units.items) below
 
-  held_apart : (t : ℕ) → AreHeldApart (held.on t) (held.address t)
+  pub held_apart : (t : ℕ) → AreHeldApart (held.on t) (held.address t)
   held_apart t = record {
     range = λ u on.
         let below = ltb-true u (length plan.units.items) on in
@@ -142,14 +177,14 @@ module _ (plan : Plan) (timing : Timing) (apart : ArePlannedApart (units_of plan
         apart u v (omega (arith, below_u, size)) (omega (arith, below_v, size)) other;
   }
 
-  sender_on : ltb flow.sender (length plan.units.items) ≡ true
+  pub sender_on : ltb flow.sender (length plan.units.items) ≡ true
   sender_on = units_on flow.sender (all_at (λ (g : FlowPlan). g.sender < length plan.units.items) plan.flows.items plan.flow_senders f flow its)
 
-  receiver_on : (v : ℕ) → flow.to ≡ One v → ltb v (length plan.units.items) ≡ true
+  pub receiver_on : (v : ℕ) → flow.to ≡ One v → ltb v (length plan.units.items) ≡ true
   receiver_on v goes = units_on v
       (all_at (λ (g : FlowPlan). (u : ℕ) → g.to ≡ One u → u < length plan.units.items) plan.flows.items plan.flow_receivers f flow its v goes)
 
-  frame : (p : ℕ) → IsFrameOf plan timing bus held f (p * step) p
+  frame : (p : ℕ) → IsSingleFrame plan timing bus held f (p * step) p
   frame p = record {
     flow = flow;
     its = its;
@@ -159,34 +194,35 @@ module _ (plan : Plan) (timing : Timing) (apart : ArePlannedApart (units_of plan
     of = of;
     short = short;
     length = omega arith;
-    moment_first = omega arith;
-    late_at_most = omega arith;
+    release_first = omega arith;
+    jitter_at_most = omega arith;
     sender_on = λ t queued. sender_on;
     receiver_on = λ t v queued goes. receiver_on v goes;
     identifier = λ t queued. refl;
   }
 
-  same_period : (other : FlowPlan) (its_pace : Pace) → slice_get plan.flows.items f ≡ Some other → other.pace ≡ Some its_pace → pace ≡ its_pace
-  same_period other its_pace at told =
-      let same : flow ≡ other = same_Some _ _ (sym its ∙ at) in
-      same_Some _ _ (sym paced ∙ (ap (λ (g : FlowPlan). g.pace) same ∙ told))
+  same_period : (ms : ℕ) → HasPeriodMs plan f ms → pace.period ≡ ms
+  same_period ms every =
+      let same : flow ≡ every.flow = same_Some _ _ (sym its ∙ every.its) in
+      let paces : pace ≡ every.pace = same_Some _ _ (sym paced ∙ (ap (λ (g : FlowPlan). g.pace) same ∙ every.paced)) in
+      ap (λ (x : Pace). x.period) paces ∙ every.is
 
   keeps : KeepsToPlan plan timing bus all_planned sent held
   keeps = record {
     frames = λ p in_p is. frame p;
-    apart = λ p q other its_pace in_p in_q differ is_p is_q one_flow at told.
-        subst (λ (x : Pace). IsMsBehind timing x.period (p * step) (q * step) ⊎ IsMsBehind timing x.period (q * step) (p * step))
-        (same_period other its_pace at told)
+    apart = λ p q ms in_p in_q differ is_p is_q one_source every.
+        subst (λ (x : ℕ). IsMsBehind timing x (p * step) (q * step) ⊎ IsMsBehind timing x (q * step) (p * step)) (same_period ms every)
         (elim (cases_lt p q) [
           | inl less ↦ inl (period_behind p q less)
           | inr more ↦ inr (period_behind q p (omega (arith, more, differ)))
         ]);
+    broadcasts = none_sent plan timing bus all_planned sent (λ u. refl) (λ p u m same. let told = same in cc) (λ p u m k same. let told = same in cc);
     held_by_plan = λ t u below. inl refl;
     held_apart = held_apart;
     others_length = λ p in_p is. absurd (true≢false is);
     others_priority = λ p in_p is. absurd (true≢false is);
-    others_identifier = λ p q t in_p in_q seen is_p is_q. absurd (true≢false is_q);
-    few_others = λ p from to in_p is seen waits wait. absurd (let behind = waits.0 in let before = waits.1 in omega (arith, behind, before));
+    others_identifier = λ p q t in_p in_q seen is_p source is_q. absurd (true≢false is_q);
+    few_others = λ p from to in_p is source seen waits wait. absurd (let behind = waits.0 in let before = waits.1 in omega (arith, behind, before));
   }
 
   pub can_be_kept : CanBeKept plan timing f n
@@ -204,8 +240,8 @@ module _ (plan : Plan) (timing : Timing) (apart : ArePlannedApart (units_of plan
 
   -- ---- each frame as late as the jitter allows, and the first damaged once
 
-  abbrev late : ℕ
-  late = pace.jitter * bits_per_ms timing.bitrate
+  abbrev jitter : ℕ
+  jitter = pace.jitter * bits_per_ms timing.bitrate
 
   -- from one frame to the next is a period, and room for the two and an error frame
   abbrev long_step : ℕ
@@ -221,20 +257,20 @@ module _ (plan : Plan) (timing : Timing) (apart : ArePlannedApart (units_of plan
   room = omega (arith, short)
 
   abbrev late_bus : Schedule
-  late_bus = damaged_first.frames n long_step late (80 + 10 * group.most) ident some_bits room
+  late_bus = damaged_first.frames n long_step jitter (80 + 10 * group.most) ident some_bits room
 
   abbrev attempt : Damaged
-  attempt = damaged_first.damage n long_step late (80 + 10 * group.most) ident some_bits room
+  attempt = damaged_first.damage n long_step jitter (80 + 10 * group.most) ident some_bits room
 
-  abbrev late_sent : FrameFlows
-  late_sent = record { flow = λ p. f; moment = λ p. p * long_step }
+  abbrev late_sent : FrameSources
+  late_sent = record { source = λ p. Single f; release = λ p. p * long_step; broadcasts = no_broadcasts }
 
   long_period_behind : (p q : ℕ) → p < q → IsMsBehind timing pace.period (p * long_step) (q * long_step)
   long_period_behind p q less =
       let more : long_step * (p + 1) ≤ long_step * q = mul-le-mul_left long_step (omega (arith, less)) in
       in_ms_behind timing.bitrate pace.period (p * long_step) (q * long_step) (omega (arith, more))
 
-  late_frame : (p : ℕ) → IsFrameOf plan timing late_bus held f (p * long_step) p
+  late_frame : (p : ℕ) → IsSingleFrame plan timing late_bus held f (p * long_step) p
   late_frame p = record {
     flow = flow;
     its = its;
@@ -244,8 +280,8 @@ module _ (plan : Plan) (timing : Timing) (apart : ArePlannedApart (units_of plan
     of = of;
     short = short;
     length = omega arith;
-    moment_first = omega arith;
-    late_at_most = within_ms timing.bitrate pace.jitter (p * long_step);
+    release_first = omega arith;
+    jitter_at_most = within_ms timing.bitrate pace.jitter (p * long_step);
     sender_on = λ t queued. sender_on;
     receiver_on = λ t v queued goes. receiver_on v goes;
     identifier = λ t queued. refl;
@@ -254,19 +290,19 @@ module _ (plan : Plan) (timing : Timing) (apart : ArePlannedApart (units_of plan
   late_keeps : KeepsToPlan plan timing late_bus all_planned late_sent held
   late_keeps = record {
     frames = λ p in_p is. late_frame p;
-    apart = λ p q other its_pace in_p in_q differ is_p is_q one_flow at told.
-        subst (λ (x : Pace). IsMsBehind timing x.period (p * long_step) (q * long_step) ⊎ IsMsBehind timing x.period (q * long_step) (p * long_step))
-        (same_period other its_pace at told)
+    apart = λ p q ms in_p in_q differ is_p is_q one_source every.
+        subst (λ (x : ℕ). IsMsBehind timing x (p * long_step) (q * long_step) ⊎ IsMsBehind timing x (q * long_step) (p * long_step)) (same_period ms every)
         (elim (cases_lt p q) [
           | inl less ↦ inl (long_period_behind p q less)
           | inr more ↦ inr (long_period_behind q p (omega (arith, more, differ)))
         ]);
+    broadcasts = none_sent plan timing late_bus all_planned late_sent (λ u. refl) (λ p u m same. let told = same in cc) (λ p u m k same. let told = same in cc);
     held_by_plan = λ t u below. inl refl;
     held_apart = held_apart;
     others_length = λ p in_p is. absurd (true≢false is);
     others_priority = λ p in_p is. absurd (true≢false is);
-    others_identifier = λ p q t in_p in_q seen is_p is_q. absurd (true≢false is_q);
-    few_others = λ p from to in_p is seen waits wait.
+    others_identifier = λ p q t in_p in_q seen is_p source is_q. absurd (true≢false is_q);
+    few_others = λ p from to in_p is source seen waits wait.
         let none = none_other late_bus all_planned (λ q. refl) (late_bus.ident p) from to in omega (arith, none);
   }
 
@@ -283,16 +319,17 @@ module _ (plan : Plan) (timing : Timing) (apart : ArePlannedApart (units_of plan
 
   late_queues : IsPgn group.pgn → KeepsQueues plan timing late_bus controllers all_planned late_sent
   late_queues number = record {
-    sender = λ p other in_p is at. ap (λ (g : FlowPlan). g.sender) (same_Some _ _ (sym its ∙ at));
+    sender = λ p u in_p is sends. ap (λ (g : FlowPlan). g.sender) (same_Some _ _ (sym its ∙ sends.1)) ∙ sends.2;
     order = λ u unit at keeps.
         ap (λ (o : Option UnitPlan). option_map_or (λ (x : UnitPlan). not (is_any x.queue)) o true) at ∙ ap (λ (q : Queue). not (is_any q)) keeps;
     identifiers = λ p in_p. few_bits group.priority group.pgn (goes_to address flow.to) (address flow.sender) group.priority_range number
         (destination_few flow.to refl) (let few = (held_apart 0).range flow.sender sender_on in omega (arith, few));
-    few_unplanned = λ p from to other unit in_p is at its_unit any seen waits wait.
+    others_apart = λ p q t u unit in_p in_q seen is_p is_q takes at any. absurd (true≢false is_q);
+    few_unplanned = λ p from to u unit in_p is takes at any seen waits wait.
         let none = none_unplanned late_bus from to in omega (arith, none);
   }
 
-  late_errors : (rate : ErrorRate) → timing.errors ≡ Some rate → KeepsErrors timing rate late_bus attempt all_planned
+  late_errors : (rate : ErrorRate) → timing.errors ≡ Some rate → KeepsErrors timing rate late_bus attempt all_planned late_sent
   late_errors rate told = record {
     told = told;
     in_order = λ e g before in_g. omega arith;
@@ -301,16 +338,32 @@ module _ (plan : Plan) (timing : Timing) (apart : ArePlannedApart (units_of plan
         (cond_both (begins_within timing rate.every attempt from 0) 1 0 (λ (k : ℕ). k ≤ 1) (λ _. omega arith) (λ _. omega arith)) in
         let some = rate.count_positive in
         omega (arith, once, some);
-    few_others = λ p from to in_p is seen waits wait.
+    few_others = λ p from to in_p is source seen waits wait.
         let none = none_other (with_errors late_bus attempt) (planned_with late_bus all_planned)
         (λ q. cond_both (nat_lt q late_bus.count) true true (λ (b : Bool). b ≡ true) (λ _. refl) (λ _. refl))
         ((with_errors late_bus attempt).ident p) from to in
         omega (arith, none);
   }
 
+  no_unit : slice_get plan.units.items (length plan.units.items) ≡ None
+  no_unit = elim (slice_get_cases plan.units.items (length plan.units.items)).1 [
+    | inl (unit, below, at, same) ↦ absurd (omega (arith, below))
+    | inr (past, none) ↦ none
+  ]
+
+  late_errors_in_any_order : KeepsErrorsInAnyOrder plan timing late_bus controllers attempt all_planned late_sent
+  late_errors_in_any_order = record {
+    own = length plan.units.items;
+    in_order = ap (λ (o : Option UnitPlan). option_map_or (λ (x : UnitPlan). not (is_any x.queue)) o true) no_unit;
+    few_unplanned = λ p from to u unit in_p is takes at any seen waits wait.
+        let none = none_foreseen (with_errors late_bus attempt) (planned_with late_bus all_planned)
+        (λ q. cond_both (nat_lt q late_bus.count) true true (λ (b : Bool). b ≡ true) (λ _. refl) (λ _. refl)) from to in
+        omega (arith, none);
+  }
+
   pub can_be_kept_together : IsPgn group.pgn → (rate : ErrorRate) → timing.errors ≡ Some rate → CanBeKeptTogether plan timing rate f pace n
   can_be_kept_together number rate told =
-      let legal = damaged_first.legal n long_step late (80 + 10 * group.most) ident some_bits room in
+      let legal = damaged_first.legal n long_step jitter (80 + 10 * group.most) ident some_bits room in
       record {
         s = late_bus;
         damaged = attempt;
@@ -323,10 +376,11 @@ module _ (plan : Plan) (timing : Timing) (apart : ArePlannedApart (units_of plan
         keeps = late_keeps;
         queues = late_queues number;
         errors = late_errors rate told;
+        errors_in_any_order = late_errors_in_any_order;
         frames = refl;
         of_flow = λ p. refl;
         all_planned = λ p. refl;
-        late = λ p. in_ms_behind timing.bitrate pace.jitter (p * long_step) (p * long_step + late) (omega arith);
+        jitter = λ p. in_ms_behind timing.bitrate pace.jitter (p * long_step) (p * long_step + jitter) (omega arith);
         once = refl;
         of_first = λ e. refl;
       }

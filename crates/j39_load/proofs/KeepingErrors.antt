@@ -1,8 +1,10 @@
 -- A bus with damaged frames that keeps to a plan in the plan's own words keeps the premises of its delays.
-use Rattle.std.proofs.Common.{◌≡◌, ◌≢◌, ℕ, ◌+◌, ◌*◌, ◌-◌, ◌/◌, ◌%◌, ◌<◌, ◌≤◌, ◌⊎◌, Bool, true, false, cond, not, ◌&&◌, ◌||◌, List, ◌++◌, length, get_or, map, unwrap_or, Option, Some, None, ◌^◌, if◌then◌else◌}
+use Rattle.std.proofs.Common.{◌≡◌, ◌≢◌, ℕ, ◌+◌, ◌*◌, ◌-◌, ◌/◌, ◌%◌, ◌<◌, ◌≤◌, ◌⊎◌, Bool, true, false, cond, not, ◌&&◌, ◌||◌, List, ◌++◌, length, get_or, map}
+use Rattle.std.proofs.Common.{unwrap_or, Option, Some, None, ◌^◌, if◌then◌else◌}
 use Rattle.std.proofs.Common.{refl, sym, ap, ◌∙◌, subst, inl, inr, arith}
 use Rattle.std.proofs.Math.Nat.{div-add-mod, mod-lt, mul-le-mul_left}
 use Rattle.std.proofs.lemmas.Bool.{cases_Bool, cases_eq, cases_lt, le-ltb, lt-ltb, ne_eqb, true≢false}
+use Rattle.std.proofs.lemmas.Option.{slice_get_within}
 use Rattle.std.proofs.lemmas.List.{get_or-append-add, length-append, length-map}
 use Rattle.j39_id.specs.Ident.{identifier_of}
 use Rattle.j39_id.specs.Pgn.{is_pdu2}
@@ -14,20 +16,25 @@ use Rattle.j39_network.specs.declared.plan.Plan.{Plan}
 use Rattle.j39_network.specs.declared.plan.timing.ErrorRate.{ErrorRate}
 use Rattle.j39_network.specs.declared.plan.timing.Timing.{Timing}
 use Rattle.j39_network.specs.declared.plan.unit_plan.UnitPlan.{UnitPlan}
-use Rattle.j39_load.specs.declared.flow_frames.FlowFrames.{FlowFrames}
+use Rattle.j39_load.specs.declared.frames.flow_frames.FlowFrames.{FlowFrames}
 use Rattle.j39_load.specs.AnyQueues.{keep_order}
 use Rattle.j39_load.specs.Asked.{announcements_of_unit, asked_of, frames_asked, frames_of_flow, frames_of_request, packets_of_unit, singles_of_flow}
 use Rattle.j39_load.specs.Damage.{damage_frames, damage_stream, first_frames}
 use Rattle.j39_load.specs.KeepsErrors.{KeepsErrors, origins_with, planned_with}
-use Rattle.j39_load.specs.KeepsPlan.{Held, IsFrameOf, KeepsToPlan, FrameFlows, goes_to, origins_of}
+use Rattle.j39_load.specs.KeepsPlan.{IsSingleFlow, KeepsToPlan, origins_of, source_place, source_turn}
 use Rattle.j39_load.specs.Loads.{bits_of_ms, load_of_flow}
 use Rattle.j39_load.specs.PlannedFrames.{AreFramesOfPlan, no_frames, planned_at}
-use Rattle.j39_findings.specs.Standing.{TellsWhoStays}
+use Rattle.j39_load.specs.SentFrames.{FrameSources, Announcing, Carrying, HasTime, Held, IsBroadcastFrame, IsFrameOf, IsSingleFrame, Part, Single, InSession}
+use Rattle.j39_load.specs.SentFrames.{Asking, Source, goes_to, part_identifier}
+use Rattle.j39_load.specs.SentFrames.{RequestToSend, Packet, ClearToSend, EndAcknowledged}
+use Rattle.j39_findings.specs.Standing.{DecidesWhoStays}
 use Rattle.j39_load.specs.Twins.{is_same}
-use Rattle.j39_load.proofs.DemandLaws.{never_wanted}
 use Rattle.j39_load.proofs.Attempts.{a_window_apart}
-use Rattle.j39_load.proofs.KeepingPlan.{behind_bits, between, frame_at_most, here, keeps_stream, of_streams, one, own, own_identifier, read, traffic}
-use Rattle.j39_load.proofs.StreamsBefore.{get_or_inside}
+use Rattle.j39_load.proofs.KeepingBroadcasts.{IsCopy, as_wanted}
+use Rattle.j39_load.proofs.KeepingFrames.{IsBelowGreatest, inside_asked}
+use Rattle.j39_load.proofs.PlacedFrames.{traffic}
+use Rattle.j39_load.proofs.KeepingPlan.{at_its_place, keeps_stream, of_flow, of_source, of_streams, own_identifier, told_stream}
+use Rattle.j39_load.proofs.Milliseconds.{behind_bits}
 use Rattle.j39_timing.specs.Errors.{Damaged, IsBusWithErrors, IsLegalWithErrors, with_errors}
 use Rattle.j39_timing.specs.FrameBits.{error_frame, longest_frame}
 use Rattle.j39_timing.specs.FrameStreams.{Origins, AreOfStreams, KeepsStream}
@@ -58,39 +65,39 @@ zero_parts priority pgn destination source none = go (is_pdu2 pgn) refl none
         absurd (true≢false (sym is ∙ ap is_pdu2 number))
     go false is zero = (omega (arith, zero), omega (arith, zero))
 
-module _ (plan : Plan) (timing : Timing) (stays : UnitPlan → Bool) (tells : TellsWhoStays plan stays) (clean : Clean plan) (s : Schedule) (d : Damaged)
-    (bus : IsBusWithErrors s d) (planned : ℕ → Bool) (sent : FrameFlows) (held : Held) (keeps : KeepsToPlan plan timing s planned sent held)
-    (rate : ErrorRate) (errors : KeepsErrors timing rate s d planned) where
-  abbrev asks : List (Option FlowFrames)
+module _ (plan : Plan) (timing : Timing) (stays : UnitPlan → Bool) (tells : DecidesWhoStays plan stays) (clean : Clean plan) (s : Schedule) (d : Damaged)
+    (bus : IsBusWithErrors s d) (planned : ℕ → Bool) (sent : FrameSources) (held : Held) (keeps : KeepsToPlan plan timing s planned sent held)
+    (rate : ErrorRate) (errors : KeepsErrors timing rate s d planned sent) where
+  abbrev pub asks : List (Option FlowFrames)
   asks = frames_asked (asked_of timing plan stays)
 
-  abbrev streams : List (Option FlowFrames)
+  abbrev pub streams : List (Option FlowFrames)
   streams = asks ++ damage_frames timing
 
-  abbrev w : Schedule
+  abbrev pub w : Schedule
   w = with_errors s d
 
-  abbrev of : Origins
-  of = origins_with s d rate (length asks) sent
+  abbrev pub of : Origins
+  of = origins_with plan s d rate (length asks) sent
 
-  abbrev is_planned : ℕ → Bool
+  abbrev pub is_planned : ℕ → Bool
   is_planned = planned_with s planned
 
   -- ---- what stands at a place
 
-  record IsFrame (p : ℕ) : Type 0 where
+  pub record IsFrame (p : ℕ) : Type 0 where
     pub below : p < s.count
     pub queued : w.queued p ≡ s.queued p
     pub start : w.start p ≡ s.start p
     pub bits : w.bits p ≡ s.bits p
     pub ident : w.ident p ≡ s.ident p
-    pub source : of.source p ≡ sent.flow p
-    pub turn : of.turn p ≡ 0
-    pub since : of.since p ≡ sent.moment p
+    pub source : of.source p ≡ source_place plan (sent.source p)
+    pub turn : of.turn p ≡ source_turn plan (sent.source p)
+    pub since : of.since p ≡ sent.release p
     pub plans : is_planned p ≡ planned p
 
   -- an attempt, or the error frame behind it
-  abbrev shift : Bool → ℕ
+  abbrev pub shift : Bool → ℕ
   shift error = cond error 1 0
 
   abbrev place : Bool → ℕ → ℕ
@@ -99,7 +106,7 @@ module _ (plan : Plan) (timing : Timing) (stays : UnitPlan → Bool) (tells : Te
   abbrev width : Bool → ℕ
   width error = cond error error_frame (longest_frame 8)
 
-  record IsDamage (p : ℕ) : Type 0 where
+  pub record IsDamage (p : ℕ) : Type 0 where
     pub error : Bool
     pub attempt : ℕ
     pub below : attempt < d.count
@@ -129,7 +136,7 @@ module _ (plan : Plan) (timing : Timing) (stays : UnitPlan → Bool) (tells : Te
 
   longest_of : (p : ℕ) → p < s.count → s.bits p ≤ 160
   longest_of p in_p = elim (cases_Bool (planned p)) [
-    | inl is ↦ frame_at_most plan timing stays tells clean s bus.queued_first planned sent held keeps p in_p is
+    | inl is ↦ (of_source plan timing stays tells clean s bus.queued_first planned sent held keeps p in_p is).at_most
     | inr other ↦ keeps.others_length p in_p other
   ]
 
@@ -174,7 +181,7 @@ module _ (plan : Plan) (timing : Timing) (stays : UnitPlan → Bool) (tells : Te
         since = rw (behind, back, later, last) refl;
       }
 
-  kinds : (p : ℕ) → p < w.count → IsFrame p ⊎ IsDamage p
+  pub kinds : (p : ℕ) → p < w.count → IsFrame p ⊎ IsDamage p
   kinds p below = elim (cases_lt p s.count) [
     | inl front ↦ inl (frame_at p front)
     | inr behind ↦ elim (cases_lt (p - s.count) d.count) [
@@ -198,11 +205,9 @@ module _ (plan : Plan) (timing : Timing) (stays : UnitPlan → Bool) (tells : Te
       two : length (damage_frames timing) ≡ 2
       two = rw (errors.told) refl
 
-  source_inside : (p : ℕ) → p < s.count → planned p ≡ true → sent.flow p < length asks
-  source_inside p in_p is =
-      let f = one plan timing stays tells clean s bus.queued_first planned sent held keeps p in_p is in
-      get_or_inside asks (sent.flow p) (own plan timing stays (sent.flow p) f.flow f.pace f.group f.its f.paced f.of f.short)
-      (read plan timing stays (sent.flow p) f.flow f.pace f.group f.its f.paced f.of f.short)
+  source_inside : (p : ℕ) → p < s.count → planned p ≡ true → source_place plan (sent.source p) < length asks
+  source_inside p in_p is = inside_asked plan timing stays s (sent.source p) (sent.release p) p
+      (of_source plan timing stays tells clean s bus.queued_first planned sent held keeps p in_p is)
 
   frame_keeps : (p : ℕ) → IsFrame p → planned p ≡ true → KeepsStream w (length streams) (λ j. (planned_at streams j).stream) of p
   frame_keeps p at is =
@@ -216,17 +221,17 @@ module _ (plan : Plan) (timing : Timing) (stays : UnitPlan → Bool) (tells : Te
       let inside = known.known in
       let few = known.bits_at_most in
       let turns = known.turns in
-      let first = known.moment_first in
-      let late = known.late_at_most in
+      let first = known.release_first in
+      let late = known.jitter_at_most in
       let its_bits = ap (λ (j : ℕ). (planned_at streams j).stream.bits) at.source in
       let its_frames = ap (λ (j : ℕ). (planned_at streams j).stream.frames) at.source in
-      let its_late = ap (λ (j : ℕ). (planned_at streams j).stream.late) at.source in
+      let its_jitter = ap (λ (j : ℕ). (planned_at streams j).stream.jitter) at.source in
       record {
         known = omega (arith, source, inside);
         bits_at_most = omega (arith, bits, few, its_bits);
         turns = omega (arith, turn, turns, its_frames);
-        moment_first = omega (arith, since, queued, first);
-        late_at_most = omega (arith, since, queued, late, its_late);
+        release_first = omega (arith, since, queued, first);
+        jitter_at_most = omega (arith, since, queued, late, its_jitter);
       }
 
   damage_keeps : (p : ℕ) → IsDamage p → KeepsStream w (length streams) (λ j. (planned_at streams j).stream) of p
@@ -243,15 +248,15 @@ module _ (plan : Plan) (timing : Timing) (stays : UnitPlan → Bool) (tells : Te
         known = let source = at.source in let size = two_behind in let few = one_or_two at.error in omega (arith, source, size, few);
         bits_at_most = subst (λ (f : FlowFrames). w.bits p ≤ f.stream.bits) (sym here) bits;
         turns = subst (λ (f : FlowFrames). of.turn p < f.stream.frames) (sym here) (omega (arith, turn, turns));
-        moment_first = omega (arith, since, queued);
-        late_at_most = subst (λ (f : FlowFrames). w.queued p ≤ of.since p + f.stream.late) (sym here) (omega (arith, since, queued));
+        release_first = omega (arith, since, queued);
+        jitter_at_most = subst (λ (f : FlowFrames). w.queued p ≤ of.since p + f.stream.jitter) (sym here) (omega (arith, since, queued));
       }
     where
       one_or_two : (b : Bool) → shift b < 2
       one_or_two true = omega arith
       one_or_two false = omega arith
 
-  -- ---- moments apart
+  -- ---- releases apart
 
   far : (e f : ℕ) → f < d.count → e < f → e % rate.count ≡ f % rate.count → d.begin e + bits_of_ms timing rate.every ≤ d.begin f
   far e f below less same =
@@ -298,14 +303,15 @@ module _ (plan : Plan) (timing : Timing) (stays : UnitPlan → Bool) (tells : Te
         ]
       ]
 
-  frames_apart : (p q : ℕ) → IsFrame p → IsFrame q → p ≢ q → planned p ≡ true → planned q ≡ true → of.source p ≡ of.source q → AreApart p q
+  frames_apart : (p q : ℕ) → IsFrame p → IsFrame q → p ≢ q → planned p ≡ true → planned q ≡ true → of.source p ≡ of.source q
+      → of.turn p ≡ of.turn q → AreApart p q
   unfolding AreApart period
-  frames_apart p q at_p at_q other is_p is_q source =
+  frames_apart p q at_p at_q other is_p is_q source turn =
       let since_p = at_p.since in
       let since_q = at_q.since in
       let its = ap (λ (j : ℕ). (planned_at streams j).stream.period) at_p.source in
       elim ((of_streams plan timing stays tells clean s bus.queued_first planned sent held keeps).spaced p q at_p.below at_q.below other is_p is_q
-      (sym at_p.source ∙ (source ∙ at_q.source)) refl) [
+      (sym at_p.source ∙ (source ∙ at_q.source)) (sym at_p.turn ∙ (turn ∙ at_q.turn))) [
         | inl before ↦ inl (omega (arith, before, since_p, since_q, its))
         | inr after ↦ inr (omega (arith, after, since_p, since_q, its))
       ]
@@ -326,7 +332,7 @@ module _ (plan : Plan) (timing : Timing) (stays : UnitPlan → Bool) (tells : Te
     ];
     spaced = λ p q in_p in_q other is_p is_q source turn. elim (kinds p in_p) [
       | inl at_p ↦ elim (kinds q in_q) [
-        | inl at_q ↦ frames_apart p q at_p at_q other (sym at_p.plans ∙ is_p) (sym at_q.plans ∙ is_q) source
+        | inl at_q ↦ frames_apart p q at_p at_q other (sym at_p.plans ∙ is_p) (sym at_q.plans ∙ is_q) source turn
         | inr at_q ↦ absurd (apart_sources p q at_p (sym at_p.plans ∙ is_p) at_q source)
       ]
       | inr at_p ↦ elim (kinds q in_q) [
@@ -339,26 +345,54 @@ module _ (plan : Plan) (timing : Timing) (stays : UnitPlan → Bool) (tells : Te
   -- ---- identifiers
 
   -- no unit sends to itself, so no frame has the identifier 0
-  above_zero : (p : ℕ) → p < s.count → planned p ≡ true → 0 < s.ident p
-  above_zero p in_p is = elim (cases_lt 0 (s.ident p)) [
-    | inl some ↦ some
-    | inr none ↦ absurd (
-        let t = s.queued p in
-        let queued : IsQueuedAt s p t = (omega arith, bus.queued_first p in_p) in
-        let f = keeps.frames p in_p is in
-        let told = f.identifier t queued in
-        let (there, here) = zero_parts f.group.priority f.group.pgn (goes_to (held.address t) f.flow.to) (held.address t f.flow.sender) (omega (arith, told, none)) in
-        to_itself t f queued f.flow.to refl there here)
-  ]
+  single_above_zero : (f release p : ℕ) → s.queued p ≤ s.start p → IsSingleFrame plan timing s held f release p → s.ident p ≡ 0 → ⊥
+  single_above_zero f release p ready one none =
+      let t = s.queued p in
+      let queued : IsQueuedAt s p t = (omega arith, ready) in
+      let (there, here) = zero_parts one.group.priority one.group.pgn (goes_to (held.address t) one.flow.to) (held.address t one.flow.sender)
+      (sym (one.identifier t queued) ∙ none) in
+      to_itself t queued one.flow.to refl there here
     where
-      to_itself : (t : ℕ) (f : IsFrameOf plan timing s held (sent.flow p) (sent.moment p) p) → IsQueuedAt s p t → (to : To) → f.flow.to ≡ to
-          → goes_to (held.address t) to ≡ 0 → held.address t f.flow.sender ≡ 0 → ⊥
-      to_itself t f queued ToAll is there here = omega (arith, there)
-      to_itself t f queued (One v) is there here = elim (cases_eq v f.flow.sender) [
-        | inl same ↦ clean (FlowToSelf (sent.flow p)) (record { value = f.flow; value_is = f.its; meets = is ∙ ap One same })
+      to_itself : (t : ℕ) → IsQueuedAt s p t → (to : To) → one.flow.to ≡ to → goes_to (held.address t) to ≡ 0 → held.address t one.flow.sender ≡ 0 → ⊥
+      to_itself t queued ToAll is there here = omega (arith, there)
+      to_itself t queued (One v) is there here = elim (cases_eq v one.flow.sender) [
+        | inl same ↦ clean (FlowToSelf f) (record { value = one.flow; value_is = one.its; meets = is ∙ ap One same })
         | inr other ↦
-            (keeps.held_apart t).apart v f.flow.sender other (f.receiver_on t v queued is) (f.sender_on t queued) (there ∙ sym here)
+            (keeps.held_apart t).apart v one.flow.sender other (one.receiver_on t v queued is) (one.sender_on t queued) (there ∙ sym here)
       ]
+
+  part_above_zero : (part : Part) (from to : ℕ) → 0 < part_identifier timing part from to
+  part_above_zero RequestToSend from to = omega arith
+  part_above_zero (Packet k) from to = omega arith
+  part_above_zero (ClearToSend k) from to = omega arith
+  part_above_zero EndAcknowledged from to = omega arith
+
+  broadcast_above_zero : (number u m release p : ℕ) → s.queued p ≤ s.start p → IsBroadcastFrame timing s held sent.broadcasts number u m release p
+      → 0 < number → is_pdu2 number ≡ false → 0 < s.ident p
+  broadcast_above_zero number u m release p ready one some pdu1 =
+      let is = one.identifier (s.queued p) (omega arith, ready) in
+      let parts : s.ident p ≡ timing.transport_priority * 2 ^ 26 + number * 2 ^ 8 + 255 * 2 ^ 8 + held.address (s.queued p) u =
+      is ∙ ap (λ (b : Bool). timing.transport_priority * 2 ^ 26 + number * 2 ^ 8 + (if b then 0 else 255 * 2 ^ 8) + held.address (s.queued p) u) pdu1 in
+      omega (arith, parts, some)
+
+  above_zero_of : (source : Source) (release p : ℕ) → s.queued p ≤ s.start p → IsFrameOf plan timing s held sent.broadcasts source release p → 0 < s.ident p
+  above_zero_of (Single f) release p ready one = elim (cases_lt 0 (s.ident p)) [
+    | inl some ↦ some
+    | inr none ↦ absurd (single_above_zero f release p ready one (omega (arith, none)))
+  ]
+  above_zero_of (InSession f part) release p ready one =
+      let is = one.identifier (s.queued p) (omega arith, ready) in
+      let some = part_above_zero part (held.address (s.queued p) one.flow.sender) (held.address (s.queued p) one.receiver) in
+      omega (arith, is, some)
+  above_zero_of (Asking r) release p ready one =
+      let is : s.ident p ≡ 6 * 2 ^ 26 + 59904 * 2 ^ 8 + goes_to (held.address (s.queued p)) one.asked.to * 2 ^ 8 + held.address (s.queued p) one.asked.sender =
+      one.identifier (s.queued p) (omega arith, ready) in
+      omega (arith, is)
+  above_zero_of (Announcing u m) release p ready one = broadcast_above_zero 60416 u m release p ready one (omega arith) refl
+  above_zero_of (Carrying u m k) release p ready one = broadcast_above_zero 60160 u m release p ready one.0 (omega arith) refl
+
+  pub above_zero : (p : ℕ) → p < s.count → planned p ≡ true → 0 < s.ident p
+  above_zero p in_p is = above_zero_of (sent.source p) (sent.release p) p (bus.queued_first p in_p) (keeps.frames p in_p is)
 
   not_shared : (i : ℕ) → i < length asks → (error : Bool) → may_share (traffic plan timing stays) i (length asks + shift error) ≡ false
   not_shared i below error = rw (ne_eqb (length asks + shift error) i (λ same. omega (arith, same, below)), damage_read error) (go (planned_at streams i).twin_ident)
@@ -367,7 +401,7 @@ module _ (plan : Plan) (timing : Timing) (stays : UnitPlan → Bool) (tells : Te
       go None = refl
       go (Some m) = refl
 
-  module _ (i : ℕ) (flow : i < length asks) where
+  module _ (i : ℕ) (flow : i < length asks) (single : IsSingleFlow plan i) where
     damage_never : (p : ℕ) → IsDamage p → of.source p ≡ i → ⊥
     damage_never p at same = let source = at.source in omega (arith, source, same, flow)
 
@@ -387,7 +421,7 @@ module _ (plan : Plan) (timing : Timing) (stays : UnitPlan → Bool) (tells : Te
             let start_p = one_at.start in
             let queued_q = two_at.queued in
             let start_q = two_at.start in
-            let both = own_identifier plan timing stays tells clean s bus.queued_first planned sent held keeps i p q t one_at.below two_at.below seen
+            let both = own_identifier plan timing stays tells clean s bus.queued_first planned sent held keeps i single p q t one_at.below two_at.below seen
             (sym one_at.plans ∙ is) (subst (λ (j : ℕ). may_share (traffic plan timing stays) i j ≡ true) one_at.source shares)
             (omega (arith, at_p.0, queued_p), omega (arith, at_p.1, start_p)) (omega (arith, at_q.0, queued_q), omega (arith, at_q.1, start_q))
             (sym one_at.ident ∙ (same ∙ two_at.ident)) in
@@ -395,15 +429,36 @@ module _ (plan : Plan) (timing : Timing) (stays : UnitPlan → Bool) (tells : Te
       ]
     ]
 
-    between_with : (p : ℕ) (at : IsFrame p) → planned p ≡ true
-        → ((planned_at streams (of.source p)).least_ident ≤ w.ident p) × (w.ident p ≤ (planned_at streams (of.source p)).greatest_ident)
-    between_with p at is =
-        let two = between plan timing stays tells clean s bus.queued_first planned sent held keeps p at.below is in
-        let its = ap (planned_at streams) at.source ∙ here plan timing stays tells clean s bus.queued_first planned sent held keeps p at.below is in
+    -- a planned frame lies at its place, at or above the least identifier that is told there
+    least_with : (p : ℕ) (at : IsFrame p) → planned p ≡ true → (planned_at streams (of.source p)).least_ident ≤ w.ident p
+    least_with p at is =
+        let low = (of_source plan timing stays tells clean s bus.queued_first planned sent held keeps p at.below is).least in
+        let its = ap (planned_at streams) at.source ∙ at_its_place plan timing stays tells clean s bus.queued_first planned sent held keeps p at.below is in
         let least = ap (λ (f : FlowFrames). f.least_ident) its in
+        let ident = at.ident in
+        omega (arith, low, least, ident)
+
+    -- and a single frame at or below the greatest
+    its_source : (p : ℕ) (at : IsFrame p) → planned p ≡ true → of.source p ≡ i → sent.source p ≡ Single i
+    its_source p at is place =
+        of_flow plan timing stays tells clean s bus.queued_first planned sent held keeps i single p at.below is (sym at.source ∙ place)
+
+    greatest_with : (p : ℕ) (at : IsFrame p) → planned p ≡ true → of.source p ≡ i → w.ident p ≤ (planned_at streams (of.source p)).greatest_ident
+    greatest_with p at is place =
+        let known = of_source plan timing stays tells clean s bus.queued_first planned sent held keeps p at.below is in
+        let high : s.ident p ≤ known.frames.greatest_ident =
+        subst (λ (x : Source). IsBelowGreatest x (s.ident p) known.frames.greatest_ident) (its_source p at is place) known.greatest in
+        let its = ap (planned_at streams) at.source ∙ at_its_place plan timing stays tells clean s bus.queued_first planned sent held keeps p at.below is in
         let greatest = ap (λ (f : FlowFrames). f.greatest_ident) its in
         let ident = at.ident in
-        (omega (arith, two.0, least, ident), omega (arith, two.1, greatest, ident))
+        omega (arith, high, greatest, ident)
+
+    -- what isn't of damage is a frame as it was
+    copies : (p : ℕ) → p < w.count → is_planned p ≡ true → (planned_at streams (of.source p)).stream.wanted ≡ None ⊎ IsCopy plan s planned sent of p
+    copies p in_p is = elim (kinds p in_p) [
+      | inl at ↦ inr (record { below = at.below; is = sym at.plans ∙ is; place = at.source; since = at.since })
+      | inr at ↦ inl (ap (λ (f : FlowFrames). f.stream.wanted) (ap (planned_at streams) at.source ∙ damage_read at.error))
+    ]
 
     pub keeps_with_errors : AreFramesOfPlan timing asks w is_planned of i
     keeps_with_errors = record {
@@ -412,17 +467,14 @@ module _ (plan : Plan) (timing : Timing) (stays : UnitPlan → Bool) (tells : Te
         | inr at ↦ let bits = at.bits in let few = narrow at.error in omega (arith, bits, few)
       ];
       of_streams = streams_with;
-      as_wanted = never_wanted w is_planned of (traffic plan timing stays).demands (traffic plan timing stays).stream (λ p in_p is. elim (kinds p in_p) [
-        | inl at ↦ ap (λ (f : FlowFrames). f.stream.wanted)
-            (ap (planned_at streams) at.source ∙ here plan timing stays tells clean s bus.queued_first planned sent held keeps p at.below (sym at.plans ∙ is))
-        | inr at ↦ ap (λ (f : FlowFrames). f.stream.wanted) (ap (planned_at streams) at.source ∙ damage_read at.error)
-      ]);
+      as_wanted = as_wanted plan timing stays s planned sent held keeps.frames keeps.broadcasts w is_planned of copies
+          (told_stream plan timing stays tells clean s bus.queued_first planned sent held keeps);
       from_least = λ p in_p is. elim (kinds p in_p) [
-        | inl at ↦ (between_with p at (sym at.plans ∙ is)).0
+        | inl at ↦ least_with p at (sym at.plans ∙ is)
         | inr at ↦ let none = ap (λ (f : FlowFrames). f.least_ident) (ap (planned_at streams) at.source ∙ damage_read at.error) in omega (arith, none)
       ];
       to_greatest = λ p in_p is source. elim (kinds p in_p) [
-        | inl at ↦ subst (λ (j : ℕ). w.ident p ≤ (planned_at streams j).greatest_ident) source (between_with p at (sym at.plans ∙ is)).1
+        | inl at ↦ subst (λ (j : ℕ). w.ident p ≤ (planned_at streams j).greatest_ident) source (greatest_with p at (sym at.plans ∙ is) source)
         | inr at ↦ absurd (damage_never p at source)
       ];
       own_identifier = shared;
@@ -431,7 +483,7 @@ module _ (plan : Plan) (timing : Timing) (stays : UnitPlan → Bool) (tells : Te
         | inr at ↦ absurd (true≢false (sym (ap (λ (b : Bool). cond b (planned p) true) (le-ltb p s.count at.behind)) ∙ other))
       ];
       few_others = λ p from to in_p is source seen waits wait. elim (kinds p in_p) [
-        | inl at ↦ errors.few_others p from to at.below (sym at.plans ∙ is) seen waits wait
+        | inl at ↦ errors.few_others p from to at.below (sym at.plans ∙ is) (subst HasTime (sym (its_source p at (sym at.plans ∙ is) source)) tt) seen waits wait
         | inr at ↦ absurd (damage_never p at source)
       ];
     }
@@ -442,7 +494,7 @@ module _ (plan : Plan) (timing : Timing) (stays : UnitPlan → Bool) (tells : Te
 
   -- what is in time among all is so among the frames
   pub frames_in_time : (i : ℕ) (stream : Stream) (wait : ℕ) → (i < length asks → IsStreamInTime w is_planned of i stream wait)
-      → IsStreamInTime s planned (origins_of sent) i stream wait
+      → IsStreamInTime s planned (origins_of plan sent) i stream wait
   frames_in_time i stream wait told p in_p is source seen =
       let at = frame_at p in_p in
       let flow : i < length asks = subst (λ (j : ℕ). j < length asks) source (source_inside p in_p is) in
@@ -454,16 +506,17 @@ module _ (plan : Plan) (timing : Timing) (stays : UnitPlan → Bool) (tells : Te
       (omega (arith, begun, start, queued), omega (arith, ended, start, bits, since))
 
 -- the flows stand at the first places
-pub keeps_damaged : (plan : Plan) (timing : Timing) (stays : UnitPlan → Bool) → Clean plan → TellsWhoStays plan stays
-    → (s : Schedule) (d : Damaged) (planned : ℕ → Bool) (sent : FrameFlows) (held : Held) (rate : ErrorRate) (i : ℕ) → IsLegalWithErrors s d
-    → KeepsToPlan plan timing s planned sent held → KeepsErrors timing rate s d planned → i < length plan.flows.items
+pub keeps_damaged : (plan : Plan) (timing : Timing) (stays : UnitPlan → Bool) → Clean plan → DecidesWhoStays plan stays
+    → (s : Schedule) (d : Damaged) (planned : ℕ → Bool) (sent : FrameSources) (held : Held) (rate : ErrorRate) (i : ℕ) → IsLegalWithErrors s d
+    → KeepsToPlan plan timing s planned sent held → KeepsErrors timing rate s d planned sent → IsSingleFlow plan i
     → AreFramesOfPlan timing (frames_asked (asked_of timing plan stays)) (with_errors s d) (planned_with s planned)
-    (origins_with s d rate (length (frames_asked (asked_of timing plan stays))) sent) i
-keeps_damaged plan timing stays clean tells s d planned sent held rate i legal keeps errors below =
+    (origins_with plan s d rate (length (frames_asked (asked_of timing plan stays))) sent) i
+keeps_damaged plan timing stays clean tells s d planned sent held rate i legal keeps errors single =
     keeps_with_errors plan timing stays tells clean s d legal.bus planned sent held keeps rate errors i
     (let asked = asked_of timing plan stays in
     let flows = length-map asked.flows frames_of_flow in
     let loads = length-map plan.flows.items (load_of_flow timing plan stays) in
     let first = length-append (map frames_of_flow asked.flows) (map singles_of_flow asked.flows
     ++ (map packets_of_unit asked.units ++ (map announcements_of_unit asked.units ++ map frames_of_request asked.requests))) in
-    omega (arith, below, flows, loads, first))
+    let below = slice_get_within plan.flows.items i single.flow single.its in
+    omega (arith, below, flows, loads, first)) single

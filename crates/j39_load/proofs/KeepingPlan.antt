@@ -1,389 +1,343 @@
 -- A bus that keeps to a plan in the plan's own words keeps the premises of its delays.
-use Rattle.std.proofs.Common.{◌≡◌, ◌≢◌, ℕ, ◌+◌, ◌*◌, ◌<◌, ◌≤◌, ◌⊎◌, Bool, true, false, not, ◌&&◌, ◌||◌, eqb, List, ◌++◌, length, get_or, if◌then◌else◌, is_some, unwrap_or, Option, Some, None}
-use Rattle.std.proofs.Common.{refl, sym, ap, ◌∙◌, subst, inl, inr, arith, option_map}
-use Rattle.std.proofs.lemmas.Bool.{cases_Bool, cases_eq, eq-eqb, eqb-true, false≢true, le-leb, or_cases, or_right, true≢false}
-use Rattle.std.proofs.lemmas.List.{length-append}
-use Rattle.std.proofs.lemmas.Option.{slice_get-map, slice_get_cases}
+use Rattle.std.proofs.Common.{◌≡◌, ◌≢◌, ℕ, ◌+◌, ◌<◌, ◌≤◌, ◌⊎◌, Bool, true, eqb, length, get_or, None, Some, ◌*◌}
+use Rattle.std.proofs.Common.{refl, sym, ap, ◌∙◌, subst, inl, inr, arith}
+use Rattle.std.proofs.Math.Nat.{mul-le-mul_right}
+use Rattle.std.proofs.lemmas.Bool.{cases_Bool, cases_eq, cases_lt, eq-eqb, eqb-true, or_cases, or_left, or_right}
+use Rattle.std.proofs.lemmas.Option.{same_Some, slice_get_within}
 use Rattle.std.specs.List.{slice_get}
-use Rattle.std.specs.Option.{option_map_or}
-use Rattle.j39_id.specs.Ident.{identifier_of}
 use Rattle.j39_findings.specs.Findings.{Clean}
+use Rattle.j39_findings.specs.Standing.{DecidesWhoStays}
 use Rattle.j39_network.specs.declared.plan.Plan.{Plan}
 use Rattle.j39_network.specs.declared.plan.flow_plan.FlowPlan.{FlowPlan}
 use Rattle.j39_network.specs.declared.plan.group_plan.GroupPlan.{GroupPlan}
-use Rattle.j39_network.specs.declared.plan.pace.Pace.{Pace}
-use Rattle.j39_network.specs.declared.plan.queue.Queue.{Queue}
-use Rattle.j39_network.specs.declared.plan.queue.Queue.TheVariants.{Any, Priority}
-use Rattle.j39_network.specs.declared.plan.timing.Bitrate.{Bitrate}
-use Rattle.j39_network.specs.declared.plan.timing.Bitrate.TheVariants.{Kbit125, Kbit250, Kbit500, Mbit1}
 use Rattle.j39_network.specs.declared.plan.timing.Timing.{Timing}
-use Rattle.j39_network.specs.declared.plan.to.To.{To}
-use Rattle.j39_network.specs.declared.plan.to.To.TheVariants.{All as ToAll, One}
 use Rattle.j39_network.specs.declared.plan.unit_plan.UnitPlan.{UnitPlan}
-use Rattle.j39_rules.proofs.Members.{all_at}
-use Rattle.j39_load.specs.declared.flow_frames.FlowFrames.{FlowFrames}
-use Rattle.j39_load.specs.declared.flow_load.FlowLoad.{FlowLoad}
-use Rattle.j39_load.specs.declared.messages.Messages.TheVariants.{Short}
-use Rattle.j39_load.specs.AnyQueues.{are_of_unit, is_member, is_of_company, keep_order, leasts_of, with_unplanned}
-use Rattle.j39_load.specs.Asked.{Asked, asked_of, frames_asked}
-use Rattle.j39_load.specs.Damage.{damage_frames}
-use Rattle.j39_load.specs.KeepsPlan.{Held, IsFrameOf, KeepsToPlan, KeepsQueues, FrameFlows, bit_time, goes_to, origins_of}
-use Rattle.j39_load.specs.Loads.{any_unit, bits_per_ms, destination_at, flow_load, group_ident, is_always_short, is_any, load_of_flow, loads_of, single_frames}
-use Rattle.j39_load.specs.PlannedFrames.{AreFramesInAnyOrder, AreFramesOfPlan, KeepToCompany, company_of, no_frames, planned_at, traffic_of}
-use Rattle.j39_load.specs.Ranks.{AreUnitsPlanned, IsShortFlow}
-use Rattle.j39_findings.specs.Standing.{TellsWhoStays}
-use Rattle.j39_load.specs.Twins.{are_twins, is_same}
-use Rattle.j39_load.proofs.DemandLaws.{never_wanted}
-use Rattle.j39_load.proofs.Different.{different, senders}
-use Rattle.j39_load.proofs.Ranks.{lie_between}
-use Rattle.j39_load.proofs.StreamsBefore.{get_or_inside, own_read, with_damage}
-use Rattle.j39_timing.specs.AnyOrder.{Controllers, IsLegalInAnyOrder, IsUnordered}
+use Rattle.j39_load.specs.declared.frames.flow_frames.FlowFrames.{FlowFrames}
+use Rattle.j39_load.specs.Asked.{asked_of, frames_asked}
+use Rattle.j39_load.specs.Broadcasts.{broadcasts_by, least_packets}
+use Rattle.j39_load.specs.Loads.{bits_of_ms}
+use Rattle.j39_load.specs.KeepsPlan.{source_turn, IsSingleFlow, KeepsToPlan, origins_of, source_place, units_told}
+use Rattle.j39_load.specs.PlannedFrames.{AreFramesOfPlan, planned_at}
+use Rattle.j39_load.specs.SentFrames.{FrameSources, HasTime, Held, IsFrameOf, IsSessionFrame, IsSingleFrame, Part, Source}
+use Rattle.j39_load.specs.SentFrames.{Single, InSession, Asking, Announcing, Carrying}
+use Rattle.j39_load.specs.Twins.{are_twins}
+use Rattle.j39_load.proofs.KeepingBroadcasts.{as_wanted as as_wanted_of}
+use Rattle.j39_load.proofs.KeepingFrames.{HasPace, IsBelowGreatest, IsKnown, IsPaced, IsPacedBy, here, inside, known, of_announcements, of_packets, one_source}
+use Rattle.j39_load.proofs.PlacedFrames.{all, announcing_read, asked, carrying_read, fewest, in_request, in_session, own, read, request_frames_read}
+use Rattle.j39_load.proofs.PlacedFrames.{session_read, traffic, unit_asks}
+use Rattle.j39_load.proofs.Milliseconds.{behind_bits, gaps_bits}
+use Rattle.j39_load.proofs.SharedIdentifiers.{AreAlike, broadcast_made, never_twin, no_broadcast, no_part, no_request, one_or_alike, own_twin, part_made}
+use Rattle.j39_load.proofs.SharedIdentifiers.{request_made, same_twin}
+use Rattle.j39_load.proofs.StreamsBefore.{with_damage}
 use Rattle.j39_timing.specs.FrameStreams.{AreOfStreams, KeepsStream}
 use Rattle.j39_timing.specs.TimedFrames.{Schedule, IsLegal}
-use Rattle.j39_timing.specs.Traffic.{IsQueuedAt, Traffic, may_share}
+use Rattle.j39_timing.specs.declared.stream.Stream.{Stream}
+use Rattle.j39_timing.specs.Traffic.{AreAsWanted, IsQueuedAt, may_share}
 
--- ---- milliseconds in bits
-
-pub within_bits : (bitrate : Bitrate) (ms a b : ℕ) → b * bit_time bitrate ≤ a * bit_time bitrate + 1000 * ms → b ≤ a + ms * bits_per_ms bitrate
-within_bits Kbit125 ms a b within = omega arith
-within_bits Kbit250 ms a b within = omega arith
-within_bits Kbit500 ms a b within = omega arith
-within_bits Mbit1 ms a b within = omega arith
-
-pub behind_bits : (bitrate : Bitrate) (ms a b : ℕ) → a * bit_time bitrate + 1000 * ms ≤ b * bit_time bitrate → a + ms * bits_per_ms bitrate ≤ b
-behind_bits Kbit125 ms a b behind = omega arith
-behind_bits Kbit250 ms a b behind = omega arith
-behind_bits Kbit500 ms a b behind = omega arith
-behind_bits Mbit1 ms a b behind = omega arith
-
-pub in_ms : (bitrate : Bitrate) (ms a b : ℕ) → b ≤ a + ms * bits_per_ms bitrate → b * bit_time bitrate ≤ a * bit_time bitrate + 1000 * ms
-in_ms Kbit125 ms a b within = omega arith
-in_ms Kbit250 ms a b within = omega arith
-in_ms Kbit500 ms a b within = omega arith
-in_ms Mbit1 ms a b within = omega arith
-
--- ---- what is told of a flow at its place
-
-same_place : (address : ℕ → ℕ) (to : To) → goes_to address to ≡ destination_at address to
-same_place address ToAll = refl
-same_place address (One v) = refl
-
--- ---- queues
-
-queue_cases : (queue : Queue) → (queue ≡ Priority) ⊎ (queue ≡ Any)
-queue_cases Priority = inl refl
-queue_cases Any = inr refl
-
-any_known : (units : List UnitPlan) (u : ℕ) (unit : UnitPlan) → slice_get units u ≡ Some unit → unit.queue ≡ Any → any_unit units u ≡ Some u
-any_known units u unit at any = rw (at, any) refl
-
--- what counts of a sender counts of one that keeps no order
-any_sender_told : (units : List UnitPlan) (u : ℕ) (m : ℕ → Bool) → (option_map_or m (any_unit units u) false || option_map_or m None false) ≡ true
-    → (unit : UnitPlan) × (slice_get units u ≡ Some unit) × (unit.queue ≡ Any)
-any_sender_told units u m told = go (slice_get units u) refl told
-  where
-    go : (found : Option UnitPlan) → slice_get units u ≡ found
-        → (option_map_or m (if option_map_or (λ (unit : UnitPlan). is_any unit.queue) found false then Some u else None) false || false) ≡ true
-        → (unit : UnitPlan) × (slice_get units u ≡ Some unit) × (unit.queue ≡ Any)
-    go None at is = absurd (false≢true is)
-    go (Some unit) at is = elim (queue_cases unit.queue) [
-      | inl first ↦ absurd (false≢true (rw (first) at is))
-      | inr any ↦ (unit, at, any)
-    ]
-
--- ---- frames with one identifier
-
--- two that are told of one number, by one unit
-record AreAlike (a b : FlowFrames) : Type 0 where
-  pub number : ℕ
-  pub first : a.twin_ident ≡ Some number
-  pub second : b.twin_ident ≡ Some number
-  pub senders : a.any_sender ≡ b.any_sender
-  pub receivers : a.any_receiver ≡ b.any_receiver
-
-orders_alike : (a b : FlowFrames) → AreAlike a b → keep_order a ≡ keep_order b
-orders_alike a b are = ap (λ (u : Option ℕ). not (is_some u || is_some a.any_receiver)) are.senders
-    ∙ ap (λ (u : Option ℕ). not (is_some b.any_sender || is_some u)) are.receivers
-
--- what is a twin of the one is a twin of the other
-same_twin : (own a b : FlowFrames) → AreAlike a b → are_twins own a ≡ true → are_twins own b ≡ true
-same_twin own a b are twin =
-    subst (λ (k : Bool). (is_same own.twin_ident b.twin_ident && (k || not (keep_order own))) ≡ true) (orders_alike a b are)
-    (subst (λ (n : Option ℕ). (is_same own.twin_ident n && (keep_order a || not (keep_order own))) ≡ true) (are.first ∙ sym are.second) twin)
-
--- and they are twins of one another
-own_twin : (a b : FlowFrames) → AreAlike a b → are_twins a b ≡ true
-own_twin a b are = same_twin a a b are (rw (are.first, eq-eqb are.number are.number refl) (either (keep_order a)))
-  where
-    either : (k : Bool) → (k || not k) ≡ true
-    either true = refl
-    either false = refl
-
-module _ (plan : Plan) (timing : Timing) (stays : UnitPlan → Bool) where
-  abbrev pub asked : Asked
-  asked = asked_of timing plan stays
-
-  abbrev pub all : List (Option FlowFrames)
-  all = frames_asked asked ++ damage_frames timing
-
-  abbrev pub traffic : Traffic
-  traffic = traffic_of all
-
-  module _ (f : ℕ) (flow : FlowPlan) (pace : Pace) (group : GroupPlan) (its : slice_get plan.flows.items f ≡ Some flow) (paced : flow.pace ≡ Some pace)
-      (of : slice_get plan.groups.items flow.group ≡ Some group) (short : group.most ≤ 8) where
-    abbrev pub own : FlowFrames
-    own = single_frames timing plan.units.items stays flow pace group
-
-    abbrev pub load : FlowLoad
-    load = flow_load timing plan.units.items stays flow pace group
-
-    is_short : is_always_short group ≡ true
-    is_short = le-leb group.most 8 short
-
-    its_load : load_of_flow timing plan stays flow ≡ Some load
-    its_load = rw (paced, of) refl
-
-    pub at_place : slice_get (loads_of timing plan stays) f ≡ Some (Some load)
-    at_place = slice_get-map (load_of_flow timing plan stays) plan.flows.items f
-        ∙ (ap (option_map (load_of_flow timing plan stays)) its ∙ ap Some its_load)
-
-    pub of_one_frame : load.messages ≡ Short own
-    of_one_frame = rw (is_short) refl
-
-    pub read : get_or (frames_asked asked) f None ≡ Some own
-    read = own_read asked.flows asked.units asked.requests f load own at_place of_one_frame
-
-    placed : planned_at all f ≡ own
-    placed = with_damage timing (frames_asked asked) f own read
-
-    inside : f < length all
-    inside = let below = get_or_inside (frames_asked asked) f own read in
-        let size = length-append (frames_asked asked) (damage_frames timing) in
-        omega (arith, below, size)
-
+module _ (plan : Plan) (timing : Timing) (stays : UnitPlan → Bool) (tells : DecidesWhoStays plan stays) (clean : Clean plan) (s : Schedule)
+    (queued_first : (p : ℕ) → p < s.count → s.queued p ≤ s.start p) (planned : ℕ → Bool) (sent : FrameSources) (held : Held)
+    (keeps : KeepsToPlan plan timing s planned sent held) where
   -- ---- a planned frame
 
-  module _ (tells : TellsWhoStays plan stays) (clean : Clean plan) (s : Schedule) (queued_first : (p : ℕ) → p < s.count → s.queued p ≤ s.start p)
-      (planned : ℕ → Bool) (sent : FrameFlows) (held : Held) (keeps : KeepsToPlan plan timing s planned sent held) where
-    module _ (p : ℕ) (in_p : p < s.count) (is : planned p ≡ true) where
-      abbrev pub one : IsFrameOf plan timing s held (sent.flow p) (sent.moment p) p
-      one = keeps.frames p in_p is
+  module _ (p : ℕ) (in_p : p < s.count) (is : planned p ≡ true) where
+    pub of_source : IsKnown plan timing stays s (sent.source p) (sent.release p) p
+    of_source =
+        known plan timing stays tells s held keeps.held_by_plan keeps.held_apart sent.broadcasts keeps.broadcasts.messages (sent.source p) (sent.release p) p (queued_first p in_p)
+        (keeps.frames p in_p is)
 
-      abbrev pub its_frames : FlowFrames
-      its_frames = own (sent.flow p) one.flow one.pace one.group one.its one.paced one.of one.short
+    pub at_its_place : planned_at (all plan timing stays) (source_place plan (sent.source p)) ≡ of_source.frames
+    at_its_place = here plan timing stays s (sent.source p) (sent.release p) p of_source
 
-      pub here : planned_at all (sent.flow p) ≡ its_frames
-      here = placed (sent.flow p) one.flow one.pace one.group one.its one.paced one.of one.short
-
-      pub frame_at_most : s.bits p ≤ 160
-      frame_at_most = let few = one.length in let short = one.short in omega (arith, few, short)
-
-      pub keeps_stream : KeepsStream s traffic.count traffic.stream (origins_of sent) p
-      keeps_stream = record {
-        known = inside (sent.flow p) one.flow one.pace one.group one.its one.paced one.of one.short;
-        bits_at_most = subst (λ (f : FlowFrames). s.bits p ≤ f.stream.bits) (sym here) few_bits;
-        turns = subst (λ (f : FlowFrames). 0 < f.stream.frames) (sym here) (omega arith);
-        moment_first = one.moment_first;
-        late_at_most = subst (λ (f : FlowFrames). s.queued p ≤ sent.moment p + f.stream.late) (sym here)
-            (within_bits timing.bitrate one.pace.jitter (sent.moment p) (s.queued p) one.late_at_most);
-      }
-        where
-          few_bits : s.bits p ≤ its_frames.stream.bits
-          few_bits = rw (is_short (sent.flow p) one.flow one.pace one.group one.its one.paced one.of one.short)
-              (let few = one.length in omega (arith, few))
-
-      -- its identifier, at a bit at which it is queued
-      ident_at : (t : ℕ) → IsQueuedAt s p t → s.ident p ≡ group_ident (held.address t) one.group one.flow
-      ident_at t queued = one.identifier t queued
-          ∙ ap (λ (d : ℕ). identifier_of one.group.priority one.group.pgn d (held.address t one.flow.sender)) (same_place (held.address t) one.flow.to)
-
-      units_planned : AreUnitsPlanned plan one.flow
-      units_planned = record {
-        sender = all_at (λ (g : FlowPlan). g.sender < length plan.units.items) plan.flows.items plan.flow_senders (sent.flow p) one.flow one.its;
-        receiver = all_at (λ (g : FlowPlan). (v : ℕ) → g.to ≡ One v → v < length plan.units.items) plan.flows.items plan.flow_receivers (sent.flow p)
-            one.flow one.its;
-      }
-
-      -- it lies between the least and the greatest one
-      pub between : (its_frames.least_ident ≤ s.ident p) × (s.ident p ≤ its_frames.greatest_ident)
-      between =
-          let t = s.queued p in
-          let is_ident = ident_at t (omega arith, queued_first p in_p) in
-          let lies = lie_between plan stays tells (held.address t) (keeps.held_by_plan t) one.flow units_planned timing one.group in
-          let low = lies.least in
-          let high = lies.greatest in
-          (omega (arith, low, is_ident), omega (arith, high, is_ident))
-
-      short_flow : (t : ℕ) → IsQueuedAt s p t → IsShortFlow plan (held.on t) (sent.flow p) one.flow one.group
-      short_flow t queued = record {
-        its = one.its;
-        sent = one.of;
-        short = is_short (sent.flow p) one.flow one.pace one.group one.its one.paced one.of one.short;
-        sender = one.sender_on t queued;
-        receiver = λ v goes. one.receiver_on t v queued goes;
-      }
-
-    -- ---- streams
-
-    spaced : (p q : ℕ) → p < s.count → q < s.count → p ≢ q → planned p ≡ true → planned q ≡ true → sent.flow p ≡ sent.flow q
-        → (sent.moment p + (traffic.stream (sent.flow p)).period ≤ sent.moment q) ⊎ (sent.moment q + (traffic.stream (sent.flow p)).period ≤ sent.moment p)
-    spaced p q in_p in_q other is_p is_q one_flow =
-        subst (λ (f : FlowFrames). (sent.moment p + f.stream.period ≤ sent.moment q) ⊎ (sent.moment q + f.stream.period ≤ sent.moment p)) (sym (here p in_p is_p))
-        (elim (keeps.apart p q (one p in_p is_p).flow (one p in_p is_p).pace in_p in_q other is_p is_q one_flow (one p in_p is_p).its (one p in_p is_p).paced) [
-          | inl before ↦ inl (behind_bits timing.bitrate (one p in_p is_p).pace.period (sent.moment p) (sent.moment q) before)
-          | inr after ↦ inr (behind_bits timing.bitrate (one p in_p is_p).pace.period (sent.moment q) (sent.moment p) after)
-        ])
-
-    pub of_streams : AreOfStreams s (λ p. planned p ≡ true) traffic.count traffic.stream (origins_of sent)
-    of_streams = record {
-      keeps = λ p in_p is. keeps_stream p in_p is;
-      spaced = λ p q in_p in_q other is_p is_q one_flow turn. spaced p q in_p in_q other is_p is_q one_flow;
+    pub keeps_stream : KeepsStream s (traffic plan timing stays).count (traffic plan timing stays).stream (origins_of plan sent) p
+    keeps_stream = record {
+      known = inside plan timing stays s (sent.source p) (sent.release p) p of_source;
+      bits_at_most = subst (λ (f : FlowFrames). s.bits p ≤ f.stream.bits) (sym at_its_place) of_source.bits_at_most;
+      turns = subst (λ (f : FlowFrames). (origins_of plan sent).turn p < f.stream.frames) (sym at_its_place) of_source.turns;
+      release_first = of_source.release_first;
+      jitter_at_most = subst (λ (f : FlowFrames). s.queued p ≤ sent.release p + f.stream.jitter) (sym at_its_place) of_source.jitter_at_most;
     }
 
-    -- ---- identifiers
+  -- ---- streams
 
-    -- two frames with one identifier are of one flow, or of two that are alike
-    one_or_alike : (p q t : ℕ) (in_p : p < s.count) (in_q : q < s.count) (is_p : planned p ≡ true) (is_q : planned q ≡ true)
-        → IsQueuedAt s p t → IsQueuedAt s q t → s.ident p ≡ s.ident q
-        → (sent.flow p ≡ sent.flow q) ⊎ AreAlike (its_frames p in_p is_p) (its_frames q in_q is_q)
-    one_or_alike p q t in_p in_q is_p is_q at_p at_q same = elim (cases_eq (sent.flow p) (sent.flow q)) [
-      | inl one_flow ↦ inl one_flow
-      | inr other ↦
-          let first = one p in_p is_p in
-          let second = one q in_q is_q in
-          let idents : group_ident (held.address t) first.group first.flow ≡ group_ident (held.address t) second.group second.flow =
-          sym (ident_at p in_p is_p t at_p) ∙ (same ∙ ident_at q in_q is_q t at_q) in
-          let one_short = short_flow p in_p is_p t at_p in
-          let two_short = short_flow q in_q is_q t at_q in
-          let twins = different plan clean (held.on t) (held.address t) (keeps.held_apart t) (sent.flow p) (sent.flow q) first.flow second.flow first.group second.group
-          other one_short two_short idents in
-          let from = senders plan clean (held.on t) (held.address t) (keeps.held_apart t) (sent.flow p) (sent.flow q) first.flow second.flow first.group second.group
-          one_short two_short idents in
-          inr (record {
-            number = twins.number;
-            first = twins.first_is;
-            second = twins.second_is;
-            senders = ap (any_unit plan.units.items) from;
-            receivers = refl;
-          })
-    ]
+  -- of one source, but of long messages to all, the releases are a period apart
+  by_pace : (p q : ℕ) → p < s.count → q < s.count → p ≢ q → planned p ≡ true → planned q ≡ true → sent.source p ≡ sent.source q → (stream : Stream)
+      → IsPacedBy plan timing stays (sent.source p) stream
+      → (sent.release p + stream.period ≤ sent.release q) ⊎ (sent.release q + stream.period ≤ sent.release p)
+  by_pace p q in_p in_q other is_p is_q one stream told =
+      let period = told.period in
+      elim (keeps.apart p q told.ms in_p in_q other is_p is_q one told.every) [
+        | inl before ↦ inl (let bits = behind_bits timing.bitrate told.ms (sent.release p) (sent.release q) before in omega (arith, bits, period))
+        | inr after ↦ inr (let bits = behind_bits timing.bitrate told.ms (sent.release q) (sent.release p) after in omega (arith, bits, period))
+      ]
 
-    twins_share : (i f h : ℕ) → AreAlike (planned_at all f) (planned_at all h) → may_share traffic i f ≡ true → may_share traffic i h ≡ true
-    twins_share i f h are shares = or_right (eqb h i) (are_twins (planned_at all i) (planned_at all h))
-        (elim (or_cases (eqb f i) (are_twins (planned_at all i) (planned_at all f)) shares) [
-          | inl same ↦
-              subst (λ (k : ℕ). are_twins (planned_at all k) (planned_at all h) ≡ true) (eqb-true f i same)
-              (own_twin (planned_at all f) (planned_at all h) are)
-          | inr twin ↦ same_twin (planned_at all i) (planned_at all f) (planned_at all h) are twin
-        ])
+  module _ (p q : ℕ) (in_p : p < s.count) (in_q : q < s.count) (other : p ≢ q) (is_p : planned p ≡ true) (is_q : planned q ≡ true) where
+    frame_p : IsFrameOf plan timing s held sent.broadcasts (sent.source p) (sent.release p) p
+    frame_p = keeps.frames p in_p is_p
 
-    alike : (i p q t : ℕ) → p < s.count → q < s.count → planned p ≡ true → planned q ≡ true → may_share traffic i (sent.flow p) ≡ true
-        → IsQueuedAt s p t → IsQueuedAt s q t → s.ident p ≡ s.ident q → may_share traffic i (sent.flow q) ≡ true
-    alike i p q t in_p in_q is_p is_q shares at_p at_q same = elim (one_or_alike p q t in_p in_q is_p is_q at_p at_q same) [
-      | inl one_flow ↦ subst (λ (f : ℕ). may_share traffic i f ≡ true) one_flow shares
-      | inr are ↦ twins_share i (sent.flow p) (sent.flow q)
-          (subst (λ (f : FlowFrames). AreAlike f (planned_at all (sent.flow q))) (sym (here p in_p is_p))
-          (subst (AreAlike (its_frames p in_p is_p)) (sym (here q in_q is_q)) are)) shares
-    ]
+    frame_q : IsFrameOf plan timing s held sent.broadcasts (sent.source q) (sent.release q) q
+    frame_q = keeps.frames q in_q is_q
 
-    pub own_identifier : (i p q t : ℕ) → p < s.count → q < s.count → t < s.now → planned p ≡ true → may_share traffic i (sent.flow p) ≡ true
-        → IsQueuedAt s p t → IsQueuedAt s q t → s.ident p ≡ s.ident q → (planned q ≡ true) × (may_share traffic i (sent.flow q) ≡ true)
-    own_identifier i p q t in_p in_q seen is_p shares at_p at_q same = elim (cases_Bool (planned q)) [
-      | inl is_q ↦ (is_q, alike i p q t in_p in_q is_p is_q shares at_p at_q same)
-      | inr not_q ↦ absurd (keeps.others_identifier p q t in_p in_q seen is_p not_q at_p at_q same)
-    ]
-
-    -- ---- all of it
-
-    pub keeps_premises : (i : ℕ) → AreFramesOfPlan timing (frames_asked asked) s planned (origins_of sent) i
-    keeps_premises i = record {
-      longest_at_most = λ p in_p. elim (cases_Bool (planned p)) [
-        | inl is ↦ frame_at_most p in_p is
-        | inr other ↦ keeps.others_length p in_p other
-      ];
-      of_streams = of_streams;
-      as_wanted = never_wanted s planned (origins_of sent) traffic.demands traffic.stream
-          (λ p in_p is. ap (λ (f : FlowFrames). f.stream.wanted) (here p in_p is));
-      from_least = λ p in_p is. subst (λ (f : FlowFrames). f.least_ident ≤ s.ident p) (sym (here p in_p is)) (between p in_p is).0;
-      to_greatest = λ p in_p is source. subst (λ (k : ℕ). s.ident p ≤ traffic.greatest k) source
-          (subst (λ (f : FlowFrames). s.ident p ≤ f.greatest_ident) (sym (here p in_p is)) (between p in_p is).1);
-      own_identifier = own_identifier i;
-      urgency_of_others = keeps.others_priority;
-      few_others = λ p from to in_p is source seen waits wait. keeps.few_others p from to in_p is seen waits wait;
-    }
-
-    -- ---- units that keep no order
-
-    module _ (controllers : Controllers) (queues : KeepsQueues plan timing s controllers planned sent) where
-      abbrev asks : List (Option FlowFrames)
-      asks = frames_asked asked
-
-      there : (p : ℕ) (in_p : p < s.count) (is : planned p ≡ true) → planned_at asks (sent.flow p) ≡ its_frames p in_p is
-      there p in_p is = let f = one p in_p is in
-          ap (λ (o : Option FlowFrames). unwrap_or o no_frames) (read (sent.flow p) f.flow f.pace f.group f.its f.paced f.of f.short)
-
-      of_unit_told : (p : ℕ) (in_p : p < s.count) (is : planned p ≡ true) → IsUnordered controllers p
-          → are_of_unit (its_frames p in_p is) (controllers.unit p) ≡ true
-      of_unit_told p in_p is un =
-          let flow = (one p in_p is).flow in
-          let from = queues.sender p flow in_p is (one p in_p is).its in
-          elim (slice_get_cases plan.units.items flow.sender).1 [
-            | inl (unit, below, at, same) ↦ elim (queue_cases unit.queue) [
-              | inl first ↦
-                  absurd (true≢false (sym (queues.order flow.sender unit at first) ∙ (ap controllers.keeps_order (sym from) ∙ un)))
-              | inr any ↦ rw (any_known plan.units.items flow.sender unit at any, from, eq-eqb flow.sender flow.sender refl) refl
-            ]
-            | inr (past, none) ↦ absurd (let below = (units_planned p in_p is).sender in omega (arith, past, below))
+    -- announcements of a unit
+    announced_apart : (u m n : ℕ) → sent.source p ≡ Announcing u m → sent.source q ≡ Announcing u n → (stream : Stream)
+        → IsPaced plan timing stays (Announcing u m) stream → (sent.release p + stream.period ≤ sent.release q)
+        ⊎ (sent.release q + stream.period ≤ sent.release p)
+    announced_apart u m n first second stream paced =
+        let one = subst (λ (x : Source). IsFrameOf plan timing s held sent.broadcasts x (sent.release p) p) first frame_p in
+        let two = subst (λ (x : Source). IsFrameOf plan timing s held sent.broadcasts x (sent.release q) q) second frame_q in
+        let period = ap (λ (x : Stream). x.period) paced in
+        let at_p = keeps.broadcasts.announced p u m in_p is_p first in
+        let at_q = keeps.broadcasts.announced q u n in_q is_q second in
+        let release_p = one.at_once in
+        let release_q = two.at_once in
+        elim (cases_eq m n) [
+          | inl same ↦ absurd (other (keeps.broadcasts.once p q u m in_p in_q is_p is_q first (second ∙ ap (λ (k : ℕ). Announcing u k) (sym same))))
+          | inr differ ↦ elim (cases_lt m n) [
+            | inl less ↦
+                let gap = gaps_bits timing.bitrate (sent.broadcasts.packets u m) timing.broadcast_gap (sent.broadcasts.announced u m) (sent.broadcasts.announced u n)
+                (keeps.broadcasts.in_turn u m n less two.known) in
+                let few : least_packets (broadcasts_by u (asked plan timing stays).flows) * bits_of_ms timing timing.broadcast_gap
+                ≤ sent.broadcasts.packets u m * bits_of_ms timing timing.broadcast_gap =
+                mul-le-mul_right (bits_of_ms timing timing.broadcast_gap)
+                (fewest plan timing stays sent.broadcasts u m (keeps.broadcasts.messages u m one.known)) in
+                inl (omega (arith, gap, few, period, at_p, at_q, release_p, release_q))
+            | inr more ↦
+                let gap = gaps_bits timing.bitrate (sent.broadcasts.packets u n) timing.broadcast_gap (sent.broadcasts.announced u n) (sent.broadcasts.announced u m)
+                (keeps.broadcasts.in_turn u n m (omega (arith, more, differ)) one.known) in
+                let few : least_packets (broadcasts_by u (asked plan timing stays).flows) * bits_of_ms timing timing.broadcast_gap
+                ≤ sent.broadcasts.packets u n * bits_of_ms timing timing.broadcast_gap =
+                mul-le-mul_right (bits_of_ms timing timing.broadcast_gap)
+                (fewest plan timing stays sent.broadcasts u n (keeps.broadcasts.messages u n two.known)) in
+                inr (omega (arith, gap, few, period, at_p, at_q, release_p, release_q))
           ]
+        ]
 
-      -- two alike are both of a company, or none is
-      company_alike : (leasts : List (Option ℕ)) (around : FlowFrames) (level : ℕ) (a b : FlowFrames) → AreAlike a b
-          → is_of_company leasts around level a ≡ true → is_of_company leasts around level b ≡ true
-      company_alike leasts around level a b are is =
-          let m = is_member leasts around level in
-          subst (λ (u : Option ℕ). (option_map_or m b.any_sender false || option_map_or m u false) ≡ true) are.receivers
-          (subst (λ (u : Option ℕ). (option_map_or m u false || option_map_or m a.any_receiver false) ≡ true) are.senders is)
+    -- packets of a unit
+    carried_apart : (u m n j k : ℕ) → sent.source p ≡ Carrying u m j → sent.source q ≡ Carrying u n k → (stream : Stream)
+        → IsPaced plan timing stays (Carrying u m j) stream → (sent.release p + stream.period ≤ sent.release q)
+        ⊎ (sent.release q + stream.period ≤ sent.release p)
+    carried_apart u m n j k first second stream paced =
+        let one = subst (λ (x : Source). IsFrameOf plan timing s held sent.broadcasts x (sent.release p) p) first frame_p in
+        let two = subst (λ (x : Source). IsFrameOf plan timing s held sent.broadcasts x (sent.release q) q) second frame_q in
+        let period = ap (λ (x : Stream). x.period) paced in
+        let release_p = one.0.at_once in
+        let release_q = two.0.at_once in
+        elim (keeps.broadcasts.gaps p q u m n j k in_p in_q other is_p is_q first second) [
+          | inl before ↦
+              inl (let gap = behind_bits timing.bitrate timing.broadcast_gap (s.queued p) (s.queued q) before in omega (arith, gap, period, release_p, release_q))
+          | inr after ↦
+              inr (let gap = behind_bits timing.bitrate timing.broadcast_gap (s.queued q) (s.queued p) after in omega (arith, gap, period, release_p, release_q))
+        ]
 
-      company_kept : (around : FlowFrames) (level : ℕ) → KeepToCompany timing s planned (origins_of sent) (company_of timing asks around level)
-      company_kept around level = record {
-        identifiers = queues.identifiers;
-        own_identifiers = λ p q t in_p in_q seen is_p has at_p at_q same. elim (cases_Bool (planned q)) [
+    -- of what comes by its own pace
+    alike : (x : Source) → HasPace plan timing stays x → sent.source p ≡ x → source_place plan x ≡ source_place plan (sent.source q) → source_turn plan x ≡ source_turn plan (sent.source q)
+        → (stream : Stream) → IsPacedBy plan timing stays x stream → (sent.release p + stream.period ≤ sent.release q)
+        ⊎ (sent.release q + stream.period ≤ sent.release p)
+    alike x pace first place turn stream paced =
+        let one : x ≡ sent.source q =
+        one_source plan timing stays s held sent.broadcasts keeps.broadcasts.messages x (sent.source q) (sent.release p) (sent.release q) p q pace
+        (subst (λ (y : Source). IsFrameOf plan timing s held sent.broadcasts y (sent.release p) p) first frame_p) frame_q place turn in
+        by_pace p q in_p in_q other is_p is_q (first ∙ one) stream (subst (λ (y : Source). IsPacedBy plan timing stays y stream) (sym first) paced)
+
+    by_source : (x : Source) → sent.source p ≡ x → source_place plan x ≡ source_place plan (sent.source q) → source_turn plan x ≡ source_turn plan (sent.source q) → (stream : Stream)
+        → IsPaced plan timing stays x stream → (sent.release p + stream.period ≤ sent.release q) ⊎ (sent.release q + stream.period ≤ sent.release p)
+    by_source (Single f) first place turn stream paced = alike (Single f) tt first place turn stream paced
+    by_source (InSession f part) first place turn stream paced = alike (InSession f part) tt first place turn stream paced
+    by_source (Asking r) first place turn stream paced = alike (Asking r) tt first place turn stream paced
+    by_source (Announcing u m) first place turn stream paced =
+        let one = subst (λ (x : Source). IsFrameOf plan timing s held sent.broadcasts x (sent.release p) p) first frame_p in
+        let (n, second) = of_announcements plan timing stays s held sent.broadcasts keeps.broadcasts.messages (sent.source q) u m (sent.release q) q frame_q one.known
+        (sym place) in
+        announced_apart u m n first second stream paced
+    by_source (Carrying u m j) first place turn stream paced =
+        let one = subst (λ (x : Source). IsFrameOf plan timing s held sent.broadcasts x (sent.release p) p) first frame_p in
+        let (n, k, second) = of_packets plan timing stays s held sent.broadcasts keeps.broadcasts.messages (sent.source q) u m j (sent.release q) q frame_q one.0.known
+        (sym place) in
+        carried_apart u m n j k first second stream paced
+
+  pub told_stream : (p : ℕ) → p < s.count → planned p ≡ true
+      → IsPaced plan timing stays (sent.source p) ((traffic plan timing stays).stream (source_place plan (sent.source p)))
+  told_stream p in_p is = subst (λ (f : FlowFrames). IsPaced plan timing stays (sent.source p) f.stream) (sym (at_its_place p in_p is)) (of_source p in_p is).paced
+
+  pub of_streams : AreOfStreams s (λ p. planned p ≡ true) (traffic plan timing stays).count (traffic plan timing stays).stream (origins_of plan sent)
+  of_streams = record {
+    keeps = λ p in_p is. keeps_stream p in_p is;
+    spaced = λ p q in_p in_q other is_p is_q place turn.
+        by_source p q in_p in_q other is_p is_q (sent.source p) refl place turn ((traffic plan timing stays).stream (source_place plan (sent.source p)))
+        (told_stream p in_p is_p);
+  }
+
+  -- ---- what is wanted
+
+  pub as_wanted : AreAsWanted s planned (origins_of plan sent) (traffic plan timing stays).demands (traffic plan timing stays).stream
+  as_wanted = as_wanted_of plan timing stays s planned sent held keeps.frames keeps.broadcasts s planned (origins_of plan sent)
+      (λ p in_p is. inr (record { below = in_p; is = is; place = refl; since = refl })) told_stream
+
+  -- ---- identifiers
+
+  twins_share : (i f h : ℕ) → AreAlike (planned_at (all plan timing stays) f) (planned_at (all plan timing stays) h)
+      → may_share (traffic plan timing stays) i f ≡ true → may_share (traffic plan timing stays) i h ≡ true
+  twins_share i f h are shares = or_right (eqb h i) (are_twins (planned_at (all plan timing stays) i) (planned_at (all plan timing stays) h))
+      (elim (or_cases (eqb f i) (are_twins (planned_at (all plan timing stays) i) (planned_at (all plan timing stays) f)) shares) [
+        | inl same ↦
+            subst (λ (k : ℕ). are_twins (planned_at (all plan timing stays) k) (planned_at (all plan timing stays) h) ≡ true) (eqb-true f i same)
+            (own_twin (planned_at (all plan timing stays) f) (planned_at (all plan timing stays) h) are)
+        | inr twin ↦ same_twin (planned_at (all plan timing stays) i) (planned_at (all plan timing stays) f) (planned_at (all plan timing stays) h) are twin
+      ])
+
+  -- at the place of a single frame stand its flow's frames
+  pub there : (f release p : ℕ) (one : IsSingleFrame plan timing s held f release p)
+      → planned_at (all plan timing stays) f ≡ own plan timing stays f one.flow one.pace one.group one.its one.paced one.of
+  there f release p one = with_damage timing (frames_asked (asked_of timing plan stays)) f
+      (own plan timing stays f one.flow one.pace one.group one.its one.paced one.of)
+      (read plan timing stays f one.flow one.pace one.group one.its one.paced one.of one.short)
+
+  -- ---- all of it
+
+  below_greatest : (x : Source) (a b : ℕ) → HasTime x → IsBelowGreatest x a b → a ≤ b
+  below_greatest (Single f) a b timed below = below
+  below_greatest (InSession f part) a b timed below = absurd timed
+  below_greatest (Asking r) a b timed below = absurd timed
+  below_greatest (Announcing u m) a b timed below = below
+  below_greatest (Carrying u m k) a b timed below = below
+
+  -- of frames at a place of which times are promised
+  pub premises_at : (i : ℕ) → ((p : ℕ) → p < s.count → planned p ≡ true → source_place plan (sent.source p) ≡ i → HasTime (sent.source p))
+      → ((p q t : ℕ) → p < s.count → q < s.count → t < s.now → planned p ≡ true
+      → may_share (traffic plan timing stays) i (source_place plan (sent.source p)) ≡ true → IsQueuedAt s p t → IsQueuedAt s q t → s.ident p ≡ s.ident q
+      → (planned q ≡ true) × (may_share (traffic plan timing stays) i (source_place plan (sent.source q)) ≡ true))
+      → AreFramesOfPlan timing (frames_asked (asked_of timing plan stays)) s planned (origins_of plan sent) i
+  premises_at i timed own = record {
+    longest_at_most = λ p in_p. elim (cases_Bool (planned p)) [
+      | inl is ↦ (of_source p in_p is).at_most
+      | inr other ↦ keeps.others_length p in_p other
+    ];
+    of_streams = of_streams;
+    as_wanted = as_wanted;
+    from_least = λ p in_p is. subst (λ (f : FlowFrames). f.least_ident ≤ s.ident p) (sym (at_its_place p in_p is)) (of_source p in_p is).least;
+    to_greatest = λ p in_p is place. subst (λ (k : ℕ). s.ident p ≤ (planned_at (all plan timing stays) k).greatest_ident) place
+        (subst (λ (f : FlowFrames). s.ident p ≤ f.greatest_ident) (sym (at_its_place p in_p is))
+        (below_greatest (sent.source p) (s.ident p) (of_source p in_p is).frames.greatest_ident (timed p in_p is place) (of_source p in_p is).greatest));
+    own_identifier = own;
+    urgency_of_others = keeps.others_priority;
+    few_others = λ p from to in_p is place seen waits wait. keeps.few_others p from to in_p is (timed p in_p is place) seen waits wait;
+  }
+
+  -- ---- of flows each message of which goes in one frame
+
+  module _ (i : ℕ) (single : IsSingleFlow plan i) where
+    -- no frame of a long message is of the flow, or of a twin
+    no_session : (f : ℕ) (part : Part) (release p : ℕ) → IsSessionFrame plan timing s held f part release p → may_share (traffic plan timing stays) i f ≡ true → ⊥
+    no_session f part release p one shares =
+        elim (or_cases (eqb f i) (are_twins (planned_at (all plan timing stays) i) (planned_at (all plan timing stays) f)) shares) [
+          | inl same ↦
+              let place : f ≡ i = eqb-true f i same in
+              let flow : one.flow ≡ single.flow = same_Some _ _ (sym one.its ∙ (ap (slice_get plan.flows.items) place ∙ single.its)) in
+              let group : one.group ≡ single.group =
+              same_Some _ _ (sym one.of ∙ (ap (λ (g : FlowPlan). slice_get plan.groups.items g.group) flow ∙ single.of)) in
+              let most : one.group.most ≡ single.group.most = ap (λ (g : GroupPlan). g.most) group in
+              let short = single.short in
+              let long = one.long in
+              omega (arith, most, short, long)
+          | inr twin ↦
+              let frames = in_session plan timing stays f one.flow one.pace one.group one.its one.paced one.of one.receiver in
+              let its = with_damage timing (frames_asked (asked_of timing plan stays)) f frames
+              (session_read plan timing stays f one.flow one.pace one.group one.its one.paced one.of one.receiver one.long one.to_one) in
+              never_twin (planned_at (all plan timing stays) i) (planned_at (all plan timing stays) f) (ap (λ (x : FlowFrames). x.twin_ident) its) twin
+        ]
+
+    -- and no request
+    no_asking : (r release p : ℕ) → IsFrameOf plan timing s held sent.broadcasts (Asking r) release p → may_share (traffic plan timing stays) i (source_place plan (Asking r)) ≡ true → ⊥
+    no_asking r release p one shares =
+        elim (or_cases (eqb (source_place plan (Asking r)) i) (are_twins (planned_at (all plan timing stays) i) (planned_at (all plan timing stays) (source_place plan (Asking r)))) shares) [
+          | inl same ↦
+              let place : source_place plan (Asking r) ≡ i = eqb-true (source_place plan (Asking r)) i same in
+              let below = slice_get_within plan.flows.items i single.flow single.its in
+              omega (arith, place, below)
+          | inr twin ↦
+              let its = with_damage timing (frames_asked (asked_of timing plan stays)) (source_place plan (Asking r))
+              (in_request plan timing stays r one.asked one.ms one.its one.paced)
+              (request_frames_read plan timing stays r one.asked one.ms one.its one.paced) in
+              never_twin (planned_at (all plan timing stays) i) (planned_at (all plan timing stays) (source_place plan (Asking r))) (ap (λ (x : FlowFrames). x.twin_ident) its) twin
+        ]
+
+    -- and no frame that stands behind the flows and has no twins
+    no_unit : (frames : FlowFrames) (j more : ℕ) → get_or (frames_asked (asked_of timing plan stays)) j None ≡ Some frames → frames.twin_ident ≡ None
+        → j ≡ 2 * length plan.flows.items + more → may_share (traffic plan timing stays) i j ≡ true → ⊥
+    no_unit frames j more at none behind shares =
+        elim (or_cases (eqb j i) (are_twins (planned_at (all plan timing stays) i) (planned_at (all plan timing stays) j)) shares) [
+          | inl same ↦
+              let place : j ≡ i = eqb-true j i same in
+              let below = slice_get_within plan.flows.items i single.flow single.its in
+              omega (arith, place, below, behind)
+          | inr twin ↦
+              let its = with_damage timing (frames_asked (asked_of timing plan stays)) j frames at in
+              never_twin (planned_at (all plan timing stays) i) (planned_at (all plan timing stays) j) (ap (λ (x : FlowFrames). x.twin_ident) its ∙ none) twin
+        ]
+
+    -- so it is a single one
+    pub of_single : (source : Source) (release p : ℕ) → IsFrameOf plan timing s held sent.broadcasts source release p
+        → may_share (traffic plan timing stays) i (source_place plan source) ≡ true → (f : ℕ) × (source ≡ Single f)
+    of_single (Single f) release p one shares = (f, refl)
+    of_single (InSession f part) release p one shares = absurd (no_session f part release p one shares)
+    of_single (Asking r) release p one shares = absurd (no_asking r release p one shares)
+    of_single (Announcing u m) release p one shares = absurd (no_unit (unit_asks plan timing stays sent.broadcasts u m (keeps.broadcasts.messages u m one.known)).announcements
+        (source_place plan (Announcing u m)) (units_told plan.flows.items plan.units.items + u)
+        (announcing_read plan timing stays sent.broadcasts u m (keeps.broadcasts.messages u m one.known)) refl refl shares)
+    of_single (Carrying u m k) release p one shares = absurd (no_unit (unit_asks plan timing stays sent.broadcasts u m (keeps.broadcasts.messages u m one.0.known)).packets
+        (source_place plan (Carrying u m k)) u (carrying_read plan timing stays sent.broadcasts u m (keeps.broadcasts.messages u m one.0.known) k) refl refl shares)
+
+    -- what has the identifier of such a single frame is of the flow or a twin too
+    shared_by : (f release p other q t : ℕ) (second : Source) → IsSingleFrame plan timing s held f release p → IsFrameOf plan timing s held sent.broadcasts second other q
+        → IsQueuedAt s p t → IsQueuedAt s q t → s.ident p ≡ s.ident q → may_share (traffic plan timing stays) i f ≡ true
+        → may_share (traffic plan timing stays) i (source_place plan second) ≡ true
+    shared_by f release p other q t (Single g) one two at_p at_q same shares =
+        elim (one_or_alike plan timing clean s held t (keeps.held_apart t) stays f g release other p q one two at_p at_q same) [
+          | inl one_flow ↦ subst (λ (k : ℕ). may_share (traffic plan timing stays) i k ≡ true) one_flow shares
+          | inr are ↦ twins_share i f g
+              (subst (λ (x : FlowFrames). AreAlike x (planned_at (all plan timing stays) g)) (sym (there f release p one))
+              (subst (AreAlike (own plan timing stays f one.flow one.pace one.group one.its one.paced one.of)) (sym (there g other q two)) are)) shares
+        ]
+    shared_by f release p other q t (InSession g part) one two at_p at_q same shares =
+        absurd (no_part plan timing clean s held t (keeps.held_apart t) f release p one at_p (s.ident q) two.flow.sender two.receiver
+        (part_made plan timing clean s held t (keeps.held_apart t) g part other q two at_q) same)
+    shared_by f release p other q t (Asking r) one two at_p at_q same shares =
+        absurd (no_request plan timing clean s held t (keeps.held_apart t) f release p one at_p (s.ident q) two.asked.sender two.asked.to
+        (request_made plan timing clean s held t (keeps.held_apart t) r other q two at_q) same)
+    shared_by f release p other q t (Announcing u m) one two at_p at_q same shares =
+        absurd (no_broadcast plan timing clean s held t (keeps.held_apart t) f release p one at_p (s.ident q) 60416 u (inl refl)
+        (broadcast_made plan timing clean s held t (keeps.held_apart t) sent.broadcasts 60416 u m other q (inl refl) two at_q) same)
+    shared_by f release p other q t (Carrying u m k) one two at_p at_q same shares =
+        absurd (no_broadcast plan timing clean s held t (keeps.held_apart t) f release p one at_p (s.ident q) 60160 u (inr refl)
+        (broadcast_made plan timing clean s held t (keeps.held_apart t) sent.broadcasts 60160 u m other q (inr refl) two.0 at_q) same)
+
+    pub own_identifier : (p q t : ℕ) → p < s.count → q < s.count → t < s.now → planned p ≡ true
+        → may_share (traffic plan timing stays) i (source_place plan (sent.source p)) ≡ true → IsQueuedAt s p t → IsQueuedAt s q t → s.ident p ≡ s.ident q
+        → (planned q ≡ true) × (may_share (traffic plan timing stays) i (source_place plan (sent.source q)) ≡ true)
+    own_identifier p q t in_p in_q seen is_p shares at_p at_q same =
+        let (f, source) = of_single (sent.source p) (sent.release p) p (keeps.frames p in_p is_p) shares in
+        elim (cases_Bool (planned q)) [
           | inl is_q ↦ (
             is_q,
-            elim (one_or_alike p q t in_p in_q is_p is_q at_p at_q same) [
-              | inl one_flow ↦ subst (λ (f : ℕ). (company_of timing asks around level).has f ≡ true) one_flow has
-              | inr are ↦ company_alike (leasts_of asks) (with_unplanned timing around) level (planned_at asks (sent.flow p)) (planned_at asks (sent.flow q))
-                  (subst (λ (f : FlowFrames). AreAlike f (planned_at asks (sent.flow q))) (sym (there p in_p is_p))
-                  (subst (AreAlike (its_frames p in_p is_p)) (sym (there q in_q is_q)) are)) has
-            ],
+            shared_by f (sent.release p) p (sent.release q) q t (sent.source q)
+                (subst (λ (x : Source). IsFrameOf plan timing s held sent.broadcasts x (sent.release p) p) source (keeps.frames p in_p is_p)) (keeps.frames q in_q is_q) at_p at_q same
+                (subst (λ (x : Source). may_share (traffic plan timing stays) i (source_place plan x) ≡ true) source shares),
           )
-          | inr not_q ↦ absurd (keeps.others_identifier p q t in_p in_q seen is_p not_q at_p at_q same)
-        ];
-        few_unplanned = λ p from to in_p is has seen waits company.
-            let told : is_of_company (leasts_of asks) (with_unplanned timing around) level (its_frames p in_p is) ≡ true =
-            subst (λ (f : FlowFrames). is_of_company (leasts_of asks) (with_unplanned timing around) level f ≡ true) (there p in_p is) has in
-            let (unit, at, any) = any_sender_told plan.units.items (one p in_p is).flow.sender (is_member (leasts_of asks) (with_unplanned timing around) level) told in
-            queues.few_unplanned p from to (one p in_p is).flow unit in_p is (one p in_p is).its at any seen waits
-            (λ t behind up. let (q, in_q, is_q, with_it, wait) = company t behind up in (q, in_q, is_q, wait));
-      }
+          | inr not_q ↦ absurd (keeps.others_identifier p q t in_p in_q seen is_p (subst HasTime (sym source) tt) not_q at_p at_q same)
+        ]
 
-      pub keeps_any : (i : ℕ) → AreFramesInAnyOrder timing asks s controllers planned (origins_of sent) i
-      keeps_any i = record {
-        known = keeps_premises i;
-        of_unit = λ p in_p is un. subst (λ (f : FlowFrames). are_of_unit f (controllers.unit p) ≡ true) (sym (there p in_p is)) (of_unit_told p in_p is un);
-        to_last = λ p in_p is kept. subst (λ (f : FlowFrames). s.ident p ≤ f.last_ident) (sym (there p in_p is)) (between p in_p is).1;
-        companies = λ j level goes kept is_level. company_kept (planned_at asks j) level;
-      }
+    -- a frame at this place is one of the flow
+    pub of_flow : (p : ℕ) (in_p : p < s.count) (is : planned p ≡ true) → source_place plan (sent.source p) ≡ i → sent.source p ≡ Single i
+    of_flow p in_p is place =
+        let shares : may_share (traffic plan timing stays) i (source_place plan (sent.source p)) ≡ true =
+        or_left _ _ (eq-eqb (source_place plan (sent.source p)) i place) in
+        let (f, source) = of_single (sent.source p) (sent.release p) p (keeps.frames p in_p is) shares in
+        source ∙ ap Single (sym (ap (source_place plan) source) ∙ place)
 
-pub keeps_in_order : (plan : Plan) (timing : Timing) (stays : UnitPlan → Bool) → Clean plan → TellsWhoStays plan stays
-    → (s : Schedule) (planned : ℕ → Bool) (sent : FrameFlows) (held : Held) (i : ℕ) → IsLegal s → KeepsToPlan plan timing s planned sent held
-    → AreFramesOfPlan timing (frames_asked (asked_of timing plan stays)) s planned (origins_of sent) i
-keeps_in_order plan timing stays clean tells s planned sent held i legal keeps =
-    keeps_premises plan timing stays tells clean s legal.queued_first planned sent held keeps i
+    pub keeps_premises : AreFramesOfPlan timing (frames_asked (asked_of timing plan stays)) s planned (origins_of plan sent) i
+    keeps_premises = premises_at i (λ p in_p is place. subst HasTime (sym (of_flow p in_p is place)) tt) own_identifier
 
-pub keeps_in_any_order : (plan : Plan) (timing : Timing) (stays : UnitPlan → Bool) → Clean plan → TellsWhoStays plan stays
-    → (s : Schedule) (controllers : Controllers) (planned : ℕ → Bool) (sent : FrameFlows) (held : Held) (i : ℕ) → IsLegalInAnyOrder s controllers
-    → KeepsToPlan plan timing s planned sent held → KeepsQueues plan timing s controllers planned sent
-    → AreFramesInAnyOrder timing (frames_asked (asked_of timing plan stays)) s controllers planned (origins_of sent) i
-keeps_in_any_order plan timing stays clean tells s controllers planned sent held i legal keeps queues =
-    keeps_any plan timing stays tells clean s legal.queued_first planned sent held keeps controllers queues i
+pub keeps_in_order : (plan : Plan) (timing : Timing) (stays : UnitPlan → Bool) → Clean plan → DecidesWhoStays plan stays
+    → (s : Schedule) (planned : ℕ → Bool) (sent : FrameSources) (held : Held) (i : ℕ) → IsSingleFlow plan i → IsLegal s
+    → KeepsToPlan plan timing s planned sent held → AreFramesOfPlan timing (frames_asked (asked_of timing plan stays)) s planned (origins_of plan sent) i
+keeps_in_order plan timing stays clean tells s planned sent held i single legal keeps =
+    keeps_premises plan timing stays tells clean s legal.queued_first planned sent held keeps i single

@@ -23,28 +23,31 @@ use Rattle.j39_network.specs.declared.plan.to.To.{To}
 use Rattle.j39_network.specs.declared.plan.to.To.TheVariants.{All as ToAllUnits, One}
 use Rattle.j39_network.specs.declared.plan.unit_plan.UnitPlan.{UnitPlan}
 use Rattle.j39_network.proofs.VehicleUnits.{AreBoth}
-use Rattle.j39_load.specs.declared.broadcast.Broadcast.{Broadcast}
-use Rattle.j39_load.specs.declared.delay.Delay.{Delay}
-use Rattle.j39_load.specs.declared.delay.Delay.TheVariants.{Within, Late, Long, Whole}
-use Rattle.j39_load.specs.declared.flow_frames.FlowFrames.{FlowFrames}
-use Rattle.j39_load.specs.declared.flow_load.FlowLoad.{FlowLoad}
-use Rattle.j39_load.specs.declared.messages.Messages.{Messages}
-use Rattle.j39_load.specs.declared.messages.Messages.TheVariants.{Short, ToAll, ToOne}
-use Rattle.j39_load.specs.declared.request_load.RequestLoad.{RequestLoad}
-use Rattle.j39_load.specs.declared.unit_load.UnitLoad.{UnitLoad}
-use Rattle.j39_load.specs.declared.whole_time.WholeTime.{WholeTime}
-use Rattle.j39_load.specs.AnyQueues.{IsCompanyLevel, IsCompanyWait, IsHeldFor, IsOffer, IsWaitWith, Offer, TellWaits, blocking_with, keep_order, leasts_of, may_be_passed, offered, streams_with, unheld, with_unplanned}
+use Rattle.j39_load.specs.declared.frames.broadcast.Broadcast.{Broadcast}
+use Rattle.j39_load.specs.declared.waits.delay.Delay.{Delay}
+use Rattle.j39_load.specs.declared.waits.delay.Delay.TheVariants.{Within, Late, Long, Whole}
+use Rattle.j39_load.specs.declared.frames.flow_frames.FlowFrames.{FlowFrames}
+use Rattle.j39_load.specs.declared.loads.flow_load.FlowLoad.{FlowLoad}
+use Rattle.j39_load.specs.declared.frames.messages.Messages.{Messages}
+use Rattle.j39_load.specs.declared.frames.messages.Messages.TheVariants.{Short, ToAll, ToOne}
+use Rattle.j39_load.specs.declared.loads.request_load.RequestLoad.{RequestLoad}
+use Rattle.j39_load.specs.declared.loads.unit_load.UnitLoad.{UnitLoad}
+use Rattle.j39_load.specs.declared.waits.whole_time.WholeTime.{WholeTime}
+use Rattle.j39_load.specs.AnyQueues.{IsQueueGroupLevel, IsQueueGroupWait, IsBufferedFor, IsBuffering, IsWaitWith, Buffering, AreBufferingDelays, blocking_with}
+use Rattle.j39_load.specs.AnyQueues.{keep_order, leasts_of, may_be_passed, buffered, streams_with, least_unbounded, with_unplanned}
 use Rattle.j39_load.specs.Asked.{Asked, asked_by, asked_of, frames_asked}
 use Rattle.j39_load.specs.Broadcasts.{broadcast_frames, broadcasts_by, known_unit_load, least_packets, unit_loads_of}
-use Rattle.j39_load.specs.Delays.{HasDelayBy, IsDelay, IsDelayOf, IsFrameDelay, IsLeastWait, IsShortDelay, IsTurnTimeBy, IsWaitIn, IsWaitOf, IsWholeTime, TellDelays, announcements_place, any_delay, known_turn_time, need_of, packets_place, whole_time}
+use Rattle.j39_load.specs.Delays.{HasDelayBy, IsDelay, IsDelayOf, IsFrameDelay, IsLeastWait, IsShortDelay, IsTurnTimeBy, IsWaitIn, IsWaitOf, IsWholeTime}
+use Rattle.j39_load.specs.Delays.{AreFlowDelays, announcements_place, any_delay, known_turn_time, need_of, packets_place, whole_time}
 use Rattle.j39_load.specs.Demands.{announcements_demand, demands_of, packets_demand}
 use Rattle.j39_load.specs.LoadFindings.{AsksOfBus}
-use Rattle.j39_load.specs.Loads.{any_unit, destination_at, flow_load, frames_to_one, greatest_address, group_ident, is_any, least_address, load_of_flow, loads_of, long_messages}
+use Rattle.j39_load.specs.Loads.{any_unit, destination_at, flow_load, frames_to_one, greatest_address, group_ident, is_any, least_address, load_of_flow}
+use Rattle.j39_load.specs.Loads.{loads_of, long_messages}
 use Rattle.j39_load.specs.Loads.{of_unit, packet_frames, packet_ident, session_ident, single_frames}
 use Rattle.j39_load.specs.RequestLoads.{load_of_request, request_ident, request_load, request_loads_of}
-use Rattle.j39_findings.specs.Standing.{TellsWhoStays}
+use Rattle.j39_findings.specs.Standing.{DecidesWhoStays}
 use Rattle.j39_timing.specs.Traffic.{delay_of}
-use Rattle.j39_timing.specs.Waits.{HaveNoRoom, need}
+use Rattle.j39_timing.specs.Waits.{NoShorterFits, need}
 use Rattle.j39_timing.specs.declared.stream.Stream.{Stream}
 use Rattle.j39_tp.specs.Chunks.{packets_of}
 
@@ -99,7 +102,8 @@ module _ (timing : Timing) (stays other : UnitPlan → Bool) (units boxes : List
     asking_same request = rw (destination_same request.to, unit_same request.sender) refl
 
   -- an end of the addresses that a unit may hold, by how far it may move
-  end_same : (far : ℕ → ℕ) (x y : UnitPlan) → Alike x y → end_by far (is_arbitrary x.name) (stays x) x.address ≡ end_by far (is_arbitrary y.name) (other y) y.address
+  end_same : (far : ℕ → ℕ) (x y : UnitPlan) → Alike x y
+      → end_by far (is_arbitrary x.name) (stays x) x.address ≡ end_by far (is_arbitrary y.name) (other y) y.address
   end_same far x y alike =
       sym (ap (end_by far (is_arbitrary y.name) (other y)) alike.address
       ∙ ap (λ choice. end_by far choice (other y) x.address) alike.choice
@@ -253,7 +257,7 @@ module _ (plan vehicle : Plan) (timing : Timing) (stays other : UnitPlan → Boo
       one_request_load
 
 -- who stays is told in one way, and so is what a plan asks
-module _ (plan : Plan) (timing : Timing) (stays other : UnitPlan → Bool) (tells : TellsWhoStays plan stays) (tell : TellsWhoStays plan other) where
+module _ (plan : Plan) (timing : Timing) (stays other : UnitPlan → Bool) (tells : DecidesWhoStays plan stays) (tell : DecidesWhoStays plan other) where
   seen : (v : ℕ) → AreBoth (AreSeenAlike stays other) (slice_get plan.units.items v) (slice_get plan.units.items v)
   seen v = go (slice_get plan.units.items v) refl where
     go : (o : Option UnitPlan) → slice_get plan.units.items v ≡ o → AreBoth (AreSeenAlike stays other) o o
@@ -275,16 +279,16 @@ module _ (timing : Timing) (all : List (Option FlowFrames)) (flow : ℕ) where
   -- of two least waits none is less
   not_less : (frames : FlowFrames) (wait other : ℕ) → need_of timing all flow frames wait ≤ wait → IsLeastWait timing all flow frames other
       → other ≤ wait
-  not_less frames wait other room least = elim (cases_lt wait other) [
-    | inl below ↦ absurd (omega (arith, least wait below, room))
+  not_less frames wait other demand_fits least = elim (cases_lt wait other) [
+    | inl below ↦ absurd (omega (arith, least wait below, demand_fits))
     | inr above ↦ above
   ]
 
   one_short_delay : (frames : FlowFrames) (limit : ℕ) (delay other : Delay) → IsShortDelay timing all flow frames limit delay
       → IsShortDelay timing all flow frames limit other → delay ≡ other
   one_short_delay frames limit (Within bits) (Within more) is another =
-      let above = not_less frames is.0 another.0 is.1.room another.2 in
-      let below = not_less frames another.0 is.0 another.1.room is.2 in
+      let above = not_less frames is.0 another.0 is.1.demand_fits another.2 in
+      let below = not_less frames another.0 is.0 another.1.demand_fits is.2 in
       let waits : is.0 ≡ another.0 = omega (arith, above, below) in
       ap Within (is.3 ∙ ap (delay_of frames.stream) waits ∙ sym another.3)
   one_short_delay frames limit (Within bits) Late is another = absurd (another is.0 is.1)
@@ -300,8 +304,8 @@ module _ (timing : Timing) (all : List (Option FlowFrames)) (flow : ℕ) where
   one_wait : (frames : FlowFrames) (wait other : Option ℕ) → IsWaitOf timing all flow frames wait → IsWaitOf timing all flow frames other
       → wait ≡ other
   one_wait frames None None is another = refl
-  one_wait frames None (Some other) is another = absurd (let below = another.0 in let room = another.1 in omega (arith, is other (omega arith)))
-  one_wait frames (Some wait) None is another = absurd (let below = is.0 in let room = is.1 in omega (arith, another wait (omega arith)))
+  one_wait frames None (Some other) is another = absurd (let below = another.0 in let demand_fits = another.1 in omega (arith, is other (omega arith)))
+  one_wait frames (Some wait) None is another = absurd (let below = is.0 in let demand_fits = is.1 in omega (arith, another wait (omega arith)))
   one_wait frames (Some wait) (Some other) is another =
       let above = not_less frames wait other is.1 another.2 in
       let below = not_less frames other wait another.1 is.2 in
@@ -310,7 +314,8 @@ module _ (timing : Timing) (all : List (Option FlowFrames)) (flow : ℕ) where
 -- ---- frames of units that keep no order
 
 module _ (timing : Timing) (all : List (Option FlowFrames)) where
-  one_level : (own : FlowFrames) (level other : ℕ) → IsCompanyLevel (leasts_of all) all own level → IsCompanyLevel (leasts_of all) all own other → level ≡ other
+  one_level : (own : FlowFrames) (level other : ℕ) → IsQueueGroupLevel (leasts_of all) all own level → IsQueueGroupLevel (leasts_of all) all own other
+      → level ≡ other
   one_level own level other is another =
       let below = is.least other another.is in
       let above = another.least level is.is in
@@ -319,83 +324,87 @@ module _ (timing : Timing) (all : List (Option FlowFrames)) where
   one_least : (streams : List Stream) (blocking : ℕ) (wait other : Option ℕ) → IsWaitWith timing (demands_of all) streams blocking wait
       → IsWaitWith timing (demands_of all) streams blocking other → wait ≡ other
   one_least streams blocking None None is another = refl
-  one_least streams blocking None (Some other) is another = absurd (let below = another.0 in let room = another.1 in omega (arith, is other (omega arith)))
-  one_least streams blocking (Some wait) None is another = absurd (let below = is.0 in let room = is.1 in omega (arith, another wait (omega arith)))
+  one_least streams blocking None (Some other) is another = absurd (let below = another.0 in let demand_fits = another.1 in omega (arith, is other (omega arith)))
+  one_least streams blocking (Some wait) None is another = absurd (let below = is.0 in let demand_fits = is.1 in omega (arith, another wait (omega arith)))
   one_least streams blocking (Some wait) (Some other) is another =
       let above : other ≤ wait = not_before wait other is.1 another.2 in
       let below : wait ≤ other = not_before other wait another.1 is.2 in
       ap Some (omega (arith, above, below))
     where
-      not_before : (a b : ℕ) → need (demands_of all) blocking streams a ≤ a → HaveNoRoom (demands_of all) blocking streams b → b ≤ a
-      not_before a b room least = elim (cases_lt a b) [
-        | inl less ↦ absurd (omega (arith, least a less, room))
+      not_before : (a b : ℕ) → need (demands_of all) blocking streams a ≤ a → NoShorterFits (demands_of all) blocking streams b → b ≤ a
+      not_before a b demand_fits least = elim (cases_lt a b) [
+        | inl less ↦ absurd (omega (arith, least a less, demand_fits))
         | inr above ↦ above
       ]
 
-  one_company_wait : (own : FlowFrames) (wait other : Option ℕ) → IsCompanyWait timing (leasts_of all) all own wait
-      → IsCompanyWait timing (leasts_of all) all own other → wait ≡ other
-  one_company_wait own wait other is another =
-      let same = one_level (with_unplanned timing own) is.level another.level is.of_company another.of_company in
+  one_queue_group_wait : (own : FlowFrames) (wait other : Option ℕ) → IsQueueGroupWait timing (leasts_of all) all own wait
+      → IsQueueGroupWait timing (leasts_of all) all own other → wait ≡ other
+  one_queue_group_wait own wait other is another =
+      let same = one_level (with_unplanned timing own) is.level another.level is.of_queue_group another.of_queue_group in
       one_least (streams_with timing (leasts_of all) all (with_unplanned timing own) another.level) (blocking_with timing own) wait other
       (subst (λ (n : ℕ). IsWaitWith timing (demands_of all) (streams_with timing (leasts_of all) all (with_unplanned timing own) n) (blocking_with timing own) wait) same
       is.least_wait) another.least_wait
 
-  one_held : (frames : Option FlowFrames) (wait other : Option ℕ) → IsHeldFor timing all frames wait → IsHeldFor timing all frames other → wait ≡ other
-  one_held None wait other is another = is ∙ sym another
-  one_held (Some f) wait other is another = go (keep_order f) is another
+  one_buffering_delay : (frames : Option FlowFrames) (wait other : Option ℕ) → IsBufferedFor timing all frames wait → IsBufferedFor timing all frames other
+      → wait ≡ other
+  one_buffering_delay None wait other is another = is ∙ sym another
+  one_buffering_delay (Some f) wait other is another = go (keep_order f) is another
     where
-      go : (keeps : Bool) → MatchBool keeps (wait ≡ Some 0) (IsCompanyWait timing (leasts_of all) all f wait)
-          → MatchBool keeps (other ≡ Some 0) (IsCompanyWait timing (leasts_of all) all f other) → wait ≡ other
+      go : (keeps : Bool) → MatchBool keeps (wait ≡ Some 0) (IsQueueGroupWait timing (leasts_of all) all f wait)
+          → MatchBool keeps (other ≡ Some 0) (IsQueueGroupWait timing (leasts_of all) all f other) → wait ≡ other
       go true is another = is ∙ sym another
-      go false is another = one_company_wait f wait other is another
+      go false is another = one_queue_group_wait f wait other is another
 
-  one_waits : (waits others : List (Option ℕ)) → TellWaits timing all waits → TellWaits timing all others → waits ≡ others
+  one_waits : (waits others : List (Option ℕ)) → AreBufferingDelays timing all waits → AreBufferingDelays timing all others → waits ≡ others
   one_waits waits others tell another =
       ext_get_or None waits others (tell.count ∙ sym another.count)
       (λ j below. let inside : j < length all = omega (arith, below, tell.count) in
-      one_held (slice_index_or all j None) _ _ (tell.each j inside) (another.each j inside))
+      one_buffering_delay (slice_index_or all j None) _ _ (tell.each j inside) (another.each j inside))
 
-  one_offer : (offer other : Offer) → IsOffer timing all offer → IsOffer timing all other → offer ≡ other
-  one_offer offer other is another =
-      let waits = one_waits offer.waits other.waits is.held another.held in
-      let frames : offer.frames ≡ other.frames = is.frames ∙ ap (λ (ws : List (Option ℕ)). offered ws all) waits ∙ sym another.frames in
-      let low : offer.unheld ≡ other.unheld = is.unheld ∙ ap (λ (ws : List (Option ℕ)). unheld ws all) waits ∙ sym another.unheld in
-      ap (λ (fs : List (Option FlowFrames)). made fs offer.waits offer.unheld) frames
-      ∙ ap (λ (ws : List (Option ℕ)). made other.frames ws offer.unheld) waits
+  one_buffering : (buffering other : Buffering) → IsBuffering timing all buffering → IsBuffering timing all other → buffering ≡ other
+  one_buffering buffering other is another =
+      let waits = one_waits buffering.waits other.waits is.bounded another.bounded in
+      let frames : buffering.frames ≡ other.frames = is.frames ∙ ap (λ (ws : List (Option ℕ)). buffered ws all) waits ∙ sym another.frames in
+      let low : buffering.least_unbounded ≡ other.least_unbounded =
+      is.least_unbounded ∙ ap (λ (ws : List (Option ℕ)). least_unbounded ws all) waits ∙ sym another.least_unbounded in
+      ap (λ (fs : List (Option FlowFrames)). made fs buffering.waits buffering.least_unbounded) frames
+      ∙ ap (λ (ws : List (Option ℕ)). made other.frames ws buffering.least_unbounded) waits
       ∙ ap (λ (o : Option ℕ). made other.frames other.waits o) low
     where
-      made : List (Option FlowFrames) → List (Option ℕ) → Option ℕ → Offer
-      made frames waits low = record { frames = frames; waits = waits; unheld = low }
+      made : List (Option FlowFrames) → List (Option ℕ) → Option ℕ → Buffering
+      made frames waits low = record { frames = frames; waits = waits; least_unbounded = low }
 
-module _ (timing : Timing) (asked : Asked) (offer : Offer) where
-  one_wait_in : (place : ℕ) (frames : FlowFrames) (wait other : Option ℕ) → IsWaitIn timing offer place frames wait
-      → IsWaitIn timing offer place frames other → wait ≡ other
-  one_wait_in place frames wait other is another = go (keep_order frames) (may_be_passed offer frames.greatest_ident) is another
+module _ (timing : Timing) (asked : Asked) (buffering : Buffering) where
+  one_wait_in : (place : ℕ) (frames : FlowFrames) (wait other : Option ℕ) → IsWaitIn timing buffering place frames wait
+      → IsWaitIn timing buffering place frames other → wait ≡ other
+  one_wait_in place frames wait other is another = go (keep_order frames) (may_be_passed buffering frames.greatest_ident) is another
     where
       go : (keeps passed : Bool)
-          → MatchBool keeps (MatchBool passed (wait ≡ None) (IsWaitOf timing offer.frames place frames wait)) (wait ≡ slice_index_or offer.waits place None)
-          → MatchBool keeps (MatchBool passed (other ≡ None) (IsWaitOf timing offer.frames place frames other)) (other ≡ slice_index_or offer.waits place None)
+          → MatchBool keeps (MatchBool passed (wait ≡ None) (IsWaitOf timing buffering.frames place frames wait)) (wait
+          ≡ slice_index_or buffering.waits place None)
+          → MatchBool keeps (MatchBool passed (other ≡ None) (IsWaitOf timing buffering.frames place frames other)) (other
+          ≡ slice_index_or buffering.waits place None)
           → wait ≡ other
       go true true is another = is ∙ sym another
-      go true false is another = one_wait timing offer.frames place frames wait other is another
+      go true false is another = one_wait timing buffering.frames place frames wait other is another
       go false passed is another = is ∙ sym another
 
-  one_frame_delay : (flow : ℕ) (frames : FlowFrames) (limit : ℕ) (delay other : Delay) → IsFrameDelay timing offer flow frames limit delay
-      → IsFrameDelay timing offer flow frames limit other → delay ≡ other
-  one_frame_delay flow frames limit delay other is another = go (keep_order frames) (may_be_passed offer frames.greatest_ident) is another
+  one_frame_delay : (flow : ℕ) (frames : FlowFrames) (limit : ℕ) (delay other : Delay) → IsFrameDelay timing buffering flow frames limit delay
+      → IsFrameDelay timing buffering flow frames limit other → delay ≡ other
+  one_frame_delay flow frames limit delay other is another = go (keep_order frames) (may_be_passed buffering frames.greatest_ident) is another
     where
       go : (keeps passed : Bool)
-          → MatchBool keeps (MatchBool passed (delay ≡ Late) (IsShortDelay timing offer.frames flow frames limit delay))
-          (delay ≡ any_delay frames limit (slice_index_or offer.waits flow None))
-          → MatchBool keeps (MatchBool passed (other ≡ Late) (IsShortDelay timing offer.frames flow frames limit other))
-          (other ≡ any_delay frames limit (slice_index_or offer.waits flow None))
+          → MatchBool keeps (MatchBool passed (delay ≡ Late) (IsShortDelay timing buffering.frames flow frames limit delay))
+          (delay ≡ any_delay frames limit (slice_index_or buffering.waits flow None))
+          → MatchBool keeps (MatchBool passed (other ≡ Late) (IsShortDelay timing buffering.frames flow frames limit other))
+          (other ≡ any_delay frames limit (slice_index_or buffering.waits flow None))
           → delay ≡ other
       go true true is another = is ∙ sym another
-      go true false is another = one_short_delay timing offer.frames flow frames limit delay other is another
+      go true false is another = one_short_delay timing buffering.frames flow frames limit delay other is another
       go false passed is another = is ∙ sym another
 
-  one_turn_time : (u : ℕ) (load : Option UnitLoad) (time other : Option ℕ) → IsTurnTimeBy timing asked offer u load time
-      → IsTurnTimeBy timing asked offer u load other → time ≡ other
+  one_turn_time : (u : ℕ) (load : Option UnitLoad) (time other : Option ℕ) → IsTurnTimeBy timing asked buffering u load time
+      → IsTurnTimeBy timing asked buffering u load other → time ≡ other
   one_turn_time u None time other is another = is ∙ sym another
   one_turn_time u (Some load) time other is another =
       let announced = one_wait_in (announcements_place asked u) load.announcements is.0 another.0 is.2 another.2 in
@@ -403,14 +412,14 @@ module _ (timing : Timing) (asked : Asked) (offer : Offer) where
       is.4 ∙ ap (λ (a : Option ℕ). known_turn_time timing load a is.1) announced
       ∙ ap (λ (p : Option ℕ). known_turn_time timing load another.0 p) sent ∙ sym another.4
 
-  one_whole_time : (broadcast : Broadcast) (whole other : WholeTime) → IsWholeTime timing asked offer broadcast whole
-      → IsWholeTime timing asked offer broadcast other → whole ≡ other
+  one_whole_time : (broadcast : Broadcast) (whole other : WholeTime) → IsWholeTime timing asked buffering broadcast whole
+      → IsWholeTime timing asked buffering broadcast other → whole ≡ other
   one_whole_time broadcast whole other is another =
       is.2 ∙ ap (whole_time broadcast) (one_turn_time broadcast.sender (slice_index_or asked.units broadcast.sender None) is.0 another.0 is.1 another.1)
       ∙ sym another.2
 
-  one_delay : (flow : ℕ) (messages : Messages) (limit : ℕ) (delay other : Delay) → IsDelayOf timing asked offer flow messages limit delay
-      → IsDelayOf timing asked offer flow messages limit other → delay ≡ other
+  one_delay : (flow : ℕ) (messages : Messages) (limit : ℕ) (delay other : Delay) → IsDelayOf timing asked buffering flow messages limit delay
+      → IsDelayOf timing asked buffering flow messages limit other → delay ≡ other
   one_delay flow (Short frames) limit delay other is another =
       one_frame_delay flow frames limit delay other is another
   one_delay flow (ToOne frames) limit (Long count) (Long more) is another = ap Long (is ∙ sym another)
@@ -428,25 +437,26 @@ module _ (timing : Timing) (asked : Asked) (offer : Offer) where
   one_delay flow (ToAll broadcast) limit Late other is another = absurd is
   one_delay flow (ToAll broadcast) limit (Long count) other is another = absurd is
 
-  one_known_delay : (flow : ℕ) (delay other : Option Delay) → HasDelayBy timing asked offer flow delay → HasDelayBy timing asked offer flow other → delay ≡ other
+  one_known_delay : (flow : ℕ) (delay other : Option Delay) → HasDelayBy timing asked buffering flow delay → HasDelayBy timing asked buffering flow other
+      → delay ≡ other
   one_known_delay flow None None is another = refl
   one_known_delay flow None (Some other) is another = absurd (none-some _ (same_Some _ _ (sym is ∙ another.1)))
   one_known_delay flow (Some delay) None is another = absurd (none-some _ (same_Some _ _ (sym another ∙ is.1)))
   one_known_delay flow (Some delay) (Some other) is another =
       let loads_are : is.0 ≡ another.0 = same_Some _ _ (same_Some _ _ (sym is.1 ∙ another.1)) in
       ap Some (one_delay flow another.0.messages another.0.limit delay other
-      (subst (λ (l : FlowLoad). IsDelay timing asked offer flow l delay) loads_are is.2) another.2)
+      (subst (λ (l : FlowLoad). IsDelay timing asked buffering flow l delay) loads_are is.2) another.2)
 
-pub delays_same : (timing : Timing) (asked : Asked) (delays others : List (Option Delay)) → TellDelays timing asked delays
-    → TellDelays timing asked others → delays ≡ others
+pub delays_same : (timing : Timing) (asked : Asked) (delays others : List (Option Delay)) → AreFlowDelays timing asked delays
+    → AreFlowDelays timing asked others → delays ≡ others
 delays_same timing asked delays others tell another =
     ext_get_or None delays others (tell.count ∙ sym another.count)
     (λ flow below.
-    let (offer, is, its) = tell.each flow below in
+    let (buffering, is, its) = tell.each flow below in
     let (other, are, theirs) = another.each flow (omega (arith, below, tell.count, another.count)) in
-    let same = one_offer timing (frames_asked asked) offer other is are in
+    let same = one_buffering timing (frames_asked asked) buffering other is are in
     one_known_delay timing asked other flow _ _
-    (subst (λ (o : Offer). HasDelayBy timing asked o flow (slice_index_or delays flow None)) same its) theirs)
+    (subst (λ (o : Buffering). HasDelayBy timing asked o flow (slice_index_or delays flow None)) same its) theirs)
 
 -- both at once
 pub one_asked : (plan : Plan) (timing : Timing) (stays other : UnitPlan → Bool) (delays others : List (Option Delay))
@@ -456,5 +466,5 @@ one_asked plan timing stays other delays others asks another =
     let same = same_asked plan timing stays other asks.standing another.standing in (
       same,
       delays_same timing (asked_of timing plan other) delays others
-          (subst (λ (a : Asked). TellDelays timing a delays) same asks.waits) another.waits,
+          (subst (λ (a : Asked). AreFlowDelays timing a delays) same asks.waits) another.waits,
     )

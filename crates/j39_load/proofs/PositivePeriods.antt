@@ -1,5 +1,6 @@
 -- Each stream of a plan's traffic has a period, and those of short flows have their limit within it.
-use Rattle.std.proofs.Common.{◌≡◌, ℕ, ◌*◌, ◌<◌, ◌≤◌, Bool, true, false, not, ◌&&◌, eqb, if◌then◌else◌, List, [], ◌∷◌, ◌++◌, length, get_or, map, min, All, Option, Some, None, IfSome}
+use Rattle.std.proofs.Common.{◌≡◌, ℕ, ◌*◌, ◌<◌, ◌≤◌, Bool, true, false, not, ◌&&◌, eqb, if◌then◌else◌, List, [], ◌∷◌, ◌++◌, length, get_or, map, min, All}
+use Rattle.std.proofs.Common.{Option, Some, None, IfSome}
 use Rattle.std.proofs.Common.{refl, sym, ap, ◌∙◌, subst, arith, option_map}
 use Rattle.std.proofs.Math.Nat.{mul-le-mul_left}
 use Rattle.std.proofs.lemmas.List.Elements.{All-append, All-cons, All-head, All-map, All-tail}
@@ -19,17 +20,18 @@ use Rattle.j39_id.specs.Limits.{frame_bytes}
 use Rattle.j39_network.specs.declared.plan.to.To.{To}
 use Rattle.j39_network.specs.declared.plan.to.To.TheVariants.{All as ToAllUnits, One}
 use Rattle.j39_network.specs.declared.plan.unit_plan.UnitPlan.{UnitPlan}
-use Rattle.j39_load.specs.declared.broadcast.Broadcast.{Broadcast}
-use Rattle.j39_load.specs.declared.flow_frames.FlowFrames.{FlowFrames}
-use Rattle.j39_load.specs.declared.flow_load.FlowLoad.{FlowLoad}
-use Rattle.j39_load.specs.declared.messages.Messages.{Messages}
-use Rattle.j39_load.specs.declared.messages.Messages.TheVariants.{Short, ToAll, ToOne}
-use Rattle.j39_load.specs.declared.request_load.RequestLoad.{RequestLoad}
-use Rattle.j39_load.specs.declared.unit_load.UnitLoad.{UnitLoad}
+use Rattle.j39_load.specs.declared.frames.broadcast.Broadcast.{Broadcast}
+use Rattle.j39_load.specs.declared.frames.flow_frames.FlowFrames.{FlowFrames}
+use Rattle.j39_load.specs.declared.loads.flow_load.FlowLoad.{FlowLoad}
+use Rattle.j39_load.specs.declared.frames.messages.Messages.{Messages}
+use Rattle.j39_load.specs.declared.frames.messages.Messages.TheVariants.{Short, ToAll, ToOne}
+use Rattle.j39_load.specs.declared.loads.request_load.RequestLoad.{RequestLoad}
+use Rattle.j39_load.specs.declared.loads.unit_load.UnitLoad.{UnitLoad}
 use Rattle.j39_load.specs.Asked.{announcements_of_unit, asked_of, frames_asked, frames_of_flow, frames_of_request, own_frames, packets_of_unit, singles_of_flow}
-use Rattle.j39_load.specs.Broadcasts.{broadcast_by, broadcast_from, broadcasts_by, known_unit_load, least_packets, unit_loads_of}
+use Rattle.j39_load.specs.Broadcasts.{broadcast_by, broadcast_from, broadcasts_by, known_unit_load, least_announced, least_packets, unit_loads_of}
 use Rattle.j39_load.specs.Damage.{damage_frames, damage_stream, first_of_all}
-use Rattle.j39_load.specs.Loads.{bits_per_ms, deadline_of, flow_load, has_short, is_always_short, load_of_flow, load_of_messages, loads_of, long_messages, single_frames, time_limit}
+use Rattle.j39_load.specs.Loads.{bits_per_ms, deadline_of, flow_load, has_short, is_always_short, load_of_flow, load_of_messages, loads_of, long_messages}
+use Rattle.j39_load.specs.Loads.{single_frames, time_limit}
 use Rattle.j39_load.specs.RequestLoads.{load_of_request, request_load, request_loads_of}
 use Rattle.j39_timing.specs.FrameBits.{error_frame, longest_frame}
 use Rattle.j39_timing.specs.Traffic.{IsSingle}
@@ -99,7 +101,7 @@ of_paced timing plan stays flow (Some pace) (Some group) paced at = rw (paced, a
 each_flow : (timing : Timing) (plan : Plan) (stays : UnitPlan → Bool) (flow : FlowPlan) → IsOfFlowIfKnown (load_of_flow timing plan stays flow)
 each_flow timing plan stays flow = of_paced timing plan stays flow flow.pace (slice_get plan.groups.items flow.group) refl refl
 
-every_flow : (timing : Timing) (plan : Plan) (stays : UnitPlan → Bool) → All IsOfFlowIfKnown (loads_of timing plan stays)
+pub every_flow : (timing : Timing) (plan : Plan) (stays : UnitPlan → Bool) → All IsOfFlowIfKnown (loads_of timing plan stays)
 every_flow timing plan stays =
     All-map IsOfFlowIfKnown (load_of_flow timing plan stays) plan.flows.items (λ k d below. each_flow timing plan stays (get_or plan.flows.items k d))
 
@@ -142,7 +144,7 @@ positive_gaps bitrate gaps gap some long = go (positive_ms bitrate gap (omega ar
         let most : (gap * bits_per_ms bitrate) * 1 ≤ (gap * bits_per_ms bitrate) * gaps = mul-le-mul_left (gap * bits_per_ms bitrate) some in
         omega arith
 
-abbrev HasPackets : Broadcast → Type 0
+abbrev pub HasPackets : Broadcast → Type 0
 HasPackets broadcast = 2 ≤ broadcast.least_packets
 
 some_packets : (broadcasts : List Broadcast) → All HasPackets broadcasts → 1 ≤ least_packets broadcasts
@@ -152,6 +154,17 @@ some_packets (b ∷ bs) all =
     let first = All-head HasPackets b bs all in
     let rest = some_packets bs (All-tail HasPackets b bs all) in
     omega (arith, first, rest)
+
+pub some_announced : (bs : List Broadcast) → All HasPackets bs → 1 ≤ least_announced bs
+unfolding least_announced
+some_announced [] each = omega arith
+some_announced (b ∷ bs) each =
+    let first = All-head HasPackets b bs each in
+    let rest = some_announced bs (All-tail HasPackets b bs each) in
+    elim b.has_short as (λ has. 1 ≤ min (if has then 255 else b.least_packets) (least_announced bs)) [
+      | true ↦ omega (arith, rest)
+      | false ↦ omega (arith, first, rest)
+    ]
 
 by_paced : (u limit : ℕ) (messages : Messages) → ArePaced limit messages → IfSome (broadcast_from u messages) HasPackets
 by_paced u limit (Short frames) known = tt
@@ -166,7 +179,7 @@ one_paced : (u : ℕ) (load : Option FlowLoad) → IsOfFlowIfKnown load → IfSo
 one_paced u None known = tt
 one_paced u (Some load) known = by_paced u load.limit load.messages known.messages
 
-broadcasts_paced : (u : ℕ) (loads : List (Option FlowLoad)) → All IsOfFlowIfKnown loads → All HasPackets (broadcasts_by u loads)
+pub broadcasts_paced : (u : ℕ) (loads : List (Option FlowLoad)) → All IsOfFlowIfKnown loads → All HasPackets (broadcasts_by u loads)
 broadcasts_paced u [] all = λ k d below. absurd (omega arith)
 broadcasts_paced u (load ∷ loads) all =
     go (broadcast_by u load) (one_paced u load (All-head IsOfFlowIfKnown load loads all))

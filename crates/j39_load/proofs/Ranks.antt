@@ -21,7 +21,7 @@ use Rattle.j39_network.specs.declared.plan.unit_plan.UnitPlan.{UnitPlan}
 use Rattle.j39_load.specs.Loads.{destination_at, greatest_address, least_address, may_move, of_unit}
 use Rattle.j39_rules.proofs.Members.{all_at}
 use Rattle.j39_load.specs.Ranks.{AreHeldByPlan, AreUnitsPlanned, LieBetween, RequestLiesBetween}
-use Rattle.j39_findings.specs.Standing.{TellsWhoStays}
+use Rattle.j39_findings.specs.Standing.{DecidesWhoStays}
 use Rattle.j39_findings.proofs.WhoStays.{placed}
 use Rattle.j39_claim.specs.ClaimRule.{PlannedUnit}
 use Rattle.j39_network.specs.PlannedUnits.{planned_unit, unit_at, units_of}
@@ -36,7 +36,7 @@ identifier-mono priority pgn d e s t destination source =
       | false ↦ omega arith
     ]
 
-module _ (plan : Plan) (stays : UnitPlan → Bool) (tells : TellsWhoStays plan stays) (held : ℕ → ℕ) (by_plan : AreHeldByPlan plan held) where
+module _ (plan : Plan) (stays : UnitPlan → Bool) (tells : DecidesWhoStays plan stays) (held : ℕ → ℕ) (by_plan : AreHeldByPlan plan held) where
   abbrev units : List UnitPlan
   units = plan.units.items
 
@@ -76,13 +76,14 @@ module _ (plan : Plan) (stays : UnitPlan → Bool) (tells : TellsWhoStays plan s
       ])
 
   destination_between : (to : To) → ((v : ℕ) → to ≡ One v → v < length units)
-      → (destination_at (of_unit units (least_address stays)) to ≤ destination_at held to) × (destination_at held to ≤ destination_at (of_unit units (greatest_address stays)) to)
+      → (destination_at (of_unit units (least_address stays)) to ≤ destination_at held to)
+      × (destination_at held to ≤ destination_at (of_unit units (greatest_address stays)) to)
   destination_between ToAll known = (omega arith, omega arith)
   destination_between (One v) known = unit_between v (known v refl)
 
   -- from a unit to another one, or to all
   module _ (u : ℕ) (to : To) (sender : u < length units) (receiver : (v : ℕ) → to ≡ One v → v < length units) where
-    between : (priority pgn : ℕ)
+    pub between : (priority pgn : ℕ)
         → (identifier_of priority pgn (destination_at (of_unit units (least_address stays)) to) (of_unit units (least_address stays) u)
         ≤ identifier_of priority pgn (destination_at held to) (held u))
         × (identifier_of priority pgn (destination_at held to) (held u)

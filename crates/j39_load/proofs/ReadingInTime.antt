@@ -21,9 +21,9 @@ use Rattle.j39_network.specs.declared.plan.group_plan.GroupPlan.{GroupPlan}
 use Rattle.j39_network.specs.declared.plan.need_plan.NeedPlan.{NeedPlan}
 use Rattle.j39_network.specs.declared.plan.timing.Timing.{Timing}
 use Rattle.j39_network.specs.declared.plan.unit_plan.UnitPlan.{UnitPlan}
-use Rattle.j39_load.specs.declared.delay.Delay.{Delay}
-use Rattle.j39_load.specs.declared.flow_frames.FlowFrames.{FlowFrames}
-use Rattle.j39_load.specs.declared.messages.Messages.TheVariants.{Short}
+use Rattle.j39_load.specs.declared.waits.delay.Delay.{Delay}
+use Rattle.j39_load.specs.declared.frames.flow_frames.FlowFrames.{FlowFrames}
+use Rattle.j39_load.specs.declared.frames.messages.Messages.TheVariants.{Short}
 use Rattle.j39_load.specs.Asked.{asked_of, frames_asked}
 use Rattle.j39_load.specs.Damage.{damage_frames}
 use Rattle.j39_load.specs.FreshNeeds.{IsNeedFresh}
@@ -146,19 +146,20 @@ module _ (plan : Plan) (timing : Timing) (stays : UnitPlan → Bool) (flow bits 
 
     -- what is told of the stream at the flow's place is told of the flow
     of_flow : (pause from to : ℕ)
-        → (to + ((traffic.stream flow).late + bound.wait) < s.now
+        → (to + ((traffic.stream flow).jitter + bound.wait) < s.now
         → IsNewestFresh s planned of flow (pause + delay_of (traffic.stream flow) bound.wait) (from + delay_of (traffic.stream flow) bound.wait)
         (to + delay_of (traffic.stream flow) bound.wait))
-        → to + (bound.frames.stream.late + bound.wait) < s.now → IsNewestFresh s planned of flow (pause + bits) (from + bits) (to + bits)
+        → to + (bound.frames.stream.jitter + bound.wait) < s.now → IsNewestFresh s planned of flow (pause + bits) (from + bits) (to + bits)
     of_flow pause from to told =
-        subst (λ (b : ℕ). to + (bound.frames.stream.late + bound.wait) < s.now → IsNewestFresh s planned of flow (pause + b) (from + b) (to + b)) (sym bound.sum)
-        (subst (λ (f : FlowFrames). to + (f.stream.late + bound.wait) < s.now
+        subst (λ (b : ℕ). to + (bound.frames.stream.jitter + bound.wait) < s.now → IsNewestFresh s planned of flow (pause + b) (from + b) (to + b)) (sym bound.sum)
+        (subst (λ (f : FlowFrames). to + (f.stream.jitter + bound.wait) < s.now
         → IsNewestFresh s planned of flow (pause + delay_of f.stream bound.wait) (from + delay_of f.stream bound.wait) (to + delay_of f.stream bound.wait)) placed told)
 
 -- ---- needs
 
 -- the newest frame is young, and reads as it was written
-both : (plan : Plan) → Clean plan → (g : ℕ) (group : GroupPlan) → slice_get plan.groups.items g ≡ Some group → (s : Schedule) (planned : ℕ → Bool) (of : Origins)
+both : (plan : Plan) → Clean plan → (g : ℕ) (group : GroupPlan) → slice_get plan.groups.items g ≡ Some group
+    → (s : Schedule) (planned : ℕ → Bool) (of : Origins)
     (flow : ℕ) (bytes : ℕ → List ℕ) (written : CarryWritten s planned of flow group bytes) (age from to : ℕ)
     → IsNewestFresh s planned of flow age from to → AreReadYoung s planned of flow group bytes written age from to
 both plan clean g group at s planned of flow bytes written age from to fresh t low high =
@@ -174,7 +175,8 @@ module _ (plan : Plan) (timing : Timing) (clean : Clean plan) (stays : UnitPlan 
     (fresh : IsNeedFresh plan timing (asked_of timing plan stays) delays need within) where
   group_below : fresh.flow.group < length plan.groups.items
   group_below =
-      let here : get_or plan.flows.items fresh.place fresh.flow ≡ fresh.flow = get_or_from_slice_get plan.flows.items fresh.place fresh.flow fresh.flow fresh.its in
+      let here : get_or plan.flows.items fresh.place fresh.flow ≡ fresh.flow =
+      get_or_from_slice_get plan.flows.items fresh.place fresh.flow fresh.flow fresh.its in
       rw here at (plan.flow_groups fresh.place fresh.flow (slice_get_within plan.flows.items fresh.place fresh.flow fresh.its))
 
   its_group : (group : GroupPlan) × (slice_get plan.groups.items fresh.flow.group ≡ Some group)

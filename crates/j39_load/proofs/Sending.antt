@@ -1,6 +1,7 @@
 -- What holds of all frames that a plan asks for: none is longer than the longest, answers have larger identifiers than packets, and units that keep
 -- no order are those of the plan.
-use Rattle.std.proofs.Common.{◌≡◌, ℕ, ◌+◌, ◌*◌, ◌^◌, ◌<◌, ◌≤◌, Bool, true, false, not, ◌||◌, eqb, if◌then◌else◌, List, length, get_or, unwrap_or, min, max, All, Option, Some, None, IfSome, is_some, refl, sym, ap, ◌∙◌, subst, inl, inr, arith}
+use Rattle.std.proofs.Common.{◌≡◌, ℕ, ◌+◌, ◌*◌, ◌^◌, ◌<◌, ◌≤◌, Bool, true, false, not, ◌||◌, eqb, if◌then◌else◌, List, length, get_or, unwrap_or, min, max, All}
+use Rattle.std.proofs.Common.{Option, Some, None, IfSome, is_some, refl, sym, ap, ◌∙◌, subst, inl, inr, arith}
 use Rattle.std.proofs.lemmas.Bool.{eqb-true, false≢true, leb-true, or_cases}
 use Rattle.std.proofs.lemmas.Option.{slice_get_within}
 use Rattle.std.specs.List.{slice_get}
@@ -20,12 +21,13 @@ use Rattle.j39_network.specs.declared.plan.timing.Timing.{Timing}
 use Rattle.j39_network.specs.declared.plan.to.To.{To}
 use Rattle.j39_network.specs.declared.plan.to.To.TheVariants.{All as ToAllUnits, One}
 use Rattle.j39_network.specs.declared.plan.unit_plan.UnitPlan.{UnitPlan}
-use Rattle.j39_load.specs.declared.broadcast.Broadcast.{Broadcast}
-use Rattle.j39_load.specs.declared.flow_frames.FlowFrames.{FlowFrames}
+use Rattle.j39_load.specs.declared.frames.broadcast.Broadcast.{Broadcast}
+use Rattle.j39_load.specs.declared.frames.flow_frames.FlowFrames.{FlowFrames}
 use Rattle.j39_load.specs.AnyQueues.{are_of_unit, keep_order}
 use Rattle.j39_load.specs.Asked.{asked_of, frames_asked, wanting}
 use Rattle.j39_load.specs.Broadcasts.{broadcast_frames}
-use Rattle.j39_load.specs.Loads.{any_unit, destination_at, greatest_address, is_always_short, is_any, least_address, may_move, most_bytes, of_unit, packet_frames, single_frames}
+use Rattle.j39_load.specs.Loads.{any_unit, broadcast_of, destination_at, greatest_address, is_always_short, is_any, least_address, may_move, most_bytes}
+use Rattle.j39_load.specs.Loads.{of_unit, packet_frames, single_frames}
 use Rattle.j39_load.specs.RequestLoads.{request_load}
 use Rattle.j39_timing.specs.FrameBits.{longest_frame}
 use Rattle.j39_load.specs.PlannedFrames.{AreAllOrdered, no_frames, planned_at}
@@ -162,7 +164,7 @@ module _ (timing : Timing) (plan : Plan) (stays : UnitPlan → Bool) where
   }
 
   pub all_sent : All (λ (frames : Option FlowFrames). IfSome frames IsSent) (frames_asked (asked_of timing plan stays))
-  all_sent = each_fits timing plan stays IsSent single session broadcast wants asking
+  all_sent = each_fits timing plan stays IsSent single session broadcast (λ flow pace group. wants (broadcast_of timing flow pace group)) asking
 
 -- ---- plans whose units all keep order
 
@@ -186,7 +188,7 @@ module _ (timing : Timing) (plan : Plan) (stays : UnitPlan → Bool)
 
   all_ordered : All (λ (frames : Option FlowFrames). IfSome frames (λ (f : FlowFrames). keep_order f ≡ true)) (frames_asked (asked_of timing plan stays))
   all_ordered = each_fits timing plan stays (λ (f : FlowFrames). keep_order f ≡ true) (λ flow pace group. one_none flow.sender)
-      (λ flow v pace packets. two_none flow.sender v) (λ pgn u gaps place. one_none u) (λ broadcast. refl) (λ request period. one_none request.sender)
+      (λ flow v pace packets. two_none flow.sender v) (λ pgn u gaps place. one_none u) (λ flow pace group. refl) (λ request period. one_none request.sender)
 
   pub in_order : AreAllOrdered (frames_asked (asked_of timing plan stays))
   in_order j = go (get_or (frames_asked (asked_of timing plan stays)) j None) refl

@@ -42,7 +42,8 @@ same_taken a b (Some w) size same taken =
     rw (size, number) taken
 
 pub told : (plan : Plan) → Clean plan → (f : ℕ) (flow : FlowPlan) (group : GroupPlan) → slice_get plan.flows.items f ≡ Some flow
-    → slice_get plan.groups.items flow.group ≡ Some group → (bytes : List ℕ) → AreWritten group bytes → LeaveSelector group bytes → IsToldOf plan flow group bytes
+    → slice_get plan.groups.items flow.group ≡ Some group → (bytes : List ℕ) → AreWritten group bytes → LeaveSelector group bytes
+    → IsToldOf plan flow group bytes
 told plan clean f flow group its at bytes w leave = record {
   fits = fits;
   alone = λ h other. one_fits plan clean group.pgn bytes flow.sender flow.to h flow.group other fits;

@@ -4,44 +4,44 @@ use Rattle.std.proofs.Math.Seq.{get_or-append_seam}
 use Rattle.std.proofs.lemmas.Bool.{cases_lt}
 use Rattle.std.proofs.lemmas.List.{get_or_append_left, get_or_past}
 use Rattle.j39_network.specs.declared.plan.timing.Timing.{Timing}
-use Rattle.j39_load.specs.declared.delay.Delay.{Delay}
-use Rattle.j39_load.specs.declared.delay.Delay.TheVariants.{Within, Late, Long, Whole}
-use Rattle.j39_load.specs.declared.messages.Messages.{Messages}
-use Rattle.j39_load.specs.declared.messages.Messages.TheVariants.{Short, ToAll, ToOne}
-use Rattle.j39_load.specs.declared.unit_load.UnitLoad.{UnitLoad}
-use Rattle.j39_load.specs.AnyQueues.{Offer}
+use Rattle.j39_load.specs.declared.waits.delay.Delay.{Delay}
+use Rattle.j39_load.specs.declared.waits.delay.Delay.TheVariants.{Within, Late, Long, Whole}
+use Rattle.j39_load.specs.declared.frames.messages.Messages.{Messages}
+use Rattle.j39_load.specs.declared.frames.messages.Messages.TheVariants.{Short, ToAll, ToOne}
+use Rattle.j39_load.specs.declared.loads.unit_load.UnitLoad.{UnitLoad}
+use Rattle.j39_load.specs.AnyQueues.{Buffering}
 use Rattle.j39_load.specs.Asked.{Asked}
 use Rattle.j39_load.specs.Delays.{IsDelayOf, IsTurnTime, IsTurnTimeBy}
-use Rattle.j39_load.specs.inside.TurnTimes.{IsDelayBy, TellTurnTimes, time_at}
+use Rattle.j39_load.specs.inside.TurnTimes.{IsDelayBy, AreTurnTimes, time_at}
 
 -- the times of the first so many units, and of one more
-pub one_more : (timing : Timing) (asked : Asked) (offer : Offer) (times : List (Option ℕ)) (time : Option ℕ) (n : ℕ) → length times ≡ n
-    → ((k : ℕ) → k < n → IsTurnTime timing asked offer k (get_or times k None)) → IsTurnTime timing asked offer n time → (k : ℕ) → k < n + 1
-    → IsTurnTime timing asked offer k (get_or (times ++ time ∷ []) k None)
-one_more timing asked offer times time n count told is k below = elim (cases_lt k n) [
+pub one_more : (timing : Timing) (asked : Asked) (buffering : Buffering) (times : List (Option ℕ)) (time : Option ℕ) (n : ℕ) → length times ≡ n
+    → ((k : ℕ) → k < n → IsTurnTime timing asked buffering k (get_or times k None)) → IsTurnTime timing asked buffering n time → (k : ℕ) → k < n + 1
+    → IsTurnTime timing asked buffering k (get_or (times ++ time ∷ []) k None)
+one_more timing asked buffering times time n count told is k below = elim (cases_lt k n) [
   | inl before ↦
-      subst (IsTurnTime timing asked offer k) (sym (get_or_append_left times (time ∷ []) None k (omega (arith, before, count)))) (told k before)
+      subst (IsTurnTime timing asked buffering k) (sym (get_or_append_left times (time ∷ []) None k (omega (arith, before, count)))) (told k before)
   | inr after ↦
       let here : k ≡ n = omega arith in
       let last : get_or (times ++ time ∷ []) n None ≡ time =
       ap (λ (m : ℕ). get_or (times ++ time ∷ []) m None) (sym count) ∙ get_or-append_seam times time [] None in
-      subst (λ (m : ℕ). IsTurnTime timing asked offer m (get_or (times ++ time ∷ []) m None)) (sym here)
-      (subst (IsTurnTime timing asked offer n) (sym last) is)
+      subst (λ (m : ℕ). IsTurnTime timing asked buffering m (get_or (times ++ time ∷ []) m None)) (sym here)
+      (subst (IsTurnTime timing asked buffering n) (sym last) is)
 ]
 
-module _ (timing : Timing) (asked : Asked) (offer : Offer) (times : List (Option ℕ)) (tell : TellTurnTimes timing asked offer times) where
+module _ (timing : Timing) (asked : Asked) (buffering : Buffering) (times : List (Option ℕ)) (tell : AreTurnTimes timing asked buffering times) where
   -- also where there is no such unit
-  turn : (u : ℕ) → IsTurnTime timing asked offer u (time_at times u)
+  turn : (u : ℕ) → IsTurnTime timing asked buffering u (time_at times u)
   turn u = elim (cases_lt u (length times)) [
     | inl inside ↦ tell.each u inside
     | inr past ↦
         let none : get_or asked.units u None ≡ None = get_or_past asked.units u None (omega (arith, tell.count, past)) in
         let no_time : get_or times u None ≡ None = get_or_past times u None past in
-        subst (λ (load : Option UnitLoad). IsTurnTimeBy timing asked offer u load (get_or times u None)) (sym none) no_time
+        subst (λ (load : Option UnitLoad). IsTurnTimeBy timing asked buffering u load (get_or times u None)) (sym none) no_time
   ]
 
-  pub delay_by : (flow : ℕ) (messages : Messages) (limit : ℕ) (delay : Delay) → IsDelayBy timing offer times flow messages limit delay
-      → IsDelayOf timing asked offer flow messages limit delay
+  pub delay_by : (flow : ℕ) (messages : Messages) (limit : ℕ) (delay : Delay) → IsDelayBy timing buffering times flow messages limit delay
+      → IsDelayOf timing asked buffering flow messages limit delay
   delay_by flow (Short frames) limit delay is = is
   delay_by flow (ToOne frames) limit (Long count) is = is
   delay_by flow (ToOne frames) limit (Within bits) is = is

@@ -1,6 +1,7 @@
 -- On a bus that keeps to a plan with whose load nothing is wrong values arrive in time, in milliseconds.
-use Rattle.std.proofs.Common.{◌≡◌, ℕ, ◌+◌, ◌*◌, ◌<◌, ◌≤◌, Bool, List, [], Option, Some, None}
+use Rattle.std.proofs.Common.{◌≡◌, ℕ, ◌+◌, ◌*◌, ◌<◌, ◌≤◌, Bool, true, false, if◌then◌else◌, List, [], Option, Some, None}
 use Rattle.std.proofs.Common.{refl, sym, ap, ◌∙◌, arith, option_map}
+use Rattle.std.proofs.lemmas.Bool.{leb-true}
 use Rattle.std.proofs.lemmas.Option.{none-some, same_Some, slice_get-map}
 use Rattle.std.specs.List.{slice_get}
 use Rattle.j39_findings.specs.Findings.{Clean}
@@ -12,16 +13,23 @@ use Rattle.j39_network.specs.declared.plan.pace.Pace.{Pace}
 use Rattle.j39_network.specs.declared.plan.timing.Bitrate.{Bitrate}
 use Rattle.j39_network.specs.declared.plan.timing.Bitrate.TheVariants.{Kbit125, Kbit250, Kbit500, Mbit1}
 use Rattle.j39_network.specs.declared.plan.timing.Timing.{Timing}
+use Rattle.j39_network.specs.declared.plan.to.To.{To}
+use Rattle.j39_network.specs.declared.plan.to.To.TheVariants.{All as ToAllUnits, One}
 use Rattle.j39_network.specs.declared.plan.unit_plan.UnitPlan.{UnitPlan}
-use Rattle.j39_load.specs.declared.delay.Delay.{Delay}
-use Rattle.j39_load.specs.declared.flow_load.FlowLoad.{FlowLoad}
+use Rattle.j39_load.specs.declared.waits.delay.Delay.{Delay}
+use Rattle.j39_load.specs.declared.frames.flow_frames.FlowFrames.{FlowFrames}
+use Rattle.j39_load.specs.declared.loads.flow_load.FlowLoad.{FlowLoad}
+use Rattle.j39_load.specs.declared.frames.messages.Messages.TheVariants.{Short}
 use Rattle.j39_load.specs.Asked.{asked_of}
-use Rattle.j39_load.specs.KeepsPlan.{FrameFlows, bit_time, origins_of}
+use Rattle.j39_load.specs.KeepsPlan.{IsSingleFlow, origins_of}
 use Rattle.j39_load.specs.LoadFindings.{AreLoadFindings, AsksOfBus}
-use Rattle.j39_load.specs.Loads.{bits_of_ms, bits_per_ms, deadline_of, load_of_flow, time_limit}
+use Rattle.j39_load.specs.Loads.{bits_of_ms, bits_per_ms, deadline_of, is_always_short, load_of_flow, long_messages, single_frames, time_limit}
 use Rattle.j39_load.specs.ReadInTime.{AreReadYoung, CarryWritten, IsNeedRead}
+use Rattle.j39_load.specs.SentFrames.{FrameSources, bit_time}
 use Rattle.j39_load.specs.ValuesInTime.{AreValuesInTime, ArriveOn, IsValueInTime}
-use Rattle.j39_load.proofs.KeepingPlan.{behind_bits, in_ms, keeps_in_any_order, keeps_in_order}
+use Rattle.j39_load.proofs.KeepingAnyOrder.{keeps_in_any_order}
+use Rattle.j39_load.proofs.KeepingPlan.{keeps_in_order}
+use Rattle.j39_load.proofs.Milliseconds.{behind_bits, in_ms}
 use Rattle.j39_load.proofs.KeptInTime.{at_most_second, before_bits}
 use Rattle.j39_load.proofs.ReadingInTime.{read_where_checked}
 use Rattle.j39_load.proofs.Sending.{in_order}
@@ -51,13 +59,41 @@ module _ (plan : Plan) (timing : Timing) (stays : UnitPlan → Bool) (flow : Flo
     limit = ap (λ (l : FlowLoad). l.limit) (sym (same_Some _ load (rw (paced, at) at is)));
   }
 
+  -- where its messages are told to go in one frame they do
+  single_told : (pace : Pace) (group : GroupPlan) (frames : FlowFrames) → flow.pace ≡ Some pace → slice_get plan.groups.items flow.group ≡ Some group
+      → load_of_flow timing plan stays flow ≡ Some load → load.messages ≡ Short frames → group.most ≤ 8
+  single_told pace group frames paced at is short =
+      by_length (is_always_short group) flow.to refl (ap (λ (l : FlowLoad). l.messages) (same_Some _ load (rw (paced, at) at is)) ∙ short)
+    where
+      by_length : (b : Bool) (to : To) → is_always_short group ≡ b
+          → (if b then Short (single_frames timing plan.units.items stays flow pace group) else long_messages timing plan.units.items stays flow pace group to)
+          ≡ Short frames → group.most ≤ 8
+      by_length true to fits same = leb-true group.most 8 fits
+      by_length false ToAllUnits fits same = absurd (let told = same in cc)
+      by_length false (One v) fits same = absurd (let told = same in cc)
+
 module _ (plan : Plan) (timing : Timing) (clean : Clean plan) (stays : UnitPlan → Bool) (delays : List (Option Delay)) (asks : AsksOfBus plan timing stays delays)
     (need : NeedPlan) (within : ℕ) (read : IsNeedRead plan timing (asked_of timing plan stays) delays need within) where
-  its_pace : IsPaceOf timing read.fresh.flow read.fresh.bounded.load
-  its_pace = pace_told plan timing stays read.fresh.flow read.fresh.bounded.load read.fresh.flow.pace (slice_get plan.groups.items read.fresh.flow.group) refl refl
-      (same_Some _ (Some read.fresh.bounded.load)
+  its_load : load_of_flow timing plan stays read.fresh.flow ≡ Some read.fresh.bounded.load
+  its_load = same_Some _ (Some read.fresh.bounded.load)
       (sym (slice_get-map (load_of_flow timing plan stays) plan.flows.items read.fresh.place
-      ∙ ap (option_map (load_of_flow timing plan stays)) read.fresh.its) ∙ read.fresh.bounded.its))
+      ∙ ap (option_map (load_of_flow timing plan stays)) read.fresh.its) ∙ read.fresh.bounded.its)
+
+  its_pace : IsPaceOf timing read.fresh.flow read.fresh.bounded.load
+  its_pace =
+      pace_told plan timing stays read.fresh.flow read.fresh.bounded.load read.fresh.flow.pace (slice_get plan.groups.items read.fresh.flow.group) refl refl
+      its_load
+
+  -- its messages go in one frame
+  single : IsSingleFlow plan read.fresh.place
+  single = record {
+    flow = read.fresh.flow;
+    its = read.fresh.its;
+    group = read.group;
+    of = read.of;
+    short = single_told plan timing stays read.fresh.flow read.fresh.bounded.load its_pace.pace read.group read.fresh.bounded.frames its_pace.paced read.of
+        its_load read.fresh.bounded.short;
+  }
 
   -- its delay is within its period
   delay_within : read.fresh.bits ≤ its_pace.pace.period * bits_per_ms timing.bitrate
@@ -67,28 +103,28 @@ module _ (plan : Plan) (timing : Timing) (clean : Clean plan) (stays : UnitPlan 
       let period = at_most_second timing.bitrate (deadline_of its_pace.pace) its_pace.pace.period in
       omega (arith, inside, limit, period)
 
-  arrive : (s : Schedule) (planned : ℕ → Bool) (sent : FrameFlows)
-      → ((bytes : ℕ → List ℕ) (written : CarryWritten s planned (origins_of sent) read.fresh.place read.group bytes) (from to : ℕ)
-      → KeepsComing s planned (origins_of sent) read.fresh.place (bits_of_ms timing read.fresh.pause) from to
-      → to + (read.fresh.bounded.frames.stream.late + read.fresh.bounded.wait) < s.now
-      → AreReadYoung s planned (origins_of sent) read.fresh.place read.group bytes written (bits_of_ms timing read.fresh.pause + read.fresh.bits)
+  arrive : (s : Schedule) (planned : ℕ → Bool) (sent : FrameSources)
+      → ((bytes : ℕ → List ℕ) (written : CarryWritten s planned (origins_of plan sent) read.fresh.place read.group bytes) (from to : ℕ)
+      → KeepsComing s planned (origins_of plan sent) read.fresh.place (bits_of_ms timing read.fresh.pause) from to
+      → to + (read.fresh.bounded.frames.stream.jitter + read.fresh.bounded.wait) < s.now
+      → AreReadYoung s planned (origins_of plan sent) read.fresh.place read.group bytes written (bits_of_ms timing read.fresh.pause + read.fresh.bits)
       (from + read.fresh.bits) (to + read.fresh.bits))
-      → ArriveOn timing s planned sent read.fresh.place its_pace.pace read.fresh.pause read.group within
+      → ArriveOn plan timing s planned sent read.fresh.place its_pace.pace read.fresh.pause read.group within
   arrive s planned sent young bytes written from to pausing shown t behind up =
       let seen = before_bits timing.bitrate its_pace.pace.period to s.now shown in
       let low = behind_bits timing.bitrate its_pace.pace.period from t behind in
       let sum = read.fresh.bounded.sum in
       let delay = delay_within in
-      let coming : KeepsComing s planned (origins_of sent) read.fresh.place (bits_of_ms timing read.fresh.pause) from to =
-      λ u first last. let (p, (in_p, is, source), moment, near) = pausing u first last in
-      (p, in_p, is, source, moment, under_bits timing.bitrate read.fresh.pause (sent.moment p) u near) in
+      let coming : KeepsComing s planned (origins_of plan sent) read.fresh.place (bits_of_ms timing read.fresh.pause) from to =
+      λ u first last. let (p, (in_p, is, source), release, near) = pausing u first last in
+      (p, in_p, is, source, release, under_bits timing.bitrate read.fresh.pause (sent.release p) u near) in
       let (some, each) = young bytes written from to coming (omega (arith, seen, sum, delay)) t (omega (arith, low, delay)) (omega (arith, up)) in (
         some,
         λ p newest.
             let reads = each p newest in
             let age = reads.young in
             let asked = read.fresh.young in
-            (in_ms timing.bitrate within (sent.moment p) t (omega (arith, age, asked)), reads.read),
+            (in_ms timing.bitrate within (sent.release p) t (omega (arith, age, asked)), reads.read),
       )
 
   value_in_time : IsValueInTime plan timing need within
@@ -105,11 +141,11 @@ module _ (plan : Plan) (timing : Timing) (clean : Clean plan) (stays : UnitPlan 
     group = read.group;
     of = read.of;
     in_any_order = λ s controllers planned sent held legal keeps queues.
-        arrive s planned sent (read.in_any_order s controllers planned (origins_of sent) legal
-        (keeps_in_any_order plan timing stays clean asks.standing s controllers planned sent held read.fresh.place legal keeps queues));
+        arrive s planned sent (read.in_any_order s controllers planned (origins_of plan sent) legal
+        (keeps_in_any_order plan timing stays clean asks.standing s controllers planned sent held read.fresh.place single legal keeps queues));
     in_order = λ ordered s planned sent held legal keeps.
-        arrive s planned sent (read.in_order (in_order timing plan stays ordered) s planned (origins_of sent) legal
-        (keeps_in_order plan timing stays clean asks.standing s planned sent held read.fresh.place legal keeps));
+        arrive s planned sent (read.in_order (in_order timing plan stays ordered) s planned (origins_of plan sent) legal
+        (keeps_in_order plan timing stays clean asks.standing s planned sent held read.fresh.place single legal keeps));
   }
 
 pub values_in_time : (plan : Plan) (timing : Timing) → Clean plan → AreLoadFindings plan (Some timing) [] → AreValuesInTime plan timing

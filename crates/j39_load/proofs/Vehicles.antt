@@ -1,12 +1,12 @@
 -- The plan of each vehicle asks the same of its bus as the plan, where no two units may be one.
-use Rattle.std.proofs.Common.{◌≡◌, ◌≢◌, ℕ, zero, suc, ◌<◌, Bool, true, false, List, [], ◌∷◌, length, Option, Some, None, if◌then◌else◌, ◌==◌, ◌++◌}
+use Rattle.std.proofs.Common.{◌≡◌, ◌≢◌, ℕ, zero, suc, ◌<◌, Bool, true, false, List, [], ◌∷◌, Option, Some, None, if◌then◌else◌, ◌==◌, ◌++◌}
 use Rattle.std.proofs.Common.{refl, sym, ◌∙◌, ap, subst, inl, inr, arith}
 use Rattle.std.specs.Bool.{MatchBool}
-use Rattle.std.specs.List.{AllZip, slice_get}
-use Rattle.std.proofs.lemmas.Bool.{cases_Bool, cases_lt, eqb-true, eq-eqb}
+use Rattle.std.specs.List.{slice_get}
+use Rattle.std.proofs.lemmas.Bool.{cases_Bool, eqb-true, eq-eqb}
 use Rattle.std.proofs.lemmas.Option.{none-some, same_Some}
 use Rattle.std.proofs.lemmas.Slice.Zip.{AllZip-long}
-use Rattle.j39_network.specs.Kinds.{AreToldApart}
+use Rattle.j39_network.specs.Kinds.{AreDistinctUnits}
 use Rattle.j39_network.specs.VehiclePlans.{IsBoxOf, IsVehicleOf}
 use Rattle.j39_network.specs.declared.plan.Plan.{Plan}
 use Rattle.j39_network.specs.declared.plan.flow_plan.FlowPlan.{FlowPlan}
@@ -14,15 +14,14 @@ use Rattle.j39_network.specs.declared.plan.need_plan.NeedPlan.{NeedPlan}
 use Rattle.j39_network.specs.declared.plan.request_plan.RequestPlan.{RequestPlan}
 use Rattle.j39_network.specs.declared.plan.timing.Timing.{Timing}
 use Rattle.j39_network.specs.declared.plan.unit_plan.UnitPlan.{UnitPlan}
-use Rattle.j39_network.proofs.Boxes.{AreOrderedAlike}
 use Rattle.j39_network.proofs.VehicleUnits.{AreBoth, both_at, box_chooses, ordered, unit_of}
-use Rattle.j39_load.specs.declared.delay.Delay.{Delay}
-use Rattle.j39_load.specs.declared.load_finding.LoadFinding.{LoadFinding}
+use Rattle.j39_load.specs.declared.waits.delay.Delay.{Delay}
+use Rattle.j39_load.specs.declared.findings.load_finding.LoadFinding.{LoadFinding}
 use Rattle.j39_load.specs.Ages.{old_needs}
 use Rattle.j39_load.specs.Asked.{Asked, asked_of, total_load}
-use Rattle.j39_load.specs.Delays.{TellDelays}
+use Rattle.j39_load.specs.Delays.{AreFlowDelays}
 use Rattle.j39_load.specs.LoadFindings.{AreLoadFindings, AsksOfBus, all_findings, load_findings}
-use Rattle.j39_findings.specs.Standing.{TellsWhoStays}
+use Rattle.j39_findings.specs.Standing.{DecidesWhoStays}
 use Rattle.j39_load.specs.VehicleLoads.{AreLoadsAlike, StandAlike}
 use Rattle.j39_load.proofs.OneLoad.{AreSeenAlike, asked_alike, told_once}
 use Rattle.j39_network.specs.PlannedUnits.{units_of}
@@ -54,7 +53,7 @@ told_at stays (x ∷ units) (y ∷ boxes) own (suc k) unit box at_unit at_box = 
       ∙ told_at stays units boxes (λ i j b c below first second. own (suc i) (suc j) b c (omega (arith, below)) first second) k unit box at_unit at_box
 ]
 
-module _ (plan vehicle : Plan) (is : IsVehicleOf plan vehicle) (apart : AreToldApart plan) where
+module _ (plan vehicle : Plan) (is : IsVehicleOf plan vehicle) (apart : AreDistinctUnits plan) where
   abbrev units : List UnitPlan
   units = plan.units.items
 
@@ -81,7 +80,7 @@ module _ (plan vehicle : Plan) (is : IsVehicleOf plan vehicle) (apart : AreToldA
   alone u stays =
       ((stay_alike plan vehicle is apart).beside u).1 (subst (λ n. StaysBeside n (units_of vehicle) u) is.strangers stays)
 
-  stand_alike : (stays : UnitPlan → Bool) → TellsWhoStays plan stays → StandAlike plan vehicle stays
+  stand_alike : (stays : UnitPlan → Bool) → DecidesWhoStays plan stays → StandAlike plan vehicle stays
   stand_alike stays tells = record {
     told = told_by units boxes stays;
     tells = λ u box at_box.
@@ -92,7 +91,7 @@ module _ (plan vehicle : Plan) (is : IsVehicleOf plan vehicle) (apart : AreToldA
     same = λ u unit box at_unit at_box. told_at stays units boxes own_names u unit box at_unit at_box;
   }
 
-  module _ (stays told : UnitPlan → Bool) (tells : TellsWhoStays plan stays) (tell : TellsWhoStays vehicle told) where
+  module _ (stays told : UnitPlan → Bool) (tells : DecidesWhoStays plan stays) (tell : DecidesWhoStays vehicle told) where
     seen : (v : ℕ) → AreBoth (AreSeenAlike stays told) (slice_get units v) (slice_get boxes v)
     seen v = go (slice_get units v) (slice_get boxes v) refl refl (both_at IsBoxOf units boxes is.boxes v) where
       go : (o p : Option UnitPlan) → slice_get units v ≡ o → slice_get boxes v ≡ p → AreBoth IsBoxOf o p → AreBoth (AreSeenAlike stays told) o p
@@ -112,7 +111,8 @@ module _ (plan vehicle : Plan) (is : IsVehicleOf plan vehicle) (apart : AreToldA
         asked_alike plan vehicle timing stays told seen (AllZip-long IsBoxOf units boxes is.boxes) is.groups is.flows is.requests
 
   -- what is wrong with the same
-  pub same_findings : (timing : Timing) (load : ℕ) (delays : List (Option Delay)) → all_findings plan timing load delays ≡ all_findings vehicle timing load delays
+  pub same_findings : (timing : Timing) (load : ℕ) (delays : List (Option Delay))
+      → all_findings plan timing load delays ≡ all_findings vehicle timing load delays
   same_findings timing load delays =
       ap (λ (requests : List RequestPlan). load_findings timing load delays ++ old_needs timing requests plan.flows.items delays plan.needs.items) (sym is.requests)
       ∙ ap (λ (flows : List FlowPlan). load_findings timing load delays ++ old_needs timing vehicle.requests.items flows delays plan.needs.items) (sym is.flows)
@@ -120,10 +120,10 @@ module _ (plan vehicle : Plan) (is : IsVehicleOf plan vehicle) (apart : AreToldA
       (sym is.needs)
 
   pub asks_alike : (timing : Timing) (stays : UnitPlan → Bool) (delays : List (Option Delay)) → AsksOfBus plan timing stays delays
-      → (told : UnitPlan → Bool) → TellsWhoStays vehicle told → AsksOfBus vehicle timing told delays
+      → (told : UnitPlan → Bool) → DecidesWhoStays vehicle told → AsksOfBus vehicle timing told delays
   asks_alike timing stays delays asks told tells = record {
     standing = tells;
-    waits = subst (λ (asked : Asked). TellDelays timing asked delays) (same_asked stays told asks.standing tells timing) asks.waits;
+    waits = subst (λ (asked : Asked). AreFlowDelays timing asked delays) (same_asked stays told asks.standing tells timing) asks.waits;
   }
 
   findings_alike : (timing : Option Timing) (findings : List LoadFinding) → AreLoadFindings plan timing findings → AreLoadFindings vehicle timing findings

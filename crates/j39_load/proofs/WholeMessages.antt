@@ -1,5 +1,6 @@
 -- The times that are told of long messages to all bound when they are whole.
-use Rattle.std.proofs.Common.{◌≡◌, ℕ, zero, suc, ◌+◌, ◌*◌, ◌<◌, ◌≤◌, Bool, true, not, leb, if◌then◌else◌, List, [], ◌∷◌, ◌++◌, length, get_or, map, sum_by, Option, Some, None}
+use Rattle.std.proofs.Common.{◌≡◌, ℕ, zero, suc, ◌+◌, ◌*◌, ◌<◌, ◌≤◌, Bool, true, not, leb, if◌then◌else◌, List, [], ◌∷◌, ◌++◌, length, get_or, map, sum_by}
+use Rattle.std.proofs.Common.{Option, Some, None}
 use Rattle.std.proofs.Common.{refl, sym, ap, ◌∙◌, subst, inl, inr, arith}
 use Rattle.std.proofs.Math.Nat.{mul-le-mul_left}
 use Rattle.std.proofs.lemmas.Bool.{cases_Bool, leb-true}
@@ -12,27 +13,31 @@ use Rattle.std.specs.List.{filter_map, range_with_len, slice_get}
 use Rattle.j39_network.specs.declared.plan.Plan.{Plan}
 use Rattle.j39_network.specs.declared.plan.timing.Timing.{Timing}
 use Rattle.j39_network.specs.declared.plan.unit_plan.UnitPlan.{UnitPlan}
-use Rattle.j39_load.specs.declared.broadcast.Broadcast.{Broadcast}
-use Rattle.j39_load.specs.declared.delay.Delay.{Delay}
-use Rattle.j39_load.specs.declared.delay.Delay.TheVariants.{Within, Late, Long, Whole}
-use Rattle.j39_load.specs.declared.flow_frames.FlowFrames.{FlowFrames}
-use Rattle.j39_load.specs.declared.flow_load.FlowLoad.{FlowLoad}
-use Rattle.j39_load.specs.declared.load_finding.LoadFinding.TheVariants.{LateFlow}
-use Rattle.j39_load.specs.declared.messages.Messages.{Messages}
-use Rattle.j39_load.specs.declared.messages.Messages.TheVariants.{Short, ToAll, ToOne}
-use Rattle.j39_load.specs.declared.request_load.RequestLoad.{RequestLoad}
-use Rattle.j39_load.specs.declared.unit_load.UnitLoad.{UnitLoad}
-use Rattle.j39_load.specs.declared.whole_time.WholeTime.{WholeTime}
+use Rattle.j39_load.specs.declared.frames.broadcast.Broadcast.{Broadcast}
+use Rattle.j39_load.specs.declared.waits.delay.Delay.{Delay}
+use Rattle.j39_load.specs.declared.waits.delay.Delay.TheVariants.{Within, Late, Long, Whole}
+use Rattle.j39_load.specs.declared.frames.flow_frames.FlowFrames.{FlowFrames}
+use Rattle.j39_load.specs.declared.loads.flow_load.FlowLoad.{FlowLoad}
+use Rattle.j39_load.specs.declared.findings.load_finding.LoadFinding.TheVariants.{LateFlow}
+use Rattle.j39_load.specs.declared.frames.messages.Messages.{Messages}
+use Rattle.j39_load.specs.declared.frames.messages.Messages.TheVariants.{Short, ToAll, ToOne}
+use Rattle.j39_load.specs.declared.loads.request_load.RequestLoad.{RequestLoad}
+use Rattle.j39_load.specs.declared.loads.unit_load.UnitLoad.{UnitLoad}
+use Rattle.j39_load.specs.declared.waits.whole_time.WholeTime.{WholeTime}
 use Rattle.j39_load.specs.Ages.{is_in_limit, old_needs}
-use Rattle.j39_load.specs.AnyQueues.{IsOffer, Offer}
-use Rattle.j39_load.specs.Asked.{Asked, announcements_of_unit, asked_of, frames_asked, frames_of_flow, frames_of_request, packets_of_unit, singles_of_flow, total_load}
+use Rattle.j39_load.specs.AnyQueues.{IsBuffering, Buffering}
+use Rattle.j39_load.specs.Asked.{Asked, announcements_of_unit, asked_of, frames_asked, frames_of_flow, frames_of_request, packets_of_unit, singles_of_flow}
+use Rattle.j39_load.specs.Asked.{total_load}
 use Rattle.j39_load.specs.Broadcasts.{broadcasts_by, known_unit_load, unit_loads_of}
-use Rattle.j39_load.specs.Delays.{IsDelayOf, IsTurnTimeBy, IsWaitIn, IsWholeTime, announcements_place, known_turn_time, longest_pause, packet_time, packets_place, turn_time, whole_time}
+use Rattle.j39_load.specs.Delays.{IsDelayOf, IsTurnTimeBy, IsWaitIn, IsWholeTime, announcements_place, known_turn_time, longest_pause, packet_time}
+use Rattle.j39_load.specs.Delays.{packets_place, turn_time, whole_time}
 use Rattle.j39_load.specs.LoadFindings.{AreLoadFindings, AsksOfBus, is_whole_late, lateness, load_findings, without_period}
 use Rattle.j39_load.specs.Loads.{bits_of_ms}
 use Rattle.j39_load.specs.LineLists.{lines_of_each}
-use Rattle.j39_load.specs.PlannedFrames.{AreAllOrdered, AreDeadlinesKept, AreMessagesOf, ArePlannedFramesInTime, AreTimesBounds, AreWholeInAnyOrder, AreWholeOnEveryBus, AreWholeWithin, ComeInAnyOrder, ComeInTurn, IsOneTurn}
-use Rattle.j39_load.proofs.BoundedFlows.{all_in_order, delay_at, known_in_order, legal_in_order, never_whole, nothing_found, sent_in_any_order, short_bounded, told_of}
+use Rattle.j39_load.specs.PlannedFrames.{AreAllOrdered, AreDeadlinesKept, AreMessagesOf, ArePlannedFramesInTime, AreTimesBounds, AreWholeInAnyOrder}
+use Rattle.j39_load.specs.PlannedFrames.{AreWholeOnEveryBus, AreWholeWithin, ComeInAnyOrder, ComeInTurn, IsOneTurn}
+use Rattle.j39_load.proofs.BoundedFlows.{all_in_order, delay_at, known_in_order, legal_in_order, never_whole, nothing_found, sent_in_any_order, short_bounded}
+use Rattle.j39_load.proofs.BoundedFlows.{told_of}
 use Rattle.j39_load.proofs.PositivePeriods.{all_paced}
 use Rattle.j39_load.proofs.Sending.{all_sent}
 use Rattle.j39_load.proofs.StreamsBefore.{get_or_inside, none_of_two, told_nothing}
@@ -156,19 +161,19 @@ module _ (plan : Plan) (timing : Timing) (stays : UnitPlan → Bool) where
   abbrev asked : Asked
   asked = asked_of timing plan stays
 
-  module _ (offer : Offer) (is_offer : IsOffer timing (frames_asked asked) offer) where
+  module _ (buffering : Buffering) (is_buffering : IsBuffering timing (frames_asked asked) buffering) where
     module _ (u late : ℕ) (load : UnitLoad) (its : get_or asked.units u None ≡ Some load) (announced sent : ℕ)
-        (first : IsWaitIn timing offer (announcements_place asked u) load.announcements (Some announced))
-        (rest : IsWaitIn timing offer (packets_place asked u) load.packets (Some sent)) where
+        (first : IsWaitIn timing buffering (announcements_place asked u) load.announcements (Some announced))
+        (rest : IsWaitIn timing buffering (packets_place asked u) load.packets (Some sent)) where
       pub in_any_order : AreWholeInAnyOrder timing asked u late (late + turn_time timing load announced sent)
-      in_any_order s controllers planned of legal of_announcements of_packets messages moment turn known in_turn seen =
+      in_any_order s controllers planned of legal of_announcements of_packets messages release turn known in_turn seen =
           let a = announcements_place asked u in
           let p = packets_place asked u in
           let gap = bits_of_ms timing timing.broadcast_gap_most in
           let counts = of_unit_load timing plan.units.items stays asked.flows u load its in
-          let announcements = sent_in_any_order timing (frames_asked asked) (all_paced timing plan stays) (all_sent timing plan stays) offer is_offer
+          let announcements = sent_in_any_order timing (frames_asked asked) (all_paced timing plan stays) (all_sent timing plan stays) buffering is_buffering
           a load.announcements (announcements_read asked u load its) announced s controllers planned of legal of_announcements counts.2 first in
-          let packets = sent_in_any_order timing (frames_asked asked) (all_paced timing plan stays) (all_sent timing plan stays) offer is_offer
+          let packets = sent_in_any_order timing (frames_asked asked) (all_paced timing plan stays) (all_sent timing plan stays) buffering is_buffering
           p load.packets (packets_read asked u load its) sent s controllers planned of legal of_packets counts.3 rest in
           let most : time_of_messages (announced + load.announcements.stream.bits) gap (sent + load.packets.stream.bits) messages
           ≤ turn_time timing load announced sent =
@@ -177,18 +182,18 @@ module _ (plan : Plan) (timing : Timing) (stays : UnitPlan → Bool) where
           (subst (λ (n : ℕ). time_of_messages (announced + load.announcements.stream.bits) gap (sent + load.packets.stream.bits) messages
           ≤ length (broadcasts_by u asked.flows) * (announced + load.announcements.stream.bits) + n * packet_time timing load sent) (sym counts.1)
           (turn_most (announced + load.announcements.stream.bits) gap (sent + load.packets.stream.bits) (broadcasts_by u asked.flows) messages turn)) in
-          let whole = messages_whole s planned of a p gap announced sent load.announcements.stream load.packets.stream announcements packets messages (moment + late)
+          let whole = messages_whole s planned of a p gap announced sent load.announcements.stream load.packets.stream announcements packets messages (release + late)
           in_turn known (omega (arith, most, seen)) in
           omega (arith, whole, most)
 
     -- where the time of a unit is known both waits are
-    by_load : (u late bits : ℕ) (load : Option UnitLoad) → get_or asked.units u None ≡ load → IsTurnTimeBy timing asked offer u load (Some bits)
+    by_load : (u late bits : ℕ) (load : Option UnitLoad) → get_or asked.units u None ≡ load → IsTurnTimeBy timing asked buffering u load (Some bits)
         → AreWholeInAnyOrder timing asked u late (late + bits)
     by_load u late bits None its is = absurd (none-some bits (sym is))
     by_load u late bits (Some load) its (announced, sent, first, rest, told) = by_waits announced sent first rest told
       where
-        by_waits : (announced sent : Option ℕ) → IsWaitIn timing offer (announcements_place asked u) load.announcements announced
-            → IsWaitIn timing offer (packets_place asked u) load.packets sent → Some bits ≡ known_turn_time timing load announced sent
+        by_waits : (announced sent : Option ℕ) → IsWaitIn timing buffering (announcements_place asked u) load.announcements announced
+            → IsWaitIn timing buffering (packets_place asked u) load.packets sent → Some bits ≡ known_turn_time timing load announced sent
             → AreWholeInAnyOrder timing asked u late (late + bits)
         by_waits None sent first rest told = absurd (none-some bits (sym told))
         by_waits (Some a) None first rest told = absurd (none-some bits (sym told))
@@ -198,13 +203,13 @@ module _ (plan : Plan) (timing : Timing) (stays : UnitPlan → Bool) where
             subst (λ (n : ℕ). AreWholeInAnyOrder timing asked u late (late + n)) same (in_any_order u late load its a p first rest)
 
     by_time : (broadcast : Broadcast) (whole : WholeTime) (bits : ℕ) (time : Option ℕ)
-        → IsTurnTimeBy timing asked offer broadcast.sender (get_or asked.units broadcast.sender None) time → whole ≡ whole_time broadcast time
-        → whole.bits ≡ Some bits → AreWholeInAnyOrder timing asked broadcast.sender broadcast.late bits
+        → IsTurnTimeBy timing asked buffering broadcast.sender (get_or asked.units broadcast.sender None) time → whole ≡ whole_time broadcast time
+        → whole.bits ≡ Some bits → AreWholeInAnyOrder timing asked broadcast.sender broadcast.jitter bits
     by_time broadcast whole bits None is same told = absurd (none-some bits (sym (ap (λ (w : WholeTime). w.bits) same) ∙ told))
     by_time broadcast whole bits (Some turn) is same told =
-        let sum : broadcast.late + turn ≡ bits = same_Some (broadcast.late + turn) bits (sym (ap (λ (w : WholeTime). w.bits) same) ∙ told) in
-        subst (λ (n : ℕ). AreWholeInAnyOrder timing asked broadcast.sender broadcast.late n) sum
-        (by_load broadcast.sender broadcast.late turn (get_or asked.units broadcast.sender None) refl is)
+        let sum : broadcast.jitter + turn ≡ bits = same_Some (broadcast.jitter + turn) bits (sym (ap (λ (w : WholeTime). w.bits) same) ∙ told) in
+        subst (λ (n : ℕ). AreWholeInAnyOrder timing asked broadcast.sender broadcast.jitter n) sum
+        (by_load broadcast.sender broadcast.jitter turn (get_or asked.units broadcast.sender None) refl is)
 
     -- where every unit keeps order
     in_order : (u late bits : ℕ) → AreWholeInAnyOrder timing asked u late bits → AreAllOrdered (frames_asked asked)
@@ -221,7 +226,7 @@ module _ (plan : Plan) (timing : Timing) (stays : UnitPlan → Bool) where
         }
 
     of_broadcast : (flow bits : ℕ) (load : FlowLoad) (broadcast : Broadcast) (whole : WholeTime) → slice_get asked.flows flow ≡ Some (Some load)
-        → load.messages ≡ ToAll broadcast → IsWholeTime timing asked offer broadcast whole → whole.bits ≡ Some bits
+        → load.messages ≡ ToAll broadcast → IsWholeTime timing asked buffering broadcast whole → whole.bits ≡ Some bits
         → AreWholeWithin timing asked flow whole bits
     of_broadcast flow bits load broadcast whole its long is told =
         let bounds = by_time broadcast whole bits is.0 is.1 is.2 told in
@@ -230,18 +235,18 @@ module _ (plan : Plan) (timing : Timing) (stays : UnitPlan → Bool) where
           its = its;
           broadcast = broadcast;
           long = long;
-          offer = offer;
-          is = is_offer;
+          buffering = buffering;
+          is = is_buffering;
           time = is;
           told = told;
           in_any_order = bounds;
-          bounds = in_order broadcast.sender broadcast.late bits bounds;
+          bounds = in_order broadcast.sender broadcast.jitter bits bounds;
         }
 
     of_messages : (flow bits : ℕ) (load : FlowLoad) (messages : Messages) (whole : WholeTime) → slice_get asked.flows flow ≡ Some (Some load)
-        → load.messages ≡ messages → IsDelayOf timing asked offer flow messages load.limit (Whole whole) → whole.bits ≡ Some bits
+        → load.messages ≡ messages → IsDelayOf timing asked buffering flow messages load.limit (Whole whole) → whole.bits ≡ Some bits
         → AreWholeWithin timing asked flow whole bits
-    of_messages flow bits load (Short frames) whole its long is told = absurd (never_whole timing offer flow frames load.limit whole is)
+    of_messages flow bits load (Short frames) whole its long is told = absurd (never_whole timing buffering flow frames load.limit whole is)
     of_messages flow bits load (ToOne frames) whole its long is told = absurd is
     of_messages flow bits load (ToAll broadcast) whole its long is told = of_broadcast flow bits load broadcast whole its long is told
 
@@ -249,8 +254,8 @@ module _ (plan : Plan) (timing : Timing) (stays : UnitPlan → Bool) where
     pub times_bound : AreTimesBounds timing asked delays
     times_bound flow bits whole at told =
         let has = delay_at plan timing stays delays asks flow (Some (Whole whole)) at in
-        let (offer, offers, (load, its, is)) = has in
-        of_messages offer offers flow bits load load.messages whole its refl is told
+        let (buffering, buffering_delays, (load, its, is)) = has in
+        of_messages buffering buffering_delays flow bits load load.messages whole its refl is told
 
     -- where it isn't late it is known, and within its deadline
     not_late : (limit : ℕ) (bits : Option ℕ) → is_in_limit limit bits ≡ true → (n : ℕ) × (bits ≡ Some n) × (n ≤ limit)
@@ -283,14 +288,14 @@ module _ (plan : Plan) (timing : Timing) (stays : UnitPlan → Bool) where
         go paced on_time (Some Late) at = absurd ((told_of plan timing stays delays asks flow load (ToAll broadcast) Late its long at).2)
         go paced on_time (Some (Long count)) at = absurd ((told_of plan timing stays delays asks flow load (ToAll broadcast) (Long count) its long at).2)
         go paced on_time (Some (Whole whole)) at =
-            let by_offer = told_of plan timing stays delays asks flow load (ToAll broadcast) (Whole whole) its long at in
-            let is : IsWholeTime timing asked by_offer.0 broadcast whole = by_offer.2 in
+            let by_buffering = told_of plan timing stays delays asks flow load (ToAll broadcast) (Whole whole) its long at in
+            let is : IsWholeTime timing asked by_buffering.0 broadcast whole = by_buffering.2 in
             let written : whole.limit ≡ Some limit = ap (λ (w : WholeTime). w.limit) is.2 ∙ deadline in
             let same : 0 + flow ≡ flow = omega arith in
             let none_told : lateness flow (Some (Whole whole)) ≡ [] =
             subst (λ (n : ℕ). lateness n (Some (Whole whole)) ≡ []) same (told_nothing lateness 0 delays on_time flow (Some (Whole whole)) at) in
             let known = not_late limit whole.bits (in_time flow whole limit written none_told) in
-            (whole, known.0, at, known.2, of_broadcast by_offer.0 by_offer.1 flow known.0 load broadcast whole its long is known.1)
+            (whole, known.0, at, known.2, of_broadcast by_buffering.0 by_buffering.1 flow known.0 load broadcast whole its long is known.1)
 
 pub in_time_where_checked : (plan : Plan) (timing : Timing) → AreLoadFindings plan (Some timing) [] → ArePlannedFramesInTime plan timing
 in_time_where_checked plan timing (stays, delays, asks, none) =

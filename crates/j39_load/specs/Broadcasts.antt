@@ -7,12 +7,12 @@ use Rattle.j39_id.specs.Limits.{frame_bytes}
 use Rattle.j39_id.specs.Services.{connection_management, data_transfer}
 use Rattle.j39_network.specs.declared.plan.timing.Timing.{Timing}
 use Rattle.j39_network.specs.declared.plan.unit_plan.UnitPlan.{UnitPlan}
-use Rattle.j39_load.specs.declared.broadcast.Broadcast.{Broadcast}
-use Rattle.j39_load.specs.declared.flow_frames.FlowFrames.{FlowFrames}
-use Rattle.j39_load.specs.declared.flow_load.FlowLoad.{FlowLoad}
-use Rattle.j39_load.specs.declared.messages.Messages.{Messages}
-use Rattle.j39_load.specs.declared.messages.Messages.TheVariants.{Short, ToAll, ToOne}
-use Rattle.j39_load.specs.declared.unit_load.UnitLoad.{UnitLoad}
+use Rattle.j39_load.specs.declared.frames.broadcast.Broadcast.{Broadcast}
+use Rattle.j39_load.specs.declared.frames.flow_frames.FlowFrames.{FlowFrames}
+use Rattle.j39_load.specs.declared.loads.flow_load.FlowLoad.{FlowLoad}
+use Rattle.j39_load.specs.declared.frames.messages.Messages.{Messages}
+use Rattle.j39_load.specs.declared.frames.messages.Messages.TheVariants.{Short, ToAll, ToOne}
+use Rattle.j39_load.specs.declared.loads.unit_load.UnitLoad.{UnitLoad}
 use Rattle.j39_load.specs.Demands.{announcements_demand, packets_demand}
 use Rattle.j39_load.specs.Loads.{any_unit, bits_of_ms, broadcast_ident, greatest_address, least_address, of_unit}
 use Rattle.j39_timing.specs.FrameBits.{longest_frame}
@@ -43,7 +43,7 @@ spaced_stream timing gaps place = record {
   frames = 1;
   period = gaps * bits_of_ms timing timing.broadcast_gap;
   bits = longest_frame frame_bytes;
-  late = 0;
+  jitter = 0;
   wanted = Some place;
 }
 

@@ -5,14 +5,14 @@ use Rattle.std.specs.Option.{option_map_or}
 use Rattle.j39_id.specs.Limits.{frame_bytes}
 use Rattle.j39_network.specs.declared.plan.timing.ErrorRate.{ErrorRate}
 use Rattle.j39_network.specs.declared.plan.timing.Timing.{Timing}
-use Rattle.j39_load.specs.declared.flow_frames.FlowFrames.{FlowFrames}
+use Rattle.j39_load.specs.declared.frames.flow_frames.FlowFrames.{FlowFrames}
 use Rattle.j39_load.specs.Loads.{bits_of_ms}
 use Rattle.j39_timing.specs.FrameBits.{error_frame, longest_frame}
 use Rattle.j39_timing.specs.declared.stream.Stream.{Stream}
 
 -- frames of so many bits, of which as many come in a window as attempts are damaged
 abbrev pub damage_stream : Timing → ErrorRate → ℕ → Stream
-damage_stream timing rate bits = record { frames = rate.count; period = bits_of_ms timing rate.every; bits = bits; late = 0; wanted = None }
+damage_stream timing rate bits = record { frames = rate.count; period = bits_of_ms timing rate.every; bits = bits; jitter = 0; wanted = None }
 
 -- the attempts, and the error frames
 abbrev pub damage_streams : Timing → List Stream

@@ -1,20 +1,20 @@
--- How long the messages of each flow take, from their moments: the waits of frames (Davis, Burns, Bril, Lukkien,
+-- How long the messages of each flow take, from their releases: the waits of frames (Davis, Burns, Bril, Lukkien,
 -- Real-Time Systems 35, 2007), and when a long message to all is whole.
 use Rattle.std.specs.Prelude.{◌≡◌, ℕ, ◌+◌, ◌*◌, ◌^◌, ◌<◌, ◌≤◌, ◌==◌, nat_le, if◌then◌else◌, List, [], ◌∷◌, ◌++◌, length, slice_index_or, Option, Some, None}
 use Rattle.std.specs.Bool.{MatchBool}
 use Rattle.std.specs.List.{slice_get}
 use Rattle.std.specs.Option.{option_map}
 use Rattle.j39_network.specs.declared.plan.timing.Timing.{Timing}
-use Rattle.j39_load.specs.declared.broadcast.Broadcast.{Broadcast}
-use Rattle.j39_load.specs.declared.delay.Delay.{Delay}
-use Rattle.j39_load.specs.declared.delay.Delay.TheVariants.{Within, Late, Long, Whole}
-use Rattle.j39_load.specs.declared.flow_frames.FlowFrames.{FlowFrames}
-use Rattle.j39_load.specs.declared.flow_load.FlowLoad.{FlowLoad}
-use Rattle.j39_load.specs.declared.messages.Messages.{Messages}
-use Rattle.j39_load.specs.declared.messages.Messages.TheVariants.{Short, ToAll, ToOne}
-use Rattle.j39_load.specs.declared.unit_load.UnitLoad.{UnitLoad}
-use Rattle.j39_load.specs.declared.whole_time.WholeTime.{WholeTime}
-use Rattle.j39_load.specs.AnyQueues.{IsOffer, Offer, keep_order, may_be_passed}
+use Rattle.j39_load.specs.declared.frames.broadcast.Broadcast.{Broadcast}
+use Rattle.j39_load.specs.declared.waits.delay.Delay.{Delay}
+use Rattle.j39_load.specs.declared.waits.delay.Delay.TheVariants.{Within, Late, Long, Whole}
+use Rattle.j39_load.specs.declared.frames.flow_frames.FlowFrames.{FlowFrames}
+use Rattle.j39_load.specs.declared.loads.flow_load.FlowLoad.{FlowLoad}
+use Rattle.j39_load.specs.declared.frames.messages.Messages.{Messages}
+use Rattle.j39_load.specs.declared.frames.messages.Messages.TheVariants.{Short, ToAll, ToOne}
+use Rattle.j39_load.specs.declared.loads.unit_load.UnitLoad.{UnitLoad}
+use Rattle.j39_load.specs.declared.waits.whole_time.WholeTime.{WholeTime}
+use Rattle.j39_load.specs.AnyQueues.{IsBuffering, Buffering, keep_order, may_be_passed}
 use Rattle.j39_load.specs.Asked.{Asked, frames_asked}
 use Rattle.j39_load.specs.Damage.{damage_streams}
 use Rattle.j39_load.specs.Demands.{demands_of}
@@ -23,7 +23,7 @@ use Rattle.j39_load.specs.LineLists.{lines_of_each}
 use Rattle.j39_load.specs.Twins.{may_precede}
 use Rattle.j39_timing.specs.FrameBits.{longest_frame}
 use Rattle.j39_timing.specs.Traffic.{delay_of}
-use Rattle.j39_timing.specs.Waits.{HaveNoRoom, need}
+use Rattle.j39_timing.specs.Waits.{NoShorterFits, need}
 use Rattle.j39_timing.specs.declared.stream.Stream.{Stream}
 
 -- identifiers of the priority from which on frames are that aren't planned
@@ -53,11 +53,11 @@ need_of timing all i frames wait = need (demands_of all) (blocking timing frames
 
 -- and that no shorter wait has
 abbrev pub IsLeastWait : Timing → List (Option FlowFrames) → ℕ → FlowFrames → ℕ → Type 0
-IsLeastWait timing all i frames wait = HaveNoRoom (demands_of all) (blocking timing frames.greatest_ident) (streams_before timing i frames all) wait
+IsLeastWait timing all i frames wait = NoShorterFits (demands_of all) (blocking timing frames.greatest_ident) (streams_before timing i frames all) wait
 
 -- the wait has room, and its delay is within the limit
 pub record IsInTime (timing : Timing) (all : List (Option FlowFrames)) (i : ℕ) (frames : FlowFrames) (limit wait : ℕ) : Type 0 where
-  pub room : need_of timing all i frames wait ≤ wait
+  pub demand_fits : need_of timing all i frames wait ≤ wait
   pub within : delay_of frames.stream wait ≤ limit
 
 -- the delay of a flow whose messages go in one frame each, of these, with this limit, at its place: that of the least
@@ -74,13 +74,13 @@ any_delay frames limit None = Late
 any_delay frames limit (Some wait) =
     if nat_le (delay_of frames.stream wait) limit then Within (delay_of frames.stream wait) else Late
 
--- that of a flow whose messages go in one frame each: where its sender keeps order, among the frames that are offered
--- for good, unless one of which it isn't known from when on may go before it
-abbrev pub IsFrameDelay : Timing → Offer → ℕ → FlowFrames → ℕ → Delay → Type 0
-IsFrameDelay timing offer flow frames limit delay = MatchBool (keep_order frames)
-    (MatchBool (may_be_passed offer frames.greatest_ident) (delay ≡ Late)
-    (IsShortDelay timing offer.frames flow frames limit delay))
-    (delay ≡ any_delay frames limit (slice_index_or offer.waits flow None))
+-- that of a flow whose messages go in one frame each: where its sender keeps order, among the frames that are buffered
+-- no longer, unless one of which it isn't known from when on may go before it
+abbrev pub IsFrameDelay : Timing → Buffering → ℕ → FlowFrames → ℕ → Delay → Type 0
+IsFrameDelay timing buffering flow frames limit delay = MatchBool (keep_order frames)
+    (MatchBool (may_be_passed buffering frames.greatest_ident) (delay ≡ Late)
+    (IsShortDelay timing buffering.frames flow frames limit delay))
+    (delay ≡ any_delay frames limit (slice_index_or buffering.waits flow None))
 
 -- ---- long messages to all, by the unit that sends them one at a time
 
@@ -90,12 +90,12 @@ IsWaitOf timing all i frames (Some wait) =
     (wait ≤ longest_wait timing) × (need_of timing all i frames wait ≤ wait) × IsLeastWait timing all i frames wait
 IsWaitOf timing all i frames None = IsLeastWait timing all i frames (longest_wait timing + 1)
 
--- that of frames of a unit that keeps order, among the frames that are offered for good; of one that keeps none it is its
--- company's
-abbrev pub IsWaitIn : Timing → Offer → ℕ → FlowFrames → Option ℕ → Type 0
-IsWaitIn timing offer i frames wait = MatchBool (keep_order frames)
-    (MatchBool (may_be_passed offer frames.greatest_ident) (wait ≡ None) (IsWaitOf timing offer.frames i frames wait))
-    (wait ≡ slice_index_or offer.waits i None)
+-- that of frames of a unit that keeps order, among the frames that are buffered no longer; of one that keeps none it is its
+-- queue group's
+abbrev pub IsWaitIn : Timing → Buffering → ℕ → FlowFrames → Option ℕ → Type 0
+IsWaitIn timing buffering i frames wait = MatchBool (keep_order frames)
+    (MatchBool (may_be_passed buffering frames.greatest_ident) (wait ≡ None) (IsWaitOf timing buffering.frames i frames wait))
+    (wait ≡ slice_index_or buffering.waits i None)
 
 -- where the packets of a unit's broadcasts stand among all frames, and their announcements
 abbrev pub packets_place : Asked → ℕ → ℕ
@@ -126,54 +126,54 @@ known_turn_time timing load (Some announced) (Some sent) =
 known_turn_time timing load _ _ = None
 
 -- the time of the unit at a place, which asks this
-abbrev pub IsTurnTimeBy : Timing → Asked → Offer → ℕ → Option UnitLoad → Option ℕ → Type 0
-IsTurnTimeBy timing asked offer u None time = time ≡ None
-IsTurnTimeBy timing asked offer u (Some load) time = (announced sent : Option ℕ)
-    × IsWaitIn timing offer (announcements_place asked u) load.announcements announced
-    × IsWaitIn timing offer (packets_place asked u) load.packets sent
+abbrev pub IsTurnTimeBy : Timing → Asked → Buffering → ℕ → Option UnitLoad → Option ℕ → Type 0
+IsTurnTimeBy timing asked buffering u None time = time ≡ None
+IsTurnTimeBy timing asked buffering u (Some load) time = (announced sent : Option ℕ)
+    × IsWaitIn timing buffering (announcements_place asked u) load.announcements announced
+    × IsWaitIn timing buffering (packets_place asked u) load.packets sent
     × (time ≡ known_turn_time timing load announced sent)
 
-abbrev pub IsTurnTime : Timing → Asked → Offer → ℕ → Option ℕ → Type 0
-IsTurnTime timing asked offer u time = IsTurnTimeBy timing asked offer u (slice_index_or asked.units u None) time
+abbrev pub IsTurnTime : Timing → Asked → Buffering → ℕ → Option ℕ → Type 0
+IsTurnTime timing asked buffering u time = IsTurnTimeBy timing asked buffering u (slice_index_or asked.units u None) time
 
--- where the unit's time is this, that of a flow's broadcasts, from the moment at which one is wanted: each other flow
+-- where the unit's time is this, that of a flow's broadcasts, from the release at which one is wanted: each other flow
 -- of the unit goes before it once at most
 abbrev pub whole_time : Broadcast → Option ℕ → WholeTime
 whole_time broadcast time = record {
   frames = frames_to_all broadcast.packets;
-  bits = option_map (λ turn. broadcast.late + turn) time;
+  bits = option_map (λ turn. broadcast.jitter + turn) time;
   limit = broadcast.deadline;
 }
 
-abbrev pub IsWholeTime : Timing → Asked → Offer → Broadcast → WholeTime → Type 0
-IsWholeTime timing asked offer broadcast whole = (time : Option ℕ) × IsTurnTime timing asked offer broadcast.sender time
+abbrev pub IsWholeTime : Timing → Asked → Buffering → Broadcast → WholeTime → Type 0
+IsWholeTime timing asked buffering broadcast whole = (time : Option ℕ) × IsTurnTime timing asked buffering broadcast.sender time
     × (whole ≡ whole_time broadcast time)
 
 -- ---- flows
 
 -- the delay of a flow with these messages and this limit, at its place
-abbrev pub IsDelayOf : Timing → Asked → Offer → ℕ → Messages → ℕ → Delay → Type 0
-IsDelayOf timing asked offer flow (Short frames) limit delay = IsFrameDelay timing offer flow frames limit delay
-IsDelayOf timing asked offer flow (ToOne frames) limit (Long count) = count ≡ frames.stream.frames
-IsDelayOf timing asked offer flow (ToOne frames) limit _ = ⊥
-IsDelayOf timing asked offer flow (ToAll broadcast) limit (Whole whole) = IsWholeTime timing asked offer broadcast whole
-IsDelayOf timing asked offer flow (ToAll broadcast) limit _ = ⊥
+abbrev pub IsDelayOf : Timing → Asked → Buffering → ℕ → Messages → ℕ → Delay → Type 0
+IsDelayOf timing asked buffering flow (Short frames) limit delay = IsFrameDelay timing buffering flow frames limit delay
+IsDelayOf timing asked buffering flow (ToOne frames) limit (Long count) = count ≡ frames.stream.frames
+IsDelayOf timing asked buffering flow (ToOne frames) limit _ = ⊥
+IsDelayOf timing asked buffering flow (ToAll broadcast) limit (Whole whole) = IsWholeTime timing asked buffering broadcast whole
+IsDelayOf timing asked buffering flow (ToAll broadcast) limit _ = ⊥
 
-abbrev pub IsDelay : Timing → Asked → Offer → ℕ → FlowLoad → Delay → Type 0
-IsDelay timing asked offer flow load delay = IsDelayOf timing asked offer flow load.messages load.limit delay
+abbrev pub IsDelay : Timing → Asked → Buffering → ℕ → FlowLoad → Delay → Type 0
+IsDelay timing asked buffering flow load delay = IsDelayOf timing asked buffering flow load.messages load.limit delay
 
 -- the flow at a place has this delay, or none where it isn't known how often it is sent
-abbrev pub HasDelayBy : Timing → Asked → Offer → ℕ → Option Delay → Type 0
-HasDelayBy timing asked offer flow None = slice_get asked.flows flow ≡ Some None
-HasDelayBy timing asked offer flow (Some delay) =
-    (load : FlowLoad) × (slice_get asked.flows flow ≡ Some (Some load)) × IsDelay timing asked offer flow load delay
+abbrev pub HasDelayBy : Timing → Asked → Buffering → ℕ → Option Delay → Type 0
+HasDelayBy timing asked buffering flow None = slice_get asked.flows flow ≡ Some None
+HasDelayBy timing asked buffering flow (Some delay) =
+    (load : FlowLoad) × (slice_get asked.flows flow ≡ Some (Some load)) × IsDelay timing asked buffering flow load delay
 
--- by all frames where they are offered for good
+-- by all frames at the end of their buffering delays
 abbrev pub HasDelay : Timing → Asked → ℕ → Option Delay → Type 0
 HasDelay timing asked flow delay =
-    (offer : Offer) × IsOffer timing (frames_asked asked) offer × HasDelayBy timing asked offer flow delay
+    (buffering : Buffering) × IsBuffering timing (frames_asked asked) buffering × HasDelayBy timing asked buffering flow delay
 
 -- each flow has the delay that stands at its place
-pub record TellDelays (timing : Timing) (asked : Asked) (delays : List (Option Delay)) : Type 0 where
+pub record AreFlowDelays (timing : Timing) (asked : Asked) (delays : List (Option Delay)) : Type 0 where
   pub count : length delays ≡ length asked.flows
   pub each : (flow : ℕ) → flow < length delays → HasDelay timing asked flow (slice_index_or delays flow None)

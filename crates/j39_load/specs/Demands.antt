@@ -1,10 +1,12 @@
 -- What is wanted of the broadcasts of units: a unit sends one at a time, so behind the message that is under way one of each flow waits at most;
 -- what is wanted meanwhile takes its place, or isn't sent.
-use Rattle.std.specs.Prelude.{ℕ, ◌+◌, ◌==◌, max, if◌then◌else◌, Bool, true, false, List, [], ◌∷◌, ◌++◌, map, Option, Some, None}
+use Rattle.std.specs.Prelude.{ℕ, ◌+◌, ◌==◌, max, if◌then◌else◌, List, [], ◌∷◌, ◌++◌, map, Option, Some, None}
 use Rattle.std.specs.List.{filter_map, range_with_len}
 use Rattle.j39_id.specs.Limits.{unit_limit}
-use Rattle.j39_load.specs.declared.broadcast.Broadcast.{Broadcast}
-use Rattle.j39_load.specs.declared.flow_frames.FlowFrames.{FlowFrames}
+use Rattle.j39_load.specs.declared.frames.broadcast.Broadcast.{Broadcast}
+use Rattle.j39_load.specs.declared.frames.broadcast.BroadcastPart.{BroadcastPart}
+use Rattle.j39_load.specs.declared.frames.broadcast.BroadcastPart.TheVariants.{Announcements, Packets}
+use Rattle.j39_load.specs.declared.frames.flow_frames.FlowFrames.{FlowFrames}
 use Rattle.j39_timing.specs.Waits.{Demand}
 use Rattle.j39_timing.specs.declared.wants.Want.{Want}
 
@@ -34,26 +36,31 @@ most_packets [] = 0
 most_packets (broadcast ∷ broadcasts) = max broadcast.packets (most_packets broadcasts)
 
 -- of a message all packets are wanted, or its announcement
-abbrev pub want_of : Bool → Broadcast → Want
-want_of announcements broadcast = record {
-  frames = if announcements then 1 else broadcast.packets;
+abbrev pub frames_of_part : BroadcastPart → Broadcast → ℕ
+frames_of_part Packets broadcast = broadcast.packets
+frames_of_part Announcements broadcast = 1
+
+abbrev pub want_of : BroadcastPart → Broadcast → Want
+want_of part broadcast = record {
+  frames = frames_of_part part broadcast;
   period = broadcast.apart;
-  late = broadcast.late;
+  jitter = broadcast.jitter;
 }
 
 -- of the one that is under way the packets may come, and no announcement
-abbrev pub under_way_of : Bool → List Broadcast → ℕ
-under_way_of announcements broadcasts = if announcements then 0 else most_packets broadcasts
+abbrev pub under_way_of : BroadcastPart → List Broadcast → ℕ
+under_way_of Packets broadcasts = most_packets broadcasts
+under_way_of Announcements broadcasts = 0
 
-abbrev pub demand_by : Bool → List Broadcast → Demand
-demand_by announcements broadcasts = record {
-  under_way = under_way_of announcements broadcasts;
-  wants = map (want_of announcements) broadcasts;
+abbrev pub demand_by : BroadcastPart → List Broadcast → Demand
+demand_by part broadcasts = record {
+  under_way = under_way_of part broadcasts;
+  wants = map (want_of part) broadcasts;
 }
 
-abbrev pub demands_by : Bool → List (Option FlowFrames) → List Demand
-demands_by announcements all = map (λ u. demand_by announcements (wants_of all u)) (range_with_len 0 unit_limit)
+abbrev pub demands_by : BroadcastPart → List (Option FlowFrames) → List Demand
+demands_by part all = map (λ u. demand_by part (wants_of all u)) (range_with_len 0 unit_limit)
 
 -- what is wanted of the packets of each unit, and behind these of the announcements of each
 abbrev pub demands_of : List (Option FlowFrames) → List Demand
-demands_of all = demands_by false all ++ demands_by true all
+demands_of all = demands_by Packets all ++ demands_by Announcements all

@@ -8,8 +8,8 @@ use Rattle.j39_network.specs.declared.plan.flow_plan.FlowPlan.{FlowPlan}
 use Rattle.j39_network.specs.declared.plan.need_plan.NeedPlan.{NeedPlan}
 use Rattle.j39_network.specs.declared.plan.timing.Timing.{Timing}
 use Rattle.j39_network.specs.declared.plan.unit_plan.UnitPlan.{UnitPlan}
-use Rattle.j39_load.specs.declared.delay.Delay.{Delay}
-use Rattle.j39_load.specs.declared.delay.Delay.TheVariants.{Within}
+use Rattle.j39_load.specs.declared.waits.delay.Delay.{Delay}
+use Rattle.j39_load.specs.declared.waits.delay.Delay.TheVariants.{Within}
 use Rattle.j39_load.specs.Asked.{Asked, asked_of, frames_asked}
 use Rattle.j39_load.specs.LoadFindings.{AsksOfBus}
 use Rattle.j39_load.specs.Loads.{bits_of_ms}
@@ -20,18 +20,18 @@ use Rattle.j39_timing.specs.TimedFrames.{Schedule, IsLegal}
 use Rattle.j39_timing.specs.FrameStreams.{Origins}
 use Rattle.j39_timing.specs.declared.stream.Stream.{Stream}
 
--- In every legal schedule of such frames: while a frame of the flow has had its moment in the last `pause` bits, from its delay on a frame of
--- it has ended that had its moment in the last `pause` bits and its delay.
+-- In every legal schedule of such frames: while a frame of the flow has had its release in the last `pause` bits, from its delay on a frame of
+-- it has ended that had its release in the last `pause` bits and its delay.
 abbrev pub IsFreshOnEveryBus : Timing → Asked → ℕ → ℕ → Stream → ℕ → ℕ → Type 0
 IsFreshOnEveryBus timing asked flow pause stream wait delay = (s : Schedule) (planned : ℕ → Bool) (of : Origins) → IsLegal s
     → AreFramesOfPlan timing (frames_asked asked) s planned of flow → (from to : ℕ) → KeepsComing s planned of flow pause from to
-    → to + (stream.late + wait) < s.now → IsFresh s planned of flow (pause + delay) (from + delay) (to + delay)
+    → to + (stream.jitter + wait) < s.now → IsFresh s planned of flow (pause + delay) (from + delay) (to + delay)
 
 -- the same where units keep order or don't
 abbrev pub IsFreshInAnyOrder : Timing → Asked → ℕ → ℕ → Stream → ℕ → ℕ → Type 0
 IsFreshInAnyOrder timing asked flow pause stream wait delay = (s : Schedule) (controllers : Controllers) (planned : ℕ → Bool) (of : Origins)
     → IsLegalInAnyOrder s controllers → AreFramesInAnyOrder timing (frames_asked asked) s controllers planned of flow → (from to : ℕ)
-    → KeepsComing s planned of flow pause from to → to + (stream.late + wait) < s.now
+    → KeepsComing s planned of flow pause from to → to + (stream.jitter + wait) < s.now
     → IsFresh s planned of flow (pause + delay) (from + delay) (to + delay)
 
 -- some flow that isn't sent as an answer meets the need; for the longest time that it may be silent and its delay, which bounds its frames' time on every bus, together

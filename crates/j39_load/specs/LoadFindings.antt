@@ -5,18 +5,18 @@ use Rattle.std.specs.Option.{option_map_or}
 use Rattle.j39_network.specs.declared.plan.Plan.{Plan}
 use Rattle.j39_network.specs.declared.plan.timing.Timing.{Timing}
 use Rattle.j39_network.specs.declared.plan.unit_plan.UnitPlan.{UnitPlan}
-use Rattle.j39_load.specs.declared.delay.Delay.{Delay}
-use Rattle.j39_load.specs.declared.delay.Delay.TheVariants.{Late, Whole}
-use Rattle.j39_load.specs.declared.load_finding.LoadFinding.{LoadFinding}
-use Rattle.j39_load.specs.declared.load_finding.LoadFinding.TheVariants.{NoPeriod, Overload, LateFlow, NeedTooOld}
-use Rattle.j39_load.specs.declared.whole_time.WholeTime.{WholeTime}
+use Rattle.j39_load.specs.declared.waits.delay.Delay.{Delay}
+use Rattle.j39_load.specs.declared.waits.delay.Delay.TheVariants.{Late, Whole}
+use Rattle.j39_load.specs.declared.findings.load_finding.LoadFinding.{LoadFinding}
+use Rattle.j39_load.specs.declared.findings.load_finding.LoadFinding.TheVariants.{NoPeriod, Overload, LateFlow, NeedTooOld}
+use Rattle.j39_load.specs.declared.waits.whole_time.WholeTime.{WholeTime}
 use Rattle.j39_load.specs.Ages.{is_in_limit, old_needs}
 use Rattle.j39_load.specs.Asked.{asked_of, total_load}
 use Rattle.j39_load.specs.Damage.{load_of_damage}
-use Rattle.j39_load.specs.Delays.{TellDelays}
+use Rattle.j39_load.specs.Delays.{AreFlowDelays}
 use Rattle.j39_load.specs.Loads.{bits_of_second}
 use Rattle.j39_load.specs.LineLists.{lines_of_each}
-use Rattle.j39_findings.specs.Standing.{TellsWhoStays}
+use Rattle.j39_findings.specs.Standing.{DecidesWhoStays}
 
 -- the number under which a finding is known
 abbrev pub load_finding_number : LoadFinding → ℕ
@@ -59,8 +59,8 @@ all_findings plan timing load delays = load_findings timing load delays ++ old_n
 
 -- what a plan asks of a bus: what each flow does, by who stays, and how long its frames wait
 pub record AsksOfBus (plan : Plan) (timing : Timing) (stays : UnitPlan → Bool) (delays : List (Option Delay)) : Type 0 where
-  pub standing : TellsWhoStays plan stays
-  pub waits : TellDelays timing (asked_of timing plan stays) delays
+  pub standing : DecidesWhoStays plan stays
+  pub waits : AreFlowDelays timing (asked_of timing plan stays) delays
 
 -- this is what is wrong: nothing where nothing is known of the bus
 abbrev pub AreLoadFindings : Plan → Option Timing → List LoadFinding → Type 0

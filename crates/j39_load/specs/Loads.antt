@@ -20,11 +20,11 @@ use Rattle.j39_network.specs.declared.plan.timing.Timing.{Timing}
 use Rattle.j39_network.specs.declared.plan.to.To.{To}
 use Rattle.j39_network.specs.declared.plan.to.To.TheVariants.{All, One}
 use Rattle.j39_network.specs.declared.plan.unit_plan.UnitPlan.{UnitPlan}
-use Rattle.j39_load.specs.declared.broadcast.Broadcast.{Broadcast}
-use Rattle.j39_load.specs.declared.flow_frames.FlowFrames.{FlowFrames}
-use Rattle.j39_load.specs.declared.flow_load.FlowLoad.{FlowLoad}
-use Rattle.j39_load.specs.declared.messages.Messages.{Messages}
-use Rattle.j39_load.specs.declared.messages.Messages.TheVariants.{Short, ToAll, ToOne}
+use Rattle.j39_load.specs.declared.frames.broadcast.Broadcast.{Broadcast}
+use Rattle.j39_load.specs.declared.frames.flow_frames.FlowFrames.{FlowFrames}
+use Rattle.j39_load.specs.declared.loads.flow_load.FlowLoad.{FlowLoad}
+use Rattle.j39_load.specs.declared.frames.messages.Messages.{Messages}
+use Rattle.j39_load.specs.declared.frames.messages.Messages.TheVariants.{Short, ToAll, ToOne}
 use Rattle.j39_timing.specs.FrameBits.{longest_frame}
 use Rattle.j39_timing.specs.declared.stream.Stream.{Stream}
 use Rattle.j39_tp.specs.Chunks.{packets_of}
@@ -90,7 +90,7 @@ single_stream timing group pace = record {
   frames = 1;
   period = bits_of_ms timing pace.period;
   bits = longest_frame (most_bytes group);
-  late = bits_of_ms timing pace.jitter;
+  jitter = bits_of_ms timing pace.jitter;
   wanted = None;
 }
 
@@ -100,7 +100,7 @@ packet_stream timing units packets v pace = record {
   frames = frames_to_one units packets v;
   period = bits_of_ms timing pace.period;
   bits = longest_frame frame_bytes;
-  late = bits_of_ms timing pace.period + bits_of_ms timing pace.jitter;
+  jitter = bits_of_ms timing pace.period + bits_of_ms timing pace.jitter;
   wanted = None;
 }
 
@@ -197,7 +197,7 @@ broadcast_of timing flow pace group = record {
   has_short = has_short group;
   period = pace.period;
   apart = bits_of_ms timing pace.period;
-  late = bits_of_ms timing pace.jitter;
+  jitter = bits_of_ms timing pace.jitter;
   deadline = option_map (bits_of_ms timing) pace.deadline;
 }
 

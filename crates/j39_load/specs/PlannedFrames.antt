@@ -1,17 +1,18 @@
 -- The frames of a bus that are those of a plan's flows, among what else is on it; and what a delay says of them.
-use Rattle.std.specs.Prelude.{◌≡◌, ℕ, ◌+◌, ◌^◌, ◌<◌, ◌≤◌, ◌⊎◌, Bool, true, false, List, [], ◌∷◌, ◌++◌, length, slice_index_or, unwrap_or, All, IfSome, IsPermutation, Option, Some, None}
+use Rattle.std.specs.Prelude.{◌≡◌, ℕ, ◌+◌, ◌^◌, ◌<◌, ◌≤◌, ◌⊎◌, Bool, true, false, List, [], ◌∷◌, ◌++◌, length, slice_index_or, unwrap_or, All, IfSome}
+use Rattle.std.specs.Prelude.{IsPermutation, Option, Some, None}
 use Rattle.std.specs.List.{filter_map, slice_get}
 use Rattle.j39_network.specs.declared.plan.Plan.{Plan}
 use Rattle.j39_network.specs.declared.plan.timing.Timing.{Timing}
 use Rattle.j39_network.specs.declared.plan.unit_plan.UnitPlan.{UnitPlan}
-use Rattle.j39_load.specs.declared.broadcast.Broadcast.{Broadcast}
-use Rattle.j39_load.specs.declared.delay.Delay.{Delay}
-use Rattle.j39_load.specs.declared.delay.Delay.TheVariants.{Whole, Within}
-use Rattle.j39_load.specs.declared.flow_frames.FlowFrames.{FlowFrames}
-use Rattle.j39_load.specs.declared.flow_load.FlowLoad.{FlowLoad}
-use Rattle.j39_load.specs.declared.messages.Messages.TheVariants.{Short, ToAll}
-use Rattle.j39_load.specs.declared.whole_time.WholeTime.{WholeTime}
-use Rattle.j39_load.specs.AnyQueues.{IsCompanyLevel, IsOffer, Offer, are_of_unit, is_of_company, keep_order, leasts_of, with_unplanned}
+use Rattle.j39_load.specs.declared.frames.broadcast.Broadcast.{Broadcast}
+use Rattle.j39_load.specs.declared.waits.delay.Delay.{Delay}
+use Rattle.j39_load.specs.declared.waits.delay.Delay.TheVariants.{Whole, Within}
+use Rattle.j39_load.specs.declared.frames.flow_frames.FlowFrames.{FlowFrames}
+use Rattle.j39_load.specs.declared.loads.flow_load.FlowLoad.{FlowLoad}
+use Rattle.j39_load.specs.declared.frames.messages.Messages.TheVariants.{Short, ToAll}
+use Rattle.j39_load.specs.declared.waits.whole_time.WholeTime.{WholeTime}
+use Rattle.j39_load.specs.AnyQueues.{IsQueueGroupLevel, IsBuffering, Buffering, are_of_unit, is_of_queue_group, keep_order, leasts_of, with_unplanned}
 use Rattle.j39_load.specs.Asked.{Asked, asked_of, frames_asked}
 use Rattle.j39_load.specs.Broadcasts.{broadcasts_by}
 use Rattle.j39_load.specs.Damage.{damage_frames}
@@ -21,7 +22,7 @@ use Rattle.j39_load.specs.LoadFindings.{AsksOfBus}
 use Rattle.j39_load.specs.Loads.{bits_of_ms}
 use Rattle.j39_load.specs.Twins.{are_twins}
 use Rattle.j39_timing.specs.AnyOrder.{Controllers, IsLegalInAnyOrder, IsUnordered}
-use Rattle.j39_timing.specs.Companies.{Company, CompanyWaits, unplanned_queued}
+use Rattle.j39_timing.specs.QueueGroups.{QueueGroup, QueueGroupWaits, unplanned_queued}
 use Rattle.j39_timing.specs.FrameBits.{longest_frame}
 use Rattle.j39_timing.specs.Messages.{AreSentInTurn, IsBroadcast, LongMessage, all_whole_at}
 use Rattle.j39_timing.specs.TimedFrames.{Schedule, IsLegal, Waits}
@@ -31,7 +32,7 @@ use Rattle.j39_timing.specs.Traffic.{Traffic, Others, AreQueuedBehind, AreSteady
 -- frames of which none is ever queued
 abbrev pub no_frames : FlowFrames
 no_frames = record {
-  stream = record { frames = 0; period = 1; bits = 0; late = 0; wanted = None };
+  stream = record { frames = 0; period = 1; bits = 0; jitter = 0; wanted = None };
   least_ident = 0;
   greatest_ident = 0;
   any_sender = None;
@@ -67,24 +68,24 @@ AreFramesOfPlan timing all s planned of i = IsPlannedTraffic s (traffic_of (all 
 
 -- ---- units that keep no order
 
--- all streams of the company of some frames among all, with identifiers up to a level
-abbrev pub company_of : Timing → List (Option FlowFrames) → FlowFrames → ℕ → Company
-company_of timing all own level = record {
-  has = λ j. is_of_company (leasts_of all) (with_unplanned timing own) level (planned_at all j);
+-- all streams of the queue group of some frames among all, with identifiers up to a level
+abbrev pub queue_group_of : Timing → List (Option FlowFrames) → FlowFrames → ℕ → QueueGroup
+queue_group_of timing all own level = record {
+  has = λ j. is_of_queue_group (leasts_of all) (with_unplanned timing own) level (planned_at all j);
   level = level;
 }
 
--- what is asked of a bus while frames of a company wait
-pub record KeepToCompany (timing : Timing) (s : Schedule) (planned : ℕ → Bool) (of : Origins) (company : Company) : Type 0 where
+-- what is asked of a bus while frames of a queue group wait
+pub record KeepToQueueGroup (timing : Timing) (s : Schedule) (planned : ℕ → Bool) (of : Origins) (queue_group : QueueGroup) : Type 0 where
   -- an identifier has 29 bits
   pub identifiers : (p : ℕ) → p < s.count → s.ident p < 2 ^ 29
-  -- while a frame of the company is queued, nothing that is queued too has its identifier but frames of the company
-  pub own_identifiers : (p q t : ℕ) → p < s.count → q < s.count → t < s.now → planned p ≡ true → company.has (of.source p) ≡ true
-      → IsQueuedAt s p t → IsQueuedAt s q t → s.ident p ≡ s.ident q → (planned q ≡ true) × (company.has (of.source q) ≡ true)
-  -- while a frame of the company waits, together with the time before in which it and what goes with it wait without a
+  -- while a frame of the queue group is queued, nothing that is queued too has its identifier but frames of the queue group
+  pub own_identifiers : (p q t : ℕ) → p < s.count → q < s.count → t < s.now → planned p ≡ true → queue_group.has (of.source p) ≡ true
+      → IsQueuedAt s p t → IsQueuedAt s q t → s.ident p ≡ s.ident q → (planned q ≡ true) × (queue_group.has (of.source q) ≡ true)
+  -- while a frame of the queue group waits, together with the time before in which it and what goes with it wait without a
   -- break, no more frames that aren't planned are queued than are told, whatever their identifiers are
-  pub few_unplanned : (p from to : ℕ) → p < s.count → planned p ≡ true → company.has (of.source p) ≡ true → to < s.now → Waits s p to
-      → CompanyWaits s planned of company from to → unplanned_queued s planned from to ≤ timing.unplanned
+  pub few_unplanned : (p from to : ℕ) → p < s.count → planned p ≡ true → queue_group.has (of.source p) ≡ true → to < s.now → Waits s p to
+      → QueueGroupWaits s planned of queue_group from to → unplanned_queued s planned from to ≤ timing.unplanned
 
 -- the planned frames are those of the plan's streams, and of its units
 pub record AreFramesInAnyOrder (timing : Timing) (all : List (Option FlowFrames)) (s : Schedule) (controllers : Controllers)
@@ -98,10 +99,10 @@ pub record AreFramesInAnyOrder (timing : Timing) (all : List (Option FlowFrames)
   -- that is told
   pub to_last : (p : ℕ) → p < s.count → planned p ≡ true → keep_order (planned_at all (of.source p)) ≡ false
       → s.ident p ≤ (planned_at all (of.source p)).last_ident
-  -- where a stream of such a unit is the one that is judged, or may go before it, the bus keeps to its company
-  pub companies : (j level : ℕ) → (j ≡ i) ⊎ ((planned_at all j).least_ident < (planned_at all i).greatest_ident)
-      → keep_order (planned_at all j) ≡ false → IsCompanyLevel (leasts_of all) all (with_unplanned timing (planned_at all j)) level
-      → KeepToCompany timing s planned of (company_of timing all (planned_at all j) level)
+  -- where a stream of such a unit is the one that is judged, or may go before it, the bus keeps to its queue group
+  pub queue_groups : (j level : ℕ) → (j ≡ i) ⊎ ((planned_at all j).least_ident < (planned_at all i).greatest_ident)
+      → keep_order (planned_at all j) ≡ false → IsQueueGroupLevel (leasts_of all) all (with_unplanned timing (planned_at all j)) level
+      → KeepToQueueGroup timing s planned of (queue_group_of timing all (planned_at all j) level)
 
 -- every unit keeps order
 abbrev pub AreAllOrdered : List (Option FlowFrames) → Type 0
@@ -110,7 +111,7 @@ AreAllOrdered all = (j : ℕ) → keep_order (planned_at all j) ≡ true
 -- ---- bounds
 
 -- in every legal schedule of such frames each one of these that should have been sent by now has begun within `wait` bits of being queued,
--- and has been sent within its delay from its moment
+-- and has been sent within its delay from its release
 abbrev pub IsInTimeOnEveryBus : Timing → List (Option FlowFrames) → ℕ → FlowFrames → ℕ → Type 0
 IsInTimeOnEveryBus timing all i frames wait = (s : Schedule) (planned : ℕ → Bool) (of : Origins) → IsLegal s
     → AreFramesOfPlan timing all s planned of i → IsStreamInTime s planned of i frames.stream wait
@@ -131,9 +132,9 @@ pub record IsBounded (timing : Timing) (asked : Asked) (flow bits : ℕ) : Type 
   pub wait : ℕ
   pub sum : bits ≡ delay_of frames.stream wait
   pub inside : bits ≤ load.limit
-  pub offer : Offer
-  pub is : IsOffer timing (frames_asked asked) offer
-  pub delayed : IsFrameDelay timing offer flow frames load.limit (Within bits)
+  pub buffering : Buffering
+  pub is : IsBuffering timing (frames_asked asked) buffering
+  pub delayed : IsFrameDelay timing buffering flow frames load.limit (Within bits)
   pub in_any_order : IsInTimeInAnyOrder timing (frames_asked asked) flow frames wait
   pub bounds : AreAllOrdered (frames_asked asked) → IsInTimeOnEveryBus timing (frames_asked asked) flow frames wait
 
@@ -179,28 +180,28 @@ pub record IsOneTurn (broadcasts : List Broadcast) (messages : List LongMessage)
   pub order : IsPermutation messages (filter_map (λ m. m) each)
 
 -- in every legal schedule of such frames the messages of the unit at a place, of each flow one at most, are all whole
--- so many bits after the moment: where the announcement of the first is queued no more than `late` bits after it,
+-- so many bits after the release: where the announcement of the first is queued no more than `jitter` bits after it,
 -- that of each other one at the end of the message before, and each packet no more than the longest gap behind the end
 -- of the frame before
 abbrev pub AreWholeOnEveryBus : Timing → Asked → ℕ → ℕ → ℕ → Type 0
-AreWholeOnEveryBus timing asked u late bits = (s : Schedule) (planned : ℕ → Bool) (of : Origins) → IsLegal s
+AreWholeOnEveryBus timing asked u jitter bits = (s : Schedule) (planned : ℕ → Bool) (of : Origins) → IsLegal s
     → ComeInTurn timing (frames_asked asked) s planned of (announcements_place asked u)
     → ComeInTurn timing (frames_asked asked) s planned of (packets_place asked u)
-    → (messages : List LongMessage) (moment : ℕ) → IsOneTurn (broadcasts_by u asked.flows) messages
+    → (messages : List LongMessage) (release : ℕ) → IsOneTurn (broadcasts_by u asked.flows) messages
     → All (IsBroadcast s planned of (announcements_place asked u) (packets_place asked u)) messages
-    → AreSentInTurn s (bits_of_ms timing timing.broadcast_gap_most) (moment + late) messages → moment + bits < s.now
-    → all_whole_at s (moment + late) messages ≤ moment + bits
+    → AreSentInTurn s (bits_of_ms timing timing.broadcast_gap_most) (release + jitter) messages → release + bits < s.now
+    → all_whole_at s (release + jitter) messages ≤ release + bits
 
 -- the same where units keep order or don't
 abbrev pub AreWholeInAnyOrder : Timing → Asked → ℕ → ℕ → ℕ → Type 0
-AreWholeInAnyOrder timing asked u late bits = (s : Schedule) (controllers : Controllers) (planned : ℕ → Bool)
+AreWholeInAnyOrder timing asked u jitter bits = (s : Schedule) (controllers : Controllers) (planned : ℕ → Bool)
     (of : Origins) → IsLegalInAnyOrder s controllers
     → ComeInAnyOrder timing (frames_asked asked) s controllers planned of (announcements_place asked u)
     → ComeInAnyOrder timing (frames_asked asked) s controllers planned of (packets_place asked u)
-    → (messages : List LongMessage) (moment : ℕ) → IsOneTurn (broadcasts_by u asked.flows) messages
+    → (messages : List LongMessage) (release : ℕ) → IsOneTurn (broadcasts_by u asked.flows) messages
     → All (IsBroadcast s planned of (announcements_place asked u) (packets_place asked u)) messages
-    → AreSentInTurn s (bits_of_ms timing timing.broadcast_gap_most) (moment + late) messages → moment + bits < s.now
-    → all_whole_at s (moment + late) messages ≤ moment + bits
+    → AreSentInTurn s (bits_of_ms timing timing.broadcast_gap_most) (release + jitter) messages → release + bits < s.now
+    → all_whole_at s (release + jitter) messages ≤ release + bits
 
 -- the flow's long messages go to all, this is their time, and it bounds them on every bus
 pub record AreWholeWithin (timing : Timing) (asked : Asked) (flow : ℕ) (whole : WholeTime) (bits : ℕ) : Type 0 where
@@ -208,12 +209,12 @@ pub record AreWholeWithin (timing : Timing) (asked : Asked) (flow : ℕ) (whole 
   pub its : slice_get asked.flows flow ≡ Some (Some load)
   pub broadcast : Broadcast
   pub long : load.messages ≡ ToAll broadcast
-  pub offer : Offer
-  pub is : IsOffer timing (frames_asked asked) offer
-  pub time : IsWholeTime timing asked offer broadcast whole
+  pub buffering : Buffering
+  pub is : IsBuffering timing (frames_asked asked) buffering
+  pub time : IsWholeTime timing asked buffering broadcast whole
   pub told : whole.bits ≡ Some bits
-  pub in_any_order : AreWholeInAnyOrder timing asked broadcast.sender broadcast.late bits
-  pub bounds : AreAllOrdered (frames_asked asked) → AreWholeOnEveryBus timing asked broadcast.sender broadcast.late bits
+  pub in_any_order : AreWholeInAnyOrder timing asked broadcast.sender broadcast.jitter bits
+  pub bounds : AreAllOrdered (frames_asked asked) → AreWholeOnEveryBus timing asked broadcast.sender broadcast.jitter bits
 
 -- each time that is told is a bound
 abbrev pub AreTimesBounds : Timing → Asked → List (Option Delay) → Type 0

@@ -15,7 +15,7 @@ use Rattle.j39_network.specs.declared.plan.group_plan.GroupPlan.{GroupPlan}
 use Rattle.j39_network.specs.declared.plan.need_plan.NeedPlan.{NeedPlan}
 use Rattle.j39_network.specs.declared.plan.timing.Timing.{Timing}
 use Rattle.j39_network.specs.declared.plan.unit_plan.UnitPlan.{UnitPlan}
-use Rattle.j39_load.specs.declared.delay.Delay.{Delay}
+use Rattle.j39_load.specs.declared.waits.delay.Delay.{Delay}
 use Rattle.j39_load.specs.Asked.{Asked, asked_of, frames_asked}
 use Rattle.j39_load.specs.FreshNeeds.{IsNeedFresh}
 use Rattle.j39_load.specs.LoadFindings.{AsksOfBus}
@@ -60,7 +60,7 @@ pub record ReadAsWritten (group : GroupPlan) (bytes : List ℕ) (w : AreWritten 
 abbrev pub CarryWritten : Schedule → (ℕ → Bool) → Origins → ℕ → GroupPlan → (ℕ → List ℕ) → Type 0
 CarryWritten s planned of flow group bytes = (p : ℕ) → IsOf s planned of flow p → AreWritten group (bytes p)
 
--- the frame's moment was less than `age` bits ago, and its bytes read as they were written
+-- the frame's release was less than `age` bits ago, and its bytes read as they were written
 pub record ReadsYoung (s : Schedule) (planned : ℕ → Bool) (of : Origins) (flow : ℕ) (group : GroupPlan) (bytes : ℕ → List ℕ)
     (written : CarryWritten s planned of flow group bytes) (age t p : ℕ) (its : IsOf s planned of flow p) : Type 0 where
   pub young : t < of.since p + age
@@ -73,12 +73,12 @@ AreReadYoung s planned of flow group bytes written age from to = (t : ℕ) → f
     → ((p : ℕ) × IsNewest s planned of flow t p)
     × ((p : ℕ) → (newest : IsNewest s planned of flow t p) → ReadsYoung s planned of flow group bytes written age t p newest.has_ended.its)
 
--- in every legal schedule of such frames, whose bytes were written so, and in which one of the flow has had its moment in the last `pause` bits
+-- in every legal schedule of such frames, whose bytes were written so, and in which one of the flow has had its release in the last `pause` bits
 abbrev pub AreReadOnEveryBus : Timing → Asked → ℕ → GroupPlan → ℕ → Stream → ℕ → ℕ → Type 0
 AreReadOnEveryBus timing asked flow group pause stream wait delay = (s : Schedule) (planned : ℕ → Bool) (of : Origins) → IsLegal s
     → AreFramesOfPlan timing (frames_asked asked) s planned of flow
     → (bytes : ℕ → List ℕ) (written : CarryWritten s planned of flow group bytes) (from to : ℕ) → KeepsComing s planned of flow pause from to
-    → to + (stream.late + wait) < s.now
+    → to + (stream.jitter + wait) < s.now
     → AreReadYoung s planned of flow group bytes written (pause + delay) (from + delay) (to + delay)
 
 -- the same where units keep order or don't
@@ -86,7 +86,7 @@ abbrev pub AreReadInAnyOrder : Timing → Asked → ℕ → GroupPlan → ℕ �
 AreReadInAnyOrder timing asked flow group pause stream wait delay = (s : Schedule) (controllers : Controllers) (planned : ℕ → Bool) (of : Origins)
     → IsLegalInAnyOrder s controllers → AreFramesInAnyOrder timing (frames_asked asked) s controllers planned of flow
     → (bytes : ℕ → List ℕ) (written : CarryWritten s planned of flow group bytes) (from to : ℕ) → KeepsComing s planned of flow pause from to
-    → to + (stream.late + wait) < s.now
+    → to + (stream.jitter + wait) < s.now
     → AreReadYoung s planned of flow group bytes written (pause + delay) (from + delay) (to + delay)
 
 -- ---- needs

@@ -8,7 +8,7 @@ use Rattle.j39_network.specs.declared.plan.Plan.{Plan}
 use Rattle.j39_network.specs.declared.plan.request_plan.RequestPlan.{RequestPlan}
 use Rattle.j39_network.specs.declared.plan.timing.Timing.{Timing}
 use Rattle.j39_network.specs.declared.plan.unit_plan.UnitPlan.{UnitPlan}
-use Rattle.j39_load.specs.declared.request_load.RequestLoad.{RequestLoad}
+use Rattle.j39_load.specs.declared.loads.request_load.RequestLoad.{RequestLoad}
 use Rattle.j39_load.specs.Loads.{any_unit, bits_of_ms, destination_at, greatest_address, least_address, load_of, of_unit}
 use Rattle.j39_timing.specs.FrameBits.{longest_frame}
 use Rattle.j39_timing.specs.declared.stream.Stream.{Stream}
@@ -18,7 +18,7 @@ abbrev pub request_bytes : ℕ
 request_bytes = 3
 
 abbrev pub request_stream : Timing → ℕ → Stream
-request_stream timing period = record { frames = 1; period = bits_of_ms timing period; bits = longest_frame request_bytes; late = 0; wanted = None }
+request_stream timing period = record { frames = 1; period = bits_of_ms timing period; bits = longest_frame request_bytes; jitter = 0; wanted = None }
 
 -- the identifier of a request, where the units hold these addresses
 abbrev pub request_ident : (ℕ → ℕ) → RequestPlan → ℕ

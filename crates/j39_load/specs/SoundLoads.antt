@@ -1,20 +1,20 @@
 -- What holds of what each flow, each unit and each request asks of the bus, so that waits can be computed from it.
 use Rattle.std.specs.Prelude.{◌^◌, ◌<◌, ◌≤◌, Option, Some, None, IfSome}
-use Rattle.j39_load.specs.declared.broadcast.Broadcast.{Broadcast}
-use Rattle.j39_load.specs.declared.flow_frames.FlowFrames.{FlowFrames}
-use Rattle.j39_load.specs.declared.flow_load.FlowLoad.{FlowLoad}
-use Rattle.j39_load.specs.declared.messages.Messages.{Messages}
-use Rattle.j39_load.specs.declared.messages.Messages.TheVariants.{Short, ToAll, ToOne}
-use Rattle.j39_load.specs.declared.request_load.RequestLoad.{RequestLoad}
-use Rattle.j39_load.specs.declared.unit_load.UnitLoad.{UnitLoad}
+use Rattle.j39_load.specs.declared.frames.broadcast.Broadcast.{Broadcast}
+use Rattle.j39_load.specs.declared.frames.flow_frames.FlowFrames.{FlowFrames}
+use Rattle.j39_load.specs.declared.loads.flow_load.FlowLoad.{FlowLoad}
+use Rattle.j39_load.specs.declared.frames.messages.Messages.{Messages}
+use Rattle.j39_load.specs.declared.frames.messages.Messages.TheVariants.{Short, ToAll, ToOne}
+use Rattle.j39_load.specs.declared.loads.request_load.RequestLoad.{RequestLoad}
+use Rattle.j39_load.specs.declared.loads.unit_load.UnitLoad.{UnitLoad}
 use Rattle.j39_load.specs.Asked.{own_frames}
 use Rattle.j39_timing.specs.Waits.{IsStream}
 
 abbrev pub IsSoundBroadcast : Broadcast → Type 0
-IsSoundBroadcast broadcast = (1 ≤ broadcast.period) × (2 ≤ broadcast.least_packets) × (broadcast.late < 2 ^ 31) × (1 ≤ broadcast.apart)
+IsSoundBroadcast broadcast = (1 ≤ broadcast.period) × (2 ≤ broadcast.least_packets) × (broadcast.jitter < 2 ^ 31) × (1 ≤ broadcast.apart)
 
 abbrev pub AreSound : FlowFrames → Type 0
-AreSound frames = IsStream frames.stream × (frames.stream.late < 2 ^ 30) × (frames.stream.bits ≤ 160) × IfSome frames.want IsSoundBroadcast
+AreSound frames = IsStream frames.stream × (frames.stream.jitter < 2 ^ 30) × (frames.stream.bits ≤ 160) × IfSome frames.want IsSoundBroadcast
 
 -- where they are queued later
 abbrev pub FitIfAny : Option FlowFrames → Type 0

@@ -1,5 +1,5 @@
 -- A value arrives in time, in the plan's own words: on each bus that keeps to the plan what was received last of a flow that brings a unit what
--- it needs had its moment within the age that this asks for, and each signal in its bytes reads there what was last written to it.
+-- it needs had its release within the age that this asks for, and each signal in its bytes reads there what was last written to it.
 use Rattle.std.specs.Prelude.{◌≡◌, ℕ, ◌+◌, ◌*◌, ◌<◌, ◌≤◌, Bool, false, List, Some}
 use Rattle.std.specs.List.{slice_get}
 use Rattle.j39_network.specs.Serving.{Meets}
@@ -9,32 +9,33 @@ use Rattle.j39_network.specs.declared.plan.group_plan.GroupPlan.{GroupPlan}
 use Rattle.j39_network.specs.declared.plan.need_plan.NeedPlan.{NeedPlan}
 use Rattle.j39_network.specs.declared.plan.pace.Pace.{Pace}
 use Rattle.j39_network.specs.declared.plan.timing.Timing.{Timing}
-use Rattle.j39_load.specs.KeepsPlan.{Held, IsMsBefore, IsMsBehind, IsWithinMs, KeepsAllOrder, KeepsToPlan, KeepsQueues, FrameFlows, bit_time, origins_of}
+use Rattle.j39_load.specs.KeepsPlan.{KeepsAllOrder, KeepsQueues, KeepsToPlan, origins_of}
 use Rattle.j39_load.specs.ReadInTime.{CarryWritten, ReadAsWritten}
+use Rattle.j39_load.specs.SentFrames.{FrameSources, Held, IsMsBefore, IsMsBehind, IsWithinMs, bit_time}
 use Rattle.j39_timing.specs.AnyOrder.{Controllers, IsLegalInAnyOrder}
 use Rattle.j39_timing.specs.FreshFrames.{IsNewest}
 use Rattle.j39_timing.specs.Messages.{IsOf}
 use Rattle.j39_timing.specs.TimedFrames.{Schedule, IsLegal}
 
--- at each bit from one to another a message of the flow has had its moment in the last `pause` milliseconds
-abbrev pub KeepsPause : Timing → Schedule → (ℕ → Bool) → FrameFlows → ℕ → ℕ → ℕ → ℕ → Type 0
-KeepsPause timing s planned sent flow pause from to = (t : ℕ) → from ≤ t → t ≤ to
-    → (p : ℕ) × IsOf s planned (origins_of sent) flow p × (sent.moment p ≤ t)
-    × (t * bit_time timing.bitrate < sent.moment p * bit_time timing.bitrate + 1000 * pause)
+-- at each bit from one to another a message of the flow has had its release in the last `pause` milliseconds
+abbrev pub KeepsPause : Plan → Timing → Schedule → (ℕ → Bool) → FrameSources → ℕ → ℕ → ℕ → ℕ → Type 0
+KeepsPause plan timing s planned sent flow pause from to = (t : ℕ) → from ≤ t → t ≤ to
+    → (p : ℕ) × IsOf s planned (origins_of plan sent) flow p × (sent.release p ≤ t)
+    × (t * bit_time timing.bitrate < sent.release p * bit_time timing.bitrate + 1000 * pause)
 
--- the frame of the flow that has ended last by bit t had its moment within so many milliseconds, and its bytes read as they were written
-abbrev pub IsYoungAt : Timing → (s : Schedule) (planned : ℕ → Bool) (sent : FrameFlows) (flow : ℕ) (group : GroupPlan) (bytes : ℕ → List ℕ)
-    → CarryWritten s planned (origins_of sent) flow group bytes → ℕ → ℕ → Type 0
-IsYoungAt timing s planned sent flow group bytes written within t = ((p : ℕ) × IsNewest s planned (origins_of sent) flow t p)
-    × ((p : ℕ) → (newest : IsNewest s planned (origins_of sent) flow t p)
-    → IsWithinMs timing within (sent.moment p) t × ReadAsWritten group (bytes p) (written p newest.has_ended.its))
+-- the frame of the flow that has ended last by bit t had its release within so many milliseconds, and its bytes read as they were written
+abbrev pub IsYoungAt : (plan : Plan) → Timing → (s : Schedule) (planned : ℕ → Bool) (sent : FrameSources) (flow : ℕ) (group : GroupPlan) (bytes : ℕ → List ℕ)
+    → CarryWritten s planned (origins_of plan sent) flow group bytes → ℕ → ℕ → Type 0
+IsYoungAt plan timing s planned sent flow group bytes written within t = ((p : ℕ) × IsNewest s planned (origins_of plan sent) flow t p)
+    × ((p : ℕ) → (newest : IsNewest s planned (origins_of plan sent) flow t p)
+    → IsWithinMs timing within (sent.release p) t × ReadAsWritten group (bytes p) (written p newest.has_ended.its))
 
 -- so it is on a bus, while the flow keeps its pause, from its period on
-abbrev pub ArriveOn : Timing → Schedule → (ℕ → Bool) → FrameFlows → ℕ → Pace → ℕ → GroupPlan → ℕ → Type 0
-ArriveOn timing s planned sent flow pace pause group within = (bytes : ℕ → List ℕ)
-    (written : CarryWritten s planned (origins_of sent) flow group bytes) (from to : ℕ) → KeepsPause timing s planned sent flow pause from to
+abbrev pub ArriveOn : Plan → Timing → Schedule → (ℕ → Bool) → FrameSources → ℕ → Pace → ℕ → GroupPlan → ℕ → Type 0
+ArriveOn plan timing s planned sent flow pace pause group within = (bytes : ℕ → List ℕ)
+    (written : CarryWritten s planned (origins_of plan sent) flow group bytes) (from to : ℕ) → KeepsPause plan timing s planned sent flow pause from to
     → IsMsBefore timing pace.period to s.now → (t : ℕ) → IsMsBehind timing pace.period from t → t ≤ to
-    → IsYoungAt timing s planned sent flow group bytes written within t
+    → IsYoungAt plan timing s planned sent flow group bytes written within t
 
 -- some flow that isn't sent as an answer meets the need, and what it brings is young on every bus that keeps to the plan
 pub record IsValueInTime (plan : Plan) (timing : Timing) (need : NeedPlan) (within : ℕ) : Type 0 where
@@ -49,11 +50,12 @@ pub record IsValueInTime (plan : Plan) (timing : Timing) (need : NeedPlan) (with
   pub paused : flow.pause ≡ Some pause
   pub group : GroupPlan
   pub of : slice_get plan.groups.items flow.group ≡ Some group
-  pub in_any_order : (s : Schedule) (controllers : Controllers) (planned : ℕ → Bool) (sent : FrameFlows) (held : Held) → IsLegalInAnyOrder s controllers
+  pub in_any_order : (s : Schedule) (controllers : Controllers) (planned : ℕ → Bool) (sent : FrameSources) (held : Held) → IsLegalInAnyOrder s controllers
       → KeepsToPlan plan timing s planned sent held → KeepsQueues plan timing s controllers planned sent
-      → ArriveOn timing s planned sent place pace pause group within
-  pub in_order : KeepsAllOrder plan → (s : Schedule) (planned : ℕ → Bool) (sent : FrameFlows) (held : Held) → IsLegal s → KeepsToPlan plan timing s planned sent held
-      → ArriveOn timing s planned sent place pace pause group within
+      → ArriveOn plan timing s planned sent place pace pause group within
+  pub in_order : KeepsAllOrder plan → (s : Schedule) (planned : ℕ → Bool) (sent : FrameSources) (held : Held) → IsLegal s
+      → KeepsToPlan plan timing s planned sent held
+      → ArriveOn plan timing s planned sent place pace pause group within
 
 -- so it is of each need that asks for an age
 abbrev pub AreValuesInTime : Plan → Timing → Type 0

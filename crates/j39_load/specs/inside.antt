@@ -3,7 +3,7 @@ pub mod Broadcasting
 pub mod Extremes
 pub mod FlowSearch
 pub mod FewFrames
-pub mod FramesBy
-pub mod Networks
-pub mod Offers
+pub mod FrameParts
+pub mod PlannedBuses
+pub mod BufferingDelays
 pub mod TurnTimes

@@ -1,8 +1,10 @@
 -- When a listener completes a message, and what it holds then.
-use Rattle.std.proofs.Common.{◌≡◌, ℕ, suc, ◌+◌, ◌==◌, ◌&&◌, nat_le, Bool, if◌then◌else◌, true, false, List, [], ◌∷◌, ◌++◌, length, All, zero, Option, Some, None, inl, inr, refl, sym, ap, ◌∙◌, arith}
+use Rattle.std.proofs.Common.{◌≡◌, ℕ, suc, ◌+◌, ◌==◌, ◌&&◌, nat_le, Bool, if◌then◌else◌, true, false, List, [], ◌∷◌, ◌++◌, length, All, zero, Option, Some}
+use Rattle.std.proofs.Common.{None, inl, inr, refl, sym, ap, ◌∙◌, arith}
 use Rattle.std.specs.List.{slice_get}
 use Rattle.std.proofs.lemmas.Bool.{cases_Bool}
 use Rattle.std.proofs.lemmas.List.Elements.{All-push}
+use Rattle.std.proofs.lemmas.Option.{none-some, same_Some}
 use Rattle.j39_tp.specs.Packets.{InRange}
 use Rattle.j39_tp.specs.Carried.{listened, receives_any, CompletesAt, Carried, AreInRange}
 use Rattle.j39_tp.specs.Chunks.{packets_of}
@@ -14,8 +16,8 @@ use Rattle.j39_tp.specs.declared.packet.Packet.{Packet}
 use Rattle.j39_tp.specs.declared.packet.Packet.TheVariants.{Rts, Cts, EndAck, Bam, Abort, Dt}
 use Rattle.j39_tp.specs.declared.receiving.progress.Progress.{Progress}
 use Rattle.j39_tp.specs.declared.receiving.progress.Progress.TheVariants.{Open, Closed, Complete}
-use Rattle.j39_tp.specs.declared.receiving.reception.Kind.{Kind}
-use Rattle.j39_tp.specs.declared.receiving.reception.Kind.TheVariants.{Broadcast, Directed}
+use Rattle.j39_tp.specs.declared.receiving.reception.ReceptionKind.{ReceptionKind}
+use Rattle.j39_tp.specs.declared.receiving.reception.ReceptionKind.TheVariants.{Broadcast, Directed}
 use Rattle.j39_tp.specs.declared.receiving.reception.Reception.{Reception}
 use Rattle.j39_log.specs.inside.Listening.{completed_group, completes, after_all}
 use Rattle.j39_log.specs.ReadText.{CarriesNone}
@@ -33,7 +35,7 @@ neither : (b : Bool) (x y : Progress × Heard) → (Replies x.1 → ⊥) → (Re
 neither true x y first second = first
 neither false x y first second = second
 
-later_silent : (k : Kind) (r : Reception) (number : ℕ) → Replies (takes_later Listening k r number).1 → ⊥
+later_silent : (k : ReceptionKind) (r : Reception) (number : ℕ) → Replies (takes_later Listening k r number).1 → ⊥
 later_silent Broadcast r number replies = replies
 later_silent Directed r number replies = replies
 
@@ -98,15 +100,12 @@ carried_there law h p s after group message heard_all heard_one all fits told pr
       bytes_are = ap (λ (r : Receiving). r.bytes) here ∙ bytes;
     })
 
-some_same : (p q : Packet) → Some p ≡ Some q → p ≡ q
-some_same p q e = cc
-
 -- where it completes none, the list carries none
 pub uncarried_there : CarriedAreCompleted → (h : List Packet) (p : Packet) (s : Receiving) → s ≡ after_all h → completes s p ≡ false
     → CarriesNone (h ++ p ∷ []) (length h)
 uncarried_there law h p s heard_all untold group message carried =
     let complete = law (h ++ p ∷ []) (length h) group message carried in
-    let same : complete.packet ≡ p = some_same complete.packet p (sym complete.stands ∙ slice_get_end h p) in
+    let same : complete.packet ≡ p = same_Some complete.packet p (sym complete.stands ∙ slice_get_end h p) in
     let told : is_complete (hears Listening (listened (h ++ p ∷ []) (length h)).progress p).1 ≡ true =
     ap (λ (q : Packet). is_complete (hears Listening (listened (h ++ p ∷ []) (length h)).progress q).1) (sym same) ∙ ap is_complete complete.told in
     let told_all : completes (after_all h) p ≡ true = told_there h p ∙ told in
@@ -114,12 +113,6 @@ uncarried_there law h p s heard_all untold group message carried =
     cc (told_all, untold_all)
 
 -- ---- the group of a message
-
-some_none : (a : ℕ) → None ≡ Some a → ⊥
-some_none a e = cc
-
-some_group : (a b : ℕ) → Some a ≡ Some b → a ≡ b
-some_group a b e = cc
 
 -- a packet that completes a message of a group
 pub completed_there : (s : Receiving) (p : Packet) (group : ℕ) → completed_group s p ≡ Some group
@@ -130,10 +123,10 @@ completed_there s p group e = elim (cases_Bool (completes s p)) [
       let after = last_received s p l.reception l.chunk l.open_is l.packet_is l.last in
       let found : Some l.reception.pgn ≡ Some group =
       sym (ap pgn_at after.0) ∙ sym (ap (λ (b : Bool). if b then pgn_at (receives s p).progress else None) told) ∙ e in
-      (told, after.0 ∙ ap Complete (some_group l.reception.pgn group found))
+      (told, after.0 ∙ ap Complete (same_Some l.reception.pgn group found))
   | inr untold ↦
       let none : None ≡ Some group = sym (ap (λ (b : Bool). if b then pgn_at (receives s p).progress else None) untold) ∙ e in
-      absurd (some_none group none)
+      absurd (none-some group none)
 ]
 
 -- and one that completes none
@@ -144,6 +137,6 @@ uncompleted s p e = elim (cases_Bool (completes s p)) [
       let after = last_received s p l.reception l.chunk l.open_is l.packet_is l.last in
       let found : Some l.reception.pgn ≡ None =
       sym (ap pgn_at after.0) ∙ sym (ap (λ (b : Bool). if b then pgn_at (receives s p).progress else None) told) ∙ e in
-      absurd (some_none l.reception.pgn (sym found))
+      absurd (none-some l.reception.pgn (sym found))
   | inr untold ↦ untold
 ]

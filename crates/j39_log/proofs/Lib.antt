@@ -2,6 +2,7 @@ pub mod Completing
 pub mod FoundGroups
 pub mod Indexes
 pub mod ListenerTables
+pub mod LinesRead
 pub mod LogReading
 pub mod NamedLists
 pub mod Naming

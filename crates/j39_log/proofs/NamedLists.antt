@@ -1,5 +1,6 @@
 -- The lines of signals and records with names, one after another.
-use Rattle.std.proofs.Common.{◌≡◌, ℕ, suc, ◌+◌, ◌*◌, ◌<◌, Bool, true, false, if◌then◌else◌, List, [], ◌∷◌, ◌++◌, map, length, drop, get_or, Option, Some, None, refl, sym, ap, ◌∙◌, append_assoc, arith}
+use Rattle.std.proofs.Common.{◌≡◌, ℕ, suc, ◌+◌, ◌*◌, ◌<◌, Bool, true, false, if◌then◌else◌, List, [], ◌∷◌, ◌++◌, map, length, drop, get_or, Option, Some, None}
+use Rattle.std.proofs.Common.{refl, sym, ap, ◌∙◌, append_assoc, arith}
 use Rattle.std.specs.List.{filter, zip}
 use Rattle.std.proofs.lemmas.List.{drop_more, get_or-map, length-map}
 use Rattle.std.proofs.lemmas.Slice.Zip.{get_or-zip, length-zip}
@@ -11,7 +12,9 @@ use Rattle.j39_network.specs.declared.plan.Plan.{Plan}
 use Rattle.j39_network.specs.declared.plan.group_plan.GroupPlan.{GroupPlan}
 use Rattle.j39_log.specs.LogReports.{signal_state_text}
 use Rattle.j39_log.specs.LogReports as plain
-use Rattle.j39_log.specs.NamedReports.{HasNoMeanings, NamedSignal, NumberNames, meaning_names, named_lines, parameter_names, raw_text, named_reading_lines, named_record_line, named_record_lines, named_record_signals, named_records_lines, named_signal_line, named_signal_lines, named_single_signals, named_state_text}
+use Rattle.j39_log.specs.NamedReports.{HasNoMeanings, NamedSignal, NumberNames, meaning_names, named_lines, parameter_names, raw_text, named_reading_lines}
+use Rattle.j39_log.specs.NamedReports.{named_record_line, named_record_lines, named_record_signals, named_records_lines, named_signal_line, named_signal_lines}
+use Rattle.j39_log.specs.NamedReports.{named_single_signals, named_state_text}
 use Rattle.j39_log.specs.declared.name_table.NameTable.{NameTable}
 use Rattle.j39_log.specs.declared.names.GroupNames.{GroupNames}
 use Rattle.j39_log.specs.inside.NameTables.{AreGroupNames, HasTables, lines_by, named_by, names_in}

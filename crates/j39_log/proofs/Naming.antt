@@ -1,5 +1,6 @@
 -- Names that are added one after another.
-use Rattle.std.proofs.Common.{◌≡◌, ℕ, ◌+◌, ◌<◌, ◌≤◌, ◌==◌, Bool, true, false, cond, if◌then◌else◌, nat_eq, List, [], ◌∷◌, ◌++◌, map, take, length, get_or, Option, Some, None, is_some, option_map, refl, sym, ap, ◌∙◌, append_assoc, arith}
+use Rattle.std.proofs.Common.{◌≡◌, ℕ, ◌+◌, ◌<◌, ◌≤◌, ◌==◌, Bool, true, false, cond, if◌then◌else◌, nat_eq, List, [], ◌∷◌, ◌++◌, take, length, get_or, Option}
+use Rattle.std.proofs.Common.{Some, None, is_some, option_map, refl, sym, ap, ◌∙◌, append_assoc, arith}
 use Rattle.std.proofs.Math.Path.{fun_ext}
 use Rattle.std.specs.List.{find, zip}
 use Rattle.std.specs.Option.{option_or, option_map_or}
@@ -12,7 +13,7 @@ use Rattle.j39_network.specs.declared.plan.group_plan.GroupPlan.{GroupPlan}
 use Rattle.j39_network.specs.declared.plan.meaning.Meaning.{Meaning}
 use Rattle.j39_network.specs.declared.plan.meaning.ValueName.{ValueName}
 use Rattle.j39_log.specs.NamedReports.{NumberNames, Numbered, all_numbered, first_names, is_numbered, numbered_as, numbered_signals, value_names}
-use Rattle.j39_log.specs.inside.NameTables.{signal_name, with_name}
+use Rattle.j39_log.specs.inside.NameTables.{with_name}
 
 or_nothing : (o : Option (List ℕ)) → o ≡ option_or o None
 or_nothing None = refl

@@ -1,5 +1,6 @@
 -- Plans without the keys of version 3.
-use Rattle.std.proofs.Common.{◌≡◌, ℕ, suc, ◌+◌, ℤ, ◌==◌, Bool, true, false, not, ◌&&◌, ◌||◌, cond, if◌then◌else◌, nat_le, List, [], ◌∷◌, ◌++◌, length, codes, Option, Some, None, All as AllOf, refl, sym, ap, ◌∙◌, inl, inr, arith}
+use Rattle.std.proofs.Common.{◌≡◌, ℕ, suc, ◌+◌, ℤ, ◌==◌, Bool, true, false, not, ◌&&◌, ◌||◌, cond, if◌then◌else◌, nat_le, List, [], ◌∷◌, ◌++◌, length, codes}
+use Rattle.std.proofs.Common.{Option, Some, None, All as AllOf, refl, sym, ap, ◌∙◌, inl, inr, arith}
 use Rattle.std.specs.Fmt.{signed_decimal}
 use Rattle.std.specs.List.{position_from}
 use Rattle.std.proofs.lemmas.Iterator.Adapters.{position_from-zero}
@@ -18,7 +19,8 @@ use Rattle.j39_text.specs.Decimals.{quotient_text}
 use Rattle.j39_text.specs.Texts.{field_text}
 use Rattle.j39_text.proofs.Quotients.{undivided}
 use Rattle.j39_log.specs.LogFrames.{is_planned_as}
-use Rattle.j39_log.specs.LogReports.{all_records_lines, group_line, group_report, reading_lines, scaled_text, signal_lines, signal_state_text, signal_unit_text, value_text}
+use Rattle.j39_log.specs.LogReports.{all_records_lines, group_line, group_report, reading_lines, scaled_text, signal_lines, signal_state_text, signal_unit_text}
+use Rattle.j39_log.specs.LogReports.{value_text}
 use Rattle.j39_log.specs.TextLines.{text_lines}
 use Rattle.j39_log.specs.OlderPlans.{GroupsAreFoundByNumber, IsOlderKind, SignalsAlone, ValuesAreShownWhole, has_number_and_length}
 
@@ -97,4 +99,5 @@ signals_alone group i bytes single none always =
     ap (λ (lines : List ℕ). group_line group i bytes ++ (signals ++ (lines ++ text_lines group.texts.items bytes))) (no_records group bytes single)
     ∙ ap (λ (lines : List ℕ). group_line group i bytes ++ (signals ++ lines)) (no_lines group.texts.items bytes none)
     ∙ ap (λ (lines : List ℕ). group_line group i bytes ++ lines) (append-nil signals)
-    ∙ ap (λ (all : List SignalParts). group_line group i bytes ++ signal_lines all bytes) (all_stand (length bytes) group.signals.items (group.every_needed single) always)
+    ∙ ap (λ (all : List SignalParts). group_line group i bytes
+    ++ signal_lines all bytes) (all_stand (length bytes) group.signals.items (group.every_needed single) always)

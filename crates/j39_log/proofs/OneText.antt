@@ -2,7 +2,7 @@
 use Rattle.std.proofs.Common.{◌≡◌, ℕ, ◌<◌, List, [], ◌∷◌, ◌++◌, length, take, get_or, All, Option, Some, None, inl, inr, refl, sym, ap, ◌∙◌, subst, arith}
 use Rattle.std.proofs.lemmas.Bool.{cases_order}
 use Rattle.std.proofs.lemmas.List.{get_or-take, length-take}
-use Rattle.std.proofs.lemmas.Option.{get_or_from_slice_get, slice_get_within}
+use Rattle.std.proofs.lemmas.Option.{get_or_from_slice_get, slice_get_within, same_Some}
 use Rattle.j39_id.proofs.LineLaws.{one_spelled, not_both, one_fault}
 use Rattle.j39_id.specs.Lines.{Line, Short, Long, lines}
 use Rattle.j39_id.specs.Services.{connection_management, data_transfer}
@@ -24,9 +24,6 @@ use Rattle.j39_log.specs.LogPairs.{Seen}
 use Rattle.j39_log.specs.NamedReports.{named_report}
 use Rattle.j39_log.specs.ReadText.{IsFrameReport, IsGroupReport, IsLogText, IsMessageText, IsReadText, Past, ReadsFrame, ReadsLine}
 use Rattle.j39_log.specs.ReadText.{ReadsLines, count_line, heard_before, nothing_yet, passed_over, refused_plan_line, with_frame}
-
-some_same : {A : Type 0} (x y : A) → Some x ≡ Some y → x ≡ y
-some_same x y e = cc
 
 -- ---- a frame
 
@@ -51,7 +48,7 @@ one_group_report : (plan : Plan) (place : Option ℕ) (i : Ident) (bytes t u : L
     → IsGroupReport plan place i bytes t → IsGroupReport plan place i bytes u → t ≡ u
 one_group_report plan None i bytes t u a b = a ∙ sym b
 one_group_report plan (Some g) i bytes t u a b =
-    let same : a.value ≡ b.value = some_same a.value b.value (sym a.value_is ∙ b.value_is) in
+    let same : a.value ≡ b.value = same_Some a.value b.value (sym a.value_is ∙ b.value_is) in
     a.meets ∙ ap (λ (group : GroupPlan). named_report plan group i bytes) same ∙ sym b.meets
 
 one_message_text : (plan : Plan) (h : List Packet) (place : ℕ) (i : Ident) (t u : List ℕ)

@@ -1,5 +1,6 @@
 -- Plans without names.
-use Rattle.std.proofs.Common.{◌≡◌, ◌==◌, ℕ, zero, suc, ◌+◌, ◌*◌, Bool, true, false, if◌then◌else◌, ℤ, List, [], ◌∷◌, ◌++◌, map, length, get_or, Option, Some, None, All, refl, ap, ◌∙◌, arith}
+use Rattle.std.proofs.Common.{◌≡◌, ◌==◌, ℕ, zero, suc, ◌+◌, ◌*◌, Bool, true, false, if◌then◌else◌, ℤ, List, [], ◌∷◌, ◌++◌, map, length, get_or, Option, Some}
+use Rattle.std.proofs.Common.{None, All, refl, ap, ◌∙◌, arith}
 use Rattle.std.proofs.Math.Path.{fun_ext}
 use Rattle.std.specs.Prelude.{is_none, option_map, unsigned_abs}
 use Rattle.std.specs.List.{filter, find, list_all, zip}
@@ -22,7 +23,8 @@ use Rattle.j39_network.specs.declared.plan.meaning.Meaning.{Meaning}
 use Rattle.j39_log.specs.LogReports as plain
 use Rattle.j39_log.specs.TextLines.{text_lines}
 use Rattle.j39_log.specs.NamedReports as named
-use Rattle.j39_log.specs.NamedReports.{HasNoMeanings, NamedSignal, NumberNames, Numbered, StatesAlone, all_numbered, first_names, is_numbered, meaning_names, named_signals, numbered_as, numbered_signals, parameter_names, named_reading_lines}
+use Rattle.j39_log.specs.NamedReports.{HasNoMeanings, NamedSignal, NumberNames, Numbered, StatesAlone, all_numbered, first_names, is_numbered, meaning_names}
+use Rattle.j39_log.specs.NamedReports.{named_signals, numbered_as, numbered_signals, parameter_names, named_reading_lines}
 use Rattle.j39_log.specs.inside.NameTables.{has_no_meaning, has_no_meanings}
 
 -- no number has a name
@@ -41,7 +43,7 @@ no_suffix false = refl
 code_alone : (code : ℕ) → named.named_code_text nothing code ≡ plain.code_text code
 unfolding named.named_code_text named.parameter_name_text
 code_alone code =
-    ap (λ (t : List ℕ). plain.code_text code ++ t) (no_suffix (named.tells_parameter code)) ∙ append-nil (plain.code_text code)
+    ap (λ (t : List ℕ). plain.code_text code ++ t) (no_suffix (named.has_parameter code)) ∙ append-nil (plain.code_text code)
 
 value_alone : (kind : Kind) (per : ℕ) (unit : List ℕ) (v : ℤ) → named.named_value_text nothing kind per unit v ≡ plain.value_text kind per unit v
 unfolding named.named_value_text plain.value_text

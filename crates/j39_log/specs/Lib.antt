@@ -1,8 +1,10 @@
+pub mod LineCounting
 pub mod LogFrames
 pub mod LogPairs
 pub mod LogReports
 pub mod NamedReports
 pub mod OlderPlans
 pub mod ReadText
+pub mod ReportedLogs
 pub mod TextLines
 pub mod inside

@@ -1,5 +1,6 @@
 -- The lines that report a group of a plan, with the names that the plan has: of raw numbers of a signal, and of suspect parameters.
-use Rattle.std.specs.Prelude.{◌≡◌, ℕ, zero, suc, false, ◌+◌, ◌*◌, ◌/◌, ◌%◌, ◌^◌, not, ◌&&◌, ℤ, unsigned_abs, Bool, List, [], ◌∷◌, ◌++◌, ◌==◌, if◌then◌else◌, length, map, All, Option, None, option_map, codes}
+use Rattle.std.specs.Prelude.{◌≡◌, ℕ, zero, suc, false, ◌+◌, ◌*◌, ◌/◌, ◌%◌, ◌^◌, not, ◌&&◌, ℤ, unsigned_abs, Bool, List, [], ◌∷◌, ◌++◌, ◌==◌, if◌then◌else◌}
+use Rattle.std.specs.Prelude.{length, map, All, Option, None, option_map, codes}
 use Rattle.std.specs.List.{filter, find, zip}
 use Rattle.std.specs.Option.{option_map_or}
 use Rattle.j39_id.specs.declared.ident.Ident.{Ident}
@@ -74,12 +75,12 @@ unfoldable pub parameter_name_text : NumberNames → ℕ → List ℕ
 parameter_name_text parameters spn = option_map_or (λ name. codes " " ++ name) (parameters spn) []
 
 -- what a trouble code says tells a suspect parameter
-abbrev pub tells_parameter : ℕ → Bool
-tells_parameter code = not (code == 0) && code / 2 ^ 31 % 2 == 0
+abbrev pub has_parameter : ℕ → Bool
+has_parameter code = not (code == 0) && code / 2 ^ 31 % 2 == 0
 
 unfoldable pub named_code_text : NumberNames → ℕ → List ℕ
 named_code_text parameters code =
-    plain.code_text code ++ (if tells_parameter code then parameter_name_text parameters (suspect_parameter code) else [])
+    plain.code_text code ++ (if has_parameter code then parameter_name_text parameters (suspect_parameter code) else [])
 
 unfoldable pub named_value_text : NumberNames → Kind → ℕ → List ℕ → ℤ → List ℕ
 named_value_text parameters Dtc per unit v = named_code_text parameters (unsigned_abs v)

@@ -35,5 +35,6 @@ ValuesAreShownWhole = (s : SignalParts) (v : ℤ) → IsOlderKind s.kind → s.p
 
 -- a group without records, texts and optional signals is reported by its signals alone
 abbrev pub SignalsAlone : Type 0
-SignalsAlone = (group : GroupPlan) (i : Ident) (bytes : List ℕ) → group.every ≡ None → group.texts.items ≡ [] → All (λ s. s.optional ≡ false) group.signals.items
+SignalsAlone =
+    (group : GroupPlan) (i : Ident) (bytes : List ℕ) → group.every ≡ None → group.texts.items ≡ [] → All (λ s. s.optional ≡ false) group.signals.items
     → group_report group i bytes ≡ group_line group i bytes ++ signal_lines group.signals.items bytes

@@ -24,16 +24,16 @@ pub enum CatalogError {
     Memory,
 }
 
-/// Where the groups of one number stand: from the first of them to behind the last. In a plan without findings it is one group, or
-/// they are private.
+/// Where the groups of one number stand: from the first of them to behind the last. In a plan without findings it is
+/// one group, or they are private.
 #[derive(Clone, Copy)]
 pub struct Span {
     pub first: usize,
     pub end: usize,
 }
 
-/// The groups of a plan: by place what their reports begin with, their layouts and what stands around the values of their
-/// signals, the names that the plan has, by its number where they stand, and where their flows begin.
+/// The groups of a plan: by place what their reports begin with, their layouts and what stands around the values of
+/// their signals, the names that the plan has, by its number where they stand, and where their flows begin.
 #[derive(Drop)]
 pub(crate) struct Catalog {
     pub heads: Vec<TextBuffer>,

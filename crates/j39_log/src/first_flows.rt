@@ -8,7 +8,8 @@ use j39_network::limits::GROUP_LIMIT;
 
 // The flows of a group begin at this place.
 fn begin(starts: &mut [usize; GROUP_LIMIT], group: usize, place: usize)
-    ensures { (g : ℕ) → g < group_limit → start_at starts.new g ≡ (if group == g then place else start_at starts.old g) }
+    ensures { (g : ℕ) → g < group_limit
+        → start_at starts.new g ≡ (if group == g then place else start_at starts.old g) }
 {
     if group < GROUP_LIMIT {
         starts[group] = place;

@@ -47,7 +47,8 @@ fn write_scaled(
     line: &ValueLine,
     value: i64,
 ) -> Result<(), AllocError>
-    ensures { OnOk result (text.new ≡ text.old ++ (line.now.before ++ (quotient_text signal.now.per value ++ line.now.after))) }
+    ensures { OnOk result (text.new ≡ text.old
+        ++ (line.now.before ++ (quotient_text signal.now.per value ++ line.now.after))) }
 {
     text.bytes(line.before.as_slice())?;
     write_number(text, value, signal.per())?;
@@ -56,7 +57,8 @@ fn write_scaled(
 
 // The line of a raw number that is no value, behind the word for it.
 fn write_raw(text: &mut TextBuffer, signal: &Signal, word: &str, raw: u32) -> Result<(), AllocError>
-    ensures { OnOk result (text.new ≡ text.old ++ (codes "  " ++ (signal.now.label.bytes ++ (field word.now raw ++ 10 ∷ [])))) }
+    ensures { OnOk result (text.new ≡ text.old
+        ++ (codes "  " ++ (signal.now.label.bytes ++ (field word.now raw ++ 10 ∷ [])))) }
 {
     text.word("  ")?;
     text.word(signal.label().as_str())?;
@@ -123,7 +125,8 @@ fn write_single(
     }
 }
 
-// The signals of a group that aren't repeated, of those that aren't optional all, and of the others those that are there.
+// The signals of a group that aren't repeated, of those that aren't optional all, and of the others those that are
+// there.
 fn write_signals(
     text: &mut TextBuffer,
     signals: &[Signal],
@@ -134,7 +137,8 @@ fn write_signals(
     requires signals { layout.now.signals ≡ signals.now }
     requires lines { lines.now ≡ map value_line_of signals.now }
     requires bytes { layout.now.length ≤ length bytes.now }
-    ensures { OnOk result (text.new ≡ text.old ++ signal_lines (single_signals (length bytes.now) signals.now) bytes.now) }
+    ensures { OnOk result (text.new ≡ text.old
+        ++ signal_lines (single_signals (length bytes.now) signals.now) bytes.now) }
 {
     for (place, signal) in signals.iter().enumerate() {
         write_single(text, &lines[place], layout, signal, place, bytes)?;
@@ -142,7 +146,8 @@ fn write_signals(
     Ok(())
 }
 
-/// Writes two digits for each byte. Those of a full frame are written apart, which is faster since their count is known there.
+/// Writes two digits for each byte. Those of a full frame are written apart, which is faster since their count is known
+/// there.
 #[inline(always)]
 pub fn write_digits(text: &mut TextBuffer, bytes: &[u8]) -> Result<(), AllocError>
     ensures { OnOk result (text.new ≡ text.old ++ encode_upper bytes.now) }
@@ -230,7 +235,8 @@ pub(super) fn write_report(
     requires names { HasTables group.now names }
     requires lines { lines.now ≡ value_lines_of group.now }
     requires bytes { layout.now.length ≤ length bytes.now }
-    ensures { OnOk result (text.new ≡ text.old ++ (group_line group.now ident bytes.now ++ lines_by names.entry group.now bytes.now)) }
+    ensures { OnOk result (text.new ≡ text.old
+        ++ (group_line group.now ident bytes.now ++ lines_by names.entry group.now bytes.now)) }
 {
     write_group_line(text, head, ident, bytes)?;
     write_readings(text, group, names, lines, layout, bytes)

@@ -112,10 +112,12 @@ impl<'a> Groups<'a> {
         &self.plan.groups[place]
     }
 
-    /// The place of the first flow of the group at a place, or how many flows there are; 0 at a place that no group can have.
+    /// The place of the first flow of the group at a place, or how many flows there are; 0 at a place that no group can
+    /// have.
     pub fn first_flow(&self, place: usize) -> usize
         ensures first { place < group_limit → result ≡ first_flow place self.now.flows.items }
-        ensures before { (k : ℕ) (flow : APlannedFlow) → k < result → is_flow_of place (get_or self.now.flows.items k flow) ≡ false }
+        ensures before { (k : ℕ) (flow : APlannedFlow) → k < result
+            → is_flow_of place (get_or self.now.flows.items k flow) ≡ false }
     {
         if place < GROUP_LIMIT {
             self.catalog.flows[place]

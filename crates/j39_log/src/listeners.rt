@@ -1,9 +1,11 @@
 //! A listener for each pair of addresses.
-ghost use Rattle.std.specs.Prelude.{◌≡◌, ◌≢◌, ◌<◌, ◌==◌, ℕ, [], true, false, vec_len, None, OnOk, IfOk, IfSome, IfNone, if◌then◌else◌};
+ghost use Rattle.std.specs.Prelude.{◌≡◌, ◌≢◌, ◌<◌, ◌==◌, ℕ, [], true, false, vec_len, None, OnOk, IfOk, IfSome, IfNone};
+ghost use Rattle.std.specs.Prelude.{if◌then◌else◌};
 ghost use Rattle.j39_tp.specs.Packets.{is_announcement};
 ghost use Rattle.j39_tp.specs.Receiver.{fresh, message_of, receives};
 ghost use Rattle.j39_tp.specs.declared.receiving.manner.Manner.TheVariants.{Listening};
-ghost use Rattle.j39_log.specs.inside.Listening.{HasListener, completed_group, is_of_pair, is_pair, listener_at, listener_in};
+ghost use Rattle.j39_log.specs.inside.Listening.{HasListener, completed_group, is_of_pair, is_pair, listener_at};
+ghost use Rattle.j39_log.specs.inside.Listening.{listener_in};
 ghost use Rattle.j39_log.specs.inside.Listening.{listener_of_pair, slots_at};
 ghost use Rattle.j39_log.specs.LogPairs.{is_abort as aborts, is_heard_by};
 
@@ -14,7 +16,8 @@ use std::alloc::{AllocError, Global};
 // A place for the listener of one source to each destination, up to the greatest that was announced to.
 type Row = Vec<Option<Box<Receiver>>>;
 
-/// A listener for each pair of addresses that had an announcement: a row for each source, up to the greatest that announced.
+/// A listener for each pair of addresses that had an announcement: a row for each source, up to the greatest that
+/// announced.
 #[derive(Drop)]
 pub struct Listeners {
     alloc: Global,
@@ -69,7 +72,7 @@ fn fill(alloc: Global, slot: &mut Option<Box<Receiver>>) -> Result<(), AllocErro
 // The group of the message that the packet completes of a listener.
 fn hear_by_one(listener: &mut Receiver, packet: &Packet) -> Option<Pgn>
     ensures heard { listener.new ≡ receives listener.old packet.now }
-    ensures told { result ≡ completed_group listener.old packet.now }
+    ensures group { result ≡ completed_group listener.old packet.now }
 {
     if listener.hear(packet).is_complete() {
         listener.group()
@@ -82,7 +85,7 @@ fn hear_by_one(listener: &mut Receiver, packet: &Packet) -> Option<Pgn>
 fn hear_in(slot: &mut Option<Box<Receiver>>, packet: &Packet) -> Option<Pgn>
     requires { is_announcement packet.now ≡ true → slot.old ≢ None }
     ensures heard { listener_in slot.new ≡ receives (listener_in slot.old) packet.now }
-    ensures told { result ≡ completed_group (listener_in slot.old) packet.now }
+    ensures group { result ≡ completed_group (listener_in slot.old) packet.now }
 {
     match slot {
         Some(listener) => hear_by_one(listener, packet),
@@ -102,9 +105,10 @@ fn open_in(alloc: Global, row: &mut Row, destination: usize) -> Result<(), Alloc
 // The group of the message that the packet completes of the listener at a place of a row.
 fn hear_at(row: &mut Row, destination: usize, packet: &Packet) -> Option<Pgn>
     requires { is_announcement packet.now ≡ true → HasListener row.old.items destination }
-    ensures heard { listener_at row.new.items destination ≡ receives (listener_at row.old.items destination) packet.now }
+    ensures heard { listener_at row.new.items destination
+        ≡ receives (listener_at row.old.items destination) packet.now }
     ensures others { (d : ℕ) → d ≢ destination → listener_at row.new.items d ≡ listener_at row.old.items d }
-    ensures told { result ≡ completed_group (listener_at row.old.items destination) packet.now }
+    ensures group { result ≡ completed_group (listener_at row.old.items destination) packet.now }
 {
     if row.len() <= destination {
         return None;
@@ -142,14 +146,15 @@ impl Listeners {
         open_in(self.alloc, &mut self.rows[source], destination)
     }
 
-    // The group of the message of the pair that the packet completes. The pair has a listener where the packet opens a session.
+    // The group of the message of the pair that the packet completes. The pair has a listener where the packet opens a
+    // session.
     fn hear_by(&mut self, source: usize, destination: usize, packet: &Packet) -> Option<Pgn>
         requires { is_announcement packet.now ≡ true → HasListener (slots_at self.old.rows.items source) destination }
         ensures heard { listener_of_pair self.new.rows.items source destination
             ≡ receives (listener_of_pair self.old.rows.items source destination) packet.now }
         ensures others { (s d : ℕ) → is_pair source destination s d ≡ false
             → listener_of_pair self.new.rows.items s d ≡ listener_of_pair self.old.rows.items s d }
-        ensures told { result ≡ completed_group (listener_of_pair self.old.rows.items source destination) packet.now }
+        ensures group { result ≡ completed_group (listener_of_pair self.old.rows.items source destination) packet.now }
     {
         if self.rows.len() <= source {
             return None;
@@ -168,7 +173,7 @@ impl Listeners {
             ≡ receives (listener_of_pair self.old.rows.items source destination) packet.now) }
         ensures others { (s d : ℕ) → is_pair source destination s d ≡ false
             → listener_of_pair self.new.rows.items s d ≡ listener_of_pair self.old.rows.items s d }
-        ensures told { IfOk result (λ group. group ≡ completed_group (listener_of_pair self.old.rows.items source destination) packet.now) }
+        ensures group { IfOk result (λ group. group ≡ completed_group (listener_of_pair self.old.rows.items source destination) packet.now) }
     {
         let source = usize::from(source);
         let destination = usize::from(destination);
@@ -225,8 +230,8 @@ impl Listeners {
     }
 }
 
-/// The group of the message that the packet completes of the pair that it is sent from and to. An Abort is heard both ways
-/// round.
+/// The group of the message that the packet completes of the pair that it is sent from and to. An Abort is heard both
+/// ways round.
 pub fn listen(
     listeners: &mut Listeners,
     ident: Ident,
@@ -237,7 +242,7 @@ pub fn listen(
         ≡ (if is_heard_by source destination ident packet.now
         then receives (listener_of_pair listeners.old.rows.items source destination) packet.now
         else listener_of_pair listeners.old.rows.items source destination)) }
-    ensures told { IfOk result (λ group. group ≡ completed_group (listener_of_pair listeners.old.rows.items ident.sa ident.ps) packet.now) }
+    ensures group { IfOk result (λ group. group ≡ completed_group (listener_of_pair listeners.old.rows.items ident.sa ident.ps) packet.now) }
 {
     if is_abort(packet) && ident.sa != ident.ps {
         listeners.hear(ident.ps, ident.sa, packet)?;

@@ -1,48 +1,72 @@
-//! A reading of a log by the groups of a plan.
+//! A reader of logs, whatever reports their lines.
 use crate::groups::Groups;
-use crate::log_reading::Reading;
+use crate::line_counts::LineCounts;
+use crate::log_report::LogReport;
 use j39_id::Cut;
 use j39_stream::{Fault, LineReader, Sink, Verdict};
-use j39_text::put_text;
+use j39_text::{TextBuffer, put_text};
 use std::alloc::AllocError;
 
-/// A reading of a log by the groups of a plan.
+/// A reader of a log by the groups of a plan: it counts its lines, and keeps what is reported of them until it is put.
 #[derive(Drop)]
-pub(crate) struct LogReader<'a> {
+pub(crate) struct LogReader<'a, R> {
     pub groups: &'a Groups<'a>,
-    pub reading: Reading,
+    pub report: &'a mut R,
+    pub counts: LineCounts,
+    // The number of the last line that was read, counted from 1.
+    pub number: u64,
+    pub text: TextBuffer,
 }
 
-impl<'a> LineReader for LogReader<'a> {
-    ghost use Rattle.std.specs.Prelude.{◌≡◌, ◌≤◌, true};
-    ghost use Rattle.j39_log.specs.ReadText.{IsLogText};
-    ghost use Rattle.j39_log.specs.inside.ReadSoFar.{HasReadLines, counted};
+impl<'a, R: LogReport> LineReader for LogReader<'a, R> {
+    ghost use Rattle.std.specs.Prelude.{◌≡◌, ◌≤◌, ◌++◌, length, true};
+    ghost use Rattle.j39_log.specs.LineCounting.{AreWithin};
     ghost use Rattle.j39_stream.specs.declared.verdict.Verdict.TheVariants.{Done};
 
-    ghost text = { λ reader. reader.reading.text };
+    ghost text = { λ reader. reader.text };
 
     ghost goes = { λ _. true };
 
-    ghost has_read = { λ reader told written. HasReadLines reader.groups.now told reader.reading written };
+    ghost has_read = { λ reader ls written. (reader.number ≡ length ls)
+        × R.has_reported reader.report.now reader.groups.now reader.counts ls (written ++ reader.text) };
 
-    ghost is_text = { λ reader log text verdict. IsLogText reader.groups.now log text × (verdict ≡ Done) };
+    ghost is_text = { λ reader log text verdict. R.is_log_text reader.report.now reader.groups.now log text
+        × (verdict ≡ Done) };
 
-    ghost within = { λ reader most. counted reader.reading ≤ most };
+    ghost within = { λ reader most. (reader.number ≤ most) × AreWithin reader.counts most };
 
     fn goes_on(&self) -> bool {
         true
     }
 
     fn read(&mut self, cut: Cut, line: &[u8]) -> Result<(), AllocError> {
-        self.reading.read_cut(self.groups, cut, line)
+        match cut {
+            Cut::More => Ok(()),
+            Cut::Line => {
+                self.number += 1;
+                self.report.read_line(
+                    self.groups,
+                    self.number,
+                    line,
+                    &mut self.counts,
+                    &mut self.text,
+                )
+            }
+            Cut::Long => {
+                self.number += 1;
+                self.counts.bad += 1;
+                Ok(())
+            }
+        }
     }
 
     fn close(&mut self) -> Result<Verdict, AllocError> {
-        self.reading.write_counts()?;
+        self.report
+            .write_end(self.groups, &self.counts, &mut self.text)?;
         Ok(Verdict::Done)
     }
 
     fn put<W: Sink>(&mut self, sink: &mut W) -> Result<(), Fault> {
-        put_text(sink, &mut self.reading.text)
+        put_text(sink, &mut self.text)
     }
 }

@@ -1,49 +1,19 @@
 //! What the read command writes.
-ghost use Rattle.std.specs.Prelude.{◌≡◌, IfOk};
-ghost use Rattle.j39_log.specs.ReadText.{IsReadText, IsRefused, refused_plan_line};
-ghost use Rattle.j39_stream.specs.CommandEnds.{AnswersInPieces, PutsText};
+ghost use Rattle.j39_log.specs.ReadText.{IsReadText};
+ghost use Rattle.j39_stream.specs.CommandEnds.{AnswersInPieces};
 ghost use Rattle.j39_stream.specs.Streams.{log_limits};
 
-use crate::catalog::CatalogError;
-use crate::groups::Groups;
-use crate::log_reader::LogReader;
-use crate::log_reading::Reading;
+use crate::address_report::AddressReport;
+use crate::reported_log::report_log;
 use j39_network::Plan;
-use j39_stream::{Fault, LOG_LIMITS, Sink, Source, Verdict, put_all, read_lines};
-use j39_text::{TextBuffer, group_label};
-use std::alloc::{AllocError, Global};
-
-// The line of a refused plan.
-#[tactic(auto, unfolding(crate::specs::ReadText::refused_plan_line))]
-fn refusal(alloc: Global, plan: &Plan, group: usize) -> Result<TextBuffer, AllocError>
-    ensures { IfOk result (λ text. text ≡ refused_plan_line plan.now group) }
-{
-    let mut text = TextBuffer::new(alloc);
-    text.word("refused plan BadGroup ")?;
-    text.word(group_label(plan, group))?;
-    text.end_line()?;
-    Ok(text)
-}
-
-/// Writes why no log can be read with the plan: by this group.
-pub fn refuse<W: Sink>(
-    alloc: Global,
-    plan: &Plan,
-    group: usize,
-    sink: &mut W,
-) -> Result<Verdict, Fault>
-    ensures { PutsText (IsRefused plan.now group) W.state sink.old sink.new result }
-{
-    let text = refusal(alloc, plan, group)?;
-    put_all(sink, text.as_slice())?;
-    Ok(Verdict::Refused)
-}
+use j39_stream::{Fault, Sink, Source, Verdict};
+use std::alloc::Global;
 
 /// Writes what a log says of the groups of a plan: a report for each frame of a planned group and for each message that
 /// transport packets carry, and how many lines were read as frames, skipped and bad.
 ///
-/// The lines of the log are those that `read_frame` reads. Of a plan with a group that has no layout, or whose number is
-/// no group's, the first such group is named, and the log isn't read.
+/// The lines of the log are those that `read_frame` reads. Of a plan with a group that has no layout, or whose number
+/// is no group's, the first such group is named, and the log isn't read.
 pub fn read_text<S: Source, W: Sink>(
     alloc: Global,
     plan: &Plan,
@@ -52,16 +22,6 @@ pub fn read_text<S: Source, W: Sink>(
 ) -> Result<Verdict, Fault>
     ensures { AnswersInPieces (IsReadText plan.now) log_limits (S.state source.old) (S.state source.new) W.state sink.old sink.new result }
 {
-    match Groups::new(alloc, plan) {
-        Ok(groups) => {
-            let reading = Reading::new(alloc);
-            let mut reader = LogReader {
-                groups: &groups,
-                reading,
-            };
-            read_lines(LOG_LIMITS, &mut reader, source, sink)
-        }
-        Err(CatalogError::Memory) => Err(Fault::Memory),
-        Err(CatalogError::BadGroup(group)) => refuse(alloc, plan, group, sink),
-    }
+    let mut report = AddressReport::new(alloc);
+    report_log(alloc, plan, &mut report, source, sink)
 }

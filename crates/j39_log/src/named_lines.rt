@@ -6,7 +6,11 @@ ghost use Rattle.j39_signal.specs.Bits.{raw_of};
 ghost use Rattle.j39_signal.specs.State.{shown_of};
 ghost use Rattle.j39_network.specs.Records.{record_count, record_signals as plain_records, stands_once};
 ghost use Rattle.j39_log.specs.LogReports.{suspect_parameter as parameter_of};
-ghost use Rattle.j39_log.specs.NamedReports.{all_named_records_lines, named_code_text, named_lines, parameter_name_text, raw_text, named_record_line, named_record_lines, named_record_signals, named_records_lines, named_signal_line, named_signal_lines, named_single_signals, named_state_text, named_value_text};
+ghost use Rattle.j39_log.specs.NamedReports.{all_named_records_lines, named_code_text, named_lines};
+ghost use Rattle.j39_log.specs.NamedReports.{parameter_name_text, raw_text, named_record_line, named_record_lines};
+ghost use Rattle.j39_log.specs.NamedReports.{named_record_signals, named_records_lines, named_signal_line};
+ghost use Rattle.j39_log.specs.NamedReports.{named_signal_lines, named_single_signals, named_state_text};
+ghost use Rattle.j39_log.specs.NamedReports.{named_value_text};
 ghost use Rattle.j39_log.specs.inside.NameTables.{named_by, names_in};
 
 use crate::name_table::NameTable;
@@ -61,7 +65,8 @@ fn write_value(
     signal: &Signal,
     value: i64,
 ) -> Result<(), AllocError>
-    ensures { OnOk result (text.new ≡ text.old ++ named_value_text (names_in parameters.now) signal.now.kind signal.now.per signal.now.unit.bytes value) }
+    ensures { OnOk result (text.new ≡ text.old
+        ++ named_value_text (names_in parameters.now) signal.now.kind signal.now.per signal.now.unit.bytes value) }
 {
     match signal.kind() {
         Kind::Dtc => write_named_code(text, parameters, value.unsigned_abs()),
@@ -93,7 +98,8 @@ fn write_shown(
     shown: Shown,
 ) -> Result<(), AllocError>
     requires { shown ≡ shown_of signal.now shown.raw }
-    ensures { OnOk result (text.new ≡ text.old ++ raw_text (names_in parameters.now) (signal.now, names_in values.now) shown.raw) }
+    ensures { OnOk result (text.new ≡ text.old
+        ++ raw_text (names_in parameters.now) (signal.now, names_in values.now) shown.raw) }
 {
     match values.get(shown.raw) {
         Some(name) => {
@@ -149,7 +155,8 @@ fn write_single(
     }
 }
 
-// The signals of a group that aren't repeated, of those that aren't optional all, and of the others those that are there.
+// The signals of a group that aren't repeated, of those that aren't optional all, and of the others those that are
+// there.
 fn write_signals(
     text: &mut TextBuffer,
     values: &[NameTable],
@@ -306,8 +313,8 @@ fn write_records(
     }
 }
 
-/// Writes what the signals, the records and the texts of a group read, with the names that the plan has. Few plans have any, so this is
-/// no part of the code that writes a report without.
+/// Writes what the signals, the records and the texts of a group read, with the names that the plan has. Few plans have
+/// any, so this is no part of the code that writes a report without.
 #[inline(never)]
 #[tactic(auto, unfolding(crate::specs::NamedReports::named_lines))]
 pub(crate) fn write_named(

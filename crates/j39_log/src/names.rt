@@ -1,8 +1,10 @@
 //! The names that a plan has: of raw numbers of its signals, and of suspect parameters.
 ghost use Rattle.std.specs.Prelude.{◌≡◌, ◌≢◌, ◌<◌, ◌++◌, [], ◌∷◌, List, length, map, true, IfOk, OnOk, OnErr, IsTrue};
 ghost use Rattle.std.specs.List.{list_all};
-ghost use Rattle.j39_log.specs.NamedReports.{Numbered, HasNoMeanings, first_names, meaning_names, numbered_signals, all_numbered, value_names};
-ghost use Rattle.j39_log.specs.inside.NameTables.{AreNamesOf, has_no_meaning, has_no_meanings, names_in, signal_name, names_of_tables, value_names_of};
+ghost use Rattle.j39_log.specs.NamedReports.{Numbered, HasNoMeanings, first_names, meaning_names, numbered_signals};
+ghost use Rattle.j39_log.specs.NamedReports.{all_numbered, value_names};
+ghost use Rattle.j39_log.specs.inside.NameTables.{AreNamesOf, has_no_meaning, has_no_meanings, names_in, signal_name};
+ghost use Rattle.j39_log.specs.inside.NameTables.{names_of_tables, value_names_of};
 
 use crate::name_table::NameTable;
 use j39_network::{GroupPlan, Meaning, Plan, ValueName};

@@ -17,7 +17,8 @@ pub fn write_group_readings(
     bytes: &[u8],
 ) -> Result<(), AllocError>
     requires { ValueAt (λ (group : APlannedGroup). group.length ≤ length bytes.now) groups.now.groups.items place }
-    ensures { OnOk result (ValueAt (λ (group : APlannedGroup). text.new ≡ text.old ++ named_reading_lines groups.now group bytes.now)
+    ensures { OnOk result (ValueAt (λ (group : APlannedGroup). text.new ≡ text.old
+        ++ named_reading_lines groups.now group bytes.now)
         groups.now.groups.items place) }
 {
     write_readings(

@@ -3,7 +3,8 @@ ghost use Rattle.std.specs.Prelude.{◌≡◌, ◌≤◌, ◌<◌, ◌+◌, ◌*
 ghost use Rattle.std.specs.List.{HoldsAt};
 ghost use Rattle.j39_signal.specs.Places.{IsInside, further};
 ghost use Rattle.j39_network.specs.Records.{record_count, record_signals};
-ghost use Rattle.j39_log.specs.LogReports.{all_records_lines, record_line, record_lines, records_lines, scaled_text, signal_state_text, value_text};
+ghost use Rattle.j39_log.specs.LogReports.{all_records_lines, record_line, record_lines, records_lines, scaled_text};
+ghost use Rattle.j39_log.specs.LogReports.{signal_state_text, value_text};
 
 use crate::trouble_code::write_code;
 use crate::value_line::write_unit;
@@ -27,7 +28,8 @@ pub(crate) fn write_scaled(
 
 // Writes a value, which of a trouble code is its raw number.
 fn write_value(text: &mut TextBuffer, signal: &Signal, value: i64) -> Result<(), AllocError>
-    ensures { OnOk result (text.new ≡ text.old ++ value_text signal.now.kind signal.now.per signal.now.unit.bytes value) }
+    ensures { OnOk result (text.new ≡ text.old
+        ++ value_text signal.now.kind signal.now.per signal.now.unit.bytes value) }
 {
     match signal.kind() {
         Kind::Dtc => write_code(text, value.unsigned_abs()),
@@ -82,7 +84,8 @@ fn write_repeated(
     requires place { i < length layout.now.signals }
     requires at { HoldsAt (λ s. s ≡ signal.now) layout.now.signals i }
     requires inside { signal.now.repeated ≡ true → IsInside (length bytes.now) (further behind signal.now) }
-    ensures { OnOk result (text.new ≡ text.old ++ record_lines place (record_signals behind (signal.now ∷ [])) bytes.now) }
+    ensures { OnOk result (text.new ≡ text.old
+        ++ record_lines place (record_signals behind (signal.now ∷ [])) bytes.now) }
 {
     if signal.is_repeated() {
         write_line(text, place, signal, layout.read_further(bytes, i, behind))

@@ -22,8 +22,10 @@ fn is_sent_to(packet: &Packet, destination: u8) -> bool
 
 // The connection management packet that a frame of that group is.
 fn management_packet(frame: &Frame) -> Option<Packet>
-    ensures found { IfSome result (λ p. ManagementReads frame.now.payload.items p × IsSentTo p frame.now.ident.ps × InRange p) }
-    ensures none { IfNone result ((p : APacket) → ManagementReads frame.now.payload.items p → ¬ IsSentTo p frame.now.ident.ps) }
+    ensures found { IfSome result (λ p. ManagementReads frame.now.payload.items p × IsSentTo p frame.now.ident.ps
+        × InRange p) }
+    ensures none { IfNone result ((p : APacket) → ManagementReads frame.now.payload.items p
+        → ¬ IsSentTo p frame.now.ident.ps) }
 {
     let Ok(packet) = from_cm(frame.payload.as_slice()) else {
         return None;

@@ -1,6 +1,7 @@
 //! The line of a diagnostic trouble code.
 ghost use Rattle.std.specs.Prelude.{◌≡◌, [], ◌∷◌, ◌++◌, codes, OnOk};
-ghost use Rattle.j39_log.specs.LogReports.{code_text, count_text, failure_mode, parameter_text, raw_code_text, suspect_parameter};
+ghost use Rattle.j39_log.specs.LogReports.{code_text, count_text, failure_mode, parameter_text, raw_code_text};
+ghost use Rattle.j39_log.specs.LogReports.{suspect_parameter};
 
 use j39_signal::Signal;
 use j39_text::TextBuffer;
@@ -56,14 +57,16 @@ pub(crate) fn write_code(text: &mut TextBuffer, code: u64) -> Result<(), AllocEr
     }
 }
 
-/// Writes what a trouble code says, behind the label of its signal. Few signals are codes: the loop over signals is faster without it.
+/// Writes what a trouble code says, behind the label of its signal. Few signals are codes: the loop over signals is
+/// faster without it.
 #[inline(never)]
 pub(crate) fn write_code_line(
     text: &mut TextBuffer,
     signal: &Signal,
     code: u64,
 ) -> Result<(), AllocError>
-    ensures { OnOk result (text.new ≡ text.old ++ (codes "  " ++ (signal.now.label.bytes ++ (code_text code ++ 10 ∷ [])))) }
+    ensures { OnOk result (text.new ≡ text.old
+        ++ (codes "  " ++ (signal.now.label.bytes ++ (code_text code ++ 10 ∷ [])))) }
 {
     text.word("  ")?;
     text.word(signal.label().as_str())?;

@@ -6,7 +6,7 @@ use Rattle.std.proofs.Math.Pow.{shr_mono}
 use Rattle.std.proofs.lemmas.Bool.{cases_Bool, cases_lt, false≢true}
 use Rattle.std.proofs.lemmas.Bool.Decides.{Decides-ltb}
 use Rattle.j39_id.specs.Name.{is_arbitrary}
-use Rattle.j39_network.specs.Kinds.{kind_of_name, MayBeOne, AreToldApart}
+use Rattle.j39_network.specs.Kinds.{kind_of_name, MayBeOne, AreDistinctUnits}
 use Rattle.j39_network.specs.VehiclePlans.{IsBoxOf}
 use Rattle.j39_network.specs.declared.plan.Plan.{Plan}
 use Rattle.j39_network.specs.declared.plan.unit_plan.UnitPlan.{UnitPlan}
@@ -20,7 +20,7 @@ turned u v (kinds, inr (inl any)) = (sym kinds, inr (inr any))
 turned u v (kinds, inr (inr any)) = (sym kinds, inr (inl any))
 
 -- units at two places of a plan in which all are told apart
-pub apart_at : (plan : Plan) → AreToldApart plan → (i j : ℕ) (u v : UnitPlan) → slice_get plan.units.items i ≡ Some u
+pub apart_at : (plan : Plan) → AreDistinctUnits plan → (i j : ℕ) (u v : UnitPlan) → slice_get plan.units.items i ≡ Some u
     → slice_get plan.units.items j ≡ Some v → i ≢ j → ¬ MayBeOne u v
 apart_at plan apart i j u v first second other one = elim (cases_lt i j) [
   | inl below ↦ apart i j (record { first = u; second = v; below = below; first_is = first; second_is = second; related = one })

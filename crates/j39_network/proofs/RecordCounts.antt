@@ -15,7 +15,8 @@ use Rattle.j39_network.specs.Records.{signals_in, RecordsAreCounted}
 
 -- ---- where a record ends
 
-inside_with : (bytes n : ℕ) (b : Bool) (s : SignalParts) (rest : ℕ) (others : List SignalParts) → (rest + 8 * n ≤ 8 * bytes → All (IsInside bytes) (map (further n) others))
+inside_with : (bytes n : ℕ) (b : Bool) (s : SignalParts) (rest : ℕ) (others : List SignalParts)
+    → (rest + 8 * n ≤ 8 * bytes → All (IsInside bytes) (map (further n) others))
     → max (if b then end_of s else 0) rest + 8 * n ≤ 8 * bytes
     → All (IsInside bytes) (map (further n) (if b then s ∷ others else others))
 inside_with bytes n true s rest others behind less =
@@ -28,7 +29,8 @@ unfolding last_end
 inside_from bytes n [] less = All-nil (IsInside bytes)
 inside_from bytes n (s ∷ rest) less = inside_with bytes n s.repeated s (last_end rest) (repeated_signals rest) (inside_from bytes n rest) less
 
-end_with : (bytes n : ℕ) (b : Bool) (s : SignalParts) (rest : ℕ) (others : List SignalParts) → (All (IsInside bytes) (map (further n) others) → rest + 8 * n ≤ 8 * bytes)
+end_with : (bytes n : ℕ) (b : Bool) (s : SignalParts) (rest : ℕ) (others : List SignalParts)
+    → (All (IsInside bytes) (map (further n) others) → rest + 8 * n ≤ 8 * bytes)
     → All (IsInside bytes) (map (further n) (if b then s ∷ others else others))
     → max (if b then end_of s else 0) rest + 8 * n ≤ 8 * bytes
 end_with bytes n true s rest others behind all =
@@ -37,7 +39,8 @@ end_with bytes n true s rest others behind all =
     omega (arith, here, later)
 end_with bytes n false s rest others behind all = let later = behind all in omega (arith, later)
 
-end_from : (bytes n : ℕ) (signals : List SignalParts) → 8 * n ≤ 8 * bytes → All (IsInside bytes) (record_signals n signals) → last_end signals + 8 * n ≤ 8 * bytes
+end_from : (bytes n : ℕ) (signals : List SignalParts) → 8 * n ≤ 8 * bytes → All (IsInside bytes) (record_signals n signals)
+    → last_end signals + 8 * n ≤ 8 * bytes
 unfolding last_end
 end_from bytes n [] room all = omega (arith, room)
 end_from bytes n (s ∷ rest) room all = end_with bytes n s.repeated s (last_end rest) (repeated_signals rest) (end_from bytes n rest room) all

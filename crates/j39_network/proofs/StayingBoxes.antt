@@ -9,7 +9,7 @@ use Rattle.std.proofs.lemmas.Slice.Zip.{AllZip-long}
 use Rattle.j39_id.specs.Addresses.{in_pool}
 use Rattle.j39_id.specs.Name.{is_arbitrary}
 use Rattle.j39_claim.specs.ClaimRule.{PlannedUnit}
-use Rattle.j39_network.specs.Kinds.{AreToldApart}
+use Rattle.j39_network.specs.Kinds.{AreDistinctUnits}
 use Rattle.j39_network.specs.VehiclePlans.{IsBoxOf, IsVehicleOf}
 use Rattle.j39_network.specs.declared.plan.Plan.{Plan}
 use Rattle.j39_network.specs.declared.plan.unit_plan.UnitPlan.{UnitPlan}
@@ -124,7 +124,7 @@ at_place first second (x ∷ xs) (y ∷ ys) all (suc k) = elim (at_place first s
   | inr none ↦ let beyond = none.beyond in inr (record { beyond = omega (arith, beyond); planned = none.planned; boxed = none.boxed })
 ]
 
-module _ (plan vehicle : Plan) (is : IsVehicleOf plan vehicle) (apart : AreToldApart plan) where
+module _ (plan vehicle : Plan) (is : IsVehicleOf plan vehicle) (apart : AreDistinctUnits plan) where
   abbrev us : List PlannedUnit
   us = units_of plan
 

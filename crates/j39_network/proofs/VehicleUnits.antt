@@ -9,7 +9,7 @@ use Rattle.j39_id.specs.Name.{is_arbitrary}
 use Rattle.j39_network.specs.declared.plan.Plan.{Plan}
 use Rattle.j39_network.specs.declared.plan.unit_plan.UnitPlan.{UnitPlan}
 use Rattle.j39_rules.specs.ListPlaces.{found_if, in_each, each, pairs}
-use Rattle.j39_network.specs.Kinds.{AreToldApart}
+use Rattle.j39_network.specs.Kinds.{AreDistinctUnits}
 use Rattle.j39_network.specs.VehiclePlans.{IsBoxOf, IsVehicleOf}
 use Rattle.j39_network.proofs.Boxes.{AreOrderedAlike, apart_at, same_choice, same_order}
 
@@ -76,7 +76,7 @@ module _ (u b : UnitPlan) (box : IsBoxOf u b) where
 
 -- ---- a plan and the plan of a vehicle
 
-module _ (plan vehicle : Plan) (is : IsVehicleOf plan vehicle) (apart : AreToldApart plan) where
+module _ (plan vehicle : Plan) (is : IsVehicleOf plan vehicle) (apart : AreDistinctUnits plan) where
   abbrev units : List UnitPlan
   units = plan.units.items
 
@@ -99,7 +99,7 @@ module _ (plan vehicle : Plan) (is : IsVehicleOf plan vehicle) (apart : AreToldA
       → AreOrderedAlike u v b c
   ordered i j u v b c first second one other differ = same_order u v b c (apart_at plan apart i j u v first second differ) one other
 
-  pub boxes_apart : AreToldApart vehicle
+  pub boxes_apart : AreDistinctUnits vehicle
   boxes_apart i j pair =
       let one = unit_of i pair.first pair.first_is in
       let other = unit_of j pair.second pair.second_is in

@@ -22,8 +22,8 @@ abbrev pub MayBeOneAt : Plan → ℕ → ℕ → Type 0
 MayBeOneAt plan i j = PairAt MayBeOne plan.units.items i j
 
 -- no two units of the plan may be one
-abbrev pub AreToldApart : Plan → Type 0
-AreToldApart plan = (i j : ℕ) → ¬ MayBeOneAt plan i j
+abbrev pub AreDistinctUnits : Plan → Type 0
+AreDistinctUnits plan = (i j : ℕ) → ¬ MayBeOneAt plan i j
 
 -- ---- as a test
 

@@ -35,16 +35,19 @@ pub use to::To;
 pub use unit_plan::UnitPlan;
 pub use way::Way;
 
-/// A plan of a network: at most 128 units, 256 groups, 512 flows, 4096 needs and 512 requests, named by their places from
+/// A plan of a network: at most 128 units, 256 groups, 512 flows, 4096 needs and 512 requests, named by their places
+/// from
 /// 0.
 /// No two units have one label, and no two groups.
 #[derive(Debug, Drop)]
 pub struct Plan {
     /// Addresses of 128 to 247 that no arbitrary unit may hold.
     pub keep_free: AddressSet,
-    /// How many units that stand in no plan and may choose may come beside these, at most 120: a service tool, units of another vehicle.
+    /// How many units that stand in no plan and may choose may come beside these, at most 120: a service tool, units of
+    /// another vehicle.
     pub strangers: u8,
-    /// Whether messages and single frames begin at any time, also while units claim, and units go off in the midst of a message.
+    /// Whether messages and single frames begin at any time, also while units claim, and units go off in the midst of a
+    /// message.
     pub live: bool,
     /// What is known of the bus itself, where its load and its delays are to be told.
     pub timing: Option<Timing>,

@@ -36,7 +36,8 @@ fn first_bytes(signals: &[Signal]) -> usize
     bytes as usize
 }
 
-/// Whether a signal of a group isn't repeated, and a message of so many bytes has it. It is asked at each signal of a frame.
+/// Whether a signal of a group isn't repeated, and a message of so many bytes has it. It is asked at each signal of a
+/// frame.
 #[inline(always)]
 pub fn stands_once(signal: &Signal, bytes: usize) -> bool
     ensures { result ≡ stands_once bytes signal.now }

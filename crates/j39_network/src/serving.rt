@@ -15,8 +15,8 @@ pub fn reaches(to: To, unit: usize) -> bool
     }
 }
 
-/// Whether the flow answers the request (SAE J1939-21, requests): it sends the group that is asked for to the unit that asks or to all,
-/// and its sender is another unit, and is asked.
+/// Whether the flow answers the request (SAE J1939-21, requests): it sends the group that is asked for to the unit that
+/// asks or to all, and its sender is another unit, and is asked.
 pub fn serves(request: &RequestPlan, flow: &FlowPlan) -> bool
     ensures { result ≡ serves request.now flow.now }
 {

@@ -5,8 +5,8 @@
 pub enum Step {
     /// The unit is switched on and claims the address that it prefers.
     Up(usize),
-    /// The unit is switched off. What was sent to it is gone, and what it told of addresses is heard later; on a live bus all that it
-    /// sent of messages is gone too.
+    /// The unit is switched off. What was sent to it is gone, and what it told of addresses is heard later; on a live
+    /// bus all that it sent of messages is gone too.
     Down(usize),
     /// The second unit hears the oldest claim or request of the first that it has not heard yet.
     Give(usize, usize),
@@ -14,7 +14,8 @@ pub enum Step {
     Ask(usize),
     /// The sender of the flow at this place begins to send these bytes.
     Begin(usize, Vec<u8>),
-    /// The sender of the flow at this place sends these bytes at once, in one frame, beside whatever message it sends or receives.
+    /// The sender of the flow at this place sends these bytes at once, in one frame, beside whatever message it sends
+    /// or receives.
     Send(usize, Vec<u8>),
     /// The unit sends the next data packet of its message.
     Emit(usize),

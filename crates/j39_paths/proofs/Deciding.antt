@@ -1,7 +1,7 @@
 -- Each test of what forwards hear, send and carry decides its statement.
 use Rattle.std.proofs.Common.{◌≡◌, ℕ, suc, zero, ◌+◌, ◌<◌, ◌==◌, ◌⊎◌, ◌↔◌, List, [], ◌∷◌, Bool, true, false, not, length}
 use Rattle.std.proofs.Common.{nat_lt, Option, Some, None, Decides, refl, sym, ◌∙◌, ap, inl, inr, subst, arith}
-use Rattle.std.specs.List.{count_by, slice_get, list_any}
+use Rattle.std.specs.List.{count_by, slice_get}
 use Rattle.std.specs.Option.{MatchOption, option_map_or}
 use Rattle.std.proofs.lemmas.Bool.{false≢true, eqb-true}
 use Rattle.std.proofs.lemmas.Bool.Decides.{Decides-eqb, Decides-and, Decides-or, Decides-not, Decides-like, Decides-ltb, Decides-int_eq}
@@ -13,18 +13,15 @@ use Rattle.j39_signal.specs.declared.kind.Kind.{Kind}
 use Rattle.j39_signal.specs.declared.kind.Kind.TheVariants.{Measured, Discrete, Raw, States, Signed, Dtc}
 use Rattle.j39_signal.specs.declared.selector.Selector.{Selector}
 use Rattle.j39_rules.specs.ListPlaces.{SomeMeets, SoManyMeet, ValueAt}
-use Rattle.j39_findings.specs.Found.{have_same_receiver}
-use Rattle.j39_network.specs.Serving.{is_to}
 use Rattle.j39_network.specs.declared.plan.flow_plan.FlowPlan.{FlowPlan}
 use Rattle.j39_network.specs.declared.plan.group_plan.GroupPlan.{GroupPlan}
 use Rattle.j39_network.specs.declared.plan.queue.Queue.{Queue}
 use Rattle.j39_network.specs.declared.plan.queue.Queue.TheVariants.{Any, Priority}
 use Rattle.j39_network.specs.declared.plan.timing.Timing.{Timing}
 use Rattle.j39_network.specs.declared.plan.to.To.{To}
-use Rattle.j39_network.specs.declared.plan.to.To.TheVariants.{All, One}
 use Rattle.j39_network.specs.declared.plan.unit_plan.UnitPlan.{UnitPlan}
-use Rattle.j39_network.proofs.Served.{Decides-meets}
-use Rattle.j39_findings.proofs.Deciding.{Decides-shares_bit, meeting_pass, passing_meet}
+use Rattle.j39_network.proofs.Served.{Decides-meets, some_decides}
+use Rattle.j39_findings.proofs.Deciding.{Decides-shares_bit, meeting_pass, passing_meet, Decides-have_same_receiver}
 use Rattle.j39_vehicle.specs.declared.vehicle.Vehicle.{Vehicle}
 use Rattle.j39_vehicle.specs.declared.vehicle.bus_plan.BusPlan.{BusPlan}
 use Rattle.j39_vehicle.specs.declared.vehicle.forward.Forward.{Forward}
@@ -35,30 +32,25 @@ use Rattle.j39_vehicle.specs.declared.vehicle.gateway.Gateway.{Gateway}
 use Rattle.j39_vehicle.specs.declared.vehicle.places.UnitAt.{UnitAt}
 use Rattle.j39_vehicle.specs.declared.vehicle.vehicle_need.VehicleNeed.{VehicleNeed}
 use Rattle.j39_paths.specs.Buses.{group_at, requests_on, spn_at}
-use Rattle.j39_paths.specs.ForwardEnds.{Copies, IsAmong, IsDirect, IsFollowedBy, IsInput, IsOutput, WriteOneSignal, Writes, need_of_hearer, input_flows, listed, output_flows, units_of_gateway}
-use Rattle.j39_paths.specs.ForwardTests.{copies, goes_to_receiver, is_unit_among, is_direct, is_direct_mode, is_followed, is_input, is_output, write_one_signal, writes}
+use Rattle.j39_paths.specs.ForwardEnds.{Copies, IsAmong, IsDirect, IsFollowedBy, IsInput, IsOutput, WriteOneSignal, Writes, need_of_hearer, input_flows, listed}
+use Rattle.j39_paths.specs.ForwardEnds.{output_flows, units_of_gateway}
+use Rattle.j39_paths.specs.ForwardTests.{copies, goes_to_receiver, is_unit_among, is_direct, is_direct_mode, is_followed, is_input, is_output, write_one_signal}
+use Rattle.j39_paths.specs.ForwardTests.{writes}
 use Rattle.j39_paths.specs.Matching.{Agree, AreAlike, AreSameNumbers, AreSameUnits, CanStandFor, IsAlwaysValue, has_values_of}
-use Rattle.j39_paths.specs.MatchTests.{agree, are_alike, are_same_numbers, are_same_units, has, is_always_value, is_trouble_code, kind_number, same_flag, signal_width_fits}
+use Rattle.j39_paths.specs.MatchTests.{agree, are_alike, are_same_numbers, are_same_units, has, is_always_value, is_trouble_code, kind_number, same_flag}
+use Rattle.j39_paths.specs.MatchTests.{signal_width_fits}
 use Rattle.j39_paths.specs.Traces.{IsNeedFlow, first_agreeing, flows_of_need, is_from_origin, need_on_bus}
-use Rattle.j39_paths.specs.VehicleFindings.{AreTwoForwards, AreUnlike, CopiesOtherLayout, DiffersFrom, GroupsMeet, HasAnyQueue, HasManyInputs, HasManyOutputs, HasNoInput, HasNoOutput, HaveOtherLayouts, IsCopiedOtherwise, IsNeedUnmet, IsOtherSignal, IsSelector, IsWrittenOtherwise, MayShareQueue}
-use Rattle.j39_paths.specs.FoundPaths.{are_two_forwards, are_unlike, copies_other_layout, differs_from, has_any_queue, has_many_inputs, has_many_outputs, has_no_input, has_no_output, have_other_layouts, is_any_queue, is_copied_otherwise, is_in_selector, is_need_flow, is_need_unmet, is_other_signal, is_selector, is_written_otherwise, may_share_queue, same_byte, some_at}
+use Rattle.j39_paths.specs.VehicleFindings.{AreTwoForwards, AreUnlike, CopiesOtherLayout, DiffersFrom, GroupsMeet, HasAnyQueue, HasManyInputs, HasManyOutputs}
+use Rattle.j39_paths.specs.VehicleFindings.{HasNoInput, HasNoOutput, HaveOtherLayouts, IsCopiedOtherwise, IsNeedUnmet, IsOtherSignal, IsSelector}
+use Rattle.j39_paths.specs.VehicleFindings.{IsWrittenOtherwise, MayShareQueue}
+use Rattle.j39_paths.specs.FoundPaths.{are_two_forwards, are_unlike, copies_other_layout, differs_from, has_any_queue, has_many_inputs, has_many_outputs}
+use Rattle.j39_paths.specs.FoundPaths.{has_no_input, has_no_output, have_other_layouts, is_any_queue, is_copied_otherwise, is_in_selector, is_need_flow}
+use Rattle.j39_paths.specs.FoundPaths.{is_need_unmet, is_other_signal, is_selector, is_written_otherwise, may_share_queue, same_byte, some_at}
 
-it_is : (b : Bool) → Decides b (b ≡ true)
+pub it_is : (b : Bool) → Decides b (b ≡ true)
 it_is b = (λ e. e, λ e. e)
 
 -- ---- lists
-
-some_from : {A : Type 0} (P : A → Type 0) (x : A) (xs : List A) → P x ⊎ SomeMeets P xs → SomeMeets P (x ∷ xs)
-some_from P x xs (inl here) = (0, record { value = x; value_is = refl; meets = here })
-some_from P x xs (inr (i, v)) = (suc i, record { value = v.value; value_is = v.value_is; meets = v.meets })
-
-some_parts : {A : Type 0} (P : A → Type 0) (x : A) (xs : List A) → SomeMeets P (x ∷ xs) → P x ⊎ SomeMeets P xs
-some_parts P x xs (zero, v) = inl (subst P (sym (same_Some _ _ v.value_is)) v.meets)
-some_parts P x xs (suc i, v) = inr (i, record { value = v.value; value_is = v.value_is; meets = v.meets })
-
-pub some_decides : {A : Type 0} {test : A → Bool} (P : A → Type 0) → ((x : A) → Decides (test x) (P x)) → (xs : List A) → Decides (list_any test xs) (SomeMeets P xs)
-some_decides P by [] = (λ e. absurd (false≢true e), λ (i, v). absurd (none-some _ v.value_is))
-some_decides P by (x ∷ xs) = Decides-like _ (some_from P x xs) (some_parts P x xs) (Decides-or _ _ (by x) (some_decides P by xs))
 
 -- more than one value meets the statement
 many_decides : {A : Type 0} {test : A → Bool} (P : A → Type 0) → ((x : A) → Decides (test x) (P x)) → (xs : List A)
@@ -90,18 +82,9 @@ Decides-is_input v n f =
     (Decides-and _ _ (Decides-meets (requests_on v.buses.items n.input.bus) (need_of_hearer n) f)
     (Decides-not _ (among_decides (units_of_gateway v n.gateway) n.input.bus f.sender)))
 
-is_to_decides : (to : To) (unit : ℕ) → Decides (is_to to unit) (to ≡ One unit)
-is_to_decides All unit = (λ e. absurd (false≢true e), λ e. cc)
-is_to_decides (One receiver) unit = Decides-like _ (λ e. cc) (λ e. cc) (Decides-eqb receiver unit)
-
-same_receiver_decides : (to other : To) → Decides (have_same_receiver to other) (to ≡ other)
-same_receiver_decides All All = (λ e. refl, λ e. refl)
-same_receiver_decides All (One receiver) = (λ e. absurd (false≢true e), λ e. cc)
-same_receiver_decides (One receiver) other = Decides-like _ (λ e. sym e) (λ e. sym e) (is_to_decides other receiver)
-
 goes_to_decides : (o : Option To) (to : To) → Decides (goes_to_receiver o to) ((receiver : To) → o ≡ Some receiver → to ≡ receiver)
 goes_to_decides None to = (λ e u is. absurd (none-some _ is), λ h. refl)
-goes_to_decides (Some receiver) to = Decides-like _ (λ e u is. e ∙ same_Some _ _ is) (λ h. h receiver refl) (same_receiver_decides to receiver)
+goes_to_decides (Some receiver) to = Decides-like _ (λ e u is. e ∙ same_Some _ _ is) (λ h. h receiver refl) (Decides-have_same_receiver to receiver)
 
 pub Decides-is_output : (n : Forward) (f : FlowPlan) → Decides (is_output n f) (IsOutput n f)
 Decides-is_output n f =
@@ -384,7 +367,7 @@ from_first P xs k v = let at : 0 + k ≡ k = omega arith in record { value = v.v
 to_first : {A : Type 0} (P : ℕ → A → Type 0) (xs : List A) (k : ℕ) → ValueAt (P k) xs k → ValueAt (P (0 + k)) xs k
 to_first P xs k v = let at : k ≡ 0 + k = omega arith in record { value = v.value; value_is = v.value_is; meets = subst (λ n. P n v.value) at v.meets }
 
-need_flow_decides : (v : Vehicle) (d : VehicleNeed) (f : ℕ) (flow : FlowPlan) → Decides (is_need_flow v d f flow) (IsNeedFlow v d f flow)
+pub need_flow_decides : (v : Vehicle) (d : VehicleNeed) (f : ℕ) (flow : FlowPlan) → Decides (is_need_flow v d f flow) (IsNeedFlow v d f flow)
 need_flow_decides v d f flow =
     Decides-like _ (λ h. record { meets = h.0; from = h.1 }) (λ m. (m.meets, m.from))
     (Decides-and _ _ (Decides-meets (requests_on v.buses.items d.unit.bus) (need_on_bus d) flow) (it_is (is_from_origin v d f)))

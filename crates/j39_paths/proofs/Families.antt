@@ -4,17 +4,22 @@ use Rattle.std.proofs.Common.{Some, Contains, refl, sym, subst, arith}
 use Rattle.std.specs.Option.{option_map_or}
 use Rattle.j39_rules.specs.ListPlaces.{in_each, ValueAt}
 use Rattle.j39_network.specs.declared.plan.group_plan.GroupPlan.{GroupPlan}
-use Rattle.j39_rules.proofs.Families.{Covers as CoversPart, Covers-append, Order, each_family, inside_family, named_first, of_placed, pairs_family, placed, placed_of, placed_rise}
+use Rattle.j39_rules.proofs.Families.{Covers as CoversPart, Covers-append, Order, each_family, inside_family, named_first, of_placed, pairs_family, placed}
+use Rattle.j39_rules.proofs.Families.{placed_of, placed_rise}
 use Rattle.j39_rules.proofs.Rising.{Rises}
 use Rattle.j39_vehicle.specs.declared.vehicle.Vehicle.{Vehicle}
 use Rattle.j39_vehicle.specs.declared.vehicle.forward.Forward.{Forward}
 use Rattle.j39_vehicle.specs.declared.vehicle.gateway.Gateway.{Gateway}
 use Rattle.j39_paths.specs.Buses.{group_at}
-use Rattle.j39_paths.specs.VehicleFindings.{AreTwoForwards, CopiesOtherLayout, HasManyInputs, HasManyOutputs, HasNoInput, HasNoOutput, Holds, IsBefore, IsNeedUnmet, IsOtherSignal, MayShareQueue, SignalIsOther, finding_number, places_of}
-use Rattle.j39_paths.specs.FoundPaths.{content_findings, differences, end_findings, is_other_signal, may_share_queue, need_findings, queue_findings, shared_queues, signals_that_differ}
+use Rattle.j39_paths.specs.VehicleFindings.{AreTwoForwards, CopiesOtherLayout, HasManyInputs, HasManyOutputs, HasNoInput, HasNoOutput, Holds, IsBefore}
+use Rattle.j39_paths.specs.VehicleFindings.{IsNeedUnmet, IsOtherSignal, MayShareQueue, SignalIsOther, finding_number, places_of}
+use Rattle.j39_paths.specs.FoundPaths.{content_findings, differences, end_findings, is_other_signal, may_share_queue, need_findings, queue_findings}
+use Rattle.j39_paths.specs.FoundPaths.{shared_queues, signals_that_differ}
 use Rattle.j39_paths.specs.declared.finding.VehicleFinding.{VehicleFinding}
-use Rattle.j39_paths.specs.declared.finding.VehicleFinding.TheVariants.{NoInput, ManyInputs, NoOutput, ManyOutputs, LayoutDiffers, SignalDiffers, TwoForwards, NeedUnmet, SharedQueue}
-use Rattle.j39_paths.proofs.Deciding.{Decides-are_two_forwards, Decides-copies_other_layout, Decides-has_many_inputs, Decides-has_many_outputs, Decides-has_no_input, Decides-has_no_output, Decides-is_need_unmet, Decides-is_other_signal, Decides-may_share_queue}
+use Rattle.j39_paths.specs.declared.finding.VehicleFinding.TheVariants.{NoInput, ManyInputs, NoOutput, ManyOutputs, LayoutDiffers, SignalDiffers, TwoForwards}
+use Rattle.j39_paths.specs.declared.finding.VehicleFinding.TheVariants.{NeedUnmet, SharedQueue}
+use Rattle.j39_paths.proofs.Deciding.{Decides-are_two_forwards, Decides-copies_other_layout, Decides-has_many_inputs, Decides-has_many_outputs}
+use Rattle.j39_paths.proofs.Deciding.{Decides-has_no_input, Decides-has_no_output, Decides-is_need_unmet, Decides-is_other_signal, Decides-may_share_queue}
 
 -- the order of findings
 abbrev pub in_order : Order VehicleFinding

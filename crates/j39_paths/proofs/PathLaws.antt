@@ -1,5 +1,6 @@
 -- The list of findings has exactly what holds, in order.
-use Rattle.std.proofs.Common.{◌≡◌, ℕ, zero, suc, ◌<◌, ◌⊎◌, List, [], ◌∷◌, ◌++◌, Bool, false, Some, Contains, Decides, length, refl, sym, ap, ◌∙◌, subst, inl, inr, arith}
+use Rattle.std.proofs.Common.{◌≡◌, ℕ, zero, suc, ◌<◌, ◌⊎◌, List, [], ◌∷◌, ◌++◌, Bool, false, Some, Contains, Decides, length, refl, sym, ap, ◌∙◌, subst, inl}
+use Rattle.std.proofs.Common.{inr, arith}
 use Rattle.std.specs.List.{slice_get, slice_index_or}
 use Rattle.std.proofs.Math.ListN.{get_or-eq_default}
 use Rattle.std.proofs.lemmas.Bool.{false≢true, cases_lt}
@@ -11,12 +12,17 @@ use Rattle.j39_rules.proofs.Rising.{AllPairs-from_Rises, Rises-found_if, Rises-i
 use Rattle.j39_vehicle.specs.declared.vehicle.Vehicle.{Vehicle}
 use Rattle.j39_vehicle.specs.declared.vehicle.forward.Forward.{Forward}
 use Rattle.j39_paths.specs.ForwardEnds.{ComesAfter, at_once, later}
-use Rattle.j39_paths.specs.Loops.{TellLoops}
-use Rattle.j39_paths.specs.VehicleFindings.{AreFindings, AreTwoForwards, CopiesOtherLayout, HasManyInputs, HasManyOutputs, HasNoInput, HasNoOutput, Holds, IsBefore, IsNeedUnmet, finding_number}
-use Rattle.j39_paths.specs.FoundPaths.{are_two_forwards, content_findings, copies_other_layout, differences, end_findings, has_many_inputs, has_many_outputs, has_no_input, has_no_output, is_need_unmet, loop_findings, need_findings, path_findings, queue_findings, shared_queues, vehicle_findings}
+use Rattle.j39_paths.specs.Loops.{DecidesLoops}
+use Rattle.j39_paths.specs.VehicleFindings.{AreFindings, AreTwoForwards, CopiesOtherLayout, HasManyInputs, HasManyOutputs, HasNoInput, HasNoOutput, Holds}
+use Rattle.j39_paths.specs.VehicleFindings.{IsBefore, IsNeedUnmet, finding_number}
+use Rattle.j39_paths.specs.FoundPaths.{are_two_forwards, content_findings, copies_other_layout, differences, end_findings, has_many_inputs, has_many_outputs}
+use Rattle.j39_paths.specs.FoundPaths.{has_no_input, has_no_output, is_need_unmet, loop_findings, need_findings, path_findings, queue_findings, shared_queues}
+use Rattle.j39_paths.specs.FoundPaths.{vehicle_findings}
 use Rattle.j39_paths.specs.declared.finding.VehicleFinding.{VehicleFinding}
-use Rattle.j39_paths.specs.declared.finding.VehicleFinding.TheVariants.{NoInput, ManyInputs, NoOutput, ManyOutputs, LayoutDiffers, SignalDiffers, TwoForwards, ForwardLoop, NeedUnmet, SharedQueue}
-use Rattle.j39_paths.proofs.Deciding.{Decides-are_two_forwards, Decides-copies_other_layout, Decides-has_many_inputs, Decides-has_many_outputs, Decides-has_no_input, Decides-has_no_output, Decides-is_need_unmet}
+use Rattle.j39_paths.specs.declared.finding.VehicleFinding.TheVariants.{NoInput, ManyInputs, NoOutput, ManyOutputs, LayoutDiffers, SignalDiffers, TwoForwards}
+use Rattle.j39_paths.specs.declared.finding.VehicleFinding.TheVariants.{ForwardLoop, NeedUnmet, SharedQueue}
+use Rattle.j39_paths.proofs.Deciding.{Decides-are_two_forwards, Decides-copies_other_layout, Decides-has_many_inputs, Decides-has_many_outputs}
+use Rattle.j39_paths.proofs.Deciding.{Decides-has_no_input, Decides-has_no_output, Decides-is_need_unmet}
 use Rattle.j39_rules.proofs.Families.{Covers-append}
 use Rattle.j39_paths.proofs.Families.{Covers, in_order, contents_covered, differences_of, ends_covered, needs_covered, queues_covered, shared_of}
 
@@ -27,7 +33,7 @@ starts_within : (v : Vehicle) (n : ℕ) {m : ℕ} → ComesAfter v n m → n < l
 starts_within v n (at_once m f) = slice_get_within v.forwards.items n f.first f.first_is
 starts_within v n (later k m before f) = starts_within v n before
 
-told : (v : Vehicle) (loops : List Bool) → TellLoops v loops → (n : ℕ) → Decides (slice_index_or loops n false) (ComesAfter v n n)
+told : (v : Vehicle) (loops : List Bool) → DecidesLoops v loops → (n : ℕ) → Decides (slice_index_or loops n false) (ComesAfter v n n)
 told v loops tell n = elim (cases_lt n (length loops)) [
   | inl within ↦ tell.each n within
   | inr over ↦
@@ -45,7 +51,7 @@ value_within [] n less = absurd (omega arith)
 value_within (x ∷ xs) zero less = (x, refl)
 value_within (x ∷ xs) (suc n) less = value_within xs n (omega arith)
 
-loops_covered : (v : Vehicle) (loops : List Bool) → TellLoops v loops → Covers v 8 8 (loop_findings loops v)
+loops_covered : (v : Vehicle) (loops : List Bool) → DecidesLoops v loops → Covers v 8 8 (loop_findings loops v)
 unfolding loop_findings
 loops_covered v loops tell =
     let find : ℕ → Forward → List VehicleFinding = λ n forward. found_if (slice_index_or loops n false) (ForwardLoop n) in
@@ -70,7 +76,7 @@ loops_covered v loops tell =
           0 v.forwards.items;
     }
 
-loop_of : (v : Vehicle) (loops : List Bool) → TellLoops v loops → (n : ℕ) → ComesAfter v n n → Contains (loop_findings loops v) (ForwardLoop n)
+loop_of : (v : Vehicle) (loops : List Bool) → DecidesLoops v loops → (n : ℕ) → ComesAfter v n n → Contains (loop_findings loops v) (ForwardLoop n)
 unfolding loop_findings
 loop_of v loops tell n h =
     let find : ℕ → Forward → List VehicleFinding = λ k forward. found_if (slice_index_or loops k false) (ForwardLoop k) in
@@ -80,7 +86,7 @@ loop_of v loops tell n h =
 
 -- ---- the whole list
 
-found_covered : (v : Vehicle) (loops : List Bool) → TellLoops v loops → Covers v 1 14 (vehicle_findings loops v)
+found_covered : (v : Vehicle) (loops : List Bool) → DecidesLoops v loops → Covers v 1 14 (vehicle_findings loops v)
 unfolding vehicle_findings path_findings
 found_covered v loops tell =
     Covers-append in_order (Holds v) 1 9 14 14 _ _ (omega arith) (omega arith) (omega arith)
@@ -129,7 +135,7 @@ queue_found : (loops : List Bool) (v : Vehicle) (f : VehicleFinding) → Contain
 unfolding vehicle_findings queue_findings
 queue_found loops v f h = Contains-append_right (path_findings loops v) (queue_findings v) f h
 
-found_of : (v : Vehicle) (loops : List Bool) → TellLoops v loops → (f : VehicleFinding) → Holds v f → Contains (vehicle_findings loops v) f
+found_of : (v : Vehicle) (loops : List Bool) → DecidesLoops v loops → (f : VehicleFinding) → Holds v f → Contains (vehicle_findings loops v) f
 found_of v loops tell (NoInput n) h =
     in_paths loops v _ (inl (end_found v _ (inl (each_of (HasNoInput v) (Decides-has_no_input v) NoInput v.forwards.items n h))))
 found_of v loops tell (ManyInputs n) h =
@@ -152,7 +158,7 @@ found_of v loops tell (SharedQueue k b) h =
     queue_found loops v _ (in_each_of (shared_queues v.buses.items) 0 v.gateways.items (SharedQueue k b) k k h.value (omega arith) h.value_is
     (shared_of v k b h.value h.meets))
 
-pub are_findings : (v : Vehicle) (loops : List Bool) → TellLoops v loops → AreFindings v (vehicle_findings loops v)
+pub are_findings : (v : Vehicle) (loops : List Bool) → DecidesLoops v loops → AreFindings v (vehicle_findings loops v)
 are_findings v loops tell = record {
   sound = (found_covered v loops tell).sound;
   complete = found_of v loops tell;

@@ -16,7 +16,7 @@ step_of : (v : Vehicle) (steps : ℕ) (p : Point) (n : ℕ) → next_forward v p
 unfolding trace_end
 step_of v steps p n some = ap (λ m. option_map_or (λ k. option_and_then (trace_end v steps) (goes_on v p k)) m (Some p)) some
 
-one_more : (n i : ℕ) → i < n → n - i ≡ suc (n - (i + 1))
+pub one_more : (n i : ℕ) → i < n → n - i ≡ suc (n - (i + 1))
 one_more n i less = omega arith
 
 -- it goes on with what goes into what it came with

@@ -1,16 +1,13 @@
 -- The parts of the list of findings one after another, and where each of them needs memory.
-use Rattle.std.proofs.Common.{◌≡◌, ◌≢◌, List, [], ◌++◌, Bool, false, append_assoc, ap, IsErrAnd, OnErr, Result, Ok, Err}
-use Rattle.std.specs.declared.alloc.AllocError.{AllocError}
+use Rattle.std.proofs.Common.{◌≡◌, ◌≢◌, List, [], ◌++◌, Bool, false, append_assoc, ap}
 use Rattle.std.specs.List.{slice_index_or}
 use Rattle.j39_rules.specs.ListPlaces.{each, found_if, in_each, pairs}
 use Rattle.j39_vehicle.specs.declared.vehicle.Vehicle.{Vehicle}
-use Rattle.j39_paths.specs.FoundPaths.{are_two_forwards, content_findings, copies_other_layout, differences, end_findings, has_many_inputs, has_many_outputs, has_no_input, has_no_output, is_need_unmet, loop_findings, need_findings, path_findings}
+use Rattle.j39_paths.specs.FoundPaths.{are_two_forwards, content_findings, copies_other_layout, differences, end_findings, has_many_inputs, has_many_outputs}
+use Rattle.j39_paths.specs.FoundPaths.{has_no_input, has_no_output, is_need_unmet, loop_findings, need_findings, path_findings}
 use Rattle.j39_paths.specs.declared.finding.VehicleFinding.{VehicleFinding}
-use Rattle.j39_paths.specs.declared.finding.VehicleFinding.TheVariants.{NoInput, ManyInputs, NoOutput, ManyOutputs, LayoutDiffers, TwoForwards, ForwardLoop, NeedUnmet}
-
-pub on_err : {A : Type 0} (P : Type 0) (Q : AllocError → Type 0) (r : Result A AllocError) → IsErrAnd r Q → P → OnErr r P
-on_err P Q (Ok done) is holds = absurd is
-on_err P Q (Err e) is holds = holds
+use Rattle.j39_paths.specs.declared.finding.VehicleFinding.TheVariants.{NoInput, ManyInputs, NoOutput, ManyOutputs, LayoutDiffers, TwoForwards, ForwardLoop}
+use Rattle.j39_paths.specs.declared.finding.VehicleFinding.TheVariants.{NeedUnmet}
 
 pub ends_want : (v : Vehicle) → end_findings v ≢ [] → v.forwards.items ≢ []
 unfolding end_findings each in_each

@@ -26,7 +26,8 @@ use Rattle.j39_paths.specs.ForwardTests.{copies, is_direct, is_input, is_output,
 use Rattle.j39_paths.specs.MatchTests.{are_alike, has}
 use Rattle.j39_paths.specs.Traces.{first_agreeing, flows_of_need, is_from_origin, need_on_bus}
 use Rattle.j39_paths.specs.declared.finding.VehicleFinding.{VehicleFinding}
-use Rattle.j39_paths.specs.declared.finding.VehicleFinding.TheVariants.{NoInput, ManyInputs, NoOutput, ManyOutputs, LayoutDiffers, SignalDiffers, TwoForwards, ForwardLoop, NeedUnmet, SharedQueue}
+use Rattle.j39_paths.specs.declared.finding.VehicleFinding.TheVariants.{NoInput, ManyInputs, NoOutput, ManyOutputs, LayoutDiffers, SignalDiffers, TwoForwards}
+use Rattle.j39_paths.specs.declared.finding.VehicleFinding.TheVariants.{ForwardLoop, NeedUnmet, SharedQueue}
 
 -- ---- inputs and outputs
 

@@ -19,6 +19,6 @@ abbrev pub AreFollowers : Vehicle → List (Vec ℕ Global) → Type 0
 AreFollowers v rows = map (λ row. row.items) rows ≡ map (followers v) v.forwards.items
 
 -- of each forward, whether it comes after itself
-pub record TellLoops (v : Vehicle) (loops : List Bool) : Type 0 where
+pub record DecidesLoops (v : Vehicle) (loops : List Bool) : Type 0 where
   pub count : length loops ≡ length v.forwards.items
   pub each : (n : ℕ) → n < length loops → Decides (slice_index_or loops n false) (ComesAfter v n n)

@@ -21,7 +21,8 @@ use Rattle.j39_paths.specs.ForwardEnds.{ComesAfter, Copies, IsDirect, IsInput, I
 use Rattle.j39_paths.specs.Matching.{AreAlike, CanStandFor}
 use Rattle.j39_paths.specs.Traces.{IsNeedFlow, first_agreeing, flows_of_need}
 use Rattle.j39_paths.specs.declared.finding.VehicleFinding.{VehicleFinding}
-use Rattle.j39_paths.specs.declared.finding.VehicleFinding.TheVariants.{NoInput, ManyInputs, NoOutput, ManyOutputs, LayoutDiffers, SignalDiffers, TwoForwards, ForwardLoop, NeedUnmet, SharedQueue}
+use Rattle.j39_paths.specs.declared.finding.VehicleFinding.TheVariants.{NoInput, ManyInputs, NoOutput, ManyOutputs, LayoutDiffers, SignalDiffers, TwoForwards}
+use Rattle.j39_paths.specs.declared.finding.VehicleFinding.TheVariants.{ForwardLoop, NeedUnmet, SharedQueue}
 
 -- ---- inputs and outputs
 

@@ -1,7 +1,7 @@
 //! Everything that is wrong with what the gateways of a vehicle send on.
 ghost use Rattle.std.specs.Prelude.{◌≡◌, ◌≢◌, ◌⊎◌, [], List, Bool, IfOk, OnErr};
 ghost use Rattle.j39_paths.specs.FoundPaths.{path_findings, queue_findings};
-ghost use Rattle.j39_paths.specs.Loops.{TellLoops};
+ghost use Rattle.j39_paths.specs.Loops.{DecidesLoops};
 
 mod contents;
 mod ends;
@@ -27,10 +27,11 @@ use turns::find_loops;
 /// What is wrong with the paths of a vehicle, in order.
 pub type VehicleFindings = Vec<VehicleFinding>;
 
-/// What is wrong with the forwards and the needs of a vehicle, whatever the plans of its buses say of times: G1 to G9, by their numbers and
-/// then by their places in rising order.
+/// What is wrong with the forwards and the needs of a vehicle, whatever the plans of its buses say of times: G1 to G9,
+/// by their numbers and then by their places in rising order.
 pub fn find_in_paths(alloc: Global, vehicle: &Vehicle) -> Result<VehicleFindings, AllocError>
-    ensures list { IfOk result (λ findings. (loops : List Bool) × TellLoops vehicle.now loops × (findings.items ≡ path_findings loops vehicle.now)) }
+    ensures list { IfOk result (λ findings. (loops : List Bool) × DecidesLoops vehicle.now loops
+        × (findings.items ≡ path_findings loops vehicle.now)) }
     ensures memory { OnErr result ((vehicle.now.forwards.items ≢ []) ⊎ (vehicle.now.needs.items ≢ [])) }
 {
     let loops = loops_of(alloc, vehicle)?;

@@ -1,8 +1,8 @@
 //! What can be wrong with what gateways send on.
 ghost use Rattle.std.specs.Prelude.{◌≡◌};
 
-/// One thing that is wrong with what the gateways of a vehicle send on, named by places from 0. Findings are in order by their number,
-/// then by their places.
+/// One thing that is wrong with what the gateways of a vehicle send on, named by places from 0. Findings are in order
+/// by their number, then by their places.
 #[derive(Clone, Copy, Debug, PartialEq, Eq)]
 pub enum VehicleFinding {
     /// G1: no flow is an input of the forward.

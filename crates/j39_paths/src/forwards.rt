@@ -3,7 +3,9 @@ ghost use Rattle.std.specs.Prelude.{◌≡◌};
 ghost use Rattle.std.specs.List.{list_any};
 ghost use Rattle.j39_network.specs.Serving.{meets};
 ghost use Rattle.j39_paths.specs.ForwardEnds.{need_of_hearer, input_flows, listed, output_flows, units_of_gateway};
-ghost use Rattle.j39_paths.specs.ForwardTests.{copies, feeds, goes_to_receiver, is_unit_among, is_direct, is_between_units, is_followed, is_input, is_output, write_one_signal, writes};
+ghost use Rattle.j39_paths.specs.ForwardTests.{copies, feeds, goes_to_receiver, is_unit_among, is_direct};
+ghost use Rattle.j39_paths.specs.ForwardTests.{is_between_units, is_followed, is_input, is_output, write_one_signal};
+ghost use Rattle.j39_paths.specs.ForwardTests.{writes};
 ghost use Rattle.j39_paths.specs.Traces.{first_input};
 
 use crate::buses::{flows_on, requests_on};
@@ -56,8 +58,8 @@ pub fn output_flows<'a>(vehicle: &'a Vehicle, forward: &Forward) -> &'a [FlowPla
     flows_on(&vehicle.buses, forward.output.bus)
 }
 
-/// Whether the flow, one of the bus where the forward hears, is an input of it: it brings the gateway's unit what that has to hear, and
-/// no unit of the gateway sends it.
+/// Whether the flow, one of the bus where the forward hears, is an input of it: it brings the gateway's unit what that
+/// has to hear, and no unit of the gateway sends it.
 pub fn is_input(vehicle: &Vehicle, forward: &Forward, flow: &FlowPlan) -> bool
     ensures { result ≡ is_input vehicle.now forward.now flow.now }
 {

@@ -1,4 +1,5 @@
-//! What reaches whom over the gateways of a vehicle: where what a unit needs comes from, and what is wrong with what gateways send on.
+//! What reaches whom over the gateways of a vehicle: where what a unit needs comes from, and what is wrong with what
+//! gateways send on.
 #![tactic(auto)]
 
 mod buses;

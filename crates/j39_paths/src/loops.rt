@@ -1,6 +1,6 @@
 //! Which forwards come after themselves.
 ghost use Rattle.std.specs.Prelude.{◌≡◌, ◌≢◌, [], map, IfOk, OnErr};
-ghost use Rattle.j39_paths.specs.Loops.{AreFollowers, TellLoops};
+ghost use Rattle.j39_paths.specs.Loops.{AreFollowers, DecidesLoops};
 
 use crate::forwards::is_followed;
 use crate::passing::{PlaceTest, passing_places};
@@ -39,7 +39,7 @@ fn followers_of(alloc: Global, vehicle: &Vehicle) -> Result<Vec<Vec<usize>>, All
 
 /// Of each forward, whether it comes after itself.
 pub fn loops_of(alloc: Global, vehicle: &Vehicle) -> Result<Vec<bool>, AllocError>
-    ensures told { IfOk result (λ loops. TellLoops vehicle.now loops.items) }
+    ensures told { IfOk result (λ loops. DecidesLoops vehicle.now loops.items) }
     ensures memory { OnErr result (vehicle.now.forwards.items ≢ []) }
 {
     let rows = followers_of(alloc, vehicle)?;

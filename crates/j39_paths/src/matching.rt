@@ -1,8 +1,10 @@
 //! When what one signal says can stand in another one.
 ghost use Rattle.std.specs.Prelude.{◌≡◌, ◌==◌, ◌&&◌, ◌-◌, ◌*◌, ◌%◌, ◌≤◌, ◌*ℤ◌, pos};
 ghost use Rattle.j39_signal.specs.Places.{WidthFits};
-ghost use Rattle.j39_paths.specs.Matching.{first_value, has_value, has_values_of, is_on_steps, last_value, steps_above, steps_below};
-ghost use Rattle.j39_paths.specs.MatchTests.{agree, are_alike, are_same_numbers, are_same_units, has, is_always_value, is_trouble_code, kind_number, may_be_unset, same_scale};
+ghost use Rattle.j39_paths.specs.Matching.{first_value, has_value, has_values_of, is_on_steps, last_value, steps_above};
+ghost use Rattle.j39_paths.specs.Matching.{steps_below};
+ghost use Rattle.j39_paths.specs.MatchTests.{agree, are_alike, are_same_numbers, are_same_units, has, is_always_value};
+ghost use Rattle.j39_paths.specs.MatchTests.{is_trouble_code, kind_number, may_be_unset, same_scale};
 
 use j39_id::Label;
 use j39_signal::{Kind, Signal};
@@ -58,7 +60,8 @@ fn is_code(kind: Kind) -> bool
     }
 }
 
-/// Whether the two mean the same, as far as it is told by their units of measurement, their numbers (SPN), and their kinds.
+/// Whether the two mean the same, as far as it is told by their units of measurement, their numbers (SPN), and their
+/// kinds.
 pub fn are_alike(
     one: &Signal,
     one_number: Option<u32>,
@@ -210,12 +213,15 @@ fn has_whole_steps(one: &Signal, other: &Signal) -> bool
 fn has_last_and_steps(one: &Signal, other: &Signal) -> bool
     requires one_width { WidthFits one.now }
     requires other_width { WidthFits other.now }
-    ensures { result ≡ (has_value other.now (last_value one.now) one.now.per && one.now.step * other.now.per % (other.now.step * one.now.per) == 0) }
+    ensures { result
+        ≡ (has_value other.now (last_value one.now) one.now.per
+        && one.now.step * other.now.per % (other.now.step * one.now.per) == 0) }
 {
     has_value(other, last_value(one), some_per(one)) && has_whole_steps(one, other)
 }
 
-// Whether each value of the one is one of the other: the first and the last are, and its steps are whole steps of the other.
+// Whether each value of the one is one of the other: the first and the last are, and its steps are whole steps of the
+// other.
 fn has_values_of(one: &Signal, other: &Signal) -> bool
     requires one_width { WidthFits one.now }
     requires other_width { WidthFits other.now }

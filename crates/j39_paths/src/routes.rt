@@ -60,8 +60,8 @@ impl Routes<'_> {
         }
     }
 
-    /// Where the trace of a flow and a signal ends: none where what goes into a signal is missing on the way, or it goes on more often than
-    /// there are forwards, in a loop.
+    /// Where the trace of a flow and a signal ends: none where what goes into a signal is missing on the way, or it
+    /// goes on more often than there are forwards, in a loop.
     pub fn origin(&self, start: Point) -> Option<Point>
         ensures { result ≡ spec.origin self.now.vehicle.now start }
     {

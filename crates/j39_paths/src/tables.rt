@@ -48,7 +48,8 @@ impl PlaceTest<Forward> for Feeding<'_> {
 
 // Of each flow of a bus the forwards that feed it.
 fn feeders_on(alloc: Global, vehicle: &Vehicle, bus: usize) -> Result<Vec<Vec<usize>>, AllocError>
-    ensures rows { IfOk result (λ rows. (flow : ℕ) → row_at rows.items flow ≡ feeders vehicle.now (record { bus = bus; flow = flow })) }
+    ensures rows { IfOk result (λ rows. (flow : ℕ)
+        → row_at rows.items flow ≡ feeders vehicle.now (record { bus = bus; flow = flow })) }
 {
     let mut rows = Vec::new(alloc);
     'flows: for flow in 0..flows_on(&vehicle.buses, bus).len() {

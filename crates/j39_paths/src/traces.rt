@@ -4,7 +4,8 @@ ghost use Rattle.std.specs.List.{position};
 ghost use Rattle.std.specs.Option.{option_copied};
 ghost use Rattle.j39_paths.specs.ForwardEnds.{listed};
 ghost use Rattle.j39_paths.specs.Traces as spec;
-ghost use Rattle.j39_paths.specs.Traces.{agreeing_in, behind_forward, carries, copied_into, first_agreeing, goes_into, is_sent_by, put_into};
+ghost use Rattle.j39_paths.specs.Traces.{agreeing_in, behind_forward, carries, copied_into, first_agreeing, goes_into};
+ghost use Rattle.j39_paths.specs.Traces.{is_sent_by, put_into};
 
 use crate::buses::{flows_on, group_at};
 use crate::forwards::{copies, listed, writes};

@@ -1,10 +1,9 @@
 -- Groups of version 4 among whose signals nothing stands that it alone knows are those of version 3.
-use Rattle.std.proofs.Common.{◌≡◌, ℕ, Bool, true, false, arith, List, [], ◌∷◌, None, refl, sym, subst, ◌∙◌}
+use Rattle.std.proofs.Common.{◌↔◌, ◌≡◌, ℕ, Bool, true, false, arith, List, [], ◌∷◌, None, refl}
 use Rattle.std.specs.Option.{option_map_or}
 use Rattle.toml.specs.Data.{Data, Members, no_members, get_member, as_table}
-use Rattle.j39_signal.specs.Parts.{SignalParts}
 use Rattle.j39_network.specs.declared.plan.group_plan.GroupPlan.{GroupPlan}
-use Rattle.j39_network.specs.declared.plan.meaning.Meaning.{Meaning}
+use Rattle.j39_plan.specs.ValueCauses.{truth_where}
 use Rattle.j39_plan.specs.declared.reading.version.Version.TheVariants.{First, Third, Fourth}
 use Rattle.j39_plan.specs.declared.reading.key.Key.{Key}
 use Rattle.j39_plan.specs.declared.reading.key.Key.TheVariants as key
@@ -12,15 +11,19 @@ use Rattle.j39_plan.specs.declared.reading.place.Table.{Table}
 use Rattle.j39_plan.specs.declared.reading.place.Table.TheVariants as at
 use Rattle.j39_plan.specs.declared.reading.text_kind.TextKind.TheVariants as texts
 use Rattle.j39_plan.specs.Words.{word_of}
-use Rattle.j39_plan.specs.Schema.{number_of, flag_of, given_number, table_of, tables_of}
-use Rattle.j39_plan.specs.TableFaults.{key_faults, table_only_faults, is_key_word}
+use Rattle.j39_tables.specs.Rules.{number_of, flag_of, table_found, number_found}
+use Rattle.j39_plan.specs.Schema.{tables_of}
+use Rattle.j39_tables.specs.TableFaults.{key_faults, table_only_faults, is_key_word}
 use Rattle.j39_plan.specs.Since.{Since, since, versioned_faults}
-use Rattle.j39_plan.specs.Elements.{inside, label_in, label_rule, repeated_faults}
-use Rattle.j39_plan.specs.MeaningTables.{optional_rule, spn_rule, values_rule, meaning_rules, optional_of, spn_of, name_table, AreValueNames}
-use Rattle.j39_plan.specs.SignalTables.{byte_rule, bit_rule, bits_rule, is_code, kind_rule, step_rule, per_rule, offset_rule, unit_rule, repeated_rule, repeated_of, signal_table_faults, signal_faults, IsMeaningOf, IsSignalOf}
-use Rattle.j39_plan.specs.SelectorTables.{TellsWhen, when_rule, when_table}
+use Rattle.j39_tables.specs.InOrder.{inside}
+use Rattle.j39_plan.specs.LabelsSeen.{label_in, label_rule, repeated_faults}
+use Rattle.j39_plan.specs.MeaningTables.{optional_rule, spn_rule, values_rule, meaning_rules, optional_of, spn_of, name_table}
+use Rattle.j39_plan.specs.SignalTables.{byte_rule, bit_rule, bits_rule, is_code, kind_rule, step_rule, per_rule, offset_rule, unit_rule, repeated_rule}
+use Rattle.j39_plan.specs.SignalTables.{repeated_of, signal_table_faults, signal_faults, IsMeaningOf, IsSignalOf}
+use Rattle.j39_plan.specs.SelectorTables.{when_rule, when_table}
 use Rattle.j39_plan.specs.GroupTables.{signal_rule, has_records, signals_faults, group_keys_faults, group_table_faults, group_faults, IsGroupOf}
 use Rattle.j39_plan.specs.Versions.{IsThirdSignal, IsThirdGroup}
+use Rattle.j39_plan.proofs.SameParts.{SameSignal, SameMeaning, SameGroup, signal_both, meaning_both, group_both}
 use Rattle.j39_plan.proofs.Absent.{lacked, IsNone, only_same, Alike, alike_both, alike_between, alike_unknown, alike_inside, alike_each, told_alike}
 
 -- ---- signals
@@ -35,7 +38,7 @@ no_values : (ms : Members) → IsThirdSignal ms → get_member (word_of key.Valu
 no_values ms lacks = lacked key.Values ms (lacks 2 key.Values (omega arith))
 
 optional_unfaulted : (repeated : Bool) (at : Table) (ms : Members) → IsThirdSignal ms → key_faults at ms (optional_rule repeated) ≡ []
-unfolding key_faults
+unfolding key_faults truth_where
 optional_unfaulted repeated at ms lacks = rw (no_optional ms lacks)
 
 spn_unfaulted : (at : Table) (ms : Members) → IsThirdSignal ms → key_faults at ms spn_rule ≡ []
@@ -54,7 +57,7 @@ abbrev later_keys : List Key
 later_keys = key.Label ∷ key.Byte ∷ key.Bit ∷ key.Bits ∷ key.Kind ∷ key.Step ∷ key.Per ∷ key.Offset ∷ key.Unit ∷ key.Repeated
     ∷ key.Optional ∷ key.Spn ∷ key.Values ∷ []
 
-signal_words : (l : List ℕ) → IsNone (key.Optional ∷ key.Spn ∷ key.Values ∷ []) l → is_key_word later_keys l ≡ is_key_word older_keys l
+signal_words : (l : List ℕ) → IsNone (key.Optional ∷ key.Spn ∷ key.Values ∷ []) l → is_key_word word_of later_keys l ≡ is_key_word word_of older_keys l
 signal_words l none = rw (none 0 key.Optional (omega arith), none 1 key.Spn (omega arith), none 2 key.Values (omega arith))
 
 -- the rules of a signal in both, by whether it is repeated and whether it is a trouble code
@@ -88,52 +91,18 @@ unfolding flag_of
 optional_is ms lacks = rw (no_optional ms lacks)
 
 spn_is : (ms : Members) → IsThirdSignal ms → spn_of Fourth ms ≡ None
-unfolding given_number
+unfolding number_found
 spn_is ms lacks = rw (no_spn ms lacks)
 
 names_are : (ms : Members) → IsThirdSignal ms → name_table Fourth ms ≡ no_members
-unfolding table_of
+unfolding table_found
 names_are ms lacks = rw (no_values ms lacks)
 
-third_signal : (d : Data) (s : SignalParts) → IsThirdSignal (inside d) → IsSignalOf Fourth d s → IsSignalOf Third d s
-third_signal d s lacks told = record {
-  has_label = told.has_label;
-  has_start = told.has_start;
-  has_bits = told.has_bits;
-  has_kind = told.has_kind;
-  has_step = told.has_step;
-  has_offset = told.has_offset;
-  has_per = told.has_per;
-  has_unit = told.has_unit;
-  has_repeated = told.has_repeated;
-  has_optional = told.has_optional ∙ optional_is (inside d) lacks;
-}
+same_signal : (ms : Members) → IsThirdSignal ms → SameSignal Fourth Third ms
+same_signal ms lacks = record { kind = refl; per = refl; repeated = refl; optional = optional_is ms lacks }
 
-fourth_signal : (d : Data) (s : SignalParts) → IsThirdSignal (inside d) → IsSignalOf Third d s → IsSignalOf Fourth d s
-fourth_signal d s lacks told = record {
-  has_label = told.has_label;
-  has_start = told.has_start;
-  has_bits = told.has_bits;
-  has_kind = told.has_kind;
-  has_step = told.has_step;
-  has_offset = told.has_offset;
-  has_per = told.has_per;
-  has_unit = told.has_unit;
-  has_repeated = told.has_repeated;
-  has_optional = told.has_optional ∙ sym (optional_is (inside d) lacks);
-}
-
-third_meaning : (d : Data) (m : Meaning) → IsThirdSignal (inside d) → IsMeaningOf Fourth d m → IsMeaningOf Third d m
-third_meaning d m lacks told = record {
-  has_spn = told.has_spn ∙ spn_is (inside d) lacks;
-  has_values = subst (λ ms. AreValueNames ms m.values.items) (names_are (inside d) lacks) told.has_values;
-}
-
-fourth_meaning : (d : Data) (m : Meaning) → IsThirdSignal (inside d) → IsMeaningOf Third d m → IsMeaningOf Fourth d m
-fourth_meaning d m lacks told = record {
-  has_spn = told.has_spn ∙ sym (spn_is (inside d) lacks);
-  has_values = subst (λ ms. AreValueNames ms m.values.items) (sym (names_are (inside d) lacks)) told.has_values;
-}
+same_meaning : (ms : Members) → IsThirdSignal ms → SameMeaning Fourth Third ms
+same_meaning ms lacks = record { spn = spn_is ms lacks; names = names_are ms lacks }
 
 -- ---- groups
 
@@ -151,17 +120,16 @@ unfolding key_faults
 when_unfaulted at ms third = rw (no_when ms third)
 
 when_is : (ms : Members) → IsThirdGroup ms → when_table Fourth ms ≡ None
-unfolding table_of
+unfolding table_found
 when_is ms third = rw (no_when ms third)
 
 abbrev older_group_keys : List Key
 older_group_keys = key.Label ∷ key.Pgn ∷ key.Priority ∷ key.Length ∷ key.Private ∷ key.Most ∷ key.Every ∷ key.Signal ∷ key.Text ∷ []
 
 abbrev later_group_keys : List Key
-later_group_keys =
-    key.Label ∷ key.Pgn ∷ key.Priority ∷ key.Length ∷ key.Private ∷ key.Most ∷ key.Every ∷ key.When ∷ key.Signal ∷ key.Text ∷ []
+later_group_keys = key.Label ∷ key.Pgn ∷ key.Priority ∷ key.Length ∷ key.Private ∷ key.Most ∷ key.Every ∷ key.When ∷ key.Signal ∷ key.Text ∷ []
 
-group_words : (l : List ℕ) → IsNone (key.When ∷ []) l → is_key_word later_group_keys l ≡ is_key_word older_group_keys l
+group_words : (l : List ℕ) → IsNone (key.When ∷ []) l → is_key_word word_of later_group_keys l ≡ is_key_word word_of older_group_keys l
 group_words l none = rw (none 0 key.When (omega arith))
 
 group_keys_alike : (g : ℕ) (ms : Members) → IsThirdGroup ms → Alike (group_keys_faults Fourth g ms) (group_keys_faults Third g ms)
@@ -181,36 +149,13 @@ group_alike g seen d older =
     (alike_both _ _ _ _ (group_keys_alike g (inside d) older)
     (alike_both _ _ _ _ (signals_alike g (inside d) older) refl)))
 
-pub third_group : (d : Data) (g : GroupPlan) → IsThirdGroup (inside d) → IsGroupOf Fourth d g → IsGroupOf Third d g
-third_group d g older told = record {
-  has_label = told.has_label;
-  has_pgn = told.has_pgn;
-  has_priority = told.has_priority;
-  has_length = told.has_length;
-  has_private = told.has_private;
-  has_most = told.has_most;
-  has_every = told.has_every;
-  has_when = subst (λ t. TellsWhen t g.when) (when_is (inside d) older) told.has_when;
-  has_signals = told_alike IsThirdSignal (IsSignalOf Fourth) (IsSignalOf Third) third_signal
-      (tables_of signal_rule (inside d)) g.signals.items older.signals told.has_signals;
-  has_meanings = told_alike IsThirdSignal (IsMeaningOf Fourth) (IsMeaningOf Third) third_meaning
-      (tables_of signal_rule (inside d)) g.meanings.items older.signals told.has_meanings;
-  has_texts = told.has_texts;
-}
+same_group : (ms : Members) → IsThirdGroup ms → SameGroup Fourth Third ms
+same_group ms third = record { private = refl; most = refl; every = refl; when = when_is ms third; texts = refl }
 
-pub fourth_group : (d : Data) (g : GroupPlan) → IsThirdGroup (inside d) → IsGroupOf Third d g → IsGroupOf Fourth d g
-fourth_group d g older told = record {
-  has_label = told.has_label;
-  has_pgn = told.has_pgn;
-  has_priority = told.has_priority;
-  has_length = told.has_length;
-  has_private = told.has_private;
-  has_most = told.has_most;
-  has_every = told.has_every;
-  has_when = subst (λ t. TellsWhen t g.when) (sym (when_is (inside d) older)) told.has_when;
-  has_signals = told_alike IsThirdSignal (IsSignalOf Third) (IsSignalOf Fourth) fourth_signal
-      (tables_of signal_rule (inside d)) g.signals.items older.signals told.has_signals;
-  has_meanings = told_alike IsThirdSignal (IsMeaningOf Third) (IsMeaningOf Fourth) fourth_meaning
-      (tables_of signal_rule (inside d)) g.meanings.items older.signals told.has_meanings;
-  has_texts = told.has_texts;
-}
+pub group_told : (d : Data) (g : GroupPlan) → IsThirdGroup (inside d) → IsGroupOf Fourth d g ↔ IsGroupOf Third d g
+group_told d g third =
+    group_both d g (same_group (inside d) third)
+    (told_alike IsThirdSignal (IsSignalOf Fourth) (IsSignalOf Third) (λ d s lacks. signal_both d s (same_signal (inside d) lacks))
+    (tables_of signal_rule (inside d)) g.signals.items third.signals)
+    (told_alike IsThirdSignal (IsMeaningOf Fourth) (IsMeaningOf Third) (λ d m lacks. meaning_both d m (same_meaning (inside d) lacks))
+    (tables_of signal_rule (inside d)) g.meanings.items third.signals)

@@ -1,23 +1,26 @@
 -- A plan of version 4 in which nothing stands that it alone knows is one of version 3.
-use Rattle.std.proofs.Common.{◌≡◌, ◌≢◌, ℕ, pos, true, false, arith, List, [], ◌∷◌, Option, Some, None, IfSome, unwrap_or, refl, sym, ap, subst, ◌∙◌}
+use Rattle.std.proofs.Common.{◌≡◌, ◌≢◌, ℕ, pos, true, false, arith, List, [], ◌∷◌, Option, Some, None, unwrap_or, refl, ap}
 use Rattle.std.specs.Option.{option_and_then}
 use Rattle.std.proofs.lemmas.Bool.{le-ltb, ne_eqb}
 use Rattle.toml.specs.Data.{Data, string, integer, float, boolean, datetime, array, table, Members, get_member, as_integer}
-use Rattle.j39_network.specs.declared.plan.flow_plan.FlowPlan.{FlowPlan}
-use Rattle.j39_network.specs.declared.plan.timing.Timing.{Timing}
 use Rattle.j39_plan.specs.declared.reading.version.Version.TheVariants.{Third, Fourth}
 use Rattle.j39_plan.specs.declared.reading.key.Key.{Key}
 use Rattle.j39_plan.specs.declared.reading.key.Key.TheVariants as key
 use Rattle.j39_plan.specs.declared.reading.place.Table.{Table}
 use Rattle.j39_plan.specs.declared.reading.place.Table.TheVariants as at
 use Rattle.j39_plan.specs.Words.{word_of}
-use Rattle.j39_plan.specs.Schema.{has_key, bitrate_of_bus, natural, standing, number_of, given_number, flag_of, table_of}
-use Rattle.j39_plan.specs.TableFaults.{is_bitrate, standing_cause, key_faults, is_key_word}
+use Rattle.j39_plan.specs.Schema.{has_key, given_number}
+use Rattle.j39_tables.specs.Rules.{natural, standing, number_of, flag_of, table_found, number_found, integer_in, truth}
+use Rattle.j39_plan.specs.ValueCauses.{is_bitrate, bitrate_of_bus}
+use Rattle.j39_tables.specs.TableFaults.{standing_cause, key_faults, is_key_word}
 use Rattle.j39_plan.specs.Since.{versioned_faults}
-use Rattle.j39_plan.specs.Elements.{inside}
-use Rattle.j39_plan.specs.FlowTables.{period_rule, given_period, jitter_rule, jitter_most, jitter_of, pause_rule, on_request_rule, on_request_of, flow_rules, flow_table_faults, flow_faults, IsFlowOf}
-use Rattle.j39_plan.specs.TimingTables.{bitrate_of, TellsErrors, bitrate_rule, unplanned_priority_rule, transport_priority_rule, gap_rule, gap_most_rule, errors_rule, timing_table_faults, errors_table, TellsBus}
+use Rattle.j39_tables.specs.InOrder.{inside}
+use Rattle.j39_plan.specs.FlowTables.{period_rule, given_period, jitter_rule, jitter_most, jitter_of, pause_rule, on_request_rule, on_request_of, flow_rules}
+use Rattle.j39_plan.specs.FlowTables.{flow_table_faults, flow_faults}
+use Rattle.j39_plan.specs.TimingTables.{bitrate_of, bitrate_rule, unplanned_priority_rule, transport_priority_rule, gap_rule, gap_most_rule, errors_rule}
+use Rattle.j39_plan.specs.TimingTables.{timing_table_faults, errors_table}
 use Rattle.j39_plan.specs.Versions.{fourth_bus_keys, fourth_flow_keys, IsThirdBus, IsThirdFlow}
+use Rattle.j39_plan.proofs.SameParts.{SameFlow, SameBus}
 use Rattle.j39_plan.proofs.Absent.{lacked, IsNone, only_same, Alike, alike_both, alike_unknown, alike_inside}
 
 -- ---- flows
@@ -44,11 +47,11 @@ older_keys period = key.Group ∷ key.From ∷ key.To ∷ period ∷ key.Deadlin
 abbrev later_keys : Key → List Key
 later_keys period = key.Group ∷ key.From ∷ key.To ∷ period ∷ key.Deadline ∷ key.Jitter ∷ key.Pause ∷ key.OnRequest ∷ []
 
-flow_words : (period : Key) (l : List ℕ) → IsNone fourth_flow_keys l → is_key_word (later_keys period) l ≡ is_key_word (older_keys period) l
+flow_words : (period : Key) (l : List ℕ) → IsNone fourth_flow_keys l → is_key_word word_of (later_keys period) l ≡ is_key_word word_of (older_keys period) l
 flow_words period l none = rw (none 0 key.Jitter (omega arith), none 1 key.Pause (omega arith), none 2 key.OnRequest (omega arith))
 
 jitter_unfaulted : (at : Table) (ms : Members) (period : Option ℕ) → get_member (word_of key.Jitter) ms ≡ None → key_faults at ms (jitter_rule period) ≡ []
-unfolding key_faults
+unfolding key_faults integer_in
 jitter_unfaulted at ms period none = rw (none, le-ltb (jitter_most period) 0 (omega arith))
 
 pause_unfaulted : (at : Table) (ms : Members) (period : Option ℕ) → get_member (word_of key.Pause) ms ≡ None → key_faults at ms (pause_rule period) ≡ []
@@ -56,7 +59,7 @@ unfolding key_faults
 pause_unfaulted at ms period none = rw none
 
 on_request_unfaulted : (at : Table) (ms : Members) → get_member (word_of key.OnRequest) ms ≡ None → key_faults at ms on_request_rule ≡ []
-unfolding key_faults
+unfolding key_faults truth
 on_request_unfaulted at ms none = rw none
 
 flow_keys_alike : (at : Table) (ms : Members) → IsThirdFlow ms
@@ -85,7 +88,7 @@ unfolding number_of
 jitter_none ms period none = rw none
 
 pause_none : (ms : Members) (period : Option ℕ) → get_member (word_of key.Pause) ms ≡ None → given_number (pause_rule period) ms ≡ None
-unfolding given_number
+unfolding number_found
 pause_none ms period none = rw none
 
 on_request_none : (ms : Members) → get_member (word_of key.OnRequest) ms ≡ None → on_request_of Fourth ms ≡ false
@@ -95,34 +98,13 @@ on_request_none ms none = rw none
 period_told : (ms : Members) → IsThirdFlow ms → given_period Fourth ms ≡ given_period Third ms
 period_told ms lacks = ap (λ r. given_number r ms) (period_same ms lacks)
 
-pub third_flow : (groups units : List (List ℕ)) (d : Data) (f : FlowPlan) → IsThirdFlow (inside d)
-    → IsFlowOf Fourth groups units d f → IsFlowOf Third groups units d f
-third_flow groups units d f lacks told = record {
-  has_group = told.has_group;
-  has_sender = told.has_sender;
-  has_receivers = told.has_receivers;
-  has_pace = record {
-    has_period = told.has_pace.has_period ∙ period_told (inside d) lacks;
-    has_deadline = told.has_pace.has_deadline;
-    has_jitter = subst (λ n. IfSome f.pace (λ p. p.jitter ≡ n)) (jitter_none (inside d) (given_period Fourth (inside d)) (no_jitter (inside d) lacks)) told.has_pace.has_jitter;
-  };
-  has_pause = told.has_pause ∙ pause_none (inside d) (given_number (period_rule Fourth (inside d)) (inside d)) (no_pause (inside d) lacks);
-  has_on_request = told.has_on_request ∙ on_request_none (inside d) (no_on_request (inside d) lacks);
-}
-
-pub fourth_flow : (groups units : List (List ℕ)) (d : Data) (f : FlowPlan) → IsThirdFlow (inside d)
-    → IsFlowOf Third groups units d f → IsFlowOf Fourth groups units d f
-fourth_flow groups units d f lacks told = record {
-  has_group = told.has_group;
-  has_sender = told.has_sender;
-  has_receivers = told.has_receivers;
-  has_pace = record {
-    has_period = told.has_pace.has_period ∙ sym (period_told (inside d) lacks);
-    has_deadline = told.has_pace.has_deadline;
-    has_jitter = subst (λ n. IfSome f.pace (λ p. p.jitter ≡ n)) (sym (jitter_none (inside d) (given_period Fourth (inside d)) (no_jitter (inside d) lacks))) told.has_pace.has_jitter;
-  };
-  has_pause = told.has_pause ∙ sym (pause_none (inside d) (given_number (period_rule Fourth (inside d)) (inside d)) (no_pause (inside d) lacks));
-  has_on_request = told.has_on_request ∙ sym (on_request_none (inside d) (no_on_request (inside d) lacks));
+pub same_flow : (ms : Members) → IsThirdFlow ms → SameFlow Fourth Third ms
+same_flow ms lacks = record {
+  period = period_told ms lacks;
+  deadline = refl;
+  jitter = jitter_none ms (given_period Fourth ms) (no_jitter ms lacks);
+  pause = pause_none ms (given_period Fourth ms) (no_pause ms lacks);
+  on_request = on_request_none ms (no_on_request ms lacks);
 }
 
 -- ---- the bus
@@ -144,8 +126,15 @@ without ms third = record {
   errors = lacked key.Errors ms (third.keys 4 key.Errors (omega arith));
 }
 
+-- the keys of the bus in the fourth version, and in the third
+abbrev later_bus_keys : List Key
+later_bus_keys = key.Bitrate ∷ key.Unplanned ∷ fourth_bus_keys
+
+abbrev older_bus_keys : List Key
+older_bus_keys = key.Bitrate ∷ key.Unplanned ∷ []
+
 bus_words : (l : List ℕ) → IsNone fourth_bus_keys l
-    → is_key_word (key.Bitrate ∷ key.Unplanned ∷ fourth_bus_keys) l ≡ is_key_word (key.Bitrate ∷ key.Unplanned ∷ []) l
+    → is_key_word word_of later_bus_keys l ≡ is_key_word word_of older_bus_keys l
 bus_words l none = rw (
   none 0 key.UnplannedPriority (omega arith),
   none 1 key.TransportPriority (omega arith),
@@ -159,7 +148,8 @@ bitrate_same n not_slowest not_fastest = rw (ne_eqb n 125000 not_slowest, ne_eqb
 
 bitrate_cause : (found : Option Data) → natural (unwrap_or (option_and_then as_integer found) (pos 0)) ≢ 125000
     → natural (unwrap_or (option_and_then as_integer found) (pos 0)) ≢ 1000000
-    → standing_cause (bitrate_of_bus true) found ≡ standing_cause (bitrate_of_bus false) found
+    → standing_cause (bitrate_rule Fourth) found ≡ standing_cause (bitrate_rule Third) found
+unfolding bitrate_of_bus
 bitrate_cause None a b = refl
 bitrate_cause (Some (integer z)) a b = rw (bitrate_same (natural z) a b)
 bitrate_cause (Some (string s)) a b = refl
@@ -185,7 +175,7 @@ record Unfaulted (ms : Members) : Type 0 where
   errors : key_faults at.Timing ms errors_rule ≡ []
 
 unfaulted : (ms : Members) → Without ms → Unfaulted ms
-unfolding key_faults
+unfolding key_faults integer_in
 unfaulted ms w = record {
   unplanned_priority = rw w.unplanned_priority;
   transport_priority = rw w.transport_priority;
@@ -195,7 +185,7 @@ unfaulted ms w = record {
 }
 
 no_errors : (ms : Members) → Without ms → errors_table Fourth ms ≡ None
-unfolding table_of
+unfolding table_found
 no_errors ms w = rw w.errors
 
 pub timing_alike : (ms : Members) → IsThirdBus ms → Alike (timing_table_faults Fourth ms) (timing_table_faults Third ms)
@@ -204,7 +194,7 @@ timing_alike ms third =
     let w = without ms third in
     let u = unfaulted ms w in
     alike_both _ _ _ _
-    (alike_both _ _ _ _ (alike_unknown at.Timing _ _ ms ms (only_same (key.Bitrate ∷ key.Unplanned ∷ fourth_bus_keys) (key.Bitrate ∷ key.Unplanned ∷ []) fourth_bus_keys bus_words ms third.keys))
+    (alike_both _ _ _ _ (alike_unknown at.Timing _ _ ms ms (only_same later_bus_keys older_bus_keys fourth_bus_keys bus_words ms third.keys))
     (rw (bitrate_alike ms third, u.unplanned_priority, u.transport_priority, u.gap, u.gap_most, u.errors) refl))
     (rw (no_errors ms w) refl)
 
@@ -228,30 +218,15 @@ bitrate_told : (ms : Members) → number_of (bitrate_rule Fourth) ms ≡ number_
 unfolding number_of
 bitrate_told ms = refl
 
-pub third_bus : (ms : Members) (t : Timing) → IsThirdBus ms → TellsBus Fourth ms t → TellsBus Third ms t
-third_bus ms t third told =
+pub same_bus : (ms : Members) → IsThirdBus ms → SameBus Fourth Third ms
+same_bus ms third =
     let w = without ms third in
     let g = given ms w in
     record {
-      has_bitrate = told.has_bitrate ∙ ap bitrate_of (bitrate_told ms);
-      has_unplanned = told.has_unplanned;
-      has_unplanned_priority = told.has_unplanned_priority ∙ g.unplanned_priority;
-      has_transport_priority = told.has_transport_priority ∙ g.transport_priority;
-      has_gap = told.has_gap ∙ g.gap;
-      has_gap_most = told.has_gap_most ∙ g.gap_most;
-      has_errors = subst (λ found. TellsErrors found t.errors) (no_errors ms w) told.has_errors;
-    }
-
-pub fourth_bus : (ms : Members) (t : Timing) → IsThirdBus ms → TellsBus Third ms t → TellsBus Fourth ms t
-fourth_bus ms t third told =
-    let w = without ms third in
-    let g = given ms w in
-    record {
-      has_bitrate = told.has_bitrate ∙ sym (ap bitrate_of (bitrate_told ms));
-      has_unplanned = told.has_unplanned;
-      has_unplanned_priority = told.has_unplanned_priority ∙ sym g.unplanned_priority;
-      has_transport_priority = told.has_transport_priority ∙ sym g.transport_priority;
-      has_gap = told.has_gap ∙ sym g.gap;
-      has_gap_most = told.has_gap_most ∙ sym g.gap_most;
-      has_errors = subst (λ found. TellsErrors found t.errors) (sym (no_errors ms w)) told.has_errors;
+      bitrate = ap bitrate_of (bitrate_told ms);
+      unplanned_priority = g.unplanned_priority;
+      transport_priority = g.transport_priority;
+      gap = g.gap;
+      gap_most = g.gap_most;
+      errors = no_errors ms w;
     }

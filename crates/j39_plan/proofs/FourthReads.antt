@@ -1,32 +1,37 @@
 -- A plan of version 4 in which nothing stands that it alone knows is read as one of version 3.
-use Rattle.std.proofs.Common.{◌≡◌, ℕ, true, false, arith, List, [], ◌∷◌, Option, Some, None, IfSome, refl, sym, ◌∙◌}
+use Rattle.std.proofs.Common.{◌≡◌, ℕ, false, arith, List, [], ◌∷◌, Option, Some, None, IfSome, refl, sym, ◌∙◌}
 use Rattle.std.specs.Option.{option_map_or}
 use Rattle.toml.specs.Data.{no_items, Members, get_member}
 use Rattle.j39_network.specs.declared.plan.Plan.{Plan}
-use Rattle.j39_network.specs.declared.plan.timing.Timing.{Timing}
 use Rattle.j39_plan.specs.declared.reading.version.Version.TheVariants.{Third, Fourth}
 use Rattle.j39_plan.specs.declared.reading.key.Key.{Key}
 use Rattle.j39_plan.specs.declared.reading.key.Key.TheVariants as key
 use Rattle.j39_plan.specs.declared.reading.place.Table.TheVariants as at
 use Rattle.j39_plan.specs.Words.{word_of}
-use Rattle.j39_plan.specs.Schema.{number_of, flag_of, table_of, tables_of}
-use Rattle.j39_plan.specs.TableFaults.{key_faults, is_key_word, has_only}
+use Rattle.j39_tables.specs.Rules.{number_of, flag_of, array_found, integer_in, truth, array_up_to}
+use Rattle.j39_plan.specs.Schema.{table_of, tables_of}
+use Rattle.j39_tables.specs.TableFaults.{key_faults, is_key_word, has_only}
 use Rattle.j39_plan.specs.Since.{known_faults}
-use Rattle.j39_plan.specs.Elements.{each_faults, label_in}
+use Rattle.j39_tables.specs.InOrder.{each_faults, inside}
+use Rattle.j39_plan.specs.LabelsSeen.{label_in}
 use Rattle.j39_plan.specs.UnitTables.{IsUnitOf, unit_faults, unit_label_in}
 use Rattle.j39_plan.specs.GroupTables.{IsGroupOf, group_faults}
 use Rattle.j39_plan.specs.FlowTables.{IsFlowOf, flow_faults}
-use Rattle.j39_plan.specs.TimingTables.{timing_table_faults, TellsTiming}
-use Rattle.j39_plan.specs.PlanFaults.{version_rule, keep_free_rule, strangers_rule, strangers_of, strangers_faults, live_rule, live_of, live_faults, timing_rule, units_rule, groups_rule, flows_rule, needs_rule, requests_rule, version_of, head_faults, timing_faults, array_rules, top_faults, unit_labels, group_labels, units_faults, groups_faults, flows_faults, needs_faults, need_tables_of, requests_faults, request_tables_of, no_label, faults}
-use Rattle.j39_plan.specs.Described.{keep_free_of, TellsPlan}
+use Rattle.j39_plan.specs.TimingTables.{timing_table_faults}
+use Rattle.j39_plan.specs.PlanFaults.{version_rule, keep_free_rule, strangers_rule, strangers_of, strangers_faults, live_rule, live_of, live_faults}
+use Rattle.j39_plan.specs.PlanFaults.{timing_rule, units_rule, groups_rule, flows_rule, needs_rule, requests_rule, version_of, head_faults, timing_faults}
+use Rattle.j39_plan.specs.PlanFaults.{array_rules, top_faults, unit_labels, group_labels, units_faults, groups_faults, flows_faults, needs_faults}
+use Rattle.j39_plan.specs.PlanFaults.{need_tables_of, requests_faults, request_tables_of, no_label, faults}
+use Rattle.j39_plan.specs.Described.{keep_free_of}
 use Rattle.j39_plan.specs.Versions.{with_version, fourth_top_keys, Lacks, IsThirdBus, IsThirdUnit, IsThirdGroup, IsThirdFlow, IsThirdPlan, ReadAlike}
 use Rattle.j39_plan.proofs.Absent.{lacked, IsNone, only_same, Alike, alike_both, alike_unknown, alike_each, told_alike}
 use Rattle.j39_plan.proofs.KnownVersions.{version_unfaulted, knows_4, knows_3, each_nothing}
 use Rattle.j39_plan.proofs.ReadAlike.{reads_alike}
 use Rattle.j39_plan.proofs.OtherVersion.{only_other, key_faults_other, table_other, tables_other, addresses_other, version_other}
-use Rattle.j39_plan.proofs.FourthUnits.{unit_alike, third_unit, fourth_unit}
-use Rattle.j39_plan.proofs.FourthGroups.{group_alike, third_group, fourth_group}
-use Rattle.j39_plan.proofs.FourthPlans.{flow_alike, third_flow, fourth_flow, timing_alike, third_bus, fourth_bus}
+use Rattle.j39_plan.proofs.FourthUnits.{unit_alike, same_unit}
+use Rattle.j39_plan.proofs.FourthGroups.{group_alike, group_told}
+use Rattle.j39_plan.proofs.FourthPlans.{flow_alike, same_flow, timing_alike, same_bus}
+use Rattle.j39_plan.proofs.SameParts.{SameBus, SamePlan, unit_both, flow_both, timing_both, plan_both}
 
 -- ---- the top table
 
@@ -38,13 +43,13 @@ abbrev third_keys : List Key
 third_keys = key.Version ∷ key.KeepFree ∷ key.Timing ∷ key.Unit ∷ key.Group ∷ key.Flow ∷ []
 
 top_words : (l : List ℕ) → IsNone fourth_top_keys l
-    → is_key_word fourth_keys l
-    ≡ is_key_word third_keys l
+    → is_key_word word_of fourth_keys l
+    ≡ is_key_word word_of third_keys l
 top_words l none = rw (none 0 key.Strangers (omega arith), none 1 key.Live (omega arith), none 2 key.Need (omega arith), none 3 key.Request (omega arith))
 
 known_alike : (n : ℕ) (tree : Members) → Lacks fourth_top_keys tree
-    → has_only fourth_keys tree
-    ≡ has_only third_keys (with_version n tree)
+    → has_only word_of fourth_keys tree
+    ≡ has_only word_of third_keys (with_version n tree)
 known_alike n tree lacks =
     only_same fourth_keys third_keys fourth_top_keys top_words tree lacks
     ∙ sym (only_other n third_keys tree)
@@ -75,7 +80,7 @@ no_strangers : (s : Members) → Lacks fourth_top_keys s → get_member (word_of
 no_strangers s lacks = lacked key.Strangers s (lacks 0 key.Strangers (omega arith))
 
 strangers_unfaulted : (s : Members) → get_member (word_of key.Strangers) s ≡ None → key_faults at.Top s strangers_rule ≡ []
-unfolding key_faults
+unfolding key_faults integer_in
 strangers_unfaulted s none = rw none
 
 strangers_alike : (s : Members) → Beside s → Alike (strangers_faults s) (strangers_faults (with_version 3 s))
@@ -94,7 +99,7 @@ no_live : (s : Members) → Lacks fourth_top_keys s → get_member (word_of key.
 no_live s lacks = lacked key.Live s (lacks 1 key.Live (omega arith))
 
 live_unfaulted : (s : Members) → get_member (word_of key.Live) s ≡ None → key_faults at.Top s live_rule ≡ []
-unfolding key_faults
+unfolding key_faults truth
 live_unfaulted s none = rw none
 
 live_alike : (s : Members) → Beside s → Alike (live_faults s) (live_faults (with_version 3 s))
@@ -129,7 +134,7 @@ unfolding key_faults
 needs_unfaulted s none = rw none
 
 no_need_tables : (s : Members) → get_member (word_of key.Need) s ≡ None → need_tables_of Fourth s ≡ no_items
-unfolding tables_of
+unfolding tables_of array_found array_up_to
 no_need_tables s none = rw none
 
 no_requests : (s : Members) → Lacks fourth_top_keys s → get_member (word_of key.Request) s ≡ None
@@ -140,7 +145,7 @@ unfolding key_faults
 requests_unfaulted s none = rw none
 
 no_request_tables : (s : Members) → get_member (word_of key.Request) s ≡ None → request_tables_of Fourth s ≡ no_items
-unfolding tables_of
+unfolding tables_of array_found array_up_to
 no_request_tables s none = rw none
 
 arrays_alike : (s : Members) → Beside s
@@ -203,71 +208,36 @@ faults_alike s b =
 
 -- ---- what is told
 
-bus_older : (found : Option Members) (t : Option Timing) → IfSome found IsThirdBus → TellsTiming Fourth found t → TellsTiming Third found t
-bus_older None None third told = tt
-bus_older None (Some t) third told = absurd told
-bus_older (Some ms) None third told = absurd told
-bus_older (Some ms) (Some t) third told = third_bus ms t third told
-
-bus_newer : (found : Option Members) (t : Option Timing) → IfSome found IsThirdBus → TellsTiming Third found t → TellsTiming Fourth found t
-bus_newer None None third told = tt
-bus_newer None (Some t) third told = absurd told
-bus_newer (Some ms) None third told = absurd told
-bus_newer (Some ms) (Some t) third told = fourth_bus ms t third told
-
 kept_alike : (s : Members) → Beside s → keep_free_of (with_version 3 s) ≡ keep_free_of s
 kept_alike s b = rw (knows_4 s b.is, knows_3 (with_version 3 s) b.other, addresses_other 3 keep_free_rule s refl)
 
-third_plan : (s : Members) (p : Plan) → Beside s → TellsPlan s p → TellsPlan (with_version 3 s) p
-third_plan s p b told =
-    let k = knows_4 s b.is in
-    let o = knows_3 (with_version 3 s) b.other in
-    record {
-      has_keep_free = told.has_keep_free ∙ sym (kept_alike s b);
-      has_strangers = told.has_strangers ∙ sym (as_many s b);
-      has_live = told.has_live ∙ sym (as_live s b);
-      has_timing = rw (o, table_other 3 timing_rule s refl)
-          (bus_older (table_of timing_rule s) p.timing b.older.bus (rw k at told.has_timing));
-      has_units = rw (o, tables_other 3 units_rule s refl)
-          (told_alike IsThirdUnit (IsUnitOf Fourth) (IsUnitOf Third) third_unit (tables_of units_rule s) p.units.items b.older.units
-          (rw k at told.has_units));
-      has_groups = rw (o, tables_other 3 groups_rule s refl)
-          (told_alike IsThirdGroup (IsGroupOf Fourth) (IsGroupOf Third) third_group (tables_of groups_rule s) p.groups.items b.older.groups
-          (rw k at told.has_groups));
-      has_flows = rw (o, tables_other 3 units_rule s refl, tables_other 3 groups_rule s refl, tables_other 3 flows_rule s refl)
-          (told_alike IsThirdFlow (IsFlowOf Fourth (group_labels s) (unit_labels s)) (IsFlowOf Third (group_labels s) (unit_labels s))
-          (third_flow (group_labels s) (unit_labels s)) (tables_of flows_rule s) p.flows.items b.older.flows (rw k at told.has_flows));
-      has_needs = rw o (each_nothing _ _ p.needs.items (rw (k, no_need_tables s (no_needs s b.older.keys)) at told.has_needs));
-      has_requests = rw o
-          (each_nothing _ _ p.requests.items (rw (k, no_request_tables s (no_requests s b.older.keys)) at told.has_requests));
-    }
+bus_same : (found : Option Members) → IfSome found IsThirdBus → IfSome found (SameBus Fourth Third)
+bus_same None third = tt
+bus_same (Some ms) third = same_bus ms third
 
-fourth_plan : (s : Members) (p : Plan) → Beside s → TellsPlan (with_version 3 s) p → TellsPlan s p
-fourth_plan s p b told =
+same_plan : (s : Members) (p : Plan) → Beside s → SamePlan s (with_version 3 s) p
+same_plan s p b =
     let k = knows_4 s b.is in
     let o = knows_3 (with_version 3 s) b.other in
     record {
-      has_keep_free = told.has_keep_free ∙ kept_alike s b;
-      has_strangers = told.has_strangers ∙ as_many s b;
-      has_live = told.has_live ∙ as_live s b;
-      has_timing = rw k
-          (bus_newer (table_of timing_rule s) p.timing b.older.bus (rw (o, table_other 3 timing_rule s refl) at told.has_timing));
-      has_units = rw k
-          (told_alike IsThirdUnit (IsUnitOf Third) (IsUnitOf Fourth) fourth_unit (tables_of units_rule s) p.units.items b.older.units
-          (rw (o, tables_other 3 units_rule s refl) at told.has_units));
-      has_groups = rw k
-          (told_alike IsThirdGroup (IsGroupOf Third) (IsGroupOf Fourth) fourth_group (tables_of groups_rule s) p.groups.items b.older.groups
-          (rw (o, tables_other 3 groups_rule s refl) at told.has_groups));
-      has_flows = rw k
-          (told_alike IsThirdFlow (IsFlowOf Third (group_labels s) (unit_labels s)) (IsFlowOf Fourth (group_labels s) (unit_labels s))
-          (fourth_flow (group_labels s) (unit_labels s)) (tables_of flows_rule s) p.flows.items b.older.flows
-          (rw (o, tables_other 3 units_rule s refl, tables_other 3 groups_rule s refl, tables_other 3 flows_rule s refl) at told.has_flows));
-      has_needs = rw (k, no_need_tables s (no_needs s b.older.keys)) (each_nothing _ _ p.needs.items (rw o at told.has_needs));
-      has_requests = rw (k, no_request_tables s (no_requests s b.older.keys))
-          (each_nothing _ _ p.requests.items (rw o at told.has_requests));
+      keep_free = sym (kept_alike s b);
+      strangers = sym (as_many s b);
+      live = sym (as_live s b);
+      timing = rw (k, o, table_other 3 timing_rule s refl)
+          (timing_both Fourth Third (table_of timing_rule s) p.timing (bus_same (table_of timing_rule s) b.older.bus));
+      units = rw (k, o, tables_other 3 units_rule s refl)
+          (told_alike IsThirdUnit (IsUnitOf Fourth) (IsUnitOf Third) (λ d u third. unit_both d u (same_unit (inside d) third))
+          (tables_of units_rule s) p.units.items b.older.units);
+      groups = rw (k, o, tables_other 3 groups_rule s refl)
+          (told_alike IsThirdGroup (IsGroupOf Fourth) (IsGroupOf Third) group_told (tables_of groups_rule s) p.groups.items b.older.groups);
+      flows = rw (k, o, tables_other 3 units_rule s refl, tables_other 3 groups_rule s refl, tables_other 3 flows_rule s refl)
+          (told_alike IsThirdFlow (IsFlowOf Fourth (group_labels s) (unit_labels s)) (IsFlowOf Third (group_labels s) (unit_labels s))
+          (λ d f third. flow_both (group_labels s) (unit_labels s) d f (same_flow (inside d) third)) (tables_of flows_rule s) p.flows.items b.older.flows);
+      needs = rw (k, o, no_need_tables s (no_needs s b.older.keys)) (each_nothing _ _ p.needs.items);
+      requests = rw (k, o, no_request_tables s (no_requests s b.older.keys)) (each_nothing _ _ p.requests.items);
     }
 
 pub fourth_reads : (s : Members) → number_of version_rule s ≡ 4 → IsThirdPlan s → ReadAlike s (with_version 3 s)
 fourth_reads s is older =
     let b = beside s is older in
-    reads_alike s (with_version 3 s) (λ p. (third_plan s p b, fourth_plan s p b)) (faults_alike s b)
+    reads_alike s (with_version 3 s) (λ p. plan_both (same_plan s p b)) (faults_alike s b)

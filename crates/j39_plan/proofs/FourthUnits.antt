@@ -5,7 +5,6 @@ use Rattle.std.proofs.lemmas.Bool.{false≢true}
 use Rattle.toml.specs.Data.{Data, Members, no_members, get_member, as_table}
 use Rattle.j39_id.specs.Name.{name_number}
 use Rattle.j39_network.specs.declared.plan.queue.Queue.TheVariants.{Priority}
-use Rattle.j39_network.specs.declared.plan.unit_plan.UnitPlan.{UnitPlan}
 use Rattle.j39_plan.specs.declared.reading.version.Version.TheVariants.{Third, Fourth}
 use Rattle.j39_plan.specs.declared.reading.key.Key.{Key}
 use Rattle.j39_plan.specs.declared.reading.key.Key.TheVariants as key
@@ -13,13 +12,16 @@ use Rattle.j39_plan.specs.declared.reading.place.Table.{Table}
 use Rattle.j39_plan.specs.declared.reading.place.Table.TheVariants as at
 use Rattle.j39_plan.specs.declared.reading.text_kind.TextKind.TheVariants as texts
 use Rattle.j39_plan.specs.Words.{word_of}
-use Rattle.j39_plan.specs.Schema.{flag_of, has_key, number_of, table_of, text_of}
-use Rattle.j39_plan.specs.TableFaults.{key_faults, table_only_faults, is_key_word}
+use Rattle.j39_tables.specs.Rules.{flag_of, number_of, text_of, truth, text_where}
+use Rattle.j39_plan.specs.Schema.{has_key, table_of}
+use Rattle.j39_tables.specs.TableFaults.{key_faults, table_only_faults, is_key_word}
 use Rattle.j39_plan.specs.Since.{versioned_faults}
-use Rattle.j39_plan.specs.Elements.{inside, repeated_faults}
+use Rattle.j39_tables.specs.InOrder.{inside}
+use Rattle.j39_plan.specs.LabelsSeen.{repeated_faults}
 use Rattle.j39_plan.specs.UnitTables.{any_identity_of, lacks_identity, name_faults, name_fields_of, name_of, name_rule}
-use Rattle.j39_plan.specs.UnitTables.{claims_rule, claims_of, queue_rule, queue_of, unit_rules, unit_label_in, unit_table_faults, unit_faults, IsUnitOf}
+use Rattle.j39_plan.specs.UnitTables.{claims_rule, claims_of, queue_rule, queue_of, unit_rules, unit_label_in, unit_table_faults, unit_faults}
 use Rattle.j39_plan.specs.Versions.{IsThirdUnit}
+use Rattle.j39_plan.proofs.SameParts.{SameUnit}
 use Rattle.j39_plan.proofs.Absent.{lacked, IsNone, only_same, Alike, alike_both, alike_between, alike_unknown, alike_inside}
 
 no_claims : (ms : Members) → IsThirdUnit ms → get_member (word_of key.Claims) ms ≡ None
@@ -35,15 +37,15 @@ older_keys = key.Label ∷ key.Address ∷ key.Chooser ∷ key.Window ∷ key.Na
 abbrev later_keys : List Key
 later_keys = key.Label ∷ key.Address ∷ key.Chooser ∷ key.Window ∷ key.Queue ∷ key.Name ∷ key.Claims ∷ []
 
-unit_words : (l : List ℕ) → IsNone (key.Queue ∷ key.Claims ∷ []) l → is_key_word later_keys l ≡ is_key_word older_keys l
+unit_words : (l : List ℕ) → IsNone (key.Queue ∷ key.Claims ∷ []) l → is_key_word word_of later_keys l ≡ is_key_word word_of older_keys l
 unit_words l none = rw (none 0 key.Queue (omega arith), none 1 key.Claims (omega arith))
 
 claims_unfaulted : (at : Table) (ms : Members) → IsThirdUnit ms → key_faults at ms claims_rule ≡ []
-unfolding key_faults
+unfolding key_faults truth
 claims_unfaulted at ms lacks = rw (no_claims ms lacks)
 
 queue_unfaulted : (at : Table) (ms : Members) → IsThirdUnit ms → key_faults at ms queue_rule ≡ []
-unfolding key_faults
+unfolding key_faults text_where
 queue_unfaulted at ms lacks = rw (no_queue ms lacks)
 
 unit_keys_alike : (at : Table) (ms : Members) → IsThirdUnit ms → Alike (versioned_faults at Fourth unit_rules ms) (versioned_faults at Third unit_rules ms)
@@ -112,26 +114,5 @@ unit_alike i seen d lacks =
     (alike_inside fourth third d
     (alike_both _ _ _ _ (unit_keys_alike (at.Unit i) (inside d) lacks) (rw ((names_of i (inside d) lacks).0, claims_is (inside d) lacks, name_is (inside d) lacks) refl)))
 
-pub third_unit : (d : Data) (u : UnitPlan) → IsThirdUnit (inside d) → IsUnitOf Fourth d u → IsUnitOf Third d u
-third_unit d u lacks told = record {
-  has_label = told.has_label;
-  has_address = told.has_address;
-  has_way = told.has_way;
-  has_window = told.has_window;
-  has_name = told.has_name ∙ name_is (inside d) lacks;
-  has_number = told.has_number ∙ number_is (inside d) lacks;
-  has_queue = told.has_queue ∙ queue_is (inside d) lacks;
-  has_claims = told.has_claims ∙ claims_is (inside d) lacks;
-}
-
-pub fourth_unit : (d : Data) (u : UnitPlan) → IsThirdUnit (inside d) → IsUnitOf Third d u → IsUnitOf Fourth d u
-fourth_unit d u lacks told = record {
-  has_label = told.has_label;
-  has_address = told.has_address;
-  has_way = told.has_way;
-  has_window = told.has_window;
-  has_name = told.has_name ∙ sym (name_is (inside d) lacks);
-  has_number = told.has_number ∙ sym (number_is (inside d) lacks);
-  has_queue = told.has_queue ∙ sym (queue_is (inside d) lacks);
-  has_claims = told.has_claims ∙ sym (claims_is (inside d) lacks);
-}
+pub same_unit : (ms : Members) → IsThirdUnit ms → SameUnit Fourth Third ms
+same_unit ms lacks = record { name = name_is ms lacks; number = number_is ms lacks; queue = queue_is ms lacks; claims = claims_is ms lacks }

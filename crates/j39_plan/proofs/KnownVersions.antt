@@ -1,22 +1,24 @@
 -- What versions know, and what stands alike in a tree with another one.
-use Rattle.std.proofs.Common.{◌≡◌, ◌≤◌, ℕ, pos, negsuc, refl, arith, List, [], ◌∷◌, Option, Some, None, unwrap_or}
+use Rattle.std.proofs.Common.{◌≡◌, ◌↔◌, ◌≤◌, ℕ, pos, negsuc, refl, arith, List, [], ◌∷◌, Option, Some, None, unwrap_or}
 use Rattle.std.specs.Option.{option_and_then, option_or}
 use Rattle.std.proofs.lemmas.Bool.{le-ltb}
-use Rattle.toml.specs.Data.{Data, string, integer, float, boolean, datetime, array, table, no_items, Members, get_member, as_integer}
+use Rattle.toml.specs.Data.{Data, string, integer, float, boolean, datetime, array, table, Items, no_items, Members, get_member, as_integer}
 use Rattle.j39_plan.specs.declared.reading.key.Key.TheVariants as key
 use Rattle.j39_plan.specs.declared.reading.place.Table.TheVariants as at
 use Rattle.j39_plan.specs.declared.reading.version.Version.TheVariants.{Second, Third, Fourth}
 use Rattle.j39_plan.specs.Words.{word_of}
-use Rattle.j39_plan.specs.Schema.{integer_in, natural, number_of}
-use Rattle.j39_plan.specs.TableFaults.{standing_cause, key_faults}
-use Rattle.j39_plan.specs.Elements.{Each}
+use Rattle.j39_tables.specs.Rules.{natural, number_of, integer_in}
+use Rattle.j39_tables.specs.TableFaults.{standing_cause, key_faults}
+use Rattle.j39_tables.specs.InOrder.{Each}
 use Rattle.j39_plan.specs.PlanFaults.{version_rule, version_of}
+use Rattle.j39_plan.proofs.NoFaults.{Each-weaken}
 
 no_version : (n : ℕ) → 1 ≤ n → 0 ≡ n → ⊥
 no_version n some is = omega (arith, is)
 
 version_cause : (n : ℕ) (found : Option Data) → 1 ≤ n → n ≤ 4 → natural (unwrap_or (option_and_then as_integer (option_or found None)) (pos 0)) ≡ n
-    → standing_cause (integer_in (pos 1) (pos 4)) (option_or found None) ≡ None
+    → standing_cause version_rule (option_or found None) ≡ None
+unfolding integer_in
 version_cause n None some few is = absurd (no_version n some is)
 version_cause n (Some (integer (pos m))) some few is =
     let same : m ≡ n = is in
@@ -46,7 +48,12 @@ unfolding version_of
 knows_4 tree is = rw is refl
 
 -- no elements tell nothing
-pub each_nothing : {T : Type 0} (Is Was : Data → T → Type 0) (xs : List T) → Each Is no_items xs → Each Was no_items xs
+pub each_nothing : {T : Type 0} (Is Was : Data → T → Type 0) (xs : List T) → Each Is no_items xs ↔ Each Was no_items xs
 unfolding Each
-each_nothing Is Was [] each = tt
-each_nothing Is Was (x ∷ xs) each = each
+each_nothing Is Was [] = (λ each. tt, λ each. tt)
+each_nothing Is Was (x ∷ xs) = (λ each. each, λ each. each)
+
+-- elements of which each tells the same
+pub each_both : {T : Type 0} (Is Was : Data → T → Type 0) (same : (d : Data) (x : T) → Is d x ↔ Was d x) (ds : Items) (xs : List T)
+    → Each Is ds xs ↔ Each Was ds xs
+each_both Is Was same ds xs = (Each-weaken Is Was (λ d x. (same d x).0) ds xs, Each-weaken Was Is (λ d x. (same d x).1) ds xs)

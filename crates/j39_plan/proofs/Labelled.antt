@@ -5,7 +5,7 @@ use Rattle.std.proofs.lemmas.List.{length-map}
 use Rattle.std.specs.List.{list_any, prefix_len}
 use Rattle.std.specs.Prelude.{position}
 use Rattle.std.specs.Str.{bytes_eq}
-use Rattle.j39_plan.specs.Elements.{is_label_among}
+use Rattle.j39_plan.specs.LabelsSeen.{is_label_among}
 use Rattle.j39_plan.specs.FlowTables.{place_of}
 
 pub is_taken_view : {T : Type 0} (label_bytes : T → List ℕ) (xs : List T) (label : List ℕ)

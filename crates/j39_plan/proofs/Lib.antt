@@ -1,6 +1,5 @@
 pub mod Absent
-pub mod EachElement
-pub mod FirstFaults
+pub mod EmptyTree
 pub mod FourthGroups
 pub mod FourthPlans
 pub mod FourthReads
@@ -20,8 +19,8 @@ pub mod ReadGroups
 pub mod ReadNeeds
 pub mod ReadPlans
 pub mod ReadRequests
+pub mod SameParts
 pub mod Tables
 pub mod ThirdPlans
 pub mod ThirdReads
 pub mod ThirdSignals
-pub mod Trees

@@ -1,4 +1,6 @@
 -- What follows where a list of faults is empty.
+use Rattle.std.proofs.Common.{is_some, Some, None}
+use Rattle.j39_tables.specs.declared.cause.Cause.TheVariants.{TooMany}
 use Rattle.std.proofs.Common.{◌≡◌, ◌≢◌, ℕ, ◌≤◌, Bool, true, false, ◌&&◌, if◌then◌else◌, List, []}
 use Rattle.std.proofs.Common.{◌∷◌, ◌++◌, length, map, All, AllPairs, refl, ap, append_assoc, arith, suc, nat_le}
 use Rattle.std.proofs.lemmas.Bool.{leb-true, or_parts}
@@ -9,30 +11,33 @@ use Rattle.std.proofs.lemmas.List.Quantifiers.{all_pairs_push}
 use Rattle.std.proofs.lemmas.Slice.Eq.{bytes_eq-Decides}
 use Rattle.std.specs.Str.{bytes_eq}
 use Rattle.toml.specs.Data.{Data, Items, no_items, item, Members}
-use Rattle.j39_plan.specs.declared.reading.fault.Fault.{Fault}
+use Rattle.j39_plan.specs.PlanErrors.{PlanFault}
 use Rattle.j39_plan.specs.declared.reading.key.Key.{Key}
 use Rattle.j39_plan.specs.declared.reading.place.Table.{Table}
 use Rattle.j39_plan.specs.declared.reading.text_kind.TextKind.{TextKind}
 use Rattle.j39_plan.specs.TextKinds.{takes}
-use Rattle.j39_plan.specs.Schema.{tables, tables_of, items_count}
-use Rattle.j39_plan.specs.Elements.{each_faults, Each, labels_of, is_label_among, repeated_faults}
+use Rattle.j39_plan.specs.Schema.{tables, tables_of}
+use Rattle.j39_tables.specs.Rules.{items_count, array_up_to}
+use Rattle.j39_tables.specs.InOrder.{each_faults, Each, labels_of}
+use Rattle.j39_plan.specs.LabelsSeen.{is_label_among, repeated_faults}
 
-pub none_left : (xs ys : List Fault) → xs ++ ys ≡ [] → xs ≡ []
+pub none_left : (xs ys : List PlanFault) → xs ++ ys ≡ [] → xs ≡ []
 none_left [] ys e = refl
 none_left (x ∷ xs) ys e = cc
 
-pub none_right : (xs ys : List Fault) → xs ++ ys ≡ [] → ys ≡ []
+pub none_right : (xs ys : List PlanFault) → xs ++ ys ≡ [] → ys ≡ []
 none_right [] ys e = e
 none_right (x ∷ xs) ys e = cc
 
 -- ---- how many elements there are
 
-count_if : (b : Bool) (limit : ℕ) (ds : Items) → nat_le (items_count ds) limit ≡ b → items_count (if b then ds else no_items) ≤ limit
+count_if : (b : Bool) (limit : ℕ) (ds : Items) → nat_le (items_count ds) limit ≡ b
+    → items_count (if is_some (if b then None else Some TooMany) then no_items else ds) ≤ limit
 count_if true limit ds e = leb-true (items_count ds) limit e
 count_if false limit ds e = omega arith
 
 pub tables_count : (key : Key) (limit : ℕ) (ms : Members) → items_count (tables_of (tables key limit) ms) ≤ limit
-unfolding tables_of
+unfolding tables_of array_up_to
 tables_count key limit ms = count_if _ limit _ refl
 
 -- ---- element by element
@@ -92,7 +97,7 @@ apart_from (l ∷ seen) label none =
     let parts = or_parts (bytes_eq l label) (is_label_among seen label) none in
     All-cons (λ m. m ≢ label) l seen (not_from_Decides (bytes_eq l label) (bytes_eq-Decides l label) parts.0) (apart_from seen label parts.1)
 
-repeated : (taken is_old : Bool) (f : Fault) → taken ≡ true → (if taken && is_old then f ∷ [] else []) ≡ [] → is_old ≡ false
+repeated : (taken is_old : Bool) (f : PlanFault) → taken ≡ true → (if taken && is_old then f ∷ [] else []) ≡ [] → is_old ≡ false
 repeated true true f e none = cc
 repeated true false f e none = refl
 repeated false is_old f e none = cc
@@ -103,7 +108,7 @@ pub fresh_label : (at : Table) (kind : TextKind) (seen : List (List ℕ)) (label
 unfolding repeated_faults
 fresh_label at kind seen label taken none = repeated (takes kind label) (is_label_among seen label) _ taken none
 
-apart_behind : {T : Type 0} (Is : Data → T → Type 0) (faults : ℕ → List (List ℕ) → Data → List Fault) (label_of : Data → List ℕ)
+apart_behind : {T : Type 0} (Is : Data → T → Type 0) (faults : ℕ → List (List ℕ) → Data → List PlanFault) (label_of : Data → List ℕ)
     (fresh : (i : ℕ) (seen : List (List ℕ)) (d : Data) (x : T) → Is d x → faults i seen d ≡ [] → is_label_among seen (label_of d) ≡ false)
     → (i : ℕ) (seen : List (List ℕ)) (ds : Items) (xs : List T) → Each Is ds xs → each_faults faults label_of i seen ds ≡ [] → AreApart seen
     → AreApart (seen ++ labels_of label_of ds)
@@ -124,7 +129,7 @@ apart_from_map label_bytes xs apart i j d before below =
     rw (← at_i, ← at_j) (apart i j (label_bytes d) before (rw length-map below))
 
 -- elements without faults have labels that are apart
-pub labels_apart : {T : Type 0} (Is : Data → T → Type 0) (faults : ℕ → List (List ℕ) → Data → List Fault) (label_of : Data → List ℕ)
+pub labels_apart : {T : Type 0} (Is : Data → T → Type 0) (faults : ℕ → List (List ℕ) → Data → List PlanFault) (label_of : Data → List ℕ)
     (label_bytes : T → List ℕ)
     (same : (d : Data) (x : T) → Is d x → label_bytes x ≡ label_of d)
     (fresh : (i : ℕ) (seen : List (List ℕ)) (d : Data) (x : T) → Is d x → faults i seen d ≡ [] → is_label_among seen (label_of d) ≡ false)

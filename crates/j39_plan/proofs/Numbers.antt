@@ -1,5 +1,6 @@
 -- Tables of names, and the numbers that their keys are.
-use Rattle.std.proofs.Common.{◌≡◌, ◌<◌, ◌≤◌, ◌^◌, ℕ, suc, Bool, true, false, ◌&&◌, ◌||◌, ◌==◌, not, if◌then◌else◌, nat_le, nat_lt, List, [], ◌∷◌, ◌++◌, length, append_assoc, Option, Some, None, Result, Ok, Err, is_some, refl, ap, String, Global, string_bytes, arith}
+use Rattle.std.proofs.Common.{◌≡◌, ◌<◌, ◌≤◌, ◌^◌, ℕ, suc, Bool, true, false, ◌&&◌, ◌||◌, ◌==◌, not, if◌then◌else◌, nat_le, nat_lt, List, [], ◌∷◌, ◌++◌, length}
+use Rattle.std.proofs.Common.{append_assoc, Option, Some, None, Result, Ok, Err, is_some, refl, ap, String, Global, string_bytes, arith}
 use Rattle.std.specs.List.{list_all}
 use Rattle.std.specs.Map.{keys_of, values_of}
 use Rattle.std.specs.Option.{option_map_or}
@@ -12,13 +13,12 @@ use Rattle.toml.specs.Data.{Data, Members, member, as_str}
 use Rattle.toml.specs.declared.value.Value.{Value}
 use Rattle.toml.specs.View.{members_view, view}
 use Rattle.j39_network.specs.LabelForm.{is_label}
-use Rattle.j39_plan.specs.Schema.{members_count}
+use Rattle.j39_plan.specs.ValueCauses.{members_count, has_labels, has_numbers, has_texts, is_decimal, is_number_below, names_cause}
 use Rattle.j39_network.specs.PlanLimits.{value_limit}
 use Rattle.j39_network.specs.declared.plan.meaning.ValueName.{ValueName}
 use Rattle.j39_plan.specs.MeaningTables.{AreValueNames}
-use Rattle.j39_plan.specs.declared.reading.cause.Cause.{Cause}
-use Rattle.j39_plan.specs.declared.reading.cause.Cause.TheVariants.{TooMany}
-use Rattle.j39_plan.specs.TableFaults.{has_labels, has_numbers, has_texts, is_decimal, is_number_below, names_cause}
+use Rattle.j39_tables.specs.declared.cause.Cause.{Cause}
+use Rattle.j39_tables.specs.declared.cause.Cause.TheVariants.{TooMany}
 
 pub are_digits_view : (bytes : List ℕ) → all_ascii_digits bytes ≡ list_all is_ascii_digit bytes
 are_digits_view [] = refl

@@ -1,10 +1,9 @@
 -- What older versions know of a table.
-use Rattle.std.proofs.Common.{◌≡◌, Bool, true, false, List, [], ◌∷◌, refl, inl, inr, arith}
-use Rattle.std.proofs.lemmas.Bool.{cases_Bool, false≢true}
-use Rattle.toml.specs.Data.{Members}
+use Rattle.std.proofs.Common.{◌≡◌, true, [], ◌∷◌, refl, inl, inr}
+use Rattle.std.proofs.lemmas.Bool.{cases_Bool}
 use Rattle.j39_plan.specs.declared.reading.version.Version.{Version}
 use Rattle.j39_plan.specs.declared.reading.version.Version.TheVariants.{First, Second, Third, Fourth}
-use Rattle.j39_plan.specs.Since.{Since, is_known, known, OlderKnow}
+use Rattle.j39_plan.specs.Since.{is_known, OlderKnow}
 
 -- what is known to an older version is known to a later one
 known_on : (since old new : Version) → is_known old new ≡ true → is_known since old ≡ true → is_known since new ≡ true

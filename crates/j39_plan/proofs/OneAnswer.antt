@@ -1,5 +1,5 @@
 -- Reading a file gives one answer.
-use Rattle.std.proofs.Common.{◌≡◌, ◌≢◌, ℕ, Bool, ◌&&◌, List, [], ◌∷◌, Option, Some, None, Result, Ok, Err, option_and_then, refl, sym, ap, subst, ◌∙◌}
+use Rattle.std.proofs.Common.{◌≡◌, ◌≢◌, ℕ, List, [], ◌∷◌, Option, Some, None, Result, Ok, Err, option_and_then, refl, sym, ap, subst, ◌∙◌}
 use Rattle.std.specs.List.{AllZip}
 use Rattle.std.proofs.lemmas.Option.{same_Some, none-some}
 use Rattle.toml.specs.Data.{Data, Items, no_items, item, Members, no_members, member}
@@ -17,26 +17,27 @@ use Rattle.j39_network.specs.declared.plan.pace.Pace.{Pace}
 use Rattle.j39_network.specs.declared.plan.timing.ErrorRate.{ErrorRate}
 use Rattle.j39_network.specs.declared.plan.timing.Timing.{Timing}
 use Rattle.j39_plan.specs.declared.reading.version.Version.{Version}
-use Rattle.j39_plan.specs.declared.reading.fault.Fault.{Fault}
-use Rattle.j39_plan.specs.declared.reading.plan_error.PlanError.{PlanError}
-use Rattle.j39_plan.specs.declared.reading.plan_error.PlanError.TheVariants as errors
-use Rattle.j39_plan.specs.Elements.{Each, inside}
-use Rattle.j39_plan.specs.Outcome.{first}
+use Rattle.j39_plan.specs.PlanErrors.{PlanFault, PlanError}
+use Rattle.j39_tables.specs.declared.file_error.FileError.TheVariants as errors
+use Rattle.j39_tables.specs.InOrder.{Each, inside}
+use Rattle.j39_tables.specs.Outcome.{first}
 use Rattle.j39_plan.specs.UnitTables.{IsUnitOf}
 use Rattle.j39_signal.specs.declared.selector.Selector.{Selector}
-use Rattle.j39_plan.specs.SelectorTables.{TellsWhen, when_table}
+use Rattle.j39_plan.specs.SelectorTables.{DescribesWhen, when_table}
 use Rattle.j39_plan.specs.SignalTables.{IsMeaningOf, IsSignalOf}
 use Rattle.j39_plan.specs.MeaningTables.{AreValueNames, name_table}
 use Rattle.j39_plan.specs.TextTables.{IsTextOf}
 use Rattle.j39_plan.specs.GroupTables.{IsGroupOf, signal_rule, text_tables_of}
-use Rattle.j39_plan.specs.FlowTables.{IsFlowOf, TellsPace, place_of}
+use Rattle.j39_plan.specs.FlowTables.{IsFlowOf, DescribesPace, place_of}
 use Rattle.j39_plan.specs.NeedTables.{IsNeedOf, need_signal_rule, signals_at}
 use Rattle.j39_plan.specs.RequestTables.{IsRequestOf}
-use Rattle.j39_plan.specs.TimingTables.{TellsBus, TellsErrors, TellsTiming, errors_table}
+use Rattle.j39_plan.specs.TimingTables.{DescribesBus, DescribesErrors, DescribesTiming, errors_table}
 use Rattle.j39_plan.specs.Schema.{tables_of, found_text}
-use Rattle.j39_plan.specs.PlanFaults.{faults, units_rule, groups_rule, flows_rule, timing_table, need_tables, request_tables, unit_labels, group_labels, group_signals, version_of}
-use Rattle.j39_plan.specs.Described.{TellsPlan, Described, Reads}
-use Rattle.j39_plan.specs.OnePlan.{AreOneUnit, AreOneSelector, AreOneSignal, AreOneValueName, AreOneMeaning, AreOneText, AreOneGroup, AreOneErrorRate, AreOneBus, AreOneTiming, AreOnePace, AreOneFlowPlan, AreOneNeed, AreOneRequest, AreOnePlan, AreOneAnswer}
+use Rattle.j39_plan.specs.PlanFaults.{faults, units_rule, groups_rule, flows_rule, timing_table, need_tables, request_tables, unit_labels, group_labels}
+use Rattle.j39_plan.specs.PlanFaults.{group_signals, version_of}
+use Rattle.j39_plan.specs.Described.{DescribesPlan, Described, Reads}
+use Rattle.j39_plan.specs.OnePlan.{AreOneUnit, AreOneSelector, AreOneSignal, AreOneValueName, AreOneMeaning, AreOneText, AreOneGroup, AreOneErrorRate}
+use Rattle.j39_plan.specs.OnePlan.{AreOneBus, AreOneTiming, AreOnePace, AreOneFlowPlan, AreOneNeed, AreOneRequest, AreOnePlan, AreOneAnswer}
 
 -- what elements tell is one, where what each tells is
 one_each : {T : Type 0} (Is : Data → T → Type 0) (One : T → T → Type 0) (one : (d : Data) (x y : T) → Is d x → Is d y → One x y)
@@ -98,7 +99,7 @@ one_meaning version d m n a b = record {
   values = one_names (name_table version (inside d)) m.values.items n.values.items a.has_values b.has_values;
 }
 
-one_selector : (found : Option Members) (v w : Option Selector) → TellsWhen found v → TellsWhen found w → AreOneSelector v w
+one_selector : (found : Option Members) (v w : Option Selector) → DescribesWhen found v → DescribesWhen found w → AreOneSelector v w
 one_selector None None None a b = tt
 one_selector None None (Some w) a b = absurd b
 one_selector None (Some v) w a b = absurd a
@@ -121,7 +122,7 @@ one_group version d g h a b = record {
   texts = one_each IsTextOf AreOneText one_text (text_tables_of version (inside d)) _ _ a.has_texts b.has_texts;
 }
 
-one_errors : (tree : Option Members) (e f : Option ErrorRate) → TellsErrors tree e → TellsErrors tree f → AreOneErrorRate e f
+one_errors : (tree : Option Members) (e f : Option ErrorRate) → DescribesErrors tree e → DescribesErrors tree f → AreOneErrorRate e f
 one_errors None None None a b = tt
 one_errors None None (Some f) a b = absurd b
 one_errors None (Some e) f a b = absurd a
@@ -129,7 +130,7 @@ one_errors (Some ms) None f a b = absurd a
 one_errors (Some ms) (Some e) None a b = absurd b
 one_errors (Some ms) (Some e) (Some f) a b = (a.has_count ∙ sym b.has_count, a.has_every ∙ sym b.has_every)
 
-one_bus : (version : Version) (ms : Members) (t u : Timing) → TellsBus version ms t → TellsBus version ms u → AreOneBus t u
+one_bus : (version : Version) (ms : Members) (t u : Timing) → DescribesBus version ms t → DescribesBus version ms u → AreOneBus t u
 one_bus version ms t u a b = record {
   bitrates = a.has_bitrate ∙ sym b.has_bitrate;
   unplanned = a.has_unplanned ∙ sym b.has_unplanned;
@@ -140,7 +141,8 @@ one_bus version ms t u a b = record {
   errors = one_errors (errors_table version ms) t.errors u.errors a.has_errors b.has_errors;
 }
 
-one_timing : (version : Version) (tree : Option Members) (t u : Option Timing) → TellsTiming version tree t → TellsTiming version tree u → AreOneTiming t u
+one_timing : (version : Version) (tree : Option Members) (t u : Option Timing) → DescribesTiming version tree t → DescribesTiming version tree u
+    → AreOneTiming t u
 one_timing version None None None a b = tt
 one_timing version None None (Some u) a b = absurd b
 one_timing version None (Some t) u a b = absurd a
@@ -148,7 +150,7 @@ one_timing version (Some ms) None u a b = absurd a
 one_timing version (Some ms) (Some t) None a b = absurd b
 one_timing version (Some ms) (Some t) (Some u) a b = one_bus version ms t u a b
 
-one_pace : (version : Version) (ms : Members) (p q : Option Pace) → TellsPace version ms p → TellsPace version ms q → AreOnePace p q
+one_pace : (version : Version) (ms : Members) (p q : Option Pace) → DescribesPace version ms p → DescribesPace version ms q → AreOnePace p q
 one_pace version ms None None a b = tt
 one_pace version ms None (Some q) a b = absurd (none-some _ (a.has_period ∙ sym b.has_period))
 one_pace version ms (Some p) None a b = absurd (none-some _ (b.has_period ∙ sym a.has_period))
@@ -175,7 +177,8 @@ one_need groups signals units d m n a b =
     record {
       units = same_Some _ _ (sym a.has_unit ∙ b.has_unit);
       groups = same;
-      signals = a.has_signal ∙ ap (λ g. option_and_then (place_of (signals_at signals (Some g))) (found_text need_signal_rule (inside d))) same ∙ sym b.has_signal;
+      signals =
+          a.has_signal ∙ ap (λ g. option_and_then (place_of (signals_at signals (Some g))) (found_text need_signal_rule (inside d))) same ∙ sym b.has_signal;
       senders = a.has_from ∙ sym b.has_from;
       ages = a.has_within ∙ sym b.has_within;
     }
@@ -188,7 +191,7 @@ one_request groups units d r s a b = record {
   periods = a.has_period ∙ sym b.has_period;
 }
 
-one_plan : (tree : Members) (p q : Plan) → TellsPlan tree p → TellsPlan tree q → AreOnePlan p q
+one_plan : (tree : Members) (p q : Plan) → DescribesPlan tree p → DescribesPlan tree q → AreOnePlan p q
 one_plan tree p q a b = record {
   keep_free = a.has_keep_free ∙ sym b.has_keep_free;
   strangers = a.has_strangers ∙ sym b.has_strangers;
@@ -205,7 +208,7 @@ one_plan tree p q a b = record {
 }
 
 -- a tree without faults has no first one
-no_first : (fs : List Fault) (f : Fault) → fs ≡ [] → first fs ≢ Some f
+no_first : (fs : List PlanFault) (f : PlanFault) → fs ≡ [] → first fs ≢ Some f
 no_first fs f none is = cc
 
 -- what a tree is read as, with the tree
@@ -216,7 +219,7 @@ tree_is s t a b = same_Some _ _ (sym a ∙ b)
 described_at : (s t : Members) (p : Plan) → t ≡ s → Described t p → Described s p
 described_at s t p same is = subst (λ (x : Members). Described x p) same is
 
-first_at : (s t : Members) (f : Fault) → t ≡ s → first (faults t) ≡ Some f → first (faults s) ≡ Some f
+first_at : (s t : Members) (f : PlanFault) → t ≡ s → first (faults t) ≡ Some f → first (faults s) ≡ Some f
 first_at s t f same is = subst (λ (x : Members). first (faults x) ≡ Some f) same is
 
 pub one_answer : (tree : Option Members) (one other : Result Plan PlanError) → one ≢ Err errors.Memory → other ≢ Err errors.Memory

@@ -1,6 +1,5 @@
 -- A NAME whose identity number is left open has 0 there.
-use Rattle.std.proofs.Common.{◌≡◌, ℕ, ◌+◌, ◌*◌, ◌^◌, ◌%◌, Bool, true, false, not, None, Option, Some, refl, sym, ap, ◌∙◌, arith}
-use Rattle.std.specs.List.{sum_by}
+use Rattle.std.proofs.Common.{◌≡◌, ℕ, ◌^◌, ◌%◌, Bool, true, not, None, Option, Some, refl, sym, ap, ◌∙◌, arith}
 use Rattle.std.proofs.lemmas.Bool.{false≢true}
 use Rattle.std.specs.Prelude.{is_some}
 use Rattle.toml.specs.Data.{Data, Members, get_member}
@@ -10,7 +9,8 @@ use Rattle.j39_plan.specs.declared.reading.version.Version.{Version}
 use Rattle.j39_plan.specs.declared.reading.version.Version.TheVariants.{First, Second, Third, Fourth}
 use Rattle.j39_plan.specs.declared.reading.key.Key.TheVariants as key
 use Rattle.j39_plan.specs.Words.{word_of}
-use Rattle.j39_plan.specs.Schema.{has_key, number_of}
+use Rattle.j39_plan.specs.Schema.{has_key}
+use Rattle.j39_tables.specs.Rules.{number_of}
 use Rattle.j39_plan.specs.UnitTables.{identity_rule, lacks_identity, name_fields_of}
 
 none_there : (o : Option Data) → not (is_some o) ≡ true → o ≡ None
@@ -31,6 +31,7 @@ at_zero First ms lacks = absurd (false≢true lacks)
 at_zero Second ms lacks = absurd (false≢true lacks)
 at_zero Third ms lacks = absurd (false≢true lacks)
 
-pub open_number : (version : Version) (ms : Members) (n : ℕ) (is_open : Bool) → n ≡ name_number (name_fields_of version ms) → is_open ≡ lacks_identity version ms
+pub open_number : (version : Version) (ms : Members) (n : ℕ) (is_open : Bool) → n ≡ name_number (name_fields_of version ms)
+    → is_open ≡ lacks_identity version ms
     → is_open ≡ true → n % 2 ^ 21 ≡ 0
 open_number version ms n is_open is lacks told = ap (λ k. k % 2 ^ 21) is ∙ at_zero version ms (sym lacks ∙ told)

@@ -1,5 +1,6 @@
 -- A tree with another version: all that stands at other keys stays.
-use Rattle.std.proofs.Common.{◌≡◌, ◌≢◌, ℕ, pos, Bool, true, false, if◌then◌else◌, List, Option, Some, None, option_map, unwrap_or, refl, sym, subst, ◌∙◌, Ordering, Less, Equal, Greater, nat_cmp, is_eq}
+use Rattle.std.proofs.Common.{◌≡◌, ◌≢◌, ℕ, pos, Bool, true, false, if◌then◌else◌, List, Option, Some, None, option_map, unwrap_or, refl, sym, subst, ◌∙◌}
+use Rattle.std.proofs.Common.{Ordering, Less, Equal, Greater, nat_cmp, is_eq}
 use Rattle.std.specs.Option.{option_or, option_and_then}
 use Rattle.std.specs.Ordering.{match_ordering}
 use Rattle.std.specs.Cmp.Lexicographic.{slice_cmp}
@@ -11,8 +12,9 @@ use Rattle.j39_plan.specs.declared.reading.key.Key.{Key}
 use Rattle.j39_plan.specs.declared.reading.key.Key.TheVariants as key
 use Rattle.j39_plan.specs.declared.reading.place.Table.{Table}
 use Rattle.j39_plan.specs.Words.{word_of}
-use Rattle.j39_plan.specs.Schema.{Rule, natural, standing, number_of, table_of, tables_of, addresses_of}
-use Rattle.j39_plan.specs.TableFaults.{has_only, key_faults}
+use Rattle.j39_plan.specs.Schema.{PlanRule, table_of, tables_of, addresses_of}
+use Rattle.j39_tables.specs.Rules.{natural, standing, number_of, table_found, array_found}
+use Rattle.j39_tables.specs.TableFaults.{has_only, key_faults}
 use Rattle.j39_plan.specs.PlanFaults.{version_rule}
 use Rattle.j39_plan.specs.Versions.{with_version}
 
@@ -42,31 +44,31 @@ get_other n k (member l d ms) other =
     passed (slice_cmp nat_cmp k l) (bytes_eq version_word l) n d (get_member k ms) (get_member k (with_version n ms))
     (no_version k l other) (get_other n k ms other)
 
-pub only_other : (n : ℕ) (keys : List Key) (ms : Members) → has_only keys (with_version n ms) ≡ has_only keys ms
+pub only_other : (n : ℕ) (keys : List Key) (ms : Members) → has_only word_of keys (with_version n ms) ≡ has_only word_of keys ms
 unfolding with_version
 only_other n keys no_members = refl
 only_other n keys (member l d ms) = rw (only_other n keys ms)
 
 -- the key of the rule isn't the version
-abbrev pub IsOther : Rule → Type 0
-IsOther r = bytes_eq version_word (word_of r.key) ≡ false
+abbrev pub IsOther : PlanRule → Type 0
+IsOther r = bytes_eq version_word (r.word r.key) ≡ false
 
-standing_other : (n : ℕ) (r : Rule) (ms : Members) → IsOther r → standing r (with_version n ms) ≡ standing r ms
-standing_other n r ms other = rw (get_other n (word_of r.key) ms other)
+standing_other : (n : ℕ) (r : PlanRule) (ms : Members) → IsOther r → standing r (with_version n ms) ≡ standing r ms
+standing_other n r ms other = rw (get_other n (r.word r.key) ms other)
 
-pub key_faults_other : (n : ℕ) (at : Table) (r : Rule) (ms : Members) → IsOther r → key_faults at (with_version n ms) r ≡ key_faults at ms r
+pub key_faults_other : (n : ℕ) (at : Table) (r : PlanRule) (ms : Members) → IsOther r → key_faults at (with_version n ms) r ≡ key_faults at ms r
 unfolding key_faults
 key_faults_other n at r ms other = rw (standing_other n r ms other)
 
-pub table_other : (n : ℕ) (r : Rule) (ms : Members) → IsOther r → table_of r (with_version n ms) ≡ table_of r ms
-unfolding table_of
-table_other n r ms other = rw (standing_other n r ms other)
+pub table_other : (n : ℕ) (r : PlanRule) (ms : Members) → IsOther r → table_of r (with_version n ms) ≡ table_of r ms
+unfolding table_found
+table_other n r ms other = rw (get_other n (r.word r.key) ms other)
 
-pub tables_other : (n : ℕ) (r : Rule) (ms : Members) → IsOther r → tables_of r (with_version n ms) ≡ tables_of r ms
-unfolding tables_of
-tables_other n r ms other = rw (standing_other n r ms other)
+pub tables_other : (n : ℕ) (r : PlanRule) (ms : Members) → IsOther r → tables_of r (with_version n ms) ≡ tables_of r ms
+unfolding tables_of array_found
+tables_other n r ms other = rw (get_other n (r.word r.key) ms other)
 
-pub addresses_other : (n : ℕ) (r : Rule) (ms : Members) → IsOther r → addresses_of r (with_version n ms) ≡ addresses_of r ms
+pub addresses_other : (n : ℕ) (r : PlanRule) (ms : Members) → IsOther r → addresses_of r (with_version n ms) ≡ addresses_of r ms
 unfolding addresses_of
 addresses_other n r ms other = rw (standing_other n r ms other)
 

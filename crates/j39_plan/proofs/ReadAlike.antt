@@ -3,15 +3,15 @@ use Rattle.std.proofs.Common.{◌≡◌, ◌↔◌, Some, Result, Ok, Err, refl,
 use Rattle.std.proofs.lemmas.Option.{same_Some, none-some}
 use Rattle.toml.specs.Data.{Members}
 use Rattle.j39_network.specs.declared.plan.Plan.{Plan}
-use Rattle.j39_plan.specs.declared.reading.plan_error.PlanError.{PlanError}
-use Rattle.j39_plan.specs.declared.reading.plan_error.PlanError.TheVariants as errors
-use Rattle.j39_plan.specs.Outcome.{first}
+use Rattle.j39_plan.specs.PlanErrors.{PlanError}
+use Rattle.j39_tables.specs.declared.file_error.FileError.TheVariants as errors
+use Rattle.j39_tables.specs.Outcome.{first}
 use Rattle.j39_plan.specs.PlanFaults.{faults}
-use Rattle.j39_plan.specs.Described.{TellsPlan, Described, Reads}
+use Rattle.j39_plan.specs.Described.{DescribesPlan, Described, Reads}
 use Rattle.j39_plan.specs.Versions.{ReadAlike}
 use Rattle.j39_plan.proofs.Absent.{Alike, alike_none}
 
-reads_as : (s t : Members) (told : (p : Plan) → TellsPlan s p → TellsPlan t p) → Alike (faults s) (faults t)
+reads_as : (s t : Members) (told : (p : Plan) → DescribesPlan s p → DescribesPlan t p) → Alike (faults s) (faults t)
     → (answer : Result Plan PlanError) → Reads answer (Some s) → Reads answer (Some t)
 reads_as s t told alike (Ok p) (u, is, described) =
     let here : Described s p = subst (λ (x : Members). Described x p) (sym (same_Some _ _ is)) described in
@@ -23,6 +23,6 @@ reads_as s t told alike (Err (errors.Fault f)) (u, is, found) =
 reads_as s t told alike (Err errors.Memory) is = tt
 
 -- trees of which the first faults are one, and which tell the same plans, are read alike
-pub reads_alike : (s t : Members) (told : (p : Plan) → TellsPlan s p ↔ TellsPlan t p) → Alike (faults s) (faults t) → ReadAlike s t
+pub reads_alike : (s t : Members) (told : (p : Plan) → DescribesPlan s p ↔ DescribesPlan t p) → Alike (faults s) (faults t) → ReadAlike s t
 reads_alike s t told alike = λ answer.
     (reads_as s t (λ p. (told p).0) alike answer, reads_as t s (λ p. (told p).1) (sym alike) answer)

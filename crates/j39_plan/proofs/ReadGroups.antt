@@ -1,5 +1,5 @@
 -- What is true of the signals and the texts of a group that was read.
-use Rattle.std.proofs.Common.{◌≡◌, ◌≢◌, ℕ, suc, Bool, true, false, List, [], ◌∷◌, ◌++◌, ◌||◌, ◌≤◌, All, AllPairs, map, refl, inr, sym, subst, ◌∙◌, arith}
+use Rattle.std.proofs.Common.{◌≡◌, ◌≢◌, ℕ, suc, Bool, false, List, [], ◌∷◌, ◌++◌, ◌||◌, ◌≤◌, All, AllPairs, map, refl, inr, sym, subst, ◌∙◌, arith}
 use Rattle.std.proofs.lemmas.Bool.{or_parts}
 use Rattle.std.proofs.lemmas.List.{length-map, get_or-map}
 use Rattle.std.proofs.lemmas.List.Elements.{All-cons}
@@ -12,10 +12,11 @@ use Rattle.j39_plan.specs.declared.reading.version.Version.TheVariants.{First, S
 use Rattle.j39_plan.specs.declared.reading.place.Table.TheVariants as at
 use Rattle.j39_plan.specs.declared.reading.text_kind.TextKind.TheVariants as texts
 use Rattle.j39_plan.specs.declared.reading.key.Key.TheVariants as key
-use Rattle.j39_plan.specs.Schema.{items_count}
-use Rattle.j39_plan.specs.Elements.{each_faults, Each, is_label_among, labels_of, label_in}
+use Rattle.j39_tables.specs.Rules.{items_count}
+use Rattle.j39_tables.specs.InOrder.{each_faults, Each, labels_of, EachGrows}
+use Rattle.j39_plan.specs.LabelsSeen.{is_label_among, label_in}
 use Rattle.j39_plan.specs.SignalTables.{IsMeaningOf, IsSignalOf, IsFit, signal_faults}
-use Rattle.j39_plan.specs.Growing.{EachGrows, SignalGrows}
+use Rattle.j39_plan.specs.Growing.{SignalGrows}
 use Rattle.j39_plan.specs.declared.reading.signals.PlannedSignal.{PlannedSignal}
 use Rattle.j39_network.specs.declared.plan.meaning.Meaning.{Meaning}
 use Rattle.j39_plan.specs.TextTables.{IsTextOf, text_faults}

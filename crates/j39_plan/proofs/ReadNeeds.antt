@@ -1,5 +1,5 @@
 -- What is true of the needs of a plan that was read.
-use Rattle.std.proofs.Common.{◌≡◌, ℕ, ◌<◌, ◌≤◌, Bool, true, false, arith, List, [], ◌∷◌, length, map, Option, Some, None, option_map, unwrap_or, All, refl, sym, ◌∙◌}
+use Rattle.std.proofs.Common.{◌≡◌, ℕ, ◌<◌, ◌≤◌, arith, List, [], ◌∷◌, length, map, Option, Some, None, option_map, unwrap_or, All, refl, sym, ◌∙◌}
 use Rattle.std.specs.Option.{option_map_or}
 use Rattle.std.proofs.lemmas.Option.{slice_get-map}
 use Rattle.std.specs.List.{slice_get}
@@ -12,8 +12,10 @@ use Rattle.j39_network.specs.declared.plan.group_plan.GroupPlan.{GroupPlan}
 use Rattle.j39_network.specs.declared.plan.need_plan.NeedPlan.{NeedPlan}
 use Rattle.j39_plan.specs.declared.reading.version.Version.{Version}
 use Rattle.j39_plan.specs.declared.reading.version.Version.TheVariants.{First, Second, Third, Fourth}
-use Rattle.j39_plan.specs.Elements.{Each, inside, label_in}
-use Rattle.j39_plan.specs.Schema.{tables_of, items_count}
+use Rattle.j39_tables.specs.InOrder.{Each, inside}
+use Rattle.j39_plan.specs.LabelsSeen.{label_in}
+use Rattle.j39_plan.specs.Schema.{tables_of}
+use Rattle.j39_tables.specs.Rules.{items_count}
 use Rattle.j39_plan.specs.SignalTables.{IsSignalOf}
 use Rattle.j39_plan.specs.GroupTables.{IsGroupOf, signal_rule}
 use Rattle.j39_plan.specs.declared.reading.key.Key.TheVariants as key
@@ -64,7 +66,8 @@ need_senders gs us = All-from_Each (IsAmong gs us) (λ n. (u : ℕ) → n.from �
     (λ d n is u one. rw length-map at (placed (unit_texts us) _ u (sym is.has_from ∙ one)))
 
 count_in : (found : Option GroupPlan)
-    → length (unwrap_or (option_map (λ (x : GroupPlan). map (λ s. s.label.bytes) x.signals.items) found) []) ≡ option_map_or (λ group. length group.signals.items) found 0
+    → length (unwrap_or (option_map (λ (x : GroupPlan). map (λ s. s.label.bytes) x.signals.items) found) [])
+    ≡ option_map_or (λ group. length group.signals.items) found 0
 count_in None = refl
 count_in (Some group) = length-map group.signals.items (λ s. s.label.bytes)
 

@@ -13,7 +13,8 @@ use Rattle.j39_network.specs.declared.plan.group_plan.GroupPlan.{GroupPlan}
 use Rattle.j39_plan.specs.declared.reading.version.Version.{Version}
 use Rattle.j39_plan.specs.declared.reading.place.Table.TheVariants as at
 use Rattle.j39_plan.specs.declared.reading.text_kind.TextKind.TheVariants as texts
-use Rattle.j39_plan.specs.Elements.{each_faults, Each, is_label_among, labels_of, label_in}
+use Rattle.j39_tables.specs.InOrder.{each_faults, Each, labels_of}
+use Rattle.j39_plan.specs.LabelsSeen.{is_label_among, label_in}
 use Rattle.j39_plan.specs.UnitTables.{IsUnitOf, unit_label_in, unit_faults}
 use Rattle.j39_plan.specs.GroupTables.{IsGroupOf, group_faults}
 use Rattle.j39_network.specs.declared.plan.flow_plan.FlowPlan.{FlowPlan}
@@ -26,7 +27,8 @@ unfolding unit_faults
 fresh_unit version i seen d u is none =
     fresh_label (at.Unit i) texts.UnitLabel seen (unit_label_in d) (rw (← is.has_label) u.label_form) (none_right _ _ none)
 
-pub units_apart : (version : Version) (ds : Items) (xs : List UnitPlan) → Each (IsUnitOf version) ds xs → each_faults (unit_faults version) unit_label_in 0 [] ds ≡ []
+pub units_apart : (version : Version) (ds : Items) (xs : List UnitPlan) → Each (IsUnitOf version) ds xs
+    → each_faults (unit_faults version) unit_label_in 0 [] ds ≡ []
     → AllPairs (λ u w. u.label.bytes ≢ w.label.bytes) xs
 units_apart version ds xs each none =
     labels_apart (IsUnitOf version) (unit_faults version) unit_label_in (λ u. u.label.bytes) (λ d u is. is.has_label) (fresh_unit version) ds xs each none
@@ -37,7 +39,8 @@ unfolding group_faults
 fresh_group version i seen d g is none =
     fresh_label (at.Group i) texts.Label seen (label_in d) (rw (← is.has_label) g.label_form) (none_right _ _ none)
 
-pub groups_apart : (version : Version) (ds : Items) (xs : List GroupPlan) → Each (IsGroupOf version) ds xs → each_faults (group_faults version) label_in 0 [] ds ≡ []
+pub groups_apart : (version : Version) (ds : Items) (xs : List GroupPlan) → Each (IsGroupOf version) ds xs
+    → each_faults (group_faults version) label_in 0 [] ds ≡ []
     → AllPairs (λ g h. g.label.bytes ≢ h.label.bytes) xs
 groups_apart version ds xs each none =
     labels_apart (IsGroupOf version) (group_faults version) label_in (λ g. g.label.bytes) (λ d g is. is.has_label) (fresh_group version) ds xs each none

@@ -1,30 +1,19 @@
--- A table and an array of TOML, as the definitions see them.
-use Rattle.std.proofs.Common.{◌≡◌, suc, List, [], ◌∷◌, length, refl, ap, inl, inr, ℕ, ◌&&◌, String, Global, string_bytes}
-use Rattle.std.specs.List.{list_all, list_any}
-use Rattle.std.specs.Str.{bytes_eq}
+-- A table of a version, as the definitions see it.
+use Rattle.std.proofs.Common.{◌≡◌, List, [], ◌∷◌, refl, inl, inr, ℕ, String, Global, string_bytes}
+use Rattle.std.specs.List.{list_all}
 use Rattle.std.proofs.lemmas.Bool.{cases_Bool}
 use Rattle.std.specs.Map.{keys_of}
 use Rattle.toml.specs.declared.value.Value.{Value}
-use Rattle.toml.specs.View.{items_view, members_view}
+use Rattle.toml.specs.View.{members_view}
 use Rattle.j39_plan.specs.declared.reading.key.Key.{Key}
 use Rattle.j39_plan.specs.declared.reading.version.Version.{Version}
 use Rattle.j39_plan.specs.Since.{is_known, is_known_word, known_keys}
 use Rattle.j39_plan.specs.Words.{word_of}
-use Rattle.j39_plan.specs.Schema.{items_count}
-use Rattle.j39_plan.specs.TableFaults.{is_key_word, has_only}
-
-pub items_count_view : (vs : List Value) → items_count (items_view vs) ≡ length vs
-items_count_view [] = refl
-items_count_view (v ∷ vs) = ap suc (items_count_view vs)
-
-pub has_only_view : (keys : List Key) (es : List (String Global × Value))
-    → has_only keys (members_view es) ≡ list_all (λ k. is_key_word keys (string_bytes k)) (keys_of es)
-has_only_view keys [] = refl
-has_only_view keys (e ∷ es) = rw (has_only_view keys es)
+use Rattle.j39_tables.specs.TableFaults.{is_key_word, has_only}
 
 -- a key that a version knows, looked for among all keys of the table
 known_word : (version : Version) (keys : List (Key × Version)) (name : List ℕ)
-    → is_known_word version keys name ≡ is_key_word (known_keys version keys) name
+    → is_known_word version keys name ≡ is_key_word word_of (known_keys version keys) name
 known_word version [] name = refl
 known_word version (k ∷ keys) name = elim (cases_Bool (is_known k.1 version)) [
   | inl knows ↦ rw (knows, known_word version keys name) refl
@@ -32,6 +21,6 @@ known_word version (k ∷ keys) name = elim (cases_Bool (is_known k.1 version)) 
 ]
 
 pub has_known_view : (version : Version) (keys : List (Key × Version)) (es : List (String Global × Value))
-    → has_only (known_keys version keys) (members_view es) ≡ list_all (λ k. is_known_word version keys (string_bytes k)) (keys_of es)
+    → has_only word_of (known_keys version keys) (members_view es) ≡ list_all (λ k. is_known_word version keys (string_bytes k)) (keys_of es)
 has_known_view version keys [] = refl
 has_known_view version keys (e ∷ es) = rw (has_known_view version keys es, known_word version keys (string_bytes e.0)) refl

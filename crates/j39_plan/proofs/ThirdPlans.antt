@@ -1,31 +1,35 @@
 -- Groups and flows of version 3 in whose tables nothing stands that the second doesn't know are those of version 2.
-use Rattle.std.proofs.Common.{◌≡◌, ◌≤◌, ℕ, pos, negsuc, ltb, Bool, true, false, ◌||◌, if◌then◌else◌, arith, List, [], ◌∷◌, Option, Some, None, IfSome, unwrap_or, refl, sym, subst, ◌∙◌}
+use Rattle.std.proofs.Common.{◌↔◌, ◌≡◌, ◌≤◌, ℕ, pos, negsuc, ltb, Bool, true, false, ◌||◌, if◌then◌else◌, arith, List, [], ◌∷◌, Option, Some, None, unwrap_or}
+use Rattle.std.proofs.Common.{refl}
 use Rattle.std.specs.Option.{option_map_or, option_and_then}
 use Rattle.std.proofs.lemmas.Bool.{le-ltb, ltb-false, or_parts}
 use Rattle.toml.specs.Data.{Data, string, integer, float, boolean, datetime, array, table, no_items, Members, get_member, as_integer, as_table}
 use Rattle.j39_id.specs.Limits.{message_bytes}
-use Rattle.j39_network.specs.declared.plan.flow_plan.FlowPlan.{FlowPlan}
 use Rattle.j39_network.specs.declared.plan.group_plan.GroupPlan.{GroupPlan}
 use Rattle.j39_plan.specs.declared.reading.version.Version.TheVariants.{Second, Third}
 use Rattle.j39_plan.specs.declared.reading.key.Key.{Key}
 use Rattle.j39_plan.specs.declared.reading.key.Key.TheVariants as key
-use Rattle.j39_plan.specs.declared.reading.cause.Cause.TheVariants.{Range}
+use Rattle.j39_tables.specs.declared.cause.Cause.TheVariants.{Range}
 use Rattle.j39_plan.specs.declared.reading.place.Table.{Table}
 use Rattle.j39_plan.specs.declared.reading.place.Table.TheVariants as at
 use Rattle.j39_plan.specs.declared.reading.text_kind.TextKind.TheVariants as texts
 use Rattle.j39_plan.specs.Words.{word_of}
-use Rattle.j39_plan.specs.Schema.{has_key, integer_in, natural, standing, number_of, given_number, flag_of, tables_of}
-use Rattle.j39_plan.specs.TableFaults.{fault, standing_cause, key_faults, table_only_faults, is_key_word}
+use Rattle.j39_plan.specs.Schema.{number, has_key, tables_of}
+use Rattle.j39_tables.specs.Rules.{natural, standing, number_of, flag_of, number_found, array_found, truth, integer_in, array_up_to}
+use Rattle.j39_tables.specs.TableFaults.{fault, standing_cause, key_faults, table_only_faults, is_key_word}
 use Rattle.j39_plan.specs.Since.{known_faults, versioned_faults}
-use Rattle.j39_plan.specs.Elements.{inside, label_in, label_rule, repeated_faults, Each}
+use Rattle.j39_tables.specs.InOrder.{inside}
+use Rattle.j39_plan.specs.LabelsSeen.{label_in, label_rule, repeated_faults}
 use Rattle.j39_plan.specs.SignalTables.{signal_faults, IsMeaningOf, IsSignalOf}
-use Rattle.j39_plan.specs.GroupTables.{pgn_rule, priority_rule, length_rule, private_rule, private_of, most_rule, most_of, every_rule, every_of, signal_rule, text_rule, text_tables_of, first_rules, inner_rules, signals_faults, texts_faults, group_keys_faults, group_table_faults, group_faults, IsGroupOf}
-use Rattle.j39_plan.specs.TextTables.{IsTextOf}
-use Rattle.j39_plan.specs.FlowTables.{period_of, given_deadline, given_period, deadline_rule, flow_rules, flow_table_faults, flow_faults, IsFlowOf}
+use Rattle.j39_plan.specs.GroupTables.{pgn_rule, priority_rule, length_rule, private_rule, private_of, most_rule, most_of, every_rule, every_of, signal_rule}
+use Rattle.j39_plan.specs.GroupTables.{text_rule, text_tables_of, first_rules, inner_rules, signals_faults, texts_faults, group_keys_faults, group_table_faults}
+use Rattle.j39_plan.specs.GroupTables.{group_faults, IsGroupOf}
+use Rattle.j39_plan.specs.FlowTables.{period_of, given_deadline, given_period, deadline_rule, flow_rules, flow_table_faults, flow_faults}
 use Rattle.j39_plan.specs.Versions.{third_group_keys, IsSecondSignal, IsSecondGroup, IsSecondFlow}
-use Rattle.j39_plan.proofs.Absent.{lacked, IsNone, only_same, Alike, alike_both, alike_between, alike_behind, alike_unknown, alike_inside, alike_each, told_alike}
-use Rattle.j39_plan.proofs.NoFaults.{Each-weaken}
-use Rattle.j39_plan.proofs.ThirdSignals.{signal_alike, second_signal, third_signal}
+use Rattle.j39_plan.proofs.SameParts.{SameGroup, SameFlow, signal_both, meaning_both, group_both}
+use Rattle.j39_plan.proofs.Absent.{lacked, IsNone, only_same, Alike, alike_both, alike_between, alike_behind, alike_unknown, alike_inside, alike_each}
+use Rattle.j39_plan.proofs.Absent.{told_alike}
+use Rattle.j39_plan.proofs.ThirdSignals.{signal_alike, same_signal}
 
 -- ---- groups
 
@@ -52,13 +56,13 @@ abbrev first_keys : List Key
 first_keys = key.Label ∷ key.Pgn ∷ key.Priority ∷ key.Length ∷ key.Signal ∷ []
 
 group_words : (l : List ℕ) → IsNone third_group_keys l
-    → is_key_word later_keys l
-    ≡ is_key_word first_keys l
+    → is_key_word word_of later_keys l
+    ≡ is_key_word word_of first_keys l
 group_words l none =
     rw (none 0 key.Private (omega arith), none 1 key.Most (omega arith), none 2 key.Every (omega arith), none 3 key.Text (omega arith))
 
 private_unfaulted : (at : Table) (ms : Members) → Without ms → key_faults at ms private_rule ≡ []
-unfolding key_faults
+unfolding key_faults truth
 private_unfaulted at ms w = rw w.private
 
 every_unfaulted : (at : Table) (ms : Members) → Without ms → key_faults at ms every_rule ≡ []
@@ -70,7 +74,7 @@ unfolding key_faults
 text_unfaulted at ms w = rw w.text
 
 most_unfaulted : (at : Table) (ms : Members) (length : ℕ) → length ≤ message_bytes → Without ms → key_faults at ms (most_rule length) ≡ []
-unfolding key_faults
+unfolding key_faults integer_in
 most_unfaulted at ms length few w = rw (w.most, le-ltb length length (omega arith), le-ltb message_bytes length few)
 
 no_cause : (is : Bool) (at : Table) (k : Key) → option_map_or (λ cause. fault cause at (Some k) ∷ []) (if is then Some Range else None) [] ≡ [] → is ≡ false
@@ -79,8 +83,9 @@ no_cause false at k none = refl
 
 -- a number that is no fault is at most the greatest of its range
 at_most : (low high : ℕ) (at : Table) (k : Key) (found : Option Data)
-    → option_map_or (λ cause. fault cause at (Some k) ∷ []) (standing_cause (integer_in (pos low) (pos high)) found) [] ≡ []
+    → option_map_or (λ cause. fault cause at (Some k) ∷ []) (standing_cause (number k low high None) found) [] ≡ []
     → natural (unwrap_or (option_and_then as_integer found) (pos 0)) ≤ high
+unfolding integer_in
 at_most low high at k None none = cc
 at_most low high at k (Some (integer (pos n))) none = ltb-false high n (or_parts (ltb n low) (ltb high n) (no_cause (ltb n low || ltb high n) at k none)).1
 at_most low high at k (Some (integer (negsuc n))) none = omega arith
@@ -118,11 +123,11 @@ all_keys_alike g ms second =
     (alike_both _ _ _ _ (group_keys_alike at ms second) (group_arrays_alike at ms second))
 
 no_every : (ms : Members) → IsSecondGroup ms → every_of Third ms ≡ None
-unfolding given_number
+unfolding number_found
 no_every ms second = rw (without ms second).every
 
 no_texts : (ms : Members) → IsSecondGroup ms → text_tables_of Third ms ≡ no_items
-unfolding tables_of
+unfolding tables_of array_found array_up_to
 no_texts ms second = rw (without ms second).text
 
 signals_alike : (g : ℕ) (ms : Members) → IsSecondGroup ms → Alike (signals_faults Third g ms) (signals_faults Second g ms)
@@ -152,35 +157,22 @@ most_is : (length : ℕ) (ms : Members) → IsSecondGroup ms → most_of Third l
 unfolding number_of
 most_is length ms second = rw (without ms second).most
 
-pub second_group : (d : Data) (g : GroupPlan) → IsSecondGroup (inside d) → IsGroupOf Third d g → IsGroupOf Second d g
-second_group d g second told = record {
-  has_label = told.has_label;
-  has_pgn = told.has_pgn;
-  has_priority = told.has_priority;
-  has_length = told.has_length;
-  has_private = told.has_private ∙ private_is (inside d) second;
-  has_most = told.has_most ∙ most_is (number_of length_rule (inside d)) (inside d) second;
-  has_every = told.has_every ∙ no_every (inside d) second;
-  has_when = told.has_when;
-  has_signals = told_alike IsSecondSignal (IsSignalOf Third) (IsSignalOf Second) second_signal (tables_of signal_rule (inside d)) g.signals.items second.signals told.has_signals;
-  has_meanings = Each-weaken (IsMeaningOf Third) (IsMeaningOf Second) (λ d m is. record { has_spn = is.has_spn; has_values = is.has_values }) _ _ told.has_meanings;
-  has_texts = subst (λ ds. Each IsTextOf ds g.texts.items) (no_texts (inside d) second) told.has_texts;
+same_group : (ms : Members) → IsSecondGroup ms → SameGroup Third Second ms
+same_group ms second = record {
+  private = private_is ms second;
+  most = most_is (number_of length_rule ms) ms second;
+  every = no_every ms second;
+  when = refl;
+  texts = no_texts ms second;
 }
 
-pub third_group : (d : Data) (g : GroupPlan) → IsSecondGroup (inside d) → IsGroupOf Second d g → IsGroupOf Third d g
-third_group d g second told = record {
-  has_label = told.has_label;
-  has_pgn = told.has_pgn;
-  has_priority = told.has_priority;
-  has_length = told.has_length;
-  has_private = told.has_private ∙ sym (private_is (inside d) second);
-  has_most = told.has_most ∙ sym (most_is (number_of length_rule (inside d)) (inside d) second);
-  has_every = told.has_every ∙ sym (no_every (inside d) second);
-  has_when = told.has_when;
-  has_signals = told_alike IsSecondSignal (IsSignalOf Second) (IsSignalOf Third) third_signal (tables_of signal_rule (inside d)) g.signals.items second.signals told.has_signals;
-  has_meanings = Each-weaken (IsMeaningOf Second) (IsMeaningOf Third) (λ d m is. record { has_spn = is.has_spn; has_values = is.has_values }) _ _ told.has_meanings;
-  has_texts = subst (λ ds. Each IsTextOf ds g.texts.items) (sym (no_texts (inside d) second)) told.has_texts;
-}
+pub group_told : (d : Data) (g : GroupPlan) → IsSecondGroup (inside d) → IsGroupOf Third d g ↔ IsGroupOf Second d g
+group_told d g second =
+    group_both d g (same_group (inside d) second)
+    (told_alike IsSecondSignal (IsSignalOf Third) (IsSignalOf Second) (λ d s older. signal_both d s (same_signal (inside d) older))
+    (tables_of signal_rule (inside d)) g.signals.items second.signals)
+    (told_alike IsSecondSignal (IsMeaningOf Third) (IsMeaningOf Second) (λ d m older. meaning_both d m (record { spn = refl; names = refl }))
+    (tables_of signal_rule (inside d)) g.meanings.items second.signals)
 
 -- ---- flows
 
@@ -190,8 +182,15 @@ no_deadline ms lacks = lacks 1 key.Deadline (omega arith)
 no_period : (ms : Members) → IsSecondFlow ms → get_member (word_of key.Period) ms ≡ None
 no_period ms lacks = lacked key.Period ms (lacks 0 key.Period (omega arith))
 
+-- the keys of a flow in the third version, and in the second
+abbrev later_flow_keys : List Key
+later_flow_keys = key.Group ∷ key.From ∷ key.To ∷ key.Period ∷ key.Deadline ∷ []
+
+abbrev first_flow_keys : List Key
+first_flow_keys = key.Group ∷ key.From ∷ key.To ∷ []
+
 flow_words : (l : List ℕ) → IsNone (key.Period ∷ key.Deadline ∷ []) l
-    → is_key_word (key.Group ∷ key.From ∷ key.To ∷ key.Period ∷ key.Deadline ∷ []) l ≡ is_key_word (key.Group ∷ key.From ∷ key.To ∷ []) l
+    → is_key_word word_of later_flow_keys l ≡ is_key_word word_of first_flow_keys l
 flow_words l none = rw (none 0 key.Period (omega arith), none 1 key.Deadline (omega arith))
 
 period_unfaulted : (at : Table) (ms : Members) → IsSecondFlow ms → key_faults at ms (period_of false) ≡ []
@@ -206,7 +205,7 @@ flow_keys_alike : (at : Table) (ms : Members) → IsSecondFlow ms
     → Alike (versioned_faults at Third (flow_rules Third ms) ms) (versioned_faults at Second (flow_rules Second ms) ms)
 flow_keys_alike at ms lacks =
     rw (no_deadline ms lacks)
-    (alike_both _ _ _ _ (alike_unknown at _ _ ms ms (only_same (key.Group ∷ key.From ∷ key.To ∷ key.Period ∷ key.Deadline ∷ []) (key.Group ∷ key.From ∷ key.To ∷ []) (key.Period ∷ key.Deadline ∷ []) flow_words ms lacks))
+    (alike_both _ _ _ _ (alike_unknown at _ _ ms ms (only_same later_flow_keys first_flow_keys (key.Period ∷ key.Deadline ∷ []) flow_words ms lacks))
     (rw (period_unfaulted at ms lacks, deadline_unfaulted at ms lacks) refl))
 
 pub flow_alike : (groups units : List (List ℕ)) (i : ℕ) (d : Data) → IsSecondFlow (inside d)
@@ -218,39 +217,12 @@ flow_alike groups units i d lacks =
     (alike_both _ _ _ _ (flow_keys_alike (at.Flow i) (inside d) lacks) refl))
 
 period_is : (ms : Members) → IsSecondFlow ms → given_period Third ms ≡ None
-unfolding given_number
+unfolding number_found
 period_is ms lacks = rw (no_period ms lacks)
 
 deadline_is : (ms : Members) → IsSecondFlow ms → given_deadline Third ms ≡ None
-unfolding given_number
+unfolding number_found
 deadline_is ms lacks = rw (lacked key.Deadline ms (no_deadline ms lacks))
 
-pub second_flow : (groups units : List (List ℕ)) (d : Data) (f : FlowPlan) → IsSecondFlow (inside d)
-    → IsFlowOf Third groups units d f → IsFlowOf Second groups units d f
-second_flow groups units d f lacks told = record {
-  has_group = told.has_group;
-  has_sender = told.has_sender;
-  has_receivers = told.has_receivers;
-  has_pace = record {
-    has_period = told.has_pace.has_period ∙ period_is (inside d) lacks;
-    has_deadline = subst (λ n. IfSome f.pace (λ p. p.deadline ≡ n)) (deadline_is (inside d) lacks) told.has_pace.has_deadline;
-    has_jitter = told.has_pace.has_jitter;
-  };
-  has_pause = told.has_pause;
-  has_on_request = told.has_on_request;
-}
-
-pub third_flow : (groups units : List (List ℕ)) (d : Data) (f : FlowPlan) → IsSecondFlow (inside d)
-    → IsFlowOf Second groups units d f → IsFlowOf Third groups units d f
-third_flow groups units d f lacks told = record {
-  has_group = told.has_group;
-  has_sender = told.has_sender;
-  has_receivers = told.has_receivers;
-  has_pace = record {
-    has_period = told.has_pace.has_period ∙ sym (period_is (inside d) lacks);
-    has_deadline = subst (λ n. IfSome f.pace (λ p. p.deadline ≡ n)) (sym (deadline_is (inside d) lacks)) told.has_pace.has_deadline;
-    has_jitter = told.has_pace.has_jitter;
-  };
-  has_pause = told.has_pause;
-  has_on_request = told.has_on_request;
-}
+pub same_flow : (ms : Members) → IsSecondFlow ms → SameFlow Third Second ms
+same_flow ms lacks = record { period = period_is ms lacks; deadline = deadline_is ms lacks; jitter = refl; pause = refl; on_request = refl }

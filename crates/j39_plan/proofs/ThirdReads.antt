@@ -1,34 +1,34 @@
 -- A plan of version 3 in which nothing stands that the second doesn't know is read as one of version 2.
-use Rattle.std.proofs.Common.{◌≡◌, ℕ, true, false, arith, suc, List, [], ◌∷◌, ◌++◌, Option, None, Some, refl, sym, ap, ◌∙◌}
+use Rattle.std.proofs.Common.{◌≡◌, ℕ, arith, suc, List, [], ◌∷◌, ◌++◌, None, refl, sym, ap, ◌∙◌}
 use Rattle.toml.specs.Data.{Data, Items, no_items, item, Members, get_member}
 use Rattle.j39_network.specs.declared.plan.Plan.{Plan}
-use Rattle.j39_network.specs.declared.plan.timing.Timing.{Timing}
-use Rattle.j39_network.specs.declared.plan.unit_plan.UnitPlan.{UnitPlan}
 use Rattle.j39_plan.specs.declared.reading.version.Version.TheVariants.{Second, Third}
-use Rattle.j39_plan.specs.declared.reading.fault.Fault.{Fault}
+use Rattle.j39_plan.specs.PlanErrors.{PlanFault}
 use Rattle.j39_plan.specs.declared.reading.key.Key.{Key}
 use Rattle.j39_plan.specs.declared.reading.key.Key.TheVariants as key
 use Rattle.j39_plan.specs.declared.reading.place.Table.TheVariants as at
 use Rattle.j39_plan.specs.Words.{word_of}
-use Rattle.j39_plan.specs.Outcome.{first}
-use Rattle.j39_plan.specs.Schema.{number_of, table_of, tables_of}
-use Rattle.j39_plan.specs.TableFaults.{key_faults, is_key_word, has_only}
+use Rattle.j39_tables.specs.Outcome.{first}
+use Rattle.j39_tables.specs.Rules.{number_of, table_found}
+use Rattle.j39_plan.specs.Schema.{table_of, tables_of}
+use Rattle.j39_tables.specs.TableFaults.{key_faults, is_key_word, has_only}
 use Rattle.j39_plan.specs.Since.{known_faults}
-use Rattle.j39_plan.specs.Elements.{each_faults, inside, label_in}
+use Rattle.j39_tables.specs.InOrder.{each_faults, inside}
+use Rattle.j39_plan.specs.LabelsSeen.{label_in}
 use Rattle.j39_plan.specs.UnitTables.{IsUnitOf, name_faults, name_fields_of, name_of, unit_faults, unit_label_in, unit_table_faults}
-use Rattle.j39_plan.specs.TimingTables.{TellsTiming}
-use Rattle.j39_plan.specs.declared.reading.version.Version.{Version}
-use Rattle.j39_plan.proofs.NoFaults.{Each-weaken}
 use Rattle.j39_plan.specs.GroupTables.{IsGroupOf, group_faults}
 use Rattle.j39_plan.specs.FlowTables.{IsFlowOf, flow_faults}
-use Rattle.j39_plan.specs.PlanFaults.{version_rule, keep_free_rule, strangers_of, strangers_faults, live_of, live_faults, timing_rule, units_rule, groups_rule, flows_rule, version_of, head_faults, timing_faults, array_rules, top_faults, unit_labels, group_labels, units_faults, groups_faults, flows_faults, needs_faults, requests_faults, no_label, faults}
-use Rattle.j39_plan.specs.Described.{keep_free_of, TellsPlan}
+use Rattle.j39_plan.specs.PlanFaults.{version_rule, keep_free_rule, strangers_of, strangers_faults, live_of, live_faults, timing_rule, units_rule, groups_rule}
+use Rattle.j39_plan.specs.PlanFaults.{flows_rule, version_of, head_faults, timing_faults, array_rules, top_faults, unit_labels, group_labels, units_faults}
+use Rattle.j39_plan.specs.PlanFaults.{groups_faults, flows_faults, needs_faults, requests_faults, no_label, faults}
+use Rattle.j39_plan.specs.Described.{keep_free_of}
 use Rattle.j39_plan.specs.Versions.{with_version, Lacks, IsSecondGroup, IsSecondFlow, IsSecondPlan, ReadAlike}
 use Rattle.j39_plan.proofs.Absent.{lacked, IsNone, only_same, Alike, alike_both, alike_unknown, alike_each, told_alike}
-use Rattle.j39_plan.proofs.KnownVersions.{version_unfaulted, knows_3, knows_2, each_nothing}
+use Rattle.j39_plan.proofs.KnownVersions.{version_unfaulted, knows_3, knows_2, each_nothing, each_both}
 use Rattle.j39_plan.proofs.ReadAlike.{reads_alike}
 use Rattle.j39_plan.proofs.OtherVersion.{only_other, key_faults_other, tables_other, addresses_other, version_other}
-use Rattle.j39_plan.proofs.ThirdPlans.{group_alike, second_group, third_group, flow_alike, second_flow, third_flow}
+use Rattle.j39_plan.proofs.ThirdPlans.{group_alike, group_told, flow_alike, same_flow}
+use Rattle.j39_plan.proofs.SameParts.{SameUnit, SamePlan, unit_both, flow_both, timing_both, plan_both}
 
 -- ---- the top table
 
@@ -40,13 +40,13 @@ abbrev second_keys : List Key
 second_keys = key.Version ∷ key.KeepFree ∷ key.Unit ∷ key.Group ∷ key.Flow ∷ []
 
 top_words : (l : List ℕ) → IsNone (key.Timing ∷ []) l
-    → is_key_word third_keys l
-    ≡ is_key_word second_keys l
+    → is_key_word word_of third_keys l
+    ≡ is_key_word word_of second_keys l
 top_words l none = rw (none 0 key.Timing (omega arith))
 
 known_alike : (n : ℕ) (tree : Members) → Lacks (key.Timing ∷ []) tree
-    → has_only third_keys tree
-    ≡ has_only second_keys (with_version n tree)
+    → has_only word_of third_keys tree
+    ≡ has_only word_of second_keys (with_version n tree)
 known_alike n tree lacks =
     only_same third_keys second_keys (key.Timing ∷ []) top_words tree lacks
     ∙ sym (only_other n second_keys tree)
@@ -93,7 +93,7 @@ unfolding key_faults
 bus_unfaulted s none = rw none
 
 no_bus_table : (s : Members) → get_member (word_of key.Timing) s ≡ None → table_of timing_rule s ≡ None
-unfolding table_of
+unfolding table_found
 no_bus_table s none = rw none
 
 timing_part_alike : (s : Members) → Beside s → Alike (timing_faults s) (timing_faults (with_version 2 s))
@@ -114,7 +114,7 @@ arrays_alike s b =
 
 -- ---- the arrays
 
-same_each : (f g : ℕ → List (List ℕ) → Data → List Fault) → ((i : ℕ) (seen : List (List ℕ)) (d : Data) → f i seen d ≡ g i seen d)
+same_each : (f g : ℕ → List (List ℕ) → Data → List PlanFault) → ((i : ℕ) (seen : List (List ℕ)) (d : Data) → f i seen d ≡ g i seen d)
     → (label : Data → List ℕ) (i : ℕ) (seen : List (List ℕ)) (ds : Items) → each_faults f label i seen ds ≡ each_faults g label i seen ds
 unfolding each_faults
 same_each f g same label i seen no_items = refl
@@ -174,78 +174,30 @@ same_name : (ms : Members) → name_of Third ms ≡ name_of Second ms
 unfolding name_fields_of
 same_name ms = refl
 
-second_unit : (d : Data) (u : UnitPlan) → IsUnitOf Third d u → IsUnitOf Second d u
-second_unit d u told = record {
-  has_label = told.has_label;
-  has_address = told.has_address;
-  has_way = told.has_way;
-  has_window = told.has_window;
-  has_name = told.has_name ∙ same_name (inside d);
-  has_number = told.has_number;
-  has_queue = told.has_queue;
-  has_claims = told.has_claims;
-}
+same_unit : (ms : Members) → SameUnit Third Second ms
+same_unit ms = record { name = same_name ms; number = refl; queue = refl; claims = refl }
 
-third_unit : (d : Data) (u : UnitPlan) → IsUnitOf Second d u → IsUnitOf Third d u
-third_unit d u told = record {
-  has_label = told.has_label;
-  has_address = told.has_address;
-  has_way = told.has_way;
-  has_window = told.has_window;
-  has_name = told.has_name ∙ sym (same_name (inside d));
-  has_number = told.has_number;
-  has_queue = told.has_queue;
-  has_claims = told.has_claims;
-}
-
-no_bus_told : (one other : Version) (t : Option Timing) → TellsTiming one None t → TellsTiming other None t
-no_bus_told one other None told = tt
-no_bus_told one other (Some t) told = absurd told
-
-second_plan : (s : Members) (p : Plan) → Beside s → TellsPlan s p → TellsPlan (with_version 2 s) p
-second_plan s p b told =
+same_plan : (s : Members) (p : Plan) → Beside s → SamePlan s (with_version 2 s) p
+same_plan s p b =
     let k = knows_3 s b.is in
     let o = knows_2 (with_version 2 s) b.other in
     record {
-      has_keep_free = told.has_keep_free ∙ sym (kept_alike s b);
-      has_strangers = told.has_strangers ∙ sym (as_many s b);
-      has_live = told.has_live ∙ sym (as_live s b);
-      has_timing = rw o (no_bus_told Third Second p.timing (rw (k, no_bus_table s (no_bus s b.older.keys)) at told.has_timing));
-      has_units = rw (o, tables_other 2 units_rule s refl)
-          (Each-weaken (IsUnitOf Third) (IsUnitOf Second) second_unit (tables_of units_rule s) p.units.items (rw k at told.has_units));
-      has_groups = rw (o, tables_other 2 groups_rule s refl)
-          (told_alike IsSecondGroup (IsGroupOf Third) (IsGroupOf Second) second_group (tables_of groups_rule s) p.groups.items b.older.groups
-          (rw k at told.has_groups));
-      has_flows = rw (o, tables_other 2 units_rule s refl, tables_other 2 groups_rule s refl, tables_other 2 flows_rule s refl)
+      keep_free = sym (kept_alike s b);
+      strangers = sym (as_many s b);
+      live = sym (as_live s b);
+      timing = rw (k, o, no_bus_table s (no_bus s b.older.keys)) (timing_both Third Second None p.timing tt);
+      units = rw (k, o, tables_other 2 units_rule s refl)
+          (each_both (IsUnitOf Third) (IsUnitOf Second) (λ d u. unit_both d u (same_unit (inside d))) (tables_of units_rule s) p.units.items);
+      groups = rw (k, o, tables_other 2 groups_rule s refl)
+          (told_alike IsSecondGroup (IsGroupOf Third) (IsGroupOf Second) group_told (tables_of groups_rule s) p.groups.items b.older.groups);
+      flows = rw (k, o, tables_other 2 units_rule s refl, tables_other 2 groups_rule s refl, tables_other 2 flows_rule s refl)
           (told_alike IsSecondFlow (IsFlowOf Third (group_labels s) (unit_labels s)) (IsFlowOf Second (group_labels s) (unit_labels s))
-          (second_flow (group_labels s) (unit_labels s)) (tables_of flows_rule s) p.flows.items b.older.flows (rw k at told.has_flows));
-      has_needs = rw o (each_nothing _ _ p.needs.items (rw k at told.has_needs));
-      has_requests = rw o (each_nothing _ _ p.requests.items (rw k at told.has_requests));
-    }
-
-third_plan : (s : Members) (p : Plan) → Beside s → TellsPlan (with_version 2 s) p → TellsPlan s p
-third_plan s p b told =
-    let k = knows_3 s b.is in
-    let o = knows_2 (with_version 2 s) b.other in
-    record {
-      has_keep_free = told.has_keep_free ∙ kept_alike s b;
-      has_strangers = told.has_strangers ∙ as_many s b;
-      has_live = told.has_live ∙ as_live s b;
-      has_timing = rw (k, no_bus_table s (no_bus s b.older.keys)) (no_bus_told Second Third p.timing (rw o at told.has_timing));
-      has_units = rw k (Each-weaken (IsUnitOf Second) (IsUnitOf Third) third_unit (tables_of units_rule s) p.units.items
-          (rw (o, tables_other 2 units_rule s refl) at told.has_units));
-      has_groups = rw k
-          (told_alike IsSecondGroup (IsGroupOf Second) (IsGroupOf Third) third_group (tables_of groups_rule s) p.groups.items b.older.groups
-          (rw (o, tables_other 2 groups_rule s refl) at told.has_groups));
-      has_flows = rw k
-          (told_alike IsSecondFlow (IsFlowOf Second (group_labels s) (unit_labels s)) (IsFlowOf Third (group_labels s) (unit_labels s))
-          (third_flow (group_labels s) (unit_labels s)) (tables_of flows_rule s) p.flows.items b.older.flows
-          (rw (o, tables_other 2 units_rule s refl, tables_other 2 groups_rule s refl, tables_other 2 flows_rule s refl) at told.has_flows));
-      has_needs = rw k (each_nothing _ _ p.needs.items (rw o at told.has_needs));
-      has_requests = rw k (each_nothing _ _ p.requests.items (rw o at told.has_requests));
+          (λ d f older. flow_both (group_labels s) (unit_labels s) d f (same_flow (inside d) older)) (tables_of flows_rule s) p.flows.items b.older.flows);
+      needs = rw (k, o) (each_nothing _ _ p.needs.items);
+      requests = rw (k, o) (each_nothing _ _ p.requests.items);
     }
 
 pub third_reads : (s : Members) → number_of version_rule s ≡ 3 → IsSecondPlan s → ReadAlike s (with_version 2 s)
 third_reads s is older =
     let b = beside s is older in
-    reads_alike s (with_version 2 s) (λ p. (second_plan s p b, third_plan s p b)) (faults_alike s b)
+    reads_alike s (with_version 2 s) (λ p. plan_both (same_plan s p b)) (faults_alike s b)

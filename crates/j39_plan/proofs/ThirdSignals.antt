@@ -1,10 +1,10 @@
 -- A signal of version 3 in whose table nothing stands that the second doesn't know is one of version 2.
-use Rattle.std.proofs.Common.{◌≡◌, ℕ, Bool, true, false, ◌||◌, if◌then◌else◌, arith, List, [], ◌∷◌, Option, Some, None, unwrap_or, refl, sym, ap, ◌∙◌, codes}
+use Rattle.std.proofs.Common.{◌≡◌, ℕ, Bool, true, false, ◌||◌, if◌then◌else◌, arith, List, [], ◌∷◌, Option, Some, None, unwrap_or, refl, ap, codes}
 use Rattle.std.specs.Option.{option_map_or, option_and_then}
 use Rattle.std.specs.Str.{bytes_eq}
 use Rattle.toml.specs.Data.{Data, string, integer, float, boolean, datetime, array, table, Members, get_member, as_str, as_table}
 use Rattle.j39_signal.specs.declared.kind.Kind.TheVariants.{Measured, Discrete, Raw, States, Signed, Dtc}
-use Rattle.j39_signal.specs.Parts.{SignalParts}
+use Rattle.j39_plan.specs.ValueCauses.{divisor_up_to, truth_where}
 use Rattle.j39_plan.specs.declared.reading.version.Version.TheVariants.{Second, Third}
 use Rattle.j39_plan.specs.declared.reading.key.Key.{Key}
 use Rattle.j39_plan.specs.declared.reading.key.Key.TheVariants as key
@@ -13,12 +13,15 @@ use Rattle.j39_plan.specs.declared.reading.place.Table.TheVariants as at
 use Rattle.j39_plan.specs.declared.reading.text_kind.TextKind.TheVariants as texts
 use Rattle.j39_plan.specs.TextKinds.{is_first_kind}
 use Rattle.j39_plan.specs.Words.{word_of}
-use Rattle.j39_plan.specs.Schema.{text_of_kind, standing, number_of, flag_of, text_of}
-use Rattle.j39_plan.specs.TableFaults.{standing_cause, key_faults, table_only_faults, is_key_word}
+use Rattle.j39_tables.specs.Rules.{standing, number_of, flag_of, text_of, text_where}
+use Rattle.j39_tables.specs.TableFaults.{standing_cause, key_faults, table_only_faults, is_key_word}
 use Rattle.j39_plan.specs.Since.{versioned_faults}
-use Rattle.j39_plan.specs.Elements.{inside, label_in, repeated_faults}
-use Rattle.j39_plan.specs.SignalTables.{kind_of, is_dtc, kind_rule, is_code, per_rule, per_of, repeated_rule, repeated_of, signal_rules, signal_table_faults, signal_faults, IsSignalOf}
+use Rattle.j39_tables.specs.InOrder.{inside}
+use Rattle.j39_plan.specs.LabelsSeen.{label_in, repeated_faults}
+use Rattle.j39_plan.specs.SignalTables.{kind_of, is_dtc, kind_rule, is_code, per_rule, per_of, repeated_rule, repeated_of, signal_rules, signal_table_faults}
+use Rattle.j39_plan.specs.SignalTables.{signal_faults}
 use Rattle.j39_plan.specs.Versions.{is_later_kind, IsSecondSignal}
+use Rattle.j39_plan.proofs.SameParts.{SameSignal}
 use Rattle.j39_plan.proofs.Absent.{lacked, IsNone, only_same, Alike, alike_both, alike_between, alike_unknown, alike_inside}
 
 no_per : (ms : Members) → IsSecondSignal ms → get_member (word_of key.Per) ms ≡ None
@@ -28,7 +31,8 @@ no_repeated : (ms : Members) → IsSecondSignal ms → get_member (word_of key.R
 no_repeated ms second = lacked key.Repeated ms (second.keys 1 key.Repeated (omega arith))
 
 plain_kind : (measured discrete states signed dtc : Bool) → (states || (signed || dtc)) ≡ false
-    → is_dtc (if measured then Measured else if discrete then Discrete else if states then States else if signed then Signed else if dtc then Dtc else Raw) ≡ false
+    → is_dtc (if measured then Measured else if discrete then Discrete else if states then States else if signed then Signed else if dtc then Dtc else Raw)
+    ≡ false
 plain_kind true discrete states signed dtc none = refl
 plain_kind false true states signed dtc none = refl
 plain_kind false false true signed dtc none = refl
@@ -52,7 +56,8 @@ takes_same true later none = refl
 takes_same false later none = none
 
 kind_cause : (found : Option Data) → is_later_kind (unwrap_or (option_and_then as_str found) []) ≡ false
-    → standing_cause (text_of_kind texts.AnySignalKind) found ≡ standing_cause (text_of_kind texts.SignalKind) found
+    → standing_cause (kind_rule Third) found ≡ standing_cause (kind_rule Second) found
+unfolding text_where
 kind_cause None none = refl
 kind_cause (Some (string t)) none = rw (takes_same (is_first_kind t) (is_later_kind t) none)
 kind_cause (Some (integer z)) none = refl
@@ -67,11 +72,11 @@ unfolding key_faults text_of
 kind_faults at ms second = rw (kind_cause (standing (kind_rule Third) ms) second.kind)
 
 per_unfaulted : (at : Table) (ms : Members) → IsSecondSignal ms → key_faults at ms (per_rule false) ≡ []
-unfolding key_faults
+unfolding key_faults divisor_up_to
 per_unfaulted at ms second = rw (no_per ms second)
 
 repeated_unfaulted : (at : Table) (ms : Members) → IsSecondSignal ms → key_faults at ms (repeated_rule false) ≡ []
-unfolding key_faults
+unfolding key_faults truth_where
 repeated_unfaulted at ms second = rw (no_repeated ms second)
 
 -- the keys of a signal in the third version, and in the second
@@ -82,8 +87,8 @@ abbrev second_keys : List Key
 second_keys = key.Label ∷ key.Byte ∷ key.Bit ∷ key.Bits ∷ key.Kind ∷ key.Step ∷ key.Offset ∷ key.Unit ∷ []
 
 signal_words : (l : List ℕ) → IsNone (key.Per ∷ key.Repeated ∷ []) l
-    → is_key_word third_keys l
-    ≡ is_key_word second_keys l
+    → is_key_word word_of third_keys l
+    ≡ is_key_word word_of second_keys l
 signal_words l none = rw (none 0 key.Per (omega arith), none 1 key.Repeated (omega arith))
 
 signal_keys_alike : (at : Table) (ms : Members) → IsSecondSignal ms
@@ -115,30 +120,5 @@ repeated_is : (ms : Members) → IsSecondSignal ms → repeated_of Third ms ≡ 
 unfolding flag_of
 repeated_is ms second = rw (no_repeated ms second)
 
-pub second_signal : (d : Data) (s : SignalParts) → IsSecondSignal (inside d) → IsSignalOf Third d s → IsSignalOf Second d s
-second_signal d s second told = record {
-  has_label = told.has_label;
-  has_start = told.has_start;
-  has_bits = told.has_bits;
-  has_kind = told.has_kind ∙ ap kind_of (kind_told (inside d));
-  has_step = told.has_step;
-  has_offset = told.has_offset;
-  has_per = told.has_per ∙ per_is (inside d) second;
-  has_unit = told.has_unit;
-  has_repeated = told.has_repeated ∙ repeated_is (inside d) second;
-  has_optional = told.has_optional;
-}
-
-pub third_signal : (d : Data) (s : SignalParts) → IsSecondSignal (inside d) → IsSignalOf Second d s → IsSignalOf Third d s
-third_signal d s second told = record {
-  has_label = told.has_label;
-  has_start = told.has_start;
-  has_bits = told.has_bits;
-  has_kind = told.has_kind ∙ sym (ap kind_of (kind_told (inside d)));
-  has_step = told.has_step;
-  has_offset = told.has_offset;
-  has_per = told.has_per ∙ sym (per_is (inside d) second);
-  has_unit = told.has_unit;
-  has_repeated = told.has_repeated ∙ sym (repeated_is (inside d) second);
-  has_optional = told.has_optional;
-}
+pub same_signal : (ms : Members) → IsSecondSignal ms → SameSignal Third Second ms
+same_signal ms second = record { kind = ap kind_of (kind_told ms); per = per_is ms second; repeated = repeated_is ms second; optional = refl }

@@ -3,47 +3,50 @@
 use Rattle.std.specs.Prelude.{◌≡◌, ℕ, List, [], ◌++◌, ◌∷◌, Bool, false, if◌then◌else◌, Option, Some, None, is_some}
 use Rattle.std.specs.Option.{option_map_or}
 use Rattle.toml.specs.Data.{Data, Items, no_items, Members, as_table}
+use Rattle.j39_plan.specs.Words.{word_of}
 use Rattle.j39_id.specs.Limits.{message_bytes}
 use Rattle.j39_network.specs.PlanLimits.{signal_limit, text_limit}
 use Rattle.j39_network.specs.declared.plan.group_plan.GroupPlan.{GroupPlan}
 use Rattle.j39_plan.specs.declared.reading.key.Key.TheVariants as key
 use Rattle.j39_plan.specs.declared.reading.place.Table.TheVariants as at
-use Rattle.j39_plan.specs.declared.reading.fault.Fault.{Fault}
+use Rattle.j39_plan.specs.PlanErrors.{PlanFault}
 use Rattle.j39_plan.specs.declared.reading.text_kind.TextKind.TheVariants as texts
-use Rattle.j39_plan.specs.Schema.{Rule, number, optional, flag, tables, number_of, given_number, flag_of, text_of, tables_of}
-use Rattle.j39_plan.specs.TableFaults.{table_only_faults, unknown_faults}
-use Rattle.j39_plan.specs.Elements.{inside, repeated_faults, each_faults, labels_of, Each, label_in, label_rule}
+use Rattle.j39_plan.specs.Schema.{PlanRule, number, optional, flag, tables, given_number, tables_of}
+use Rattle.j39_tables.specs.Rules.{number_of, flag_of, text_of}
+use Rattle.j39_tables.specs.TableFaults.{table_only_faults, unknown_faults}
+use Rattle.j39_tables.specs.InOrder.{inside, each_faults, labels_of, Each}
+use Rattle.j39_plan.specs.LabelsSeen.{repeated_faults, label_in, label_rule}
 use Rattle.j39_plan.specs.Since.{Since, since, is_known, known, rules_of, keys_of, known_keys, known_faults}
 use Rattle.j39_plan.specs.declared.reading.version.Version.{Version}
 use Rattle.j39_plan.specs.declared.reading.version.Version.TheVariants.{First, Third, Fourth}
-use Rattle.j39_plan.specs.SelectorTables.{TellsWhen, when_faults, when_rule, when_table}
+use Rattle.j39_plan.specs.SelectorTables.{DescribesWhen, when_faults, when_rule, when_table}
 use Rattle.j39_plan.specs.SignalTables.{IsMeaningOf, IsSignalOf, signal_faults}
 use Rattle.j39_plan.specs.TextTables.{IsTextOf, text_faults}
 
-abbrev pub pgn_rule : Rule
+abbrev pub pgn_rule : PlanRule
 pgn_rule = number key.Pgn 0 16777215 None
 
-abbrev pub priority_rule : Rule
+abbrev pub priority_rule : PlanRule
 priority_rule = number key.Priority 0 7 None
 
-abbrev pub length_rule : Rule
+abbrev pub length_rule : PlanRule
 length_rule = number key.Length 1 message_bytes None
 
-abbrev pub private_rule : Rule
+abbrev pub private_rule : PlanRule
 private_rule = flag key.Private false
 
 -- at least the length of the shortest, which it is without the key
-abbrev pub most_rule : ℕ → Rule
+abbrev pub most_rule : ℕ → PlanRule
 most_rule length = number key.Most length message_bytes (Some length)
 
 -- without the key the group has no records
-abbrev pub every_rule : Rule
+abbrev pub every_rule : PlanRule
 every_rule = optional key.Every 1 255
 
-abbrev pub signal_rule : Rule
+abbrev pub signal_rule : PlanRule
 signal_rule = tables key.Signal signal_limit
 
-abbrev pub text_rule : Rule
+abbrev pub text_rule : PlanRule
 text_rule = tables key.Text text_limit
 
 -- behind the length, by the length
@@ -93,7 +96,7 @@ abbrev pub text_tables_of : Version → Members → Items
 text_tables_of version ms = if is_known Third version then tables_of text_rule ms else no_items
 
 -- the group that a table tells
-pub record TellsGroup (version : Version) (ms : Members) (g : GroupPlan) : Type 0 where
+pub record DescribesGroup (version : Version) (ms : Members) (g : GroupPlan) : Type 0 where
   pub has_label : g.label.bytes ≡ text_of label_rule ms
   pub has_pgn : g.pgn ≡ number_of pgn_rule ms
   pub has_priority : g.priority ≡ number_of priority_rule ms
@@ -101,7 +104,7 @@ pub record TellsGroup (version : Version) (ms : Members) (g : GroupPlan) : Type 
   pub has_private : g.private ≡ private_of version ms
   pub has_most : g.most ≡ most_of version (number_of length_rule ms) ms
   pub has_every : g.every ≡ every_of version ms
-  pub has_when : TellsWhen (when_table version ms) g.when
+  pub has_when : DescribesWhen (when_table version ms) g.when
   pub has_signals : Each (IsSignalOf version) (tables_of signal_rule ms) g.signals.items
   pub has_meanings : Each (IsMeaningOf version) (tables_of signal_rule ms) g.meanings.items
   pub has_texts : Each IsTextOf (text_tables_of version ms) g.texts.items
@@ -113,35 +116,35 @@ OlderGroupRules = (version : Version) (ms : Members) → is_known Third version 
 
 -- and its messages have one length and no records
 abbrev pub OlderLengths : Type 0
-OlderLengths = (version : Version) (ms : Members) (g : GroupPlan) → is_known Third version ≡ false → TellsGroup version ms g
+OlderLengths = (version : Version) (ms : Members) (g : GroupPlan) → is_known Third version ≡ false → DescribesGroup version ms g
     → (g.most ≡ g.length) × (g.every ≡ None)
 
 abbrev pub IsGroupOf : Version → Data → GroupPlan → Type 0
-IsGroupOf version d g = TellsGroup version (inside d) g
+IsGroupOf version d g = DescribesGroup version (inside d) g
 
-abbrev pub signals_faults : Version → ℕ → Members → List Fault
+abbrev pub signals_faults : Version → ℕ → Members → List PlanFault
 signals_faults version g ms = each_faults (signal_faults version (has_records version ms) g) label_in 0 [] (tables_of signal_rule ms)
 
 -- of its texts, whose labels none of its signals may have either
 abbrev pub signal_labels : Members → List (List ℕ)
 signal_labels ms = labels_of label_in (tables_of signal_rule ms)
 
-abbrev pub texts_faults : Version → ℕ → Members → List Fault
+abbrev pub texts_faults : Version → ℕ → Members → List PlanFault
 texts_faults version g ms = each_faults (text_faults (signal_labels ms) g) label_in 0 [] (text_tables_of version ms)
 
 -- of its keys: the table of the selector is read whole behind the key, and before the arrays
-abbrev pub group_keys_faults : Version → ℕ → Members → List Fault
+abbrev pub group_keys_faults : Version → ℕ → Members → List PlanFault
 group_keys_faults version g ms =
-    unknown_faults (at.Group g) (known_keys version (keys_of (group_rules ms))) ms
+    unknown_faults word_of (at.Group g) (known_keys version (keys_of (group_rules ms))) ms
     ++ (known_faults (at.Group g) version ms (first_rules ms)
     ++ (when_faults version g ms ++ known_faults (at.Group g) version ms inner_rules))
 
-unfoldable pub group_table_faults : Version → ℕ → Members → List Fault
+unfoldable pub group_table_faults : Version → ℕ → Members → List PlanFault
 group_table_faults version g ms =
     group_keys_faults version g ms ++ (signals_faults version g ms ++ texts_faults version g ms)
 
 -- the faults of the g-th group, behind those with the labels seen
-unfoldable pub group_faults : Version → ℕ → List (List ℕ) → Data → List Fault
+unfoldable pub group_faults : Version → ℕ → List (List ℕ) → Data → List PlanFault
 group_faults version g seen d = table_only_faults (at.Group g) d
     ++ option_map_or (group_table_faults version g) (as_table d) []
     ++ repeated_faults (at.Group g) texts.Label seen (label_in d)

@@ -1,5 +1,5 @@
 pub mod Described
-pub mod Elements
+pub mod LabelsSeen
 pub mod PlanFaults
 pub mod FlowTables
 pub mod GroupTables
@@ -8,11 +8,11 @@ pub mod MeaningTables
 pub mod NeedTables
 pub mod RequestTables
 pub mod OnePlan
-pub mod Outcome
+pub mod PlanErrors
 pub mod Schema
 pub mod SelectorTables
 pub mod SignalTables
-pub mod TableFaults
+pub mod ValueCauses
 pub mod TextKinds
 pub mod TextTables
 pub mod TimingTables

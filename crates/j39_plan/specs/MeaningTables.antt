@@ -12,20 +12,21 @@ use Rattle.j39_plan.specs.declared.reading.key.Key.TheVariants as key
 use Rattle.j39_plan.specs.declared.reading.version.Version.{Version}
 use Rattle.j39_plan.specs.declared.reading.version.Version.TheVariants.{Fourth}
 use Rattle.j39_plan.specs.Since.{Since, since, is_known}
-use Rattle.j39_plan.specs.Schema.{Rule, names, flag_if, optional, flag_of, given_number, table_of}
+use Rattle.j39_plan.specs.Schema.{PlanRule, names, flag_if, optional, given_number, table_of}
+use Rattle.j39_tables.specs.Rules.{flag_of}
 
 -- one that is repeated can't be optional
-abbrev pub optional_rule : Bool → Rule
+abbrev pub optional_rule : Bool → PlanRule
 optional_rule repeated = flag_if key.Optional (not repeated)
 
-abbrev pub spn_rule : Rule
+abbrev pub spn_rule : PlanRule
 spn_rule = optional key.Spn 0 spn_most
 
 -- names are of the raw numbers that so many bits have, of at most 32, and a trouble code has none
 abbrev pub raw_limit : ℕ → ℕ
 raw_limit bits = 2 ^ min bits 32
 
-abbrev pub values_rule : Bool → ℕ → Rule
+abbrev pub values_rule : Bool → ℕ → PlanRule
 values_rule code bits = names key.Values (not code) (raw_limit bits)
 
 -- by whether the signal is repeated, whether the table is that of a trouble code, and by the width of the signal
@@ -54,12 +55,12 @@ AreValueNames (member k d ms) (n ∷ ns) = (n.raw ≡ digits_value 10 k) × (as_
 AreValueNames _ _ = ⊥
 
 -- what the keys of a table tell of a signal, its names as the file has them
-pub record TellsKeys (version : Version) (ms : Members) (m : MeaningKeys) : Type 0 where
+pub record DescribesKeys (version : Version) (ms : Members) (m : MeaningKeys) : Type 0 where
   pub has_optional : m.optional ≡ optional_of version ms
   pub has_spn : m.spn ≡ spn_of version ms
   pub has_names : unwrap_or (option_map (λ t. table_view t.now) m.names) no_members ≡ name_table version ms
 
 -- what a table tells of a signal
-pub record TellsMeaning (version : Version) (ms : Members) (m : Meaning) : Type 0 where
+pub record DescribesMeaning (version : Version) (ms : Members) (m : Meaning) : Type 0 where
   pub has_spn : m.spn ≡ spn_of version ms
   pub has_values : AreValueNames (name_table version ms) m.values.items

@@ -5,33 +5,34 @@ use Rattle.std.specs.Option.{option_map_or}
 use Rattle.toml.specs.Data.{Data, Items, no_items, item, Members, as_table}
 use Rattle.j39_network.specs.declared.plan.group_plan.GroupPlan.{GroupPlan}
 use Rattle.j39_network.specs.declared.plan.need_plan.NeedPlan.{NeedPlan}
+use Rattle.j39_plan.specs.Words.{word_of}
 use Rattle.j39_plan.specs.declared.reading.key.Key.TheVariants as key
 use Rattle.j39_plan.specs.declared.reading.place.Table.TheVariants as at
-use Rattle.j39_plan.specs.declared.reading.fault.Fault.{Fault}
+use Rattle.j39_plan.specs.PlanErrors.{PlanFault}
 use Rattle.j39_plan.specs.declared.reading.text_kind.TextKind.TheVariants as texts
-use Rattle.j39_plan.specs.Schema.{Rule, text, optional, optional_text, found_text, given_number}
-use Rattle.j39_plan.specs.TableFaults.{table_faults, table_only_faults}
-use Rattle.j39_plan.specs.Elements.{inside}
+use Rattle.j39_plan.specs.Schema.{PlanRule, text, optional, optional_text, found_text, given_number}
+use Rattle.j39_tables.specs.TableFaults.{table_faults, table_only_faults}
+use Rattle.j39_tables.specs.InOrder.{inside}
 use Rattle.j39_plan.specs.GroupTables.{signal_labels}
 use Rattle.j39_plan.specs.FlowTables.{place_of, place_faults}
 
-abbrev pub need_unit_rule : Rule
+abbrev pub need_unit_rule : PlanRule
 need_unit_rule = text key.Unit texts.Any None
 
-abbrev pub need_group_rule : Rule
+abbrev pub need_group_rule : PlanRule
 need_group_rule = text key.Group texts.Any None
 
-abbrev pub need_signal_rule : Rule
+abbrev pub need_signal_rule : PlanRule
 need_signal_rule = optional_text key.Signal
 
 -- without this key any other unit may send it
-abbrev pub need_from_rule : Rule
+abbrev pub need_from_rule : PlanRule
 need_from_rule = optional_text key.From
 
-abbrev pub within_rule : Rule
+abbrev pub within_rule : PlanRule
 within_rule = optional key.Within 1 65535
 
-abbrev pub need_rules : List Rule
+abbrev pub need_rules : List PlanRule
 need_rules = need_unit_rule ∷ need_group_rule ∷ need_signal_rule ∷ need_from_rule ∷ within_rule ∷ []
 
 -- the labels of the signals of each group
@@ -54,7 +55,7 @@ abbrev pub named_group : List (List ℕ) → Members → Option ℕ
 named_group groups ms = option_and_then (place_of groups) (found_text need_group_rule ms)
 
 -- the need that a table tells, by the labels of the groups, of the signals of each, and of the units
-pub record TellsNeed (groups : List (List ℕ)) (signals : List (List (List ℕ))) (units : List (List ℕ)) (ms : Members) (d : NeedPlan) : Type 0 where
+pub record DescribesNeed (groups : List (List ℕ)) (signals : List (List (List ℕ))) (units : List (List ℕ)) (ms : Members) (d : NeedPlan) : Type 0 where
   pub has_unit : option_and_then (place_of units) (found_text need_unit_rule ms) ≡ Some d.unit
   pub has_group : named_group groups ms ≡ Some d.group
   pub has_signal : d.signal ≡ option_and_then (place_of (signals_at signals (Some d.group))) (found_text need_signal_rule ms)
@@ -62,17 +63,17 @@ pub record TellsNeed (groups : List (List ℕ)) (signals : List (List (List ℕ)
   pub has_within : d.within ≡ given_number within_rule ms
 
 abbrev pub IsNeedOf : List (List ℕ) → List (List (List ℕ)) → List (List ℕ) → Data → NeedPlan → Type 0
-IsNeedOf groups signals units d need = TellsNeed groups signals units (inside d) need
+IsNeedOf groups signals units d need = DescribesNeed groups signals units (inside d) need
 
 -- behind the faults of the keys, texts that name no unit, no group, no signal of this group and no unit
-unfoldable pub need_table_faults : List (List ℕ) → List (List (List ℕ)) → List (List ℕ) → ℕ → Members → List Fault
-need_table_faults groups signals units i ms = table_faults (at.Need i) need_rules ms
+unfoldable pub need_table_faults : List (List ℕ) → List (List (List ℕ)) → List (List ℕ) → ℕ → Members → List PlanFault
+need_table_faults groups signals units i ms = table_faults word_of (at.Need i) need_rules ms
     ++ (place_faults (at.Need i) key.Unit units (found_text need_unit_rule ms)
     ++ (place_faults (at.Need i) key.Group groups (found_text need_group_rule ms)
     ++ (place_faults (at.Need i) key.Signal (signals_at signals (named_group groups ms)) (found_text need_signal_rule ms)
     ++ place_faults (at.Need i) key.From units (found_text need_from_rule ms))))
 
 -- the faults of the i-th need
-unfoldable pub need_faults : List (List ℕ) → List (List (List ℕ)) → List (List ℕ) → ℕ → Data → List Fault
+unfoldable pub need_faults : List (List ℕ) → List (List (List ℕ)) → List (List ℕ) → ℕ → Data → List PlanFault
 need_faults groups signals units i d =
     table_only_faults (at.Need i) d ++ option_map_or (need_table_faults groups signals units i) (as_table d) []

@@ -3,52 +3,53 @@ use Rattle.std.specs.Prelude.{◌≡◌, ℕ, List, [], ◌∷◌, ◌++◌, Som
 use Rattle.std.specs.Option.{option_map_or}
 use Rattle.toml.specs.Data.{Data, Members, as_table}
 use Rattle.j39_network.specs.declared.plan.request_plan.RequestPlan.{RequestPlan}
+use Rattle.j39_plan.specs.Words.{word_of}
 use Rattle.j39_plan.specs.declared.reading.key.Key.TheVariants as key
 use Rattle.j39_plan.specs.declared.reading.place.Table.TheVariants as at
-use Rattle.j39_plan.specs.declared.reading.fault.Fault.{Fault}
+use Rattle.j39_plan.specs.PlanErrors.{PlanFault}
 use Rattle.j39_plan.specs.declared.reading.text_kind.TextKind.TheVariants as texts
-use Rattle.j39_plan.specs.Schema.{Rule, text, optional, found_text, given_number}
-use Rattle.j39_plan.specs.TableFaults.{table_faults, table_only_faults}
-use Rattle.j39_plan.specs.Elements.{inside}
+use Rattle.j39_plan.specs.Schema.{PlanRule, text, optional, found_text, given_number}
+use Rattle.j39_tables.specs.TableFaults.{table_faults, table_only_faults}
+use Rattle.j39_tables.specs.InOrder.{inside}
 use Rattle.j39_plan.specs.FlowTables.{place_of, receivers, place_faults, receiver_faults}
 
 -- the group that is asked for
-abbrev pub asked_group_rule : Rule
+abbrev pub asked_group_rule : PlanRule
 asked_group_rule = text key.Group texts.Any None
 
 -- the unit that asks
-abbrev pub asker_rule : Rule
+abbrev pub asker_rule : PlanRule
 asker_rule = text key.From texts.Any None
 
 -- whom it asks
-abbrev pub asked_rule : Rule
+abbrev pub asked_rule : PlanRule
 asked_rule = text key.To texts.Any None
 
 -- two requests are so many milliseconds apart at least
-abbrev pub request_period_rule : Rule
+abbrev pub request_period_rule : PlanRule
 request_period_rule = optional key.Period 1 65535
 
-abbrev pub request_rules : List Rule
+abbrev pub request_rules : List PlanRule
 request_rules = asked_group_rule ∷ asker_rule ∷ asked_rule ∷ request_period_rule ∷ []
 
 -- the request that a table tells, by the labels of the groups and of the units
-pub record TellsRequest (groups units : List (List ℕ)) (ms : Members) (r : RequestPlan) : Type 0 where
+pub record DescribesRequest (groups units : List (List ℕ)) (ms : Members) (r : RequestPlan) : Type 0 where
   pub has_group : option_and_then (place_of groups) (found_text asked_group_rule ms) ≡ Some r.group
   pub has_sender : option_and_then (place_of units) (found_text asker_rule ms) ≡ Some r.sender
   pub has_receivers : option_and_then (receivers units) (found_text asked_rule ms) ≡ Some r.to
   pub has_period : r.period ≡ given_number request_period_rule ms
 
 abbrev pub IsRequestOf : List (List ℕ) → List (List ℕ) → Data → RequestPlan → Type 0
-IsRequestOf groups units d r = TellsRequest groups units (inside d) r
+IsRequestOf groups units d r = DescribesRequest groups units (inside d) r
 
 -- behind the faults of the keys, texts that name no group, no unit that asks, and nobody to ask
-unfoldable pub request_table_faults : List (List ℕ) → List (List ℕ) → ℕ → Members → List Fault
-request_table_faults groups units i ms = table_faults (at.Request i) request_rules ms
+unfoldable pub request_table_faults : List (List ℕ) → List (List ℕ) → ℕ → Members → List PlanFault
+request_table_faults groups units i ms = table_faults word_of (at.Request i) request_rules ms
     ++ (place_faults (at.Request i) key.Group groups (found_text asked_group_rule ms)
     ++ (place_faults (at.Request i) key.From units (found_text asker_rule ms)
     ++ receiver_faults (at.Request i) units (found_text asked_rule ms)))
 
 -- the faults of the i-th request
-unfoldable pub request_faults : List (List ℕ) → List (List ℕ) → ℕ → Data → List Fault
+unfoldable pub request_faults : List (List ℕ) → List (List ℕ) → ℕ → Data → List PlanFault
 request_faults groups units i d =
     table_only_faults (at.Request i) d ++ option_map_or (request_table_faults groups units i) (as_table d) []

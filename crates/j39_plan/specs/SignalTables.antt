@@ -7,55 +7,57 @@ use Rattle.toml.specs.Data.{Data, Members, as_table}
 use Rattle.j39_id.specs.Limits.{message_bytes}
 use Rattle.j39_signal.specs.declared.kind.Kind.{Kind}
 use Rattle.j39_signal.specs.declared.kind.Kind.TheVariants.{Measured, Discrete, Raw, States, Signed, Dtc}
-use Rattle.j39_signal.specs.Parts.{SignalParts, IsSignal}
+use Rattle.j39_signal.specs.Parts.{SignalParts, IsDivisor, IsSignal}
 use Rattle.j39_network.specs.LabelForm.{is_label}
 use Rattle.j39_network.specs.declared.plan.meaning.Meaning.{Meaning}
 use Rattle.j39_plan.specs.declared.reading.key.Key.TheVariants as key
 use Rattle.j39_plan.specs.declared.reading.place.Table.{Table}
 use Rattle.j39_plan.specs.declared.reading.place.Table.TheVariants as at
-use Rattle.j39_plan.specs.declared.reading.fault.Fault.{Fault}
+use Rattle.j39_plan.specs.PlanErrors.{PlanFault}
 use Rattle.j39_plan.specs.declared.reading.text_kind.TextKind.TheVariants as texts
-use Rattle.j39_plan.specs.Schema.{Rule, number, signed, divisor, flag_if, text, number_of, integer_of, flag_of, text_of}
-use Rattle.j39_plan.specs.TableFaults.{table_only_faults}
+use Rattle.j39_plan.specs.Schema.{PlanRule, number, signed, divisor, flag_if, text}
+use Rattle.j39_tables.specs.Rules.{number_of, integer_of, flag_of, text_of}
+use Rattle.j39_tables.specs.TableFaults.{table_only_faults}
 use Rattle.j39_plan.specs.Since.{Since, since, is_known, known, rules_of, versioned_faults}
 use Rattle.j39_plan.specs.declared.reading.version.Version.{Version}
 use Rattle.j39_plan.specs.declared.reading.version.Version.TheVariants.{First, Third}
 use Rattle.j39_plan.specs.declared.reading.text_kind.TextKind.{TextKind}
-use Rattle.j39_plan.specs.MeaningTables.{TellsMeaning, meaning_rules, optional_of}
-use Rattle.j39_plan.specs.Elements.{inside, label_in, label_rule, repeated_faults}
+use Rattle.j39_plan.specs.MeaningTables.{DescribesMeaning, meaning_rules, optional_of}
+use Rattle.j39_tables.specs.InOrder.{inside}
+use Rattle.j39_plan.specs.LabelsSeen.{label_in, label_rule, repeated_faults}
 
-abbrev pub byte_rule : Rule
+abbrev pub byte_rule : PlanRule
 byte_rule = number key.Byte 1 message_bytes None
 
-abbrev pub bit_rule : Rule
+abbrev pub bit_rule : PlanRule
 bit_rule = number key.Bit 1 8 (Some 1)
 
-abbrev pub bits_rule : Rule
+abbrev pub bits_rule : PlanRule
 bits_rule = number key.Bits 1 64 None
 
 -- since the third version more kinds are known
 abbrev pub kinds : Version → TextKind
 kinds version = if is_known Third version then texts.AnySignalKind else texts.SignalKind
 
-abbrev pub kind_rule : Version → Rule
+abbrev pub kind_rule : Version → PlanRule
 kind_rule version = text key.Kind (kinds version) None
 
 -- a trouble code is neither scaled nor has it a unit: of it each of these is what an absent key stands for
-abbrev pub step_rule : Bool → Rule
+abbrev pub step_rule : Bool → PlanRule
 step_rule code = number key.Step 1 (if code then 1 else 1000000) (Some 1)
 
-abbrev pub per_rule : Bool → Rule
+abbrev pub per_rule : Bool → PlanRule
 per_rule code = divisor key.Per (if code then 1 else 10000000)
 
-abbrev pub offset_rule : Bool → Rule
+abbrev pub offset_rule : Bool → PlanRule
 offset_rule code =
     signed key.Offset (if code then pos 0 else negsuc 999999999999) (if code then pos 0 else pos 1000000000000) (Some (pos 0))
 
-abbrev pub unit_rule : Bool → Rule
+abbrev pub unit_rule : Bool → PlanRule
 unit_rule code = text key.Unit (if code then texts.Empty else texts.SignalUnit) (Some [])
 
 -- by whether the group has records
-abbrev pub repeated_rule : Bool → Rule
+abbrev pub repeated_rule : Bool → PlanRule
 repeated_rule records = flag_if key.Repeated records
 
 -- whether it is repeated: it isn't in a version that doesn't know it
@@ -125,7 +127,7 @@ abbrev pub start_of : ℕ → ℕ → ℕ
 start_of byte bit = 8 * (byte - 1) + (bit - 1)
 
 -- the signal that a table tells
-pub record TellsSignal (version : Version) (ms : Members) (s : SignalParts) : Type 0 where
+pub record DescribesSignal (version : Version) (ms : Members) (s : SignalParts) : Type 0 where
   pub has_label : s.label.bytes ≡ text_of label_rule ms
   pub has_start : s.start ≡ start_of (number_of byte_rule ms) (number_of bit_rule ms)
   pub has_bits : s.bits ≡ number_of bits_rule ms
@@ -138,23 +140,24 @@ pub record TellsSignal (version : Version) (ms : Members) (s : SignalParts) : Ty
   pub has_optional : s.optional ≡ optional_of version ms
 
 abbrev pub IsSignalOf : Version → Data → SignalParts → Type 0
-IsSignalOf version d s = TellsSignal version (inside d) s
+IsSignalOf version d s = DescribesSignal version (inside d) s
 
 -- what is said of it besides
 abbrev pub IsMeaningOf : Version → Data → Meaning → Type 0
-IsMeaningOf version d m = TellsMeaning version (inside d) m
+IsMeaningOf version d m = DescribesMeaning version (inside d) m
 
 -- what is true of every signal that is read, in a group with records or without
 pub record IsFit (records : Bool) (s : SignalParts) : Type 0 where
   pub label_form : IsTrue (is_label s.label.bytes)
   pub ranges : IsSignal s.start s.bits s.step s.offset
+  pub divisor : IsDivisor s.per
   pub single : records ≡ false → s.repeated ≡ false
 
-unfoldable pub signal_table_faults : Version → Bool → Table → Members → List Fault
+unfoldable pub signal_table_faults : Version → Bool → Table → Members → List PlanFault
 signal_table_faults version records at ms = versioned_faults at version (signal_rules version records ms) ms
 
 -- the faults of the i-th signal of the g-th group, which has records or hasn't, behind those with the labels seen
-unfoldable pub signal_faults : Version → Bool → ℕ → ℕ → List (List ℕ) → Data → List Fault
+unfoldable pub signal_faults : Version → Bool → ℕ → ℕ → List (List ℕ) → Data → List PlanFault
 signal_faults version records g i seen d = table_only_faults (at.Signal g i) d
     ++ option_map_or (signal_table_faults version records (at.Signal g i)) (as_table d) []
     ++ repeated_faults (at.Signal g i) texts.Label seen (label_in d)

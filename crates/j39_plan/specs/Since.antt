@@ -3,14 +3,14 @@ use Rattle.std.specs.Prelude.{◌≡◌, ℕ, List, [], ◌∷◌, ◌++◌, ◌
 use Rattle.std.specs.List.{filter, list_any}
 use Rattle.std.specs.Str.{bytes_eq}
 use Rattle.toml.specs.Data.{Members}
-use Rattle.j39_plan.specs.declared.reading.fault.Fault.{Fault}
+use Rattle.j39_plan.specs.PlanErrors.{PlanFault}
 use Rattle.j39_plan.specs.declared.reading.key.Key.{Key}
 use Rattle.j39_plan.specs.declared.reading.place.Table.{Table}
 use Rattle.j39_plan.specs.declared.reading.version.Version.{Version}
 use Rattle.j39_plan.specs.declared.reading.version.Version.TheVariants.{First, Second, Third, Fourth}
 use Rattle.j39_plan.specs.Words.{word_of}
-use Rattle.j39_plan.specs.Schema.{Rule}
-use Rattle.j39_plan.specs.TableFaults.{key_faults, unknown_faults}
+use Rattle.j39_plan.specs.Schema.{PlanRule}
+use Rattle.j39_tables.specs.TableFaults.{key_faults, unknown_faults}
 
 -- what is known since the first version is known to the second: to itself and to each later one
 abbrev pub is_known : Version → Version → Bool
@@ -25,10 +25,10 @@ is_known Fourth version = false
 
 -- a rule, and since which version its key is known
 pub record Since : Type 0 where
-  pub rule : Rule
+  pub rule : PlanRule
   pub version : Version
 
-abbrev pub since : Version → Rule → Since
+abbrev pub since : Version → PlanRule → Since
 since version rule = record { rule = rule; version = version }
 
 -- the keys of a table, each with the version since which it is known
@@ -44,7 +44,7 @@ known_keys version keys = map (λ k. k.0) (filter (λ k. is_known k.1 version) k
 abbrev pub known : Version → List Since → List Since
 known version = filter (λ s. is_known s.version version)
 
-abbrev pub rules_of : List Since → List Rule
+abbrev pub rules_of : List Since → List PlanRule
 rules_of = map (λ s. s.rule)
 
 -- an older version knows what it knew: of all that a later one knows, what is known since its own time, in the same order
@@ -56,14 +56,14 @@ abbrev pub is_known_word : Version → List (Key × Version) → List ℕ → Bo
 is_known_word version keys name = list_any (λ k. is_known k.1 version && bytes_eq (word_of k.0) name) keys
 
 -- what is wrong at a key that the version knows
-abbrev pub since_faults : Table → Version → Members → Since → List Fault
+abbrev pub since_faults : Table → Version → Members → Since → List PlanFault
 since_faults at version ms s = if is_known s.version version then key_faults at ms s.rule else []
 
 -- and at each such key, in the order of the rules
-abbrev pub known_faults : Table → Version → Members → List Since → List Fault
+abbrev pub known_faults : Table → Version → Members → List Since → List PlanFault
 known_faults at version ms [] = []
 known_faults at version ms (s ∷ rules) = since_faults at version ms s ++ known_faults at version ms rules
 
 -- a key that the version doesn't know, and then the faults of each key in the order of the rules
-abbrev pub versioned_faults : Table → Version → List Since → Members → List Fault
-versioned_faults at version rules ms = unknown_faults at (known_keys version (keys_of rules)) ms ++ known_faults at version ms rules
+abbrev pub versioned_faults : Table → Version → List Since → Members → List PlanFault
+versioned_faults at version rules ms = unknown_faults word_of at (known_keys version (keys_of rules)) ms ++ known_faults at version ms rules

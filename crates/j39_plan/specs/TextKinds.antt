@@ -3,12 +3,9 @@ use Rattle.std.specs.Prelude.{ℕ, List, length, Bool, true, ◌&&◌, ◌||◌,
 use Rattle.std.specs.List.{list_all}
 use Rattle.std.specs.Str.{bytes_eq}
 use Rattle.j39_network.specs.LabelForm.{is_label, is_unit_label}
+use Rattle.j39_tables.specs.Printable.{is_printable}
 use Rattle.j39_plan.specs.declared.reading.text_kind.TextKind.{TextKind}
 use Rattle.j39_plan.specs.declared.reading.text_kind.TextKind.TheVariants.{Label, UnitLabel, Chooser, Queue, SignalKind, AnySignalKind, SignalUnit, Empty, Any}
-
--- a visible ASCII character or a space
-abbrev pub is_printable : ℕ → Bool
-is_printable c = nat_le 32 c && nat_le c 126
 
 -- a kind of signal that each version knows
 abbrev pub is_first_kind : List ℕ → Bool

@@ -3,13 +3,14 @@ use Rattle.std.specs.Prelude.{◌≡◌, ◌≢◌, ◌↔◌, ℕ, pos, List, [
 use Rattle.std.specs.Str.{bytes_eq}
 use Rattle.toml.specs.Data.{integer, Items, no_items, item, Members, no_members, member}
 use Rattle.j39_network.specs.declared.plan.Plan.{Plan}
-use Rattle.j39_plan.specs.declared.reading.plan_error.PlanError.{PlanError}
+use Rattle.j39_plan.specs.PlanErrors.{PlanError}
 use Rattle.j39_plan.specs.declared.reading.key.Key.{Key}
 use Rattle.j39_plan.specs.declared.reading.key.Key.TheVariants as key
 use Rattle.j39_plan.specs.declared.reading.version.Version.TheVariants.{Third, Fourth}
 use Rattle.j39_plan.specs.Words.{word_of}
-use Rattle.j39_plan.specs.Schema.{has_key, number_of, text_of, table_of, tables_of}
-use Rattle.j39_plan.specs.Elements.{inside}
+use Rattle.j39_plan.specs.Schema.{has_key, table_of, tables_of}
+use Rattle.j39_tables.specs.Rules.{number_of, text_of}
+use Rattle.j39_tables.specs.InOrder.{inside}
 use Rattle.j39_plan.specs.SignalTables.{kind_rule}
 use Rattle.j39_plan.specs.GroupTables.{signal_rule}
 use Rattle.j39_plan.specs.TimingTables.{bitrate_rule}

@@ -1,9 +1,7 @@
--- The words of a plan file, and those that a refusal is named by.
+-- The words of a plan file.
 use Rattle.std.specs.Prelude.{ℕ, List, codes}
 use Rattle.j39_plan.specs.declared.reading.key.Key.{Key}
 use Rattle.j39_plan.specs.declared.reading.key.Key.TheVariants as key
-use Rattle.j39_plan.specs.declared.reading.cause.Cause.{Cause}
-use Rattle.j39_plan.specs.declared.reading.cause.Cause.TheVariants as cause
 
 -- how a key is spelled
 abbrev pub word_of : Key → List ℕ
@@ -71,13 +69,3 @@ word_of key.Jitter = codes "jitter"
 word_of key.Pause = codes "pause"
 word_of key.OnRequest = codes "on_request"
 word_of key.Within = codes "within"
-
--- how a cause is named
-abbrev pub cause_word : Cause → List ℕ
-cause_word cause.UnknownKey = codes "UnknownKey"
-cause_word cause.Missing = codes "Missing"
-cause_word cause.WrongType = codes "WrongType"
-cause_word cause.Range = codes "Range"
-cause_word cause.TooMany = codes "TooMany"
-cause_word cause.Repeated = codes "Repeated"
-cause_word cause.UnknownLabel = codes "UnknownLabel"

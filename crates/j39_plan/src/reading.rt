@@ -1,14 +1,13 @@
 //! Reading a plan file.
 ghost use Rattle.std.specs.Prelude.{IsErrOf};
 ghost use Rattle.toml.specs.View.{table_view};
-ghost use Rattle.j39_plan.specs.Outcome.{GivesGrowing};
+ghost use Rattle.j39_tables.specs.Outcome.{GivesGrowing};
+ghost use Rattle.j39_tables.specs.declared.file_error.FileError.TheVariants as errors;
 ghost use Rattle.j39_plan.specs.Growing.{PlanGrows};
 ghost use Rattle.j39_plan.specs.PlanFaults.{faults};
-ghost use Rattle.j39_plan.specs.Described.{TellsPlan, tree_of, Reads, MayAskForRoom};
+ghost use Rattle.j39_plan.specs.Described.{DescribesPlan, Reads};
+ghost use Rattle.j39_tables.specs.FileTrees.{tree_of, MayAskForRoom};
 
-mod cause;
-mod elements;
-mod fault;
 mod flows;
 mod groups;
 mod heads;
@@ -27,77 +26,65 @@ mod tables;
 mod text_kind;
 mod texts;
 mod timing;
+mod top_table;
 mod units;
 mod values;
 mod version;
 
-pub use cause::Cause;
-use elements::read_each;
-pub use fault::Fault;
-use flows::Flows;
-use groups::Groups;
-use heads::{head, live, strangers, version_of};
+use flows::FlowReader;
+use groups::GroupReader;
+use heads::version_of;
 use j39_network::Plan;
-use j39_network::limits::{FLOW_LIMIT, GROUP_LIMIT, UNIT_LIMIT};
+pub use j39_tables::{Cause, FileError};
+use j39_tables::{read_each, read_tree};
 pub use key::Key;
-use later_arrays::later_arrays;
-use needs::Needs;
-pub use place::{Place, Table};
-pub use plan_error::PlanError;
-use requests::Requests;
+use needs::NeedReader;
+pub use place::Table;
+pub use plan_error::{PlanError, PlanFault};
+use requests::RequestReader;
 use std::alloc::Global;
-use std::str;
-use tables::array;
-pub use text_kind::{are_printable, is_label};
-use timing::timing;
-use units::Units;
+use top_table::top;
+use units::UnitReader;
 pub use version::Version;
 
-#[tactic(auto, using(crate::proofs::FirstFaults::faults_after))]
+#[tactic(auto, using(j39_tables::proofs::FirstFaults::faults_after))]
 fn read_top(alloc: Global, members: &toml::Table) -> Result<Plan, PlanError>
-    ensures { GivesGrowing (PlanGrows (table_view members.now)) result (faults (table_view members.now)) (TellsPlan (table_view members.now)) }
+    ensures { GivesGrowing (PlanGrows (table_view members.now)) result (faults (table_view members.now)) (DescribesPlan (table_view members.now)) }
 {
     let version = version_of(members);
-    let keep_free = head(members, version)?;
-    let strangers = strangers(members, version)?;
-    let live = live(members, version)?;
-    let timing = timing(members, version)?;
-    let unit_values = array(members, Table::Top, Key::Unit, UNIT_LIMIT)?;
-    let group_values = array(members, Table::Top, Key::Group, GROUP_LIMIT)?;
-    let flow_values = array(members, Table::Top, Key::Flow, FLOW_LIMIT)?;
-    let later = later_arrays(members, version)?;
-    let units = read_each(alloc, &Units { version }, unit_values)?;
-    let groups = read_each(alloc, &Groups { version }, group_values)?;
+    let top = top(members)?;
+    let units = read_each(alloc, &UnitReader { version }, top.units)?;
+    let groups = read_each(alloc, &GroupReader { version }, top.groups)?;
     let flows = read_each(
         alloc,
-        &Flows {
+        &FlowReader {
             version,
             groups: &groups,
             units: &units,
         },
-        flow_values,
+        top.flows,
     )?;
     let needs = read_each(
         alloc,
-        &Needs {
+        &NeedReader {
             groups: &groups,
             units: &units,
         },
-        later.needs,
+        top.later.needs,
     )?;
     let requests = read_each(
         alloc,
-        &Requests {
+        &RequestReader {
             groups: &groups,
             units: &units,
         },
-        later.requests,
+        top.later.requests,
     )?;
     Ok(Plan {
-        keep_free,
-        strangers,
-        live,
-        timing,
+        keep_free: top.keep_free,
+        strangers: top.strangers,
+        live: top.live,
+        timing: top.timing,
         units,
         groups,
         flows,
@@ -106,30 +93,23 @@ fn read_top(alloc: Global, members: &toml::Table) -> Result<Plan, PlanError>
     })
 }
 
-/// The plan that a file describes: TOML of UTF-8 bytes, at most 128 units, 256 groups of 64 signals, 512 flows, 4096 needs and 512
-/// requests. One of
-/// version 2, 3 or 4 may keep up to 120 addresses of 128 to 247 free; one of version 1 keeps none. Versions 3 and 4 know groups of several
-/// lengths, with records of signals that are repeated, more kinds of signals, what their values are divided by, 64 texts of a group, what
-/// is known of the bus itself, and how often flows are sent. Version 4 knows more of the bus, how far behind its moments a flow is sent,
-/// for how long it is silent, whether it is sent on request alone, which unit needs what and which one asks whom for what, units that
-/// never claim, how many strangers may come, whether the bus is live, the numbers of signals, and names of their raw numbers.
+/// The plan that a file describes: TOML of UTF-8 bytes, at most 128 units, 256 groups of 64 signals, 512 flows, 4096
+/// needs and 512 requests. One of version 2, 3 or 4 may keep up to 120 addresses of 128 to 247 free; one of version 1
+/// keeps none. Versions 3 and 4 know groups of several lengths, with records of signals that are repeated, more kinds
+/// of signals, what their values are divided by, 64 texts of a group, what is known of the bus itself, and how often
+/// flows are sent. Version 4 knows more of the bus, how far behind its releases a flow is sent, for how long it is
+/// silent, whether it is sent on request alone, which unit needs what and which one asks whom for what, units that
+/// never claim, how many strangers may come, whether the bus is live, the numbers of signals, and names of their raw
+/// numbers.
 ///
 /// Refuses bytes that are no TOML text, and else the first fault, in the order of the file's tables and keys. Takes no
 /// memory of bytes that are no UTF-8, or white space and comments alone.
 pub fn read_plan(alloc: Global, bytes: &[u8]) -> Result<Plan, PlanError>
     ensures reads { Reads result (tree_of bytes.now) }
-    ensures memory { IsErrOf result PlanError.Memory → MayAskForRoom bytes.now }
+    ensures memory { IsErrOf result errors.Memory → MayAskForRoom bytes.now }
 {
-    let text = match str::from_utf8(bytes) {
-        Ok(text) => text,
-        Err(_) => return Err(PlanError::Text),
-    };
-    match toml::table_from_str(alloc, text) {
+    match read_tree(alloc, bytes) {
         Ok(members) => read_top(alloc, &members),
-        Err(error) => Err(if error.is_memory() {
-            PlanError::Memory
-        } else {
-            PlanError::Text
-        }),
+        Err(error) => Err(error),
     }
 }

@@ -1,5 +1,6 @@
 -- Rows of queues of which one queue is another.
-use Rattle.std.proofs.Common.{◌≡◌, ℕ, zero, suc, ◌++◌, ◌+◌, ◌-◌, ◌<◌, ◌≤◌, cond, ◌&&◌, Bool, replicate, true, false, eqb, subst, Result, Ok, Err, OnOk, OnErr, List, [], ◌∷◌, length, map, get_or, set, refl, sym, ap, ◌∙◌, arith, inl, inr, vec_len}
+use Rattle.std.proofs.Common.{◌≡◌, ℕ, zero, suc, ◌++◌, ◌+◌, ◌-◌, ◌<◌, ◌≤◌, cond, ◌&&◌, Bool, replicate, true, false, eqb, subst, Result, Ok, Err, OnOk, OnErr}
+use Rattle.std.proofs.Common.{List, [], ◌∷◌, length, map, get_or, set, refl, sym, ap, ◌∙◌, arith, inl, inr, vec_len}
 use Rattle.std.proofs.lemmas.List.{get_or-map, get_or-replicate, length-map, length-replicate, map-set}
 use Rattle.std.proofs.lemmas.List.Sums.{get_or-le-sum_by, sum_by-cons, sum_by-set}
 use Rattle.std.specs.List.{list_all}

@@ -1,15 +1,17 @@
 //! A queue from each unit to each.
-ghost use Rattle.std.specs.Prelude.{◌≡◌, ℕ, ◌+◌, ◌<◌, ◌≤◌, ◌↔◌, [], ◌∷◌, ◌++◌, drop, length, map, nat_eq, replicate, IsTrue, IfOk, IfSome, IfNone, OnOk, OnErr};
+ghost use Rattle.std.specs.Prelude.{◌≡◌, ℕ, ◌+◌, ◌<◌, ◌≤◌, ◌↔◌, [], ◌∷◌, ◌++◌, drop, length, map, nat_eq, replicate};
+ghost use Rattle.std.specs.Prelude.{IsTrue, IfOk, IfSome, IfNone, OnOk, OnErr};
 ghost use Rattle.std.specs.List.{list_all};
 ghost use Rattle.j39_queues.specs.inside.Rows.{items, one_if_some};
-ghost use Rattle.j39_queues.specs.Queued.{IsTable, KeepsRoom, one_at, pair_in, room_at, changed_in, without_column, without_row};
+ghost use Rattle.j39_queues.specs.Queued.{IsTable, KeepsRoom, one_at, pair_in, room_at, changed_in, without_column};
+ghost use Rattle.j39_queues.specs.Queued.{without_row};
 
 use std::alloc::{AllocError, Global};
 use std::collections::VecDeque;
 use std::marker::Model;
 
-/// A queue from each unit to each. Contracts see its items, the oldest first, and for how many more there is room. A queue that
-/// never had an item owns no buffer.
+/// A queue from each unit to each. Contracts see its items, the oldest first, and for how many more there is room. A
+/// queue that never had an item owns no buffer.
 #[derive(Drop)]
 pub struct Queues<T> {
     rows: Vec<Vec<VecDeque<T>>>,
@@ -94,7 +96,8 @@ impl<T: Drop> Queues<T> {
         ensures some { IfSome result (λ item. pair_in self.old.lists from to ≡ item ∷ drop 1 (pair_in self.old.lists from to)) }
         ensures none { IfNone result (pair_in self.old.lists from to ≡ []) }
         ensures table { IsTable (length self.old.lists) self.new.lists }
-        ensures lists { pair_in self.new.lists ≡ changed_in (pair_in self.old.lists) from to (drop 1 (pair_in self.old.lists from to)) }
+        ensures lists { pair_in self.new.lists
+            ≡ changed_in (pair_in self.old.lists) from to (drop 1 (pair_in self.old.lists from to)) }
         ensures room { KeepsRoom self.old self.new }
     {
         let row = &mut self.rows[from];
@@ -126,7 +129,8 @@ impl<T: Drop> Queues<T> {
         requires to { to < length self.old.lists }
         requires room { 0 < room_at self.old from to }
         ensures table { IsTable (length self.old.lists) self.new.lists }
-        ensures lists { pair_in self.new.lists ≡ changed_in (pair_in self.old.lists) from to (pair_in self.old.lists from to ++ item ∷ []) }
+        ensures lists { pair_in self.new.lists
+            ≡ changed_in (pair_in self.old.lists) from to (pair_in self.old.lists from to ++ item ∷ []) }
         ensures room { (s t : ℕ) → room_at self.old s t ≤ room_at self.new s t + one_at from to s t }
     {
         let row = &mut self.rows[from];

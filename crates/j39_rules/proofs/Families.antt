@@ -23,7 +23,8 @@ pub record Covers {F : Type 0} (order : Order F) (Holds : F → Type 0) (low hig
   pub most : (f : F) → Contains findings f → order.number f ≤ high
   pub rises : Rises (IsBefore order) findings
 
-pub Covers-append : {F : Type 0} (order : Order F) (Holds : F → Type 0) (a b c d : ℕ) (xs ys : List F) → b < c → a ≤ c → b ≤ d → Covers order Holds a b xs → Covers order Holds c d ys
+pub Covers-append : {F : Type 0} (order : Order F) (Holds : F → Type 0) (a b c d : ℕ) (xs ys : List F) → b < c → a ≤ c → b ≤ d → Covers order Holds a b xs
+    → Covers order Holds c d ys
     → Covers order Holds a d (xs ++ ys)
 Covers-append order Holds a b c d xs ys less low high left right = record {
   sound = λ f h. elim (Contains-append_cases xs ys f h) [ inl here ↦ left.sound f here | inr there ↦ right.sound f there ];
@@ -68,7 +69,8 @@ before order n xs ys f g a b below =
     let Q : List ℕ → Type 0 = λ vs. IsBelow xs vs in
     inr (a.number ∙ sym b.number, subst P (sym a.places) (subst Q (sym b.places) below))
 
-pub pairs_family : {F A : Type 0} (order : Order F) (Holds : F → Type 0) (n : ℕ) {test : A → A → Bool} (R : A → A → Type 0) → ((x y : A) → Decides (test x y) (R x y))
+pub pairs_family : {F A : Type 0} (order : Order F) (Holds : F → Type 0) (n : ℕ) {test : A → A → Bool} (R : A → A → Type 0)
+    → ((x y : A) → Decides (test x y) (R x y))
     → (make : ℕ → ℕ → F) (xs : List A)
     → ((i j : ℕ) → PairAt R xs i j → Holds (make i j)) → ((i j : ℕ) → Names order n (i ∷ j ∷ []) (make i j))
     → Covers order Holds n n (pairs test make xs)
@@ -162,7 +164,8 @@ placed_of {test = test} P by make xs j v =
     in_each_of (λ k y. found_if (test k y) (make k)) 0 xs (make j) j j v.value (omega arith) v.value_is
     (found_if_of (test j v.value) (make j) ((by j v.value).1 v.meets))
 
-pub placed_rise : {F A : Type 0} (order : Order F) (test : ℕ → A → Bool) (make : ℕ → F) (n i : ℕ) → ((j : ℕ) → Names order n (i ∷ j ∷ []) (make j)) → (xs : List A)
+pub placed_rise : {F A : Type 0} (order : Order F) (test : ℕ → A → Bool) (make : ℕ → F) (n i : ℕ) → ((j : ℕ) → Names order n (i ∷ j ∷ []) (make j))
+    → (xs : List A)
     → Rises (IsBefore order) (placed test make xs)
 unfolding placed
 placed_rise {F} order test make n i named xs =

@@ -12,7 +12,8 @@ use j39_network::{Plan, Way};
 use j39_stream::{Fault, Sink, Source, Verdict};
 use std::alloc::Global;
 
-/// Writes what a bus of the plan sends on a schedule as `run_text` does, each unit choosing addresses in its planned way.
+/// Writes what a bus of the plan sends on a schedule as `run_text` does, each unit choosing addresses in its planned
+/// way.
 pub fn run_planned<S: Source, W: Sink>(
     alloc: Global,
     plan: &Plan,
@@ -24,7 +25,8 @@ pub fn run_planned<S: Source, W: Sink>(
 
     // The text is that of all that the source had left at the call, however much of it was read.
     ensures whole { IfOk result (λ verdict. (all : List ℕ) → (S.state source.old).left ≡ Some all → (text : List ℕ)
-        × IsRunText plan.now (length plan.now.units.items) all text verdict × Appends (W.state sink.old).taken (W.state sink.new).taken text) }
+        × IsRunText plan.now (length plan.now.units.items) all text verdict
+        × Appends (W.state sink.old).taken (W.state sink.new).taken text) }
 
     // Of a plan that has no bus nothing is read.
     ensures unread { CanOpen (length plan.now.units.items) plan.now ⊎ (source.new ≡ source.old) }

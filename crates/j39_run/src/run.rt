@@ -30,10 +30,10 @@ fn refuse<W: Sink>(
     Ok(Verdict::Refused)
 }
 
-/// Writes what a bus of the plan sends on a schedule, where the run ended, and what the units then are, or why the plan has
-/// no bus. There is a chooser for each unit, by its place. The run ends at the first line that is refused; all that the
-/// source had left is read, except where the plan or a line is refused. Of each piece of the schedule, of at most 4,096
-/// bytes, the frames are written before the next piece is read; of a refused plan nothing is read.
+/// Writes what a bus of the plan sends on a schedule, where the run ended, and what the units then are, or why the plan
+/// has no bus. There is a chooser for each unit, by its place. The run ends at the first line that is refused; all that
+/// the source had left is read, except where the plan or a line is refused. Of each piece of the schedule, of at most
+/// 4,096 bytes, the frames are written before the next piece is read; of a refused plan nothing is read.
 pub fn run_text<S: Source, W: Sink>(
     alloc: Global,
     plan: &Plan,
@@ -46,7 +46,8 @@ pub fn run_text<S: Source, W: Sink>(
 
     // The text is that of all that the source had left at the call, however much of it was read.
     ensures whole { IfOk result (λ verdict. (all : List ℕ) → (S.state source.old).left ≡ Some all → (text : List ℕ)
-        × IsRunText plan.now (length choosers.items) all text verdict × Appends (W.state sink.old).taken (W.state sink.new).taken text) }
+        × IsRunText plan.now (length choosers.items) all text verdict
+        × Appends (W.state sink.old).taken (W.state sink.new).taken text) }
 
     // Of a plan that has no bus nothing is read.
     ensures unread { CanOpen (length choosers.items) plan.now ⊎ (source.new ≡ source.old) }

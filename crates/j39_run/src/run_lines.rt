@@ -5,7 +5,9 @@ ghost use Rattle.j39_bus.specs.Stations.{station_at};
 ghost use Rattle.j39_world.specs.Sent.{sent_of};
 ghost use Rattle.j39_bus.specs.Reports.{reported_of};
 ghost use Rattle.j39_run.specs.Views.{unit_state};
-ghost use Rattle.j39_run.specs.RunText.{halt_lines, line_cause, refused_line, report_line, report_lines, report_route, sent_line, sent_lines, settled_line, state_text, step_cause, unit_line, unit_lines};
+ghost use Rattle.j39_run.specs.RunText.{halt_lines, line_cause, refused_line, report_line, report_lines, report_route};
+ghost use Rattle.j39_run.specs.RunText.{sent_line, sent_lines, settled_line, state_text, step_cause, unit_line};
+ghost use Rattle.j39_run.specs.RunText.{unit_lines};
 
 use crate::halt::Halt;
 use crate::unit_state::{UnitState, state_of};

@@ -18,7 +18,8 @@ use j39_schedule::{LineFault, Units, Unread, read_line};
 use j39_text::TextBuffer;
 use std::alloc::{AllocError, Global};
 
-/// A run of a schedule: its bus, how many lines were done, what is to be written of them, and where the run ends, so far as is known.
+/// A run of a schedule: its bus, how many lines were done, what is to be written of them, and where the run ends, so
+/// far as is known.
 #[derive(Drop)]
 pub(crate) struct Running {
     alloc: Global,
@@ -62,7 +63,8 @@ impl Running {
         requires room { self.old.place < 2 ^ 63 }
         ensures run { OnOk result ((plan : APlan) (line : Line) → line_order plan line ≡ read_as (Some step.now)
             → RunsOn plan self.old self.new (line ∷ [])) }
-        ensures memory { OnErr result ((plan : APlan) (w : World) → Stands self.old.bus plan w → refusal plan w step.now ≡ None) }
+        ensures memory { OnErr result ((plan : APlan) (w : World) → Stands self.old.bus plan w
+            → refusal plan w step.now ≡ None) }
     {
         let shown = self.bus.frames().len();
         match self.bus.step(step) {
@@ -100,7 +102,8 @@ impl Running {
         }
     }
 
-    /// Reads what a cutter tells: a line, a line that is too long, or nothing yet. Behind a line that is refused nothing is done.
+    /// Reads what a cutter tells: a line, a line that is too long, or nothing yet. Behind a line that is refused
+    /// nothing is done.
     #[tactic(auto, using(crate::proofs::Runs::same_run, crate::proofs::Runs::stopped_run))]
     pub fn read_cut(&mut self, units: &Units, cut: Cut, line: &[u8]) -> Result<(), AllocError>
         requires { self.old.place < 2 ^ 63 }

@@ -11,7 +11,8 @@ use Rattle.j39_id.specs.Lines.{Long, Short}
 use Rattle.j39_network.specs.declared.plan.Plan.{Plan}
 use Rattle.j39_network.specs.declared.steps.Step.{Step}
 use Rattle.j39_schedule.specs.Schedule.{Ordered}
-use Rattle.j39_schedule.specs.Schedule.{does, Order, of_unit, of_units, of_unit_or_units, of_message, Reading, begins_comment, flow_place, line_order, spelled_number, order_named, order_of, unit_named, with_bytes, words_of, words_order}
+use Rattle.j39_schedule.specs.Schedule.{does, Order, of_unit, of_units, of_unit_or_units, of_message, Reading, begins_comment, flow_place, line_order}
+use Rattle.j39_schedule.specs.Schedule.{spelled_number, order_named, order_of, unit_named, with_bytes, words_of, words_order}
 use Rattle.j39_schedule.specs.LineFaults.{TellsFirstFault, order_faults, values_faults, words_faults}
 use Rattle.j39_schedule.specs.declared.line_fault.LineFault.TheVariants.{UnknownWord, UnknownLabel, BadNumber, BadHex}
 

@@ -6,7 +6,8 @@ use Rattle.hex.specs.Hex.{decode_of}
 use Rattle.j39_id.specs.FirstFault.{first_fault}
 use Rattle.j39_id.specs.Lines.{Line, Long, Short}
 use Rattle.j39_network.specs.declared.plan.Plan.{Plan}
-use Rattle.j39_schedule.specs.Schedule.{Order, of_unit, of_units, of_unit_or_units, of_message, begins_comment, line_order, spelled_number, order_named, unit_named, words_of}
+use Rattle.j39_schedule.specs.Schedule.{Order, of_unit, of_units, of_unit_or_units, of_message, begins_comment, line_order, spelled_number, order_named}
+use Rattle.j39_schedule.specs.Schedule.{unit_named, words_of}
 use Rattle.j39_schedule.specs.declared.line_fault.LineFault.{LineFault}
 use Rattle.j39_schedule.specs.declared.line_fault.LineFault.TheVariants.{LongLine, UnknownWord, WordCount, UnknownLabel, BadNumber, BadHex}
 

@@ -20,7 +20,8 @@ use std::alloc::Global;
 #[tactic(auto, unfolding(crate::specs::Schedule::unit_named))]
 fn unit(units: &Units, label: &[u8]) -> Result<usize, Unread>
     ensures found { IfOk result (λ u. unit_named units.now label.now ≡ Some u) }
-    ensures none { IfErr result (λ why. (unit_named units.now label.now ≡ None) × (why ≡ Unread.Fault LineFault.UnknownLabel)) }
+    ensures none { IfErr result (λ why. (unit_named units.now label.now ≡ None)
+        × (why ≡ Unread.Fault LineFault.UnknownLabel)) }
 {
     match units.find(label) {
         Some(place) => Ok(place),

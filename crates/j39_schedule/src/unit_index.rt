@@ -73,7 +73,8 @@ impl UnitIndex {
     // Adds a unit of this label.
     fn add(&mut self, label: &[u8], place: usize) -> Result<(), AllocError>
         ensures has { OnOk result (Has (slice_index_or self.new (checksum label.now) []) place) }
-        ensures keeps { OnOk result ((sum n : ℕ) → Has (slice_index_or self.old sum []) n → Has (slice_index_or self.new sum []) n) }
+        ensures keeps { OnOk result ((sum n : ℕ) → Has (slice_index_or self.old sum []) n
+            → Has (slice_index_or self.new sum []) n) }
     {
         let list = &mut self.lists[usize::from(checksum(label))];
         list.push(place)?;

@@ -99,7 +99,8 @@ raw_above s v d n r is_distance is_step none above is value up =
 pub raw_below : (s : SignalParts) (v : ℤ) (d n r : ℕ) → d ≡ unsigned_abs (v -ℤ s.offset) → n ≡ s.step → d % n ≡ 0 → v <ℤ s.offset
     → 2 ^ s.bits - r ≡ d / n → IsValue s r → is_negative s.kind s.bits r ≡ true → IsRawOf s v r
 raw_below s v d n r is_distance is_step none below is value down =
-    let steps : unsigned_abs (v -ℤ s.offset) ≡ s.step * (2 ^ s.bits - r) = sym is_distance ∙ whole d n none ∙ ap (λ m. m * (d / n)) is_step ∙ ap (λ m. s.step * m) (sym is) in
+    let steps : unsigned_abs (v -ℤ s.offset) ≡ s.step * (2 ^ s.bits - r) =
+    sym is_distance ∙ whole d n none ∙ ap (λ m. m * (d / n)) is_step ∙ ap (λ m. s.step * m) (sym is) in
     (value, value_down s r down ∙ sym (below_offset v s.offset below ∙ ap (λ m. s.offset +ℤ neg_ℤ (pos m)) steps))
 
 -- where no number lies there, the value has none

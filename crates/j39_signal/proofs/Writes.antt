@@ -138,7 +138,8 @@ absent_in ranges value raw a b c d =
     rw (past_values, past_specific, past_reserved, past_faults) refl
 
 -- all ones of each width that a kind can have
-ones_in : (kind : Kind) (start bits : ℕ) (value : ℤ) → width_fits kind start bits ≡ true → state_in (ranges_of kind bits) value (2 ^ bits - 1) ≡ given_up kind value
+ones_in : (kind : Kind) (start bits : ℕ) (value : ℤ) → width_fits kind start bits ≡ true
+    → state_in (ranges_of kind bits) value (2 ^ bits - 1) ≡ given_up kind value
 ones_in Measured start bits value fits =
     elim (or_cases (bits == 8) (bits == 16 || bits == 32) fits) [
       | inl e ↦ let k : bits ≡ 8 = eqb-true bits 8 e in rw k refl

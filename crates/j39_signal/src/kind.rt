@@ -13,6 +13,7 @@ pub enum Kind {
     States,
     /// A number in two's complement of which every value counts.
     Signed,
-    /// A diagnostic trouble code of 32 bits from the first bit of a byte on (SAE J1939-73), absent where all of them are 1.
+    /// A diagnostic trouble code of 32 bits from the first bit of a byte on (SAE J1939-73), absent where all of them
+    /// are 1.
     Dtc,
 }

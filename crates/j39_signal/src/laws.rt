@@ -2,11 +2,12 @@
 ghost use Rattle.j39_signal.specs.Laid.{BlanksAreOnes, LaidOutKeepWrites, ValuesReadBack, AllOnesReadGivenUp};
 ghost use Rattle.j39_signal.specs.State.{OthersCountUp};
 
-/// Signals are sound: signals that lay out a payload read back what was last written, whatever was written to the others.
+/// Signals are sound: signals that lay out a payload read back what was last written, whatever was written to the
+/// others.
 ///
-/// A payload that is written signal after signal ends with the raw number last put for each signal, and where there was none with
-/// that which it began with: all ones in a blank payload. A signal last given a value reads that value; all ones read `Absent`, or
-/// for the raw kind the value of all ones.
+/// A payload that is written signal after signal ends with the raw number last put for each signal, and where there was
+/// none with that which it began with: all ones in a blank payload. A signal last given a value reads that value; all
+/// ones read `Absent`, or for the raw kind the value of all ones.
 pub fn signals_are_sound()
     ensures kept { LaidOutKeepWrites }
     ensures blank { BlanksAreOnes }

@@ -1,11 +1,13 @@
 //! Layouts.
-ghost use Rattle.std.specs.Prelude.{◌≡◌, ◌≢◌, ◌↔◌, ℕ, ◌+◌, ◌*◌, ◌<◌, ◌≤◌, length, None, Some, All, IsSome, IsTrue, IfOk, IfErr, IfSome, IfNone, OnOk, OnErr};
+ghost use Rattle.std.specs.Prelude.{◌≡◌, ◌≢◌, ◌↔◌, ℕ, ◌+◌, ◌*◌, ◌<◌, ◌≤◌, length, None, Some, All, IsSome, IsTrue};
+ghost use Rattle.std.specs.Prelude.{IfOk, IfErr, IfSome, IfNone, OnOk, OnErr};
 ghost use Rattle.std.specs.List.{HoldsAt};
 ghost use Rattle.j39_id.specs.FirstFault.{first_fault};
 ghost use Rattle.j39_signal.specs.Bits.{Put, raw_of, all_ones};
 ghost use Rattle.j39_signal.specs.Laid.{IsBlank, blank};
 ghost use Rattle.j39_signal.specs.Selectors.{EndsInside};
-ghost use Rattle.j39_signal.specs.Places.{WidthFits, IsInside, IsAlwaysInside, IsThere, SharesBit, LaysOut, LaysOutFrom, further};
+ghost use Rattle.j39_signal.specs.Places.{WidthFits, IsInside, IsAlwaysInside, IsThere, SharesBit, LaysOut};
+ghost use Rattle.j39_signal.specs.Places.{LaysOutFrom, further};
 ghost use Rattle.j39_signal.specs.Refusals.{HasLayoutFault, first_sharer as sharer_of, placement_faults};
 ghost use Rattle.j39_signal.specs.State.{shown_of, state_of, state_in_payload, RefusesWrite, WritesValue};
 
@@ -15,8 +17,8 @@ use j39_id::limits::MESSAGE_BYTES;
 use std::alloc::{AllocError, Global};
 use std::marker::Model;
 
-/// Signals that lay out payloads, from the shortest to the longest: each fits its kind and ends within the shortest, one that is
-/// optional within the longest, and no two share a bit.
+/// Signals that lay out payloads, from the shortest to the longest: each fits its kind and ends within the shortest,
+/// one that is optional within the longest, and no two share a bit.
 #[derive(Drop)]
 pub struct Layout {
     bytes: u16,
@@ -47,7 +49,8 @@ fn first_sharer(before: &[Signal], signal: &Signal) -> Option<usize>
 
 // Why a signal has no place after these.
 fn fault_after(before: &[Signal], signal: &Signal, length: u16) -> Option<LayoutError>
-    ensures none { IfNone result (WidthFits signal.now × IsInside length signal.now × All (λ t. ¬ SharesBit t signal.now) before.now) }
+    ensures none { IfNone result (WidthFits signal.now × IsInside length signal.now
+        × All (λ t. ¬ SharesBit t signal.now) before.now) }
     ensures fault { result ≡ first_fault (placement_faults length before.now signal.now) }
     ensures lasting { IfSome result (λ fault. fault ≢ LayoutError.Memory) }
 {
@@ -127,9 +130,11 @@ impl Layout {
 
     /// The layout of payloads of `length` bytes and more, up to the longest that it lays out.
     ///
-    /// None where the length is 0 or above that of the longest, or where a signal that isn't optional or the selector ends behind it.
+    /// None where the length is 0 or above that of the longest, or where a signal that isn't optional or the selector
+    /// ends behind it.
     pub fn from_length(self, length: u16) -> Option<Self>
-        ensures valid { IsSome result ↔ ((1 ≤ length) × (length ≤ self.most) × All (IsAlwaysInside length) self.signals × EndsInside length self.when) }
+        ensures valid { IsSome result ↔ ((1 ≤ length) × (length ≤ self.most) × All (IsAlwaysInside length) self.signals
+            × EndsInside length self.when) }
         ensures shorter { IfSome result (λ l. l ≡ record self { length = length }) }
     {
         let fits = 1 <= length
@@ -189,8 +194,8 @@ impl Layout {
         self.signals.len()
     }
 
-    /// The shortest payload in which every bit is 1, so that no signal is available, but for those of a selector, which have its
-    /// value.
+    /// The shortest payload in which every bit is 1, so that no signal is available, but for those of a selector, which
+    /// have its value.
     pub fn blank(&self, alloc: Global) -> Result<Vec<u8>, AllocError>
         ensures length { IfOk result (λ payload. length payload.items ≡ self.now.length) }
         ensures blank { IfOk result (λ payload. IsBlank self.now.when payload.items) }
@@ -245,8 +250,10 @@ impl Layout {
     pub fn write_absent(&self, payload: &mut [u8], i: usize)
         requires place { i < length self.now.signals }
         requires bytes { self.now.length ≤ length payload.old }
-        ensures there { HoldsAt (λ s. IsThere (length payload.old) s → Put s (all_ones s) payload.old payload.new) self.now.signals i }
-        ensures not_there { HoldsAt (λ s. (¬ IsThere (length payload.old) s) → payload.new ≡ payload.old) self.now.signals i }
+        ensures there { HoldsAt (λ s. IsThere (length payload.old) s
+            → Put s (all_ones s) payload.old payload.new) self.now.signals i }
+        ensures not_there { HoldsAt (λ s. (¬ IsThere (length payload.old) s)
+            → payload.new ≡ payload.old) self.now.signals i }
     {
         let signal = self.signal(i);
         if signal.is_there(payload.len()) {
@@ -254,8 +261,8 @@ impl Layout {
         }
     }
 
-    /// The state of the signal at place `i`, in a payload that may be longer than what is laid out: absent where the payload
-    /// doesn't have the signal.
+    /// The state of the signal at place `i`, in a payload that may be longer than what is laid out: absent where the
+    /// payload doesn't have the signal.
     #[tactic(auto, using(crate::proofs::AtPlace::at_place, crate::proofs::There::inside_there))]
     pub fn read(&self, payload: &[u8], i: usize) -> State
         requires place { i < length self.now.signals }
@@ -280,7 +287,8 @@ impl Layout {
         self.signal(i).read(payload)
     }
 
-    /// The state of the signal at place `i` as it stands so many bytes further on, in a payload of any length that has it.
+    /// The state of the signal at place `i` as it stands so many bytes further on, in a payload of any length that has
+    /// it.
     #[tactic(auto, using(crate::proofs::AtPlace::at_place))]
     pub fn read_further(&self, payload: &[u8], i: usize, bytes: usize) -> State
         requires place { i < length self.now.signals }
@@ -290,8 +298,8 @@ impl Layout {
         self.signal(i).read_further(payload, bytes)
     }
 
-    /// The raw number of the signal at place `i` with what it means, in a payload that has the signal and may be longer than what is
-    /// laid out.
+    /// The raw number of the signal at place `i` with what it means, in a payload that has the signal and may be longer
+    /// than what is laid out.
     #[tactic(auto, using(crate::proofs::AtPlace::at_place))]
     pub fn show(&self, payload: &[u8], i: usize) -> Shown
         requires place { i < length self.now.signals }

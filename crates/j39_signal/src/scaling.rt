@@ -1,5 +1,6 @@
 //! Raw numbers and what they mean.
-ghost use Rattle.std.specs.Prelude.{◌≡◌, ◌≢◌, ℕ, true, false, ◌-◌, ◌^◌, ◌<◌, ◌≤◌, ◌-ℤ◌, unsigned_abs, IfOk, IfErr, IfSome, IfNone, pos, ◌*◌};
+ghost use Rattle.std.specs.Prelude.{◌≡◌, ◌≢◌, ℕ, true, false, ◌-◌, ◌^◌, ◌<◌, ◌≤◌, ◌-ℤ◌, unsigned_abs, IfOk, IfErr};
+ghost use Rattle.std.specs.Prelude.{IfSome, IfNone, pos, ◌*◌};
 ghost use Rattle.j39_signal.specs.Bits.{all_ones};
 ghost use Rattle.j39_signal.specs.Places.{WidthFits};
 ghost use Rattle.j39_signal.specs.State.{state_of, value_of, is_negative, ranges_of, IsValue, IsRawOf, RefusesValue};
@@ -143,9 +144,11 @@ impl Signal {
     // The raw number whose value lies so many steps from the offset up.
     fn raw_above(&self, steps: u64) -> Option<u32>
         requires { WidthFits self.now }
-        ensures found { IfSome result (λ raw. (raw ≡ steps) × IsValue self.now raw × (is_negative self.now.kind self.now.bits raw ≡ false)) }
+        ensures found { IfSome result (λ raw. (raw ≡ steps) × IsValue self.now raw
+            × (is_negative self.now.kind self.now.bits raw ≡ false)) }
         ensures range { IfSome result (λ raw. raw < 2 ^ self.now.bits) }
-        ensures none { IfNone result ((raw : ℕ) → IsValue self.now raw → is_negative self.now.kind self.now.bits raw ≡ false → raw ≢ steps) }
+        ensures none { IfNone result ((raw : ℕ) → IsValue self.now raw
+            → is_negative self.now.kind self.now.bits raw ≡ false → raw ≢ steps) }
     {
         let end = match self.kind() {
             Kind::Signed => 1 << (self.bits() - 1),
@@ -162,9 +165,11 @@ impl Signal {
     fn raw_below(&self, steps: u64) -> Option<u32>
         requires width { WidthFits self.now }
         requires some { 0 < steps }
-        ensures found { IfSome result (λ raw. (2 ^ self.now.bits - raw ≡ steps) × IsValue self.now raw × (is_negative self.now.kind self.now.bits raw ≡ true)) }
+        ensures found { IfSome result (λ raw. (2 ^ self.now.bits - raw ≡ steps) × IsValue self.now raw
+            × (is_negative self.now.kind self.now.bits raw ≡ true)) }
         ensures range { IfSome result (λ raw. raw < 2 ^ self.now.bits) }
-        ensures none { IfNone result ((raw : ℕ) → IsValue self.now raw → is_negative self.now.kind self.now.bits raw ≡ true → 2 ^ self.now.bits - raw ≢ steps) }
+        ensures none { IfNone result ((raw : ℕ) → IsValue self.now raw
+            → is_negative self.now.kind self.now.bits raw ≡ true → 2 ^ self.now.bits - raw ≢ steps) }
     {
         let most = match self.kind() {
             Kind::Signed => 1 << (self.bits() - 1),

@@ -58,8 +58,8 @@ impl Model for Signal {
     } };
 }
 
-/// Whether a number is 1..=10,000,000 and has no other prime factors than 2 and 5, so that what it divides has finitely many
-/// decimals.
+/// Whether a number is 1..=10,000,000 and has no other prime factors than 2 and 5, so that what it divides has finitely
+/// many decimals.
 pub fn divides_decimally(per: u32) -> bool
     ensures { result ≡ divides_decimally per }
 {
@@ -70,8 +70,8 @@ impl Signal {
     ghost use Rattle.j39_signal.specs.Parts.{HasRanges, CanBeSignal, IsDivisor};
     ghost use Rattle.j39_signal.specs.Places.{width_fits, end_of, IsInside, is_inside, is_there, SharesBit, shares_bit};
 
-    /// A signal of `bits` bits from bit `start` of the payload on, both counted from 0. Its values are whole numbers, and it
-    /// is neither repeated nor optional.
+    /// A signal of `bits` bits from bit `start` of the payload on, both counted from 0. Its values are whole numbers,
+    /// and it is neither repeated nor optional.
     ///
     /// None unless `bits` is 1..=64, `step` is 1..=1,000,000 and `offset` is within plus or minus 10^12.
     pub fn new(
@@ -222,7 +222,8 @@ impl Signal {
         self.optional
     }
 
-    /// Whether the width fits the kind: 8, 16 or 32 bits for a measured signal, 2 for a discrete one, 1..=32 for a raw one,
+    /// Whether the width fits the kind: 8, 16 or 32 bits for a measured signal, 2 for a discrete one, 1..=32 for a raw
+    /// one,
     /// 2..=8 for states, 2..=32 for a signed one, and for a trouble code 32 from the first bit of a byte on.
     pub fn width_fits(&self) -> bool
         ensures { result ≡ width_fits self.now.kind self.now.start self.now.bits }

@@ -1,5 +1,6 @@
 -- An input that is read line after line, by whatever reads its lines.
-use Rattle.std.proofs.Common.{◌≡◌, ◌⊎◌, ◌≤◌, ℕ, Bool, true, false, List, [], ◌++◌, length, Option, Some, None, Result, Ok, Err, IfErr, inr, refl, sym, ap, ◌∙◌, subst, append_assoc}
+use Rattle.std.proofs.Common.{◌≡◌, ◌⊎◌, ◌≤◌, ℕ, Bool, true, false, List, [], ◌++◌, length, Option, Some, None, Result, Ok, Err, IfErr, inr, refl, sym, ap, ◌∙◌}
+use Rattle.std.proofs.Common.{subst, append_assoc}
 use Rattle.std.specs.Prelude.{IsErr, IsErrOf}
 use Rattle.std.proofs.KnownBytes.{Appends-trans}
 use Rattle.std.proofs.lemmas.List.{append-nil}
@@ -27,7 +28,8 @@ pub read_part : {First Old New : List Line → List ℕ → Type 0} {FirstText O
     (used part : List ℕ) (cut : Cut) (line : List ℕ) → q ≡ behind_all p used → told q part ≡ tells cut line
     → ((before : List Line) (written : List ℕ) → IsSoFar First FirstText f first before written → IsSoFar Old OldText o old (before ++ told p used) written)
     → ((before : List Line) (written : List ℕ) → Old before written → IsSoFar New NewText n new (before ++ tells cut line) written)
-    → (before : List Line) (written : List ℕ) → IsSoFar First FirstText f first before written → IsSoFar New NewText n new (before ++ told p (used ++ part)) written
+    → (before : List Line) (written : List ℕ) → IsSoFar First FirstText f first before written
+    → IsSoFar New NewText n new (before ++ told p (used ++ part)) written
 read_part {New = New} {NewText = NewText} {n = n} {new = new} p q used part cut line at is so_far step before written start =
     let here : told p (used ++ part) ≡ told p used ++ tells cut line = told-append p used part
     ∙ ap (λ (r : Pending). told p used ++ told r part) (sym at) ∙ ap (λ (u : List Line). told p used ++ u) is in

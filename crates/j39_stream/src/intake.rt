@@ -53,14 +53,16 @@ impl Intake {
         ensures end { IfOk result (λ n. n ≡ 0 → IsAtEnd (S.state source.new).left) }
         ensures last { IfOk result (λ n. (limits : SomeLimits) (first : SourceState) (text : List ℕ)
             → HasRead limits first (S.state source.old) self.old text
-            → n ≡ 0 → Consumes first.left (S.state source.new).left text × KeepsLimits limits first (S.state source.new)) }
+            → n ≡ 0 → Consumes first.left (S.state source.new).left text
+            × KeepsLimits limits first (S.state source.new)) }
         ensures long { IsErrOf result Fault.TooLong → (limits : SomeLimits) (first : SourceState) (text : List ℕ)
             → HasRead limits first (S.state source.old) self.old text → PassesLimits limits first (S.state source.new) }
 
         // What was read before is read still, whatever the answer.
         ensures kept { (first : Option (List ℕ)) (text : List ℕ) → Consumes first (S.state source.old).left text
             → (more : List ℕ) × Consumes first (S.state source.new).left (text ++ more) }
-        ensures device { IsErrOf result Fault.Device → HasFailed (S.state source.old).failures (S.state source.new).failures }
+        ensures device { IsErrOf result Fault.Device
+            → HasFailed (S.state source.old).failures (S.state source.new).failures }
         ensures calm { result ≢ Err Fault.Device → (S.state source.new).failures ≡ (S.state source.old).failures }
         ensures no_memory { result ≢ Err Fault.Memory }
     {

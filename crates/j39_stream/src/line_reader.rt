@@ -35,14 +35,16 @@ pub trait LineReader {
     fn read(&mut self, cut: Cut, line: &[u8]) -> Result<(), AllocError>
         requires room { (most : ℕ) × within self.old most × (most ≤ 2 ^ 62) }
         ensures lines { OnOk result ((before : List Line) (written : List ℕ) → has_read self.old before written
-            → IsSoFar (has_read self.new) (is_text self.new) (goes self.new) (text self.new) (before ++ tells cut line.now) written) }
+            → IsSoFar (has_read self.new) (is_text self.new) (goes self.new) (text self.new) (before
+            ++ tells cut line.now) written) }
         ensures texts { OnOk result (AreTextsOf (is_text self.new) (is_text self.old)) }
         ensures count { OnOk result ((most more : ℕ) → within self.old most → most < more → within self.new more) };
 
     /// Adds what stands at the end of the text, and answers with the verdict: it is Done only where the reader goes on.
     fn close(&mut self) -> Result<Verdict, AllocError>
         requires begun { (told : List Line) × (written : List ℕ) × has_read self.old told written }
-        ensures text { IfOk result (λ verdict. (input : List ℕ) (told : List Line) (written : List ℕ) → has_read self.old told written
+        ensures text { IfOk result (λ verdict. (input : List ℕ) (told : List Line) (written : List ℕ)
+            → has_read self.old told written
             → HasLines (goes self.old) told input → is_text self.old input (written ++ text self.new) verdict) }
         ensures done { IfOk result (λ verdict. verdict ≡ Verdict.Done → goes self.old ≡ true) };
 
@@ -50,11 +52,13 @@ pub trait LineReader {
     fn put<W: Sink>(&mut self, sink: &mut W) -> Result<(), Fault>
         ensures ok { OnOk result (Appends (W.state sink.old).taken (W.state sink.new).taken (text self.old)) }
         ensures lines { OnOk result ((told : List Line) (written : List ℕ) → has_read self.old told written
-            → IsSoFar (has_read self.new) (is_text self.new) (goes self.new) (text self.new) told (written ++ text self.old)) }
+            → IsSoFar (has_read self.new) (is_text self.new) (goes self.new) (text self.new) told (written
+            ++ text self.old)) }
         ensures texts { OnOk result (AreTextsOf (is_text self.new) (is_text self.old)) }
         ensures goes { OnOk result (goes self.new ≡ goes self.old) }
         ensures count { OnOk result ((most : ℕ) → within self.old most → within self.new most) }
         ensures cut { OnErr result (AppendsPart (W.state sink.old).taken (W.state sink.new).taken (text self.old)) }
         ensures whole { OnOk result ((W.state sink.new).failures ≡ (W.state sink.old).failures) }
-        ensures device { IfErr result (λ fault. (fault ≡ Fault.Device) × HasFailed (W.state sink.old).failures (W.state sink.new).failures) };
+        ensures device { IfErr result (λ fault. (fault ≡ Fault.Device)
+            × HasFailed (W.state sink.old).failures (W.state sink.new).failures) };
 }

@@ -23,7 +23,8 @@ fn read_piece<R: LineReader>(
         → IsSoFar (R.has_read reader.new) (R.is_text reader.new) (R.goes reader.new) (R.text reader.new)
         (before ++ told cutter.old.pending piece.now) written) }
     ensures texts { OnOk result (AreTextsOf (R.is_text reader.new) (R.is_text reader.old)) }
-    ensures count { OnOk result ((most : ℕ) → R.within reader.old most → R.within reader.new (most + length piece.now)) }
+    ensures count { OnOk result ((most : ℕ) → R.within reader.old most
+        → R.within reader.new (most + length piece.now)) }
 {
     let mut rest = piece;
     while !rest.is_empty() {
@@ -35,8 +36,8 @@ fn read_piece<R: LineReader>(
     Ok(())
 }
 
-// Reads the lines of an input, to its end or to the piece in which the reader stops. What is to be written of a piece is put
-// before the next one is read.
+// Reads the lines of an input, to its end or to the piece in which the reader stops. What is to be written of a piece
+// is put before the next one is read.
 fn read_all<R: LineReader, S: Source, W: Sink>(
     limits: Limits,
     reader: &mut R,
@@ -69,8 +70,8 @@ fn read_all<R: LineReader, S: Source, W: Sink>(
     Ok(())
 }
 
-/// Writes what a reader makes of the lines of an input: of each piece, of at most 4,096 bytes, before the next one is read.
-/// The input is read to its end, or to the piece in which the reader stops.
+/// Writes what a reader makes of the lines of an input: of each piece, of at most 4,096 bytes, before the next one is
+/// read. The input is read to its end, or to the piece in which the reader stops.
 pub fn read_lines<R: LineReader, S: Source, W: Sink>(
     limits: Limits,
     reader: &mut R,

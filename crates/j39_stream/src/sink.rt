@@ -7,7 +7,8 @@ use crate::Failed;
 
 /// Where bytes are written to.
 pub trait Sink {
-    /// The bytes that were taken, where they are known, and how many calls failed: by an error, or by taking none of some bytes.
+    /// The bytes that were taken, where they are known, and how many calls failed: by an error, or by taking none of
+    /// some bytes.
     ghost state: { Self → SinkState };
 
     /// Takes some bytes from the front and answers how many. A call that fails takes none.

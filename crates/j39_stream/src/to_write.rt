@@ -24,7 +24,8 @@ impl<W: Write> ToWrite<W> {
     /// Hands on what the writer holds back. A call that fails is counted.
     pub fn flush(&mut self) -> Result<(), Failed>
         ensures bytes { Keeps (W.contents self.old.inner) (W.contents self.new.inner) }
-        ensures failures { self.new.failures ≡ (if is_ok result then self.old.failures else one_more self.old.failures) }
+        ensures failures { self.new.failures
+            ≡ (if is_ok result then self.old.failures else one_more self.old.failures) }
     {
         match self.inner.flush() {
             Ok(()) => Ok(()),

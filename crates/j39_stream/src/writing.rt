@@ -10,7 +10,8 @@ pub fn put_all<W: Sink>(sink: &mut W, bytes: &[u8]) -> Result<(), Fault>
     ensures ok { OnOk result (Appends (W.state sink.old).taken (W.state sink.new).taken bytes.now) }
     ensures cut { OnErr result (AppendsPart (W.state sink.old).taken (W.state sink.new).taken bytes.now) }
     ensures whole { OnOk result ((W.state sink.new).failures ≡ (W.state sink.old).failures) }
-    ensures device { IfErr result (λ fault. (fault ≡ Fault.Device) × HasFailed (W.state sink.old).failures (W.state sink.new).failures) }
+    ensures device { IfErr result (λ fault. (fault ≡ Fault.Device)
+        × HasFailed (W.state sink.old).failures (W.state sink.new).failures) }
 {
     let mut done = 0;
     while done < bytes.len() {

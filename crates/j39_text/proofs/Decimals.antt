@@ -1,5 +1,6 @@
 -- Decimals, digit after digit.
-use Rattle.std.proofs.Common.{◌≡◌, ℕ, zero, suc, ◌+◌, ◌*◌, ◌/◌, ◌%◌, ◌^◌, ◌<◌, ◌≤◌, ◌==◌, Bool, true, false, List, [], ◌∷◌, ◌++◌, append_assoc, refl, sym, ap, ◌∙◌, inl, inr, arith}
+use Rattle.std.proofs.Common.{◌≡◌, ℕ, zero, suc, ◌+◌, ◌*◌, ◌/◌, ◌%◌, ◌^◌, ◌<◌, ◌≤◌, ◌==◌, Bool, true, false, List, [], ◌∷◌, ◌++◌, append_assoc, refl, sym, ap}
+use Rattle.std.proofs.Common.{◌∙◌, inl, inr, arith}
 use Rattle.std.specs.List.{list_all}
 use Rattle.std.proofs.lemmas.Bool.{cases_Bool, and_parts, eqb-true}
 use Rattle.std.proofs.lemmas.Nat.{div_below, div-add-mod', mul-le}
@@ -31,7 +32,8 @@ digits-above zero a m = refl
 digits-above (suc k) a m =
     let some : 1 ≤ 10 ^ k = one-le-pow k 10 (omega arith) in
     let up : a * 10 ^ suc k + m ≡ 10 ^ k * (a * 10) + m = ap (λ p. a * p + m) (pow-suc 10 k) ∙ omega arith in
-    let head : (a * 10 ^ suc k + m) / 10 ^ k % 10 ≡ m / 10 ^ k % 10 = ap (λ n. n / 10 ^ k % 10) up ∙ ap (λ n. n % 10) (mul-add-div some (a * 10) m) ∙ omega arith in
+    let head : (a * 10 ^ suc k + m) / 10 ^ k % 10 ≡ m / 10 ^ k % 10 =
+    ap (λ n. n / 10 ^ k % 10) up ∙ ap (λ n. n % 10) (mul-add-div some (a * 10) m) ∙ omega arith in
     let down : a * 10 ^ suc k + m ≡ a * 10 * 10 ^ k + m = ap (λ p. a * p + m) (pow-suc 10 k) ∙ omega arith in
     let tail : last_digits k (a * 10 ^ suc k + m) ≡ last_digits k m = ap (last_digits k) down ∙ digits-above k (a * 10) m in
     rw (head, tail) refl

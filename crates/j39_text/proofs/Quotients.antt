@@ -57,7 +57,8 @@ whole-part : (n per : ℕ) → 0 < per → finest n per / 10 ^ most_decimals ≡
 whole-part n per some =
     let left : n % per < per = omega arith in
     let m : ℕ = n % per * 10 ^ most_decimals / per in
-    let less : m < 10 ^ most_decimals = div_below (n % per * 10 ^ most_decimals) per (10 ^ most_decimals) some (below-product (n % per) per (10 ^ most_decimals) left (ten most_decimals)) in
+    let less : m < 10 ^ most_decimals =
+    div_below (n % per * 10 ^ most_decimals) per (10 ^ most_decimals) some (below-product (n % per) per (10 ^ most_decimals) left (ten most_decimals)) in
     let order : finest n per ≡ 10 ^ most_decimals * (n / per) + m = finest-parted n per some ∙ turned (n / per) (10 ^ most_decimals) m in
     ap (λ k. k / 10 ^ most_decimals) order ∙ mul-add-div (ten most_decimals) (n / per) m ∙ ap (λ k. n / per + k) (none-of m (10 ^ most_decimals) less) ∙ omega arith
 

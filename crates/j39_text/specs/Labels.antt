@@ -8,8 +8,10 @@ use Rattle.j39_signal.specs.Selectors.{selector_end}
 use Rattle.j39_network.specs.declared.plan.Plan.{Plan}
 use Rattle.j39_network.specs.declared.plan.unit_plan.UnitPlan.{UnitPlan}
 use Rattle.j39_network.specs.declared.plan.group_plan.GroupPlan.{GroupPlan}
+use Rattle.j39_network.specs.declared.plan.need_plan.NeedPlan.{NeedPlan}
 use Rattle.j39_network.specs.declared.plan.text_plan.TextPlan.{TextPlan}
 use Rattle.j39_network.specs.TextPlaces.{last_byte}
+use Rattle.j39_text.specs.Texts.{place_field}
 
 unfoldable pub unit_label : Plan → ℕ → List ℕ
 unit_label plan i = option_map_or (λ (unit : UnitPlan). unit.label.bytes) (slice_get plan.units.items i) []
@@ -57,3 +59,12 @@ units_text word plan i j = word ++ (unit_label plan i ++ (codes " " ++ unit_labe
 -- a word, and a group
 unfoldable pub group_text : List ℕ → Plan → ℕ → List ℕ
 group_text word plan g = word ++ group_label plan g
+
+-- the signal that a need names, if it names one
+unfoldable pub need_signal_text : Plan → NeedPlan → List ℕ
+need_signal_text plan need = option_map_or (λ s. codes " " ++ signal_label plan need.group s) need.signal []
+
+-- a need: its place, its unit, its group, and its signal where it names one
+unfoldable pub need_text : Plan → ℕ → NeedPlan → List ℕ
+need_text plan place need = place_field (codes "need ") place ++ (codes " " ++ (unit_label plan need.unit
+    ++ (codes " " ++ (group_label plan need.group ++ need_signal_text plan need))))

@@ -1,6 +1,7 @@
 //! What the frame command writes.
 ghost use Rattle.std.specs.Prelude.{◌≡◌, ◌++◌, IfOk, OnOk};
-ghost use Rattle.j39_text.specs.FrameText.{IsFrameText, frame_lines as lines_of, head_lines as heads_of, refused_frame_line as line_of};
+ghost use Rattle.j39_text.specs.FrameText.{IsFrameText, frame_lines as lines_of, head_lines as heads_of};
+ghost use Rattle.j39_text.specs.FrameText.{refused_frame_line as line_of};
 ghost use Rattle.j39_stream.specs.CommandEnds.{PutsText};
 
 mod meaning;

@@ -1,10 +1,12 @@
 //! What a place of a plan names. Past the last place there is nothing.
 ghost use Rattle.std.specs.Prelude.{◌≡◌, ◌++◌, OnOk};
-ghost use Rattle.j39_text.specs.Labels.{group_label, group_pgn, group_selector_end, group_text, signal_bits, signal_end, signal_label};
-ghost use Rattle.j39_text.specs.Labels.{signals_of, text_end, text_label, texts_of, unit_address, unit_label, units_text};
+ghost use Rattle.j39_text.specs.Labels.{group_label, group_pgn, group_selector_end, group_text, need_signal_text};
+ghost use Rattle.j39_text.specs.Labels.{need_text};
+ghost use Rattle.j39_text.specs.Labels.{signal_bits, signal_end, signal_label, signals_of, text_end, text_label};
+ghost use Rattle.j39_text.specs.Labels.{texts_of, unit_address, unit_label, units_text};
 
 use crate::TextBuffer;
-use j39_network::{Plan, TextPlan};
+use j39_network::{NeedPlan, Plan, TextPlan};
 use j39_signal::Signal;
 use std::alloc::AllocError;
 
@@ -163,4 +165,35 @@ pub fn write_group(
 {
     text.word(word)?;
     text.word(group_label(plan, group))
+}
+
+#[tactic(auto, unfolding(crate::specs::Labels::need_signal_text))]
+fn write_need_signal(text: &mut TextBuffer, plan: &Plan, need: &NeedPlan) -> Result<(), AllocError>
+    ensures { OnOk result (text.new ≡ text.old ++ need_signal_text plan.now need.now) }
+{
+    match need.signal {
+        Some(signal) => {
+            text.word(" ")?;
+            text.word(signal_label(plan, need.group, signal))
+        }
+        None => Ok(()),
+    }
+}
+
+/// Writes the need at a place: its unit, its group, and its signal where it names one.
+#[tactic(auto, unfolding(crate::specs::Labels::need_text))]
+pub fn write_need(
+    text: &mut TextBuffer,
+    plan: &Plan,
+    place: usize,
+    need: &NeedPlan,
+) -> Result<(), AllocError>
+    ensures { OnOk result (text.new ≡ text.old ++ need_text plan.now place need.now) }
+{
+    text.place("need ", place)?;
+    text.word(" ")?;
+    text.word(unit_label(plan, need.unit))?;
+    text.word(" ")?;
+    text.word(group_label(plan, need.group))?;
+    write_need_signal(text, plan, need)
 }

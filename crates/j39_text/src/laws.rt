@@ -18,7 +18,8 @@ pub fn undivided_numbers_stay_whole()
     ensures { UndividedStaysWhole }
 {}
 
-/// Between its marks a quotation has visible characters and spaces, and no mark, and no two lists of bytes have the same one.
+/// Between its marks a quotation has visible characters and spaces, and no mark, and no two lists of bytes have the
+/// same one.
 pub fn quotations_tell_their_bytes()
     ensures { QuotationsTellTheirBytes }
 {}

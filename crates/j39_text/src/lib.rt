@@ -14,7 +14,7 @@ pub use frame::{frame_text, write_destination};
 pub use input::input_text;
 pub use labels::{
     group_label, group_pgn, group_selector_end, signal_bits, signal_end, signal_label, text_end,
-    text_label, unit_address, unit_label, write_group, write_units,
+    text_label, unit_address, unit_label, write_group, write_need, write_units,
 };
 pub use laws::{
     a_line_has_one_text, quotations_tell_their_bytes, quotients_are_exact,

@@ -12,7 +12,8 @@ pub fn put_text<W: Sink>(sink: &mut W, text: &mut TextBuffer) -> Result<(), Faul
     ensures empty { OnOk result (text.new ≡ []) }
     ensures cut { OnErr result (AppendsPart (W.state sink.old).taken (W.state sink.new).taken text.old) }
     ensures whole { OnOk result ((W.state sink.new).failures ≡ (W.state sink.old).failures) }
-    ensures device { IfErr result (λ fault. (fault ≡ Fault.Device) × HasFailed (W.state sink.old).failures (W.state sink.new).failures) }
+    ensures device { IfErr result (λ fault. (fault ≡ Fault.Device)
+        × HasFailed (W.state sink.old).failures (W.state sink.new).failures) }
 {
     put_all(sink, text.as_slice())?;
     text.clear();

@@ -33,8 +33,8 @@ fn write_spelled(text: &mut TextBuffer, bytes: &[u8]) -> Result<(), AllocError>
     Ok(())
 }
 
-/// Writes bytes between two quotation marks: visible ASCII characters and spaces as they are, but marks, backslashes and all other
-/// bytes as a backslash, an `x` and two capital digits.
+/// Writes bytes between two quotation marks: visible ASCII characters and spaces as they are, but marks, backslashes
+/// and all other bytes as a backslash, an `x` and two capital digits.
 #[tactic(auto, unfolding(crate::specs::Quotations::quotation))]
 pub fn write_quotation(text: &mut TextBuffer, bytes: &[u8]) -> Result<(), AllocError>
     ensures { OnOk result (text.new ≡ text.old ++ quotation bytes.now) }

@@ -15,7 +15,8 @@ fn write_decimals(text: &mut TextBuffer, rest: u64, per: u64) -> Result<(), Allo
     requires proper { rest < per }
     requires most { per ≤ 10000000 }
     requires whole { rest * 10 ^ most_decimals % per ≡ 0 }
-    ensures { OnOk result (text.new ≡ text.old ++ without_zeros (last_digits most_decimals (rest * 10 ^ most_decimals / per))) }
+    ensures { OnOk result (text.new ≡ text.old
+        ++ without_zeros (last_digits most_decimals (rest * 10 ^ most_decimals / per))) }
 {
     let mut left = rest;
     for _done in 0..MOST_DECIMALS {
@@ -43,8 +44,8 @@ fn write_magnitude(text: &mut TextBuffer, magnitude: u64, per: u64) -> Result<()
     write_decimals(text, rest, per)
 }
 
-/// Writes a number divided by a product of 2s and 5s, exactly: its sign, its whole part, and, where it isn't whole, a point and
-/// its decimals without zeros at their end.
+/// Writes a number divided by a product of 2s and 5s, exactly: its sign, its whole part, and, where it isn't whole, a
+/// point and its decimals without zeros at their end.
 pub fn write_quotient(text: &mut TextBuffer, number: i64, per: u32) -> Result<(), AllocError>
     requires { IsDivisor per }
     ensures { OnOk result (text.new ≡ text.old ++ quotient_text per number) }

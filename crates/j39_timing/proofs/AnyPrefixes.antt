@@ -3,13 +3,14 @@ use Rattle.std.proofs.Common.{◌≡◌, ℕ, ◌<◌, ◌≤◌, Bool, true, no
 use Rattle.std.proofs.lemmas.Bool.{and_parts, and_from, cases_Bool, leb-true, both_ways}
 use Rattle.j39_timing.specs.TimedFrames.{Schedule}
 use Rattle.j39_timing.specs.FrameStreams.{Origins}
-use Rattle.j39_timing.specs.Traffic.{Traffic, Others, HasRoom, IsSingle, delay_of}
-use Rattle.j39_timing.specs.AnyOrder.{Controllers, IsLegalInAnyOrder, IsOrderedStream, offered_traffic}
-use Rattle.j39_timing.specs.Companies.{Company, CompanyWaits, HasRoomInCompany, IsTrafficOfCompany, is_unplanned_queued, is_with_company, unplanned_queued}
-use Rattle.j39_timing.specs.Prefixes.{seen_until, planned_until, IsPlannedUntil, AreBegunUntil, IsCompanyUntil, HaveWaitsUntil}
-use Rattle.j39_timing.proofs.CompanyTraffic.{begun_within}
-use Rattle.j39_timing.proofs.Offered.{ordered_begun}
-use Rattle.j39_timing.proofs.Prefixes.{its_own, is_planned_then, then_is_planned, then_known}
+use Rattle.j39_timing.specs.Traffic.{Traffic, Others, DemandFits, IsSingle, delay_of}
+use Rattle.j39_timing.specs.AnyOrder.{Controllers, IsLegalInAnyOrder, IsOrderedStream, buffered_traffic}
+use Rattle.j39_timing.specs.QueueGroups.{QueueGroup, QueueGroupWaits, QueueGroupDemandFits, IsTrafficOfQueueGroup, is_unplanned_queued, is_with_queue_group}
+use Rattle.j39_timing.specs.QueueGroups.{unplanned_queued}
+use Rattle.j39_timing.specs.Prefixes.{seen_until, planned_until, IsPlannedUntil, AreBegunUntil, IsQueueGroupUntil, HaveWaitsUntil}
+use Rattle.j39_timing.proofs.QueueGroupTraffic.{begun_within}
+use Rattle.j39_timing.proofs.Buffering.{ordered_begun}
+use Rattle.j39_timing.proofs.Prefixes.{its_own, is_planned_then, still_of_streams, then_is_planned, then_known}
 use Rattle.j39_timing.proofs.Sums.{total-le}
 
 pub still_legal_in_any_order : (s : Schedule) (controllers : Controllers) (by ident : ℕ) → IsLegalInAnyOrder s controllers → by ≤ s.now
@@ -28,10 +29,45 @@ still_legal_in_any_order s controllers by ident legal seen = record {
       (h, may, omega (arith, order, of_q, of_h));
 }
 
--- ---- a company
+-- ---- a queue group
 
-module _ (s : Schedule) (controllers : Controllers) (traffic : Traffic) (unplanned longest : ℕ) (planned : ℕ → Bool) (of : Origins) (company : Company)
-    (by : ℕ) (seen : by ≤ s.now) (known : IsCompanyUntil s controllers traffic unplanned longest planned of company by) where
+module _ (s : Schedule) (planned : ℕ → Bool) (of : Origins) (queue_group : QueueGroup) (by ident : ℕ) where
+  abbrev seen_then : Schedule
+  seen_then = seen_until s by ident
+
+  abbrev planned_then : ℕ → Bool
+  planned_then = planned_until s planned by
+
+  pub with_queue_group : (p : ℕ) → s.queued p < by → is_with_queue_group (seen_until s by ident) of queue_group p ≡ is_with_queue_group s of queue_group p
+  with_queue_group p early = ap (λ c. queue_group.has (of.source p) || ltb c queue_group.level) (its_own s by ident p early)
+
+  pub queue_group_before : (from to : ℕ) → QueueGroupWaits (seen_until s by ident) (planned_until s planned by) of queue_group from to
+      → QueueGroupWaits s planned of queue_group from to
+  queue_group_before from to stretch t after within =
+      let (p, in_p, is, with_it, waits) = stretch t after within in
+      let (plain, early) = is_planned_then s planned by p is in
+      (p, in_p, plain, subst (λ x. x ≡ true) (with_queue_group p early) with_it, waits)
+
+  pub fewer_unplanned : (from to : ℕ) → to < by
+      → unplanned_queued (seen_until s by ident) (planned_until s planned by) from to ≤ unplanned_queued s planned from to
+  fewer_unplanned from to before =
+      total-le s.count (λ q. cond (is_unplanned_queued seen_then planned_then from to q) 1 0) (λ q. cond (is_unplanned_queued s planned from to q) 1 0) (λ q in_q.
+      elim (cases_Bool (is_unplanned_queued seen_then planned_then from to q)) [
+        | inr fails ↦ rw (fails) (omega arith)
+        | inl it ↦
+            let one = and_parts (not (planned_then q)) (leb (s.queued q) to && ltb from (s.start q)) it in
+            let two = and_parts (leb (s.queued q) to) (ltb from (s.start q)) one.1 in
+            let until : s.queued q ≤ to = leb-true (s.queued q) to two.0 in
+            let isnt : not (planned q) ≡ true = elim (cases_Bool (planned q)) [
+              | inl is ↦ absurd (both_ways (not (planned_then q)) (ap not (then_is_planned s planned by q is (omega arith))) one.0)
+              | inr unplanned_one ↦ rw (unplanned_one) refl
+            ] in
+            let there : is_unplanned_queued s planned from to q ≡ true = and_from (not (planned q)) (leb (s.queued q) to && ltb from (s.start q)) isnt one.1 in
+            rw (it, there) (omega arith)
+      ])
+
+module _ (s : Schedule) (controllers : Controllers) (traffic : Traffic) (unplanned longest : ℕ) (planned : ℕ → Bool) (of : Origins) (queue_group : QueueGroup)
+    (by : ℕ) (seen : by ≤ s.now) (known : IsQueueGroupUntil s controllers traffic unplanned longest planned of queue_group by) where
   abbrev then_seen : Schedule
   then_seen = seen_until s by 0
 
@@ -41,47 +77,10 @@ module _ (s : Schedule) (controllers : Controllers) (traffic : Traffic) (unplann
   own : (p : ℕ) → s.queued p < by → then_seen.ident p ≡ s.ident p
   own p early = its_own s by 0 p early
 
-  with_company : (p : ℕ) → s.queued p < by → is_with_company then_seen of company p ≡ is_with_company s of company p
-  with_company p early = ap (λ c. company.has (of.source p) || ltb c company.level) (own p early)
-
-  company_before : (from to : ℕ) → CompanyWaits then_seen then_planned of company from to → CompanyWaits s planned of company from to
-  company_before from to stretch t after within =
-      let (p, in_p, is, with_it, waits) = stretch t after within in
-      let (plain, early) = is_planned_then s planned by p is in
-      (p, in_p, plain, subst (λ x. x ≡ true) (with_company p early) with_it, waits)
-
-  fewer : (from to : ℕ) → to < by → unplanned_queued then_seen then_planned from to ≤ unplanned_queued s planned from to
-  fewer from to before =
-      total-le s.count (λ q. cond (is_unplanned_queued then_seen then_planned from to q) 1 0) (λ q. cond (is_unplanned_queued s planned from to q) 1 0) (λ q in_q.
-      elim (cases_Bool (is_unplanned_queued then_seen then_planned from to q)) [
-        | inr fails ↦ rw (fails) (omega arith)
-        | inl it ↦
-            let one = and_parts (not (then_planned q)) (leb (s.queued q) to && ltb from (s.start q)) it in
-            let two = and_parts (leb (s.queued q) to) (ltb from (s.start q)) one.1 in
-            let until : s.queued q ≤ to = leb-true (s.queued q) to two.0 in
-            let isnt : not (planned q) ≡ true = elim (cases_Bool (planned q)) [
-              | inl is ↦ absurd (both_ways (not (then_planned q)) (ap not (then_is_planned s planned by q is (omega arith))) one.0)
-              | inr unplanned_one ↦ rw (unplanned_one) refl
-            ] in
-            let there : is_unplanned_queued s planned from to q ≡ true = and_from (not (planned q)) (leb (s.queued q) to && ltb from (s.start q)) isnt one.1 in
-            rw (it, there) (omega arith)
-      ])
-
-  then_company : IsTrafficOfCompany then_seen controllers traffic unplanned longest then_planned of company
-  then_company = record {
+  then_queue_group : IsTrafficOfQueueGroup then_seen controllers traffic unplanned longest then_planned of queue_group
+  then_queue_group = record {
     longest_at_most = known.longest_at_most;
-    of_streams = record {
-      keeps = λ p in_p is.
-          let keeps = known.of_streams.keeps p in_p is in
-          record {
-            known = keeps.known;
-            bits_at_most = keeps.bits_at_most;
-            turns = keeps.turns;
-            moment_first = keeps.moment_first;
-            late_at_most = keeps.late_at_most;
-          };
-      spaced = known.of_streams.spaced;
-    };
+    of_streams = still_of_streams s by 0 (λ p. then_planned p ≡ true) traffic.count traffic.stream of known.of_streams;
     as_wanted = known.as_wanted;
     from_least = λ p in_p is.
         let (plain, early) = is_planned_then s planned by p is in
@@ -96,7 +95,7 @@ module _ (s : Schedule) (controllers : Controllers) (traffic : Traffic) (unplann
     closed = λ p q in_p in_q is also unit unordered with_it.
         let (plain, early) = is_planned_then s planned by p is in
         let (plain_q, _) = is_planned_then s planned by q also in
-        known.closed p q in_p in_q plain plain_q unit unordered (subst (λ x. x ≡ true) (with_company p early) with_it);
+        known.closed p q in_p in_q plain plain_q unit unordered (subst (λ x. x ≡ true) (with_queue_group s planned of queue_group by 0 p early) with_it);
     own_identifiers = λ p q t in_p in_q before is has at_p at_q same.
         let (plain, early) = is_planned_then s planned by p is in
         let ready : s.queued q < by = let at = at_q.0 in omega arith in
@@ -107,8 +106,9 @@ module _ (s : Schedule) (controllers : Controllers) (traffic : Traffic) (unplann
     few_unplanned = λ p from to in_p is has before waits stretch.
         let (plain, early) = is_planned_then s planned by p is in
         let most : unplanned_queued s planned from to ≤ unplanned =
-        known.few_unplanned p from to in_p plain has (omega arith) waits (company_before from to stretch) in
-        let less : unplanned_queued then_seen then_planned from to ≤ unplanned_queued s planned from to = fewer from to before in
+        known.few_unplanned p from to in_p plain has (omega arith) waits (queue_group_before s planned of queue_group by 0 from to stretch) in
+        let less : unplanned_queued then_seen then_planned from to ≤ unplanned_queued s planned from to =
+        fewer_unplanned s planned of queue_group by 0 from to before in
         omega (arith, most, less);
     above_all = λ p in_p some.
         let above = known.above_all p in_p some in
@@ -118,22 +118,25 @@ module _ (s : Schedule) (controllers : Controllers) (traffic : Traffic) (unplann
         ];
   }
 
-  pub company_begun_until : IsLegalInAnyOrder s controllers → ((j : ℕ) → j < traffic.count → 0 < (traffic.stream j).period) → (i wait : ℕ) → company.has i ≡ true
-      → (traffic.stream i).bits ≤ longest → HasRoomInCompany traffic company unplanned longest i wait → AreBegunUntil s planned of i wait by
-  company_begun_until legal positive i wait member small room p in_p is source before =
-      begun_within then_seen controllers traffic unplanned longest then_planned of company (still_legal_in_any_order s controllers by 0 legal seen) then_company
-      positive i wait member small room p in_p (then_is_planned s planned by p is (omega arith)) source before
+  pub queue_group_begun_until : IsLegalInAnyOrder s controllers → ((j : ℕ) → j < traffic.count → 0 < (traffic.stream j).period) → (i wait : ℕ)
+      → queue_group.has i ≡ true
+      → (traffic.stream i).bits ≤ longest → QueueGroupDemandFits traffic queue_group unplanned longest i wait → AreBegunUntil s planned of i wait by
+  queue_group_begun_until legal positive i wait member small demand_fits p in_p is source before =
+      begun_within then_seen controllers traffic unplanned longest then_planned of queue_group (still_legal_in_any_order s controllers by 0 legal seen) then_queue_group
+      positive i wait member small demand_fits p in_p (then_is_planned s planned by p is (omega arith)) source before
 
 -- ---- a stream of a unit that keeps order, beside others
 
-pub ordered_begun_until : (s : Schedule) (controllers : Controllers) (traffic : Traffic) (others : Others) (longest : ℕ) (planned : ℕ → Bool) (of : Origins) (i by : ℕ)
+pub ordered_begun_until : (s : Schedule) (controllers : Controllers) (traffic : Traffic) (others : Others) (longest : ℕ) (planned : ℕ
+    → Bool) (of : Origins) (i by : ℕ)
     → by ≤ s.now → IsPlannedUntil s traffic others longest planned of i by → IsLegalInAnyOrder s controllers
     → ((j : ℕ) → j < traffic.count → 0 < (traffic.stream j).period) → IsOrderedStream s controllers planned of i
-    → (wait : ℕ) (waits : ℕ → ℕ) → HaveWaitsUntil s controllers traffic planned of i waits by → HasRoom (offered_traffic traffic waits) others longest i wait
+    → (wait : ℕ) (waits : ℕ → ℕ) → HaveWaitsUntil s controllers traffic planned of i waits by
+    → DemandFits (buffered_traffic traffic waits) others longest i wait
     → IsSingle (traffic.stream i) → delay_of (traffic.stream i) wait ≤ (traffic.stream i).period → AreBegunUntil s planned of i wait by
-ordered_begun_until s controllers traffic others longest planned of i by seen known legal positive ordered wait waits have room single fits p in_p is source before =
+ordered_begun_until s controllers traffic others longest planned of i by seen known legal positive ordered wait waits have demand_fits single fits p in_p is source before =
     ordered_begun (seen_until s by others.least) controllers (still_legal_in_any_order s controllers by others.least legal seen) traffic others longest
     (planned_until s planned by) of i wait (then_known s traffic others longest planned of i by seen known) positive
     (λ q in_q it same. ordered q in_q (is_planned_then s planned by q it).0 same) waits
     (λ q in_q it goes loses until. have q in_q (is_planned_then s planned by q it).0 goes loses until)
-    room single fits p in_p (then_is_planned s planned by p is (omega arith)) source before
+    demand_fits single fits p in_p (then_is_planned s planned by p is (omega arith)) source before

@@ -1,6 +1,7 @@
 -- What messages that are wanted of a unit can ask for in any time: what is left of the one that is under way, one message of each flow that waits,
--- and those whose moments lie in this time.
-use Rattle.std.proofs.Common.{◌≡◌, ℕ, zero, suc, ◌+◌, ◌*◌, ◌<◌, ◌≤◌, ◌⊎◌, Bool, true, false, cond, ◌&&◌, eqb, ltb, leb, List, [], ◌∷◌, length, take, get_or, sum_by, refl, sym, subst, ap, ◌∙◌, inl, inr, arith}
+-- and those whose releases lie in this time.
+use Rattle.std.proofs.Common.{◌≡◌, ℕ, zero, suc, ◌+◌, ◌*◌, ◌<◌, ◌≤◌, ◌⊎◌, Bool, true, false, cond, ◌&&◌, eqb, ltb, leb, List, [], ◌∷◌, length, take, get_or}
+use Rattle.std.proofs.Common.{sum_by, refl, sym, subst, ap, ◌∙◌, inl, inr, arith}
 use Rattle.std.proofs.Math.Seq.{take-suc}
 use Rattle.std.proofs.lemmas.Bool.{and_parts, and_from, cases_lt, cases_eq, cases_Bool, le-leb, lt-ltb, leb-true, ltb-true, eqb-true, eq-eqb, both_ways}
 use Rattle.std.proofs.lemmas.Grind.{div_ceil_times}
@@ -11,9 +12,10 @@ use Rattle.j39_timing.specs.FrameStreams.{Origins}
 use Rattle.j39_timing.specs.Messages.{IsOf}
 use Rattle.j39_timing.specs.Sums.{total}
 use Rattle.j39_timing.specs.TimedFrames.{Schedule}
-use Rattle.j39_timing.specs.Traffic.{moments_in}
+use Rattle.j39_timing.specs.Traffic.{releases_in}
 use Rattle.j39_timing.specs.Waits.{Demand, frames_of_want, frames_wanted}
-use Rattle.j39_timing.specs.WantedMessages.{AreAnnouncements, AreFramesOfMessages, AreWantedInTurn, HasLongest, HavePeriods, UnitMessages, nothing, want_at, want_for}
+use Rattle.j39_timing.specs.WantedMessages.{AreAnnouncements, AreFramesOfMessages, AreWantedInTurn, HasLongest, HavePeriods, UnitMessages, nothing, want_at}
+use Rattle.j39_timing.specs.WantedMessages.{want_for}
 use Rattle.j39_timing.specs.declared.wants.Want.{Want}
 use Rattle.j39_timing.proofs.StreamSums.{at_most_one, inside, inside_from, windows_sum}
 use Rattle.j39_timing.proofs.Sums.{total-le, total-none, total-two}
@@ -25,7 +27,8 @@ grouped : (n : ℕ) (passes : ℕ → Bool) (group weight : ℕ → ℕ) (k : �
     ≤ total k (λ g. total n (λ i. cond (passes i && eqb (group i) g) (weight i) 0))
 unfolding total
 grouped n passes group weight zero =
-    let none : total n (λ i. cond (passes i && ltb (group i) 0) (weight i) 0) ≡ 0 = total-none n (λ i. cond (passes i && ltb (group i) 0) (weight i) 0) (λ i below.
+    let none : total n (λ i. cond (passes i && ltb (group i) 0) (weight i) 0) ≡ 0 =
+    total-none n (λ i. cond (passes i && ltb (group i) 0) (weight i) 0) (λ i below.
     elim (cases_Bool (passes i && ltb (group i) 0)) [
       | inl is ↦ absurd (let low : group i < 0 = ltb-true (group i) 0 (and_parts (passes i) (ltb (group i) 0) is).1 in omega arith)
       | inr fails ↦ rw (fails) refl
@@ -47,14 +50,15 @@ grouped n passes group weight (suc k) =
                 let there : (passes i && eqb (group i) k) ≡ true = and_from (passes i) (eqb (group i) k) two.0 (eq-eqb (group i) k same) in
                 rw (is, there) (omega arith)
             | inr other ↦
-                let here : (passes i && ltb (group i) k) ≡ true = and_from (passes i) (ltb (group i) k) two.0 (lt-ltb (group i) k (omega (arith, low, other))) in
+                let here : (passes i && ltb (group i) k) ≡ true =
+                and_from (passes i) (ltb (group i) k) two.0 (lt-ltb (group i) k (omega (arith, low, other))) in
                 rw (is, here) (omega arith)
           ]
     ]) in
     omega (arith, before, parts)
 
 -- all of it, where each group is below k
-all_grouped : (n : ℕ) (passes : ℕ → Bool) (group weight : ℕ → ℕ) (k : ℕ) → ((i : ℕ) → i < n → passes i ≡ true → group i < k)
+pub all_grouped : (n : ℕ) (passes : ℕ → Bool) (group weight : ℕ → ℕ) (k : ℕ) → ((i : ℕ) → i < n → passes i ≡ true → group i < k)
     → total n (λ i. cond (passes i) (weight i) 0) ≤ total k (λ g. total n (λ i. cond (passes i && eqb (group i) g) (weight i) 0))
 all_grouped n passes group weight k below =
     let all = grouped n passes group weight k in
@@ -92,7 +96,7 @@ placed n passes place own k below =
         omega (arith, before, one)
 
 -- where there is something, something passes
-found : (n : ℕ) (passes : ℕ → Bool) (weight : ℕ → ℕ) → 0 < total n (λ i. cond (passes i) (weight i) 0) → (i : ℕ) × (i < n) × (passes i ≡ true)
+pub found : (n : ℕ) (passes : ℕ → Bool) (weight : ℕ → ℕ) → 0 < total n (λ i. cond (passes i) (weight i) 0) → (i : ℕ) × (i < n) × (passes i ≡ true)
 unfolding total
 found zero passes weight some = absurd (omega (arith, some))
 found (suc n) passes weight some = elim (cases_Bool (passes n)) [
@@ -133,7 +137,7 @@ by_elements g xs (suc k) le =
 
 module _ (s : Schedule) (planned : ℕ → Bool) (of : Origins) (j : ℕ) (demand : Demand) (messages : UnitMessages) (periods : HavePeriods demand)
     (wanted : AreWantedInTurn demand messages) (frames : AreFramesOfMessages s planned of j demand messages) (t span : ℕ) where
-  -- a frame of the stream whose moment lies in the time
+  -- a frame of the stream whose release lies in the time
   abbrev counts : ℕ → Bool
   counts p = planned p && (eqb (of.source p) j && (leb t (of.since p) && ltb (of.since p) (t + span)))
 
@@ -233,28 +237,28 @@ module _ (s : Schedule) (planned : ℕ → Bool) (of : Origins) (j : ℕ) (deman
     abbrev passes : ℕ → Bool
     passes m = is_announced m && eqb (messages.flow m) f
 
-    -- the moments of those behind the first lie in it too, or up to their lateness before
+    -- the releases of those behind the first lie in it too, or up to their lateness before
     abbrev later : ℕ → Bool
-    later m = eqb (messages.flow m) f && inside t (span + want.late) (messages.moment m + want.late)
+    later m = eqb (messages.flow m) f && inside t (span + want.jitter) (messages.release m + want.jitter)
 
-    of_flow_later : total messages.count (λ m. cond (later m) want.frames 0) ≤ div_ceil (span + want.late) want.period * want.frames
-    of_flow_later = windows_sum messages.count (λ m. eqb (messages.flow m) f) (λ m. messages.moment m + want.late) (λ m. want.frames) want.period want.frames
+    of_flow_later : total messages.count (λ m. cond (later m) want.frames 0) ≤ div_ceil (span + want.jitter) want.period * want.frames
+    of_flow_later = windows_sum messages.count (λ m. eqb (messages.flow m) f) (λ m. messages.release m + want.jitter) (λ m. want.frames) want.period want.frames
         (λ m below is. omega arith)
         (λ m n in_m in_n other is_m is_n.
         let at_m = eqb-true (messages.flow m) f is_m in
         let at_n = eqb-true (messages.flow n) f is_n in
         elim (cases_lt m n) [
           | inl less ↦
-              let far : messages.moment m + want.period ≤ messages.moment n =
-              subst (λ (k : ℕ). messages.moment m + (want_at demand k).period ≤ messages.moment n) at_n (wanted.apart m n (less, in_n, at_m ∙ sym at_n)) in
+              let far : messages.release m + want.period ≤ messages.release n =
+              subst (λ (k : ℕ). messages.release m + (want_at demand k).period ≤ messages.release n) at_n (wanted.apart m n (less, in_n, at_m ∙ sym at_n)) in
               inl (omega (arith, far))
           | inr more ↦
-              let far : messages.moment n + want.period ≤ messages.moment m =
-              subst (λ (k : ℕ). messages.moment n + (want_at demand k).period ≤ messages.moment m) at_m
+              let far : messages.release n + want.period ≤ messages.release m =
+              subst (λ (k : ℕ). messages.release n + (want_at demand k).period ≤ messages.release m) at_m
               (wanted.apart n m (omega (arith, more, other), in_m, at_n ∙ sym at_m)) in
               inr (omega (arith, far))
         ])
-        (div_ceil (span + want.late) want.period) t (span + want.late) (div_ceil_times (span + want.late) want.period (periods f)).0
+        (div_ceil (span + want.jitter) want.period) t (span + want.jitter) (div_ceil_times (span + want.jitter) want.period (periods f)).0
 
     -- behind the first one
     comes_later : (first m : ℕ) → first < m → m < messages.count → passes first ≡ true → passes m ≡ true → later m ≡ true
@@ -266,12 +270,12 @@ module _ (s : Schedule) (planned : ℕ → Bool) (of : Origins) (j : ℕ) (deman
         let (from, _) = announced_parts first two_first.0 in
         let (_, until) = announced_parts m two.0 in
         let waits : messages.announced first ≤ messages.wanted m = wanted.one_waits first m (less, below, at_first ∙ sym at) in
-        let late : messages.wanted m ≤ messages.moment m + want.late =
-        subst (λ (k : ℕ). messages.wanted m ≤ messages.moment m + (want_at demand k).late) at (wanted.late_at_most m below) in
-        let moment : messages.moment m ≤ messages.wanted m = wanted.moment_first m below in
+        let late : messages.wanted m ≤ messages.release m + want.jitter =
+        subst (λ (k : ℕ). messages.wanted m ≤ messages.release m + (want_at demand k).jitter) at (wanted.jitter_at_most m below) in
+        let release : messages.release m ≤ messages.wanted m = wanted.release_first m below in
         let first_wanted : messages.wanted m ≤ messages.announced m = wanted.wanted_first m below in
-        and_from (eqb (messages.flow m) f) (inside t (span + want.late) (messages.moment m + want.late)) two.1
-        (inside_from t (span + want.late) (messages.moment m + want.late) (omega (arith, from, waits, late)) (omega (arith, until, moment, first_wanted)))
+        and_from (eqb (messages.flow m) f) (inside t (span + want.jitter) (messages.release m + want.jitter)) two.1
+        (inside_from t (span + want.jitter) (messages.release m + want.jitter) (omega (arith, from, waits, late)) (omega (arith, until, release, first_wanted)))
 
     of_flow : total messages.count (λ m. cond (passes m) want.frames 0) ≤ frames_of_want span want
     of_flow = elim (first_passing messages.count passes) [
@@ -300,8 +304,8 @@ module _ (s : Schedule) (planned : ℕ → Bool) (of : Origins) (j : ℕ) (deman
               ]
             ]
           ]) in
-          let turned : div_ceil (span + want.late) want.period * want.frames ≡ want.frames * div_ceil (span + want.late) want.period = grind arith in
-          let all : frames_of_want span want ≡ want.frames * div_ceil (span + want.late) want.period + want.frames = grind arith in
+          let turned : div_ceil (span + want.jitter) want.period * want.frames ≡ want.frames * div_ceil (span + want.jitter) want.period = grind arith in
+          let all : frames_of_want span want ≡ want.frames * div_ceil (span + want.jitter) want.period + want.frames = grind arith in
           omega (arith, rest, one, two, turned, all)
     ]
 
@@ -334,9 +338,9 @@ module _ (s : Schedule) (planned : ℕ → Bool) (of : Origins) (j : ℕ) (deman
   -- ---- all of it
 
   asked_at_most : (most : ℕ) → ((m : ℕ) → m < messages.count → early m ≡ true → of_message m ≤ most)
-      → moments_in s planned of j t span ≤ sum_by (frames_of_want span) demand.wants + most
+      → releases_in s planned of j t span ≤ sum_by (frames_of_want span) demand.wants + most
   asked_at_most most small =
-      let groups : moments_in s planned of j t span ≤ total messages.count of_message =
+      let groups : releases_in s planned of j t span ≤ total messages.count of_message =
       all_grouped s.count counts messages.message (λ p. 1) messages.count (λ p in_p is. frames.known p (counts_parts p in_p is).0) in
       let parts : total messages.count of_message
       ≤ total messages.count (λ m. cond (early m) (of_message m) 0) + total messages.count (λ m. cond (is_announced m) (want_for demand messages m).frames 0) =
@@ -361,13 +365,13 @@ module _ (s : Schedule) (planned : ℕ → Bool) (of : Origins) (j : ℕ) (deman
       omega (arith, groups, parts, first, rest)
 
   -- of packets, where no message has more than the longest
-  pub packets_asked : HasLongest demand → moments_in s planned of j t span ≤ frames_wanted span demand
+  pub packets_asked : HasLongest demand → releases_in s planned of j t span ≤ frames_wanted span demand
   packets_asked longest =
       let most = asked_at_most demand.under_way (λ m below is. let few = message_most m in let long = longest (messages.flow m) in omega (arith, few, long)) in
       omega (arith, most)
 
   -- of announcements, of which none is left of the one that is under way
-  pub announcements_asked : AreAnnouncements s planned of j messages → moments_in s planned of j t span ≤ frames_wanted span demand
+  pub announcements_asked : AreAnnouncements s planned of j messages → releases_in s planned of j t span ≤ frames_wanted span demand
   announcements_asked are =
       let most = asked_at_most 0 (λ m below is.
       elim (cases_lt 0 (of_message m)) [

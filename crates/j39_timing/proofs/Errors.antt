@@ -2,7 +2,7 @@
 use Rattle.std.proofs.Common.{◌≡◌, ℕ, suc, ◌+◌, ◌-◌, ◌<◌, ◌≤◌, ◌⊎◌, ◌||◌, ◌∙◌, true, eqb, refl, sym, ap, subst, arith, inl, inr}
 use Rattle.std.proofs.lemmas.Bool.{cases_lt, le-ltb, lt-ltb, ne_eqb}
 use Rattle.j39_timing.specs.TimedFrames.{Schedule, IsLegal, IsOnBusAt, Waits}
-use Rattle.j39_timing.specs.AnyOrder.{Controllers, IsLegalInAnyOrder, IsFromOrdered, MayBeOffered}
+use Rattle.j39_timing.specs.AnyOrder.{Controllers, IsLegalInAnyOrder, IsFromOrdered, MayArbitrate}
 use Rattle.j39_timing.specs.Errors.{Damaged, IsBusWithErrors, IsDamagedAt, IsLegalInAnyOrderWithErrors, IsLegalWithErrors, damage_ordered, with_errors}
 
 module _ (s : Schedule) (d : Damaged) where
@@ -280,10 +280,10 @@ module _ (s : Schedule) (d : Damaged) where
     ordered_of_frame : (p : ℕ) → p < s.count → IsFromOrdered units p → IsFromOrdered controllers p
     ordered_of_frame p below ordered = subst (λ u. controllers.keeps_order u ≡ true) (unit_of_frame p below) ordered
 
-    offered : (p q : ℕ) → p < all.count → q < all.count → all.start q < all.now → Waits all p (all.start q)
-        → (h : ℕ) × MayBeOffered all units p h (all.start q) × (all.ident q ≤ all.ident h)
-    offered p q in_p in_q seen waits =
-        let itself : MayBeOffered all units p p (all.start q) = (in_p, refl, (let before = waits.0 in omega (arith, before), waits.1), λ _. refl) in
+    buffered : (p q : ℕ) → p < all.count → q < all.count → all.start q < all.now → Waits all p (all.start q)
+        → (h : ℕ) × MayArbitrate all units p h (all.start q) × (all.ident q ≤ all.ident h)
+    buffered p q in_p in_q seen waits =
+        let itself : MayArbitrate all units p p (all.start q) = (in_p, refl, (let before = waits.0 in omega (arith, before), waits.1), λ _. refl) in
         elim (kinds q in_q) [
           | inr this ↦ elim this [
             | inl it ↦ let least = it.1.ident in (p, itself, omega (arith, least))
@@ -317,7 +317,7 @@ module _ (s : Schedule) (d : Damaged) where
       queued_first = queued_first legal.bus;
       alone = alone legal.bus;
       never_idle = never_idle legal.bus;
-      in_order = offered;
+      in_order = buffered;
     }
 
 -- each frame is of the unit that it was of

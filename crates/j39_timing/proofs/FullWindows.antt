@@ -1,6 +1,7 @@
 -- A frame that waits longer than there is room for sees more on the bus than the streams can queue: in windows of a wait and one bit more,
 -- from where the bus is busy on.
-use Rattle.std.proofs.Common.{◌≡◌, ℕ, zero, suc, ◌+◌, ◌*◌, ◌-◌, ◌/◌, ◌<◌, ◌≤◌, Bool, true, false, cond, ◌&&◌, eqb, ltb, leb, List, Option, None, Some, refl, sym, subst, arith, inl, inr}
+use Rattle.std.proofs.Common.{◌≡◌, ℕ, zero, suc, ◌+◌, ◌*◌, ◌-◌, ◌/◌, ◌<◌, ◌≤◌, Bool, true, false, cond, ◌&&◌, eqb, ltb, leb, List, Option, None, Some, refl}
+use Rattle.std.proofs.Common.{sym, subst, arith, inl, inr}
 use Rattle.std.proofs.Math.Nat.{mul-le-mul_left, div-mul-le_self, lt-div-mul-add}
 use Rattle.std.specs.Int.{div_ceil}
 use Rattle.std.proofs.lemmas.Bool.{and_parts, and_from, cases_lt, cases_Bool, le-leb, lt-ltb, leb-true, ltb-true, eqb-true}
@@ -9,7 +10,7 @@ use Rattle.j39_timing.specs.Sums.{total}
 use Rattle.j39_timing.specs.TimedFrames.{Schedule, demand}
 use Rattle.j39_timing.specs.declared.stream.Stream.{Stream}
 use Rattle.j39_timing.specs.FrameStreams.{Origins, AreOfStreams}
-use Rattle.j39_timing.specs.Traffic.{AreAsWanted, moments_in}
+use Rattle.j39_timing.specs.Traffic.{AreAsWanted, releases_in}
 use Rattle.j39_timing.specs.Waits.{Demand, demand_of, frames_wanted, lesser, lesser_share, share}
 use Rattle.j39_timing.proofs.StreamSums.{all_streams, inside as in_window, inside_from, inside_parts, is_of, of_stream, queued_in}
 use Rattle.j39_timing.proofs.Sums.{total-le, total-less, total-none, total-times, total-two}
@@ -74,8 +75,8 @@ total-one n f u d in_u is =
 -- k + 1 windows of a wait and one bit more can't be full of what there is room for in k + 1 waits, the frame itself left out once
 too_many : (k longest wait count bits shares planned others : ℕ) → suc k * (wait + 1) ≤ longest + (planned + others)
     → planned + bits ≤ suc k * shares → others ≤ longest * count → longest * (1 + count) + shares ≤ wait + bits → bits ≤ longest → ⊥
-too_many k longest wait count bits shares planned others has most times room small =
-    let all : suc k * (longest * (1 + count) + shares) ≤ suc k * (wait + bits) = mul-le-mul_left (suc k) room in
+too_many k longest wait count bits shares planned others has most times demand_fits small =
+    let all : suc k * (longest * (1 + count) + shares) ≤ suc k * (wait + bits) = mul-le-mul_left (suc k) demand_fits in
     let each : k * bits ≤ k * (longest * (1 + count)) = mul-le-mul_left k (omega arith) in
     omega arith
 
@@ -108,12 +109,12 @@ module _ (s : Schedule) (count : ℕ) (stream : ℕ → Stream) (demands : List 
     frames = cond (may j) (stream j).frames 0;
     period = (stream j).period;
     bits = (stream j).bits;
-    late = (stream j).late;
+    jitter = (stream j).jitter;
     wanted = (stream j).wanted;
   }
 
   abbrev slots : ℕ → ℕ
-  slots j = div_ceil (wait + 1 + (stream j).late) (stream j).period
+  slots j = div_ceil (wait + 1 + (stream j).jitter) (stream j).period
 
   of_streams : AreOfStreams going_only (λ p. going_only.ident p < 1) count before of
   of_streams = record {
@@ -124,8 +125,8 @@ module _ (s : Schedule) (count : ℕ) (stream : ℕ → Stream) (demands : List 
           known = keeps.known;
           bits_at_most = omega arith;
           turns = subst (λ (b : Bool). of.turn p < cond b (stream (of.source p)).frames 0) (sym (goes p in_p is with_p)) keeps.turns;
-          moment_first = keeps.moment_first;
-          late_at_most = keeps.late_at_most;
+          release_first = keeps.release_first;
+          jitter_at_most = keeps.jitter_at_most;
         };
     spaced = λ p q in_p in_q differ less_p less_q same turn.
         known.spaced p q in_p in_q differ (its_parts p less_p).0 (its_parts q less_q).0 same turn;
@@ -141,8 +142,8 @@ module _ (s : Schedule) (count : ℕ) (stream : ℕ → Stream) (demands : List 
   -- is no more than its pace allows
   at_pace : (t j : ℕ) → j < count → queued t j ≤ cond (may j) (share (wait + 1) (stream j)) 0
   at_pace t j below =
-      let cover : wait + 1 + (stream j).late ≤ slots j * (stream j).period =
-      (div_ceil_times (wait + 1 + (stream j).late) (stream j).period (positive j below)).0 in
+      let cover : wait + 1 + (stream j).jitter ≤ slots j * (stream j).period =
+      (div_ceil_times (wait + 1 + (stream j).jitter) (stream j).period (positive j below)).0 in
       let most : queued t j ≤ (before j).frames * (slots j * (before j).bits) =
       of_stream going_only 1 count before of of_streams j (slots j) t (wait + 1) cover in
       let same : (before j).frames * (slots j * (before j).bits) ≤ cond (may j) (share (wait + 1) (stream j)) 0 =
@@ -154,13 +155,13 @@ module _ (s : Schedule) (count : ℕ) (stream : ℕ → Stream) (demands : List 
 
   -- nor than is wanted
   at_demand : (t j : ℕ) (wanted : Demand) → demand_of demands (stream j) ≡ Some wanted
-      → queued t j ≤ frames_wanted (wait + 1 + (stream j).late) wanted * (stream j).bits
+      → queued t j ≤ frames_wanted (wait + 1 + (stream j).jitter) wanted * (stream j).bits
   at_demand t j wanted its =
-      let few : moments_in s planned of j (t - (stream j).late) (wait + 1 + (stream j).late) ≤ frames_wanted (wait + 1 + (stream j).late) wanted =
-      as_wanted j (t - (stream j).late) (wait + 1 + (stream j).late) wanted its in
-      let each : queued t j ≤ (stream j).bits * moments_in s planned of j (t - (stream j).late) (wait + 1 + (stream j).late) =
+      let few : releases_in s planned of j (t - (stream j).jitter) (wait + 1 + (stream j).jitter) ≤ frames_wanted (wait + 1 + (stream j).jitter) wanted =
+      as_wanted j (t - (stream j).jitter) (wait + 1 + (stream j).jitter) wanted its in
+      let each : queued t j ≤ (stream j).bits * releases_in s planned of j (t - (stream j).jitter) (wait + 1 + (stream j).jitter) =
       total-times s.count (λ p. is_of going_only 1 count before of of_streams j p && in_window t (wait + 1) (s.queued p))
-      (λ p. planned p && (eqb (of.source p) j && (leb (t - (stream j).late) (of.since p) && ltb (of.since p) (t - (stream j).late + (wait + 1 + (stream j).late)))))
+      (λ p. planned p && (eqb (of.source p) j && (leb (t - (stream j).jitter) (of.since p) && ltb (of.since p) (t - (stream j).jitter + (wait + 1 + (stream j).jitter)))))
       (λ p. (stream (of.source p)).bits) (stream j).bits (λ p in_p is.
       let one = and_parts (is_of going_only 1 count before of of_streams j p) (in_window t (wait + 1) (s.queued p)) is in
       let two = and_parts (ltb (going_only.ident p) 1) (eqb (of.source p) j) one.0 in
@@ -168,23 +169,24 @@ module _ (s : Schedule) (count : ℕ) (stream : ℕ → Stream) (demands : List 
       let at : of.source p ≡ j = eqb-true (of.source p) j two.1 in
       let (low, high) = inside_parts t (wait + 1) (s.queued p) one.1 in
       let keeps = known.keeps p in_p of_plan in
-      let first : of.since p ≤ s.queued p = keeps.moment_first in
-      let last : s.queued p ≤ of.since p + (stream j).late = subst (λ i. s.queued p ≤ of.since p + (stream i).late) at keeps.late_at_most in (
-        and_from (planned p) (eqb (of.source p) j && (leb (t - (stream j).late) (of.since p) && ltb (of.since p) (t - (stream j).late + (wait + 1 + (stream j).late))))
-            of_plan (and_from (eqb (of.source p) j) (leb (t - (stream j).late) (of.since p) && ltb (of.since p) (t - (stream j).late + (wait + 1 + (stream j).late))) two.1
-            (inside_from (t - (stream j).late) (wait + 1 + (stream j).late) (of.since p) (omega (arith, low, last)) (omega (arith, high, first)))),
+      let first : of.since p ≤ s.queued p = keeps.release_first in
+      let last : s.queued p ≤ of.since p + (stream j).jitter = subst (λ i. s.queued p ≤ of.since p + (stream i).jitter) at keeps.jitter_at_most in (
+        and_from (planned p) (eqb (of.source p) j && (leb (t - (stream j).jitter) (of.since p) && ltb (of.since p) (t - (stream j).jitter + (wait + 1 + (stream j).jitter))))
+            of_plan (and_from (eqb (of.source p) j) (leb (t - (stream j).jitter) (of.since p) && ltb (of.since p) (t - (stream j).jitter + (wait + 1 + (stream j).jitter))) two.1
+            (inside_from (t - (stream j).jitter) (wait + 1 + (stream j).jitter) (of.since p) (omega (arith, low, last)) (omega (arith, high, first)))),
         subst (λ i. (stream i).bits ≤ (stream j).bits) (sym at) (omega arith),
       )) in
-      let most : (stream j).bits * moments_in s planned of j (t - (stream j).late) (wait + 1 + (stream j).late)
-      ≤ (stream j).bits * frames_wanted (wait + 1 + (stream j).late) wanted = mul-le-mul_left (stream j).bits few in
-      let turned : (stream j).bits * frames_wanted (wait + 1 + (stream j).late) wanted ≡ frames_wanted (wait + 1 + (stream j).late) wanted * (stream j).bits = grind arith in
+      let most : (stream j).bits * releases_in s planned of j (t - (stream j).jitter) (wait + 1 + (stream j).jitter)
+      ≤ (stream j).bits * frames_wanted (wait + 1 + (stream j).jitter) wanted = mul-le-mul_left (stream j).bits few in
+      let turned : (stream j).bits * frames_wanted (wait + 1 + (stream j).jitter) wanted ≡ frames_wanted (wait + 1 + (stream j).jitter) wanted * (stream j).bits =
+      grind arith in
       omega (arith, each, most, turned)
 
   at_lesser : (t j : ℕ) → j < count → queued t j ≤ cond (may j) (lesser_share demands (wait + 1) (stream j)) 0
   at_lesser t j below = go (may j) (demand_of demands (stream j)) (at_pace t j below) (λ wanted is. at_demand t j wanted is)
     where
       go : (e : Bool) (wanted : Option Demand) → queued t j ≤ cond e (share (wait + 1) (stream j)) 0
-          → ((d : Demand) → wanted ≡ Some d → queued t j ≤ frames_wanted (wait + 1 + (stream j).late) d * (stream j).bits)
+          → ((d : Demand) → wanted ≡ Some d → queued t j ≤ frames_wanted (wait + 1 + (stream j).jitter) d * (stream j).bits)
           → queued t j ≤ cond e (lesser (wait + 1) (stream j) wanted) 0
       go false wanted paced by = paced
       go true None paced by = paced
@@ -223,7 +225,7 @@ module _ (s : Schedule) (count : ℕ) (stream : ℕ → Stream) (demands : List 
 
   module _ (longest others own x : ℕ) (in_x : x < s.count) (is_planned : planned x ≡ true) (x_with : with_it x ≡ true)
       (x_bits : (stream (of.source x)).bits ≡ own) (small : own ≤ longest) (shortest : 1 ≤ s.bits x) (short : s.bits x ≤ longest)
-      (room : longest * (1 + others) + shares_of count stream demands may wait ≤ wait + own) where
+      (demand_fits : longest * (1 + others) + shares_of count stream demands may wait ≤ wait + own) where
     -- it has room itself
     pub some_wait : 1 ≤ wait
     some_wait =
@@ -236,7 +238,7 @@ module _ (s : Schedule) (count : ℕ) (stream : ℕ → Stream) (demands : List 
         (λ p. cond (ltb (cond (planned p && with_it p) 0 1) 1 && is_within s (s.queued x) (wait + 1) p) ((stream (of.source p)).bits) 0)
         x own in_x (rw (its) (let same = x_bits in omega (arith, same))) in
         let all = window (s.queued x) in
-        omega (arith, one, all, room, shortest, short)
+        omega (arith, one, all, demand_fits, shortest, short)
 
     module _ (first : ℕ → Bool) (itself : first x ≡ false) (first_with : (p : ℕ) → planned p ≡ true → first p ≡ true → with_it p ≡ true)
         (begin : ℕ) (early : begin ≤ s.queued x) where
@@ -287,4 +289,4 @@ module _ (s : Schedule) (count : ℕ) (stream : ℕ → Stream) (demands : List 
       too_full is_busy fewer =
           too_many k longest wait others own shares (going_demand s planned first begin (suc k * (wait + 1)))
           (longest * others_going s planned first begin (s.queued x + wait)) (is_busy.busy (suc k * (wait + 1)) windows) all_planned
-          (mul-le-mul_left longest fewer) room small
+          (mul-le-mul_left longest fewer) demand_fits small

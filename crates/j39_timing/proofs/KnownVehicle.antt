@@ -3,7 +3,7 @@ use Rattle.std.proofs.Common.{◌≡◌, ℕ, zero, suc, ◌+◌, ◌*◌, ◌<�
 use Rattle.j39_timing.specs.Sums.{total}
 use Rattle.j39_timing.specs.TimedFrames.{IsLegal}
 use Rattle.j39_timing.specs.FrameStreams.{AreOfStreams}
-use Rattle.j39_timing.specs.Traffic.{HasRoom, no_twins, others_queued}
+use Rattle.j39_timing.specs.Traffic.{DemandFits, no_twins, others_queued}
 use Rattle.j39_timing.specs.Prefixes.{IsPlannedUntil, planned_until}
 use Rattle.j39_timing.specs.Gateways.{IsHandedOn}
 use Rattle.j39_timing.proofs.Prefixes.{begun_until}
@@ -15,9 +15,9 @@ abbrev at : ℕ → ℕ
 at zero = 0
 at (suc b) = 160
 
-abbrev late_at : ℕ → ℕ
-late_at zero = 0
-late_at (suc b) = 480
+abbrev jitter_at : ℕ → ℕ
+jitter_at zero = 0
+jitter_at (suc b) = 480
 
 abbrev behind_at : ℕ → ℕ → ℕ
 behind_at zero i = 320
@@ -35,7 +35,7 @@ one_bus b = record {
   of = record { source = λ p. 0; turn = λ p. 0; since = λ p. 0 };
   traffic = record {
     count = 1;
-    stream = λ j. record { frames = 1; period = 10000; bits = 160; late = late_at b; wanted = None };
+    stream = λ j. record { frames = 1; period = 10000; bits = 160; jitter = jitter_at b; wanted = None };
     demands = [];
     least = λ j. 5;
     greatest = λ j. 5;
@@ -43,7 +43,7 @@ one_bus b = record {
   };
   others = record { least = 6; count = 0 };
   longest = 160;
-  moment = λ p. 0;
+  release = λ p. 0;
 }
 
 abbrev pub vehicle : Vehicle
@@ -78,7 +78,7 @@ handed zero i is = absurd cc
 handed (suc b) i is = record {
   what = λ q. 0;
   begun = λ q its. ((omega arith, refl, refl), omega arith);
-  moments = λ q its. refl;
+  releases = λ q its. refl;
   after = λ q its. omega arith;
   within_time = λ q its. omega arith;
   different = λ p q its other differ same. differ (only p q its.0 other.0);
@@ -90,16 +90,18 @@ none_others : (b c from to : ℕ) → others_queued (one_bus b).schedule (one_bu
 unfolding total
 none_others b c from to = omega arith
 
-room : (b i : ℕ) → HasRoom (one_bus b).traffic (one_bus b).others 160 0 160
+demand_fits : (b i : ℕ) → DemandFits (one_bus b).traffic (one_bus b).others 160 0 160
 unfolding total
-room b i = omega arith
+demand_fits b i = omega arith
 
-known_until : (b by : ℕ) → AreOfStreams (one_bus b).schedule (λ p. planned_until (one_bus b).schedule (one_bus b).planned by p ≡ true) 1 (one_bus b).traffic.stream (one_bus b).of
+known_until : (b by : ℕ)
+    → AreOfStreams (one_bus b).schedule (λ p. planned_until (one_bus b).schedule (one_bus b).planned by p ≡ true) 1 (one_bus b).traffic.stream (one_bus b).of
     → IsPlannedUntil (one_bus b).schedule (one_bus b).traffic (one_bus b).others 160 (one_bus b).planned (one_bus b).of 0 by
 known_until b by streams = record {
   longest_at_most = λ p in_p. omega arith;
   of_streams = streams;
-  as_wanted = nothing_wanted (one_bus b).schedule (planned_until (one_bus b).schedule (one_bus b).planned by) (one_bus b).of [] (one_bus b).traffic.stream (λ j. refl);
+  as_wanted =
+      nothing_wanted (one_bus b).schedule (planned_until (one_bus b).schedule (one_bus b).planned by) (one_bus b).of [] (one_bus b).traffic.stream (λ j. refl);
   from_least = λ p in_p is. omega arith;
   to_greatest = λ p in_p is source. omega arith;
   own_identifier = λ p q t in_p in_q seen is shared at_p at_q same. (refl, refl);
@@ -107,15 +109,15 @@ known_until b by streams = record {
   few_others = λ p from to in_p is source seen waits stretch. none_others b 5 from to;
 }
 
-late_first : (b i : ℕ) → is_further b i ≡ true → 320 + 160 ≤ 1 * late_at b
+late_first : (b i : ℕ) → is_further b i ≡ true → 320 + 160 ≤ 1 * jitter_at b
 late_first zero i is = absurd cc
 late_first (suc b) i is = omega arith
 
-own_late_at : (b : ℕ) → is_further b 0 ≡ false → at b ≤ 0 + late_at b
-own_late_at zero is = omega arith
-own_late_at (suc b) is = absurd cc
+own_jitter_at : (b : ℕ) → is_further b 0 ≡ false → at b ≤ 0 + jitter_at b
+own_jitter_at zero is = omega arith
+own_jitter_at (suc b) is = absurd cc
 
-behind_its_own : (b i : ℕ) → is_further b i ≡ false → 1 * (late_at b + (160 + 160)) ≤ behind_at b i
+behind_its_own : (b i : ℕ) → is_further b i ≡ false → 1 * (jitter_at b + (160 + 160)) ≤ behind_at b i
 behind_its_own zero i is = omega arith
 behind_its_own (suc b) i is = absurd cc
 
@@ -132,15 +134,15 @@ known = record {
   bits_at_most = λ b p its. omega arith;
   turns = λ b p its. omega arith;
   own_first = λ b p its own. omega arith;
-  own_late = λ b p its own. own_late_at b own;
-  own_moment = λ b p its own. refl;
+  own_jitter = λ b p its own. own_jitter_at b own;
+  own_release = λ b p its own. refl;
   own_spaced = λ b p q its other differ own source turn. absurd (differ (only p q its.0 other.0));
   handed = handed;
   single = λ b i is. refl;
   input_single = λ b i is. refl;
   input_begun = λ b i by is seen streams. begun_until (one_bus 0).schedule (one_bus 0).traffic (one_bus 0).others 160 (one_bus 0).planned (one_bus 0).of 0
-      by seen (known_until 0 by streams) (legal 0) 160 (λ j in_j. omega arith) (room 0 i) refl (omega arith);
-  late_enough = late_first;
+      by seen (known_until 0 by streams) (legal 0) 160 (λ j in_j. omega arith) (demand_fits 0 i) refl (omega arith);
+  jitter_enough = late_first;
   often_enough = λ b i is. omega arith;
   behind_own = behind_its_own;
   behind_direct = behind_further;

@@ -1,5 +1,6 @@
 -- Below the wait from which the loads allow it nothing has room.
-use Rattle.std.proofs.Common.{◌≡◌, ℕ, ◌+◌, ◌*◌, ◌-◌, ◌/◌, ◌^◌, ◌<◌, ◌≤◌, max, min, List, length, take, get_or, All, map, sum_by, None, Some, arith, inl, inr, sym, ap, ◌∙◌}
+use Rattle.std.proofs.Common.{◌≡◌, ℕ, ◌+◌, ◌*◌, ◌-◌, ◌/◌, ◌^◌, ◌<◌, ◌≤◌, max, min, List, length, take, get_or, All, map, sum_by, None, Some, arith, inl, inr}
+use Rattle.std.proofs.Common.{sym, ap, ◌∙◌}
 use Rattle.std.specs.Int.{div_ceil}
 use Rattle.std.specs.List.{slice_get}
 use Rattle.std.specs.Option.{option_map}
@@ -8,14 +9,15 @@ use Rattle.std.proofs.lemmas.Grind.{div_ceil_times}
 use Rattle.std.proofs.lemmas.Option.{slice_get-map}
 use Rattle.std.proofs.lemmas.List.Sums.{sum_by_more}
 use Rattle.std.proofs.Math.Nat.{div-mul-le_self, div-le_self, lt-mul-div-succ, mul-le-mul_left}
-use Rattle.j39_timing.specs.LeastShares.{HaveNoRoomFrom, IsLineBelow, IsStretchBelow, line_at, part_of}
-use Rattle.j39_timing.specs.Waits.{Demand, HaveNoRoom, IsStream, IsWant, as_demand, demand_of, frames_of_want, frames_wanted, lesser, lesser_share, need, share}
+use Rattle.j39_timing.specs.LeastShares.{NoneFitsFrom, IsLineBelow, IsStretchBelow, line_at, part_of}
+use Rattle.j39_timing.specs.Waits.{Demand, NoShorterFits, IsStream, IsWant, as_demand, demand_of, frames_of_want, frames_wanted, lesser, lesser_share, need}
+use Rattle.j39_timing.specs.Waits.{share}
 use Rattle.j39_timing.specs.declared.lines.Line.{Line}
 use Rattle.j39_timing.specs.declared.lines.Stretch.{Stretch}
 use Rattle.j39_timing.specs.declared.stream.Stream.{Stream}
 use Rattle.j39_timing.specs.declared.wants.Want.{Want}
 use Rattle.j39_timing.specs.declared.wants.Wanted.{Wanted}
-use Rattle.j39_timing.proofs.Needs.{AreDemands, no_room, want-mono}
+use Rattle.j39_timing.proofs.Needs.{AreDemands, none_fits, want-mono}
 
 pub part-small : (x : Stream) → IsStream x → part_of x ≤ 2 ^ 50
 part-small x ok =
@@ -40,7 +42,7 @@ takes x late period frames bits some =
 
 -- a stream queues its part of the bus at least
 pub takes-part : (x : ℕ) (stream : Stream) → IsStream stream → part_of stream * x ≤ 2 ^ 32 * share x stream
-takes-part x stream ok = takes x stream.late stream.period stream.frames stream.bits ok.0
+takes-part x stream ok = takes x stream.jitter stream.period stream.frames stream.bits ok.0
 
 -- and it asks for no less in a longer time
 pub wants-before : (x span bits : ℕ) (want : Want) → IsWant want → span ≤ x
@@ -53,9 +55,9 @@ wants-before x span bits want ok from =
 pub wants-part : (x bits : ℕ) (want : Want) → IsWant want
     → 2 ^ 32 * (want.frames * bits) + want.frames * bits * 2 ^ 32 / want.period * x ≤ 2 ^ 32 * (frames_of_want x want * bits)
 wants-part x bits want ok =
-    let part : want.frames * bits * 2 ^ 32 / want.period * x ≤ 2 ^ 32 * (want.frames * (div_ceil (x + want.late) want.period * bits)) =
-    takes x want.late want.period want.frames bits ok.0 in
-    let more : frames_of_want x want * bits ≡ want.frames * (div_ceil (x + want.late) want.period * bits) + want.frames * bits = grind arith in
+    let part : want.frames * bits * 2 ^ 32 / want.period * x ≤ 2 ^ 32 * (want.frames * (div_ceil (x + want.jitter) want.period * bits)) =
+    takes x want.jitter want.period want.frames bits ok.0 in
+    let more : frames_of_want x want * bits ≡ want.frames * (div_ceil (x + want.jitter) want.period * bits) + want.frames * bits = grind arith in
     omega (arith, part, more)
 
 -- ---- what is wanted of a stream
@@ -91,13 +93,14 @@ module _ (paced asked k : ℕ) (less : asked < paced) where
       omega (arith, reached, most, all)
 
 module _ (stream : Stream) (demand : Demand) (asked : Line) (span : ℕ) (ok : IsStream stream)
-    (below : IsLineBelow asked (span + stream.late) (λ n. frames_wanted n demand * stream.bits)) where
+    (below : IsLineBelow asked (span + stream.jitter) (λ n. frames_wanted n demand * stream.bits)) where
   -- what is below both is below the lesser
   below-both : (x low : ℕ) → span ≤ x → low ≤ part_of stream * x → low ≤ line_at x asked → low ≤ 2 ^ 32 * lesser x stream (Some demand)
   below-both x low from first second =
       let paced : part_of stream * x ≤ 2 ^ 32 * share x stream = takes-part x stream ok in
-      let later : asked.part * x ≤ asked.part * (x + stream.late) = mul-le-mul_left asked.part (omega arith) in
-      let wanted : line_at (x + stream.late) asked ≤ 2 ^ 32 * (frames_wanted (x + stream.late) demand * stream.bits) = below (x + stream.late) (omega (arith, from)) in
+      let later : asked.part * x ≤ asked.part * (x + stream.jitter) = mul-le-mul_left asked.part (omega arith) in
+      let wanted : line_at (x + stream.jitter) asked ≤ 2 ^ 32 * (frames_wanted (x + stream.jitter) demand * stream.bits) =
+      below (x + stream.jitter) (omega (arith, from)) in
       omega (arith, first, second, paced, later, wanted)
 
   -- its pace alone, where no less is wanted
@@ -151,18 +154,20 @@ one-more-stream demands a b span xs i d inside first second x from within =
 module _ (demands : List Demand) (blocking w : ℕ) (xs : List Stream) (stretch : Stretch)
     (below : IsStretchBelow stretch (w + 1) (λ x. sum_by (lesser_share demands x) xs)) where
   -- the parts take all of the bus
-  pub never : 2 ^ 32 ≤ stretch.line.part → HaveNoRoomFrom demands blocking xs w stretch.until
+  pub never : 2 ^ 32 ≤ stretch.line.part → NoneFitsFrom demands blocking xs w stretch.until
   never full v from before =
-      let taken : line_at (v + 1) stretch.line ≤ 2 ^ 32 * sum_by (lesser_share demands (v + 1)) xs = below (v + 1) (omega (arith, from)) (omega (arith, before)) in
+      let taken : line_at (v + 1) stretch.line ≤ 2 ^ 32 * sum_by (lesser_share demands (v + 1)) xs =
+      below (v + 1) (omega (arith, from)) (omega (arith, before)) in
       let most : (v + 1) * 2 ^ 32 ≤ (v + 1) * stretch.line.part = mul-le-mul_left (v + 1) full in
       let turned : (v + 1) * stretch.line.part ≡ stretch.line.part * (v + 1) = grind arith in
       omega (arith, taken, most, turned)
 
   -- they leave some
   pub allowed : (bits : ℕ) → stretch.line.part < 2 ^ 32 → bits ≡ (blocking + stretch.line.known) * 2 ^ 32 + stretch.line.part
-      → HaveNoRoomFrom demands blocking xs w (min (div_ceil bits (2 ^ 32 - stretch.line.part)) stretch.until)
+      → NoneFitsFrom demands blocking xs w (min (div_ceil bits (2 ^ 32 - stretch.line.part)) stretch.until)
   allowed bits left bits_are v from before =
-      let taken : line_at (v + 1) stretch.line ≤ 2 ^ 32 * sum_by (lesser_share demands (v + 1)) xs = below (v + 1) (omega (arith, from)) (omega (arith, before)) in
+      let taken : line_at (v + 1) stretch.line ≤ 2 ^ 32 * sum_by (lesser_share demands (v + 1)) xs =
+      below (v + 1) (omega (arith, from)) (omega (arith, before)) in
       let parts : ℕ = stretch.line.part in
       let free : ℕ = 2 ^ 32 - parts in
       let whole : free + parts ≡ 2 ^ 32 = omega (arith, left) in
@@ -176,13 +181,13 @@ module _ (demands : List Demand) (blocking w : ℕ) (xs : List Stream) (stretch 
       omega (arith, taken, above, few, turned, one, next, all_of, bits_are)
 
 -- up to a wait none has room, nor from there on up to what it needs, nor up to what is allowed: so none has up to the greater one of both
-pub no_room_below : (demands : List Demand) (blocking : ℕ) (xs : List Stream) (w needed first next : ℕ) → AreDemands demands → All IsStream xs
-    → HaveNoRoom demands blocking xs w → needed ≤ need demands blocking xs w → HaveNoRoomFrom demands blocking xs w first → next ≤ max needed first
-    → HaveNoRoom demands blocking xs next
-no_room_below demands blocking xs w needed first next known all none within allows most v below = elim (cases_lt v w) [
+pub none_fits_below : (demands : List Demand) (blocking : ℕ) (xs : List Stream) (w needed first next : ℕ) → AreDemands demands → All IsStream xs
+    → NoShorterFits demands blocking xs w → needed ≤ need demands blocking xs w → NoneFitsFrom demands blocking xs w first → next ≤ max needed first
+    → NoShorterFits demands blocking xs next
+none_fits_below demands blocking xs w needed first next known all none within allows most v below = elim (cases_lt v w) [
   | inl before ↦ none v before
   | inr from ↦ elim (cases_lt v first) [
     | inl early ↦ allows v from early
-    | inr late ↦ no_room demands blocking xs w needed known all none within v (omega (arith, below, most, late))
+    | inr late ↦ none_fits demands blocking xs w needed known all none within v (omega (arith, below, most, late))
   ]
 ]

@@ -5,7 +5,8 @@ use Rattle.std.proofs.lemmas.List.Sums.{sum_by-cons}
 use Rattle.j39_timing.specs.declared.stream.Stream.{Stream}
 use Rattle.j39_timing.specs.TimedFrames.{Schedule}
 use Rattle.j39_timing.specs.FrameStreams.{Origins}
-use Rattle.j39_timing.specs.Messages.{LongMessage, AreSentInTurn, AreSentWithin, FollowInTurn, IsBroadcast, IsOf, all_whole_at, frame_end, packets_end, time_of_message, time_of_messages, whole_at}
+use Rattle.j39_timing.specs.Messages.{LongMessage, AreSentInTurn, AreSentWithin, FollowInTurn, IsBroadcast, IsOf, all_whole_at, frame_end, packets_end}
+use Rattle.j39_timing.specs.Messages.{time_of_message, time_of_messages, whole_at}
 
 module _ (s : Schedule) (planned : ℕ → Bool) (of : Origins) (a d gap wait_a wait_d : ℕ) (stream_a stream_d : Stream)
     (first : AreSentWithin s planned of a stream_a wait_a) (rest : AreSentWithin s planned of d stream_d wait_d) where

@@ -1,5 +1,6 @@
 -- What streams need in a wait: a bound, and that a longer wait needs no less.
-use Rattle.std.proofs.Common.{◌≡◌, ℕ, ◌+◌, ◌*◌, ◌^◌, ◌<◌, ◌≤◌, List, [], ◌∷◌, length, map, All, sum_by, Option, None, Some, IfSome, refl, subst, arith, inl, inr}
+use Rattle.std.proofs.Common.{◌≡◌, ℕ, ◌+◌, ◌*◌, ◌^◌, ◌<◌, ◌≤◌, List, [], ◌∷◌, length, map, All, sum_by, Option, None, Some, IfSome, refl, subst, arith, inl}
+use Rattle.std.proofs.Common.{inr}
 use Rattle.std.specs.Int.{div_ceil}
 use Rattle.std.proofs.lemmas.Bool.{cases_lt}
 use Rattle.std.proofs.lemmas.Grind.{div_ceil_times}
@@ -9,7 +10,8 @@ use Rattle.std.proofs.lemmas.List.Sums.{sum_by-cons, sum_by-le}
 use Rattle.std.proofs.Math.Nat.{mul-le-mul_left, lt_of_mul-lt-mul_right}
 use Rattle.std.specs.List.{slice_get}
 use Rattle.std.specs.Option.{option_and_then}
-use Rattle.j39_timing.specs.Waits.{Demand, IsDemand, IsStream, IsWant, IsWanted, HaveNoRoom, as_demand, demand_of, frames_of_want, frames_wanted, lesser, lesser_share, need, share}
+use Rattle.j39_timing.specs.Waits.{Demand, IsDemand, IsStream, IsWant, IsWanted, NoShorterFits, as_demand, demand_of, frames_of_want, frames_wanted, lesser}
+use Rattle.j39_timing.specs.Waits.{lesser_share, need, share}
 use Rattle.j39_timing.specs.declared.stream.Stream.{Stream}
 use Rattle.j39_timing.specs.declared.wants.Want.{Want}
 use Rattle.j39_timing.specs.declared.wants.Wanted.{Wanted}
@@ -35,28 +37,28 @@ ceil-mono a b k some le =
 
 pub share-small : (span : ℕ) (x : Stream) → span < 2 ^ 32 → IsStream x → share span x ≤ 2 ^ 51
 share-small span x small ok =
-    let few : div_ceil (span + x.late) x.period ≤ span + x.late = ceil-le (span + x.late) x.period ok.0 in
+    let few : div_ceil (span + x.jitter) x.period ≤ span + x.jitter = ceil-le (span + x.jitter) x.period ok.0 in
     let (_, bits, frames, late) = ok in
-    let messages : div_ceil (span + x.late) x.period ≤ 2 ^ 33 = omega arith in
-    let all : div_ceil (span + x.late) x.period * x.bits ≤ div_ceil (span + x.late) x.period * 2 ^ 8 =
-    mul-le-mul_left (div_ceil (span + x.late) x.period) bits in
-    let each : div_ceil (span + x.late) x.period * x.bits ≤ 2 ^ 41 = omega arith in
-    let most : x.frames * (div_ceil (span + x.late) x.period * x.bits) ≤ x.frames * 2 ^ 41 = mul-le-mul_left x.frames each in
+    let messages : div_ceil (span + x.jitter) x.period ≤ 2 ^ 33 = omega arith in
+    let all : div_ceil (span + x.jitter) x.period * x.bits ≤ div_ceil (span + x.jitter) x.period * 2 ^ 8 =
+    mul-le-mul_left (div_ceil (span + x.jitter) x.period) bits in
+    let each : div_ceil (span + x.jitter) x.period * x.bits ≤ 2 ^ 41 = omega arith in
+    let most : x.frames * (div_ceil (span + x.jitter) x.period * x.bits) ≤ x.frames * 2 ^ 41 = mul-le-mul_left x.frames each in
     omega arith
 
 pub share-mono : (a b : ℕ) (x : Stream) → a ≤ b → IsStream x → share a x ≤ share b x
 share-mono a b x le ok =
-    let more : div_ceil (a + x.late) x.period ≤ div_ceil (b + x.late) x.period = ceil-mono (a + x.late) (b + x.late) x.period ok.0 (omega arith) in
-    let each : x.bits * div_ceil (a + x.late) x.period ≤ x.bits * div_ceil (b + x.late) x.period = mul-le-mul_left x.bits more in
-    let all : div_ceil (a + x.late) x.period * x.bits ≤ div_ceil (b + x.late) x.period * x.bits = omega arith in
+    let more : div_ceil (a + x.jitter) x.period ≤ div_ceil (b + x.jitter) x.period = ceil-mono (a + x.jitter) (b + x.jitter) x.period ok.0 (omega arith) in
+    let each : x.bits * div_ceil (a + x.jitter) x.period ≤ x.bits * div_ceil (b + x.jitter) x.period = mul-le-mul_left x.bits more in
+    let all : div_ceil (a + x.jitter) x.period * x.bits ≤ div_ceil (b + x.jitter) x.period * x.bits = omega arith in
     mul-le-mul_left x.frames all
 
 want-small : (span : ℕ) (x : Want) → span < 2 ^ 33 → IsWant x → frames_of_want span x ≤ 2 ^ 43
 want-small span x small ok =
-    let few : div_ceil (span + x.late) x.period ≤ span + x.late = ceil-le (span + x.late) x.period ok.0 in
+    let few : div_ceil (span + x.jitter) x.period ≤ span + x.jitter = ceil-le (span + x.jitter) x.period ok.0 in
     let (_, frames, late) = ok in
-    let messages : div_ceil (span + x.late) x.period + 1 ≤ 2 ^ 34 = omega (arith, few, small, late) in
-    let most : x.frames * (div_ceil (span + x.late) x.period + 1) ≤ x.frames * 2 ^ 34 = mul-le-mul_left x.frames messages in
+    let messages : div_ceil (span + x.jitter) x.period + 1 ≤ 2 ^ 34 = omega (arith, few, small, late) in
+    let most : x.frames * (div_ceil (span + x.jitter) x.period + 1) ≤ x.frames * 2 ^ 34 = mul-le-mul_left x.frames messages in
     omega (arith, most, frames)
 
 pub wants-small : (span : ℕ) (xs : List Want) → span < 2 ^ 33 → All IsWant xs → length xs ≤ 2048 → sum_by (frames_of_want span) xs ≤ 2 ^ 54
@@ -67,7 +69,7 @@ wants-small span xs small all few =
 
 pub want-mono : (a b : ℕ) (x : Want) → a ≤ b → IsWant x → frames_of_want a x ≤ frames_of_want b x
 want-mono a b x le ok =
-    let more : div_ceil (a + x.late) x.period ≤ div_ceil (b + x.late) x.period = ceil-mono (a + x.late) (b + x.late) x.period ok.0 (omega arith) in
+    let more : div_ceil (a + x.jitter) x.period ≤ div_ceil (b + x.jitter) x.period = ceil-mono (a + x.jitter) (b + x.jitter) x.period ok.0 (omega arith) in
     mul-le-mul_left x.frames (omega (arith, more))
 
 wants-mono : (a b : ℕ) (xs : List Want) → a ≤ b → All IsWant xs → sum_by (frames_of_want a) xs ≤ sum_by (frames_of_want b) xs
@@ -89,9 +91,9 @@ lesser-mono : (a b : ℕ) (x : Stream) (wanted : Option Demand) → a ≤ b → 
 lesser-mono a b x None le ok sound = share-mono a b x le ok
 lesser-mono a b x (Some demand) le ok sound =
     let paced : share a x ≤ share b x = share-mono a b x le ok in
-    let wanted : frames_wanted (a + x.late) demand ≤ frames_wanted (b + x.late) demand =
-    (let wants = wants-mono (a + x.late) (b + x.late) demand.wants (omega arith) sound.2 in omega (arith, wants)) in
-    let bits : x.bits * frames_wanted (a + x.late) demand ≤ x.bits * frames_wanted (b + x.late) demand = mul-le-mul_left x.bits wanted in
+    let wanted : frames_wanted (a + x.jitter) demand ≤ frames_wanted (b + x.jitter) demand =
+    (let wants = wants-mono (a + x.jitter) (b + x.jitter) demand.wants (omega arith) sound.2 in omega (arith, wants)) in
+    let bits : x.bits * frames_wanted (a + x.jitter) demand ≤ x.bits * frames_wanted (b + x.jitter) demand = mul-le-mul_left x.bits wanted in
     omega (arith, paced, bits)
 
 pub demand-sound : (demands : List Demand) (x : Stream) → AreDemands demands → IfSome (demand_of demands x) IsDemand
@@ -133,9 +135,9 @@ shares-small demands span xs small all few =
     omega arith
 
 -- where a wait has no room and all shorter ones have none, none up to what it needs has
-pub no_room : (demands : List Demand) (blocking : ℕ) (xs : List Stream) (w n : ℕ) → AreDemands demands → All IsStream xs
-    → HaveNoRoom demands blocking xs w → n ≤ need demands blocking xs w → HaveNoRoom demands blocking xs n
-no_room demands blocking xs w n known all none within v less = elim (cases_lt v w) [
+pub none_fits : (demands : List Demand) (blocking : ℕ) (xs : List Stream) (w n : ℕ) → AreDemands demands → All IsStream xs
+    → NoShorterFits demands blocking xs w → n ≤ need demands blocking xs w → NoShorterFits demands blocking xs n
+none_fits demands blocking xs w n known all none within v less = elim (cases_lt v w) [
   | inl before ↦ none v before
   | inr from ↦
       let more : sum_by (lesser_share demands (w + 1)) xs ≤ sum_by (lesser_share demands (v + 1)) xs =

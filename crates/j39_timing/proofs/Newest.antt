@@ -1,4 +1,4 @@
--- Of a stream of single frames, each of which is sent within its period, the one that has ended last has the last moment.
+-- Of a stream of single frames, each of which is sent within its period, the one that has ended last has the last release.
 use Rattle.std.proofs.Common.{◌≡◌, ◌≢◌, ℕ, ◌+◌, ◌-◌, ◌<◌, ◌≤◌, Bool, true, ◌&&◌, eqb, leb, ltb, refl, sym, ap, ◌∙◌, subst, arith, inl, inr}
 use Rattle.std.proofs.lemmas.Bool.{and_parts, cases_lt, eq-eqb, eqb-true, leb-true, le-leb, lt-ltb, ltb-true}
 use Rattle.j39_timing.specs.declared.stream.Stream.{Stream}
@@ -41,7 +41,7 @@ module _ (s : Schedule) (planned : ℕ → Bool) (of : Origins) (i t : ℕ) wher
         },
       )
 
--- ---- it has the last moment
+-- ---- it has the last release
 
 module _ (s : Schedule) (positive : (p : ℕ) → p < s.count → 1 ≤ s.bits p) (queued_first : (p : ℕ) → p < s.count → s.queued p ≤ s.start p)
     (planned : ℕ → Bool) (of : Origins) (count : ℕ) (stream : ℕ → Stream) (i wait : ℕ) (come : ComeOneByOne s planned of count stream i wait) where
@@ -56,14 +56,14 @@ module _ (s : Schedule) (positive : (p : ℕ) → p < s.count → 1 ≤ s.bits p
       let single = come.single in
       omega (arith, here, single)
 
-  -- one that had its moment before another has ended before this one ends
+  -- one that had its release before another has ended before this one ends
   before : (p r : ℕ) → p < s.count → planned p ≡ true → of.source p ≡ i → r < s.count → planned r ≡ true → of.source r ≡ i
-      → of.since p < of.since r → of.since r + ((stream i).late + wait) < s.now → frame_end s p < frame_end s r
+      → of.since p < of.since r → of.since r + ((stream i).jitter + wait) < s.now → frame_end s p < frame_end s r
   before p r in_p is_p of_p in_r is_r of_r less seen =
       let other : p ≢ r = λ same. let equal = ap of.since same in omega (arith, equal, less) in
       let turn : of.turn p ≡ of.turn r = first_turn p in_p is_p of_p ∙ sym (first_turn r in_r is_r of_r) in
       let apart = come.of_streams.spaced p r in_p in_r other is_p is_r (of_p ∙ sym of_r) turn in
-      let late = (come.of_streams.keeps r in_r is_r).moment_first in
+      let late = (come.of_streams.keeps r in_r is_r).release_first in
       let begun = queued_first r in_r in
       let some = positive r in_r in
       let sent = (come.in_time p in_p is_p of_p (omega (arith, less, seen))).1 in
@@ -76,17 +76,17 @@ module _ (s : Schedule) (positive : (p : ℕ) → p < s.count → 1 ≤ s.bits p
         | inr ahead ↦ absurd (omega (arith, ahead, less))
       ]
 
-  pub newest_fresh : (pause from to : ℕ) → KeepsComing s planned of i pause from to → to + ((stream i).late + wait) < s.now
+  pub newest_fresh : (pause from to : ℕ) → KeepsComing s planned of i pause from to → to + ((stream i).jitter + wait) < s.now
       → IsNewestFresh s planned of i (pause + delay) (from + delay) (to + delay)
   newest_fresh pause from to coming seen t low high =
-      let (r, in_r, is_r, of_r, moment, near) = coming (t - delay) (omega arith) (omega arith) in
-      let sent = (come.in_time r in_r is_r of_r (omega (arith, moment, high, seen))).1 in
-      let over : HasEnded s planned of i t r = record { its = (in_r, is_r, of_r); ended = omega (arith, sent, moment, low) } in (
+      let (r, in_r, is_r, of_r, release, near) = coming (t - delay) (omega arith) (omega arith) in
+      let sent = (come.in_time r in_r is_r of_r (omega (arith, release, high, seen))).1 in
+      let over : HasEnded s planned of i t r = record { its = (in_r, is_r, of_r); ended = omega (arith, sent, release, low) } in (
         newest s planned of i t r over,
         λ p is. elim (cases_lt (of.since p) (of.since r)) [
           | inl less ↦
               let (in_p, is_p, of_p) = is.has_ended.its in
-              let first = before p r in_p is_p of_p in_r is_r of_r less (omega (arith, moment, high, seen)) in
+              let first = before p r in_p is_p of_p in_r is_r of_r less (omega (arith, release, high, seen)) in
               let last = is.last r over in
               absurd (omega (arith, first, last))
           | inr later ↦ omega (arith, later, near, low)
@@ -94,14 +94,14 @@ module _ (s : Schedule) (positive : (p : ℕ) → p < s.count → 1 ≤ s.bits p
       )
 
 pub newest_in_order : (s : Schedule) (planned : ℕ → Bool) (of : Origins) (count : ℕ) (stream : ℕ → Stream) (i wait pause from to : ℕ) → IsLegal s
-    → ComeOneByOne s planned of count stream i wait → KeepsComing s planned of i pause from to → to + ((stream i).late + wait) < s.now
+    → ComeOneByOne s planned of count stream i wait → KeepsComing s planned of i pause from to → to + ((stream i).jitter + wait) < s.now
     → IsNewestFresh s planned of i (pause + delay_of (stream i) wait) (from + delay_of (stream i) wait) (to + delay_of (stream i) wait)
 newest_in_order s planned of count stream i wait pause from to legal come =
     newest_fresh s legal.positive legal.queued_first planned of count stream i wait come pause from to
 
 pub newest_in_any_order : (s : Schedule) (controllers : Controllers) (planned : ℕ → Bool) (of : Origins) (count : ℕ) (stream : ℕ → Stream)
     (i wait pause from to : ℕ) → IsLegalInAnyOrder s controllers
-    → ComeOneByOne s planned of count stream i wait → KeepsComing s planned of i pause from to → to + ((stream i).late + wait) < s.now
+    → ComeOneByOne s planned of count stream i wait → KeepsComing s planned of i pause from to → to + ((stream i).jitter + wait) < s.now
     → IsNewestFresh s planned of i (pause + delay_of (stream i) wait) (from + delay_of (stream i) wait) (to + delay_of (stream i) wait)
 newest_in_any_order s controllers planned of count stream i wait pause from to legal come =
     newest_fresh s legal.positive legal.queued_first planned of count stream i wait come pause from to

@@ -1,14 +1,17 @@
 -- Frames of a stream of single frames, among planned frames of other streams and some of none, are in time where the wait has room.
-use Rattle.std.proofs.Common.{◌≡◌, ◌≢◌, ℕ, ◌+◌, ◌*◌, ◌<◌, ◌≤◌, ◌⊎◌, Bool, true, false, not, cond, ◌&&◌, ◌||◌, eqb, ltb, leb, refl, sym, subst, ap, ◌∙◌, arith, inl, inr}
+use Rattle.std.proofs.Common.{◌≡◌, ◌≢◌, ℕ, ◌+◌, ◌*◌, ◌<◌, ◌≤◌, ◌⊎◌, Bool, true, false, not, cond, ◌&&◌, ◌||◌, eqb, ltb, leb, refl, sym, subst, ap, ◌∙◌, arith}
+use Rattle.std.proofs.Common.{inl, inr}
 use Rattle.std.proofs.Math.Nat.{mul-le-mul_left}
 use Rattle.std.specs.Int.{div_ceil}
-use Rattle.std.proofs.lemmas.Bool.{and_parts, and_from, cases_lt, cases_Bool, or_cases, or_left, or_right, le-leb, lt-ltb, leb-true, ltb-true, eqb-true, eq-eqb, both_ways}
+use Rattle.std.proofs.lemmas.Bool.{and_parts, and_from, cases_lt, cases_Bool, or_cases, or_left, or_right, le-leb, lt-ltb, leb-true, ltb-true, eqb-true, eq-eqb}
+use Rattle.std.proofs.lemmas.Bool.{both_ways}
 use Rattle.std.proofs.lemmas.Grind.{div_ceil_times}
 use Rattle.j39_timing.specs.Sums.{total}
 use Rattle.j39_timing.specs.TimedFrames.{Schedule, IsLegal, Waits}
 use Rattle.j39_timing.specs.declared.stream.Stream.{Stream}
 use Rattle.j39_timing.specs.FrameStreams.{Origins, AreOfStreams}
-use Rattle.j39_timing.specs.Traffic.{Traffic, Others, IsPlannedTraffic, IsSingle, HasRoom, IsStreamInTime, PlannedFramesWait, AreQueuedBehind, AreSteady, delay_of}
+use Rattle.j39_timing.specs.Traffic.{Traffic, Others, IsPlannedTraffic, IsSingle, DemandFits, IsStreamInTime, PlannedFramesWait, AreQueuedBehind, AreSteady}
+use Rattle.j39_timing.specs.Traffic.{delay_of}
 use Rattle.j39_timing.specs.Traffic.{may_go_before, may_share, others_before, others_queued, is_other_queued}
 use Rattle.j39_timing.specs.Messages.{AreSentWithin}
 use Rattle.j39_timing.specs.Waits.{demand_of, lesser_share, share}
@@ -16,7 +19,8 @@ use Rattle.j39_timing.proofs.FullWindows.{shares_of, some_wait, too_full, window
 use Rattle.j39_timing.proofs.StreamSums.{at_most_one}
 use Rattle.j39_timing.proofs.Sums.{total-le, total-none, total-two}
 use Rattle.j39_timing.proofs.Demands.{lesser-most}
-use Rattle.j39_timing.proofs.WaitingWindow.{GoingWait, IsBusyFrom, busy_from, busy_with, is_other_going, is_planned_within, is_within, others_going, planned_demand}
+use Rattle.j39_timing.proofs.WaitingWindow.{GoingWait, IsBusyFrom, busy_from, busy_with, is_other_going, is_planned_within, is_within, others_going}
+use Rattle.j39_timing.proofs.WaitingWindow.{planned_demand}
 
 -- what counts of a stream, where it is the frame's own, or may go before
 counted : (own goes : Bool) (itself other longest : ℕ) → (own ≡ true → itself ≤ longest) → (own ≡ false → itself ≤ other)
@@ -27,7 +31,7 @@ counted false false itself other longest small less = omega arith
 
 module _ (s : Schedule) (traffic : Traffic) (others : Others) (longest : ℕ) (planned : ℕ → Bool) (of : Origins) (legal : IsLegal s)
     (i wait : ℕ) (known : IsPlannedTraffic s traffic others longest planned of i)
-    (positive : (j : ℕ) → j < traffic.count → 0 < (traffic.stream j).period) (room : HasRoom traffic others longest i wait) where
+    (positive : (j : ℕ) → j < traffic.count → 0 < (traffic.stream j).period) (demand_fits : DemandFits traffic others longest i wait) where
   abbrev own : ℕ → Bool
   own p = planned p && eqb (of.source p) i
 
@@ -86,7 +90,7 @@ module _ (s : Schedule) (traffic : Traffic) (others : Others) (longest : ℕ) (p
         rw (none) (omega arith)
   ]
 
-  -- ---- single frames whose moments are a period apart
+  -- ---- single frames whose releases are a period apart
 
   module _ (single : IsSingle (traffic.stream i)) (fits : delay_of (traffic.stream i) wait ≤ (traffic.stream i).period) where
     -- the streams, where a frame of this one is as long as any
@@ -95,7 +99,7 @@ module _ (s : Schedule) (traffic : Traffic) (others : Others) (longest : ℕ) (p
       frames = (traffic.stream j).frames;
       period = (traffic.stream j).period;
       bits = cond (eqb j i) longest (traffic.stream j).bits;
-      late = (traffic.stream j).late;
+      jitter = (traffic.stream j).jitter;
       wanted = (traffic.stream j).wanted;
     }
 
@@ -110,8 +114,8 @@ module _ (s : Schedule) (traffic : Traffic) (others : Others) (longest : ℕ) (p
               | false ↦ keeps.bits_at_most
             ];
             turns = keeps.turns;
-            moment_first = keeps.moment_first;
-            late_at_most = keeps.late_at_most;
+            release_first = keeps.release_first;
+            jitter_at_most = keeps.jitter_at_most;
           };
       spaced = known.of_streams.spaced;
     }
@@ -135,15 +139,16 @@ module _ (s : Schedule) (traffic : Traffic) (others : Others) (longest : ℕ) (p
       short = known.longest_at_most x in_x
 
       -- of its stream no other frame is queued in a wait and the bit behind
-      one_message : div_ceil (wait + 1 + (traffic.stream i).late) (traffic.stream i).period ≤ 1
+      one_message : div_ceil (wait + 1 + (traffic.stream i).jitter) (traffic.stream i).period ≤ 1
       one_message =
-          let bits : s.bits x ≤ (traffic.stream i).bits = subst (λ j. s.bits x ≤ (traffic.stream j).bits) source (known.of_streams.keeps x in_x is_planned).bits_at_most in
+          let bits : s.bits x ≤ (traffic.stream i).bits =
+          subst (λ j. s.bits x ≤ (traffic.stream j).bits) source (known.of_streams.keeps x in_x is_planned).bits_at_most in
           let some = shortest in
-          let few_slots = (div_ceil_times (wait + 1 + (traffic.stream i).late) (traffic.stream i).period (omega (arith, bits, some, fits))).1 in
-          elim (cases_lt 1 (div_ceil (wait + 1 + (traffic.stream i).late) (traffic.stream i).period)) [
+          let few_slots = (div_ceil_times (wait + 1 + (traffic.stream i).jitter) (traffic.stream i).period (omega (arith, bits, some, fits))).1 in
+          elim (cases_lt 1 (div_ceil (wait + 1 + (traffic.stream i).jitter) (traffic.stream i).period)) [
             | inr one ↦ one
             | inl two ↦
-                let more : (traffic.stream i).period * 2 ≤ (traffic.stream i).period * div_ceil (wait + 1 + (traffic.stream i).late) (traffic.stream i).period =
+                let more : (traffic.stream i).period * 2 ≤ (traffic.stream i).period * div_ceil (wait + 1 + (traffic.stream i).jitter) (traffic.stream i).period =
                 mul-le-mul_left (traffic.stream i).period two in
                 absurd (omega (arith, more, few_slots, bits, some, fits))
           ]
@@ -161,9 +166,9 @@ module _ (s : Schedule) (traffic : Traffic) (others : Others) (longest : ℕ) (p
           (lesser_share traffic.demands (wait + 1) (traffic.stream j)) longest (λ same.
           let at : j ≡ i = eqb-true j i same in
           let frames : (traffic.stream j).frames ≡ 1 = ap (λ k. (traffic.stream k).frames) at ∙ single in
-          let slots : div_ceil (wait + 1 + (traffic.stream j).late) (traffic.stream j).period ≤ 1 =
-          subst (λ k. div_ceil (wait + 1 + (traffic.stream k).late) (traffic.stream k).period ≤ 1) (sym at) one in
-          let bits : longest * div_ceil (wait + 1 + (traffic.stream j).late) (traffic.stream j).period ≤ longest * 1 = mul-le-mul_left longest slots in
+          let slots : div_ceil (wait + 1 + (traffic.stream j).jitter) (traffic.stream j).period ≤ 1 =
+          subst (λ k. div_ceil (wait + 1 + (traffic.stream k).jitter) (traffic.stream k).period ≤ 1) (sym at) one in
+          let bits : longest * div_ceil (wait + 1 + (traffic.stream j).jitter) (traffic.stream j).period ≤ longest * 1 = mul-le-mul_left longest slots in
           let most : share (wait + 1) (streams j) ≤ longest = rw (same, frames) (omega (arith, bits)) in
           let less : lesser_share traffic.demands (wait + 1) (streams j) ≤ share (wait + 1) (streams j) =
           lesser-most (wait + 1) (streams j) (demand_of traffic.demands (streams j)) in
@@ -175,8 +180,8 @@ module _ (s : Schedule) (traffic : Traffic) (others : Others) (longest : ℕ) (p
           omega (arith, equal))) in
           omega (arith, itself, two)
 
-      roomy : longest * (1 + count) + shares_of traffic.count streams traffic.demands may wait ≤ wait + longest
-      roomy = let most = shares_most in omega (arith, most, room)
+      it_fits : longest * (1 + count) + shares_of traffic.count streams traffic.demands may wait ≤ wait + longest
+      it_fits = let most = shares_most in omega (arith, most, demand_fits)
 
       -- what goes with it: frames of smaller identifiers, and of its own one those of its stream and of twins
       abbrev with_it : ℕ → Bool
@@ -210,8 +215,9 @@ module _ (s : Schedule) (traffic : Traffic) (others : Others) (longest : ℕ) (p
       x_bits = let same = eq-eqb (of.source x) i source in rw (same) refl
 
       some : 1 ≤ wait
-      some = some_wait s traffic.count streams traffic.demands planned of of_streams known.as_wanted positive may with_it goes wait longest count longest x in_x is_planned x_with x_bits
-          (omega arith) shortest short roomy
+      some =
+          some_wait s traffic.count streams traffic.demands planned of of_streams known.as_wanted positive may with_it goes wait longest count longest x in_x is_planned x_with x_bits
+          (omega arith) shortest short it_fits
 
       -- what goes before it: of its own identifier only planned frames do
       abbrev first : ℕ → Bool
@@ -320,7 +326,7 @@ module _ (s : Schedule) (traffic : Traffic) (others : Others) (longest : ℕ) (p
             let (begin, is_busy) = busy_with s planned first longest wait legal.positive legal.queued_first legal.never_idle known.longest_at_most x in_x
             is_planned seen late closed in
             too_full s traffic.count streams traffic.demands planned of of_streams known.as_wanted positive may with_it goes wait longest count longest x in_x is_planned x_with x_bits
-            (omega arith) shortest short roomy first itself first_with begin is_busy.before is_busy (fewer begin is_busy.waiting)
+            (omega arith) shortest short it_fits first itself first_with begin is_busy.before is_busy (fewer begin is_busy.waiting)
 
     pub begun_in_time : (p : ℕ) → p < s.count → planned p ≡ true → of.source p ≡ i → s.queued p + wait < s.now → s.start p ≤ s.queued p + wait
     begun_in_time p in_p is same seen = elim (cases_lt (s.queued p + wait) (s.start p)) [
@@ -330,8 +336,8 @@ module _ (s : Schedule) (traffic : Traffic) (others : Others) (longest : ℕ) (p
 
     pub stream_in_time : IsStreamInTime s planned of i (traffic.stream i) wait
     stream_in_time p in_p is same seen =
-        let late : s.queued p ≤ of.since p + (traffic.stream i).late =
-        subst (λ j. s.queued p ≤ of.since p + (traffic.stream j).late) same (known.of_streams.keeps p in_p is).late_at_most in
+        let late : s.queued p ≤ of.since p + (traffic.stream i).jitter =
+        subst (λ j. s.queued p ≤ of.since p + (traffic.stream j).jitter) same (known.of_streams.keeps p in_p is).jitter_at_most in
         let begins : s.start p ≤ s.queued p + wait = elim (cases_lt (s.queued p + wait) (s.start p)) [
           | inr in_time ↦ in_time
           | inl later ↦ absurd (not_late p in_p is same (omega arith) later)
@@ -401,7 +407,7 @@ module _ (s : Schedule) (traffic : Traffic) (others : Others) (longest : ℕ) (p
           let has = is_busy.busy (wait + 1) (omega arith) in
           let most = planned_most in
           let few_bits : longest * others_queued s planned (s.ident x) begin (s.queued x + wait) ≤ longest * count = mul-le-mul_left longest fewer in
-          omega (arith, has, most, few_bits, room)
+          omega (arith, has, most, few_bits, demand_fits)
 
     begins_in_time : (x : ℕ) → x < s.count → own x ≡ true → s.queued x + wait < s.now → s.start x ≤ s.queued x + wait
     begins_in_time x in_x is_x seen = elim (cases_lt (s.queued x + wait) (s.start x)) [
@@ -412,7 +418,8 @@ module _ (s : Schedule) (traffic : Traffic) (others : Others) (longest : ℕ) (p
           let positive : 1 ≤ s.bits x = legal.positive x in_x in
           let shared : may_share traffic i (of.source x) ≡ true =
           or_left (eqb (of.source x) i) (traffic.are_twins i (of.source x)) (eq-eqb (of.source x) i same) in
-          let others_none : (q : ℕ) → q < s.count → q ≢ x → s.ident q ≡ s.ident x → s.queued x < s.start q → s.start q ≤ s.queued x + wait → ⊥ = λ q in_q differ equal after within.
+          let others_none : (q : ℕ) → q < s.count → q ≢ x → s.ident q ≡ s.ident x → s.queued x < s.start q → s.start q ≤ s.queued x + wait → ⊥ =
+          λ q in_q differ equal after within.
           let first : s.queued q ≤ s.start q = legal.queued_first q in_q in
           let its = known.own_identifier x q (s.start q) in_x in_q (omega arith) is_planned shared (omega arith, omega arith) (first, omega arith) (sym equal) in
           elim (behind q x in_q in_x differ its.0 is_planned (own_source q its.1) same) [

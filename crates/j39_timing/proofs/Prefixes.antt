@@ -2,8 +2,9 @@
 use Rattle.std.proofs.Common.{◌≡◌, ℕ, ◌<◌, ◌≤◌, Bool, true, false, not, cond, ◌&&◌, ltb, leb, refl, ap, arith, inl, inr}
 use Rattle.std.proofs.lemmas.Bool.{and_parts, and_from, cases_Bool, lt-ltb, leb-true, ltb-true, both_ways}
 use Rattle.j39_timing.specs.TimedFrames.{Schedule, IsLegal}
-use Rattle.j39_timing.specs.FrameStreams.{Origins}
-use Rattle.j39_timing.specs.Traffic.{Traffic, Others, IsPlannedTraffic, IsSingle, HasRoom, PlannedFramesWait, delay_of, is_other_queued, others_queued}
+use Rattle.j39_timing.specs.declared.stream.Stream.{Stream}
+use Rattle.j39_timing.specs.FrameStreams.{AreOfStreams, Origins}
+use Rattle.j39_timing.specs.Traffic.{Traffic, Others, IsPlannedTraffic, IsSingle, DemandFits, PlannedFramesWait, delay_of, is_other_queued, others_queued}
 use Rattle.j39_timing.specs.Prefixes.{seen_until, planned_until, IsPlannedUntil, AreBegunUntil}
 use Rattle.j39_timing.proofs.PlannedTraffic.{begun_in_time}
 use Rattle.j39_timing.proofs.Sums.{total-le}
@@ -32,6 +33,21 @@ module _ (s : Schedule) (by ident : ℕ) where
         let of_p : (seen_until s by ident).ident p ≡ s.ident p = its_own p (let ready : s.queued p < s.start q = waits.0 in omega arith) in
         rw (of_q, of_p) order;
   }
+
+pub still_of_streams : (s : Schedule) (by ident : ℕ) (its : ℕ → Type 0) (count : ℕ) (stream : ℕ → Stream) (of : Origins)
+    → AreOfStreams s its count stream of → AreOfStreams (seen_until s by ident) its count stream of
+still_of_streams s by ident its count stream of known = record {
+  keeps = λ p in_p is.
+      let keeps = known.keeps p in_p is in
+      record {
+        known = keeps.known;
+        bits_at_most = keeps.bits_at_most;
+        turns = keeps.turns;
+        release_first = keeps.release_first;
+        jitter_at_most = keeps.jitter_at_most;
+      };
+  spaced = known.spaced;
+}
 
 pub is_planned_then : (s : Schedule) (planned : ℕ → Bool) (by p : ℕ) → planned_until s planned by p ≡ true → (planned p ≡ true) × (s.queued p < by)
 is_planned_then s planned by p is = let parts = and_parts (planned p) (ltb (s.queued p) by) is in (parts.0, ltb-true (s.queued p) by parts.1)
@@ -88,18 +104,7 @@ module _ (s : Schedule) (traffic : Traffic) (others : Others) (longest : ℕ) (p
   pub then_known : IsPlannedTraffic then_seen traffic others longest then_planned of i
   then_known = record {
     longest_at_most = known.longest_at_most;
-    of_streams = record {
-      keeps = λ p in_p is.
-          let keeps = known.of_streams.keeps p in_p is in
-          record {
-            known = keeps.known;
-            bits_at_most = keeps.bits_at_most;
-            turns = keeps.turns;
-            moment_first = keeps.moment_first;
-            late_at_most = keeps.late_at_most;
-          };
-      spaced = known.of_streams.spaced;
-    };
+    of_streams = still_of_streams s by others.least (λ p. then_planned p ≡ true) traffic.count traffic.stream of known.of_streams;
     as_wanted = known.as_wanted;
     from_least = λ p in_p is.
         let (plain, early) = is_planned p is in
@@ -144,8 +149,8 @@ module _ (s : Schedule) (traffic : Traffic) (others : Others) (longest : ℕ) (p
         omega (arith, fewer, most, alike);
   }
 
-  pub begun_until : IsLegal s → (wait : ℕ) → ((j : ℕ) → j < traffic.count → 0 < (traffic.stream j).period) → HasRoom traffic others longest i wait
+  pub begun_until : IsLegal s → (wait : ℕ) → ((j : ℕ) → j < traffic.count → 0 < (traffic.stream j).period) → DemandFits traffic others longest i wait
       → IsSingle (traffic.stream i) → delay_of (traffic.stream i) wait ≤ (traffic.stream i).period → AreBegunUntil s planned of i wait by
-  begun_until legal wait positive room single fits p in_p is source before =
-      begun_in_time then_seen traffic others longest then_planned of (still_legal s by others.least legal seen) i wait then_known positive room single fits
+  begun_until legal wait positive demand_fits single fits p in_p is source before =
+      begun_in_time then_seen traffic others longest then_planned of (still_legal s by others.least legal seen) i wait then_known positive demand_fits single fits
       p in_p (then_is p is (omega arith)) source before

@@ -4,7 +4,7 @@ use Rattle.std.proofs.lemmas.Bool.{and_parts, both_ways, cases_Bool, cases_eq, e
 use Rattle.j39_timing.specs.Sums.{total}
 use Rattle.j39_timing.specs.TimedFrames.{Schedule, IsLegal}
 use Rattle.j39_timing.specs.FrameStreams.{Origins}
-use Rattle.j39_timing.specs.Traffic.{Traffic, Others, IsPlannedTraffic, HasRoom, is_other_queued, no_twins, others_queued}
+use Rattle.j39_timing.specs.Traffic.{Traffic, Others, IsPlannedTraffic, DemandFits, is_other_queued, no_twins, others_queued}
 use Rattle.j39_timing.proofs.Reached.{two, two_legal}
 use Rattle.j39_timing.proofs.Sums.{total-none}
 use Rattle.j39_timing.proofs.Demands.{nothing_wanted}
@@ -12,7 +12,7 @@ use Rattle.j39_timing.proofs.Demands.{nothing_wanted}
 abbrev one_stream : Traffic
 one_stream = record {
   count = 1;
-  stream = λ j. record { frames = 1; period = 1000; bits = 160; late = 0; wanted = None };
+  stream = λ j. record { frames = 1; period = 1000; bits = 160; jitter = 0; wanted = None };
   demands = [];
   least = λ j. 0;
   greatest = λ j. 0;
@@ -47,8 +47,8 @@ two_planned = record {
       known = omega arith;
       bits_at_most = omega arith;
       turns = omega arith;
-      moment_first = omega arith;
-      late_at_most = omega arith;
+      release_first = omega arith;
+      jitter_at_most = omega arith;
     };
     spaced = λ p q _ _ differ is_p is_q _ _.
         let p_is : p ≡ 1 = eqb-true p 1 is_p in
@@ -68,11 +68,11 @@ two_planned = record {
   few_others = λ p from to _ is _ _ _ _. let none = none_before p from to is in omega (arith, none);
 }
 
-room : HasRoom one_stream no_others 160 0 160
+demand_fits : DemandFits one_stream no_others 160 0 160
 unfolding total
-room = omega arith
+demand_fits = omega arith
 
 pub reached_by_planned : (s : Schedule) × (traffic : Traffic) × (others : Others) × (planned : ℕ → Bool) × (of : Origins) × IsLegal s
-    × IsPlannedTraffic s traffic others 160 planned of 0 × HasRoom traffic others 160 0 160 × (1 < s.count) × (planned 1 ≡ true)
+    × IsPlannedTraffic s traffic others 160 planned of 0 × DemandFits traffic others 160 0 160 × (1 < s.count) × (planned 1 ≡ true)
     × (of.source 1 ≡ 0) × (s.queued 1 + 160 < s.now) × (s.start 1 ≡ s.queued 1 + 160)
-reached_by_planned = (two, one_stream, no_others, second, at_once, two_legal, two_planned, room, omega arith, refl, refl, omega arith, refl)
+reached_by_planned = (two, one_stream, no_others, second, at_once, two_legal, two_planned, demand_fits, omega arith, refl, refl, omega arith, refl)

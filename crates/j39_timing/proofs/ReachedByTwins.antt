@@ -5,7 +5,7 @@ use Rattle.std.proofs.lemmas.Bool.{and_parts, both_ways, cases_Bool, cases_lt, l
 use Rattle.j39_timing.specs.Sums.{total}
 use Rattle.j39_timing.specs.TimedFrames.{Schedule, IsLegal}
 use Rattle.j39_timing.specs.FrameStreams.{Origins}
-use Rattle.j39_timing.specs.Traffic.{Traffic, Others, IsPlannedTraffic, HasRoom, is_other_queued, others_queued}
+use Rattle.j39_timing.specs.Traffic.{Traffic, Others, IsPlannedTraffic, DemandFits, is_other_queued, others_queued}
 use Rattle.j39_timing.proofs.Sums.{total-none}
 use Rattle.j39_timing.proofs.Demands.{nothing_wanted}
 
@@ -15,7 +15,7 @@ three = record { count = 3; queued = λ p. 0; start = λ p. p * 160; bits = λ p
 abbrev two_streams : Traffic
 two_streams = record {
   count = 2;
-  stream = λ j. record { frames = 1; period = 1000; bits = 160; late = 0; wanted = None };
+  stream = λ j. record { frames = 1; period = 1000; bits = 160; jitter = 0; wanted = None };
   demands = [];
   least = λ j. 0;
   greatest = λ j. 0;
@@ -71,8 +71,8 @@ three_planned = record {
       known = let some = ltb-true 0 p is in omega (arith, some);
       bits_at_most = omega arith;
       turns = omega arith;
-      moment_first = omega arith;
-      late_at_most = omega arith;
+      release_first = omega arith;
+      jitter_at_most = omega arith;
     };
     spaced = λ p q in_p in_q differ is_p is_q same _.
         let some_p = ltb-true 0 p is_p in
@@ -92,12 +92,13 @@ three_planned = record {
   few_others = λ p from to _ _ _ _ _ _. let none = none_before p from to in omega (arith, none);
 }
 
-room : HasRoom two_streams no_others 160 0 320
+demand_fits : DemandFits two_streams no_others 160 0 320
 unfolding total
-room = omega arith
+demand_fits = omega arith
 
 pub reached_by_twins : (s : Schedule) × (traffic : Traffic) × (others : Others) × (planned : ℕ → Bool) × (of : Origins) × IsLegal s
     × IsPlannedTraffic s traffic others 160 planned of 0 × ((j : ℕ) → j < traffic.count → 0 < (traffic.stream j).period)
-    × HasRoom traffic others 160 0 320 × (2 < s.count) × (planned 1 ≡ true) × (planned 2 ≡ true) × (of.source 1 ≡ 1) × (of.source 2 ≡ 0)
+    × DemandFits traffic others 160 0 320 × (2 < s.count) × (planned 1 ≡ true) × (planned 2 ≡ true) × (of.source 1 ≡ 1) × (of.source 2 ≡ 0)
     × (s.ident 1 ≡ s.ident 2) × (s.start 1 ≡ s.queued 2 + 160) × (s.queued 2 + 320 < s.now) × (s.start 2 ≡ s.queued 2 + 320)
-reached_by_twins = (three, two_streams, no_others, last_two, last_first, three_legal, three_planned, λ j _. omega arith, room, omega arith, refl, refl, refl, refl, refl, refl, omega arith, refl)
+reached_by_twins =
+    (three, two_streams, no_others, last_two, last_first, three_legal, three_planned, λ j _. omega arith, demand_fits, omega arith, refl, refl, refl, refl, refl, refl, omega arith, refl)

@@ -1,9 +1,9 @@
--- A flow of two packets that wants its messages as soon as it may, each after 51 bits: six packets have their moments in 51 bits, of three messages.
+-- A flow of two packets that wants its messages as soon as it may, each after 51 bits: six packets have their releases in 51 bits, of three messages.
 use Rattle.std.proofs.Common.{◌≡◌, ℕ, zero, suc, ◌+◌, ◌*◌, ◌/◌, ◌%◌, ◌<◌, ◌≤◌, Bool, true, [], ◌∷◌, refl, arith}
 use Rattle.j39_timing.specs.FrameStreams.{Origins}
 use Rattle.j39_timing.specs.Sums.{total}
 use Rattle.j39_timing.specs.TimedFrames.{Schedule}
-use Rattle.j39_timing.specs.Traffic.{moments_in}
+use Rattle.j39_timing.specs.Traffic.{releases_in}
 use Rattle.j39_timing.specs.Waits.{Demand, frames_wanted}
 use Rattle.j39_timing.specs.WantedMessages.{AreFramesOfMessages, AreWantedInTurn, HasLongest, HavePeriods, UnitMessages}
 
@@ -18,7 +18,7 @@ abbrev as_queued : Origins
 as_queued = record { source = λ p. 0; turn = λ p. 0; since = λ p. 72 + 10 * p }
 
 abbrev of_two : Demand
-of_two = record { under_way = 2; wants = record { frames = 2; period = 51; late = 0 } ∷ [] }
+of_two = record { under_way = 2; wants = record { frames = 2; period = 51; jitter = 0 } ∷ [] }
 
 abbrev announced_at : ℕ → ℕ
 announced_at zero = 0
@@ -29,7 +29,7 @@ abbrev three : UnitMessages
 three = record {
   count = 3;
   flow = λ m. 0;
-  moment = λ m. 51 * m;
+  release = λ m. 51 * m;
   wanted = λ m. 51 * m;
   announced = announced_at;
   message = λ p. p / 2;
@@ -58,8 +58,8 @@ wanted_in_turn : AreWantedInTurn of_two three
 wanted_in_turn = record {
   flows = λ m below. omega arith;
   apart = λ m n one. let (less, _, _) = one in omega (arith, less);
-  moment_first = λ m below. omega arith;
-  late_at_most = λ m below. omega arith;
+  release_first = λ m below. omega arith;
+  jitter_at_most = λ m below. omega arith;
   wanted_first = wanted_first;
   one_waits = λ m n one. let (less, below, _) = one in one_waits m n less below;
 }
@@ -87,11 +87,11 @@ of_messages = record {
   places = λ p its. omega arith;
 }
 
-reached : moments_in six all_planned as_queued 0 72 51 ≡ frames_wanted 51 of_two
+reached : releases_in six all_planned as_queued 0 72 51 ≡ frames_wanted 51 of_two
 unfolding total
 reached = refl
 
 pub reached_by_wanted : (s : Schedule) × (planned : ℕ → Bool) × (of : Origins) × (demand : Demand) × (messages : UnitMessages) × HavePeriods demand
     × AreWantedInTurn demand messages × AreFramesOfMessages s planned of 0 demand messages × HasLongest demand
-    × (moments_in s planned of 0 72 51 ≡ frames_wanted 51 demand)
+    × (releases_in s planned of 0 72 51 ≡ frames_wanted 51 demand)
 reached_by_wanted = (six, all_planned, as_queued, of_two, three, periods, wanted_in_turn, of_messages, longest, reached)

@@ -4,7 +4,8 @@ use Rattle.std.proofs.Math.Nat.{div-add-mod, mod-lt, mul-le-mul_left}
 use Rattle.std.proofs.lemmas.Bool.{cases_eq, cases_lt, eqb-true, le-ltb, lt-ltb, true≢false}
 use Rattle.j39_timing.specs.TimedFrames.{IsLegal}
 use Rattle.j39_timing.specs.Traffic.{AreQueuedBehind, AreSteady, IsPlannedTraffic, may_share}
-use Rattle.j39_timing.specs.Rounds.{AreSenders, Senders, all_planned, in_rounds, begins_message, nothing_else, of_rounds, stream_of, traffic_of_rounds, turn_of, sender_of}
+use Rattle.j39_timing.specs.Rounds.{AreSenders, Senders, all_planned, in_rounds, begins_message, nothing_else, of_rounds, stream_of, traffic_of_rounds, turn_of}
+use Rattle.j39_timing.specs.Rounds.{sender_of}
 use Rattle.j39_timing.proofs.Demands.{nothing_wanted}
 
 -- of two numbers with one rest the larger one has a larger quotient
@@ -134,8 +135,8 @@ module _ (x : Senders) (is : AreSenders x) (count : ℕ) where
         known = stream_below p;
         bits_at_most = omega arith;
         turns = omega arith;
-        moment_first = omega arith;
-        late_at_most = omega arith;
+        release_first = omega arith;
+        jitter_at_most = omega arith;
       };
       spaced = λ p q _ _ differ _ _ same _. elim (cases_lt p q) [
         | inl less ↦ inl (spaced p q less same)

@@ -1,5 +1,6 @@
 -- What streams can queue in a window.
-use Rattle.std.proofs.Common.{◌≡◌, ◌≢◌, ℕ, zero, suc, ◌+◌, ◌*◌, ◌-◌, ◌<◌, ◌≤◌, ◌⊎◌, Bool, true, false, cond, ◌&&◌, eqb, ltb, leb, refl, sym, subst, arith, inl, inr}
+use Rattle.std.proofs.Common.{◌≡◌, ◌≢◌, ℕ, zero, suc, ◌+◌, ◌*◌, ◌-◌, ◌<◌, ◌≤◌, ◌⊎◌, Bool, true, false, cond, ◌&&◌, eqb, ltb, leb, refl, sym, subst, arith, inl}
+use Rattle.std.proofs.Common.{inr}
 use Rattle.std.proofs.lemmas.Bool.{and_parts, and_from, cases_lt, cases_eq, cases_Bool, le-leb, lt-ltb, leb-true, ltb-true, eqb-true, eq-eqb}
 use Rattle.j39_timing.specs.Sums.{total}
 use Rattle.j39_timing.specs.TimedFrames.{Schedule, demand}
@@ -117,13 +118,13 @@ module _ (s : Schedule) (c count : ℕ) (stream : ℕ → Stream) (of : Origins)
   is_turn j i p = is_of j p && eqb (of.turn p) i
 
   -- how long after its message a frame of the stream is queued
-  abbrev late : ℕ → ℕ
-  late j = (stream j).late
+  abbrev jitter : ℕ → ℕ
+  jitter j = (stream j).jitter
 
   -- one turn of one stream, by the messages
   of_messages : (j i k t span : ℕ) → span ≤ k * (stream j).period
-      → total s.count (λ p. cond (is_turn j i p && inside t span (of.since p + late j)) (s.bits p) 0) ≤ k * (stream j).bits
-  of_messages j i k t span le = windows_sum s.count (is_turn j i) (λ p. of.since p + late j) s.bits (stream j).period (stream j).bits
+      → total s.count (λ p. cond (is_turn j i p && inside t span (of.since p + jitter j)) (s.bits p) 0) ≤ k * (stream j).bits
+  of_messages j i k t span le = windows_sum s.count (is_turn j i) (λ p. of.since p + jitter j) s.bits (stream j).period (stream j).bits
       (λ p in_p is.
       let two = and_parts (ltb (s.ident p) c) (eqb (of.source p) j) (and_parts (is_of j p) (eqb (of.turn p) i) is).0 in
       subst (λ i. s.bits p ≤ (stream i).bits) (eqb-true (of.source p) j two.1) (known.keeps p in_p (ltb-true (s.ident p) c two.0)).bits_at_most)
@@ -145,26 +146,26 @@ module _ (s : Schedule) (c count : ℕ) (stream : ℕ → Stream) (of : Origins)
       k t span le
 
   -- by the frames
-  of_turn : (j i k t span : ℕ) → span + late j ≤ k * (stream j).period
+  of_turn : (j i k t span : ℕ) → span + jitter j ≤ k * (stream j).period
       → total s.count (λ p. cond (is_turn j i p && inside t span (s.queued p)) (s.bits p) 0) ≤ k * (stream j).bits
   of_turn j i k t span le =
-      let messages = of_messages j i k t (span + late j) le in
+      let messages = of_messages j i k t (span + jitter j) le in
       let wider : total s.count (λ p. cond (is_turn j i p && inside t span (s.queued p)) (s.bits p) 0)
-      ≤ total s.count (λ p. cond (is_turn j i p && inside t (span + late j) (of.since p + late j)) (s.bits p) 0) =
+      ≤ total s.count (λ p. cond (is_turn j i p && inside t (span + jitter j) (of.since p + jitter j)) (s.bits p) 0) =
       total-le s.count (λ p. cond (is_turn j i p && inside t span (s.queued p)) (s.bits p) 0)
-      (λ p. cond (is_turn j i p && inside t (span + late j) (of.since p + late j)) (s.bits p) 0) (λ p in_p.
+      (λ p. cond (is_turn j i p && inside t (span + jitter j) (of.since p + jitter j)) (s.bits p) 0) (λ p in_p.
       elim (cases_Bool (is_turn j i p && inside t span (s.queued p))) [
         | inr fails ↦ rw (fails) (omega arith)
         | inl is ↦
             let parts = and_parts (is_turn j i p) (inside t span (s.queued p)) is in
             let (low, high) = inside_parts t span (s.queued p) parts.1 in
             let two = and_parts (ltb (s.ident p) c) (eqb (of.source p) j) (and_parts (is_of j p) (eqb (of.turn p) i) parts.0).0 in
-            let first : of.since p ≤ s.queued p = (known.keeps p in_p (ltb-true (s.ident p) c two.0)).moment_first in
-            let last : s.queued p ≤ of.since p + late j = subst (λ i. s.queued p ≤ of.since p + late i) (eqb-true (of.source p) j two.1)
-            (known.keeps p in_p (ltb-true (s.ident p) c two.0)).late_at_most in
-            let there : (is_turn j i p && inside t (span + late j) (of.since p + late j)) ≡ true =
-            and_from (is_turn j i p) (inside t (span + late j) (of.since p + late j)) parts.0
-            (inside_from t (span + late j) (of.since p + late j) (omega arith) (omega arith)) in
+            let first : of.since p ≤ s.queued p = (known.keeps p in_p (ltb-true (s.ident p) c two.0)).release_first in
+            let last : s.queued p ≤ of.since p + jitter j = subst (λ i. s.queued p ≤ of.since p + jitter i) (eqb-true (of.source p) j two.1)
+            (known.keeps p in_p (ltb-true (s.ident p) c two.0)).jitter_at_most in
+            let there : (is_turn j i p && inside t (span + jitter j) (of.since p + jitter j)) ≡ true =
+            and_from (is_turn j i p) (inside t (span + jitter j) (of.since p + jitter j)) parts.0
+            (inside_from t (span + jitter j) (of.since p + jitter j) (omega arith) (omega arith)) in
             rw (is, there) (omega arith)
       ]) in
       omega arith
@@ -173,10 +174,11 @@ module _ (s : Schedule) (c count : ℕ) (stream : ℕ → Stream) (of : Origins)
   abbrev of_turns : ℕ → ℕ → ℕ → ℕ → ℕ → Bool
   of_turns j m t span p = is_of j p && (ltb (of.turn p) m && inside t span (s.queued p))
 
-  first_turns : (j k t span m : ℕ) → span + late j ≤ k * (stream j).period
+  first_turns : (j k t span m : ℕ) → span + jitter j ≤ k * (stream j).period
       → total s.count (λ p. cond (of_turns j m t span p) (s.bits p) 0) ≤ m * (k * (stream j).bits)
   first_turns j k t span zero le =
-      let none : total s.count (λ p. cond (of_turns j 0 t span p) (s.bits p) 0) ≡ 0 = total-none s.count (λ p. cond (of_turns j 0 t span p) (s.bits p) 0) (λ p in_p.
+      let none : total s.count (λ p. cond (of_turns j 0 t span p) (s.bits p) 0) ≡ 0 =
+      total-none s.count (λ p. cond (of_turns j 0 t span p) (s.bits p) 0) (λ p in_p.
       elim (cases_Bool (of_turns j 0 t span p)) [
         | inl is ↦
             let rest = (and_parts (is_of j p) (ltb (of.turn p) 0 && inside t span (s.queued p)) is).1 in
@@ -213,7 +215,7 @@ module _ (s : Schedule) (c count : ℕ) (stream : ℕ → Stream) (of : Origins)
       omega arith
 
   -- one stream
-  pub of_stream : (j k t span : ℕ) → span + late j ≤ k * (stream j).period
+  pub of_stream : (j k t span : ℕ) → span + jitter j ≤ k * (stream j).period
       → total s.count (λ p. cond (is_of j p && inside t span (s.queued p)) (s.bits p) 0) ≤ (stream j).frames * (k * (stream j).bits)
   of_stream j k t span le =
       let turns = first_turns j k t span (stream j).frames le in
@@ -248,7 +250,8 @@ module _ (s : Schedule) (c count : ℕ) (stream : ℕ → Stream) (of : Origins)
         → total s.count (λ p. cond (of_first k t span p) (s.bits p) 0) ≤ total k most
     unfolding total
     first_streams zero each =
-        let none : total s.count (λ p. cond (of_first 0 t span p) (s.bits p) 0) ≡ 0 = total-none s.count (λ p. cond (of_first 0 t span p) (s.bits p) 0) (λ p in_p.
+        let none : total s.count (λ p. cond (of_first 0 t span p) (s.bits p) 0) ≡ 0 =
+        total-none s.count (λ p. cond (of_first 0 t span p) (s.bits p) 0) (λ p in_p.
         elim (cases_Bool (of_first 0 t span p)) [
           | inl is ↦
               let rest = (and_parts (ltb (s.ident p) c) (ltb (of.source p) 0 && inside t span (s.queued p)) is).1 in

@@ -16,15 +16,15 @@ module _ (v : Vehicle) (is : IsKnown v) where
   abbrev source_of : ℕ → ℕ → ℕ
   source_of b p = (v.bus b).of.source p
 
-  -- it is queued from its moment on, and no later than its stream says; where it is handed on, no later than what comes before says
+  -- it is queued from its release on, and no later than its stream says; where it is handed on, no later than what comes before says
   record IsKept (b p : ℕ) : Type 0 where
     first : (v.bus b).of.since p ≤ (v.bus b).schedule.queued p
-    late : (v.bus b).schedule.queued p ≤ (v.bus b).of.since p + (stream_at v b (source_of b p)).late
-    moment : (v.bus b).moment p ≤ ready b p
-    handed : v.direct b (source_of b p) ≡ true → ready b p ≤ (v.bus b).moment p + queued_within v b (source_of b p)
+    jitter : (v.bus b).schedule.queued p ≤ (v.bus b).of.since p + (stream_at v b (source_of b p)).jitter
+    release : (v.bus b).release p ≤ ready b p
+    handed : v.direct b (source_of b p) ≡ true → ready b p ≤ (v.bus b).release p + queued_within v b (source_of b p)
 
   abbrev AreApartAt : ℕ → ℕ → ℕ → ℕ → Type 0
-  AreApartAt b i p q = ((v.bus b).moment p + v.apart b i ≤ (v.bus b).moment q) ⊎ ((v.bus b).moment q + v.apart b i ≤ (v.bus b).moment p)
+  AreApartAt b i p q = ((v.bus b).release p + v.apart b i ≤ (v.bus b).release q) ⊎ ((v.bus b).release q + v.apart b i ≤ (v.bus b).release p)
 
   -- so it is of all that is queued before a time
   abbrev AllKept : ℕ → Type 0
@@ -47,13 +47,14 @@ module _ (v : Vehicle) (is : IsKnown v) where
   bits_in_order : (b m n : ℕ) → time_of (v.bus b).clock m < time_of (v.bus b).clock n → m < n
   bits_in_order b m n below = lt_of_mul-lt-mul_left (v.bus b).clock.unit (omega arith)
 
-  -- moments of a stream that is handed on are apart on its bus too
-  later_there : (b i p q : ℕ) → v.direct b i ≡ true → IsIts (carrier v b i) p → IsIts (carrier v b i) q → (v.bus b).moment p + v.apart b i ≤ (v.bus b).moment q
+  -- releases of a stream that is handed on are apart on its bus too
+  later_there : (b i p q : ℕ) → v.direct b i ≡ true → IsIts (carrier v b i) p → IsIts (carrier v b i) q
+      → (v.bus b).release p + v.apart b i ≤ (v.bus b).release q
       → (v.bus b).of.since p + (stream_at v b i).period ≤ (v.bus b).of.since q
   later_there b i p q direct its other apart =
       let handed = is.handed b i direct in
-      let low : time_of (v.bus b).clock ((v.bus b).of.since p) ≤ (v.bus b).moment p = handed.first_bit p its in
-      let high : (v.bus b).moment q < time_of (v.bus b).clock ((v.bus b).of.since q + 1) = handed.last_bit q other in
+      let low : time_of (v.bus b).clock ((v.bus b).of.since p) ≤ (v.bus b).release p = handed.first_bit p its in
+      let high : (v.bus b).release q < time_of (v.bus b).clock ((v.bus b).of.since q + 1) = handed.last_bit q other in
       let often : (v.bus b).clock.unit * (stream_at v b i).period ≤ v.apart b i = is.often_enough b i direct in
       let less : (v.bus b).of.since p + (stream_at v b i).period < (v.bus b).of.since q + 1 = bits_in_order b _ _ (omega arith) in
       omega arith
@@ -68,8 +69,8 @@ module _ (v : Vehicle) (is : IsKnown v) where
           known = is.known a p (in_p, planned);
           bits_at_most = is.bits_at_most a p (in_p, planned);
           turns = is.turns a p (in_p, planned);
-          moment_first = keeps.first;
-          late_at_most = keeps.late;
+          release_first = keeps.first;
+          jitter_at_most = keeps.jitter;
         };
     spaced = λ p q in_p in_q differ it other same turn.
         let (planned, early) = parts p it in
@@ -135,29 +136,31 @@ module _ (v : Vehicle) (is : IsKnown v) where
           let by : ℕ = (v.bus a).schedule.queued x + v.wait a k + 1 in
           let seen : by ≤ (v.bus a).schedule.now = let now = begun.1 in omega arith in
           let long : 1 ≤ (v.bus a).schedule.bits x = is.some_bits a x begun.0.0 in
-          let order : time_of (v.bus a).clock by ≤ end_time (input_at v b i) x = in_time_order a by ((v.bus a).schedule.start x + (v.bus a).schedule.bits x) (omega arith) in
+          let order : time_of (v.bus a).clock by ≤ end_time (input_at v b i) x =
+          in_time_order a by ((v.bus a).schedule.start x + (v.bus a).schedule.bits x) (omega arith) in
           let streams = kept_until t a by kept apart (let end = ended in omega arith) in
           is.input_begun b i by direct seen streams x begun.0.0 begun.0.1 begun.0.2 (omega arith)
     ]
 
-    x_behind : end_time (input_at v b i) x ≤ (v.bus a).moment x + v.behind a k
+    x_behind : end_time (input_at v b i) x ≤ (v.bus a).release x + v.behind a k
     x_behind =
         let start = in_time in
         let source : source_of a x ≡ k = begun.0.2 in
-        let small : (v.bus a).schedule.bits x ≤ (stream_at v a k).bits = subst (λ j. (v.bus a).schedule.bits x ≤ (stream_at v a j).bits) source (is.bits_at_most a x (begun.0.0, begun.0.1)) in
+        let small : (v.bus a).schedule.bits x ≤ (stream_at v a k).bits =
+        subst (λ j. (v.bus a).schedule.bits x ≤ (stream_at v a j).bits) source (is.bits_at_most a x (begun.0.0, begun.0.1)) in
         let end : end_time (input_at v b i) x ≤ time_of (v.bus a).clock ((v.bus a).schedule.queued x + (v.wait a k + (stream_at v a k).bits)) =
         in_time_order a ((v.bus a).schedule.start x + (v.bus a).schedule.bits x) ((v.bus a).schedule.queued x + (v.wait a k + (stream_at v a k).bits)) (omega arith) in
         elim (cases_Bool (v.direct a k)) [
           | inl on ↦
-              let by : ready a x ≤ (v.bus a).moment x + queued_within v a k =
-              subst (λ j. ready a x ≤ (v.bus a).moment x + queued_within v a j) source (x_kept.handed (subst (λ j. v.direct a j ≡ true) (sym source) on)) in
+              let by : ready a x ≤ (v.bus a).release x + queued_within v a k =
+              subst (λ j. ready a x ≤ (v.bus a).release x + queued_within v a j) source (x_kept.handed (subst (λ j. v.direct a j ≡ true) (sym source) on)) in
               let behind : queued_within v a k + (v.bus a).clock.unit * (v.wait a k + (stream_at v a k).bits) ≤ v.behind a k = is.behind_direct a k on in
               omega arith
           | inr own ↦
-              let late : (v.bus a).schedule.queued x ≤ (v.bus a).of.since x + (stream_at v a k).late =
-              subst (λ j. (v.bus a).schedule.queued x ≤ (v.bus a).of.since x + (stream_at v a j).late) source x_kept.late in
-              let at : (v.bus a).moment x ≡ time_of (v.bus a).clock ((v.bus a).of.since x) =
-              is.own_moment a x (begun.0.0, begun.0.1) (subst (λ j. v.direct a j ≡ false) (sym source) own) in
+              let late : (v.bus a).schedule.queued x ≤ (v.bus a).of.since x + (stream_at v a k).jitter =
+              subst (λ j. (v.bus a).schedule.queued x ≤ (v.bus a).of.since x + (stream_at v a j).jitter) source x_kept.jitter in
+              let at : (v.bus a).release x ≡ time_of (v.bus a).clock ((v.bus a).of.since x) =
+              is.own_release a x (begun.0.0, begun.0.1) (subst (λ j. v.direct a j ≡ false) (sym source) own) in
               let behind : (v.bus a).clock.unit * delay_of (stream_at v a k) (v.wait a k) ≤ v.behind a k = is.behind_own a k own in
               let far : time_of (v.bus a).clock ((v.bus a).schedule.queued x + (v.wait a k + (stream_at v a k).bits))
               ≤ time_of (v.bus a).clock ((v.bus a).of.since x + delay_of (stream_at v a k) (v.wait a k)) =
@@ -167,28 +170,28 @@ module _ (v : Vehicle) (is : IsKnown v) where
 
     direct_kept : IsKept b q
     direct_kept =
-        let at : (v.bus b).moment q ≡ (v.bus a).moment x = handed.moments q it in
+        let at : (v.bus b).release q ≡ (v.bus a).release x = handed.releases q it in
         let soon : ready b q ≤ end_time (input_at v b i) x + v.within b i = handed.within_time q it in
-        let low : time_of (v.bus b).clock ((v.bus b).of.since q) ≤ (v.bus b).moment q = handed.first_bit q it in
-        let high : (v.bus b).moment q < time_of (v.bus b).clock ((v.bus b).of.since q + 1) = handed.last_bit q it in
-        let room : queued_within v b i ≤ (v.bus b).clock.unit * (stream_at v b i).late = is.late_enough b i direct in
-        let behind : end_time (input_at v b i) x ≤ (v.bus a).moment x + v.behind a k = x_behind in
-        let first : (v.bus a).moment x ≤ ready a x = x_kept.moment in
+        let low : time_of (v.bus b).clock ((v.bus b).of.since q) ≤ (v.bus b).release q = handed.first_bit q it in
+        let high : (v.bus b).release q < time_of (v.bus b).clock ((v.bus b).of.since q + 1) = handed.last_bit q it in
+        let room : queued_within v b i ≤ (v.bus b).clock.unit * (stream_at v b i).jitter = is.jitter_enough b i direct in
+        let behind : end_time (input_at v b i) x ≤ (v.bus a).release x + v.behind a k = x_behind in
+        let first : (v.bus a).release x ≤ ready a x = x_kept.release in
         let sent : ready a x < end_time (input_at v b i) x = sent_first in
         let end : end_time (input_at v b i) x ≤ ready b q = ended in
         let begins : (v.bus b).of.since q < (v.bus b).schedule.queued q + 1 = bits_in_order b _ _ (omega arith) in
-        let by : (v.bus b).schedule.queued q < (v.bus b).of.since q + (stream_at v b i).late + 1 = bits_in_order b _ _ (omega arith) in
-        record { first = omega arith; late = omega arith; moment = omega arith; handed = λ _. omega arith }
+        let by : (v.bus b).schedule.queued q < (v.bus b).of.since q + (stream_at v b i).jitter + 1 = bits_in_order b _ _ (omega arith) in
+        record { first = omega arith; jitter = omega arith; release = omega arith; handed = λ _. omega arith }
 
   own_kept : (b p : ℕ) → IsPlannedOn (v.bus b) p → v.direct b (source_of b p) ≡ false → IsKept b p
   own_kept b p its own =
       let first = is.own_first b p its own in
-      let at = is.own_moment b p its own in
+      let at = is.own_release b p its own in
       let order = in_time_order b ((v.bus b).of.since p) ((v.bus b).schedule.queued p) first in
       record {
         first = first;
-        late = is.own_late b p its own;
-        moment = omega arith;
+        jitter = is.own_jitter b p its own;
+        release = omega arith;
         handed = λ direct. absurd (both_ways (v.direct b (source_of b p)) own direct);
       }
 
@@ -198,12 +201,14 @@ module _ (v : Vehicle) (is : IsKnown v) where
   own_apart b i p q its other differ single own =
       let source : source_of b p ≡ i = its.2 in
       let of_p : v.direct b (source_of b p) ≡ false = subst (λ j. v.direct b j ≡ false) (sym source) own in
-      let turn_p : (v.bus b).of.turn p < (stream_at v b i).frames = subst (λ j. (v.bus b).of.turn p < (stream_at v b j).frames) source (is.turns b p (its.0, its.1)) in
-      let turn_q : (v.bus b).of.turn q < (stream_at v b i).frames = subst (λ j. (v.bus b).of.turn q < (stream_at v b j).frames) other.2 (is.turns b q (other.0, other.1)) in
+      let turn_p : (v.bus b).of.turn p < (stream_at v b i).frames =
+      subst (λ j. (v.bus b).of.turn p < (stream_at v b j).frames) source (is.turns b p (its.0, its.1)) in
+      let turn_q : (v.bus b).of.turn q < (stream_at v b i).frames =
+      subst (λ j. (v.bus b).of.turn q < (stream_at v b j).frames) other.2 (is.turns b q (other.0, other.1)) in
       let one : (stream_at v b i).frames ≡ 1 = single in
-      let at_p : (v.bus b).moment p ≡ time_of (v.bus b).clock ((v.bus b).of.since p) = is.own_moment b p (its.0, its.1) of_p in
-      let at_q : (v.bus b).moment q ≡ time_of (v.bus b).clock ((v.bus b).of.since q) =
-      is.own_moment b q (other.0, other.1) (subst (λ j. v.direct b j ≡ false) (sym other.2) own) in
+      let at_p : (v.bus b).release p ≡ time_of (v.bus b).clock ((v.bus b).of.since p) = is.own_release b p (its.0, its.1) of_p in
+      let at_q : (v.bus b).release q ≡ time_of (v.bus b).clock ((v.bus b).of.since q) =
+      is.own_release b q (other.0, other.1) (subst (λ j. v.direct b j ≡ false) (sym other.2) own) in
       let far : v.apart b i ≤ (v.bus b).clock.unit * (stream_at v b i).period = is.apart_own b i own in
       let spaced = subst (λ j. ((v.bus b).of.since p + (stream_at v b j).period ≤ (v.bus b).of.since q) ⊎ ((v.bus b).of.since q + (stream_at v b j).period ≤ (v.bus b).of.since p))
       source (is.own_spaced b p q (its.0, its.1) (other.0, other.1) differ of_p (omega (arith, source, other.2)) (omega (arith, turn_p, turn_q, one))) in
@@ -226,8 +231,8 @@ module _ (v : Vehicle) (is : IsKnown v) where
       let k : ℕ = v.from_stream b i in
       let of_p : HasBegun (input_at v b i) (handed.what p) = handed.begun p its in
       let of_q : HasBegun (input_at v b i) (handed.what q) = handed.begun q other in
-      let at_p : (v.bus b).moment p ≡ (v.bus (v.from_bus b i)).moment (handed.what p) = handed.moments p its in
-      let at_q : (v.bus b).moment q ≡ (v.bus (v.from_bus b i)).moment (handed.what q) = handed.moments q other in
+      let at_p : (v.bus b).release p ≡ (v.bus (v.from_bus b i)).release (handed.what p) = handed.releases p its in
+      let at_q : (v.bus b).release q ≡ (v.bus (v.from_bus b i)).release (handed.what q) = handed.releases q other in
       let end_p : end_time (input_at v b i) (handed.what p) ≤ ready b p = handed.after p its in
       let end_q : end_time (input_at v b i) (handed.what q) ≤ ready b q = handed.after q other in
       let sent_p = sent_before (v.from_bus b i) (v.from_stream b i) (handed.what p) of_p in
@@ -263,8 +268,8 @@ module _ (v : Vehicle) (is : IsKnown v) where
           known = is.known b p (in_p, it);
           bits_at_most = is.bits_at_most b p (in_p, it);
           turns = is.turns b p (in_p, it);
-          moment_first = keeps.first;
-          late_at_most = keeps.late;
+          release_first = keeps.first;
+          jitter_at_most = keeps.jitter;
         };
     spaced = λ p q in_p in_q differ it other same turn. elim (cases_Bool (v.direct b (source_of b p))) [
       | inr own ↦ is.own_spaced b p q (in_p, it) (in_q, other) differ own same turn

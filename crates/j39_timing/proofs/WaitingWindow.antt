@@ -1,5 +1,6 @@
 -- A planned frame that waits long sees the bus busy, from when the first planned frame waits that goes before it, with frames alone that do.
-use Rattle.std.proofs.Common.{◌≡◌, ◌≢◌, ℕ, zero, suc, ◌+◌, ◌*◌, ◌-◌, ◌<◌, ◌≤◌, ◌⊎◌, Bool, true, false, not, cond, ◌&&◌, ◌||◌, ltb, leb, refl, ap, arith, inl, inr}
+use Rattle.std.proofs.Common.{◌≡◌, ◌≢◌, ℕ, zero, suc, ◌+◌, ◌*◌, ◌-◌, ◌<◌, ◌≤◌, ◌⊎◌, Bool, true, false, not, cond, ◌&&◌, ◌||◌, ltb, leb, refl, ap, arith, inl}
+use Rattle.std.proofs.Common.{inr}
 use Rattle.std.proofs.lemmas.Bool.{and_parts, and_from, cases_lt, cases_eq, cases_Bool, le-leb, lt-ltb, leb-true, ltb-true, both_ways}
 use Rattle.j39_timing.specs.Sums.{total}
 use Rattle.j39_timing.specs.TimedFrames.{Schedule, IsLegal, IsOnBusAt, Waits}

@@ -1,7 +1,7 @@
 -- A bus on which frames are damaged: an error frame follows at once, and the frame takes part again (ISO 11898-1).
 use Rattle.std.specs.Prelude.{◌≡◌, ℕ, suc, ◌+◌, ◌-◌, ◌<◌, ◌≤◌, ◌⊎◌, ◌||◌, cond, nat_eq, nat_lt}
 use Rattle.j39_timing.specs.FrameBits.{error_frame}
-use Rattle.j39_timing.specs.AnyOrder.{Controllers, MayBeOffered}
+use Rattle.j39_timing.specs.AnyOrder.{Controllers, MayArbitrate}
 use Rattle.j39_timing.specs.TimedFrames.{Schedule, IsOnBusAt, Waits}
 
 -- attempts to send frames of a schedule that were damaged
@@ -50,13 +50,13 @@ pub record IsLegalWithErrors (s : Schedule) (d : Damaged) : Type 0 where
   pub in_order : (p q : ℕ) → p < s.count → q < s.count → s.start q < s.now → Waits s p (s.start q) → s.ident q ≤ s.ident p
   pub in_order_damaged : (p e : ℕ) → p < s.count → e < d.count → d.begin e < s.now → Waits s p (d.begin e) → s.ident (d.frame e) ≤ s.ident p
 
--- as `IsLegalInAnyOrder`: it has no larger identifier than one that each unit with a waiting frame offers
+-- as `IsLegalInAnyOrder`: it has no larger identifier than one with which each unit with a waiting frame may take part
 pub record IsLegalInAnyOrderWithErrors (s : Schedule) (controllers : Controllers) (d : Damaged) : Type 0 where
   pub bus : IsBusWithErrors s d
   pub in_order : (p q : ℕ) → p < s.count → q < s.count → s.start q < s.now → Waits s p (s.start q)
-      → (h : ℕ) × MayBeOffered s controllers p h (s.start q) × (s.ident q ≤ s.ident h)
+      → (h : ℕ) × MayArbitrate s controllers p h (s.start q) × (s.ident q ≤ s.ident h)
   pub in_order_damaged : (p e : ℕ) → p < s.count → e < d.count → d.begin e < s.now → Waits s p (d.begin e)
-      → (h : ℕ) × MayBeOffered s controllers p h (d.begin e) × (s.ident (d.frame e) ≤ s.ident h)
+      → (h : ℕ) × MayArbitrate s controllers p h (d.begin e) × (s.ident (d.frame e) ≤ s.ident h)
 
 -- at the places of the frames what is told of them; behind these of the damaged attempts; and then of the error frames
 abbrev pub at_place : Schedule → Damaged → (ℕ → ℕ) → (ℕ → ℕ) → (ℕ → ℕ) → ℕ → ℕ

@@ -21,8 +21,8 @@ pub record Carrier : Type 0 where
   pub planned : ℕ → Bool
   pub of : Origins
   pub source : ℕ
-  -- the moment of the frame's message: of one that a gateway hands on directly, that of the message which it hands on
-  pub moment : ℕ → ℕ
+  -- the release of the frame's message: of one that a gateway hands on directly, that of the message which it hands on
+  pub release : ℕ → ℕ
   -- when the value that the frame carries was its origin's
   pub born : ℕ → ℕ
 
@@ -39,63 +39,63 @@ end_time x p = time_of x.clock (x.schedule.start p + x.schedule.bits p)
 abbrev pub queue_time : Carrier → ℕ → ℕ
 queue_time x p = time_of x.clock (x.schedule.queued p)
 
--- from one time to another, a frame had its moment less than `silent` ago; it ends at most `behind` after its moment, and what it
+-- from one time to another, a frame had its release less than `interval` ago; it ends at most `behind` after its release, and what it
 -- carries was no older than `old` then
 abbrev pub Comes : Carrier → ℕ → ℕ → ℕ → ℕ → ℕ → Type 0
-Comes x old silent behind from to = (t : ℕ) → from ≤ t → t ≤ to
-    → (p : ℕ) × HasBegun x p × (x.moment p ≤ t) × (t < x.moment p + silent) × (end_time x p ≤ x.moment p + behind) × (x.moment p ≤ x.born p + old)
+Comes x old interval behind from to = (t : ℕ) → from ≤ t → t ≤ to
+    → (p : ℕ) × HasBegun x p × (x.release p ≤ t) × (t < x.release p + interval) × (end_time x p ≤ x.release p + behind) × (x.release p ≤ x.born p + old)
 
 -- from one time to another, a frame has ended whose value was its origin's less than `age` ago
 abbrev pub IsYoung : Carrier → ℕ → ℕ → ℕ → Type 0
 IsYoung x age from to = (t : ℕ) → from ≤ t → t ≤ to → (p : ℕ) × HasBegun x p × (end_time x p ≤ t) × (t < x.born p + age)
 
--- moments are those of the bus itself
-abbrev pub HasOwnMoments : Carrier → Type 0
-HasOwnMoments x = (p : ℕ) → IsIts x p → x.moment p ≡ time_of x.clock (x.of.since p)
+-- releases are those of the bus itself
+abbrev pub HasOwnReleases : Carrier → Type 0
+HasOwnReleases x = (p : ℕ) → IsIts x p → x.release p ≡ time_of x.clock (x.of.since p)
 
--- what frames from some moment on carry was no older than `old` at their moments
+-- what frames from some release on carry was no older than `old` at their releases
 abbrev pub IsOldAtMost : Carrier → ℕ → ℕ → ℕ → Type 0
-IsOldAtMost x old from to = (p : ℕ) → IsIts x p → from ≤ x.moment p → x.moment p ≤ to → x.moment p ≤ x.born p + old
+IsOldAtMost x old from to = (p : ℕ) → IsIts x p → from ≤ x.release p → x.release p ≤ to → x.release p ≤ x.born p + old
 
 -- frames that keep to the stream
 abbrev pub KeepTo : Carrier → Stream → Type 0
-KeepTo x stream = (p : ℕ) → IsIts x p → (x.schedule.bits p ≤ stream.bits) × (x.schedule.queued p ≤ x.of.since p + stream.late)
+KeepTo x stream = (p : ℕ) → IsIts x p → (x.schedule.bits p ≤ stream.bits) × (x.schedule.queued p ≤ x.of.since p + stream.jitter)
 
 -- ---- gateways
 
 -- each message of the input is handed on at most `within` after it has ended
 abbrev pub HandsOn : Carrier → Carrier → ℕ → Type 0
 HandsOn x y within = (p : ℕ) → HasBegun x p
-    → (q : ℕ) × IsIts y q × (queue_time y q ≤ end_time x p + within) × (y.moment q ≡ x.moment p) × (y.born q ≡ x.born p)
+    → (q : ℕ) × IsIts y q × (queue_time y q ≤ end_time x p + within) × (y.release q ≡ x.release p) × (y.born q ≡ x.born p)
 
--- what is sent carries the newest message that had ended `within` before its moment, or a newer one
+-- what is sent carries the newest message that had ended `within` before its release, or a newer one
 abbrev pub SendsNewest : Carrier → Carrier → ℕ → Type 0
-SendsNewest x y within = (p q : ℕ) → HasBegun x p → IsIts y q → end_time x p + within ≤ y.moment q → x.born p ≤ y.born q
+SendsNewest x y within = (p q : ℕ) → HasBegun x p → IsIts y q → end_time x p + within ≤ y.release q → x.born p ≤ y.born q
 
--- each frame of the output hands on a message of the input of its own, when this has ended, and at most `within` after that; its moment on
--- its bus is the last bit that begins by the moment
+-- each frame of the output hands on a message of the input of its own, when this has ended, and at most `within` after that; its release on
+-- its bus is the last bit that begins by the release
 pub record IsHandedOn (x y : Carrier) (within : ℕ) : Type 0 where
   pub what : ℕ → ℕ
   pub begun : (q : ℕ) → IsIts y q → HasBegun x (what q)
-  pub moments : (q : ℕ) → IsIts y q → y.moment q ≡ x.moment (what q)
+  pub releases : (q : ℕ) → IsIts y q → y.release q ≡ x.release (what q)
   pub after : (q : ℕ) → IsIts y q → end_time x (what q) ≤ queue_time y q
   pub within_time : (q : ℕ) → IsIts y q → queue_time y q ≤ end_time x (what q) + within
   pub different : (p q : ℕ) → IsIts y p → IsIts y q → p ≢ q → what p ≢ what q
-  pub first_bit : (q : ℕ) → IsIts y q → time_of y.clock (y.of.since q) ≤ y.moment q
-  pub last_bit : (q : ℕ) → IsIts y q → y.moment q < time_of y.clock (y.of.since q + 1)
+  pub first_bit : (q : ℕ) → IsIts y q → time_of y.clock (y.of.since q) ≤ y.release q
+  pub last_bit : (q : ℕ) → IsIts y q → y.release q < time_of y.clock (y.of.since q + 1)
 
--- the moments of two frames are so far apart
+-- the releases of two frames are so far apart
 abbrev pub AreApart : Carrier → ℕ → Type 0
-AreApart x period = (p q : ℕ) → IsIts x p → IsIts x q → p ≢ q → (x.moment p + period ≤ x.moment q) ⊎ (x.moment q + period ≤ x.moment p)
+AreApart x period = (p q : ℕ) → IsIts x p → IsIts x q → p ≢ q → (x.release p + period ≤ x.release q) ⊎ (x.release q + period ≤ x.release p)
 
--- each ends so many microseconds after its moment at most, and none before
+-- each ends so many microseconds after its release at most, and none before
 abbrev pub EndWithin : Carrier → ℕ → Type 0
-EndWithin x behind = (p : ℕ) → HasBegun x p → (x.moment p ≤ end_time x p) × (end_time x p ≤ x.moment p + behind)
+EndWithin x behind = (p : ℕ) → HasBegun x p → (x.release p ≤ end_time x p) × (end_time x p ≤ x.release p + behind)
 
--- what a bus takes for granted of such a stream: a frame is queued from its moment on, at most `late` bits behind it, and moments are a period apart
-pub record KeepsToStream (y : Carrier) (period late : ℕ) : Type 0 where
-  pub moment_first : (q : ℕ) → IsIts y q → y.of.since q ≤ y.schedule.queued q
-  pub late_at_most : (q : ℕ) → IsIts y q → y.schedule.queued q ≤ y.of.since q + late
+-- what a bus takes for granted of such a stream: a frame is queued from its release on, at most `jitter` bits behind it, and releases are a period apart
+pub record KeepsToStream (y : Carrier) (period jitter : ℕ) : Type 0 where
+  pub release_first : (q : ℕ) → IsIts y q → y.of.since q ≤ y.schedule.queued q
+  pub jitter_at_most : (q : ℕ) → IsIts y q → y.schedule.queued q ≤ y.of.since q + jitter
   pub spaced : (p q : ℕ) → IsIts y p → IsIts y q → p ≢ q → (y.of.since p + period ≤ y.of.since q) ⊎ (y.of.since q + period ≤ y.of.since p)
 
 -- ---- ways over several gateways
@@ -103,17 +103,17 @@ pub record KeepsToStream (y : Carrier) (period late : ℕ) : Type 0 where
 -- how a stream comes, from one time to another: see `Comes`
 pub record Coming : Type 0 where
   pub old : ℕ
-  pub silent : ℕ
+  pub interval : ℕ
   pub behind : ℕ
   pub from : ℕ
   pub to : ℕ
 
 abbrev pub ComesSo : Carrier → Coming → Type 0
-ComesSo x c = Comes x c.old c.silent c.behind c.from c.to
+ComesSo x c = Comes x c.old c.interval c.behind c.from c.to
 
 -- how old it is at most where it is received
 abbrev pub age_of : Coming → ℕ
-age_of c = c.old + (c.silent + c.behind)
+age_of c = c.old + (c.interval + c.behind)
 
 -- how a gateway hands on: directly, or at its own beat, which keeps coming from one bit to another; with the wait of the stream that it sends
 pub data Mode : Type 0 where
@@ -131,14 +131,14 @@ pub record Hop : Type 0 where
 abbrev pub coming_behind : Hop → Mode → Coming → Coming
 coming_behind h directly c = record {
   old = c.old;
-  silent = c.silent;
+  interval = c.interval;
   behind = c.behind + (h.within + h.to.clock.unit * (h.wait + h.stream.bits));
   from = c.from;
   to = c.to;
 }
 coming_behind h (at_its_beat pause first last) c = record {
   old = age_of c + h.within;
-  silent = h.to.clock.unit * pause;
+  interval = h.to.clock.unit * pause;
   behind = h.to.clock.unit * delay_of h.stream h.wait;
   from = time_of h.to.clock first;
   to = time_of h.to.clock last;
@@ -147,10 +147,10 @@ coming_behind h (at_its_beat pause first last) c = record {
 -- what is sent keeps to its stream, is in time on its bus, and is what the gateway has heard
 abbrev pub IsPrompt : Carrier → Coming → Hop → Mode → Type 0
 IsPrompt x c h directly = HandsOn x h.to h.within
-    × ((q : ℕ) → IsIts h.to q → time_of h.to.clock (h.to.of.since q) ≤ h.to.moment q)
-    × (c.to + h.to.clock.unit * (h.stream.late + h.wait) < time_of h.to.clock h.to.schedule.now)
-IsPrompt x c h (at_its_beat pause first last) = SendsNewest x h.to h.within × HasOwnMoments h.to × (0 < h.to.clock.unit)
-    × KeepsComing h.to.schedule h.to.planned h.to.of h.to.source pause first last × (last + (h.stream.late + h.wait) < h.to.schedule.now)
+    × ((q : ℕ) → IsIts h.to q → time_of h.to.clock (h.to.of.since q) ≤ h.to.release q)
+    × (c.to + h.to.clock.unit * (h.stream.jitter + h.wait) < time_of h.to.clock h.to.schedule.now)
+IsPrompt x c h (at_its_beat pause first last) = SendsNewest x h.to h.within × HasOwnReleases h.to × (0 < h.to.clock.unit)
+    × KeepsComing h.to.schedule h.to.planned h.to.of h.to.source pause first last × (last + (h.stream.jitter + h.wait) < h.to.schedule.now)
     × (c.from + c.behind + h.within + h.to.clock.unit * pause ≤ time_of h.to.clock first) × (time_of h.to.clock last ≤ c.to + c.behind + h.within)
 
 abbrev pub IsInTimeThere : Hop → Type 0

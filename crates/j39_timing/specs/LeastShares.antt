@@ -22,5 +22,5 @@ abbrev pub IsStretchBelow : Stretch → ℕ → (ℕ → ℕ) → Type 0
 IsStretchBelow stretch span bits = (x : ℕ) → span ≤ x → x ≤ stretch.until → line_at x stretch.line ≤ 2 ^ 32 * bits x
 
 -- from a wait on, up to another one, none has room
-abbrev pub HaveNoRoomFrom : List Demand → ℕ → List Stream → ℕ → ℕ → Type 0
-HaveNoRoomFrom demands blocking streams from to = (v : ℕ) → from ≤ v → v < to → v < need demands blocking streams v
+abbrev pub NoneFitsFrom : List Demand → ℕ → List Stream → ℕ → ℕ → Type 0
+NoneFitsFrom demands blocking streams from to = (v : ℕ) → from ≤ v → v < to → v < need demands blocking streams v

@@ -7,7 +7,7 @@ pub mod LeastShares
 pub mod Traffic
 pub mod AnyOrder
 pub mod Errors
-pub mod Companies
+pub mod QueueGroups
 pub mod FreshFrames
 pub mod Gateways
 pub mod Prefixes

@@ -57,7 +57,7 @@ of_rounds x = record { source = stream_of x; turn = λ p. 0; since = λ p. p * x
 
 -- single frames so many gaps apart
 abbrev pub gap_stream : Senders → ℕ → Stream
-gap_stream x gaps = record { frames = 1; period = gaps * x.gap; bits = x.bits; late = 0; wanted = None }
+gap_stream x gaps = record { frames = 1; period = gaps * x.gap; bits = x.bits; jitter = 0; wanted = None }
 
 -- the streams: packets are a gap apart, and two announcements at least as many as the message between has packets
 abbrev pub traffic_of_rounds : Senders → Traffic

@@ -20,7 +20,7 @@ pub record Schedule : Type 0 where
 abbrev pub IsOnBusAt : Schedule → ℕ → ℕ → Type 0
 IsOnBusAt s p t = (s.start p ≤ t) × (t < s.start p + s.bits p)
 
--- the frame was ready before bit t, and hasn't begun before it
+-- the frame was ready before bit t, and hasn't begun before it: the bits for which it waits are its queueing delay
 abbrev pub Waits : Schedule → ℕ → ℕ → Type 0
 Waits s p t = (s.queued p < t) × (t ≤ s.start p)
 

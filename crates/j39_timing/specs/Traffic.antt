@@ -19,15 +19,15 @@ pub record Traffic : Type 0 where
   -- a frame of one stream may have the identifier of a frame of another one: they are twins, of one unit
   pub are_twins : ℕ → ℕ → Bool
 
--- how many planned frames of stream j have their moments in so many bits from bit t on
-abbrev pub moments_in : Schedule → (ℕ → Bool) → Origins → ℕ → ℕ → ℕ → ℕ
-moments_in s planned of j t span =
+-- how many planned frames of stream j have their releases in so many bits from bit t on
+abbrev pub releases_in : Schedule → (ℕ → Bool) → Origins → ℕ → ℕ → ℕ → ℕ
+releases_in s planned of j t span =
     total s.count (λ p. cond (planned p && (nat_eq (of.source p) j && (nat_le t (of.since p) && nat_lt (of.since p) (t + span)))) 1 0)
 
 -- of a stream of which less may be wanted than its pace allows, there are no more in any time than are wanted
 abbrev pub AreAsWanted : Schedule → (ℕ → Bool) → Origins → List Demand → (ℕ → Stream) → Type 0
 AreAsWanted s planned of demands stream = (j t span : ℕ) (demand : Demand) → demand_of demands (stream j) ≡ Some demand
-    → moments_in s planned of j t span ≤ frames_wanted span demand
+    → releases_in s planned of j t span ≤ frames_wanted span demand
 
 -- no stream is a twin of another
 abbrev pub no_twins : ℕ → ℕ → Bool
@@ -97,20 +97,21 @@ may_go_before traffic i j = not (nat_eq j i) && (nat_lt (traffic.least j) (traff
 abbrev pub others_before : Others → ℕ → ℕ
 others_before others ident = cond (nat_le others.least ident) others.count 0
 
--- the wait has room for the frame that has begun before, for others, and for what the streams that may go before can queue in it and in
--- the bit behind
-abbrev pub HasRoom : Traffic → Others → ℕ → ℕ → ℕ → Type 0
-HasRoom traffic others longest i wait =
+-- the frame that has begun before, others, and what the streams that may go before can queue in the wait and in the bit behind fit in it: it
+-- bounds the queueing delay (Davis, Burns, Bril, Lukkien, Real-Time Systems 35, 2007)
+abbrev pub DemandFits : Traffic → Others → ℕ → ℕ → ℕ → Type 0
+DemandFits traffic others longest i wait =
     longest * (1 + others_before others (traffic.greatest i))
     + total traffic.count (λ j. cond (may_go_before traffic i j) (lesser_share traffic.demands (wait + 1) (traffic.stream j)) 0) ≤ wait
 
--- how many bits after its moment a frame of the stream has been sent at most, where it waits for so many
+-- the worst-case response time of a frame of the stream, from its release until it has been sent, where it waits for so many bits at most:
+-- release jitter, queueing delay and the bits of the frame itself (Davis, Burns, Bril, Lukkien, 2007)
 abbrev pub delay_of : Stream → ℕ → ℕ
-delay_of stream wait = stream.late + (wait + stream.bits)
+delay_of stream wait = stream.jitter + (wait + stream.bits)
 
 -- each frame of the stream begins in time, and so has been sent in time
 abbrev pub IsStreamInTime : Schedule → (ℕ → Bool) → Origins → ℕ → Stream → ℕ → Type 0
-IsStreamInTime s planned of i stream wait = (p : ℕ) → p < s.count → planned p ≡ true → of.source p ≡ i → of.since p + (stream.late + wait) < s.now
+IsStreamInTime s planned of i stream wait = (p : ℕ) → p < s.count → planned p ≡ true → of.source p ≡ i → of.since p + (stream.jitter + wait) < s.now
     → (s.start p ≤ s.queued p + wait) × (s.start p + s.bits p ≤ of.since p + delay_of stream wait)
 
 -- of two frames of the stream each is queued after the end of the other, or the other way round

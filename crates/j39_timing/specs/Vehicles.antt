@@ -15,8 +15,8 @@ pub record Bus : Type 0 where
   pub traffic : Traffic
   pub others : Others
   pub longest : ℕ
-  -- the moment of a frame's message, in microseconds
-  pub moment : ℕ → ℕ
+  -- the release of a frame's message, in microseconds
+  pub release : ℕ → ℕ
 
 pub record Vehicle : Type 0 where
   pub bus : ℕ → Bus
@@ -25,7 +25,7 @@ pub record Vehicle : Type 0 where
   pub from_bus : ℕ → ℕ → ℕ
   pub from_stream : ℕ → ℕ → ℕ
   pub within : ℕ → ℕ → ℕ
-  -- how many bits a frame of the stream waits; how much after its moment it ends, and how far moments are apart, in microseconds
+  -- how many bits a frame of the stream waits; how much after its release it ends, and how far releases are apart, in microseconds
   pub wait : ℕ → ℕ → ℕ
   pub behind : ℕ → ℕ → ℕ
   pub apart : ℕ → ℕ → ℕ
@@ -37,8 +37,8 @@ carrier v b i = record {
   planned = (v.bus b).planned;
   of = (v.bus b).of;
   source = i;
-  moment = (v.bus b).moment;
-  born = (v.bus b).moment;
+  release = (v.bus b).release;
+  born = (v.bus b).release;
 }
 
 abbrev pub stream_at : Vehicle → ℕ → ℕ → Stream
@@ -48,7 +48,7 @@ stream_at v b i = (v.bus b).traffic.stream i
 abbrev pub input_at : Vehicle → ℕ → ℕ → Carrier
 input_at v b i = carrier v (v.from_bus b i) (v.from_stream b i)
 
--- when a message of it is queued at most, after its moment
+-- when a message of it is queued at most, after its release
 abbrev pub queued_within : Vehicle → ℕ → ℕ → ℕ
 queued_within v b i = v.behind (v.from_bus b i) (v.from_stream b i) + v.within b i
 
@@ -70,9 +70,10 @@ pub record IsKnown (v : Vehicle) : Type 0 where
   pub turns : (b p : ℕ) → IsPlannedOn (v.bus b) p → (v.bus b).of.turn p < (stream_at v b ((v.bus b).of.source p)).frames
   -- streams of the bus itself
   pub own_first : (b p : ℕ) → IsPlannedOn (v.bus b) p → v.direct b ((v.bus b).of.source p) ≡ false → (v.bus b).of.since p ≤ (v.bus b).schedule.queued p
-  pub own_late : (b p : ℕ) → IsPlannedOn (v.bus b) p → v.direct b ((v.bus b).of.source p) ≡ false
-      → (v.bus b).schedule.queued p ≤ (v.bus b).of.since p + (stream_at v b ((v.bus b).of.source p)).late
-  pub own_moment : (b p : ℕ) → IsPlannedOn (v.bus b) p → v.direct b ((v.bus b).of.source p) ≡ false → (v.bus b).moment p ≡ time_of (v.bus b).clock ((v.bus b).of.since p)
+  pub own_jitter : (b p : ℕ) → IsPlannedOn (v.bus b) p → v.direct b ((v.bus b).of.source p) ≡ false
+      → (v.bus b).schedule.queued p ≤ (v.bus b).of.since p + (stream_at v b ((v.bus b).of.source p)).jitter
+  pub own_release : (b p : ℕ) → IsPlannedOn (v.bus b) p → v.direct b ((v.bus b).of.source p) ≡ false
+      → (v.bus b).release p ≡ time_of (v.bus b).clock ((v.bus b).of.since p)
   pub own_spaced : (b p q : ℕ) → IsPlannedOn (v.bus b) p → IsPlannedOn (v.bus b) q → p ≢ q → v.direct b ((v.bus b).of.source p) ≡ false
       → (v.bus b).of.source p ≡ (v.bus b).of.source q → (v.bus b).of.turn p ≡ (v.bus b).of.turn q
       → ((v.bus b).of.since p + (stream_at v b ((v.bus b).of.source p)).period ≤ (v.bus b).of.since q)
@@ -87,8 +88,8 @@ pub record IsKnown (v : Vehicle) : Type 0 where
       → KeepsItsStreamsUntil (v.bus (v.from_bus b i)) by
       → AreBegunUntil (v.bus (v.from_bus b i)).schedule (v.bus (v.from_bus b i)).planned (v.bus (v.from_bus b i)).of (v.from_stream b i)
       (v.wait (v.from_bus b i) (v.from_stream b i)) by
-  -- numbers: the jitter has room for what comes before, and the period is no longer than moments are apart
-  pub late_enough : (b i : ℕ) → v.direct b i ≡ true → queued_within v b i ≤ (v.bus b).clock.unit * (stream_at v b i).late
+  -- numbers: the jitter has room for what comes before, and the period is no longer than releases are apart
+  pub jitter_enough : (b i : ℕ) → v.direct b i ≡ true → queued_within v b i ≤ (v.bus b).clock.unit * (stream_at v b i).jitter
   pub often_enough : (b i : ℕ) → v.direct b i ≡ true → (v.bus b).clock.unit * (stream_at v b i).period ≤ v.apart b i
   pub behind_own : (b i : ℕ) → v.direct b i ≡ false → (v.bus b).clock.unit * delay_of (stream_at v b i) (v.wait b i) ≤ v.behind b i
   pub behind_direct : (b i : ℕ) → v.direct b i ≡ true → queued_within v b i + (v.bus b).clock.unit * (v.wait b i + (stream_at v b i).bits) ≤ v.behind b i

@@ -12,8 +12,8 @@ pub record UnitMessages : Type 0 where
   pub count : ℕ
   -- of which flow a message is, by its place among those that want some
   pub flow : ℕ → ℕ
-  -- its moment, and the bit from which it is wanted
-  pub moment : ℕ → ℕ
+  -- its release, and the bit from which it is wanted
+  pub release : ℕ → ℕ
   pub wanted : ℕ → ℕ
   -- the bit at which its announcement is queued
   pub announced : ℕ → ℕ
@@ -22,7 +22,7 @@ pub record UnitMessages : Type 0 where
   pub place : ℕ → ℕ
 
 abbrev pub nothing : Want
-nothing = record { frames = 0; period = 1; late = 0 }
+nothing = record { frames = 0; period = 1; jitter = 0 }
 
 -- what the flow at a place wants
 abbrev pub want_at : Demand → ℕ → Want
@@ -39,11 +39,11 @@ AreOfOneFlow messages m n = (m < n) × (n < messages.count) × (messages.flow m 
 -- flows want the messages of a unit, and it sends them in turn
 pub record AreWantedInTurn (demand : Demand) (messages : UnitMessages) : Type 0 where
   pub flows : (m : ℕ) → m < messages.count → messages.flow m < length demand.wants
-  -- the moments of two messages of a flow are a period apart; each is wanted at its moment, or so many bits behind it at most, and announced then
+  -- the releases of two messages of a flow are a period apart; each is wanted at its release, or so many bits behind it at most, and announced then
   -- or later
-  pub apart : (m n : ℕ) → AreOfOneFlow messages m n → messages.moment m + (want_for demand messages n).period ≤ messages.moment n
-  pub moment_first : (m : ℕ) → m < messages.count → messages.moment m ≤ messages.wanted m
-  pub late_at_most : (m : ℕ) → m < messages.count → messages.wanted m ≤ messages.moment m + (want_for demand messages m).late
+  pub apart : (m n : ℕ) → AreOfOneFlow messages m n → messages.release m + (want_for demand messages n).period ≤ messages.release n
+  pub release_first : (m : ℕ) → m < messages.count → messages.release m ≤ messages.wanted m
+  pub jitter_at_most : (m : ℕ) → m < messages.count → messages.wanted m ≤ messages.release m + (want_for demand messages m).jitter
   pub wanted_first : (m : ℕ) → m < messages.count → messages.wanted m ≤ messages.announced m
   -- of a flow one message waits at most: where the next one is wanted it has been announced
   pub one_waits : (m n : ℕ) → AreOfOneFlow messages m n → messages.announced m ≤ messages.wanted n

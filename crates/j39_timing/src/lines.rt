@@ -31,7 +31,8 @@ fn part_of(stream: Stream) -> u64
     bits * 4_294_967_296 / u64::from(stream.period)
 }
 
-// What a stream of which this is wanted queues at least: its part of the bus, until less is wanted than its pace allows.
+// What a stream of which this is wanted queues at least: its part of the bus, until less is wanted than its pace
+// allows.
 fn wanted_stretch(wanted: &Wanted, stream: Stream, step: u64, span: u32) -> Stretch
     requires positive { IsStream stream }
     requires sound { IsWanted wanted.now }
@@ -43,7 +44,11 @@ fn wanted_stretch(wanted: &Wanted, stream: Stream, step: u64, span: u32) -> Stre
         known: 0,
         part: part_of(stream),
     };
-    let asked = wanted.line(stream.bits, step, u64::from(span) + u64::from(stream.late));
+    let asked = wanted.line(
+        stream.bits,
+        step,
+        u64::from(span) + u64::from(stream.jitter),
+    );
     if asked.part >= paced.part {
         return Stretch {
             line: paced,
@@ -61,8 +66,8 @@ fn wanted_stretch(wanted: &Wanted, stream: Stream, step: u64, span: u32) -> Stre
     }
 }
 
-// What a stream queues at least in each time from `span` bits on: its part of the bus where it comes in each `step` bits, else what it
-// queues in `span` bits.
+// What a stream queues at least in each time from `span` bits on: its part of the bus where it comes in each `step`
+// bits, else what it queues in `span` bits.
 fn stretch_of(all: &[Wanted], stream: Stream, step: u64, span: u32) -> Stretch
     requires positive { IsStream stream }
     requires sound { All IsWanted all.now }

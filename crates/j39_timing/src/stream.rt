@@ -1,14 +1,15 @@
 //! Messages that are queued again and again.
 
-/// Messages of at most `frames` frames, each of at most `bits` bits. The moments of two messages are at least `period` bits apart, which
-/// isn't 0, and each frame is queued at most `late` bits after the moment of its message: 0 where all are queued with it, a period where
-/// a message of several frames has ended before the next one begins.
+/// Messages of at most `frames` frames, each of at most `bits` bits. The releases of two messages are at least `period`
+/// bits apart, which isn't 0, and each frame is queued at most `jitter` bits after the release of its message (release
+/// and jitter of Davis and others 2007): 0 where all are queued with it, a period where a message of several frames has
+/// ended before the next one begins.
 #[derive(Clone, Copy, Debug, PartialEq, Eq)]
 pub struct Stream {
     pub frames: u16,
     pub period: u32,
     pub bits: u16,
-    pub late: u32,
+    pub jitter: u32,
     /// Where its unit may want less than that of it: what it wants, by its place among all such.
     pub wanted: Option<usize>,
 }

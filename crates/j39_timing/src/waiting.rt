@@ -1,7 +1,8 @@
 //! The least wait of a frame.
 ghost use Rattle.std.specs.Prelude.{◌≡◌, ℕ, ◌+◌, ◌*◌, ◌<◌, ◌≤◌, ◌^◌, length, map, All, sum_by, IfSome, None};
-ghost use Rattle.j39_timing.specs.LeastShares.{HaveNoRoomFrom};
-ghost use Rattle.j39_timing.specs.Waits.{IsStream, IsWanted, as_demand, demand_of, frames_wanted, lesser_share, share, need, HaveNoRoom};
+ghost use Rattle.j39_timing.specs.LeastShares.{NoneFitsFrom};
+ghost use Rattle.j39_timing.specs.Waits.{IsStream, IsWanted, as_demand, demand_of, frames_wanted, lesser_share, share};
+ghost use Rattle.j39_timing.specs.Waits.{need, NoShorterFits};
 
 use crate::lines::stretch_of_all;
 use crate::stream::Stream;
@@ -12,7 +13,7 @@ fn queued_bits(stream: Stream, span: u32) -> u64
     requires positive { IsStream stream }
     ensures share { result ≡ share span stream }
 {
-    let messages = (u64::from(span) + u64::from(stream.late)).div_ceil(u64::from(stream.period));
+    let messages = (u64::from(span) + u64::from(stream.jitter)).div_ceil(u64::from(stream.period));
     let bits = messages * u64::from(stream.bits);
     u64::from(stream.frames) * bits
 }
@@ -22,9 +23,9 @@ fn wanted_bits(wanted: &Wanted, stream: Stream, span: u32) -> u64
     requires positive { IsStream stream }
     requires sound { IsWanted wanted.now }
     requires span { span < 2 ^ 32 }
-    ensures { result ≡ frames_wanted (span + stream.late) (as_demand wanted.now) * stream.bits }
+    ensures { result ≡ frames_wanted (span + stream.jitter) (as_demand wanted.now) * stream.bits }
 {
-    wanted.frames(u64::from(span) + u64::from(stream.late)) * u64::from(stream.bits)
+    wanted.frames(u64::from(span) + u64::from(stream.jitter)) * u64::from(stream.bits)
 }
 
 /// The bits that a stream can queue in `span` bits.
@@ -64,7 +65,7 @@ fn first_allowed(all: &[Wanted], blocking: u32, streams: &[Stream], wait: u32, s
     requires few { length streams.now ≤ 2048 }
     requires sound { All IsWanted all.now }
     requires within { wait < 2 ^ 31 }
-    ensures { HaveNoRoomFrom (map as_demand all.now) blocking streams.now wait result }
+    ensures { NoneFitsFrom (map as_demand all.now) blocking streams.now wait result }
 {
     let stretch = stretch_of_all(all, streams, step, wait + 1);
     let parts = stretch.line.part;
@@ -77,18 +78,19 @@ fn first_allowed(all: &[Wanted], blocking: u32, streams: &[Stream], wait: u32, s
     allowed.min(stretch.until)
 }
 
-/// The length of the busy window of a frame up to its start: the least wait, of at most `most` bits, that has room for `blocking` bits
-/// (the longest frame that may have begun before, and what else isn't a stream's) and for all that the streams, which may go before
-/// the frame, can queue meanwhile, where this is wanted of some of them. A frame that is queued in the very bit in which the wait ends counts.
-/// None where no such wait has room. With the bits of the frame itself it is the worst-case response time (Davis and others 2007).
+/// The length of the busy window of a frame up to its start: the least wait, of at most `most` bits, that has room for
+/// `blocking` bits (the longest frame that may have begun before, and what else isn't a stream's) and for all that the
+/// streams, which may go before the frame, can queue meanwhile, where this is wanted of some of them. A frame that is
+/// queued in the very bit in which the wait ends counts. None where no such wait has room. With the bits of the frame
+/// itself it is the worst-case response time (Davis and others 2007).
 pub fn least_wait(wanted: &[Wanted], blocking: u32, streams: &[Stream], most: u32) -> Option<u32>
     requires positive { All IsStream streams.now }
     requires few { length streams.now ≤ 2048 }
     requires sound { All IsWanted wanted.now }
     requires within { most < 2 ^ 31 }
     ensures found { let demands = map as_demand wanted.now in
-        IfSome result (λ w. (w ≤ most) × (need demands blocking streams.now w ≤ w) × HaveNoRoom demands blocking streams.now w) }
-    ensures none { result ≡ None → HaveNoRoom (map as_demand wanted.now) blocking streams.now (most + 1) }
+        IfSome result (λ w. (w ≤ most) × (need demands blocking streams.now w ≤ w) × NoShorterFits demands blocking streams.now w) }
+    ensures none { result ≡ None → NoShorterFits (map as_demand wanted.now) blocking streams.now (most + 1) }
 {
     let mut wait: u32 = 0;
     while wait <= most {
@@ -96,7 +98,8 @@ pub fn least_wait(wanted: &[Wanted], blocking: u32, streams: &[Stream], most: u3
         if needed <= u64::from(wait) {
             return Some(wait);
         }
-        // parts of the bus count for streams that come in eight times what this wait lacks: of others they are less than is queued
+        // parts of the bus count for streams that come in eight times what this wait lacks: of others they are less
+        // than is queued
         let step = (needed - u64::from(wait)).saturating_mul(8);
         let allowed = first_allowed(wanted, blocking, streams, wait, step);
         let next = u128::from(needed).max(allowed);

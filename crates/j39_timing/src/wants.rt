@@ -5,13 +5,13 @@ ghost use Rattle.j39_timing.specs.Waits.{IsWant, IsWanted, as_demand, frames_of_
 
 use crate::lines::Line;
 
-/// Messages of at most `frames` frames that are wanted again and again. The moments of two are at least `period` bits apart, which isn't 0,
-/// and each is wanted at most `late` bits after its moment.
+/// Messages of at most `frames` frames that are wanted again and again. The releases of two are at least `period` bits
+/// apart, which isn't 0, and each is wanted at most `jitter` bits after its release.
 #[derive(Clone, Copy, Debug, PartialEq, Eq)]
 pub struct Want {
     pub frames: u16,
     pub period: u32,
-    pub late: u32,
+    pub jitter: u32,
 }
 
 /// What all flows of such a unit want of one of its streams.
@@ -30,11 +30,12 @@ fn frames_of_want(want: Want, span: u64) -> u64
     ensures frames { result ≡ frames_of_want span want }
     ensures few { result ≤ 2 ^ 43 }
 {
-    let messages = (span + u64::from(want.late)).div_ceil(u64::from(want.period)) + 1;
+    let messages = (span + u64::from(want.jitter)).div_ceil(u64::from(want.period)) + 1;
     u64::from(want.frames) * messages
 }
 
-// The bits that it asks for at least in each time from `span` bits on: a message, and its part of the bus where one is wanted in each
+// The bits that it asks for at least in each time from `span` bits on: a message, and its part of the bus where one is
+// wanted in each
 // `step` bits; else what it asks for in `span` bits.
 fn want_line(want: Want, bits: u16, step: u64, span: u64) -> Line
     requires want { IsWant want }

@@ -15,8 +15,8 @@ use Rattle.j39_tp.specs.declared.receiving.heard.Heard.TheVariants as heard
 use Rattle.j39_tp.specs.declared.receiving.manner.Manner.TheVariants.{Answering}
 use Rattle.j39_tp.specs.declared.receiving.progress.Progress.{Progress}
 use Rattle.j39_tp.specs.declared.receiving.progress.Progress.TheVariants.{Closed, Open, Complete}
-use Rattle.j39_tp.specs.declared.receiving.reception.Kind.{Kind}
-use Rattle.j39_tp.specs.declared.receiving.reception.Kind.TheVariants.{Broadcast, Directed}
+use Rattle.j39_tp.specs.declared.receiving.reception.ReceptionKind.{ReceptionKind}
+use Rattle.j39_tp.specs.declared.receiving.reception.ReceptionKind.TheVariants.{Broadcast, Directed}
 use Rattle.j39_tp.specs.declared.receiving.reception.Reception.{Reception}
 use Rattle.j39_tp.specs.declared.sending.dest.Dest.{Dest}
 use Rattle.j39_tp.specs.declared.sending.dest.Dest.TheVariants.{All, One}
@@ -105,11 +105,11 @@ IsTold x = TellsNothing x.1 ⊎ (TellsMessage x.1 × (is_open_at x.0 ≡ false))
 asks_aside : (window reason : ℕ) (r : Reception) → IsAside (receiver.asks window reason r).1
 asks_aside window reason r = cond_both (nat_lt r.asked receiver.ask_limit) _ _ (λ (x : Progress × Packet). IsAside x.1) (λ _. tt) (λ _. tt)
 
-going_on_told : (window : ℕ) (kind : Kind) (r : Reception) → TellsNothing (receiver.going_on (Answering window) kind r).1
+going_on_told : (window : ℕ) (kind : ReceptionKind) (r : Reception) → TellsNothing (receiver.going_on (Answering window) kind r).1
 going_on_told window Broadcast r = tt
 going_on_told window Directed r = tt
 
-completed_told : (window : ℕ) (kind : Kind) (r : Reception) → TellsMessage (receiver.completed (Answering window) kind r)
+completed_told : (window : ℕ) (kind : ReceptionKind) (r : Reception) → TellsMessage (receiver.completed (Answering window) kind r)
 completed_told window Broadcast r = tt
 completed_told window Directed r = tt
 
@@ -118,7 +118,7 @@ takes_next_told window r =
     cond_both (r.held + 1 == packets_of r.size) _ _ IsTold (λ _. inr (completed_told window r.kind r, refl))
     (λ _. cond_both (r.held + 1 == r.granted) _ _ IsTold (λ _. inl (going_on_told window r.kind (receiver.one_more_held r))) (λ _. inl tt))
 
-takes_later_told : (window : ℕ) (kind : Kind) (r : Reception) (number : ℕ) → IsTold (receiver.takes_later (Answering window) kind r number)
+takes_later_told : (window : ℕ) (kind : ReceptionKind) (r : Reception) (number : ℕ) → IsTold (receiver.takes_later (Answering window) kind r number)
 takes_later_told window Broadcast r number = inl tt
 takes_later_told window Directed r number =
     cond_both (number == r.granted) _ _ IsTold (λ _. inl (asks_aside window asked_too_often r)) (λ _. inl tt)
@@ -164,7 +164,7 @@ closed_told window (Complete done) (Abort reason pgn) closed other = (tt, refl)
 closed_told window (Complete done) (Dt number seven) closed other = (tt, refl)
 
 -- what it sends where nothing comes in time
-times_out_aside : (window : ℕ) (kind : Kind) (r : Reception) → IfSome (receiver.times_out (Answering window) kind r).1 IsAside
+times_out_aside : (window : ℕ) (kind : ReceptionKind) (r : Reception) → IfSome (receiver.times_out (Answering window) kind r).1 IsAside
 times_out_aside window Broadcast r = tt
 times_out_aside window Directed r = asks_aside window timeout r
 

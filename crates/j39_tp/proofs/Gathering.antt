@@ -7,7 +7,8 @@ use Rattle.std.proofs.lemmas.Bool.{cases_order, eqb-false, leb-true}
 use Rattle.std.proofs.lemmas.Option.{slice_get_within}
 use Rattle.j39_tp.specs.Chunks.{IsSize, packets_of}
 use Rattle.j39_tp.specs.Packets.{InRange}
-use Rattle.j39_tp.specs.Receiver.{Receiving, hears, receives, gives_up, timed_out, times_out, grown, bytes_at, message_of, opened, one_more_held, asks, completed}
+use Rattle.j39_tp.specs.Receiver.{Receiving, hears, receives, gives_up, timed_out, times_out, grown, bytes_at, message_of, opened, one_more_held, asks}
+use Rattle.j39_tp.specs.Receiver.{completed}
 use Rattle.j39_tp.specs.Receiver.{going_on, takes_data, takes_next, takes_later, is_complete, is_directed}
 use Rattle.j39_tp.specs.Carried.{Announces, MayPass, Awaits, Leaves, IsUndisturbed, Carried}
 use Rattle.j39_tp.specs.Gathered.{Reaches, Gathered, Gathers, HoldsCarried}
@@ -18,8 +19,8 @@ use Rattle.j39_tp.specs.declared.packet.Packet.{Packet}
 use Rattle.j39_tp.specs.declared.packet.Packet.TheVariants.{Rts, Cts, EndAck, Bam, Abort, Dt}
 use Rattle.j39_tp.specs.declared.receiving.progress.Progress.{Progress}
 use Rattle.j39_tp.specs.declared.receiving.progress.Progress.TheVariants.{Closed, Open, Complete}
-use Rattle.j39_tp.specs.declared.receiving.reception.Kind.{Kind}
-use Rattle.j39_tp.specs.declared.receiving.reception.Kind.TheVariants.{Broadcast, Directed}
+use Rattle.j39_tp.specs.declared.receiving.reception.ReceptionKind.{ReceptionKind}
+use Rattle.j39_tp.specs.declared.receiving.reception.ReceptionKind.TheVariants.{Broadcast, Directed}
 use Rattle.j39_tp.specs.declared.receiving.reception.Reception.{Reception}
 use Rattle.j39_tp.proofs.Walks.{Walk, walk_of, carried_of}
 use Rattle.j39_tp.proofs.Hearing.{PacketPasses, if_case, if_cases, take_again, last_heard, last_grown}
@@ -43,14 +44,14 @@ last_stands (x ∷ h) p = last_stands h p
 one_longer : (h : List Packet) (p : Packet) → length (h ++ p ∷ []) ≡ suc (length h)
 one_longer h p = length-append h (p ∷ []) ∙ add-one (length h)
 
-awaits_on : (h more : List Packet) (kind : Kind) (k from to : ℕ) → to ≤ length h → Awaits h kind k from to → Awaits (h ++ more) kind k from to
+awaits_on : (h more : List Packet) (kind : ReceptionKind) (k from to : ℕ) → to ≤ length h → Awaits h kind k from to → Awaits (h ++ more) kind k from to
 awaits_on h more kind k from to within a = λ j number chunk lo hi e. a j number chunk lo hi (sym (stood_before h more j (omega arith)) ∙ e)
 
-undisturbed_on : (h more : List Packet) (kind : Kind) (pgn from to : ℕ) → to ≤ length h → IsUndisturbed h kind pgn from to
+undisturbed_on : (h more : List Packet) (kind : ReceptionKind) (pgn from to : ℕ) → to ≤ length h → IsUndisturbed h kind pgn from to
     → IsUndisturbed (h ++ more) kind pgn from to
 undisturbed_on h more kind pgn from to within u = λ j p lo hi e. u j p lo hi (sym (stood_before h more j (omega arith)) ∙ e)
 
-reaches_on : (h more : List Packet) (kind : Kind) (start k place : ℕ) (chunks : List ℕ) → Reaches h kind start k place chunks
+reaches_on : (h more : List Packet) (kind : ReceptionKind) (start k place : ℕ) (chunks : List ℕ) → Reaches h kind start k place chunks
     → Reaches (h ++ more) kind start k place chunks
 reaches_on h more kind start zero place chunks r = r
 reaches_on h more kind start (suc k) place chunks r =
@@ -87,7 +88,7 @@ carried_on h more place pgn message within c =
     carried_of (h ++ more) place pgn message (walk_on h more place pgn message within (walk_of h place pgn message c))
 
 -- the packet at its end is one that may pass
-more_awaits : (h : List Packet) (p : Packet) (kind : Kind) (k from : ℕ) → PacketPasses kind k p → Awaits h kind k from (length h)
+more_awaits : (h : List Packet) (p : Packet) (kind : ReceptionKind) (k from : ℕ) → PacketPasses kind k p → Awaits h kind k from (length h)
     → Awaits (h ++ p ∷ []) kind k from (length (h ++ p ∷ []))
 more_awaits h p kind k from pass a = λ j number chunk lo hi e.
     elim (cases_order j (length h)) [
@@ -101,7 +102,7 @@ more_awaits h p kind k from pass a = λ j number chunk lo hi e.
       ]
     ]
 
-more_undisturbed : (h : List Packet) (p : Packet) (kind : Kind) (pgn from : ℕ) → Leaves kind pgn p → IsUndisturbed h kind pgn from (length h)
+more_undisturbed : (h : List Packet) (p : Packet) (kind : ReceptionKind) (pgn from : ℕ) → Leaves kind pgn p → IsUndisturbed h kind pgn from (length h)
     → IsUndisturbed (h ++ p ∷ []) kind pgn from (length (h ++ p ∷ []))
 more_undisturbed h p kind pgn from leaves u = λ j other lo hi e.
     elim (cases_order j (length h)) [
@@ -135,7 +136,7 @@ gathered_on h r bytes p pass leaves g = record {
 }
 
 -- it was just announced
-gathered_new : (h : List Packet) (kind : Kind) (pgn size limit : ℕ) (p : Packet) → Announces p kind pgn size → IsSize size
+gathered_new : (h : List Packet) (kind : ReceptionKind) (pgn size limit : ℕ) (p : Packet) → Announces p kind pgn size → IsSize size
     → Gathered (h ++ p ∷ []) (opened kind pgn size limit) []
 gathered_new h kind pgn size limit p a fits = record {
   start = length h;
@@ -152,7 +153,7 @@ gathered_new h kind pgn size limit p a fits = record {
 }
 
 -- the place of its last packet is one of the history
-reached_within : (h : List Packet) (kind : Kind) (start k place : ℕ) (chunks : List ℕ) (p : Packet) → slice_get h start ≡ Some p
+reached_within : (h : List Packet) (kind : ReceptionKind) (start k place : ℕ) (chunks : List ℕ) (p : Packet) → slice_get h start ≡ Some p
     → Reaches h kind start k place chunks → place < length h
 reached_within h kind start zero place chunks p e r = rw (r.0) (slice_get_within h start p e)
 reached_within h kind start (suc k) place chunks p e r = slice_get_within h place (Dt (suc k) r.2) r.6
@@ -210,7 +211,7 @@ regranted h r bytes granted asked g = record {
 
 -- ---- after each packet, and after a time without one
 
-going_gathers : (h : List Packet) (m : Manner) (k : Kind) (r : Reception) (bytes : List ℕ) → Gathered h r bytes → Gathers h (going_on m k r).0 bytes
+going_gathers : (h : List Packet) (m : Manner) (k : ReceptionKind) (r : Reception) (bytes : List ℕ) → Gathered h r bytes → Gathers h (going_on m k r).0 bytes
 going_gathers h (Answering window) Directed r bytes g = regranted h r bytes _ _ g
 going_gathers h (Answering window) Broadcast r bytes g = g
 going_gathers h Listening k r bytes g = g
@@ -231,7 +232,7 @@ next_gathers h m r bytes chunk g =
     (λ _. if_case P (r.held + 1 == r.granted) _ _ (λ _. going_gathers _ m r.kind (one_more_held r) _ more) (λ _. more))
 
 -- a number that isn't the next
-later_gathers : (h : List Packet) (m : Manner) (k : Kind) (r : Reception) (number : ℕ) (bytes chunk : List ℕ) → r.kind ≡ k
+later_gathers : (h : List Packet) (m : Manner) (k : ReceptionKind) (r : Reception) (number : ℕ) (bytes chunk : List ℕ) → r.kind ≡ k
     → (number ≡ r.held + 1 → ⊥) → Gathered h r bytes → Gathers (h ++ Dt number chunk ∷ []) (takes_later m k r number).0 bytes
 later_gathers h m Broadcast r number bytes chunk same other g = tt
 later_gathers h Listening Directed r number bytes chunk same other g =
@@ -241,7 +242,7 @@ later_gathers h (Answering window) Directed r number bytes chunk same other g =
     if_case (λ p. Gathers (h ++ Dt number chunk ∷ []) p bytes) (number == r.granted) _ _ (λ _. asking_gathers _ window 5 r bytes stays) (λ _. stays)
 
 -- a number that is held already may pass
-held_passes : (kind : Kind) (k number : ℕ) → number < k → MayPass kind k number
+held_passes : (kind : ReceptionKind) (k number : ℕ) → number < k → MayPass kind k number
 held_passes Directed k number less = λ e. absurd (omega arith)
 held_passes Broadcast k number less = less
 
@@ -259,7 +260,7 @@ data_gathers h m r number bytes chunk g =
     (λ more. later_gathers h m r.kind r number bytes chunk refl (eqb-false number (r.held + 1) other) g))
 
 -- an Abort that isn't the session's
-abort_leaves : (kind : Kind) (pgn reason named : ℕ) → is_directed kind && named == pgn ≡ false → Leaves kind pgn (Abort reason named)
+abort_leaves : (kind : ReceptionKind) (pgn reason named : ℕ) → is_directed kind && named == pgn ≡ false → Leaves kind pgn (Abort reason named)
 abort_leaves Directed pgn reason named other = eqb-false named pgn other
 abort_leaves Broadcast pgn reason named other = tt
 
@@ -294,7 +295,7 @@ pub hears_gathers : (h : List Packet) (s : Receiving) (p : Packet) → InRange p
 hears_gathers h s p range g =
     gathers_kept (h ++ p ∷ []) (hears s.manner s.progress p).0 (grown s.progress p s.bytes) (packet_gathers h s.manner s.progress s.bytes p range g)
 
-late_gathers : (h : List Packet) (m : Manner) (k : Kind) (r : Reception) (bytes : List ℕ) → Gathered h r bytes → Gathers h (times_out m k r).0 bytes
+late_gathers : (h : List Packet) (m : Manner) (k : ReceptionKind) (r : Reception) (bytes : List ℕ) → Gathered h r bytes → Gathers h (times_out m k r).0 bytes
 late_gathers h (Answering window) Directed r bytes g = asking_gathers h window 3 r bytes g
 late_gathers h (Answering window) Broadcast r bytes g = tt
 late_gathers h Listening k r bytes g = tt
@@ -325,12 +326,12 @@ pub record IsLast (pr : Progress) (p : Packet) : Type 0 where
   pub packet_is : p ≡ Dt (suc reception.held) chunk
   pub last : suc reception.held ≡ packets_of reception.size
 
-going_untold : (m : Manner) (k : Kind) (r : Reception) → Tells (going_on m k r).1 → ⊥
+going_untold : (m : Manner) (k : ReceptionKind) (r : Reception) → Tells (going_on m k r).1 → ⊥
 going_untold (Answering window) Directed r told = cc told
 going_untold (Answering window) Broadcast r told = cc told
 going_untold Listening k r told = cc told
 
-later_untold : (m : Manner) (k : Kind) (r : Reception) (number : ℕ) → Tells (takes_later m k r number).1 → ⊥
+later_untold : (m : Manner) (k : ReceptionKind) (r : Reception) (number : ℕ) → Tells (takes_later m k r number).1 → ⊥
 later_untold m Broadcast r number told = cc told
 later_untold Listening Directed r number told = cc told
 later_untold (Answering window) Directed r number told = if_told ⊥ (number == r.granted) _ _ told (λ _ f. cc f) (λ _ f. cc f)
@@ -390,7 +391,8 @@ last_carried h r bytes chunk last g =
       bytes = rw (g.bytes_are) (take_again r.size g.chunks chunk);
     }
 
-pub last_received : (s : Receiving) (p : Packet) (r : Reception) (chunk : List ℕ) → s.progress ≡ Open r → p ≡ Dt (suc r.held) chunk → suc r.held ≡ packets_of r.size
+pub last_received : (s : Receiving) (p : Packet) (r : Reception) (chunk : List ℕ) → s.progress ≡ Open r → p ≡ Dt (suc r.held) chunk
+    → suc r.held ≡ packets_of r.size
     → ((receives s p).progress ≡ Complete r.pgn) × ((receives s p).bytes ≡ take r.size (s.bytes ++ chunk))
 last_received s p r chunk o q last =
     let done : hears s.manner s.progress p ≡ (Complete r.pgn, completed s.manner r.kind r) = rw (o, q) (last_heard s.manner r chunk last) in

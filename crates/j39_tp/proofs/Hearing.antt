@@ -15,7 +15,7 @@ use Rattle.j39_tp.specs.declared.packet.Packet.{Packet}
 use Rattle.j39_tp.specs.declared.packet.Packet.TheVariants.{Dt}
 use Rattle.j39_tp.specs.declared.receiving.progress.Progress.{Progress}
 use Rattle.j39_tp.specs.declared.receiving.progress.Progress.TheVariants.{Open, Complete}
-use Rattle.j39_tp.specs.declared.receiving.reception.Kind.{Kind}
+use Rattle.j39_tp.specs.declared.receiving.reception.ReceptionKind.{ReceptionKind}
 use Rattle.j39_tp.specs.declared.receiving.reception.Reception.{Reception}
 
 same_manner : (s : Receiving) (o : Option Packet) → (receives_any s o).manner ≡ s.manner
@@ -63,7 +63,7 @@ if_cases P false x y u v h k = k refl
 -- ---- what both directions share
 
 -- the number of a data packet may pass; another packet isn't one
-abbrev pub PacketPasses : Kind → ℕ → Packet → Type 0
+abbrev pub PacketPasses : ReceptionKind → ℕ → Packet → Type 0
 PacketPasses kind k (Dt number chunk) = MayPass kind k number
 PacketPasses kind k _ = Unit {0}
 

@@ -16,8 +16,8 @@ use Rattle.j39_tp.specs.declared.packet.Packet.{Packet}
 use Rattle.j39_tp.specs.declared.packet.Packet.TheVariants.{Rts, Cts, EndAck, Bam, Abort, Dt}
 use Rattle.j39_tp.specs.declared.receiving.progress.Progress.{Progress}
 use Rattle.j39_tp.specs.declared.receiving.progress.Progress.TheVariants.{Closed, Open, Complete}
-use Rattle.j39_tp.specs.declared.receiving.reception.Kind.{Kind}
-use Rattle.j39_tp.specs.declared.receiving.reception.Kind.TheVariants.{Broadcast, Directed}
+use Rattle.j39_tp.specs.declared.receiving.reception.ReceptionKind.{ReceptionKind}
+use Rattle.j39_tp.specs.declared.receiving.reception.ReceptionKind.TheVariants.{Broadcast, Directed}
 use Rattle.j39_tp.specs.declared.receiving.reception.Reception.{Reception}
 
 -- an open session holds this many packets
@@ -47,7 +47,7 @@ fits_both : (b : Bool) (x y : Progress × Heard) (u v : List ℕ) → (b ≡ tru
 fits_both true x y u v h k = h refl
 fits_both false x y u v h k = k refl
 
-going_holds : (m : Manner) (k : Kind) (r : Reception) → Holds (going_on m k r).0 r.held
+going_holds : (m : Manner) (k : ReceptionKind) (r : Reception) → Holds (going_on m k r).0 r.held
 going_holds (Answering window) Directed r = refl
 going_holds (Answering window) Broadcast r = refl
 going_holds Listening k r = refl
@@ -56,14 +56,15 @@ asks_if : (b : Bool) (x y : Progress × Packet) (n : ℕ) → Holds x.0 n → Ho
 asks_if true x y n h k = h
 asks_if false x y n h k = k
 
-later_holds : (m : Manner) (k : Kind) (r : Reception) (number : ℕ) → Holds (takes_later m k r number).0 r.held
+later_holds : (m : Manner) (k : ReceptionKind) (r : Reception) (number : ℕ) → Holds (takes_later m k r number).0 r.held
 later_holds m Broadcast r number = tt
 later_holds Listening Directed r number = refl
 later_holds (Answering window) Directed r number =
     holds_if (number == r.granted) _ _ r.held (asks_if (nat_lt r.asked 2) _ _ r.held refl tt) refl
 
 -- a packet after those that are held, which isn't the last
-next_holds : (m : Manner) (r : Reception) → Holds (if r.held + 1 == r.granted then going_on m r.kind (one_more_held r) else (Open (one_more_held r), heard.Nothing)).0
+next_holds : (m : Manner) (r : Reception)
+    → Holds (if r.held + 1 == r.granted then going_on m r.kind (one_more_held r) else (Open (one_more_held r), heard.Nothing)).0
     (r.held + 1)
 next_holds m r = holds_if (r.held + 1 == r.granted) _ _ (r.held + 1) (going_holds m r.kind (one_more_held r)) refl
 

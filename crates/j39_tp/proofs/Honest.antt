@@ -13,8 +13,8 @@ use Rattle.j39_tp.specs.HonestPackets.{AnnouncesMessage, GoesOn, TellsLast}
 use Rattle.j39_tp.specs.Sender.{announcement}
 use Rattle.j39_tp.specs.declared.packet.Packet.{Packet}
 use Rattle.j39_tp.specs.declared.packet.Packet.TheVariants.{Rts, Cts, EndAck, Bam, Abort, Dt}
-use Rattle.j39_tp.specs.declared.receiving.reception.Kind.{Kind}
-use Rattle.j39_tp.specs.declared.receiving.reception.Kind.TheVariants.{Broadcast, Directed}
+use Rattle.j39_tp.specs.declared.receiving.reception.ReceptionKind.{ReceptionKind}
+use Rattle.j39_tp.specs.declared.receiving.reception.ReceptionKind.TheVariants.{Broadcast, Directed}
 use Rattle.j39_tp.specs.declared.sending.dest.Dest.{Dest}
 use Rattle.j39_tp.specs.declared.sending.dest.Dest.TheVariants.{All, One}
 use Rattle.j39_tp.proofs.Gathering.{stands_on, last_stands}
@@ -91,7 +91,7 @@ same_to c d (suc k) same =
 
 -- ---- what is carried
 
-not_both : (bytes : List ℕ) (p : Packet) (kind : Kind) (pgn size : ℕ) → GoesOn bytes p → Announces p kind pgn size → ⊥
+not_both : (bytes : List ℕ) (p : Packet) (kind : ReceptionKind) (pgn size : ℕ) → GoesOn bytes p → Announces p kind pgn size → ⊥
 not_both bytes (Rts n l named) kind pgn size goes a = goes
 not_both bytes (Bam n named) kind pgn size goes a = goes
 not_both bytes (Cts count first named) kind pgn size goes a = a
@@ -100,13 +100,13 @@ not_both bytes (Abort reason named) kind pgn size goes a = a
 not_both bytes (Dt number seven) kind pgn size goes a = a
 
 -- what the announcement of a message announces
-announced_as : (dest : Dest) (kind : Kind) (pgn n other size : ℕ) → Announces (announcement dest pgn n) kind other size → (pgn ≡ other) × (n ≡ size)
+announced_as : (dest : Dest) (kind : ReceptionKind) (pgn n other size : ℕ) → Announces (announcement dest pgn n) kind other size → (pgn ≡ other) × (n ≡ size)
 announced_as All Broadcast pgn n other size a = a
 announced_as All Directed pgn n other size a = absurd a
 announced_as One Broadcast pgn n other size a = absurd a
 announced_as One Directed pgn n other size a = a
 
-ends_it : (dest : Dest) (kind : Kind) (pgn size other : ℕ) → Leaves kind other (announcement dest pgn size) → ⊥
+ends_it : (dest : Dest) (kind : ReceptionKind) (pgn size other : ℕ) → Leaves kind other (announcement dest pgn size) → ⊥
 ends_it All kind pgn size other leaves = leaves
 ends_it One kind pgn size other leaves = leaves
 

@@ -14,8 +14,8 @@ use Rattle.j39_tp.specs.declared.packet.Packet.{Packet}
 use Rattle.j39_tp.specs.declared.packet.Packet.TheVariants.{Rts, Cts, EndAck, Bam, Abort, Dt}
 use Rattle.j39_tp.specs.declared.receiving.progress.Progress.{Progress}
 use Rattle.j39_tp.specs.declared.receiving.progress.Progress.TheVariants.{Closed, Open, Complete}
-use Rattle.j39_tp.specs.declared.receiving.reception.Kind.{Kind}
-use Rattle.j39_tp.specs.declared.receiving.reception.Kind.TheVariants.{Broadcast, Directed}
+use Rattle.j39_tp.specs.declared.receiving.reception.ReceptionKind.{ReceptionKind}
+use Rattle.j39_tp.specs.declared.receiving.reception.ReceptionKind.TheVariants.{Broadcast, Directed}
 use Rattle.j39_tp.specs.declared.receiving.reception.Reception.{Reception}
 
 -- ---- what completes nothing
@@ -24,12 +24,12 @@ quiet_if : (b : Bool) (x y : Progress × Heard) (u : List ℕ) → size_told x.1
 quiet_if true x y u h k = h
 quiet_if false x y u h k = k
 
-going_quiet : (m : Manner) (k : Kind) (r : Reception) (u : List ℕ) → size_told (going_on m k r).1 u ≡ None
+going_quiet : (m : Manner) (k : ReceptionKind) (r : Reception) (u : List ℕ) → size_told (going_on m k r).1 u ≡ None
 going_quiet (Answering window) Directed r u = refl
 going_quiet (Answering window) Broadcast r u = refl
 going_quiet Listening k r u = refl
 
-later_quiet : (m : Manner) (k : Kind) (r : Reception) (number : ℕ) (u : List ℕ) → size_told (takes_later m k r number).1 u ≡ None
+later_quiet : (m : Manner) (k : ReceptionKind) (r : Reception) (number : ℕ) (u : List ℕ) → size_told (takes_later m k r number).1 u ≡ None
 later_quiet m Broadcast r number u = refl
 later_quiet Listening Directed r number u = refl
 later_quiet (Answering window) Directed r number u = quiet_if (number == r.granted) _ _ u refl refl
@@ -45,7 +45,7 @@ closed_quiet m (Dt number chunk) u = refl
 
 -- ---- the last packet
 
-complete_told : (m : Manner) (k : Kind) (r : Reception) (u : List ℕ) → size_told (completed m k r) u ≡ Some (length u)
+complete_told : (m : Manner) (k : ReceptionKind) (r : Reception) (u : List ℕ) → size_told (completed m k r) u ≡ Some (length u)
 complete_told (Answering window) Directed r u = refl
 complete_told (Answering window) Broadcast r u = refl
 complete_told Listening k r u = refl

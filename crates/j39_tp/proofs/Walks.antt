@@ -6,10 +6,10 @@ use Rattle.j39_tp.specs.Chunks.{IsSize, packets_of}
 use Rattle.j39_tp.specs.Carried.{Announces, IsNext, chunks_to, IsUndisturbed, Carried}
 use Rattle.j39_tp.specs.Gathered.{Reaches}
 use Rattle.j39_tp.specs.declared.packet.Packet.{Packet}
-use Rattle.j39_tp.specs.declared.receiving.reception.Kind.{Kind}
+use Rattle.j39_tp.specs.declared.receiving.reception.ReceptionKind.{ReceptionKind}
 
 pub record Walk (h : List Packet) (place pgn : ℕ) (message : List ℕ) : Type 0 where
-  pub kind : Kind
+  pub kind : ReceptionKind
   pub start : ℕ
   pub size : ℕ
   pub chunks : List ℕ
@@ -23,7 +23,7 @@ pub record Walk (h : List Packet) (place pgn : ℕ) (message : List ℕ) : Type 
 
 -- ---- a row of places is a walk
 
-reaches_row : (h : List Packet) (kind : Kind) (at : ℕ → ℕ) (chunk : ℕ → List ℕ) (k : ℕ)
+reaches_row : (h : List Packet) (kind : ReceptionKind) (at : ℕ → ℕ) (chunk : ℕ → List ℕ) (k : ℕ)
     → ((j : ℕ) → j < k → IsNext h kind (suc j) (at j) (at (suc j)) (chunk (suc j)))
     → Reaches h kind (at 0) k (at k) (chunks_to chunk k)
 reaches_row h kind at chunk zero next = (refl, refl)
@@ -57,7 +57,7 @@ walk_of h place pgn message c = record {
 
 -- ---- a walk is a row of places
 
-record Row (h : List Packet) (kind : Kind) (start k place : ℕ) (chunks : List ℕ) : Type 0 where
+record Row (h : List Packet) (kind : ReceptionKind) (start k place : ℕ) (chunks : List ℕ) : Type 0 where
   pub at : ℕ → ℕ
   pub chunk : ℕ → List ℕ
   pub first : at 0 ≡ start
@@ -75,7 +75,7 @@ up_to-old k old new j le = let here : nat_le j k ≡ true = le-leb j k le in rw 
 up_to-new : {A : Type 0} (k : ℕ) (old : ℕ → A) (new : A) → up_to k old new (suc k) ≡ new
 up_to-new k old new = let above : nat_le (suc k) k ≡ false = lt-leb (suc k) k (omega arith) in rw above refl
 
-same_next : (h : List Packet) (kind : Kind) (k a b c d : ℕ) (x y : List ℕ) → c ≡ a → d ≡ b → y ≡ x → IsNext h kind k a b x → IsNext h kind k c d y
+same_next : (h : List Packet) (kind : ReceptionKind) (k a b c d : ℕ) (x y : List ℕ) → c ≡ a → d ≡ b → y ≡ x → IsNext h kind k a b x → IsNext h kind k c d y
 same_next h kind k a b c d x y e f g next = rw (e, f, g) next
 
 same_chunks : (c d : ℕ → List ℕ) (k : ℕ) → ((j : ℕ) → j ≤ k → c j ≡ d j) → chunks_to c k ≡ chunks_to d k
@@ -85,7 +85,7 @@ same_chunks c d (suc k) same =
     let last : c (suc k) ≡ d (suc k) = same (suc k) (omega arith) in
     rw (front, last) refl
 
-row_of : (h : List Packet) (kind : Kind) (start k place : ℕ) (chunks : List ℕ) → Reaches h kind start k place chunks → Row h kind start k place chunks
+row_of : (h : List Packet) (kind : ReceptionKind) (start k place : ℕ) (chunks : List ℕ) → Reaches h kind start k place chunks → Row h kind start k place chunks
 row_of h kind start zero place chunks r = record {
   at = λ j. start;
   chunk = λ j. [];

@@ -9,27 +9,27 @@ use Rattle.j39_tp.specs.declared.receiving.manner.Manner.TheVariants.{Listening}
 use Rattle.j39_tp.specs.declared.packet.Packet.{Packet}
 use Rattle.j39_tp.specs.declared.packet.Packet.TheVariants.{Rts, Bam, Abort, Dt}
 use Rattle.j39_tp.specs.declared.receiving.progress.Progress.TheVariants.{Complete}
-use Rattle.j39_tp.specs.declared.receiving.reception.Kind.{Kind}
-use Rattle.j39_tp.specs.declared.receiving.reception.Kind.TheVariants.{Broadcast, Directed}
+use Rattle.j39_tp.specs.declared.receiving.reception.ReceptionKind.{ReceptionKind}
+use Rattle.j39_tp.specs.declared.receiving.reception.ReceptionKind.TheVariants.{Broadcast, Directed}
 
 -- the packet announces a message of this PGN and size, to all or to one
-abbrev pub Announces : Packet → Kind → ℕ → ℕ → Type 0
+abbrev pub Announces : Packet → ReceptionKind → ℕ → ℕ → Type 0
 Announces (Bam size named) Broadcast pgn n = (named ≡ pgn) × (size ≡ n)
 Announces (Rts size limit named) Directed pgn n = (named ≡ pgn) × (size ≡ n)
 Announces _ _ pgn n = ⊥
 
 -- a data packet that may stand where packet k is awaited: another one, and after a BAM none that comes later
-abbrev pub MayPass : Kind → ℕ → ℕ → Type 0
+abbrev pub MayPass : ReceptionKind → ℕ → ℕ → Type 0
 MayPass Directed k number = number ≢ k
 MayPass Broadcast k number = number < k
 
 -- between two places no data packet is the awaited one, nor, after a BAM, one that comes later
-abbrev pub Awaits : List Packet → Kind → ℕ → ℕ → ℕ → Type 0
+abbrev pub Awaits : List Packet → ReceptionKind → ℕ → ℕ → ℕ → Type 0
 Awaits h kind k from to =
     (j number : ℕ) → (chunk : List ℕ) → from < j → j < to → slice_get h j ≡ Some (Dt number chunk) → MayPass kind k number
 
 -- data packet k with this chunk stands at a place, the first of its number after the place before
-pub record IsNext (h : List Packet) (kind : Kind) (k before place : ℕ) (chunk : List ℕ) : Type 0 where
+pub record IsNext (h : List Packet) (kind : ReceptionKind) (k before place : ℕ) (chunk : List ℕ) : Type 0 where
   pub later : before < place
   pub stands : slice_get h place ≡ Some (Dt k chunk)
   pub first : Awaits h kind k before place
@@ -40,20 +40,20 @@ chunks_to chunk zero = []
 chunks_to chunk (suc k) = chunks_to chunk k ++ chunk (suc k)
 
 -- a packet that leaves a session open: no announcement, and for a message to one no Abort of its PGN
-abbrev pub Leaves : Kind → ℕ → Packet → Type 0
+abbrev pub Leaves : ReceptionKind → ℕ → Packet → Type 0
 Leaves kind pgn (Bam size named) = ⊥
 Leaves kind pgn (Rts size limit named) = ⊥
 Leaves Directed pgn (Abort reason named) = named ≢ pgn
 Leaves kind pgn _ = Unit {0}
 
 -- all packets between two places do
-abbrev pub IsUndisturbed : List Packet → Kind → ℕ → ℕ → ℕ → Type 0
+abbrev pub IsUndisturbed : List Packet → ReceptionKind → ℕ → ℕ → ℕ → Type 0
 IsUndisturbed h kind pgn from to = (j : ℕ) → (p : Packet) → from < j → j < to → slice_get h j ≡ Some p → Leaves kind pgn p
 
 -- the list carries the message: its announcement stands at place 0 of a row of places, data packet k + 1 at the first
 -- place for it after that of packet k, and the last at this place; nothing between ends the session
 pub record Carried (h : List Packet) (place pgn : ℕ) (message : List ℕ) : Type 0 where
-  pub kind : Kind
+  pub kind : ReceptionKind
   pub size : ℕ
   pub announcement : Packet
   pub at : ℕ → ℕ

@@ -8,12 +8,12 @@ use Rattle.j39_tp.specs.declared.packet.Packet.{Packet}
 use Rattle.j39_tp.specs.declared.packet.Packet.TheVariants.{Dt}
 use Rattle.j39_tp.specs.declared.receiving.progress.Progress.{Progress}
 use Rattle.j39_tp.specs.declared.receiving.progress.Progress.TheVariants.{Open, Complete}
-use Rattle.j39_tp.specs.declared.receiving.reception.Kind.{Kind}
+use Rattle.j39_tp.specs.declared.receiving.reception.ReceptionKind.{ReceptionKind}
 use Rattle.j39_tp.specs.declared.receiving.reception.Reception.{Reception}
 
 -- data packets 1 to k stand in order after the announcement, each the first of its number after the one before;
 -- the last at this place, and these are their chunks
-abbrev pub Reaches : List Packet → Kind → ℕ → ℕ → ℕ → List ℕ → Type 0
+abbrev pub Reaches : List Packet → ReceptionKind → ℕ → ℕ → ℕ → List ℕ → Type 0
 Reaches h kind start zero place chunks = (place ≡ start) × (chunks ≡ [])
 Reaches h kind start (suc k) place chunks =
     (before : ℕ) × (front : List ℕ) × (chunk : List ℕ) × Reaches h kind start k before front

@@ -13,12 +13,12 @@ use Rattle.j39_tp.specs.declared.packet.Packet.{Packet}
 use Rattle.j39_tp.specs.declared.packet.Packet.TheVariants.{Rts, Cts, EndAck, Bam, Abort, Dt}
 use Rattle.j39_tp.specs.declared.receiving.progress.Progress.{Progress}
 use Rattle.j39_tp.specs.declared.receiving.progress.Progress.TheVariants.{Closed, Open, Complete}
-use Rattle.j39_tp.specs.declared.receiving.reception.Kind.{Kind}
-use Rattle.j39_tp.specs.declared.receiving.reception.Kind.TheVariants.{Broadcast, Directed}
+use Rattle.j39_tp.specs.declared.receiving.reception.ReceptionKind.{ReceptionKind}
+use Rattle.j39_tp.specs.declared.receiving.reception.ReceptionKind.TheVariants.{Broadcast, Directed}
 use Rattle.j39_tp.specs.declared.receiving.reception.Reception.{Reception}
 
 -- a session that was just announced
-abbrev pub opened : Kind → ℕ → ℕ → ℕ → Reception
+abbrev pub opened : ReceptionKind → ℕ → ℕ → ℕ → Reception
 opened kind pgn size limit = record { kind = kind; pgn = pgn; size = size; limit = limit; held = 0; granted = 0; asked = 0 }
 
 -- the maximum number of packets that may be sent for one CTS, as the RTS announces it; 0 counts as no limit
@@ -50,13 +50,13 @@ asks window reason r =
     else (Closed, Abort reason r.pgn)
 
 -- goes on with a session: an answering receiver grants packets of a message to it alone
-abbrev pub going_on : Manner → Kind → Reception → Progress × Heard
+abbrev pub going_on : Manner → ReceptionKind → Reception → Progress × Heard
 going_on (Answering window) Directed r = (Open (granted_to window r), heard.Reply (clear_packet window r))
 going_on (Answering window) Broadcast r = (Open r, heard.Nothing)
 going_on Listening kind r = (Open r, heard.Nothing)
 
 -- how a complete message is told
-abbrev pub completed : Manner → Kind → Reception → Heard
+abbrev pub completed : Manner → ReceptionKind → Reception → Heard
 completed (Answering window) Directed r = heard.CompleteReply (EndAck r.size r.pgn)
 completed (Answering window) Broadcast r = heard.Complete
 completed Listening kind r = heard.Complete
@@ -79,7 +79,7 @@ asks_after window r number =
     else (Open r, heard.Nothing)
 
 -- a packet after a missing one: it ends a message to all; a listener passes it over, and an answering receiver asks again
-abbrev pub takes_later : Manner → Kind → Reception → ℕ → Progress × Heard
+abbrev pub takes_later : Manner → ReceptionKind → Reception → ℕ → Progress × Heard
 takes_later manner Broadcast r number = (Closed, heard.Closed)
 takes_later Listening Directed r number = (Open r, heard.Nothing)
 takes_later (Answering window) Directed r number = asks_after window r number
@@ -91,7 +91,7 @@ takes_data manner r number =
     else if nat_le number r.held then (Open r, heard.Nothing)
     else takes_later manner r.kind r number
 
-abbrev pub is_directed : Kind → Bool
+abbrev pub is_directed : ReceptionKind → Bool
 is_directed Directed = true
 is_directed Broadcast = false
 
@@ -112,7 +112,7 @@ hears manner progress (Cts count first pgn) = (progress, heard.Nothing)
 hears manner progress (EndAck size pgn) = (progress, heard.Nothing)
 
 -- where a receiver stands once nothing was heard in time, and what it sends
-abbrev pub times_out : Manner → Kind → Reception → Progress × Option Packet
+abbrev pub times_out : Manner → ReceptionKind → Reception → Progress × Option Packet
 times_out (Answering window) Directed r = ((asks window timeout r).0, Some (asks window timeout r).1)
 times_out (Answering window) Broadcast r = (Closed, None)
 times_out Listening kind r = (Closed, None)

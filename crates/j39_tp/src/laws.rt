@@ -20,16 +20,21 @@ pub fn bytes_are_one_packet()
     ensures data { AreOneData }
 {}
 
-/// A listener that hears packets from closed completes a message exactly where they carry one, and then holds that message.
+/// A listener that hears packets from closed completes a message exactly where they carry one, and then holds that
+/// message.
 pub fn listener_completes_what_is_carried()
-    ensures completed { (h : List Packet) (place pgn : ℕ) (message : List ℕ) → AreInRange h → CompletesAt h place pgn message → Carried h place pgn message }
-    ensures carried { (h : List Packet) (place pgn : ℕ) (message : List ℕ) → Carried h place pgn message → CompletesAt h place pgn message }
+    ensures completed { (h : List Packet) (place pgn : ℕ) (message : List ℕ) → AreInRange h
+        → CompletesAt h place pgn message → Carried h place pgn message }
+    ensures carried { (h : List Packet) (place pgn : ℕ) (message : List ℕ) → Carried h place pgn message
+        → CompletesAt h place pgn message }
 {}
 
 /// A place of a list of packets carries one message.
 pub fn a_place_carries_one_message()
-    ensures pgn { (h : List Packet) (place pgn other : ℕ) (message words : List ℕ) → Carried h place pgn message → Carried h place other words → pgn ≡ other }
-    ensures bytes { (h : List Packet) (place pgn other : ℕ) (message words : List ℕ) → Carried h place pgn message → Carried h place other words
+    ensures pgn { (h : List Packet) (place pgn other : ℕ) (message words : List ℕ) → Carried h place pgn message
+        → Carried h place other words → pgn ≡ other }
+    ensures bytes { (h : List Packet) (place pgn other : ℕ) (message words : List ℕ) → Carried h place pgn message
+        → Carried h place other words
         → message ≡ words }
 {}
 
@@ -37,14 +42,17 @@ pub fn a_place_carries_one_message()
 pub fn receivers_gather_what_they_hear()
     ensures hears { (h : List Packet) (s : Receiving) (p : Packet) → InRange p → Gathers h s.progress s.bytes
         → Gathers (h ++ p ∷ []) (receives s p).progress (receives s p).bytes }
-    ensures times_out { (h : List Packet) (s : Receiving) → Gathers h s.progress s.bytes → Gathers h (gives_up s).progress (gives_up s).bytes }
+    ensures times_out { (h : List Packet) (s : Receiving) → Gathers h s.progress s.bytes
+        → Gathers h (gives_up s).progress (gives_up s).bytes }
     ensures completes { (h : List Packet) (s : Receiving) (p : Packet) → Gathers h s.progress s.bytes
         → is_complete (hears s.manner s.progress p).1 ≡ true → HoldsCarried (h ++ p ∷ []) (length h) (receives s p) }
 {}
 
 /// What an honest sender has put on the bus since its announcement carries its message and no other.
 pub fn honest_packets_carry_their_message()
-    ensures announced { (h : List Packet) (pgn : ℕ) (bytes : List ℕ) (p : Packet) → AnnouncesMessage pgn bytes p → TellsLast (h ++ p ∷ []) pgn bytes }
-    ensures goes_on { (h : List Packet) (pgn : ℕ) (bytes : List ℕ) (p : Packet) → GoesOn bytes p → TellsLast h pgn bytes → TellsLast (h ++ p ∷ []) pgn bytes }
+    ensures announced { (h : List Packet) (pgn : ℕ) (bytes : List ℕ) (p : Packet) → AnnouncesMessage pgn bytes p
+        → TellsLast (h ++ p ∷ []) pgn bytes }
+    ensures goes_on { (h : List Packet) (pgn : ℕ) (bytes : List ℕ) (p : Packet) → GoesOn bytes p → TellsLast h pgn bytes
+        → TellsLast (h ++ p ∷ []) pgn bytes }
     ensures carries { CarriesItsMessage }
 {}

@@ -42,7 +42,8 @@ use Rattle.j39_tp.specs.declared.sending.stage.Stage.{Stage}
 use Rattle.j39_tp.specs.declared.sending.stage.Stage.TheVariants.{Resting}
 use Rattle.j39_laws.proofs.Transfers.Naming.{HasEndedWithout}
 use Rattle.j39_world.specs.Transfers.{Outgoing, is_among}
-use Rattle.j39_world.specs.TransferSteps.{BeginsAt, SendsAt, LostFrom, TakenFrom, first_frame, hearing, packets_in, reaction_of, receiver_replies, sender_replies}
+use Rattle.j39_world.specs.TransferSteps.{BeginsAt, SendsAt, LostFrom, TakenFrom, first_frame, hearing, packets_in, reaction_of, receiver_replies}
+use Rattle.j39_world.specs.TransferSteps.{sender_replies}
 use Rattle.j39_world.specs.World.{World, changed}
 use Rattle.j39_laws.proofs.Runs.Changed.{changed_here}
 use Rattle.j39_laws.proofs.Runs.Conditions.{is_unit, none_refuses, units_known}
@@ -50,7 +51,8 @@ use Rattle.j39_laws.proofs.Runs.Elements.{all_map}
 use Rattle.j39_laws.proofs.Runs.Units.{in_units}
 use Rattle.j39_laws.proofs.Addresses.CleanUnits.{names_in_range}
 use Rattle.j39_follow.specs.Holders.{HoldsByFrames}
-use Rattle.j39_traces.specs.Between.{GoesToHolder, IsKnownAt, IsOfStep, IsSentBehind, IsSentBy, IsTransport, MessagesGoBetweenHolders, SendsTo, tells_of_addresses}
+use Rattle.j39_traces.specs.Between.{GoesToHolder, IsKnownAt, IsOfStep, IsSentBehind, IsSentBy, IsTransport, MessagesGoBetweenHolders, SendsTo}
+use Rattle.j39_traces.specs.Between.{tells_of_addresses}
 use Rattle.j39_traces.specs.Telling.{HaveOwnNumbers}
 use Rattle.j39_traces.proofs.Ends.{HasEnds, IsEnd, IsFor, all_ends, begun_ends, sent_ends}
 use Rattle.j39_traces.proofs.Identifiers.{IsOther, carries_none, sent_as}

@@ -27,7 +27,8 @@ use Rattle.j39_world.specs.declared.wired.Wired.TheVariants as wired
 use Rattle.j39_world.specs.ClaimSteps.{GivenFrom}
 use Rattle.j39_world.specs.Flows.{FlowGoes, dest_of, flows_of, windows_of}
 use Rattle.j39_network.specs.PlannedUnits.{unit_at, units_of}
-use Rattle.j39_world.specs.Run.{Follows, StepsTo, at_ends, begin_refusal, begin_refusals, send_refusal, send_refusals, count_of, has_address, is_nothing_undelivered, is_on, refusal, Run}
+use Rattle.j39_world.specs.Run.{Follows, StepsTo, at_ends, begin_refusal, begin_refusals, send_refusal, send_refusals, count_of, has_address}
+use Rattle.j39_world.specs.Run.{is_nothing_undelivered, is_on, refusal, Run}
 use Rattle.j39_world.specs.LiveEnds.{AreEndsAlone, StandsAlone}
 use Rattle.j39_traces.specs.KeepsEnds.{KeepsEnds}
 use Rattle.j39_network.specs.Staying.{IsAloneThere}

@@ -5,7 +5,7 @@ use Rattle.std.specs.List.{position, slice_get}
 use Rattle.std.specs.Option.{option_or}
 use Rattle.std.proofs.lemmas.Bool.{and_parts, true≢false}
 use Rattle.std.proofs.lemmas.List.Quantifiers.{position-Some}
-use Rattle.std.proofs.lemmas.Option.{get_or_from_slice_get, slice_get-get_or, slice_get_within}
+use Rattle.std.proofs.lemmas.Option.{get_or_from_slice_get, slice_get-get_or, slice_get_within, none-some, same_Some}
 use Rattle.j39_network.specs.declared.plan.Plan.{Plan}
 use Rattle.j39_network.specs.declared.plan.flow_plan.FlowPlan.{FlowPlan}
 use Rattle.j39_network.specs.declared.plan.group_plan.GroupPlan.{GroupPlan}
@@ -14,23 +14,17 @@ use Rattle.j39_network.specs.declared.plan.to.To.TheVariants.{All as ToAll, One 
 use Rattle.j39_world.specs.Flows.{flow_of}
 use Rattle.j39_world.specs.declared.flow.Flow.{Flow}
 use Rattle.j39_follow.specs.Fits.{fits, fits_all, fitting_flow, is_for_all, is_unit, reaches}
-use Rattle.j39_follow.specs.declared.sending.Aim.{Aim}
-use Rattle.j39_follow.specs.declared.sending.Aim.TheVariants as aims
-use Rattle.j39_follow.specs.declared.sending.Sending.{Sending}
-use Rattle.j39_follow.proofs.ToAll.{none_fits}
-
-pub some_same : {A : Type 0} (x y : A) → Some x ≡ Some y → x ≡ y
-some_same x y e = cc
-
-pub none_some : {A : Type 0} (x : A) → None ≡ Some x → ⊥
-none_some x e = cc
+use Rattle.j39_follow.specs.declared.flow.sending.Aim.{Aim}
+use Rattle.j39_follow.specs.declared.flow.sending.Aim.TheVariants as aims
+use Rattle.j39_follow.specs.declared.flow.sending.Sending.{Sending}
+use Rattle.j39_follow.proofs.Flows.ToAll.{none_fits}
 
 -- ---- flows
 
 pub planned_flow : (groups : List GroupPlan) (flows : List FlowPlan) (k : ℕ) (flow : Flow) → slice_get (map (flow_of groups) flows) k ≡ Some flow
     → (planned : FlowPlan) × (slice_get flows k ≡ Some planned) × (flow ≡ flow_of groups planned)
-planned_flow groups [] k flow e = absurd (none_some flow e)
-planned_flow groups (x ∷ flows) zero flow e = (x, refl, some_same flow (flow_of groups x) (sym e))
+planned_flow groups [] k flow e = absurd (none-some flow e)
+planned_flow groups (x ∷ flows) zero flow e = (x, refl, same_Some flow (flow_of groups x) (sym e))
 planned_flow groups (x ∷ flows) (suc k) flow e = planned_flow groups flows k flow e
 
 -- a flow of a group, with what the group has
@@ -72,7 +66,7 @@ fitting_there plan g sent n d is = go (position (fits_all g sent) plan.flows.ite
     go : (o : Option ℕ) → position (fits_all g sent) plan.flows.items ≡ o → option_or o (position (fits g sent) plan.flows.items) ≡ Some n
         → (flow : FlowPlan) × (slice_get plan.flows.items n ≡ Some flow) × (fits g sent flow ≡ true)
     go (Some m) at e =
-        let same : m ≡ n = some_same m n e in
+        let same : m ≡ n = same_Some m n e in
         let (flow, there, passes) = passing (fits_all g sent) plan.flows.items n d (at ∙ ap Some same) in
         (flow, there, (and_parts (is_for_all flow.to) (fits g sent flow) passes).1)
     go None at e = passing (fits g sent) plan.flows.items n d e

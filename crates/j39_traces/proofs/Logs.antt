@@ -15,8 +15,8 @@ use Rattle.j39_claim.specs.declared.item.Item.TheVariants.{Told, Request}
 use Rattle.j39_claim.specs.declared.item.Say.TheVariants.{Claim, Cannot}
 use Rattle.j39_id.specs.FrameMeaning.{carries_name, name_in, requests_group}
 use Rattle.j39_world.specs.Sent.{Sent, frame_of, sent_of, source_of}
-use Rattle.j39_follow.specs.Holders.{Claims, HoldsByFrames, TakesFrom, TellsOf}
-use Rattle.j39_follow.proofs.Holding.{holds_new, holds_on}
+use Rattle.j39_follow.specs.Holders.{Claims, HoldsByFrames, TakesFrom, ClaimsOrCannot}
+use Rattle.j39_follow.proofs.Addresses.Holding.{holds_new, holds_on}
 use Rattle.j39_traces.specs.Between.{tells_of_addresses}
 use Rattle.j39_traces.proofs.Identifiers.{carries_none, claim_ident, pgn_there, request_ident}
 
@@ -35,17 +35,17 @@ split {A} {B} f (x ∷ xs) (y ∷ ys) zs e =
 -- ---- frames that tell of no NAME
 
 abbrev pub TellsNothing : Frame → Type 0
-TellsNothing f = (name : ℕ) → ¬ TellsOf f name
+TellsNothing f = (name : ℕ) → ¬ ClaimsOrCannot f name
 
 both_false : (b x y : Bool) → b ≡ false → ((b && x) || (b && y)) ≡ false
 both_false b x y e = rw e refl
 
 pub tells_nothing : (f : Frame) → carries_name f ≡ false → TellsNothing f
 tells_nothing f none name tells =
-    true≢false (sym tells.told ∙ both_false (carries_name f) (is_address f.ident.sa) (f.ident.sa == null_address) none)
+    true≢false (sym tells.either ∙ both_false (carries_name f) (is_address f.ident.sa) (f.ident.sa == null_address) none)
 
-claim_told : (f : Frame) (name a : ℕ) → Claims f name a → TellsOf f name
-claim_told f name a c = record { told = rw c.claim refl; name_is = c.name_is }
+claim_told : (f : Frame) (name a : ℕ) → Claims f name a → ClaimsOrCannot f name
+claim_told f name a c = record { either = rw c.claim refl; name_is = c.name_is }
 
 takes_nothing : (f : Frame) (name a : ℕ) → TellsNothing f → ¬ TakesFrom name a f
 takes_nothing f name a nothing (inl tells) = nothing name tells

@@ -39,7 +39,7 @@ use Rattle.j39_laws.proofs.Runs.Changed.{changed_here}
 use Rattle.j39_laws.proofs.Runs.Conditions.{is_unit, none_refuses, units_known}
 use Rattle.j39_laws.proofs.Runs.Elements.{all-append, all_map}
 use Rattle.j39_laws.proofs.Runs.Units.{in_units}
-use Rattle.j39_follow.specs.Holders.{TellsOf}
+use Rattle.j39_follow.specs.Holders.{ClaimsOrCannot}
 use Rattle.j39_traces.specs.Telling.{HaveOwnNumbers}
 use Rattle.j39_traces.proofs.Identifiers.{IsOther, carries_none}
 use Rattle.j39_traces.proofs.Logs.{IsItemInRange, keeps, tells_nothing}
@@ -52,7 +52,7 @@ IsUnitName plan name = (u : ℕ) × (is_unit plan u ≡ true) × ((unit_at (unit
 
 -- a frame that is sent so tells of no other
 abbrev pub TellsUnit : Plan → Sent → Type 0
-TellsUnit plan x = (f : Frame) → sent_of f ≡ x → (name : ℕ) → TellsOf f name → IsUnitName plan name
+TellsUnit plan x = (f : Frame) → sent_of f ≡ x → (name : ℕ) → ClaimsOrCannot f name → IsUnitName plan name
 
 -- ---- what one item tells
 
@@ -65,7 +65,7 @@ some_place (Told Cannot) = (0, λ e. cc)
 some_place Request = (0, λ e. cc)
 
 own_name : (name : ℕ) → name < 2 ^ 64 → (held : Option ℕ) → source_of held < 256 → (f : Frame) (item : Item) → IsItemInRange item
-    → sent_of f ≡ frame_of name held item → (other : ℕ) → TellsOf f other → other ≡ name
+    → sent_of f ≡ frame_of name held item → (other : ℕ) → ClaimsOrCannot f other → other ≡ name
 own_name name range held source f item less e other tells = elim (cases_eq other name) [
   | inl same ↦ same
   | inr apart ↦

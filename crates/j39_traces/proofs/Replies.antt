@@ -9,8 +9,8 @@ use Rattle.j39_tp.specs.declared.receiving.heard.Heard.{Heard}
 use Rattle.j39_tp.specs.declared.receiving.manner.Manner.TheVariants.{Answering}
 use Rattle.j39_tp.specs.declared.receiving.progress.Progress.{Progress}
 use Rattle.j39_tp.specs.declared.receiving.progress.Progress.TheVariants.{Closed, Open, Complete}
-use Rattle.j39_tp.specs.declared.receiving.reception.Kind.{Kind}
-use Rattle.j39_tp.specs.declared.receiving.reception.Kind.TheVariants.{Broadcast, Directed}
+use Rattle.j39_tp.specs.declared.receiving.reception.ReceptionKind.{ReceptionKind}
+use Rattle.j39_tp.specs.declared.receiving.reception.ReceptionKind.TheVariants.{Broadcast, Directed}
 use Rattle.j39_tp.specs.declared.receiving.reception.Reception.{Reception}
 use Rattle.j39_tp.proofs.Answering.{IsAside}
 use Rattle.j39_network.specs.declared.plan.Plan.{Plan}
@@ -52,7 +52,7 @@ answering window pr p = hears_by window pr p (λ x. RepliesNone x ⊎ IsAnswerin
     answers : {X : Type 0} (r : Reception) → pr ≡ Open r → r.kind ≡ Directed → X ⊎ IsAnswering pr p
     answers r at kind = inr (r.pgn, inl (subst (λ (x : Progress). IsOpenFor x r.pgn) (sym at) (kind, refl)))
 
-    completes : (r : Reception) → pr ≡ Open r → (kind : Kind) → r.kind ≡ kind
+    completes : (r : Reception) → pr ≡ Open r → (kind : ReceptionKind) → r.kind ≡ kind
         → (receiver_replies (receiver.completed (Answering window) kind r) ≡ []) ⊎ IsAnswering pr p
     completes r at Broadcast is = inl refl
     completes r at Directed is = answers r at is
@@ -61,7 +61,7 @@ late_answering : (window : ℕ) (pr : Progress)
     → (packets_in (receiver.timed_out (Answering window) pr).1 ≡ []) ⊎ ((pgn : ℕ) × IsOpenFor pr pgn)
 late_answering window (Open r) = of r.kind refl
   where
-    of : (kind : Kind) → r.kind ≡ kind
+    of : (kind : ReceptionKind) → r.kind ≡ kind
         → (packets_in (receiver.times_out (Answering window) kind r).1 ≡ []) ⊎ ((pgn : ℕ) × IsOpenFor (Open r) pgn)
     of Broadcast e = inl refl
     of Directed e = inr (r.pgn, (e, refl))

@@ -2,6 +2,7 @@
 use Rattle.std.proofs.Common.{◌≡◌, ◌≢◌, ◌⊎◌, ℕ, ◌<◌, true, false, Option, Some, None, inl, inr, refl, sym, ap, subst, ◌∙◌, arith, nat_le}
 use Rattle.std.proofs.lemmas.Bool.{and_parts, leb-true, true≢false}
 use Rattle.std.specs.Bool.{MatchBool}
+use Rattle.std.proofs.lemmas.Option.{same_Some}
 use Rattle.j39_id.specs.Addresses.{in_pool, null_address}
 use Rattle.j39_claim.specs.declared.item.Item.{Item}
 use Rattle.j39_claim.specs.declared.item.Item.TheVariants.{Told, Request}
@@ -12,12 +13,12 @@ use Rattle.j39_network.specs.declared.plan.Plan.{Plan}
 use Rattle.j39_network.specs.PlannedUnits.{unit_at, units_of}
 use Rattle.j39_world.specs.Sent.{source_of}
 use Rattle.j39_world.specs.World.{Stations, Undelivered, all_off, changed}
-use Rattle.j39_laws.proofs.Addresses.CleanUnits.{placed}
 use Rattle.j39_laws.proofs.Addresses.Notes.{claim_cases}
 use Rattle.j39_laws.proofs.Runs.Changed.{changed_each}
 use Rattle.j39_laws.proofs.Runs.ClaimInvariants.{IsKeptByClaimSteps}
 use Rattle.j39_laws.proofs.Runs.Conditions.{is_unit}
 use Rattle.j39_laws.proofs.Runs.Units.{AreUnitsOn, in_units, units_on}
+use Rattle.j39_findings.proofs.WhoStays.{placed}
 
 -- ---- what a unit answers
 
@@ -28,9 +29,6 @@ IsSilentTurn s item says new = (says ≡ None) × (new.address ≡ s.address) ×
 abbrev pub IsSaidTurn : ClaimState → Option Say → ClaimState → Type 0
 IsSaidTurn s says new =
     (says ≡ Some (claim_of new.address)) × ((a : ℕ) → new.address ≡ Some a → (s.address ≡ Some a) ⊎ (in_pool a ≡ true))
-
-some_same : (a b : ℕ) → Some a ≡ Some b → a ≡ b
-some_same a b e = cc
 
 some_none : {A : Type 0} (a : ℕ) → None ≡ Some a → A
 some_none a e = absurd (cc e)
@@ -58,7 +56,7 @@ turn p s n (Told (Claim c)) says new answers =
           let at : new.address ≡ Some b = ap (λ (t : ClaimState). t.address) is in
           inr (
             said ∙ sym (ap (λ (o : Option ℕ). Some (claim_of o)) at),
-            λ a e. inr (subst (λ (k : ℕ). in_pool k ≡ true) (some_same b a (sym at ∙ e)) free.pool),
+            λ a e. inr (subst (λ (k : ℕ). in_pool k ≡ true) (same_Some b a (sym at ∙ e)) free.pool),
           )
       | inr gives ↦
           let (none, said, is) = gives in
@@ -124,7 +122,7 @@ stands_on : (plan : Plan) (stations : Stations) → ((x : ℕ) → HoldsAddress 
     → (x : ℕ) → HoldsAddress (changed stations u (started (unit_at (units_of plan) u)) x)
 stands_on plan stations hold u unit =
     changed_each (λ x s. HoldsAddress s) stations u (started (unit_at (units_of plan) u))
-    (λ a e. subst (λ (k : ℕ). k < null_address) (some_same (unit_at (units_of plan) u).preferred a e) (preferred_below plan u unit)) hold
+    (λ a e. subst (λ (k : ℕ). k < null_address) (same_Some (unit_at (units_of plan) u).preferred a e) (preferred_below plan u unit)) hold
 
 pub standing_keeps : (plan : Plan) → IsKeptByClaimSteps plan (AreStanding plan)
 standing_keeps plan = record {

@@ -5,7 +5,7 @@ use Rattle.std.specs.List.{AllByRecursion, Contains, slice_get}
 use Rattle.std.specs.Option.{option_map, option_map_or}
 use Rattle.std.proofs.lemmas.Bool.{MatchBool-at_true, and_parts, cases_Bool, cases_eq, cond-false, cond_both, eqb-true, ne_eqb, not-false, true≢false}
 use Rattle.std.proofs.lemmas.List.{append-nil}
-use Rattle.std.proofs.lemmas.Option.{get_or_from_slice_get, slice_get-map, slice_get_within}
+use Rattle.std.proofs.lemmas.Option.{get_or_from_slice_get, slice_get-map, slice_get_within, same_Some}
 use Rattle.j39_id.specs.Addresses.{null_address}
 use Rattle.j39_id.specs.Pgn.{is_pgn}
 use Rattle.j39_id.specs.Services.{is_service}
@@ -29,7 +29,8 @@ use Rattle.j39_world.specs.declared.flow.Flow.{Flow}
 use Rattle.j39_world.specs.declared.wired.Wired.{Wired}
 use Rattle.j39_world.specs.declared.wired.Wired.TheVariants as wired
 use Rattle.j39_world.specs.SwitchingOff.{switched_off}
-use Rattle.j39_world.specs.ClaimSteps.{GivenFrom, answer_items, asked as asks, asking_items, first_items, heard_and_answered, switched_on, told_to_others, without_lists_to}
+use Rattle.j39_world.specs.ClaimSteps.{GivenFrom, answer_items, asked as asks, asking_items, first_items, heard_and_answered, switched_on, told_to_others}
+use Rattle.j39_world.specs.ClaimSteps.{without_lists_to}
 use Rattle.j39_world.specs.Flows.{dest_of, flow_of, flows_of, is_short, windows_of}
 use Rattle.j39_world.specs.Opening.{AreNamesDistinct}
 use Rattle.j39_network.specs.PlannedUnits.{unit_at, units_of}
@@ -56,9 +57,6 @@ use Rattle.j39_traces.specs.Telling.{EachIsTold, FramesTellHolders, HaveOwnNumbe
 use Rattle.j39_traces.proofs.Identifiers.{IsOther, carries_none, planned_other}
 use Rattle.j39_traces.proofs.Logs.{IsItemInRange, TellsNothing, asked, claimed, others, silent_keep, split, tells_nothing}
 use Rattle.j39_traces.proofs.Standing.{AreStanding, HoldsAddress, at_first, preferred_below, said_held, source_below, standing_keeps, turn, turned_any}
-
-some_same : (a b : ℕ) → Some a ≡ Some b → a ≡ b
-some_same a b e = cc
 
 -- ---- frames of transfers
 
@@ -102,9 +100,6 @@ one_silent frame silent (f ∷ g ∷ more) e = absurd (cc e)
 no_flow : {A : Type 0} (x : Flow) → None ≡ Some x → A
 no_flow x e = absurd (cc e)
 
-flow_same : (x y : Flow) → Some x ≡ Some y → x ≡ y
-flow_same x y e = cc
-
 pub flow_other : (plan : Plan) → HaveOwnNumbers plan → (k : ℕ) (flow : Flow) → slice_get (flows_of plan) k ≡ Some flow → IsOther flow.pgn
 flow_other plan own k flow at =
     let groups = plan.groups.items in
@@ -122,7 +117,7 @@ flow_other plan own k flow at =
     of_flow : (groups : List GroupPlan) (o : Option FlowPlan) → option_map (flow_of plan.groups.items) o ≡ Some flow → IsOther flow.pgn
     of_flow groups None e = no_flow flow e
     of_flow groups (Some x) e =
-        subst (λ (y : Flow). IsOther y.pgn) (flow_same (flow_of plan.groups.items x) flow e) (of_group (slice_get plan.groups.items x.group) x.group refl)
+        subst (λ (y : Flow). IsOther y.pgn) (same_Some (flow_of plan.groups.items x) flow e) (of_group (slice_get plan.groups.items x.group) x.group refl)
 
 -- ---- what units say is an address
 
@@ -165,7 +160,8 @@ module _ (plan : Plan) (distinct : AreNamesDistinct (units_of plan)) (own : Have
   destination_below (One v) = source_below (w.stations v) (inv.standing.1 v)
 
   -- a step that tells nothing of addresses
-  silent_step : (more : List Sent) (new : List Sent) → new ≡ w.frames ++ more → ((tail : List Frame) → map sent_of tail ≡ more → AllByRecursion TellsNothing tail)
+  silent_step : (more : List Sent) (new : List Sent) → new ≡ w.frames ++ more
+      → ((tail : List Frame) → map sent_of tail ≡ more → AllByRecursion TellsNothing tail)
       → (log : List Frame) → map sent_of log ≡ new → (u a : ℕ) → (unit_at units u).claims ≡ true → (w.stations u).on ≡ true
       → (w.stations u).address ≡ Some a
       → HoldsByFrames log (name u) a ⊎ IsStillToHear w.claims u a
@@ -213,7 +209,7 @@ module _ (plan : Plan) (distinct : AreNamesDistinct (units_of plan)) (own : Have
         | inl same ↦
             let here : (now x).address ≡ Some (unit_at units u).preferred =
             ap (λ (k : ℕ). (now k).address) same ∙ ap (λ (s : ClaimState). s.address) (changed_here w.stations u (start u)) in
-            let is : (unit_at units u).preferred ≡ a = some_same (unit_at units u).preferred a (sym here ∙ address) in
+            let is : (unit_at units u).preferred ≡ a = same_Some (unit_at units u).preferred a (sym here ∙ address) in
             let s = split sent_of log w.frames (map (frame_of (name u) held) items) e in
             let claiming : (unit_at units u).claims ≡ true = ap (λ (k : ℕ). (unit_at units k).claims) (sym same) ∙ claims in
             let frames : map sent_of s.1 ≡ frame_of (name u) held (Told (Claim (unit_at units u).preferred)) ∷ [] =
@@ -468,6 +464,6 @@ alone_frames_tell plan clean distinct own steps w run u alone log of a claims on
       | inl holds ↦ holds
       | inr (v, claim) ↦
           let is = undisturbed_on plan clean steps w run u alone on in
-          let same : a ≡ (unit_at (units_of plan) u).preferred = some_same a (unit_at (units_of plan) u).preferred (sym address ∙ is.held) in
+          let same : a ≡ (unit_at (units_of plan) u).preferred = same_Some a (unit_at (units_of plan) u).preferred (sym address ∙ is.held) in
           absurd (is.unclaimed v (subst (λ (k : ℕ). Contains (w.claims v u) (Told (Claim k))) same claim))
     ]

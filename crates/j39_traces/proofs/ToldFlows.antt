@@ -8,7 +8,7 @@ use Rattle.std.specs.Option.{is_some, option_map_or}
 use Rattle.std.specs.Ordering.{nat_cmp}
 use Rattle.std.proofs.lemmas.Bool.{and_parts, cases_Bool, cases_order, leb-true, ne_eqb, or_left, true≢false}
 use Rattle.std.proofs.lemmas.List.Elements.{All-head, All-tail}
-use Rattle.std.proofs.lemmas.Option.{get_or_from_slice_get, slice_get_within}
+use Rattle.std.proofs.lemmas.Option.{get_or_from_slice_get, slice_get_within, none-some, same_Some}
 use Rattle.j39_id.specs.Addresses.{global_address}
 use Rattle.j39_id.specs.Ident.{pgn_of}
 use Rattle.j39_id.specs.Limits.{frame_bytes}
@@ -43,19 +43,19 @@ use Rattle.j39_follow.specs.Fits.{IsSentGroup, MayBeGroup, fits, fitting_flow, m
 use Rattle.j39_follow.specs.FollowReports.{IsMessageReport, IsSendingOf, aim_at, in_frame, is_to_all}
 use Rattle.j39_follow.specs.Who.{IsWho, unit_of}
 use Rattle.j39_follow.specs.declared.message.Sort.TheVariants.{Grouped, Other}
-use Rattle.j39_follow.specs.declared.sending.Aim.{Aim}
-use Rattle.j39_follow.specs.declared.sending.Aim.TheVariants as aims
-use Rattle.j39_follow.specs.declared.sending.Sending.{Sending}
-use Rattle.j39_follow.specs.declared.who.Who.{Who}
-use Rattle.j39_follow.specs.declared.who.Who.TheVariants.{Holder}
-use Rattle.j39_follow.proofs.Parties.{one_who}
+use Rattle.j39_follow.specs.declared.flow.sending.Aim.{Aim}
+use Rattle.j39_follow.specs.declared.flow.sending.Aim.TheVariants as aims
+use Rattle.j39_follow.specs.declared.flow.sending.Sending.{Sending}
+use Rattle.j39_follow.specs.declared.address.who.Who.{Who}
+use Rattle.j39_follow.specs.declared.address.who.Who.TheVariants.{Holder}
+use Rattle.j39_follow.proofs.Addresses.Parties.{one_who}
 use Rattle.j39_traces.specs.Between.{GoesToHolder, IsKnownAt, IsOfStep, IsSentBehind, IsTransport}
 use Rattle.j39_traces.specs.Telling.{HaveOwnNumbers}
 use Rattle.j39_traces.specs.ToldFlows.{AreToldAsBegun, EachClaims, IsBegunBy, LooksLike, untimed}
 use Rattle.j39_traces.proofs.Between.{step_goes}
 use Rattle.j39_traces.proofs.Ends.{HasEnds, all_ends}
 use Rattle.j39_traces.proofs.Telling.{AreTold, all_told}
-use Rattle.j39_traces.proofs.FittingFlows.{some_same, none_some, planned_flow, of_group, some_there, fitting_there, fitting_some, fit_parts, fit_whole, same_receivers}
+use Rattle.j39_traces.proofs.FittingFlows.{planned_flow, of_group, some_there, fitting_there, fitting_some, fit_parts, fit_whole, same_receivers}
 use Rattle.j39_traces.proofs.SentFrames.{not_sent, IsInFrame, begun, sent_alone, planned_number, own_numbers, no_transport, tells_nothing}
 
 -- ---- units that claim
@@ -86,7 +86,7 @@ no_time (f ∷ frames) (y ∷ before) x behind e =
 stands : (plan : Plan) (frames : List Frame) (a : ℕ) (who : Who) → IsTaken plan (untimed frames) a who → IsWho plan frames a who
 stands plan frames a who (inl (c, contested, is)) =
     let (before, x, row, time) = contested.time_is in
-    absurd (none_some contested.runs.now (sym (no_time frames before x [] row) ∙ time ∙ contested.runs.now_is))
+    absurd (none-some contested.runs.now (sym (no_time frames before x [] row) ∙ time ∙ contested.runs.now_is))
 stands plan frames a who (inr (calm, is)) = subst (λ (fs : List Frame). IsWho plan fs a who) (frames_untimed frames) is
 
 unit_there : (plan : Plan) (frames : List Frame) (a u : ℕ) (who : Who) → IsWho plan frames a (Holder u) → IsTaken plan (untimed frames) a who
@@ -165,7 +165,7 @@ module _ (plan : Plan) (clean : Clean plan) (claims : EachClaims plan) (w : Worl
       length = of.lengths;
       selected = of.selected;
       own = inr (λ (none : fitting_flow plan planned.group sent ≡ None).
-          let some = fitting_some plan planned.group sent k planned of.flow_is of.fits_it in none_some some.0 (sym none ∙ some.1));
+          let some = fitting_some plan planned.group sent k planned of.flow_is of.fits_it in none-some some.0 (sym none ∙ some.1));
     };
   }
 
@@ -225,7 +225,7 @@ module _ (plan : Plan) (clean : Clean plan) (claims : EachClaims plan) (w : Worl
                     value = planned;
                     value_is = of.flow_is;
                     meets = (
-                      some_same planned.sender flow.sender (sym b.sender ∙ a.sender),
+                      same_Some planned.sender flow.sender (sym b.sender ∙ a.sender),
                       record { value = group; value_is = of.group_is; meets = refl },
                       meets,
                     );
@@ -258,7 +258,7 @@ module _ (plan : Plan) (clean : Clean plan) (claims : EachClaims plan) (w : Worl
           twin_is = at;
           flow_group = sym same;
           twin_group = a.group ∙ sym same;
-          sender = some_same twin.sender planned.sender (sym a.sender ∙ b.sender);
+          sender = same_Some twin.sender planned.sender (sym a.sender ∙ b.sender);
           receivers = elim (same_receivers twin.to planned.to sent.aim sent.unaddressed a.reached b.reached) [
             | inl to ↦ inl to
             | inr yet ↦

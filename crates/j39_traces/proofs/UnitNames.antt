@@ -1,5 +1,6 @@
 -- The unit of a planned NAME, where no two units have one.
-use Rattle.std.proofs.Common.{◌≡◌, ◌≢◌, ℕ, zero, suc, ◌+◌, ◌<◌, ◌==◌, ◌&&◌, ◌^◌, ◌%◌, ◌/◌, Bool, true, false, not, List, [], ◌∷◌, length, map, Option, Some, None, inl, inr, refl, sym, ap, ◌∙◌, arith, eqb-true}
+use Rattle.std.proofs.Common.{◌≡◌, ◌≢◌, ℕ, zero, suc, ◌+◌, ◌<◌, ◌==◌, ◌&&◌, ◌^◌, ◌%◌, ◌/◌, Bool, true, false, not, List, [], ◌∷◌, length, map, Option, Some}
+use Rattle.std.proofs.Common.{None, inl, inr, refl, sym, ap, ◌∙◌, arith, eqb-true}
 use Rattle.std.specs.FinSet.{FinSet}
 use Rattle.std.specs.List.{slice_get}
 use Rattle.std.specs.Option.{option_or}
@@ -7,6 +8,7 @@ use Rattle.std.specs.Ordering.{nat_cmp}
 use Rattle.std.proofs.lemmas.Bool.{cases_Bool, eq-eqb, eqb-false, ltb-true, ne_eqb}
 use Rattle.std.proofs.lemmas.List.{length-map}
 use Rattle.std.proofs.lemmas.Iterator.Adapters.{position_from-zero}
+use Rattle.std.proofs.lemmas.Option.{none-some, same_Some}
 use Rattle.j39_network.specs.Kinds.{kind_of_name}
 use Rattle.j39_network.specs.declared.plan.Plan.{Plan}
 use Rattle.j39_network.specs.declared.plan.unit_plan.UnitPlan.{UnitPlan}
@@ -16,7 +18,7 @@ use Rattle.j39_world.specs.Opening.{AreNamesDistinct}
 use Rattle.j39_network.specs.PlannedUnits.{planned_unit, unit_at, units_of}
 use Rattle.j39_world.specs.Run.{count_of}
 use Rattle.j39_follow.specs.Who.{numbered_unit, unit_of_kind, unit_of_name}
-use Rattle.j39_follow.proofs.UnitNames.{both, none_some, position_at, position_none, second_false, some_same}
+use Rattle.j39_follow.proofs.Addresses.UnitNames.{both, position_at, position_none, second_false}
 
 there_is : (ps : List UnitPlan) (u : ℕ) → u < length ps → (p : UnitPlan) × (slice_get ps u ≡ Some p)
 there_is [] u less = absurd (omega (arith, less))
@@ -25,12 +27,12 @@ there_is (p ∷ ps) (suc u) less = there_is ps u (omega (arith, less))
 
 unit_there : (kept : FinSet nat_cmp) (u : ℕ) (ps : List UnitPlan) (p : UnitPlan) → slice_get ps u ≡ Some p
     → (unit_at (map (planned_unit kept) ps) u).name ≡ p.name
-unit_there kept u [] p at = absurd (none_some p at)
-unit_there kept zero (q ∷ ps) p at = ap (λ (x : UnitPlan). x.name) (some_same q p at)
+unit_there kept u [] p at = absurd (none-some p at)
+unit_there kept zero (q ∷ ps) p at = ap (λ (x : UnitPlan). x.name) (same_Some q p at)
 unit_there kept (suc u) (q ∷ ps) p at = unit_there kept u ps p at
 
 below_length : (ps : List UnitPlan) (u : ℕ) (p : UnitPlan) → slice_get ps u ≡ Some p → u < length ps
-below_length [] u p at = absurd (none_some p at)
+below_length [] u p at = absurd (none-some p at)
 below_length (q ∷ ps) zero p at = omega arith
 below_length (q ∷ ps) (suc u) p at = (let less = below_length ps u p at in omega (arith, less))
 
@@ -72,7 +74,7 @@ module _ (plan : Plan) (distinct : AreNamesDistinct (units_of plan)) (u : ℕ) (
   no_number : p.any_identity ≡ true → (k : ℕ) (q : UnitPlan) → slice_get plan.units.items k ≡ Some q → (not q.any_identity && q.name == name) ≡ false
   no_number any k q there = elim (cases_Bool (k == u)) [
     | inl same ↦
-        let one : q ≡ p = some_same q p (sym there ∙ ap (slice_get plan.units.items) (eqb-true k u same) ∙ at) in
+        let one : q ≡ p = same_Some q p (sym there ∙ ap (slice_get plan.units.items) (eqb-true k u same) ∙ at) in
         let openly : q.any_identity ≡ true = ap (λ (x : UnitPlan). x.any_identity) one ∙ any in
         ap (λ (b : Bool). not b && q.name == name) openly
     | inr other ↦ unnumbered k q (eqb-false k u other) there

@@ -10,7 +10,7 @@ use Rattle.j39_id.specs.Pgn.{is_pgn}
 use Rattle.j39_id.specs.Services.{is_service}
 use Rattle.j39_id.specs.declared.frame.Frame.{Frame}
 use Rattle.j39_id.specs.declared.ident.Ident.{Ident}
-use Rattle.j39_network.specs.Kinds.{AreToldApart, kind_of_name}
+use Rattle.j39_network.specs.Kinds.{AreDistinctUnits, kind_of_name}
 use Rattle.j39_network.specs.VehiclePlans.{IsBoxOf, IsVehicleOf}
 use Rattle.j39_network.specs.declared.plan.Plan.{Plan}
 use Rattle.j39_network.specs.declared.plan.flow_plan.FlowPlan.{FlowPlan}
@@ -22,7 +22,7 @@ use Rattle.j39_network.specs.declared.steps.Step.{Step}
 use Rattle.j39_network.specs.declared.steps.Step.TheVariants.{Up, Down, Give, Ask, Begin, Send, Emit, Take, Lose, LateSender, LateReceiver, Rest}
 use Rattle.j39_network.proofs.VehicleUnits.{boxes_apart}
 use Rattle.j39_findings.proofs.Vehicles.{clean_vehicle}
-use Rattle.j39_laws.proofs.Addresses.CleanUnits.{placed}
+use Rattle.j39_findings.proofs.WhoStays.{placed}
 use Rattle.j39_laws.proofs.Runs.Units.{in_units}
 use Rattle.j39_world.specs.declared.flow.Flow.{Flow}
 use Rattle.j39_world.specs.Flows.{FlowGoes, flow_of, flows_of}
@@ -34,9 +34,9 @@ use Rattle.j39_world.specs.Sent.{Sent, sent_of}
 use Rattle.j39_world.specs.World.{World}
 use Rattle.j39_follow.specs.Contests.{frames_of}
 use Rattle.j39_follow.specs.VehicleLogs.{IsOfVehicle, TellOfVehicle}
-use Rattle.j39_follow.proofs.VehicleParties.{TellAll}
-use Rattle.j39_follow.proofs.VehicleReports.{same_report}
-use Rattle.j39_follow.proofs.VehicleUnits.{of_box, tell_alike, unit_kept}
+use Rattle.j39_follow.proofs.Vehicles.Parties.{TellAll}
+use Rattle.j39_follow.proofs.Vehicles.Reports.{same_report}
+use Rattle.j39_follow.proofs.Vehicles.Units.{of_box, tell_alike, unit_kept}
 use Rattle.j39_traces.specs.Between.{AreJoined, ComesTo, EachGoesBetweenUnits, GoesToHolder, HasNumberOf, IsBetweenUnits, IsKnownAt, IsOfFlow}
 use Rattle.j39_traces.specs.Between.{IsOfStep, IsSentBy, MessagesGoBetweenHolders, SendsTo, StandsBehind}
 use Rattle.j39_traces.specs.Telling.{HaveOwnNumbers}
@@ -70,7 +70,7 @@ pub boxes_keep_ends : (plan vehicle : Plan) → IsVehicleOf plan vehicle → Kee
 boxes_keep_ends plan vehicle is (inl settled) = inl (is.live ∙ settled)
 boxes_keep_ends plan vehicle is (inr clean) = inr (clean_vehicle plan vehicle is clean)
 
-module _ (plan vehicle : Plan) (is : IsVehicleOf plan vehicle) (apart : AreToldApart plan) where
+module _ (plan vehicle : Plan) (is : IsVehicleOf plan vehicle) (apart : AreDistinctUnits plan) where
   -- ---- the vehicle's plan
 
   pub distinct_boxes : AreNamesDistinct (units_of vehicle)

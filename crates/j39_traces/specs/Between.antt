@@ -22,7 +22,7 @@ use Rattle.j39_world.specs.Transfers.{Outgoing, is_among}
 use Rattle.j39_world.specs.World.{World}
 use Rattle.j39_follow.specs.FollowReports.{is_to_all}
 use Rattle.j39_follow.specs.Who.{IsWho}
-use Rattle.j39_follow.specs.declared.who.Who.TheVariants.{Holder}
+use Rattle.j39_follow.specs.declared.address.who.Who.TheVariants.{Holder}
 use Rattle.j39_traces.specs.Telling.{IsLogOf}
 
 -- ---- who sends, and for whom

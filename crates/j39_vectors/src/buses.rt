@@ -45,7 +45,8 @@ fn choosers_of(alloc: Global, plan: &Plan) -> Result<Vec<Box<dyn Choose>>, Fail>
     Ok(choosers)
 }
 
-// Does the moves once both units are on and nothing is undelivered, and sees the answer, the outcome and how many reports and frames there are.
+// Does the moves once both units are on and nothing is undelivered, and sees the answer, the outcome and how many
+// reports and frames there are.
 fn ends(
     rt: &impl Abort,
     alloc: Global,

@@ -1,4 +1,5 @@
-//! Worked rows of the commands; a bus that is stepped from outside its crate; tests of sources, sinks, choosers and buses.
+//! Worked rows of the commands; a bus that is stepped from outside its crate; tests of sources, sinks, choosers and
+//! buses.
 #![tactic(auto)]
 
 mod performing;

@@ -3,14 +3,14 @@ use Rattle.std.proofs.Common.{◌≡◌, ℕ, ◌+◌, List, [], ◌∷◌, ◌+
 use Rattle.std.proofs.Common.{Some, inl, inr, refl, subst, ap, ◌∙◌, append_assoc, add-one}
 use Rattle.std.proofs.lemmas.List.{append-nil, length_push}
 use Rattle.std.specs.List.{AllZip}
-use Rattle.j39_vehicle.specs.declared.reading.fault.Fault.{Fault}
-use Rattle.j39_vehicle.specs.Outcome.{first}
+use Rattle.j39_vehicle.specs.VehicleErrors.{VehicleFault}
+use Rattle.j39_tables.specs.Outcome.{first}
 use Rattle.j39_vehicle.specs.Resolved.{each_found, FoundGrows}
-use Rattle.j39_vehicle.proofs.FirstFaults.{first-append}
+use Rattle.j39_tables.proofs.FirstFaults.{first-append}
 
 -- How a table is resolved: the faults of the i-th, where room is asked for, and what it stands for.
 pub record Resolving (S T : Type 0) : Type 1 where
-  pub faults : ℕ → S → List Fault
+  pub faults : ℕ → S → List VehicleFault
   pub Grows : ℕ → S → Type 0
   pub StandsFor : S → T → Type 0
 
@@ -45,7 +45,7 @@ goes_on r i so_far x left all y found none stands = record {
   begun = inr (grows_behind r i so_far x left all found none);
 }
 
-pub stops_at : {S T : Type 0} (r : Resolving S T) (i : ℕ) (so_far : List T) (x : S) (left all : List S) (f : Fault)
+pub stops_at : {S T : Type 0} (r : Resolving S T) (i : ℕ) (so_far : List T) (x : S) (left all : List S) (f : VehicleFault)
     → AreFound r i so_far (x ∷ left) all → first (r.faults i x) ≡ Some f → first (each_found r.faults 0 all) ≡ Some f
 unfolding each_found
 stops_at r i so_far x left all f found here = rw (found.same_faults) (first-append _ _ f here)

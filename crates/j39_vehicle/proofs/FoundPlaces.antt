@@ -26,17 +26,20 @@ use Rattle.j39_vehicle.specs.declared.vehicle.places.UnitAt.{UnitAt}
 use Rattle.j39_vehicle.specs.declared.vehicle.places.GroupAt.{GroupAt}
 use Rattle.j39_vehicle.specs.VehiclePlaces.{HasUnit, HasGroup, HasForward, HasNeed, unit_count, group_count, signals_at}
 use Rattle.j39_vehicle.specs.TextKinds.{name_of}
-use Rattle.j39_vehicle.specs.LabelsFound.{bus_place, units_on, groups_of_bus, signals_in_group, unit_place, group_place, signal_place, unit_labelled, group_named, receivers_on, own_label, units_by}
+use Rattle.j39_vehicle.specs.LabelsFound.{bus_place, units_on, groups_of_bus, signals_in_group, unit_place, group_place, signal_place, unit_labelled}
+use Rattle.j39_vehicle.specs.LabelsFound.{group_named, receivers_on, own_label, units_by}
 
 pub place_below : {X : Type 0} (p : X → Bool) (xs : List X) (i : ℕ) → position p xs ≡ Some i → i < length xs
 place_below p [] i is = cc
 place_below p (x ∷ xs) i is = (position-Some p (x ∷ xs) i x is).0
 
-units_counted : (found : Option BusPlan) → length (option_map_or (λ bus. bus.plan.units.items) found []) ≡ option_map_or (λ bus. length bus.plan.units.items) found 0
+units_counted : (found : Option BusPlan)
+    → length (option_map_or (λ bus. bus.plan.units.items) found []) ≡ option_map_or (λ bus. length bus.plan.units.items) found 0
 units_counted None = refl
 units_counted (Some bus) = refl
 
-groups_counted : (found : Option BusPlan) → length (option_map_or (λ bus. bus.plan.groups.items) found []) ≡ option_map_or (λ bus. length bus.plan.groups.items) found 0
+groups_counted : (found : Option BusPlan)
+    → length (option_map_or (λ bus. bus.plan.groups.items) found []) ≡ option_map_or (λ bus. length bus.plan.groups.items) found 0
 groups_counted None = refl
 groups_counted (Some bus) = refl
 
@@ -93,7 +96,8 @@ pub receiver_there : (buses : List BusPlan) (b : ℕ) (given : Option (List ℕ)
 receiver_there buses b None r found = cc
 receiver_there buses b (Some word) r found = unit_there buses b word r (one_of (bytes_eq word (codes "all")) (unit_place buses b word) r found)
 
-counted : (found : Option GroupPlan) → length (option_map_or (λ group. group.signals.items) found []) ≡ option_map_or (λ group. length group.signals.items) found 0
+counted : (found : Option GroupPlan)
+    → length (option_map_or (λ group. group.signals.items) found []) ≡ option_map_or (λ group. length group.signals.items) found 0
 counted None = refl
 counted (Some group) = refl
 

@@ -4,7 +4,7 @@ use Rattle.std.proofs.Common.{refl, sym, ap, ◌∙◌, append_assoc, string_byt
 use Rattle.std.proofs.lemmas.List.{append-nil, map_more}
 use Rattle.std.specs.Option.{option_or}
 use Rattle.toml.proofs.Views.{items_view-drop}
-use Rattle.j39_plan.specs.declared.reading.cause.Cause.{Cause}
+use Rattle.j39_tables.specs.declared.cause.Cause.{Cause}
 use Rattle.std.proofs.Math.Bool.{or_assoc}
 use Rattle.std.specs.List.{list_any, list_all}
 use Rattle.std.specs.Str.{bytes_eq}
@@ -13,7 +13,7 @@ use Rattle.toml.specs.View.{view, items_view}
 use Rattle.j39_vehicle.specs.declared.file.gateway_table.GatewayTable.{GatewayTable}
 use Rattle.j39_vehicle.specs.declared.file.name_on_bus.NameOnBus.{NameOnBus}
 use Rattle.j39_vehicle.specs.TextKinds.{name_of}
-use Rattle.j39_vehicle.specs.Elements.{Named, is_label_among}
+use Rattle.j39_vehicle.specs.LabelsSeen.{Named, is_label_among}
 use Rattle.j39_vehicle.specs.GatewayTables.{all_units, are_on, is_text_among, named_gateway, text_in, texts_in, unit_cause, units_cause}
 
 is_among_both : (xs ys : List (List ℕ)) (t : List ℕ) → is_text_among (xs ++ ys) t ≡ (is_text_among xs t || is_text_among ys t)
@@ -28,7 +28,8 @@ is_of (n ∷ ns) t = rw (is_of ns t)
 is_elsewhere : (gs : List GatewayTable) (t : List ℕ)
     → is_text_among (all_units (map named_gateway gs)) t ≡ list_any (λ g. list_any (λ n. bytes_eq (string_bytes n.text) t) g.units.items) gs
 is_elsewhere [] t = refl
-is_elsewhere (g ∷ gs) t = rw (is_among_both (map (λ n. string_bytes n.text) g.units.items) (all_units (map named_gateway gs)) t, is_of g.units.items t, is_elsewhere gs t) refl
+is_elsewhere (g ∷ gs) t =
+    rw (is_among_both (map (λ n. string_bytes n.text) g.units.items) (all_units (map named_gateway gs)) t, is_of g.units.items t, is_elsewhere gs t) refl
 
 is_before : (vs : List Value) (t : List ℕ) → is_text_among (texts_in (items_view vs)) t ≡ list_any (λ v. bytes_eq (text_in (view v)) t) vs
 is_before [] t = refl

@@ -9,7 +9,7 @@ use Rattle.std.specs.Str.{bytes_eq}
 use Rattle.j39_vehicle.specs.declared.file.gateway_table.GatewayTable.{GatewayTable}
 use Rattle.j39_vehicle.specs.declared.file.name_on_bus.NameOnBus.{NameOnBus}
 use Rattle.j39_vehicle.specs.TextKinds.{name_of}
-use Rattle.j39_vehicle.specs.Elements.{Named}
+use Rattle.j39_vehicle.specs.LabelsSeen.{Named}
 use Rattle.j39_vehicle.specs.GatewayTables.{named_gateway}
 use Rattle.j39_vehicle.specs.ForwardTables.{gateway_place, has_unit, has_unit_on, units_of_named}
 

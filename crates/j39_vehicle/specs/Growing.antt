@@ -1,26 +1,16 @@
 -- Where reading a vehicle file asks for room: behind what was read without a fault. Want of memory is answered nowhere else.
 use Rattle.std.specs.Prelude.{◌≡◌, ◌⊎◌, ℕ, List, []}
-use Rattle.toml.specs.Data.{Data, Items, no_items, item, Members}
-use Rattle.j39_plan.specs.Elements.{inside}
+use Rattle.toml.specs.Data.{Data, Members}
+use Rattle.j39_tables.specs.InOrder.{inside, EachGrows}
 use Rattle.j39_vehicle.specs.declared.reading.key.Key.TheVariants as key
-use Rattle.j39_vehicle.specs.declared.reading.fault.Fault.{Fault}
 use Rattle.j39_vehicle.specs.Schema.{elements_at}
-use Rattle.j39_vehicle.specs.Elements.{Named}
+use Rattle.j39_vehicle.specs.LabelsSeen.{Named}
 use Rattle.j39_vehicle.specs.BusTables.{bus_faults}
 use Rattle.j39_vehicle.specs.GatewayTables.{gateway_faults}
 use Rattle.j39_vehicle.specs.SignalTables.{signal_faults}
 use Rattle.j39_vehicle.specs.ForwardTables.{forward_keys_faults, forward_table_faults, forward_faults}
 use Rattle.j39_vehicle.specs.NeedTables.{need_faults}
 use Rattle.j39_vehicle.specs.VehicleFaults.{top_faults, buses_of, gateways_of, buses_faults, gateways_faults, forwards_faults}
-
--- a reader of an element that asks for none
-abbrev pub NeverGrows : ℕ → List Named → Data → Type 0
-NeverGrows i seen d = ⊥
-
--- room is asked for among elements: behind the first, which has no fault, or in reading it
-abbrev pub EachGrows : (ℕ → List Named → Data → List Fault) → (ℕ → List Named → Data → Type 0) → Items → Type 0
-EachGrows faults Grows no_items = ⊥
-EachGrows faults Grows (item d ds) = Grows 0 [] d ⊎ (faults 0 [] d ≡ [])
 
 -- for the texts of a bus, a gateway, a signal and a need without a fault
 abbrev pub BusGrows : ℕ → List Named → Data → Type 0

@@ -1,5 +1,6 @@
 -- What the names of a vehicle file stand for in the plans of its buses.
-use Rattle.std.specs.Prelude.{ℕ, List, [], Bool, true, not, ◌&&◌, if◌then◌else◌, codes, Option, Some, is_some, option_map, option_and_then, position, String, string_bytes}
+use Rattle.std.specs.Prelude.{ℕ, List, [], Bool, true, not, ◌&&◌, if◌then◌else◌, codes, Option, Some, is_some, option_map, option_and_then, position, String}
+use Rattle.std.specs.Prelude.{string_bytes}
 use Rattle.std.specs.declared.alloc.Global.{Global}
 use Rattle.std.specs.List.{slice_get}
 use Rattle.std.specs.Option.{option_or, option_map_or}

@@ -2,12 +2,12 @@
 use Rattle.std.specs.Prelude.{◌≡◌, ℕ, suc, List, [], ◌∷◌, ◌++◌, ◌⊎◌, Option, Some, None, is_some}
 use Rattle.std.specs.Prelude.{option_map, option_and_then, string_bytes}
 use Rattle.std.specs.List.{AllZip}
-use Rattle.j39_plan.specs.declared.reading.cause.Cause.TheVariants.{UnknownLabel}
+use Rattle.j39_tables.specs.declared.cause.Cause.TheVariants.{UnknownLabel}
 use Rattle.j39_vehicle.specs.declared.reading.key.Key.{Key}
 use Rattle.j39_vehicle.specs.declared.reading.key.Key.TheVariants as key
 use Rattle.j39_vehicle.specs.declared.reading.place.Table.{Table}
 use Rattle.j39_vehicle.specs.declared.reading.place.Table.TheVariants as at
-use Rattle.j39_vehicle.specs.declared.reading.fault.Fault.{Fault}
+use Rattle.j39_vehicle.specs.VehicleErrors.{VehicleFault}
 use Rattle.j39_vehicle.specs.declared.file.VehicleFile.{VehicleFile}
 use Rattle.j39_vehicle.specs.declared.file.name_on_bus.NameOnBus.{NameOnBus}
 use Rattle.j39_vehicle.specs.declared.file.gateway_table.GatewayTable.{GatewayTable}
@@ -22,21 +22,23 @@ use Rattle.j39_vehicle.specs.declared.vehicle.gateway.Gateway.{Gateway}
 use Rattle.j39_vehicle.specs.declared.vehicle.forward.Forward.{Forward}
 use Rattle.j39_vehicle.specs.declared.vehicle.forward.ForwardedSignal.{ForwardedSignal}
 use Rattle.j39_vehicle.specs.declared.vehicle.vehicle_need.VehicleNeed.{VehicleNeed}
-use Rattle.j39_vehicle.specs.TableFaults.{fault, label_faults}
-use Rattle.j39_vehicle.specs.LabelsFound.{unit_labelled, unit_place, group_named, group_place, signal_place, receivers_on, gateway_labelled, units_by, own_unit, is_given_found}
+use Rattle.j39_tables.specs.TableFaults.{fault}
+use Rattle.j39_vehicle.specs.LabelsSeen.{label_faults}
+use Rattle.j39_vehicle.specs.LabelsFound.{unit_labelled, unit_place, group_named, group_place, signal_place, receivers_on, gateway_labelled, units_by, own_unit}
+use Rattle.j39_vehicle.specs.LabelsFound.{is_given_found}
 
 -- the faults of all tables of a kind from the i-th on
-unfoldable pub each_found : {S : Type 0} → (ℕ → S → List Fault) → ℕ → List S → List Fault
+unfoldable pub each_found : {S : Type 0} → (ℕ → S → List VehicleFault) → ℕ → List S → List VehicleFault
 each_found faults i [] = []
 each_found faults i (x ∷ xs) = faults i x ++ each_found faults (suc i) xs
 
 -- ---- gateways
 
 -- the faults of a unit of the i-th gateway
-unfoldable pub unit_found : List BusPlan → ℕ → ℕ → NameOnBus → List Fault
+unfoldable pub unit_found : List BusPlan → ℕ → ℕ → NameOnBus → List VehicleFault
 unit_found buses i j n = label_faults (at.Gateway i) key.Unit (is_some (unit_labelled buses (string_bytes n.text)))
 
-unfoldable pub gateway_found : List BusPlan → ℕ → GatewayTable → List Fault
+unfoldable pub gateway_found : List BusPlan → ℕ → GatewayTable → List VehicleFault
 gateway_found buses i g = each_found (unit_found buses i) 0 g.units.items
 
 -- the unit that a name stands for
@@ -50,34 +52,34 @@ pub record StandsForGateway (buses : List BusPlan) (g : GatewayTable) (h : Gatew
 -- ---- forwards
 
 -- what has to be found first, and what is looked for behind it
-abbrev pub behind_faults : {X : Type 0} → Table → Key → Option X → (X → List Fault) → List Fault
+abbrev pub behind_faults : {X : Type 0} → Table → Key → Option X → (X → List VehicleFault) → List VehicleFault
 behind_faults at key None rest = fault UnknownLabel at (Some key) ∷ []
 behind_faults at key (Some x) rest = rest x
 
 -- the faults of the i-th signal of the f-th forward, by the groups that are heard and sent
-unfoldable pub signal_found : List BusPlan → ℕ → GroupAt → GroupAt → ℕ → SignalTable → List Fault
+unfoldable pub signal_found : List BusPlan → ℕ → GroupAt → GroupAt → ℕ → SignalTable → List VehicleFault
 signal_found buses f heard sent i s =
     behind_faults (at.Signal f i) key.Label (signal_place buses heard (string_bytes s.read)) (λ read.
     behind_faults (at.Signal f i) key.As (signal_place buses sent (string_bytes s.written)) (λ written. []))
 
-unfoldable pub signals_found : List BusPlan → ℕ → Option GroupAt → Option GroupAt → Option (List SignalTable) → List Fault
+unfoldable pub signals_found : List BusPlan → ℕ → Option GroupAt → Option GroupAt → Option (List SignalTable) → List VehicleFault
 signals_found buses i (Some heard) (Some sent) (Some signals) = each_found (signal_found buses i heard sent) 0 signals
 signals_found buses i _ _ _ = []
 
 -- the group that is heard, the unit that has to send it, and the gateway's that hears it
-unfoldable pub heard_found : List BusPlan → List NameOnBus → ℕ → ForwardTable → List Fault
+unfoldable pub heard_found : List BusPlan → List NameOnBus → ℕ → ForwardTable → List VehicleFault
 heard_found buses units i f = behind_faults (at.Forward i) key.Group (group_named buses (string_bytes f.input.text)) (λ heard.
     label_faults (at.Forward i) key.From (is_given_found (unit_place buses heard.bus) (option_map string_bytes f.from))
     ++ label_faults (at.Forward i) key.At (is_some (own_unit buses units f.input heard.bus f.at)))
 
 -- the group that is sent, the gateway's unit that sends it, and whom it sends it to
-unfoldable pub sent_found : List BusPlan → List NameOnBus → ℕ → ForwardTable → List Fault
+unfoldable pub sent_found : List BusPlan → List NameOnBus → ℕ → ForwardTable → List VehicleFault
 sent_found buses units i f = behind_faults (at.Forward i) key.As (group_named buses (string_bytes f.output.text)) (λ sent.
     label_faults (at.Forward i) key.By (is_some (own_unit buses units f.output sent.bus f.by))
     ++ label_faults (at.Forward i) key.To (is_given_found (receivers_on buses sent.bus) (option_map string_bytes f.to)))
 
 -- the gateway, both groups with the units beside them, and then the signals
-unfoldable pub forward_found : List BusPlan → List GatewayTable → ℕ → ForwardTable → List Fault
+unfoldable pub forward_found : List BusPlan → List GatewayTable → ℕ → ForwardTable → List VehicleFault
 forward_found buses gateways i f =
     label_faults (at.Forward i) key.Gateway (is_some (gateway_labelled gateways (string_bytes f.gateway)))
     ++ (heard_found buses (units_by gateways (string_bytes f.gateway)) i f
@@ -114,7 +116,7 @@ pub record StandsForForward (buses : List BusPlan) (gateways : List GatewayTable
 abbrev pub group_beside : ℕ → ℕ → GroupAt
 group_beside b g = record { bus = b; group = g }
 
-unfoldable pub need_found : List BusPlan → ℕ → NeedTable → List Fault
+unfoldable pub need_found : List BusPlan → ℕ → NeedTable → List VehicleFault
 need_found buses i d =
     behind_faults (at.Need i) key.Unit (unit_labelled buses (string_bytes d.unit.text)) (λ unit.
     behind_faults (at.Need i) key.Group (group_place buses unit.bus (string_bytes d.group)) (λ group.
@@ -131,7 +133,7 @@ pub record StandsForNeed (buses : List BusPlan) (d : NeedTable) (r : VehicleNeed
 -- ---- the vehicle
 
 -- labels that name nothing: those of the gateways, the forwards and the needs, each in order
-abbrev pub found_faults : List BusPlan → VehicleFile → List Fault
+abbrev pub found_faults : List BusPlan → VehicleFile → List VehicleFault
 found_faults buses file = each_found (gateway_found buses) 0 file.gateways.items
     ++ (each_found (forward_found buses file.gateways.items) 0 file.forwards.items
     ++ each_found (need_found buses) 0 file.needs.items)
@@ -145,7 +147,7 @@ pub record StandsForFile (buses : List BusPlan) (file : VehicleFile) (v : Vehicl
 
 -- ---- where room is asked for: behind a table without a fault, or in one
 
-abbrev pub FoundGrows : {S : Type 0} → (ℕ → S → List Fault) → (ℕ → S → Type 0) → List S → Type 0
+abbrev pub FoundGrows : {S : Type 0} → (ℕ → S → List VehicleFault) → (ℕ → S → Type 0) → List S → Type 0
 FoundGrows faults Grows [] = ⊥
 FoundGrows faults Grows (x ∷ xs) = Grows 0 x ⊎ (faults 0 x ≡ [])
 

@@ -3,7 +3,7 @@ use Rattle.std.specs.Prelude.{ℕ, List, length, Bool, true, ◌&&◌, ◌||◌,
 use Rattle.std.specs.List.{list_all, before_first, after_first}
 use Rattle.std.specs.Str.{bytes_eq}
 use Rattle.j39_network.specs.LabelForm.{is_label}
-use Rattle.j39_plan.specs.TextKinds.{is_printable}
+use Rattle.j39_tables.specs.Printable.{is_printable}
 use Rattle.j39_vehicle.specs.declared.reading.text_kind.TextKind.{TextKind}
 use Rattle.j39_vehicle.specs.declared.reading.text_kind.TextKind.TheVariants.{Label, OnBus, FileName, ModeWord, Any}
 

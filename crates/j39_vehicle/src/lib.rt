@@ -12,7 +12,7 @@ pub use file::{
     BusTable, ForwardTable, GatewayTable, NameOnBus, NeedTable, SignalTable, VehicleFile,
 };
 pub use plan_names::plan_file;
-pub use reading::{Fault, Key, Place, Table, VehicleError, read_vehicle};
+pub use reading::{FileError, Key, Table, VehicleError, VehicleFault, read_vehicle};
 pub use resolving::resolve;
 pub use vehicle::{
     BusPlan, Forward, ForwardedSignal, Gateway, GroupAt, Mode, UnitAt, Vehicle, VehicleNeed,

@@ -16,7 +16,8 @@ fn last_slash(name: &str) -> Option<usize>
 
 // What stands before the last `/` of a name.
 fn before_slash(name: &str) -> Option<&str>
-    ensures { MatchOption result (LacksSlash name.now) (λ f. (k : ℕ) × IsLastSlash name.now k × (f.now ≡ take k name.now)) }
+    ensures { MatchOption result (LacksSlash name.now) (λ f. (k : ℕ) × IsLastSlash name.now k
+        × (f.now ≡ take k name.now)) }
 {
     match last_slash(name) {
         Some(place) => {
@@ -40,8 +41,8 @@ fn folder(alloc: Global, name: &str) -> Result<String, AllocError>
     Ok(folder)
 }
 
-/// The name by which the plan of a bus is opened: as the vehicle file has it, where it begins with `/`, and else in the folder of the
-/// vehicle file.
+/// The name by which the plan of a bus is opened: as the vehicle file has it, where it begins with `/`, and else in the
+/// folder of the vehicle file.
 pub fn plan_file(alloc: Global, vehicle: &str, plan: &str) -> Result<String, AllocError>
     ensures named { IfOk result (λ name. IsPlanFile vehicle.now plan.now (string_bytes name)) }
     ensures memory { IfErr result (λ _. 0 < length vehicle.now + length plan.now) }

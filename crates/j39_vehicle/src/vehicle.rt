@@ -1,4 +1,5 @@
-//! A vehicle: its buses, each with its plan, its gateways, what these send on from bus to bus, and who needs what from whom.
+//! A vehicle: its buses, each with its plan, its gateways, what these send on from bus to bus, and who needs what from
+//! whom.
 ghost use Rattle.std.specs.Prelude.{◌≤◌, All, length};
 ghost use Rattle.j39_network.specs.PlanLimits.{need_limit};
 ghost use Rattle.j39_vehicle.specs.VehicleLimits.{bus_limit, forward_limit, gateway_limit};
@@ -16,8 +17,8 @@ pub use gateway::Gateway;
 pub use places::{GroupAt, UnitAt};
 pub use vehicle_need::VehicleNeed;
 
-/// A vehicle of at most 16 buses, 64 gateways of 128 units each, 512 forwards and 4096 needs. Buses and gateways are named by their places
-/// from 0; units, groups and signals by their places in the plan of their bus.
+/// A vehicle of at most 16 buses, 64 gateways of 128 units each, 512 forwards and 4096 needs. Buses and gateways are
+/// named by their places from 0; units, groups and signals by their places in the plan of their bus.
 #[derive(Debug, Drop)]
 pub struct Vehicle {
     pub buses: Vec<BusPlan>,

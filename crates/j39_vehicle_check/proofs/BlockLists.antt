@@ -4,7 +4,7 @@ use Rattle.std.proofs.Common.{refl, sym, ap, ◌∙◌, subst, arith, append_ass
 use Rattle.std.proofs.lemmas.List.{append-nil, drop_more, length-append}
 use Rattle.j39_findings.specs.Found.{found}
 use Rattle.j39_findings.specs.declared.checking.finding.Finding.{Finding}
-use Rattle.j39_load.specs.declared.load_finding.LoadFinding.{LoadFinding}
+use Rattle.j39_load.specs.declared.findings.load_finding.LoadFinding.{LoadFinding}
 use Rattle.j39_check.specs.FoundInPlan.{ArePlanFindings, are_of_times}
 use Rattle.j39_check.specs.declared.plan_findings.PlanFindings.{PlanFindings}
 use Rattle.j39_vehicle.specs.declared.vehicle.bus_plan.BusPlan.{BusPlan}

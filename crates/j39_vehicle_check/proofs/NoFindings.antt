@@ -3,7 +3,7 @@ use Rattle.std.proofs.Common.{◌≡◌, ℕ, zero, suc, ◌+◌, Bool, true, Li
 use Rattle.std.specs.List.{AllByRecursion, slice_get}
 use Rattle.j39_findings.specs.Found.{found}
 use Rattle.j39_load.specs.LoadFindings.{AreLoadFindings}
-use Rattle.j39_load.specs.declared.load_finding.LoadFinding.{LoadFinding}
+use Rattle.j39_load.specs.declared.findings.load_finding.LoadFinding.{LoadFinding}
 use Rattle.j39_check.specs.FoundInPlan.{are_of_times}
 use Rattle.j39_vehicle.specs.declared.vehicle.Vehicle.{Vehicle}
 use Rattle.j39_vehicle.specs.declared.vehicle.bus_plan.BusPlan.{BusPlan}

@@ -1,11 +1,13 @@
 -- The forwards of a trace, one after another, and their text.
-use Rattle.std.proofs.Common.{◌≡◌, ℕ, zero, suc, ◌+◌, ◌-◌, ◌<◌, List, [], ◌∷◌, ◌++◌, codes, length, drop, get_or, Some, None, refl, sym, ap, ◌∙◌, append_assoc, arith}
+use Rattle.std.proofs.Common.{◌≡◌, ℕ, zero, suc, ◌+◌, ◌-◌, ◌<◌, List, [], ◌∷◌, ◌++◌, codes, length, drop, get_or, Some, None, refl, sym, ap, ◌∙◌, append_assoc}
+use Rattle.std.proofs.Common.{arith}
 use Rattle.std.specs.Option.{option_map_or}
 use Rattle.std.proofs.Math.Seq.{drop-length}
 use Rattle.std.proofs.lemmas.List.{append-nil, at_drop_more}
 use Rattle.j39_vehicle.specs.declared.vehicle.Vehicle.{Vehicle}
 use Rattle.j39_paths.specs.declared.point.Point.{Point}
 use Rattle.j39_paths.specs.Traces.{goes_on, next_forward}
+use Rattle.j39_paths.proofs.Tracing.{one_more}
 use Rattle.j39_text.specs.Texts.{place_field}
 use Rattle.j39_vehicle_check.specs.NeedLines.{back_text, way_by}
 
@@ -19,9 +21,6 @@ step_of : (v : Vehicle) (steps : ℕ) (p : Point) (n : ℕ) → next_forward v p
     → way_by v (suc steps) p ≡ n ∷ option_map_or (way_by v steps) (goes_on v p n) []
 unfolding way_by
 step_of v steps p n some = ap (λ m. option_map_or (λ k. k ∷ option_map_or (way_by v steps) (goes_on v p k) []) m []) some
-
-one_more : (n i : ℕ) → i < n → n - i ≡ suc (n - (i + 1))
-one_more n i less = omega arith
 
 no_steps : (v : Vehicle) (p : Point) → way_by v zero p ≡ []
 unfolding way_by

@@ -4,11 +4,11 @@ use Rattle.j39_stream.specs.CommandEnds.{PutsText}
 use Rattle.j39_stream.specs.Streams.{SinkState}
 use Rattle.j39_stream.specs.declared.fault.Fault.{Fault as StreamFault}
 use Rattle.j39_stream.specs.declared.verdict.Verdict.{Verdict}
-use Rattle.j39_vehicle.specs.Outcome.{FailsGrowing}
+use Rattle.j39_tables.specs.Outcome.{FailsGrowing}
 use Rattle.j39_vehicle.specs.Resolved.{found_faults}
 use Rattle.j39_vehicle.specs.declared.file.VehicleFile.{VehicleFile}
-use Rattle.j39_vehicle.specs.declared.reading.vehicle_error.VehicleError.{VehicleError}
-use Rattle.j39_vehicle.specs.declared.reading.vehicle_error.VehicleError.TheVariants as errors
+use Rattle.j39_vehicle.specs.VehicleErrors.{VehicleError}
+use Rattle.j39_tables.specs.declared.file_error.FileError.TheVariants as errors
 use Rattle.j39_vehicle.specs.declared.vehicle.bus_plan.BusPlan.{BusPlan}
 use Rattle.j39_vehicle_check.specs.VehicleText.{IsVehicleText, RefusesWith}
 

@@ -7,7 +7,7 @@ use Rattle.j39_check.specs.Certified.{IsCertified}
 use Rattle.j39_vehicle.specs.declared.vehicle.Vehicle.{Vehicle}
 use Rattle.j39_vehicle.specs.declared.vehicle.bus_plan.BusPlan.{BusPlan}
 use Rattle.j39_paths.specs.FoundPaths.{path_findings, queue_findings}
-use Rattle.j39_paths.specs.Loops.{TellLoops}
+use Rattle.j39_paths.specs.Loops.{DecidesLoops}
 use Rattle.j39_paths.specs.VehicleFindings.{AreFindings}
 use Rattle.j39_ages.specs.BusDelays.{AreDelays}
 use Rattle.j39_ages.specs.FoundTimes.{time_findings}
@@ -24,7 +24,7 @@ HasCalmPlan bus = (found bus.plan ≡ []) × AreLoadFindings bus.plan bus.plan.t
 pub record HasNoFindings (v : Vehicle) : Type 0 where
   pub plans : (b : ℕ) (bus : BusPlan) → slice_get v.buses.items b ≡ Some bus → HasCalmPlan bus
   pub loops : List Bool
-  pub loops_are : TellLoops v loops
+  pub loops_are : DecidesLoops v loops
   pub paths : path_findings loops v ≡ []
   pub delays : Delays
   pub delays_are : AreDelays v delays

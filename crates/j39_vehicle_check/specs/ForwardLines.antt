@@ -16,7 +16,7 @@ unfoldable pub forward_text : Vehicle → ℕ → Forward → List ℕ
 forward_text v n forward = place_field (codes "forward ") n ++ (codes " " ++ (gateway_label v forward.gateway
     ++ (group_text_at (codes " ") v forward.input ++ group_text_at (codes " to ") v forward.output)))
 
--- by when its first output has to be queued, in microseconds behind the moment
+-- by when its first output has to be queued, in microseconds behind the release
 unfoldable pub output_jitter : Vehicle → Forward → ℕ
 output_jitter v forward = option_map_or (λ flow. us_of_ms (jitter_ms flow)) (first_output v forward) 0
 

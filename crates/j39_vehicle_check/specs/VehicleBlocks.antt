@@ -2,13 +2,13 @@
 use Rattle.std.specs.Prelude.{◌≡◌, ℕ, ◌+◌, Bool, true, ◌&&◌, List, [], ◌∷◌, ◌++◌, length, Option, Some, None}
 use Rattle.std.specs.Bool.{MatchBool}
 use Rattle.j39_findings.specs.Found.{found}
-use Rattle.j39_findings.specs.Standing.{TellsWhoStays}
+use Rattle.j39_findings.specs.Standing.{DecidesWhoStays}
 use Rattle.j39_network.specs.declared.plan.Plan.{Plan}
 use Rattle.j39_network.specs.declared.plan.timing.Timing.{Timing}
 use Rattle.j39_network.specs.declared.plan.unit_plan.UnitPlan.{UnitPlan}
 use Rattle.j39_load.specs.Asked.{asked_of}
 use Rattle.j39_load.specs.LoadFindings.{AreLoadFindings}
-use Rattle.j39_load.specs.declared.load_finding.LoadFinding.{LoadFinding}
+use Rattle.j39_load.specs.declared.findings.load_finding.LoadFinding.{LoadFinding}
 use Rattle.j39_check.specs.CheckText.{IsReport}
 use Rattle.j39_check.specs.FoundInPlan.{are_of_times}
 use Rattle.j39_check.specs.LoadLines.{load_line}
@@ -19,7 +19,7 @@ use Rattle.j39_vehicle_check.specs.VehicleFileText.{bus_line}
 -- the last line of load, where something is known of the bus
 abbrev pub IsLoadOf : Plan → Option Timing → List ℕ → Type 0
 IsLoadOf plan None text = text ≡ []
-IsLoadOf plan (Some timing) text = (stays : UnitPlan → Bool) × TellsWhoStays plan stays × (text ≡ load_line timing (asked_of timing plan stays))
+IsLoadOf plan (Some timing) text = (stays : UnitPlan → Bool) × DecidesWhoStays plan stays × (text ≡ load_line timing (asked_of timing plan stays))
 
 -- where it is to be told
 abbrev pub IsLoadWhere : Bool → Plan → List ℕ → Type 0

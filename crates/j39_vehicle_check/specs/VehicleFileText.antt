@@ -1,18 +1,17 @@
 -- What is written of a vehicle file alone: nothing of one that says what a vehicle has, else why it is refused; and of the plan of a bus.
 use Rattle.std.specs.Prelude.{◌≡◌, ℕ, List, [], ◌∷◌, ◌++◌, codes, Option, Some, None, Ok, Err}
 use Rattle.j39_network.specs.declared.plan.Plan.{Plan}
-use Rattle.j39_plan.specs.Words.{cause_word}
+use Rattle.j39_tables.specs.CauseWords.{cause_word}
 use Rattle.j39_vehicle.specs.declared.file.VehicleFile.{VehicleFile}
-use Rattle.j39_vehicle.specs.declared.reading.fault.Fault.{Fault}
+use Rattle.j39_vehicle.specs.VehicleErrors.{VehicleFault, VehicleError}
 use Rattle.j39_vehicle.specs.declared.reading.key.Key.{Key}
 use Rattle.j39_vehicle.specs.declared.reading.place.Table.{Table}
 use Rattle.j39_vehicle.specs.declared.reading.place.Table.TheVariants.{Top, Bus, Gateway, Forward, Signal, Need}
-use Rattle.j39_vehicle.specs.declared.reading.vehicle_error.VehicleError.{VehicleError}
-use Rattle.j39_vehicle.specs.declared.reading.vehicle_error.VehicleError.TheVariants as errors
+use Rattle.j39_tables.specs.declared.file_error.FileError.TheVariants as errors
 use Rattle.j39_vehicle.specs.Described.{Reads}
 use Rattle.j39_vehicle.specs.Words.{word_of}
-use Rattle.j39_plan.specs.Described.{tree_of}
-use Rattle.j39_plan.specs.declared.reading.plan_error.PlanError.{PlanError}
+use Rattle.j39_tables.specs.FileTrees.{tree_of}
+use Rattle.j39_plan.specs.PlanErrors.{PlanError}
 use Rattle.j39_check.specs.PlanText.{Describes, IsRefusalLine, IsRefusedText}
 use Rattle.j39_text.specs.Texts.{place_field}
 
@@ -30,7 +29,7 @@ unfoldable pub vehicle_key_text : Option Key → List ℕ
 vehicle_key_text None = []
 vehicle_key_text (Some key) = codes " key " ++ word_of key
 
-unfoldable pub vehicle_fault_line : Fault → List ℕ
+unfoldable pub vehicle_fault_line : VehicleFault → List ℕ
 vehicle_fault_line fault = codes "refused " ++ (cause_word fault.cause ++ (codes " "
     ++ (vehicle_table_text fault.place.table ++ (vehicle_key_text fault.place.key ++ 10 ∷ []))))
 

@@ -7,7 +7,8 @@ use Rattle.j39_load.specs.LineLists.{lines_of_each}
 use Rattle.j39_vehicle.specs.declared.vehicle.Vehicle.{Vehicle}
 use Rattle.j39_vehicle.specs.declared.vehicle.forward.Forward.{Forward}
 use Rattle.j39_paths.specs.declared.finding.VehicleFinding.{VehicleFinding}
-use Rattle.j39_paths.specs.declared.finding.VehicleFinding.TheVariants.{NoInput, ManyInputs, NoOutput, ManyOutputs, LayoutDiffers, SignalDiffers, TwoForwards, ForwardLoop, NeedUnmet, SharedQueue}
+use Rattle.j39_paths.specs.declared.finding.VehicleFinding.TheVariants.{NoInput, ManyInputs, NoOutput, ManyOutputs, LayoutDiffers, SignalDiffers, TwoForwards}
+use Rattle.j39_paths.specs.declared.finding.VehicleFinding.TheVariants.{ForwardLoop, NeedUnmet, SharedQueue}
 use Rattle.j39_ages.specs.declared.finding.TimeFinding.{TimeFinding}
 use Rattle.j39_ages.specs.declared.finding.TimeFinding.TheVariants.{TooOften, TooLate, TooRare, NeedTooOld}
 use Rattle.j39_vehicle_check.specs.VehicleLabels.{bus_label, gateway_label, signal_label_at}

@@ -1,19 +1,18 @@
 -- The text that the vehicle command writes of a vehicle.
 use Rattle.std.specs.Prelude.{◌≡◌, ◌⊎◌, ℕ, ◌+◌, ◌==◌, if◌then◌else◌, Bool, List, [], ◌∷◌, ◌++◌, codes, length, Some}
 use Rattle.std.specs.Bool.{MatchBool}
-use Rattle.j39_load.specs.declared.load_finding.LoadFinding.{LoadFinding}
+use Rattle.j39_load.specs.declared.findings.load_finding.LoadFinding.{LoadFinding}
 use Rattle.j39_stream.specs.declared.verdict.Verdict.{Verdict}
 use Rattle.j39_stream.specs.declared.verdict.Verdict.TheVariants.{Done, Findings, Unreadable}
 use Rattle.j39_text.specs.Texts.{field}
-use Rattle.j39_vehicle.specs.Outcome.{first}
+use Rattle.j39_tables.specs.Outcome.{first}
 use Rattle.j39_vehicle.specs.Resolved.{StandsForFile, found_faults}
 use Rattle.j39_vehicle.specs.declared.file.VehicleFile.{VehicleFile}
-use Rattle.j39_vehicle.specs.declared.reading.fault.Fault.{Fault}
-use Rattle.j39_vehicle.specs.declared.reading.vehicle_error.VehicleError.{VehicleError}
+use Rattle.j39_vehicle.specs.VehicleErrors.{VehicleFault, VehicleError}
 use Rattle.j39_vehicle.specs.declared.vehicle.Vehicle.{Vehicle}
 use Rattle.j39_vehicle.specs.declared.vehicle.bus_plan.BusPlan.{BusPlan}
 use Rattle.j39_paths.specs.FoundPaths.{path_findings, queue_findings}
-use Rattle.j39_paths.specs.Loops.{TellLoops}
+use Rattle.j39_paths.specs.Loops.{DecidesLoops}
 use Rattle.j39_paths.specs.declared.finding.VehicleFinding.{VehicleFinding}
 use Rattle.j39_ages.specs.BusDelays.{AreDelays}
 use Rattle.j39_ages.specs.FoundTimes.{time_findings}
@@ -29,16 +28,16 @@ use Rattle.j39_vehicle_check.specs.VehicleFindingLines.{time_finding_lines, vehi
 -- ---- what is told beyond the plans
 
 -- the lines of forwards and needs, and what is wrong with times and queues
-abbrev pub TellsTimes : Vehicle → List ℕ → BeyondPlans → Type 0
-TellsTimes v lines found = (delays : Delays) × AreDelays v delays × (lines ≡ forward_lines v delays ++ vehicle_need_lines v delays)
+abbrev pub ShowsTimes : Vehicle → List ℕ → BeyondPlans → Type 0
+ShowsTimes v lines found = (delays : Delays) × AreDelays v delays × (lines ≡ forward_lines v delays ++ vehicle_need_lines v delays)
     × (found.times.items ≡ time_findings v delays) × (found.queues.items ≡ queue_findings v)
 
-abbrev pub TellsNoTimes : List ℕ → BeyondPlans → Type 0
-TellsNoTimes lines found = (lines ≡ []) × (found.times.items ≡ []) × (found.queues.items ≡ [])
+abbrev pub ShowsNoTimes : List ℕ → BeyondPlans → Type 0
+ShowsNoTimes lines found = (lines ≡ []) × (found.times.items ≡ []) × (found.queues.items ≡ [])
 
 -- what is wrong with forwards and needs
 abbrev pub ArePathsFound : Vehicle → List VehicleFinding → Type 0
-ArePathsFound v paths = (loops : List Bool) × TellLoops v loops × (paths ≡ path_findings loops v)
+ArePathsFound v paths = (loops : List Bool) × DecidesLoops v loops × (paths ≡ path_findings loops v)
 
 -- and with times and queues
 abbrev pub AreAllFound : Vehicle → Delays → BeyondPlans → Type 0
@@ -47,7 +46,7 @@ AreAllFound v delays found =
 
 -- forwards and needs are looked at in any vehicle; times and queues where no plan has a finding but of times
 abbrev pub IsFoundBeyond : Vehicle → Bool → List ℕ → BeyondPlans → Type 0
-IsFoundBeyond v timed lines found = ArePathsFound v found.paths.items × MatchBool timed (TellsTimes v lines found) (TellsNoTimes lines found)
+IsFoundBeyond v timed lines found = ArePathsFound v found.paths.items × MatchBool timed (ShowsTimes v lines found) (ShowsNoTimes lines found)
 
 abbrev pub count_beyond : BeyondPlans → ℕ
 count_beyond found = length found.paths.items + length found.times.items + length found.queues.items
@@ -96,4 +95,4 @@ RefusesWith error text verdict = IsVehicleRefusal error text × (verdict ≡ Unr
 abbrev pub IsVehicleText : VehicleFile → List BusPlan → List ℕ → Verdict → Type 0
 IsVehicleText file buses text verdict =
     ((v : Vehicle) × (found_faults buses file ≡ []) × StandsForFile buses file v × IsVehicleReport v text verdict)
-    ⊎ ((fault : Fault) × (first (found_faults buses file) ≡ Some fault) × (text ≡ vehicle_fault_line fault) × (verdict ≡ Unreadable))
+    ⊎ ((fault : VehicleFault) × (first (found_faults buses file) ≡ Some fault) × (text ≡ vehicle_fault_line fault) × (verdict ≡ Unreadable))

@@ -9,8 +9,8 @@ use j39_text::TextBuffer;
 use j39_vehicle::Vehicle;
 use std::alloc::{AllocError, Global};
 
-/// What is wrong with the forwards and the needs of a vehicle, and, where the plans of its buses have no findings but of times, with the
-/// times over gateways and with the queues of these.
+/// What is wrong with the forwards and the needs of a vehicle, and, where the plans of its buses have no findings but
+/// of times, with the times over gateways and with the queues of these.
 #[derive(Drop)]
 pub struct BeyondPlans {
     pub paths: VehicleFindings,

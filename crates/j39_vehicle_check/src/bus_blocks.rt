@@ -1,9 +1,10 @@
 //! What is written of the plans of a vehicle's buses.
 ghost use Rattle.std.specs.Prelude.{◌≡◌, ◌+◌, ◌≤◌, ◌++◌, ◌^◌, ◌&&◌, ℕ, List, IfOk, OnOk, length};
 ghost use Rattle.j39_check.specs.FoundInPlan.{ArePlanFindings, are_of_times};
-ghost use Rattle.j39_load.specs.declared.load_finding.LoadFinding.{LoadFinding as LoadFaults};
+ghost use Rattle.j39_load.specs.declared.findings.load_finding.LoadFinding.{LoadFinding as LoadFaults};
 ghost use Rattle.j39_vehicle.specs.VehicleLimits.{bus_limit};
-ghost use Rattle.j39_vehicle_check.specs.VehicleBlocks.{AreBlocks, IsBlock, IsLoadOf, IsLoadWhere, all_are_of_times, count_of_plans};
+ghost use Rattle.j39_vehicle_check.specs.VehicleBlocks.{AreBlocks, IsBlock, IsLoadOf, IsLoadWhere, all_are_of_times};
+ghost use Rattle.j39_vehicle_check.specs.VehicleBlocks.{count_of_plans};
 
 use crate::bus_file::write_bus;
 use j39_check::{PlanFindings, write_check, write_load};
@@ -56,7 +57,8 @@ fn write_block(
     found: &PlanFindings,
 ) -> Result<(), AllocError>
     requires { ArePlanFindings bus.now.plan found.now }
-    ensures { OnOk result ((block : List ℕ) × IsBlock bus.now found.now.others.items block × (text.new ≡ text.old ++ block)) }
+    ensures { OnOk result ((block : List ℕ) × IsBlock bus.now found.now.others.items block
+        × (text.new ≡ text.old ++ block)) }
 {
     write_bus(text, &bus.label)?;
     let _verdict = write_check(alloc, text, &bus.plan, found)?;
@@ -69,7 +71,8 @@ impl PlansFound {
         requires { self.count ≤ 2 ^ 100 }
         ensures count { result.count ≡ self.count + (length found.now.findings.items + length found.now.others.items) }
         ensures few { result.count ≤ self.count + 2 ^ 64 }
-        ensures are_of_times { result.are_of_times ≡ (self.are_of_times && are_of_times found.now.findings.items found.now.others.items) }
+        ensures are_of_times { result.are_of_times
+            ≡ (self.are_of_times && are_of_times found.now.findings.items found.now.others.items) }
     {
         PlansFound {
             count: self.count + found.count() as u128,
@@ -85,8 +88,10 @@ pub(super) fn write_blocks(
     buses: &[BusPlan],
 ) -> Result<PlansFound, AllocError>
     requires { length buses.now ≤ bus_limit }
-    ensures told { IfOk result (λ all. (others : List (List LoadFaults)) × (blocks : List ℕ) × AreBlocks buses.now others blocks
-        × (text.new ≡ text.old ++ blocks) × (all.count ≡ count_of_plans buses.now others) × (all.are_of_times ≡ all_are_of_times buses.now others)) }
+    ensures told { IfOk result (λ all. (others : List (List LoadFaults)) × (blocks : List ℕ)
+        × AreBlocks buses.now others blocks
+        × (text.new ≡ text.old ++ blocks) × (all.count ≡ count_of_plans buses.now others)
+        × (all.are_of_times ≡ all_are_of_times buses.now others)) }
     ensures few { IfOk result (λ all. all.count ≤ 2 ^ 70) }
 {
     let mut all = PlansFound {

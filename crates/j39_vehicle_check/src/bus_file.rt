@@ -2,7 +2,8 @@
 ghost use Rattle.std.specs.Prelude.{◌≡◌, ◌++◌, IfOk, OnOk, OnSome};
 ghost use Rattle.j39_stream.specs.CommandEnds.{AnswersWhole, PutsText};
 ghost use Rattle.j39_stream.specs.Streams.{plan_limits};
-ghost use Rattle.j39_vehicle_check.specs.VehicleFileText.{IsBusPlanText, IsBusRefusal, IsRefusedBus, RefusesBus, bus_line};
+ghost use Rattle.j39_vehicle_check.specs.VehicleFileText.{IsBusPlanText, IsBusRefusal, IsRefusedBus, RefusesBus};
+ghost use Rattle.j39_vehicle_check.specs.VehicleFileText.{bus_line};
 
 use j39_check::write_refusal;
 use j39_id::Label;
@@ -45,7 +46,8 @@ fn refuse<W: Sink>(
     Ok(None)
 }
 
-/// The plan that the file of a bus describes. Where it describes none, writes the bus and the line that says why, and gives none.
+/// The plan that the file of a bus describes. Where it describes none, writes the bus and the line that says why, and
+/// gives none.
 pub fn bus_plan<S: Source, W: Sink>(
     alloc: Global,
     label: &Label,
@@ -54,7 +56,7 @@ pub fn bus_plan<S: Source, W: Sink>(
 ) -> Result<Option<Plan>, Fault>
     ensures answers { AnswersWhole (IsBusPlanText label.now.bytes) (IsRefusedBus label.now.bytes) plan_limits (S.state source.old) (S.state source.new)
         W.state sink.old sink.new result }
-    ensures silent { IfOk result (λ plan. OnSome plan (sink.new ≡ sink.old)) }
+    ensures writes_nothing { IfOk result (λ plan. OnSome plan (sink.new ≡ sink.old)) }
 {
     let input = read_whole(alloc, source)?;
     match read_plan(alloc, input.as_slice()) {

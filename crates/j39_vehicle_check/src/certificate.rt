@@ -9,9 +9,10 @@ use j39_paths::vehicle_findings_are_exact;
 use j39_vehicle::Vehicle;
 use j39_vehicle_laws::nothing_is_altered;
 
-/// Of a vehicle in which nothing is wrong the plan of each bus is certified, and nothing is wrong with what goes over its gateways, nor with the
-/// times of this. So what needs bring is unaltered, and no older than it is told. It does nothing when it runs; it rests on the certificate of
-/// plans, on the laws of findings and on those of what gateways send on.
+/// Of a vehicle in which nothing is wrong the plan of each bus is certified, and nothing is wrong with what goes over
+/// its gateways, nor with the times of this. So what needs bring is unaltered, and no older than it is told. It does
+/// nothing when it runs; it rests on the certificate of plans, on the laws of findings and on those of what gateways
+/// send on.
 pub fn certify_vehicle(vehicle: &Vehicle)
     requires { HasNoFindings vehicle.now }
     ensures { IsCertifiedVehicle vehicle.now }

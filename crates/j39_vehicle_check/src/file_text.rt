@@ -29,7 +29,7 @@ pub fn vehicle_file<S: Source, W: Sink>(
     sink: &mut W,
 ) -> Result<Option<VehicleFile>, Fault>
     ensures answers { AnswersWhole IsVehicleFileText IsRefusedVehicle plan_limits (S.state source.old) (S.state source.new) W.state sink.old sink.new result }
-    ensures silent { IfOk result (λ file. OnSome file (sink.new ≡ sink.old)) }
+    ensures writes_nothing { IfOk result (λ file. OnSome file (sink.new ≡ sink.old)) }
 {
     let input = read_whole(alloc, source)?;
     match read_vehicle(alloc, input.as_slice()) {

@@ -2,8 +2,10 @@
 ghost use Rattle.std.specs.Prelude.{◌≡◌, ◌++◌, OnOk};
 ghost use Rattle.j39_load.specs.LineLists.{lines_of_each};
 ghost use Rattle.j39_paths.specs.declared.finding.VehicleFinding.TheVariants.{SharedQueue, SignalDiffers, TwoForwards};
-ghost use Rattle.j39_vehicle_check.specs.VehicleFindingLines.{sent_signal_label, time_finding_line, time_finding_lines, time_finding_text};
-ghost use Rattle.j39_vehicle_check.specs.VehicleFindingLines.{vehicle_finding_line, vehicle_finding_lines, vehicle_finding_text};
+ghost use Rattle.j39_vehicle_check.specs.VehicleFindingLines.{sent_signal_label, time_finding_line, time_finding_lines};
+ghost use Rattle.j39_vehicle_check.specs.VehicleFindingLines.{time_finding_text};
+ghost use Rattle.j39_vehicle_check.specs.VehicleFindingLines.{vehicle_finding_line, vehicle_finding_lines};
+ghost use Rattle.j39_vehicle_check.specs.VehicleFindingLines.{vehicle_finding_text};
 
 use crate::labels::{bus_label, gateway_label, signal_label_at};
 use j39_ages::TimeFinding;

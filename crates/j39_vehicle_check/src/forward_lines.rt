@@ -1,57 +1,23 @@
 //! The lines of forwards.
 ghost use Rattle.std.specs.Prelude.{◌≡◌, ◌++◌, Some, None, OnOk};
-ghost use Rattle.std.specs.List.{position};
-ghost use Rattle.std.specs.Option.{option_copied};
 ghost use Rattle.j39_load.specs.LineLists.{lines_of_each};
-ghost use Rattle.j39_paths.specs.ForwardEnds.{output_flows};
-ghost use Rattle.j39_paths.specs.ForwardTests.{is_output};
-ghost use Rattle.j39_ages.specs.TimeFindings.{first_output};
-ghost use Rattle.j39_ages.specs.Times.{jitter_ms, us_of_ms};
-ghost use Rattle.j39_vehicle_check.specs.ForwardLines.{queued_text_where, forward_line, forward_lines, forward_text, output_jitter, queued_text};
+ghost use Rattle.j39_vehicle_check.specs.ForwardLines.{queued_text_where, forward_line, forward_lines, forward_text};
+ghost use Rattle.j39_vehicle_check.specs.ForwardLines.{output_jitter, queued_text};
 
 use crate::labels::{gateway_label, write_group_at};
-use crate::times::us_of_ms;
-use j39_ages::{Delays, is_late_asked, queued};
-use j39_network::FlowPlan;
-use j39_paths::{Routes, is_output, output_flows};
+use j39_ages::{Delays, first_output, is_late_asked, jitter_of, queued, us_of_ms};
+use j39_paths::Routes;
 use j39_text::TextBuffer;
 use j39_vehicle::{Forward, Vehicle};
 use std::alloc::AllocError;
 
-fn output_place(vehicle: &Vehicle, forward: &Forward) -> Option<usize>
-    ensures { result ≡ position (is_output forward.now) (output_flows vehicle.now forward.now) }
-{
-    output_flows(vehicle, forward)
-        .iter()
-        .position(|flow| is_output(forward, flow))
-}
-
-fn first_output<'a>(vehicle: &'a Vehicle, forward: &Forward) -> Option<&'a FlowPlan>
-    ensures { option_copied result ≡ first_output vehicle.now forward.now }
-{
-    match output_place(vehicle, forward) {
-        Some(place) => output_flows(vehicle, forward).get(place),
-        None => None,
-    }
-}
-
-// How long after its moment a message of the flow may be queued, in microseconds.
-fn jitter_of(flow: &FlowPlan) -> u64
-    ensures { result ≡ us_of_ms (jitter_ms flow.now) }
-{
-    match flow.pace {
-        Some(pace) => us_of_ms(pace.jitter),
-        None => 0,
-    }
-}
-
-// The same of the first flow that the forward feeds.
+// How long after its release a message of the first flow that the forward feeds may be queued, in microseconds.
 #[tactic(auto, unfolding(crate::specs::ForwardLines::output_jitter))]
 fn output_jitter(vehicle: &Vehicle, forward: &Forward) -> u64
     ensures { result ≡ output_jitter vehicle.now forward.now }
 {
     match first_output(vehicle, forward) {
-        Some(flow) => jitter_of(flow),
+        Some(flow) => us_of_ms(jitter_of(flow)),
         None => 0,
     }
 }

@@ -1,6 +1,7 @@
 //! What a place of a vehicle names. Past the last place there is nothing.
 ghost use Rattle.std.specs.Prelude.{◌≡◌, ◌++◌, OnOk};
-ghost use Rattle.j39_vehicle_check.specs.VehicleLabels.{bus_label, gateway_label, group_label_at, group_text_at, name_on_bus_text, signal_label_at, unit_label_at, unit_text_at};
+ghost use Rattle.j39_vehicle_check.specs.VehicleLabels.{bus_label, gateway_label, group_label_at, group_text_at};
+ghost use Rattle.j39_vehicle_check.specs.VehicleLabels.{name_on_bus_text, signal_label_at, unit_label_at, unit_text_at};
 
 use j39_text::{TextBuffer, group_label, signal_label, unit_label};
 use j39_vehicle::{GroupAt, UnitAt, Vehicle};

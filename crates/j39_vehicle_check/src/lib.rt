@@ -1,5 +1,5 @@
-//! What is written of a vehicle of several buses: why its file is refused, what is wrong with the plans of its buses, what its gateways send
-//! on and what its units need, and everything that is wrong with these.
+//! What is written of a vehicle of several buses: why its file is refused, what is wrong with the plans of its buses,
+//! what its gateways send on and what its units need, and everything that is wrong with these.
 #![tactic(auto)]
 
 mod beyond_plans;
@@ -12,7 +12,6 @@ mod forward_lines;
 mod labels;
 mod need_lines;
 mod refusals;
-mod times;
 mod vehicle_report;
 mod ways;
 mod whole_text;

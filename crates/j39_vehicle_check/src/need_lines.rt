@@ -2,13 +2,13 @@
 ghost use Rattle.std.specs.Prelude.{◌≡◌, ◌++◌, Some, None, OnOk};
 ghost use Rattle.j39_load.specs.LineLists.{lines_of_each};
 ghost use Rattle.j39_ages.specs.declared.needs.NeedFlow.{NeedFlow as ToldFlows};
-ghost use Rattle.j39_vehicle_check.specs.NeedLines.{content_text, group_of_flow, limit_text, meant_text, met_text, need_age_text, origin_content, origin_text, told_text};
+ghost use Rattle.j39_vehicle_check.specs.NeedLines.{content_text, group_of_flow, limit_text, meant_text, met_text};
+ghost use Rattle.j39_vehicle_check.specs.NeedLines.{need_age_text, origin_content, origin_text, told_text};
 ghost use Rattle.j39_vehicle_check.specs.NeedLines.{vehicle_need_line, vehicle_need_lines, vehicle_need_text};
 
 use crate::labels::{group_label_at, signal_label_at, write_unit_at};
-use crate::times::us_of_ms;
 use crate::ways::write_way;
-use j39_ages::{Delays, NeedFlow, flow_of_need};
+use j39_ages::{Delays, NeedFlow, flow_of_need, us_of_ms};
 use j39_paths::{FlowAt, Point, Routes, flows_on};
 use j39_text::TextBuffer;
 use j39_vehicle::{GroupAt, Vehicle, VehicleNeed};

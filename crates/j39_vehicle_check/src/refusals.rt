@@ -1,9 +1,10 @@
 //! Why a vehicle file is refused.
 ghost use Rattle.std.specs.Prelude.{◌≡◌, ◌++◌, IfOk, OnOk};
-ghost use Rattle.j39_vehicle_check.specs.VehicleFileText.{IsVehicleRefusal, vehicle_fault_line, vehicle_key_text, vehicle_table_text};
+ghost use Rattle.j39_vehicle_check.specs.VehicleFileText.{IsVehicleRefusal, vehicle_fault_line, vehicle_key_text};
+ghost use Rattle.j39_vehicle_check.specs.VehicleFileText.{vehicle_table_text};
 
 use j39_text::TextBuffer;
-use j39_vehicle::{Fault, Key, Table, VehicleError};
+use j39_vehicle::{FileError, Key, Table, VehicleError, VehicleFault};
 use std::alloc::{AllocError, Global};
 
 // Writes the name of a table.
@@ -38,7 +39,7 @@ fn write_key(text: &mut TextBuffer, key: Option<Key>) -> Result<(), AllocError>
 }
 
 #[tactic(auto, unfolding(crate::specs::VehicleFileText::vehicle_fault_line))]
-fn write_fault(text: &mut TextBuffer, fault: &Fault) -> Result<(), AllocError>
+fn write_fault(text: &mut TextBuffer, fault: &VehicleFault) -> Result<(), AllocError>
     ensures { OnOk result (text.new ≡ text.old ++ vehicle_fault_line fault.now) }
 {
     text.word("refused ")?;
@@ -55,9 +56,9 @@ pub(super) fn refusal(alloc: Global, error: &VehicleError) -> Result<TextBuffer,
 {
     let mut text = TextBuffer::new(alloc);
     match error {
-        VehicleError::Text => text.word("refused Text\n")?,
-        VehicleError::Fault(fault) => write_fault(&mut text, fault)?,
-        VehicleError::Memory => return Err(AllocError),
+        FileError::Text => text.word("refused Text\n")?,
+        FileError::Fault(fault) => write_fault(&mut text, fault)?,
+        FileError::Memory => return Err(AllocError),
     }
     Ok(text)
 }

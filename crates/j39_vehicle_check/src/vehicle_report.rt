@@ -1,7 +1,8 @@
 //! What is written of a vehicle.
 ghost use Rattle.std.specs.Prelude.{◌≡◌, ◌++◌, ℕ, List, IfOk, OnOk, true};
 ghost use Rattle.j39_vehicle_check.specs.CertifiedVehicle.{HasNoFindings, IsCertifiedVehicle};
-ghost use Rattle.j39_vehicle_check.specs.VehicleText.{IsFoundBeyond, IsVehicleReport, end_line, end_verdict, vehicle_ok_line};
+ghost use Rattle.j39_vehicle_check.specs.VehicleText.{IsFoundBeyond, IsVehicleReport, end_line, end_verdict};
+ghost use Rattle.j39_vehicle_check.specs.VehicleText.{vehicle_ok_line};
 
 use crate::beyond_plans::BeyondPlans;
 use crate::bus_blocks::write_blocks;
@@ -21,7 +22,8 @@ fn write_times(
     text: &mut TextBuffer,
     vehicle: &Vehicle,
 ) -> Result<BeyondPlans, AllocError>
-    ensures { IfOk result (λ found. (lines : List ℕ) × IsFoundBeyond vehicle.now true lines found × (text.new ≡ text.old ++ lines)) }
+    ensures { IfOk result (λ found. (lines : List ℕ) × IsFoundBeyond vehicle.now true lines found
+        × (text.new ≡ text.old ++ lines)) }
 {
     let delays = delays_of(alloc, vehicle)?;
     let tables = path_tables(alloc, vehicle)?;
@@ -34,14 +36,16 @@ fn write_times(
     BeyondPlans::with_times(alloc, &routes, &delays)
 }
 
-// The same, where the plans of the buses have no findings but of times, and else what is wrong with forwards and needs alone.
+// The same, where the plans of the buses have no findings but of times, and else what is wrong with forwards and needs
+// alone.
 fn write_beyond(
     alloc: Global,
     text: &mut TextBuffer,
     vehicle: &Vehicle,
     timed: bool,
 ) -> Result<BeyondPlans, AllocError>
-    ensures { IfOk result (λ found. (lines : List ℕ) × IsFoundBeyond vehicle.now timed lines found × (text.new ≡ text.old ++ lines)) }
+    ensures { IfOk result (λ found. (lines : List ℕ) × IsFoundBeyond vehicle.now timed lines found
+        × (text.new ≡ text.old ++ lines)) }
 {
     if timed {
         write_times(alloc, text, vehicle)

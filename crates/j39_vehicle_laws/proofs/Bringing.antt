@@ -1,12 +1,12 @@
 -- From forward to forward: what a message brings from its origin.
-use Rattle.std.proofs.Common.{◌≡◌, ℕ, zero, suc, ◌==◌, ◌≤◌, List, [], length, Bool, true, Option, Some, None, All, inl, inr, sym, refl, ap, ◌∙◌, subst}
+use Rattle.std.proofs.Common.{◌≡◌, ℕ, zero, suc, ◌==◌, ◌≤◌, List, [], length, Bool, true, Option, Some, None, inl, inr, sym, refl, ap, ◌∙◌, subst}
 use Rattle.std.specs.Prelude.{ℤ}
 use Rattle.std.specs.List.{slice_get}
 use Rattle.std.specs.Option.{option_and_then, option_map_or}
-use Rattle.std.proofs.lemmas.Bool.{and_parts, false≢true}
+use Rattle.std.proofs.lemmas.Bool.{and_parts, false≢true, leb-true}
 use Rattle.std.proofs.lemmas.Bool.Decides.{Decides-eqb}
 use Rattle.std.proofs.lemmas.Option.{none-some, same_Some}
-use Rattle.j39_signal.specs.Parts.{SignalParts}
+use Rattle.j39_signal.specs.Parts.{IsDivisor, SignalParts}
 use Rattle.j39_signal.specs.declared.state.State.TheVariants.{Value}
 use Rattle.j39_network.specs.declared.plan.Plan.{Plan}
 use Rattle.j39_network.specs.declared.plan.flow_plan.FlowPlan.{FlowPlan}
@@ -27,10 +27,11 @@ use Rattle.j39_paths.specs.declared.point.FlowAt.{FlowAt}
 use Rattle.j39_paths.specs.declared.point.Point.{Point}
 use Rattle.j39_forwards.specs.Forwards.{AreOneValue}
 use Rattle.j39_forwards.proofs.Forwards.{among_whole}
-use Rattle.j39_vehicle_laws.specs.Carrying.{AreAllCopies, AreAllExact, Brings, BringsAnother, EachForward, GoesBy, another, group_of_point, is_exact, itself, more, none, nothing, signal_at}
+use Rattle.j39_vehicle_laws.specs.Carrying.{AreAllCopies, AreAllExact, Brings, BringsAnother, EachForward, GoesBy, another, group_of_point, is_exact, itself}
+use Rattle.j39_vehicle_laws.specs.Carrying.{more, none, nothing, signal_at}
 use Rattle.j39_vehicle_laws.specs.Faithful.{KeepsContents, signal_of}
 use Rattle.j39_vehicle_laws.specs.Reading.{HasNoValue, IsUnset, reading}
-use Rattle.j39_vehicle_laws.specs.Unaltered.{HasDivisors, WasBegunBy, IsUnaltered, ReadsAsOrigin}
+use Rattle.j39_vehicle_laws.specs.Unaltered.{WasBegunBy, IsUnaltered, ReadsAsOrigin}
 use Rattle.j39_vehicle_laws.specs.BusRuns.{CarriesOne, WasBegun, WasHeard, WasReported, WasSent, BusMessage, VehicleRun, flow_on_bus}
 use Rattle.j39_vehicle_laws.proofs.Forwarding.{first_is_input, next_feeds, one_input}
 use Rattle.j39_vehicle_laws.proofs.Hops.{behind_at, flow_place, none_over, taken_over, value_or_none}
@@ -180,18 +181,13 @@ same_bytes v worlds (another m k n o by carries rest) all x is =
 
 -- ---- values
 
-divisor_of : (v : Vehicle) (p : Point) (s : SignalParts) → HasDivisors v → signal_at v p ≡ Some s → 1 ≤ s.per
-divisor_of v p s divisors is =
+divisor_of : (v : Vehicle) (p : Point) (s : SignalParts) → signal_at v p ≡ Some s → 1 ≤ s.per
+divisor_of v p s is =
     let (flow, flow_is, rest) = parts_of (λ (flow : FlowPlan). option_and_then (signal_of v (group_of_point p.at.bus flow)) p.signal) (flow_on_bus v p.at) s is in
     let (j, signal, there) = parts_of (signal_of v (group_of_point p.at.bus flow)) p.signal s rest in
     let (g, g_is, at) = parts_of (λ (group : GroupPlan). slice_get group.signals.items j) (group_at v.buses.items (group_of_point p.at.bus flow)) s there in
-    let (bus, bus_is) = bus_of v.buses.items p.at.bus p.at.flow (slice_get v.buses.items p.at.bus) flow refl flow_is in
-    let g_there : slice_get bus.plan.groups.items flow.group ≡ Some g =
-    sym (ap (λ o. slice_get (option_map_or (λ (bus : BusPlan). bus.plan.groups.items) o []) flow.group) bus_is) ∙ g_is in
-    let of_bus = one_of_all (λ (bus : BusPlan). All (λ (g : GroupPlan). All (λ (s : SignalParts). 1 ≤ s.per) g.signals.items) bus.plan.groups.items)
-    v.buses.items p.at.bus bus divisors bus_is in
-    let of_group = one_of_all (λ (g : GroupPlan). All (λ (s : SignalParts). 1 ≤ s.per) g.signals.items) bus.plan.groups.items flow.group g of_bus g_there in
-    one_of_all (λ (s : SignalParts). 1 ≤ s.per) g.signals.items j s of_group at
+    let divides = one_of_all (λ (s : SignalParts). IsDivisor s.per) g.signals.items j s g.signal_divisors at in
+    leb-true 1 s.per (and_parts _ _ divides).0
 
 no_value_if_exact : (t : SignalParts) (exact : Bool) (bytes : List ℕ) → exact ≡ true → IsUnset t exact (reading t bytes) → HasNoValue (reading t bytes)
 no_value_if_exact t exact bytes is (inl no_value) = no_value
@@ -209,23 +205,23 @@ reads_on v m k s t origin a b some from is one (inr (o, u, c, d, o_is, u_is, fir
     let one_before : AreOneValue u c s a = subst (AreOneValue u c s) d_is same in
     inr (o, u, c, b, o_is, u_is, first, is, one_value_passes u s t c a b some one_before one)
 
-pub reads_as_origin : (v : Vehicle) (worlds : ℕ → World) {m : BusMessage} {o : Option BusMessage} → HasDivisors v → Brings v worlds m o
+pub reads_as_origin : (v : Vehicle) (worlds : ℕ → World) {m : BusMessage} {o : Option BusMessage} → Brings v worlds m o
     → AreAllExact v m.point → (t : SignalParts) → signal_at v m.point ≡ Some t → ReadsAsOrigin v m t o
-reads_as_origin v worlds divisors (itself m ends begun) all t t_is =
+reads_as_origin v worlds (itself m ends begun) all t t_is =
     elim (value_or_none (reading t m.bytes)) [
       | inl (a, is) ↦ inr (m, t, a, a, refl, t_is, is, is, refl)
       | inr no_value ↦ inl no_value
     ]
-reads_as_origin v worlds divisors (nothing m n by carries) all t t_is =
+reads_as_origin v worlds (nothing m n by carries) all t t_is =
     let exact = each_here v (λ signal n. is_exact n signal ≡ true) m.point by.place n by.next by.its all in
     inl (no_value_if_exact t (is_exact n m.point.signal) m.bytes exact (carries.signal t t_is))
-reads_as_origin v worlds divisors (another m k n o by carries rest) all t t_is =
+reads_as_origin v worlds (another m k n o by carries rest) all t t_is =
     let exact = each_here v (λ signal n. is_exact n signal ≡ true) m.point by.place n by.next by.its all in
     let onward = each_behind v (λ signal n. is_exact n signal ≡ true) m.point k.point by.place n by.next by.its carries.goes_on all in
     elim (carries.signal t t_is) [
       | inl unset ↦ inl (no_value_if_exact t (is_exact n m.point.signal) m.bytes exact unset)
       | inr (s, s_is, (a, b, from, is, inl one)) ↦
-          reads_on v m k s t o a b (divisor_of v k.point s divisors s_is) from is one (reads_as_origin v worlds divisors rest onward s s_is)
+          reads_on v m k s t o a b (divisor_of v k.point s s_is) from is one (reads_as_origin v worlds rest onward s s_is)
       | inr (s, s_is, (a, b, from, is, inr (near, stands))) ↦ absurd (false≢true (sym near ∙ exact))
     ]
 
@@ -254,5 +250,5 @@ unaltered v clean sound run d place f flow bytes d_is flow_is needed reported =
       brings = from;
       begun = λ x is. let (at, begun) = ends x is in begun_by v run.worlds d.from e x sent at begun;
       bytes = λ all x is. same_bytes v run.worlds from all x is;
-      value = λ divisors all t t_is. reads_as_origin v run.worlds divisors from all t t_is;
+      value = λ all t t_is. reads_as_origin v run.worlds from all t t_is;
     }

@@ -12,7 +12,7 @@ use Rattle.arrayvec.specs.ArrayString.{ArrayString}
 use denote.RawPtr.{null_ptr}
 use Rattle.std.specs.Prelude.{IsTrue, pos}
 use Rattle.std.proofs.lemmas.Int.{ints}
-use Rattle.j39_signal.specs.Parts.{IsSignal, SignalParts}
+use Rattle.j39_signal.specs.Parts.{IsDivisor, IsSignal, SignalParts}
 use Rattle.j39_signal.specs.declared.kind.Kind.TheVariants.{Measured}
 use Rattle.j39_network.specs.LabelForm.{is_label}
 use Rattle.j39_network.specs.declared.plan.meaning.Meaning.{Meaning}
@@ -172,6 +172,7 @@ group alloc = record {
   signal_count = omega arith;
   signal_forms = all_of_one (λ (s : SignalParts). IsTrue (is_label s.label.bytes)) speed refl;
   signal_ranges = all_of_one (λ (s : SignalParts). IsSignal s.start s.bits s.step s.offset) speed speed_ranges;
+  signal_divisors = all_of_one (λ (s : SignalParts). IsDivisor s.per) speed refl;
   signal_labels = pairs_of_one (λ (s t : SignalParts). s.label.bytes ≢ t.label.bytes) speed;
   meaning_count = refl;
   text_count = omega arith;

@@ -1,15 +1,13 @@
 -- The example has no findings, and in its run the need's unit reports what the gateway sends on.
-use Rattle.std.proofs.Common.{◌≡◌, ℕ, zero, suc, ◌<◌, ◌≤◌, List, [], ◌∷◌, ◌++◌, Bool, true, false, Some, Decides, All, inl, inr, sym, refl, ap, ◌∙◌, subst, arith}
+use Rattle.std.proofs.Common.{◌≡◌, ℕ, zero, suc, ◌<◌, List, [], ◌∷◌, ◌++◌, Bool, true, false, Some, Decides, inl, inr, sym, refl, ap, ◌∙◌, subst, arith}
 use Rattle.std.specs.Prelude.{cond, pos}
 use Rattle.std.specs.Global.{Global}
 use Rattle.std.specs.List.{slice_get, slice_index_or}
 use Rattle.std.proofs.lemmas.Bool.{false≢true}
 use Rattle.std.proofs.lemmas.Option.{none-some, same_Some}
 use Rattle.j39_signal.specs.Bits.{number_at}
-use Rattle.j39_signal.specs.Parts.{SignalParts}
 use Rattle.j39_signal.specs.declared.state.State.TheVariants.{Value}
 use Rattle.j39_rules.specs.ListPlaces.{each, in_each, pairs}
-use Rattle.j39_network.specs.declared.plan.group_plan.GroupPlan.{GroupPlan}
 use Rattle.j39_world.specs.Run.{Run}
 use Rattle.j39_world.specs.Transfers.{Begun}
 use Rattle.j39_world.specs.World.{all_off}
@@ -24,9 +22,8 @@ use Rattle.j39_forwards.specs.Forwards.{HasMessage}
 use Rattle.j39_vehicle_laws.specs.Carrying.{AreAllExact, more, none}
 use Rattle.j39_vehicle_laws.specs.Reading.{reading}
 use Rattle.j39_vehicle_laws.specs.Forwarding.{ForwardedMessage, needed_message}
-use Rattle.j39_vehicle_laws.specs.Unaltered.{HasDivisors}
 use Rattle.j39_vehicle_laws.specs.BusRuns.{Carries, WasHeard, WasReported, WasSent, VehicleRun}
-use Rattle.j39_vehicle_laws.proofs.Example.{all_of_one, all_of_two, bus, buses, flow, forward, group, need, payload, runs, speed, steps, taken, unit_at, vehicle}
+use Rattle.j39_vehicle_laws.proofs.Example.{bus, buses, flow, forward, group, need, payload, runs, speed, steps, taken, unit_at, vehicle}
 
 -- ---- no findings
 
@@ -58,14 +55,6 @@ clean : (alloc : Global) → AreFindings (vehicle alloc) []
 clean alloc =
     subst (AreFindings (vehicle alloc)) (no_findings alloc)
     (are_findings (vehicle alloc) (false ∷ []) (record { count = refl; each = λ n less. none_loops alloc n less }))
-
-divide : (alloc : Global) → HasDivisors (vehicle alloc)
-divide alloc =
-    let one : All (λ (g : GroupPlan). All (λ (s : SignalParts). 1 ≤ s.per) g.signals.items) (group alloc ∷ []) =
-    all_of_one (λ (g : GroupPlan). All (λ (s : SignalParts). 1 ≤ s.per) g.signals.items) (group alloc)
-    (all_of_one (λ (s : SignalParts). 1 ≤ s.per) speed (omega arith)) in
-    all_of_two (λ (b : BusPlan). All (λ (g : GroupPlan). All (λ (s : SignalParts). 1 ≤ s.per) g.signals.items) b.plan.groups.items)
-    (bus alloc 65) (bus alloc 66) one one
 
 -- ---- the run
 
@@ -167,7 +156,6 @@ pub a_message : Global → ForwardedMessage
 a_message alloc = record {
   vehicle = vehicle alloc;
   clean = clean alloc;
-  divisors = divide alloc;
   run = run alloc;
   need_place = 0;
   need = need;

@@ -10,7 +10,6 @@ use Rattle.j39_paths.specs.Traces.{IsNeedFlow, flows_of_need, next_forward, poin
 use Rattle.j39_paths.specs.VehicleFindings.{AreFindings}
 use Rattle.j39_vehicle_laws.specs.Carrying.{AreAllExact, signal_at}
 use Rattle.j39_vehicle_laws.specs.Reading.{reading}
-use Rattle.j39_vehicle_laws.specs.Unaltered.{HasDivisors}
 use Rattle.j39_vehicle_laws.specs.BusRuns.{WasReported, BusMessage, VehicleRun}
 
 -- the message of a need's flow that the need's unit reports
@@ -21,7 +20,6 @@ needed_message d f bytes = record { point = point_on d.unit.bus f d.signal; hear
 pub record ForwardedMessage : Type 0 where
   pub vehicle : Vehicle
   pub clean : AreFindings vehicle []
-  pub divisors : HasDivisors vehicle
   pub run : VehicleRun vehicle
   pub need_place : ℕ
   pub need : VehicleNeed

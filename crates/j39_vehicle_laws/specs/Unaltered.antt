@@ -1,13 +1,11 @@
 -- Of a vehicle without findings nothing is altered on the way: what units report is what was begun at its origin.
-use Rattle.std.specs.Prelude.{◌≡◌, ℕ, ◌≤◌, ◌⊎◌, ℤ, List, All, Option, Some}
+use Rattle.std.specs.Prelude.{◌≡◌, ℕ, ◌⊎◌, ℤ, List, Option, Some}
 use Rattle.std.specs.List.{slice_get}
 use Rattle.j39_signal.specs.Parts.{SignalParts}
 use Rattle.j39_signal.specs.declared.state.State.TheVariants.{Value}
 use Rattle.j39_network.specs.declared.plan.flow_plan.FlowPlan.{FlowPlan}
-use Rattle.j39_network.specs.declared.plan.group_plan.GroupPlan.{GroupPlan}
 use Rattle.j39_world.specs.World.{World}
 use Rattle.j39_vehicle.specs.declared.vehicle.Vehicle.{Vehicle}
-use Rattle.j39_vehicle.specs.declared.vehicle.bus_plan.BusPlan.{BusPlan}
 use Rattle.j39_vehicle.specs.declared.vehicle.places.UnitAt.{UnitAt}
 use Rattle.j39_vehicle.specs.declared.vehicle.vehicle_need.VehicleNeed.{VehicleNeed}
 use Rattle.j39_paths.specs.Traces.{IsNeedFlow, flows_of_need, point_on}
@@ -15,10 +13,6 @@ use Rattle.j39_forwards.specs.Forwards.{AreOneValue}
 use Rattle.j39_vehicle_laws.specs.Carrying.{AreAllCopies, AreAllExact, Brings, signal_at}
 use Rattle.j39_vehicle_laws.specs.Reading.{HasNoValue, reading}
 use Rattle.j39_vehicle_laws.specs.BusRuns.{WasBegun, WasReported, BusMessage, VehicleRun, flow_on_bus}
-
--- the values of each signal are divided by 1 or more
-abbrev pub HasDivisors : Vehicle → Type 0
-HasDivisors v = All (λ (bus : BusPlan). All (λ (g : GroupPlan). All (λ (s : SignalParts). 1 ≤ s.per) g.signals.items) bus.plan.groups.items) v.buses.items
 
 -- the unit began the message, by a flow of its own
 pub record WasBegunBy (v : Vehicle) (worlds : ℕ → World) (u : UnitAt) (m : BusMessage) : Type 0 where
@@ -40,7 +34,7 @@ pub record ComesFrom (v : Vehicle) (worlds : ℕ → World) (from : UnitAt) (m :
   -- where only copies are on the way its bytes are the same
   pub bytes : AreAllCopies v m.point → (o : BusMessage) → origin ≡ Some o → m.bytes ≡ o.bytes
   -- where all that goes into signals on the way has to be exact, its signal reads no value, or that of the origin's message
-  pub value : HasDivisors v → AreAllExact v m.point → (t : SignalParts) → signal_at v m.point ≡ Some t → ReadsAsOrigin v m t origin
+  pub value : AreAllExact v m.point → (t : SignalParts) → signal_at v m.point ≡ Some t → ReadsAsOrigin v m t origin
 
 -- so does each message of a flow of a need that the need's unit reports
 abbrev pub IsUnaltered : Vehicle → Type 0

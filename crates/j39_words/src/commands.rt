@@ -2,7 +2,8 @@
 ghost use Rattle.std.specs.Prelude.{◌≡◌, false, IfOk, IsOkAnd, codes};
 ghost use Rattle.clap.specs.Words.{app_of, rule_of, with_subcommand};
 ghost use Rattle.clap.specs.declared.builder.command.Command.TheViews.{out-Command as fields_of};
-ghost use Rattle.j39_words.specs.Commands.{commands, flag_rule, one_value, program, two_values, two_values_and_flag, value_rule};
+ghost use Rattle.j39_words.specs.Commands.{commands, flag_rule, one_value, program, two_values, two_values_and_flag};
+ghost use Rattle.j39_words.specs.Commands.{value_rule};
 
 use clap::{Arg, ArgAction, Command};
 use std::alloc::{AllocError, Global};

@@ -1,7 +1,7 @@
 -- Which plans have a bus, and why another has none.
 use Rattle.std.specs.Prelude.{◌≡◌, ◌≢◌, ℕ, ◌<◌, List, length, All}
 use Rattle.j39_claim.specs.ClaimRule.{PlannedUnit}
-use Rattle.j39_network.specs.Kinds.{MayBeOneAt, AreToldApart}
+use Rattle.j39_network.specs.Kinds.{MayBeOneAt, AreDistinctUnits}
 use Rattle.j39_network.specs.PlannedGroups.{IsSendable, IsFirstRefused}
 use Rattle.j39_network.specs.declared.plan.Plan.{Plan}
 use Rattle.j39_world.specs.declared.bus_error.BusError.{BusError}
@@ -26,7 +26,7 @@ pub record AreFirstThatMayBeOne (plan : Plan) (i j : ℕ) : Type 0 where
 -- a bus needs as many choosers as units, units of which no two may be one, and groups that can be sent
 pub record CanOpen (choosers : ℕ) (plan : Plan) : Type 0 where
   pub count : choosers ≡ length plan.units.items
-  pub told_apart : AreToldApart plan
+  pub told_apart : AreDistinctUnits plan
   pub groups : All IsSendable plan.groups.items
 
 -- the first cause, in this order
@@ -34,5 +34,5 @@ abbrev pub IsNotOpened : ℕ → Plan → BusError → Type 0
 IsNotOpened choosers plan ChooserCount = choosers ≢ length plan.units.items
 IsNotOpened choosers plan (SameName i j) = (choosers ≡ length plan.units.items) × AreFirstThatMayBeOne plan i j
 IsNotOpened choosers plan (BadGroup g) =
-    (choosers ≡ length plan.units.items) × AreToldApart plan × IsFirstRefused plan.groups.items g
+    (choosers ≡ length plan.units.items) × AreDistinctUnits plan × IsFirstRefused plan.groups.items g
 IsNotOpened choosers plan Memory = CanOpen choosers plan

@@ -5,7 +5,7 @@ use Rattle.std.specs.List.{slice_get}
 use Rattle.j39_id.specs.Addresses.{in_pool}
 use Rattle.j39_id.specs.Name.{is_arbitrary}
 use Rattle.j39_network.specs.UnitAddresses.{NeedsPoolAddress}
-use Rattle.j39_network.specs.Kinds.{AreToldApart}
+use Rattle.j39_network.specs.Kinds.{AreDistinctUnits}
 use Rattle.j39_rules.specs.ListPlaces.{SoManyMeet}
 use Rattle.j39_network.specs.declared.plan.Plan.{Plan}
 use Rattle.j39_network.specs.declared.plan.flow_plan.FlowPlan.{FlowPlan}
@@ -44,7 +44,8 @@ pub record ComesClaiming (joined : Plan) (u : ℕ) : Type 0 where
       → (unit_at (units_of joined) v).preferred ≢ (unit_at (units_of joined) u).preferred
   pub silent : EachOther (units_of joined) u (λ v. (unit_at (units_of joined) v).claims ≡ false
       → (unit_at (units_of joined) v).preferred ≢ (unit_at (units_of joined) u).preferred)
-  pub fixed : is_arbitrary (unit_at (units_of joined) u).name ≡ false → EachOther (units_of joined) u (λ v. is_arbitrary (unit_at (units_of joined) v).name ≡ false
+  pub fixed : is_arbitrary (unit_at (units_of joined) u).name ≡ false
+      → EachOther (units_of joined) u (λ v. is_arbitrary (unit_at (units_of joined) v).name ≡ false
       → (unit_at (units_of joined) v).preferred ≢ (unit_at (units_of joined) u).preferred)
 
 -- one that comes and never claims: no other unit is planned at its address, and none moves there
@@ -61,7 +62,7 @@ pub record ComeBesideLive (plan joined : Plan) (strangers : List UnitPlan) : Typ
   pub few : (m : ℕ) × SoManyMeet (NeedsPoolAddress empty) strangers m × (m ≤ plan.strangers)
   -- they stand behind its units, and no two of all of them may be one
   pub behind : joined.units.items ≡ plan.units.items ++ strangers
-  pub apart : AreToldApart joined
+  pub apart : AreDistinctUnits joined
   pub each : (u : ℕ) → length plan.units.items ≤ u → u < length joined.units.items → ComesClaiming joined u ⊎ ComesSilent joined u
   -- groups, flows, needs and requests are the plan's
   pub groups : joined.groups.items ≡ plan.groups.items

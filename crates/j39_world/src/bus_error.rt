@@ -7,7 +7,8 @@ pub enum BusError {
     /// There isn't one chooser for each unit.
     #[error("ChooserCount")]
     ChooserCount,
-    /// The units at these places may be one: nothing but serial numbers tells them apart, and not both are given, or they have one NAME.
+    /// The units at these places may be one: nothing but serial numbers tells them apart, and not both are given, or
+    /// they have one NAME.
     #[error("SameName")]
     SameName(usize, usize),
     /// The number of the group at this place is no group's, or its signals make no layout.

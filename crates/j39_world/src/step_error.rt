@@ -10,7 +10,8 @@ pub enum StepError {
     /// The flow is none of the plan, goes to its own sender, or is one of a group that can't go to one unit.
     #[error("NoSuchFlow")]
     NoSuchFlow,
-    /// A unit that the step names, the flow's sender or its one receiver isn't on. The unit whose item a `Give` delivers may be off.
+    /// A unit that the step names, the flow's sender or its one receiver isn't on. The unit whose item a `Give`
+    /// delivers may be off.
     #[error("NotStarted")]
     NotStarted,
     #[error("AlreadyStarted")]
@@ -26,7 +27,8 @@ pub enum StepError {
     /// The flow's sender or its one receiver holds no address.
     #[error("NoAddress")]
     NoAddress,
-    /// The flow's sender is between its Begin and its Rest; for a frame that is sent alone, of a message of the same group.
+    /// The flow's sender is between its Begin and its Rest; for a frame that is sent alone, of a message of the same
+    /// group.
     #[error("Busy")]
     Busy,
     /// The bytes are more or fewer than the group has, or more than one frame has where one is sent alone.

@@ -39,8 +39,8 @@ impl Short {
     }
 }
 
-/// What one unit sends another of a message: a whole one of one frame, a transport packet, or a whole one that was sent alone, beside
-/// whatever message its unit sends, with the place of its flow.
+/// What one unit sends another of a message: a whole one of one frame, a transport packet, or a whole one that was sent
+/// alone, beside whatever message its unit sends, with the place of its flow.
 #[derive(Drop)]
 pub enum Wired {
     Short(Short),

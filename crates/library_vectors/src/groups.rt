@@ -6,7 +6,7 @@ use std::test::Fail;
 
 /// A signal as a table gives it: bytes from 1, bits in a byte from 1.
 #[derive(Clone, Copy)]
-pub struct Row {
+pub struct SignalRow {
     pub label: &'static str,
     pub byte: u16,
     pub bit: u16,
@@ -24,8 +24,8 @@ const fn measured(
     unit: &'static str,
     step: i64,
     offset: i64,
-) -> Row {
-    Row {
+) -> SignalRow {
+    SignalRow {
         label,
         byte,
         bit: 1,
@@ -37,8 +37,8 @@ const fn measured(
     }
 }
 
-const fn unscaled(label: &'static str, byte: u16, bit: u16, bits: u8, kind: Kind) -> Row {
-    Row {
+const fn unscaled(label: &'static str, byte: u16, bit: u16, bits: u8, kind: Kind) -> SignalRow {
+    SignalRow {
         label,
         byte,
         bit,
@@ -51,7 +51,7 @@ const fn unscaled(label: &'static str, byte: u16, bit: u16, bits: u8, kind: Kind
 }
 
 /// Electronic engine controller 1, PGN 61444.
-pub fn eec1() -> [Row; 7] {
+pub fn eec1() -> [SignalRow; 7] {
     [
         unscaled("SPN899", 1, 1, 4, Kind::Raw),
         measured("SPN512", 2, 8, "%", 1, -125),
@@ -64,7 +64,7 @@ pub fn eec1() -> [Row; 7] {
 }
 
 /// Engine temperature 1, PGN 65262.
-pub fn et1() -> [Row; 3] {
+pub fn et1() -> [SignalRow; 3] {
     [
         measured("SPN110", 1, 8, "degC", 1, -40),
         measured("SPN174", 2, 8, "degC", 1, -40),
@@ -73,7 +73,7 @@ pub fn et1() -> [Row; 3] {
 }
 
 /// Cruise control and vehicle speed, PGN 65265.
-pub fn ccvs() -> [Row; 5] {
+pub fn ccvs() -> [SignalRow; 5] {
     [
         unscaled("SPN70", 1, 3, 2, Kind::Discrete),
         measured("SPN84", 2, 16, "1/256 km/h", 1, 0),
@@ -84,7 +84,7 @@ pub fn ccvs() -> [Row; 5] {
 }
 
 /// Engine hours and revolutions, PGN 65253.
-pub fn hours() -> [Row; 2] {
+pub fn hours() -> [SignalRow; 2] {
     [
         measured("SPN247", 1, 32, "1/20 h", 1, 0),
         measured("SPN249", 5, 32, "r", 1000, 0),
@@ -92,7 +92,7 @@ pub fn hours() -> [Row; 2] {
 }
 
 /// Vehicle distance, PGN 65248.
-pub fn vd() -> [Row; 2] {
+pub fn vd() -> [SignalRow; 2] {
     [
         measured("SPN244", 1, 32, "1/8 km", 1, 0),
         measured("SPN245", 5, 32, "1/8 km", 1, 0),
@@ -100,8 +100,8 @@ pub fn vd() -> [Row; 2] {
 }
 
 /// A group of a maker: states, numbers in two's complement, and a diagnostic trouble code.
-pub fn maker() -> [Row; 4] {
-    let torque = Row {
+pub fn maker() -> [SignalRow; 4] {
+    let torque = SignalRow {
         step: 5,
         offset: 100,
         ..unscaled("TORQUE", 2, 1, 8, Kind::Signed)
@@ -115,7 +115,7 @@ pub fn maker() -> [Row; 4] {
 }
 
 /// The signal of a row.
-pub fn signal(row: &Row) -> Result<Signal, Fail> {
+pub fn signal(row: &SignalRow) -> Result<Signal, Fail> {
     if row.byte < 1 || row.byte > 1785 || row.bit < 1 || row.bit > 8 {
         return Err("no place").map_err(Fail::from);
     }
@@ -127,7 +127,7 @@ pub fn signal(row: &Row) -> Result<Signal, Fail> {
 }
 
 /// The signals of some rows.
-pub fn signals(alloc: Global, rows: &[Row]) -> Result<Vec<Signal>, Fail> {
+pub fn signals(alloc: Global, rows: &[SignalRow]) -> Result<Vec<Signal>, Fail> {
     let mut signals = Vec::new(alloc);
     for row in rows {
         signals.push(signal(row)?)?;
@@ -145,7 +145,7 @@ pub struct Laid {
 
 impl Laid {
     /// A blank payload.
-    pub fn blank(alloc: Global, rows: &[Row]) -> Result<Self, Fail> {
+    pub fn blank(alloc: Global, rows: &[SignalRow]) -> Result<Self, Fail> {
         let layout = Layout::new(alloc, 8, signals(alloc, rows)?.as_slice())?;
         let payload = layout.blank(alloc)?;
         let mut labels = Vec::new(alloc);

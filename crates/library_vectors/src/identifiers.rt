@@ -56,6 +56,8 @@ fn an_identifier_is_laid_out(rt: HostRuntime) -> Result<(), Fail> {
     assert_eq!(rt; request.to_bits(), 0x18EA_FFFE);
     let engine = Pgn::new(61444).ok_or("a PDU2 group")?;
     assert_eq!(rt; Ident::new(3, engine, 17, 0).to_bits(), 0x0CF0_0400);
+    assert_eq!(rt; Ident::number_of(3, 61_444, 17, 0), 0x0CF0_0400);
+    assert_eq!(rt; Ident::number_of(6, 59_904, 255, 254), 0x18EA_FFFE);
     Ok(())
 }
 

@@ -1,5 +1,5 @@
 //! Signals and layouts on worked payloads.
-use crate::groups::{Laid, Row, ccvs, eec1, et1, hours, signals, vd};
+use crate::groups::{Laid, SignalRow, ccvs, eec1, et1, hours, signals, vd};
 use j39_id::Label;
 use j39_signal::{Kind, Layout, LayoutError, Signal, State, WriteError};
 use std::alloc::Global;
@@ -10,7 +10,7 @@ use std::test::Fail;
 pub fn writes(
     rt: &impl Abort,
     alloc: Global,
-    rows: &[Row],
+    rows: &[SignalRow],
     values: &[(&str, i64, Result<(), WriteError>)],
     text: &str,
     states: &[(&str, State)],
@@ -30,7 +30,7 @@ pub fn writes(
 pub fn shows(
     rt: &impl Abort,
     alloc: Global,
-    rows: &[Row],
+    rows: &[SignalRow],
     label: &str,
     payloads: &[(&str, State)],
 ) -> Result<(), Fail> {
@@ -145,8 +145,8 @@ fn discrete_signals_of_one_byte_stand_alone(rt: HostRuntime) -> Result<(), Fail>
     )
 }
 
-fn raw(bits: u8, byte: u16, bit: u16) -> Row {
-    Row {
+fn raw(bits: u8, byte: u16, bit: u16) -> SignalRow {
+    SignalRow {
         label: "S",
         byte,
         bit,
@@ -159,7 +159,7 @@ fn raw(bits: u8, byte: u16, bit: u16) -> Row {
 }
 
 // The fault for which these signals are refused in so many bytes.
-fn refusal(alloc: Global, length: u16, rows: &[Row]) -> Result<Option<LayoutError>, Fail> {
+fn refusal(alloc: Global, length: u16, rows: &[SignalRow]) -> Result<Option<LayoutError>, Fail> {
     let signals = signals(alloc, rows)?;
     Ok(Layout::new(alloc, length, signals.as_slice()).err())
 }

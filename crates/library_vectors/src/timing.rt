@@ -1,6 +1,7 @@
-//! Lengths of frames, and waits that were counted by hand: eight-byte frames at 250,000 bits a second, where 10 ms are 2,500 bits.
+//! Lengths of frames, and waits that were counted by hand: eight-byte frames at 250,000 bits a second, where 10 ms are
+//! 2,500 bits.
 use j39_timing::{
-    Stream, a_bound_is_reached, a_bound_of_a_company_is_reached, a_bus_with_errors_is_legal,
+    Stream, a_bound_is_reached, a_bound_of_a_queue_group_is_reached, a_bus_with_errors_is_legal,
     ages_are_bounded, broadcasts_can_be_sent, frame_bits, frames_behind_one_another_are_in_time,
     least_wait, messages_in_turn_are_whole_in_time, planned_frames_are_in_time,
 };
@@ -11,7 +12,7 @@ const FLOW: Stream = Stream {
     frames: 1,
     period: 2500,
     bits: 160,
-    late: 0,
+    jitter: 0,
     wanted: None,
 };
 
@@ -45,7 +46,7 @@ fn a_frame_waits_for_the_one_on_the_bus_and_for_each_flow_before_it(rt: HostRunt
     broadcasts_can_be_sent();
     ages_are_bounded();
     a_bound_is_reached();
-    a_bound_of_a_company_is_reached();
+    a_bound_of_a_queue_group_is_reached();
     // 1,280, 1,920 and 2,560 us, each with the 160 bits of the frame itself
     assert_eq!(rt; least_wait(&[], 160, &[], MOST), Some(160));
     assert_eq!(rt; least_wait(&[], 160, &[FLOW], MOST), Some(320));
@@ -79,14 +80,14 @@ fn a_frame_queued_in_the_very_bit_counts(rt: HostRuntime) {
         frames: 1,
         period: 500,
         bits: 160,
-        late: 0,
+        jitter: 0,
         wanted: None,
     };
     let small = Stream {
         frames: 1,
         period: 25_000,
         bits: 90,
-        late: 0,
+        jitter: 0,
         wanted: None,
     };
     // 160 + 160 + 90 + 90 are 500 bits, and in the bit behind them the first stream has its second frame
@@ -103,7 +104,7 @@ fn of_a_long_message_frames_of_one_more_can_be_queued(rt: HostRuntime) {
         frames: 4,
         period: 25_000,
         bits: 160,
-        late: 25_000,
+        jitter: 25_000,
         wanted: None,
     };
     // 160 + 2 * 4 * 160 bits, and with them a flow of 10 ms
@@ -113,8 +114,8 @@ fn of_a_long_message_frames_of_one_more_can_be_queued(rt: HostRuntime) {
 
 #[test]
 fn two_frames_that_may_be_late_come_in_a_row(rt: HostRuntime) {
-    let late = |late: u32| Stream { late, ..FLOW };
+    let jitter = |jitter: u32| Stream { jitter, ..FLOW };
     // with a period of 10 ms, 5 ms late: one of them in a wait; 9 ms late: two of them
-    assert_eq!(rt; least_wait(&[], 160, &[late(1_250)], MOST), Some(320));
-    assert_eq!(rt; least_wait(&[], 160, &[late(2_250)], MOST), Some(480));
+    assert_eq!(rt; least_wait(&[], 160, &[jitter(1_250)], MOST), Some(320));
+    assert_eq!(rt; least_wait(&[], 160, &[jitter(2_250)], MOST), Some(480));
 }

@@ -231,7 +231,8 @@ fn completed(receiver: &Receiver, met: Met) -> Result<Option<u16>, PacketError> 
     })
 }
 
-// Receives, and sees before each answer whether it completes the message, that nothing is open at the end, and the bytes that came whole.
+// Receives, and sees before each answer whether it completes the message, that nothing is open at the end, and the
+// bytes that came whole.
 fn receives(
     rt: &impl Abort,
     mut receiver: Receiver,

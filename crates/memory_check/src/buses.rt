@@ -2,12 +2,12 @@
 
 use j39_bus::{Bus, BusError, StepError};
 use j39_claim::{Choose, Lowest};
-use j39_plan::{Plan, PlanError, Step, read_plan};
+use j39_plan::{FileError, Plan, Step, read_plan};
 use std::alloc::{AllocError, Global};
 
 /// A step of two units, the first of which sends.
 #[derive(Clone, Copy)]
-pub enum Move {
+pub enum BusMove {
     /// This unit is switched on.
     Up(usize),
     /// The second unit hears a claim of the first.
@@ -23,55 +23,55 @@ pub enum Move {
 }
 
 /// A broadcast from where both units are off.
-pub const BROADCAST: [Move; 12] = [
-    Move::Up(0),
-    Move::Up(1),
-    Move::Give(1, 0),
-    Move::Begin(0),
-    Move::Emit,
-    Move::Emit,
-    Move::Emit,
-    Move::Take(0, 1),
-    Move::Take(0, 1),
-    Move::Take(0, 1),
-    Move::Take(0, 1),
-    Move::Rest,
+pub const BROADCAST: [BusMove; 12] = [
+    BusMove::Up(0),
+    BusMove::Up(1),
+    BusMove::Give(1, 0),
+    BusMove::Begin(0),
+    BusMove::Emit,
+    BusMove::Emit,
+    BusMove::Emit,
+    BusMove::Take(0, 1),
+    BusMove::Take(0, 1),
+    BusMove::Take(0, 1),
+    BusMove::Take(0, 1),
+    BusMove::Rest,
 ];
 
 /// A message whose second packet is lost, and sent again.
-pub const MESSAGE: [Move; 19] = [
-    Move::Up(0),
-    Move::Up(1),
-    Move::Give(1, 0),
-    Move::Begin(1),
-    Move::Take(0, 1),
-    Move::Take(1, 0),
-    Move::Emit,
-    Move::Emit,
-    Move::Emit,
-    Move::Take(0, 1),
-    Move::Lose(0, 1),
-    Move::Take(0, 1),
-    Move::Take(1, 0),
-    Move::Emit,
-    Move::Emit,
-    Move::Take(0, 1),
-    Move::Take(0, 1),
-    Move::Take(1, 0),
-    Move::Rest,
+pub const MESSAGE: [BusMove; 19] = [
+    BusMove::Up(0),
+    BusMove::Up(1),
+    BusMove::Give(1, 0),
+    BusMove::Begin(1),
+    BusMove::Take(0, 1),
+    BusMove::Take(1, 0),
+    BusMove::Emit,
+    BusMove::Emit,
+    BusMove::Emit,
+    BusMove::Take(0, 1),
+    BusMove::Lose(0, 1),
+    BusMove::Take(0, 1),
+    BusMove::Take(1, 0),
+    BusMove::Emit,
+    BusMove::Emit,
+    BusMove::Take(0, 1),
+    BusMove::Take(0, 1),
+    BusMove::Take(1, 0),
+    BusMove::Rest,
 ];
 
 const BYTES: [u8; 17] = [0, 1, 2, 3, 4, 5, 6, 7, 8, 9, 10, 11, 12, 13, 14, 15, 16];
 
-fn step_of(alloc: Global, step: Move) -> Result<Step, AllocError> {
+fn step_of(alloc: Global, step: BusMove) -> Result<Step, AllocError> {
     Ok(match step {
-        Move::Up(unit) => Step::Up(unit),
-        Move::Give(from, to) => Step::Give(from, to),
-        Move::Begin(flow) => Step::Begin(flow, BYTES.as_slice().to_vec(alloc)?),
-        Move::Emit => Step::Emit(0),
-        Move::Take(from, to) => Step::Take(from, to),
-        Move::Lose(from, to) => Step::Lose(from, to),
-        Move::Rest => Step::Rest(0),
+        BusMove::Up(unit) => Step::Up(unit),
+        BusMove::Give(from, to) => Step::Give(from, to),
+        BusMove::Begin(flow) => Step::Begin(flow, BYTES.as_slice().to_vec(alloc)?),
+        BusMove::Emit => Step::Emit(0),
+        BusMove::Take(from, to) => Step::Take(from, to),
+        BusMove::Lose(from, to) => Step::Lose(from, to),
+        BusMove::Rest => Step::Rest(0),
     })
 }
 
@@ -82,8 +82,8 @@ fn are_alike(first: &Bus, second: &Bus) -> bool {
         && first.reports() == second.reports()
 }
 
-// Does the steps on two buses of these choosers. A step that wants memory leaves its bus like the other, and is done again.
-// (The buses have one way out, since each way drops them.)
+// Does the steps on two buses of these choosers. A step that wants memory leaves its bus like the other, and is done
+// again. (The buses have one way out, since each way drops them.)
 fn are_done(
     alloc: Global,
     plan: &Plan,
@@ -108,7 +108,7 @@ fn are_done(
     Ok(is_done && bus.reports().len() == 1)
 }
 
-fn steps_of(alloc: Global, moves: &[Move]) -> Result<Vec<Step>, AllocError> {
+fn steps_of(alloc: Global, moves: &[BusMove]) -> Result<Vec<Step>, AllocError> {
     let mut steps = Vec::new(alloc);
     for step in moves {
         steps.push(step_of(alloc, *step)?)?;
@@ -117,10 +117,10 @@ fn steps_of(alloc: Global, moves: &[Move]) -> Result<Vec<Step>, AllocError> {
 }
 
 /// Whether each move is done, on two buses that are alike after each.
-pub fn is_answered(alloc: Global, plan: &str, moves: &[Move]) -> Result<bool, AllocError> {
+pub fn is_answered(alloc: Global, plan: &str, moves: &[BusMove]) -> Result<bool, AllocError> {
     let plan = match read_plan(alloc, plan.as_bytes()) {
         Ok(plan) => plan,
-        Err(PlanError::Memory) => return Err(AllocError),
+        Err(FileError::Memory) => return Err(AllocError),
         Err(_) => return Ok(false),
     };
     let steps = steps_of(alloc, moves)?;

@@ -1,5 +1,5 @@
-//! Does each row's command, reads its words, checks its plan and steps its bus, and does again what wanted memory: so that
-//! each growth can be refused in turn, as by `rt try --fail-alloc`, and the answers are still the row's.
+//! Does each row's command, reads its words, checks its plan and steps its bus, and does again what wanted memory: so
+//! that each growth can be refused in turn, as by `rt try --fail-alloc`, and the answers are still the row's.
 #![tactic(auto)]
 
 mod buses;

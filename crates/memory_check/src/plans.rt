@@ -1,7 +1,7 @@
 //! Plans that are checked.
 
 use j39_app::Verdict;
-use j39_plan::{Plan, PlanError, RefusedCause, checked, read_plan};
+use j39_plan::{FileError, Plan, RefusedCause, checked, read_plan};
 use j39_vectors::Row;
 use std::alloc::{AllocError, Global};
 
@@ -10,12 +10,12 @@ fn has_sizes(plan: &Plan, sizes: (usize, usize, usize)) -> bool {
     (plan.units.len(), plan.groups.len(), plan.flows.len()) == sizes
 }
 
-/// Whether the row's plan is found clean where its check is Done, and else comes back: also where memory was wanted, and it
-/// is then checked again.
+/// Whether the row's plan is found clean where its check is Done, and else comes back: also where memory was wanted,
+/// and it is then checked again.
 pub fn comes_back(alloc: Global, row: &Row) -> Result<bool, AllocError> {
     let plan = match read_plan(alloc, row.plan.as_bytes()) {
         Ok(plan) => plan,
-        Err(PlanError::Memory) => return Err(AllocError),
+        Err(FileError::Memory) => return Err(AllocError),
         Err(_) => return Ok(false),
     };
     let sizes = (plan.units.len(), plan.groups.len(), plan.flows.len());

@@ -1,4 +1,4 @@
-use super::Stage;
+use super::ProgramStage;
 use std::alloc::Allocator;
 use std::fs::{Metadata, OpenOptions};
 use std::io;
@@ -10,7 +10,7 @@ fn unsupported() -> io::Error {
     io::Error::from(ErrorKind::Unsupported)
 }
 
-impl<R: Files + AllocGlobal> Files for Stage<'_, R> {
+impl<R: Files + AllocGlobal> Files for ProgramStage<'_, R> {
     type File = R::File;
 
     type Dir = R::Dir;

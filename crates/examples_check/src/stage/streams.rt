@@ -1,10 +1,10 @@
-use super::Stage;
+use super::ProgramStage;
 use std::alloc::Allocator;
 use std::fmt::Display;
 use std::io;
 use std::io::{BufRead, Lines};
 
-impl<'a, R> Input for Stage<'a, R> {
+impl<'a, R> Input for ProgramStage<'a, R> {
     type Reader = &'a [u8];
 
     fn read_line<A: Allocator + Clone>(&self, buf: &mut String<A>) -> io::Result<usize> {
@@ -20,7 +20,7 @@ impl<'a, R> Input for Stage<'a, R> {
     }
 }
 
-impl<R: AllocGlobal> Print for Stage<'_, R> {
+impl<R: AllocGlobal> Print for ProgramStage<'_, R> {
     fn print<D: Display + Drop>(&self, value: D) -> io::Result<()> {
         self.output
             .take_all(format!(in self.alloc(); "{value}")?.as_bytes())
@@ -40,7 +40,7 @@ impl<R: AllocGlobal> Print for Stage<'_, R> {
     }
 }
 
-impl<R: AllocGlobal> Eprint for Stage<'_, R> {
+impl<R: AllocGlobal> Eprint for ProgramStage<'_, R> {
     fn eprint<D: Display + Drop>(&self, value: D) -> io::Result<()> {
         self.complaints
             .take_all(format!(in self.alloc(); "{value}")?.as_bytes())

@@ -5,7 +5,8 @@ ghost use Rattle.j39_id.specs.Limits.{message_bytes};
 ghost use Rattle.j39_network.specs.declared.steps.Step.TheVariants.{Begin};
 ghost use Rattle.j39_bus.specs.BusState.{Histories};
 ghost use Rattle.j39_bus.specs.Stations.{station_at};
-ghost use Rattle.j39_bus.specs.inside.Network.{IsAllowed, IsNetwork, IsSameNetwork, KeepsPlan, has_begun, world_in, Steps};
+ghost use Rattle.j39_bus.specs.inside.Network.{IsAllowed, IsNetwork, IsSameNetwork, KeepsPlan, has_begun, world_in};
+ghost use Rattle.j39_bus.specs.inside.Network.{Steps};
 ghost use Rattle.j39_bus.specs.inside.KeptMessages.{HasRoomTo, IsFlow, item_frame};
 ghost use Rattle.j39_world.specs.Sent.{sent_of};
 ghost use Rattle.j39_world.specs.TransferSteps.{begins, targets_of};
@@ -94,13 +95,15 @@ impl Network {
         requires network { IsNetwork self.old }
         requires flow { IsFlow (length self.old.claimers.items) flow.now }
         requires bytes { length bytes.now ≤ message_bytes }
-        requires targets { targets.items ≡ targets_of (length self.old.claimers.items) (station_at self.old.claimers.items) flow.now.sender flow.now.to }
+        requires targets { targets.items
+            ≡ targets_of (length self.old.claimers.items) (station_at self.old.claimers.items) flow.now.sender flow.now.to }
         requires wire { HasRoomTo self.old.wire flow.now.sender targets.items }
         requires frames { vec_len self.old.frames < vec_capacity self.old.frames }
         ensures network { IsNetwork self.new }
         ensures plan { KeepsPlan self.old self.new }
         ensures receivers { self.new.receivers ≡ self.old.receivers }
-        ensures world { (h : Histories) → world_in (has_begun h place flow.now targets.items bytes.now) self.new ≡ begins
+        ensures world { (h : Histories)
+            → world_in (has_begun h place flow.now targets.items bytes.now) self.new ≡ begins
             (length self.old.claimers.items) (world_in h self.old) place flow.now bytes.now }
     {
         let claimers = self.claimers.as_slice();

@@ -2,7 +2,8 @@
 ghost use Rattle.std.specs.Prelude.{◌≡◌, ◌<◌, length, vec_len, vec_capacity, OnOk, OnErr};
 ghost use Rattle.j39_network.specs.declared.steps.Step.TheVariants.{LateReceiver};
 ghost use Rattle.j39_bus.specs.BusState.{Histories};
-ghost use Rattle.j39_bus.specs.inside.Network.{HasHeld, IsAllowed, IsNetwork, IsSameNetwork, KeepsPlan, world_in, Steps};
+ghost use Rattle.j39_bus.specs.inside.Network.{HasHeld, IsAllowed, IsNetwork, IsSameNetwork, KeepsPlan, world_in};
+ghost use Rattle.j39_bus.specs.inside.Network.{Steps};
 ghost use Rattle.j39_queues.specs.Queued.{room_at};
 ghost use Rattle.j39_world.specs.TransferSteps.{receiver_timed_out};
 
@@ -33,7 +34,8 @@ impl Network {
         requires frames { vec_len self.old.frames < vec_capacity self.old.frames }
         ensures network { IsNetwork self.new }
         ensures plan { KeepsPlan self.old self.new }
-        ensures world { (h : Histories) → world_in h self.new ≡ receiver_timed_out self.old.receivers.windows (world_in h self.old) from to }
+        ensures world { (h : Histories)
+            → world_in h self.new ≡ receiver_timed_out self.old.receivers.windows (world_in h self.old) from to }
         ensures held { (h : Histories) → HasHeld h self.old → HasHeld h self.new }
     {
         receivers_gather_what_they_hear();

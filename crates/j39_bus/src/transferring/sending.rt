@@ -3,7 +3,8 @@ ghost use Rattle.std.specs.Prelude.{◌≡◌, ◌<◌, ◌≤◌, length, vec_l
 ghost use Rattle.j39_network.specs.declared.steps.Step.TheVariants.{Send};
 ghost use Rattle.j39_bus.specs.BusState.{Histories};
 ghost use Rattle.j39_bus.specs.Stations.{station_at};
-ghost use Rattle.j39_bus.specs.inside.Network.{IsAllowed, IsNetwork, IsSameNetwork, KeepsPlan, has_sent, world_in, Steps};
+ghost use Rattle.j39_bus.specs.inside.Network.{IsAllowed, IsNetwork, IsSameNetwork, KeepsPlan, has_sent, world_in};
+ghost use Rattle.j39_bus.specs.inside.Network.{Steps};
 ghost use Rattle.j39_bus.specs.inside.KeptMessages.{HasRoomTo, IsFlow};
 ghost use Rattle.j39_world.specs.TransferSteps.{sends_alone, targets_of};
 
@@ -34,13 +35,15 @@ impl Network {
         requires network { IsNetwork self.old }
         requires flow { IsFlow (length self.old.claimers.items) flow.now }
         requires bytes { length bytes.now ≤ 8 }
-        requires targets { targets.now ≡ targets_of (length self.old.claimers.items) (station_at self.old.claimers.items) flow.now.sender flow.now.to }
+        requires targets { targets.now
+            ≡ targets_of (length self.old.claimers.items) (station_at self.old.claimers.items) flow.now.sender flow.now.to }
         requires wire { HasRoomTo self.old.wire flow.now.sender targets.now }
         requires frames { vec_len self.old.frames < vec_capacity self.old.frames }
         ensures network { IsNetwork self.new }
         ensures plan { KeepsPlan self.old self.new }
         ensures receivers { self.new.receivers ≡ self.old.receivers }
-        ensures world { (h : Histories) → world_in (has_sent h place flow.now targets.now bytes.now) self.new ≡ sends_alone
+        ensures world { (h : Histories)
+            → world_in (has_sent h place flow.now targets.now bytes.now) self.new ≡ sends_alone
             (length self.old.claimers.items) (world_in h self.old) place flow.now bytes.now }
     {
         let claimers = self.claimers.as_slice();

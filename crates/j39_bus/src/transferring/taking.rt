@@ -1,13 +1,16 @@
 //! A unit takes what is sent to it.
-ghost use Rattle.std.specs.Prelude.{◌≡◌, ℕ, ◌+◌, ◌<◌, ◌≤◌, true, [], ◌∷◌, ◌++◌, drop, length, vec_len, vec_capacity, OnOk, OnErr, IfOk};
+ghost use Rattle.std.specs.Prelude.{◌≡◌, ℕ, ◌+◌, ◌<◌, ◌≤◌, true, [], ◌∷◌, ◌++◌, drop, length, vec_len, vec_capacity};
+ghost use Rattle.std.specs.Prelude.{OnOk, OnErr, IfOk};
 ghost use Rattle.j39_network.specs.declared.steps.Step.TheVariants.{Take};
 ghost use Rattle.j39_queues.specs.Queued.{KeepsRoom, pair_in, room_at};
 ghost use Rattle.j39_tp.specs.Receiver.{is_complete};
 ghost use Rattle.j39_tp.specs.Carried.{Carried};
 ghost use Rattle.j39_bus.specs.BusState.{Histories};
-ghost use Rattle.j39_bus.specs.inside.Network.{HasHeld, IsAllowed, IsNetwork, IsSameNetwork, KeepsPlan, TakesOldest, has_taken, world_in, Steps};
+ghost use Rattle.j39_bus.specs.inside.Network.{HasHeld, IsAllowed, IsNetwork, IsSameNetwork, KeepsPlan, TakesOldest};
+ghost use Rattle.j39_bus.specs.inside.Network.{has_taken, world_in, Steps};
 ghost use Rattle.j39_bus.specs.inside.KeptMessages.{packet_heard};
-ghost use Rattle.j39_world.specs.TransferSteps.{alone_report, hearing, packets_in, reaction_of, receiver_replies, report, sender_replies};
+ghost use Rattle.j39_world.specs.TransferSteps.{alone_report, hearing, packets_in, reaction_of, receiver_replies};
+ghost use Rattle.j39_world.specs.TransferSteps.{report, sender_replies};
 
 use crate::network::Network;
 use crate::report::Report;
@@ -62,7 +65,8 @@ impl Network {
         requires network { IsNetwork self.old }
         requires from { from < length self.old.claimers.items }
         requires to { to < length self.old.claimers.items }
-        requires oldest { pair_in self.old.wire.lists from to ≡ item.now ∷ drop 1 (pair_in self.old.wire.lists from to) }
+        requires oldest { pair_in self.old.wire.lists from to
+            ≡ item.now ∷ drop 1 (pair_in self.old.wire.lists from to) }
         ensures network { IsNetwork self.new }
         ensures plan { KeepsPlan self.old self.new }
         ensures takes { OnOk result (TakesOldest self.old from to self.new) }
@@ -79,7 +83,8 @@ impl Network {
         requires network { IsNetwork self.old }
         requires from { from < length self.old.claimers.items }
         requires to { to < length self.old.claimers.items }
-        requires oldest { pair_in self.old.wire.lists from to ≡ Wired.Short bytes.now ∷ drop 1 (pair_in self.old.wire.lists from to) }
+        requires oldest { pair_in self.old.wire.lists from to
+            ≡ Wired.Short bytes.now ∷ drop 1 (pair_in self.old.wire.lists from to) }
         ensures network { IsNetwork self.new }
         ensures plan { KeepsPlan self.old self.new }
         ensures takes { OnOk result (TakesOldest self.old from to self.new) }
@@ -103,7 +108,8 @@ impl Network {
         requires network { IsNetwork self.old }
         requires from { from < length self.old.claimers.items }
         requires to { to < length self.old.claimers.items }
-        requires oldest { pair_in self.old.wire.lists from to ≡ Wired.Alone flow bytes.now ∷ drop 1 (pair_in self.old.wire.lists from to) }
+        requires oldest { pair_in self.old.wire.lists from to
+            ≡ Wired.Alone flow bytes.now ∷ drop 1 (pair_in self.old.wire.lists from to) }
         ensures network { IsNetwork self.new }
         ensures plan { KeepsPlan self.old self.new }
         ensures takes { OnOk result (TakesOldest self.old from to self.new) }
@@ -120,7 +126,8 @@ impl Network {
         requires network { IsNetwork self.old }
         requires from { from < length self.old.claimers.items }
         requires to { to < length self.old.claimers.items }
-        requires oldest { pair_in self.old.wire.lists from to ≡ Wired.Packet packet.now ∷ drop 1 (pair_in self.old.wire.lists from to) }
+        requires oldest { pair_in self.old.wire.lists from to
+            ≡ Wired.Packet packet.now ∷ drop 1 (pair_in self.old.wire.lists from to) }
         ensures network { IsNetwork self.new }
         ensures plan { KeepsPlan self.old self.new }
         ensures takes { OnOk result (TakesOldest self.old from to self.new) }
@@ -135,7 +142,8 @@ impl Network {
         requires network { IsNetwork self.old }
         requires from { from < length self.old.claimers.items }
         requires to { to < length self.old.claimers.items }
-        requires oldest { pair_in self.old.wire.lists from to ≡ Wired.Packet packet.now ∷ drop 1 (pair_in self.old.wire.lists from to) }
+        requires oldest { pair_in self.old.wire.lists from to
+            ≡ Wired.Packet packet.now ∷ drop 1 (pair_in self.old.wire.lists from to) }
         requires reports { vec_len self.old.reports < vec_capacity self.old.reports }
         requires wire { 2 ≤ room_at self.old.wire to from }
         requires frames { vec_len self.old.frames + 2 ≤ vec_capacity self.old.frames }
@@ -153,8 +161,8 @@ impl Network {
         Ok(())
     }
 
-    /// The receiver of the second unit for the first, and its sender, hear the packet that is the oldest on the wire: what the
-    /// receiver does, the message that the packet completes, and what the sender does.
+    /// The receiver of the second unit for the first, and its sender, hear the packet that is the oldest on the wire:
+    /// what the receiver does, the message that the packet completes, and what the sender does.
     fn listen(
         &mut self,
         from: usize,
@@ -169,11 +177,15 @@ impl Network {
         ensures reports { self.new.reports ≡ self.old.reports }
         ensures frames { self.new.frames ≡ self.old.frames }
         ensures room { KeepsRoom self.old.wire self.new.wire }
-        ensures heard { IfOk result (λ r. (h : Histories) → r.0 ≡ (hearing self.old.receivers.windows (world_in h self.old) from to packet.now).1) }
-        ensures reaction { IfOk result (λ r. (h : Histories) → r.2 ≡ reaction_of ((world_in h self.old).sessions to) from packet.now) }
-        ensures world { OnOk result ((h : Histories) → world_in (has_taken h to from packet.now) self.new ≡ packet_heard self.old.receivers.windows
+        ensures heard { IfOk result (λ r. (h : Histories)
+            → r.0 ≡ (hearing self.old.receivers.windows (world_in h self.old) from to packet.now).1) }
+        ensures reaction { IfOk result (λ r. (h : Histories)
+            → r.2 ≡ reaction_of ((world_in h self.old).sessions to) from packet.now) }
+        ensures world { OnOk result ((h : Histories)
+            → world_in (has_taken h to from packet.now) self.new ≡ packet_heard self.old.receivers.windows
             (world_in h self.old) from to packet.now) }
-        ensures held { OnOk result ((h : Histories) → HasHeld h self.old → HasHeld (has_taken h to from packet.now) self.new) }
+        ensures held { OnOk result ((h : Histories) → HasHeld h self.old
+            → HasHeld (has_taken h to from packet.now) self.new) }
         ensures complete { IfOk result (λ r. (h : Histories) → HasHeld h self.old → is_complete r.0 ≡ true
             → (pgn : ℕ) × Carried (h.taken to from ++ packet.now ∷ []) (length (h.taken to from)) pgn r.1.items) }
         ensures same { OnErr result (IsSameNetwork self.old self.new) }

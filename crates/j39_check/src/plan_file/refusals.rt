@@ -2,7 +2,7 @@
 ghost use Rattle.std.specs.Prelude.{◌≡◌, ◌++◌, ℕ, List, OnOk, IfOk};
 ghost use Rattle.j39_check.specs.PlanText.{IsRefusalLine, fault_line, key_text, table_text};
 
-use j39_plan::{Fault, Key, PlanError, Table};
+use j39_plan::{FileError, Key, PlanError, PlanFault, Table};
 use j39_text::TextBuffer;
 use std::alloc::{AllocError, Global};
 
@@ -53,7 +53,7 @@ fn write_key(text: &mut TextBuffer, key: Option<Key>) -> Result<(), AllocError>
 }
 
 #[tactic(auto, unfolding(crate::specs::PlanText::fault_line))]
-fn write_fault(text: &mut TextBuffer, fault: &Fault) -> Result<(), AllocError>
+fn write_fault(text: &mut TextBuffer, fault: &PlanFault) -> Result<(), AllocError>
     ensures { OnOk result (text.new ≡ text.old ++ fault_line fault.now) }
 {
     text.word("refused ")?;
@@ -69,9 +69,9 @@ pub fn write_refusal(text: &mut TextBuffer, error: &PlanError) -> Result<(), All
     ensures { OnOk result ((line : List ℕ) × IsRefusalLine error.now line × (text.new ≡ text.old ++ line)) }
 {
     match error {
-        PlanError::Text => text.word("refused Text\n"),
-        PlanError::Fault(fault) => write_fault(text, fault),
-        PlanError::Memory => Err(AllocError),
+        FileError::Text => text.word("refused Text\n"),
+        FileError::Fault(fault) => write_fault(text, fault),
+        FileError::Memory => Err(AllocError),
     }
 }
 

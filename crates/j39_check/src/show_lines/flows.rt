@@ -1,6 +1,7 @@
 //! The lines of flows, needs and requests.
 ghost use Rattle.std.specs.Prelude.{◌≡◌, ◌++◌, OnOk};
-ghost use Rattle.j39_check.specs.ShowText.{flow_lines, need_from_line, need_lines, need_signal_line, pace_lines, request_lines, receivers_text as to_text};
+ghost use Rattle.j39_check.specs.ShowText.{flow_lines, need_from_line, need_lines, need_signal_line, pace_lines};
+ghost use Rattle.j39_check.specs.ShowText.{request_lines, receivers_text as to_text};
 ghost use Rattle.j39_load.specs.LineLists.{lines_of_each};
 
 use super::values::{write_number, write_optional, write_truth, write_word};

@@ -2,8 +2,11 @@
 ghost use Rattle.std.specs.Prelude.{◌≡◌, ◌++◌, OnOk};
 ghost use Rattle.std.specs.List.{slice_get};
 ghost use Rattle.std.specs.Option.{option_copied};
-ghost use Rattle.j39_check.specs.ShowText.{group_form_lines, group_head_lines, group_lines, kind_text, signal_meaning_lines as meaning_lines, name_of_value_line, signal_at_lines, signal_value_lines as signal_lines};
-ghost use Rattle.j39_check.specs.ShowText.{signal_place_lines, signal_scale_lines, planned_text_lines as text_lines, when_lines};
+ghost use Rattle.j39_check.specs.ShowText.{group_form_lines, group_head_lines, group_lines, kind_text};
+ghost use Rattle.j39_check.specs.ShowText.{signal_meaning_lines as meaning_lines, name_of_value_line, signal_at_lines};
+ghost use Rattle.j39_check.specs.ShowText.{signal_value_lines as signal_lines};
+ghost use Rattle.j39_check.specs.ShowText.{signal_place_lines, signal_scale_lines, planned_text_lines as text_lines};
+ghost use Rattle.j39_check.specs.ShowText.{when_lines};
 ghost use Rattle.j39_load.specs.LineLists.{lines_of_each};
 
 use super::values::{
@@ -50,7 +53,8 @@ fn write_value_names(
     table: Table,
     values: &[ValueName],
 ) -> Result<(), AllocError>
-    ensures { OnOk result (text.new ≡ text.old ++ lines_of_each (λ _ value. name_of_value_line table value) 0 values.now) }
+    ensures { OnOk result (text.new ≡ text.old
+        ++ lines_of_each (λ _ value. name_of_value_line table value) 0 values.now) }
 {
     for value in values {
         write_value_name(text, table, value)?;
@@ -133,7 +137,8 @@ fn write_signal_at(
 
 #[tactic(auto, unfolding(j39_load::specs::LineLists::lines_of_each))]
 fn write_signals(text: &mut TextBuffer, place: usize, group: &GroupPlan) -> Result<(), AllocError>
-    ensures { OnOk result (text.new ≡ text.old ++ lines_of_each (signal_at_lines place group.now) 0 group.now.signals.items) }
+    ensures { OnOk result (text.new ≡ text.old
+        ++ lines_of_each (signal_at_lines place group.now) 0 group.now.signals.items) }
 {
     for (at, signal) in group.signals.iter().enumerate() {
         write_signal_at(text, place, group, at, signal)?;

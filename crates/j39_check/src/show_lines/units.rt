@@ -1,6 +1,7 @@
 //! The lines of units.
 ghost use Rattle.std.specs.Prelude.{◌≡◌, ◌++◌, OnOk};
-ghost use Rattle.j39_check.specs.ShowText.{chooser_text, identity_lines, lower_name_lines, name_field_lines as name_lines, queue_text, unit_value_lines as unit_lines};
+ghost use Rattle.j39_check.specs.ShowText.{chooser_text, identity_lines, lower_name_lines};
+ghost use Rattle.j39_check.specs.ShowText.{name_field_lines as name_lines, queue_text, unit_value_lines as unit_lines};
 ghost use Rattle.j39_check.specs.ShowText.{unit_way_lines, upper_name_lines};
 ghost use Rattle.j39_load.specs.LineLists.{lines_of_each};
 

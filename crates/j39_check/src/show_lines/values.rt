@@ -1,6 +1,7 @@
 //! The line of a value.
 ghost use Rattle.std.specs.Prelude.{◌≡◌, ◌++◌, OnOk};
-ghost use Rattle.j39_check.specs.ShowText.{optional_line, text_value_line as text_line, truth_line, value_front, value_line};
+ghost use Rattle.j39_check.specs.ShowText.{optional_line, text_value_line as text_line, truth_line, value_front};
+ghost use Rattle.j39_check.specs.ShowText.{value_line};
 
 use crate::plan_file::write_table;
 use itoa::Integer;

@@ -44,8 +44,8 @@ impl CheckedPlan {
     }
 }
 
-/// The plan as one in which nothing is wrong. Else the plan comes back, with all that is wrong with it, or where something
-/// is wrong and memory was refused for it.
+/// The plan as one in which nothing is wrong. Else the plan comes back, with all that is wrong with it, or where
+/// something is wrong and memory was refused for it.
 pub fn checked(alloc: Global, plan: Plan) -> Result<CheckedPlan, Refused>
     ensures ok { IfOk result (λ checked. checked ≡ plan) }
     ensures none_found { OnOk result (found plan ≡ []) }

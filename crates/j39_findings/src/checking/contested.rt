@@ -31,7 +31,8 @@ impl FlowContested<'_> {
 
     // All others know the sender by its address alone.
     fn is_receiver(&self, to: To) -> bool
-        ensures { result ≡ is_receiver_contested (alone_of self.now.standing.now self.now.kept.now) self.now.units.now to }
+        ensures { result
+            ≡ is_receiver_contested (alone_of self.now.standing.now self.now.kept.now) self.now.units.now to }
     {
         match to {
             To::All => false,

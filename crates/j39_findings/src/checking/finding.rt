@@ -5,17 +5,18 @@ ghost use Rattle.std.specs.Prelude.{◌≡◌};
 /// places.
 #[derive(Clone, Copy, Debug, PartialEq, Eq)]
 pub enum Finding {
-    /// F1: two units may be one: they have one NAME, or nothing but serial numbers tells them apart, and not both are given.
+    /// F1: two units may be one: they have one NAME, or nothing but serial numbers tells them apart, and not both are
+    /// given.
     SameName(usize, usize),
     /// F2: two fixed units that claim have one address.
     SameFixedAddress(usize, usize),
     /// F3: this many units need an address of 128 to 247 that isn't kept free, and there are fewer.
     TooFewAddresses(usize),
-    /// F4: the group's PGN is none, or one that may not be planned, or it is a maker's own and the group isn't private, or the
-    /// other way round.
+    /// F4: the group's PGN is none, or one that may not be planned, or it is a maker's own and the group isn't private,
+    /// or the other way round.
     BadPgn(usize),
-    /// F5: two groups have one PGN, and their selectors don't differ in the value alone; of private ones only where a unit sends both
-    /// to receivers that meet.
+    /// F5: two groups have one PGN, and their selectors don't differ in the value alone; of private ones only where a
+    /// unit sends both to receivers that meet.
     SamePgn(usize, usize),
     /// F6: of a group, the signal's width doesn't fit its kind.
     SignalWidth(usize, usize),
@@ -33,11 +34,11 @@ pub enum Finding {
     KeptAddress(usize),
     /// F13: the private group is sent by no flow.
     PrivateUnsent(usize),
-    /// F14: of a group, the first signal is repeated and comes, in a later record, onto a bit of the second; or both are repeated, and a
-    /// later record of one of them comes onto a bit of the other.
+    /// F14: of a group, the first signal is repeated and comes, in a later record, onto a bit of the second; or both
+    /// are repeated, and a later record of one of them comes onto a bit of the other.
     RecordOverlap(usize, usize, usize),
-    /// F15: of a group, the text begins behind the byte after the last one of the shortest message, or ends behind the last byte of
-    /// the longest.
+    /// F15: of a group, the text begins behind the byte after the last one of the shortest message, or ends behind the
+    /// last byte of the longest.
     TextOutside(usize, usize),
     /// F19: no flow brings the need's unit what it needs.
     NeedUnmet(usize),
@@ -45,8 +46,8 @@ pub enum Finding {
     RequestUnanswered(usize),
     /// F22: all units are asked, and no flow answers the request.
     RequestUnheard(usize),
-    /// F23: one unit is asked, for a group whose messages can name a receiver, and only answered to all; or all are asked, and each answer
-    /// goes to one unit.
+    /// F23: one unit is asked, for a group whose messages can name a receiver, and only answered to all; or all are
+    /// asked, and each answer goes to one unit.
     AnswerAstray(usize),
     /// F24: the bits of the group's selector end behind its shortest messages.
     WhenOutside(usize),
@@ -54,10 +55,11 @@ pub enum Finding {
     RequestRepeated(usize, usize),
     /// F26: two units have one address, and not both of them claim it.
     SilentAddress(usize, usize),
-    /// F27: the unit never claims, and others may move to its address: it is one of 128 to 247, and isn't kept free, or strangers, which
-    /// don't know what is, may come.
+    /// F27: the unit never claims, and others may move to its address: it is one of 128 to 247, and isn't kept free, or
+    /// strangers, which don't know what is, may come.
     SilentInPool(usize),
-    /// F28: the plan is live, and an end of the flow isn't alone at its address: its sender, or the one unit that it goes to.
+    /// F28: the plan is live, and an end of the flow isn't alone at its address: its sender, or the one unit that it
+    /// goes to.
     FlowContested(usize),
 }
 

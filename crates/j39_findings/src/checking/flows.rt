@@ -2,7 +2,8 @@
 ghost use Rattle.std.specs.Prelude.{◌≡◌};
 ghost use Rattle.j39_rules.specs.Adding.{Adds};
 ghost use Rattle.j39_rules.specs.ListPlaces.{found_if};
-ghost use Rattle.j39_findings.specs.Found.{is_one_frame_to_all, may_be_one_frame_to_all, cannot_go_to_one, goes_to_its_sender, are_one_flow, flow_findings};
+ghost use Rattle.j39_findings.specs.Found.{is_one_frame_to_all, may_be_one_frame_to_all, cannot_go_to_one};
+ghost use Rattle.j39_findings.specs.Found.{goes_to_its_sender, are_one_flow, flow_findings};
 
 use crate::checking::finding::Finding;
 use j39_id::limits::FRAME_BYTES;

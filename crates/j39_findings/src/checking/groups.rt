@@ -3,7 +3,8 @@ ghost use Rattle.std.specs.Prelude.{◌≡◌};
 ghost use Rattle.j39_signal.specs.Selectors.{differ_in_value};
 ghost use Rattle.j39_rules.specs.Adding.{Adds};
 ghost use Rattle.j39_rules.specs.ListPlaces.{found_if};
-ghost use Rattle.j39_findings.specs.Found.{is_for_no_plan, is_wrongly_private, has_bad_pgn, have_same_pgn, is_selector_outside, group_findings};
+ghost use Rattle.j39_findings.specs.Found.{is_for_no_plan, is_wrongly_private, has_bad_pgn, have_same_pgn};
+ghost use Rattle.j39_findings.specs.Found.{is_selector_outside, group_findings};
 
 use crate::checking::finding::Finding;
 use crate::checking::private::are_sent_together;

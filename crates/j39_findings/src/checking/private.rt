@@ -2,7 +2,8 @@
 ghost use Rattle.std.specs.Prelude.{◌≡◌};
 ghost use Rattle.j39_rules.specs.Adding.{Adds};
 ghost use Rattle.j39_rules.specs.ListPlaces.{found_if};
-ghost use Rattle.j39_findings.specs.Found.{sends, do_receivers_meet, sends_beside, is_sent_beside, sends_first, are_sent_together, is_sent, is_private_unsent, unsent_findings};
+ghost use Rattle.j39_findings.specs.Found.{sends, do_receivers_meet, sends_beside, is_sent_beside, sends_first};
+ghost use Rattle.j39_findings.specs.Found.{are_sent_together, is_sent, is_private_unsent, unsent_findings};
 
 use crate::checking::finding::Finding;
 use crate::checking::flows::may_be_one_frame_to_all;

@@ -46,7 +46,8 @@ struct RepeatedSignal<'a> {
 }
 
 fn do_records_meet(first: &RepeatedSignal, place: usize, second: &Signal) -> bool
-    ensures { result ≡ do_records_meet first.now.every first.now.count first.now.place place first.now.signal.now second.now }
+    ensures { result
+        ≡ do_records_meet first.now.every first.now.count first.now.place place first.now.signal.now second.now }
 {
     let meets = comes_onto(first.every, first.count, first.signal, second);
     if second.is_repeated() {

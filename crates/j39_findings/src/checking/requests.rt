@@ -2,8 +2,10 @@
 ghost use Rattle.std.specs.Prelude.{◌≡◌};
 ghost use Rattle.j39_rules.specs.Adding.{Adds};
 ghost use Rattle.j39_rules.specs.ListPlaces.{found_if};
-ghost use Rattle.j39_findings.specs.Found.{ask_the_same, ask_for_one_number, is_all_astray, is_answered_astray, is_one_astray, is_served_to_all};
-ghost use Rattle.j39_findings.specs.Found.{is_served_to_one, goes_unanswered, goes_unheard, may_name_receiver, request_findings, serves_all, serves_one};
+ghost use Rattle.j39_findings.specs.Found.{ask_the_same, ask_for_one_number, is_all_astray, is_answered_astray};
+ghost use Rattle.j39_findings.specs.Found.{is_one_astray, is_served_to_all};
+ghost use Rattle.j39_findings.specs.Found.{is_served_to_one, goes_unanswered, goes_unheard, may_name_receiver};
+ghost use Rattle.j39_findings.specs.Found.{request_findings, serves_all, serves_one};
 ghost use Rattle.j39_network.specs.Serving.{is_served, serves};
 
 use crate::checking::finding::Finding;
@@ -169,8 +171,8 @@ impl PairRule<RequestPlan, Finding> for RequestRepeated<'_> {
     }
 }
 
-/// Adds the requests that no flow answers, those that are answered to others than who asks, and those that are one on the bus; and, by its
-/// number, before the last of these, the groups whose selectors end outside.
+/// Adds the requests that no flow answers, those that are answered to others than who asks, and those that are one on
+/// the bus; and, by its number, before the last of these, the groups whose selectors end outside.
 pub fn find_in_requests(
     findings: &mut Vec<Finding>,
     groups: &[GroupPlan],

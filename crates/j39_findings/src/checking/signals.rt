@@ -3,7 +3,8 @@ ghost use Rattle.j39_rules.specs.Adding.{Adds};
 ghost use Rattle.j39_signal.specs.Places.{shares_bit};
 ghost use Rattle.j39_rules.specs.ListPlaces.{found_if, each};
 ghost use Rattle.j39_network.specs.SignalPlaces.{room_of_signal};
-ghost use Rattle.j39_findings.specs.Found.{has_other_width, ends_outside, width_findings, outside_findings, overlap_findings, signal_findings};
+ghost use Rattle.j39_findings.specs.Found.{has_other_width, ends_outside, width_findings, outside_findings};
+ghost use Rattle.j39_findings.specs.Found.{overlap_findings, signal_findings};
 
 use crate::checking::finding::Finding;
 use j39_network::GroupPlan;

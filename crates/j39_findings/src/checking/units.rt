@@ -3,7 +3,8 @@ ghost use Rattle.std.specs.Prelude.{◌≡◌, ◌≤◌, length};
 ghost use Rattle.j39_id.specs.Limits.{unit_limit};
 ghost use Rattle.j39_rules.specs.Adding.{Adds};
 ghost use Rattle.j39_network.specs.Kinds.{may_be_one};
-ghost use Rattle.j39_findings.specs.Found.{have_same_fixed_address, is_fixed, needed_addresses, needs_pool_address, unit_findings};
+ghost use Rattle.j39_findings.specs.Found.{have_same_fixed_address, is_fixed, needed_addresses, needs_pool_address};
+ghost use Rattle.j39_findings.specs.Found.{unit_findings};
 
 use crate::checking::finding::Finding;
 use j39_claim::AddressSet;

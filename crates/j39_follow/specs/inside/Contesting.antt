@@ -10,18 +10,19 @@ use Rattle.j39_id.specs.declared.ident.Ident.{Ident}
 use Rattle.j39_network.specs.declared.plan.Plan.{Plan}
 use Rattle.j39_network.specs.declared.plan.unit_plan.UnitPlan.{UnitPlan}
 use Rattle.j39_id.specs.FrameMeaning.{claims_address}
-use Rattle.j39_follow.specs.Contests.{Begins, BeginsNone, ClaimedLast, IsContention, IsContested, IsGuessed, IsTaken, Opposes, Timed, claim_wait, frames_of, likely_named, nothing_contended}
+use Rattle.j39_follow.specs.Contests.{Begins, BeginsNone, ClaimedLast, IsContention, IsContested, IsGuessed, IsTaken, Opposes, Timed, claim_wait, frames_of}
+use Rattle.j39_follow.specs.Contests.{likely_named, nothing_contended}
 use Rattle.j39_follow.specs.Holders.{Claims}
-use Rattle.j39_follow.specs.LoggedRequests.{told_address}
-use Rattle.j39_follow.specs.declared.claim.Claim.{Claim}
-use Rattle.j39_follow.specs.declared.claimants.Claimant.{Claimant}
-use Rattle.j39_follow.specs.declared.claimants.Claimants.{Claimants}
-use Rattle.j39_follow.specs.declared.contest.Contention.{Contention}
-use Rattle.j39_follow.specs.declared.contest.Contest.{Contest}
-use Rattle.j39_follow.specs.declared.contests.Contests.{Contests}
-use Rattle.j39_follow.specs.declared.known_parties.Parties.{Parties}
-use Rattle.j39_follow.specs.declared.who.Who.{Who}
-use Rattle.j39_follow.specs.declared.who.Who.TheVariants.{Likely}
+use Rattle.j39_follow.specs.LoggedRequests.{asker_or_source}
+use Rattle.j39_follow.specs.declared.address.claim.Claim.{Claim}
+use Rattle.j39_follow.specs.declared.address.claimants.Claimant.{Claimant}
+use Rattle.j39_follow.specs.declared.address.claimants.Claimants.{Claimants}
+use Rattle.j39_follow.specs.declared.address.contest.Contention.{Contention}
+use Rattle.j39_follow.specs.declared.address.contest.Contest.{Contest}
+use Rattle.j39_follow.specs.declared.address.contests.Contests.{Contests}
+use Rattle.j39_follow.specs.declared.address.known_parties.Parties.{Parties}
+use Rattle.j39_follow.specs.declared.address.who.Who.{Who}
+use Rattle.j39_follow.specs.declared.address.who.Who.TheVariants.{Likely}
 use Rattle.j39_follow.specs.inside.Hearing.{is_same_party}
 use Rattle.j39_follow.specs.inside.Recounting.{HasNames, party_at}
 
@@ -169,4 +170,4 @@ pub record ShowsParties (plan : Plan) (parties : Parties) (log : List Timed) (i 
 
 -- and who is taken to be behind the address of which an acknowledgement speaks
 abbrev pub ShowsAsker : Plan → Parties → List Timed → Frame → Type 0
-ShowsAsker plan parties log f = IsTaken plan log (told_address plan f) (party_at parties.all (told_address plan f))
+ShowsAsker plan parties log f = IsTaken plan log (asker_or_source plan f) (party_at parties.all (asker_or_source plan f))

@@ -6,11 +6,11 @@ use Rattle.j39_network.specs.PlanLimits.{request_limit}
 use Rattle.j39_network.specs.declared.plan.Plan.{Plan}
 use Rattle.j39_network.specs.declared.plan.request_plan.RequestPlan.{RequestPlan}
 use Rattle.j39_follow.specs.Contests.{Timed}
-use Rattle.j39_follow.specs.FollowReports.{AreTold}
+use Rattle.j39_follow.specs.FollowReports.{AreEventsOf}
 use Rattle.j39_follow.specs.LoggedRequests.{asks_request as asks, concerns, times_answered, times_asked, times_refused}
-use Rattle.j39_follow.specs.declared.event.Event.{Event}
-use Rattle.j39_follow.specs.declared.exchange.Exchange.{Exchange}
-use Rattle.j39_follow.specs.declared.exchanges.Exchanges.{Exchanges}
+use Rattle.j39_follow.specs.declared.request.event.Event.{Event}
+use Rattle.j39_follow.specs.declared.request.exchange.Exchange.{Exchange}
+use Rattle.j39_follow.specs.declared.request.exchanges.Exchanges.{Exchanges}
 use Rattle.j39_follow.specs.declared.message.Sort.{Sort}
 
 -- ---- a request
@@ -57,5 +57,5 @@ pub record IsHeardBelow (plan : Plan) (event : Event) (old new : List Exchange) 
 -- what the frame tells of requests was noted, behind these events
 pub record AreNoted (plan : Plan) (log : List Timed) (f : Frame) (sorts : List Sort) (events : List Event) (kept : Exchanges) : Type 0 where
   pub more : List Event
-  pub are_told : AreTold plan log f sorts more
+  pub are_events : AreEventsOf plan log f sorts more
   pub exchanges : AreExchanges plan kept (events ++ more)

@@ -1,17 +1,20 @@
 -- What is written at a frame.
-use Rattle.std.specs.Prelude.{◌≡◌, ℕ, Bool, List, [], ◌∷◌, ◌++◌, Option}
+use Rattle.std.specs.Prelude.{◌≡◌, ◌+◌, ◌<◌, ◌^◌, ℕ, Bool, List, [], ◌∷◌, ◌++◌, length, Option}
 use Rattle.std.specs.Option.{option_to_list}
 use Rattle.j39_id.specs.declared.frame.Frame.{Frame}
 use Rattle.j39_network.specs.declared.plan.Plan.{Plan}
 use Rattle.j39_log.specs.LogPairs.{Seen}
 use Rattle.j39_log.specs.declared.listeners.Listeners.{Listeners}
-use Rattle.j39_log.specs.inside.Listening.{IsInRange}
+use Rattle.j39_log.specs.inside.Listening.{AreAllInRange, IsInRange}
 use Rattle.j39_tp.specs.declared.packet.Packet.{Packet}
 use Rattle.j39_follow.specs.Contests.{Timed}
 use Rattle.j39_follow.specs.FollowReports.{IsBareText, IsMessageReport, IsNotice, in_frame}
 use Rattle.j39_follow.specs.FollowText.{IsFollowedAs, IsPacketReport, frames_seen}
 use Rattle.j39_follow.specs.declared.message.Sort.{Sort}
-use Rattle.j39_follow.specs.inside.Hearing.{HaveHeardOneMore}
+use Rattle.j39_follow.specs.declared.request.event.Event.{Event}
+use Rattle.j39_follow.specs.declared.request.exchanges.Exchanges.{Exchanges}
+use Rattle.j39_follow.specs.inside.Exchanging.{AreExchanges, AreNoted}
+use Rattle.j39_follow.specs.inside.Hearing.{HaveHeardOneMore, HaveHeardSince}
 
 -- the frame, behind those before it
 abbrev pub frames_with : List Seen → Frame → List Frame
@@ -43,3 +46,11 @@ pub record IsFrameWritten (plan : Plan) (all_frames : Bool) (listeners : Listene
   pub carried_is : IsPacketReport plan seen log front f packet (option_to_list ended) carried
   pub heard : HaveHeardOneMore plan listeners seen (record { frame = f; packet = packet })
   pub text_is : new ≡ old ++ (notice ++ (report ++ (bare ++ carried)))
+
+-- by each log that is so the frame was written, and what it tells of requests was noted
+pub record WritesFrame (IsSo : List Timed → Type 0) (plan : Plan) (all_frames : Bool) (front : List ℕ) (f : Frame) (sorts : Sort × Option Sort)
+    (listened listeners : Listeners) (kept exchanges : Exchanges) (old new : List ℕ) : Type 0 where
+  pub written : (seen : List Seen) (log : List Timed) → IsSo log → HaveHeardSince plan listened seen → AreAllInRange seen
+      → IsFrameWritten plan all_frames listeners seen log front f sorts.0 sorts.1 old new
+  pub noted : (log : List Timed) (events : List Event) → IsSo log → length events + 3 < 2 ^ 64 → AreExchanges plan kept events
+      → AreNoted plan log f (sorts.0 ∷ option_to_list sorts.1) events exchanges

@@ -11,7 +11,7 @@ use Rattle.j39_tp.specs.Receiver.{Receiving}
 use Rattle.j39_tp.specs.declared.packet.Packet.{Packet}
 use Rattle.j39_follow.specs.FollowText.{HeardSince}
 use Rattle.j39_follow.specs.Who.{IsReplaced, stranger_of, unit_of}
-use Rattle.j39_follow.specs.declared.who.Who.{Who}
+use Rattle.j39_follow.specs.declared.address.who.Who.{Who}
 use Rattle.j39_follow.specs.inside.Recounting.{party_at}
 
 abbrev pub listener_between : Listeners → ℕ → ℕ → Receiving

@@ -1,5 +1,5 @@
 -- What a table of holders keeps, and what it stands for.
-use Rattle.std.specs.Prelude.{◌≡◌, ◌≢◌, ◌⊎◌, ◌==◌, ◌<◌, ◌≤◌, ℕ, Bool, true, false, List, [], length, Option, Some, None, if◌then◌else◌}
+use Rattle.std.specs.Prelude.{◌≡◌, ◌≢◌, ◌⊎◌, ◌<◌, ◌≤◌, ℕ, Bool, true, false, List, [], length, Option, Some, None, if◌then◌else◌}
 use Rattle.std.specs.Prelude.{slice_index_or}
 use Rattle.std.specs.List.{slice_get}
 use Rattle.std.specs.declared.alloc.Global.{Global}
@@ -7,16 +7,16 @@ use Rattle.std.specs.declared.vec.Vec.{Vec}
 use Rattle.j39_id.specs.declared.frame.Frame.{Frame}
 use Rattle.j39_network.specs.declared.plan.Plan.{Plan}
 use Rattle.j39_network.specs.declared.plan.unit_plan.UnitPlan.{UnitPlan}
-use Rattle.j39_follow.specs.Holders.{Claims, HoldsByFrames, TellsOf}
-use Rattle.j39_follow.specs.Who.{IsUnitTold, IsWho, is_name_of, who_text}
-use Rattle.j39_follow.specs.declared.directory.Directory.{Directory}
-use Rattle.j39_follow.specs.declared.holders.Holders.{Holders}
-use Rattle.j39_follow.specs.declared.who.Who.{Who}
-use Rattle.j39_follow.specs.declared.who.Who.TheVariants.{Holder}
+use Rattle.j39_follow.specs.Holders.{Claims, HoldsByFrames, ClaimsOrCannot}
+use Rattle.j39_follow.specs.Who.{IsUnitHeard, IsWho, is_name_of, who_text}
+use Rattle.j39_follow.specs.declared.address.directory.Directory.{Directory}
+use Rattle.j39_follow.specs.declared.address.holders.Holders.{Holders}
+use Rattle.j39_follow.specs.declared.address.who.Who.{Who}
+use Rattle.j39_follow.specs.declared.address.who.Who.TheVariants.{Holder}
 
 -- something was told of the unit at this place
 abbrev pub is_marked : Holders → ℕ → Bool
-is_marked holders u = slice_index_or holders.told u false
+is_marked holders u = slice_index_or holders.heard u false
 
 -- how many frames came before the claim by which the address is held
 abbrev pub claimed_at : Holders → ℕ → ℕ
@@ -30,15 +30,15 @@ HasNameAt holders address name = slice_get holders.names address ≡ Some (Some 
 pub record Recounts (plan : Plan) (holders : Holders) (frames : List Frame) : Type 0 where
   pub held : (address name : ℕ) → HasNameAt holders address name → HoldsByFrames frames name address
   pub holds : (address name : ℕ) → HoldsByFrames frames name address → HasNameAt holders address name
-  pub told : (u : ℕ) (unit : UnitPlan) → slice_get plan.units.items u ≡ Some unit → is_marked holders u ≡ true → IsUnitTold plan frames u unit
-  pub untold : (u : ℕ) (unit : UnitPlan) → slice_get plan.units.items u ≡ Some unit → is_marked holders u ≡ false
-      → ¬ IsUnitTold plan frames u unit
+  pub heard : (u : ℕ) (unit : UnitPlan) → slice_get plan.units.items u ≡ Some unit → is_marked holders u ≡ true → IsUnitHeard plan frames u unit
+  pub unheard : (u : ℕ) (unit : UnitPlan) → slice_get plan.units.items u ≡ Some unit → is_marked holders u ≡ false
+      → ¬ IsUnitHeard plan frames u unit
   pub since : (address name : ℕ) (h : HoldsByFrames frames name address) → claimed_at holders address ≡ length h.before
 
 -- the frame tells that the NAME stands at this address, or that it could not claim one
-abbrev pub TellsPlace : Frame → ℕ → Option ℕ → Type 0
-TellsPlace f name (Some address) = Claims f name address
-TellsPlace f name None = TellsOf f name × ((other address : ℕ) → ¬ Claims f other address)
+abbrev pub ClaimsAt : Frame → ℕ → Option ℕ → Type 0
+ClaimsAt f name (Some address) = Claims f name address
+ClaimsAt f name None = ClaimsOrCannot f name × ((other address : ℕ) → ¬ Claims f other address)
 
 -- a table from which the NAME was taken
 pub record IsLeft (old new : Holders) (name : ℕ) : Type 0 where

@@ -4,9 +4,9 @@ use Rattle.j39_follow.specs.FollowReports.{Message, stamp}
 use Rattle.j39_follow.specs.declared.message.Arrival.{Arrival}
 use Rattle.j39_follow.specs.declared.message.Sort.{Sort}
 use Rattle.j39_follow.specs.declared.message.Sort.TheVariants.{Grouped, Other}
-use Rattle.j39_follow.specs.declared.sending.Aim.{Aim}
-use Rattle.j39_follow.specs.declared.sending.Aim.TheVariants.{All}
-use Rattle.j39_follow.specs.declared.stamp.Stamp.{Stamp}
+use Rattle.j39_follow.specs.declared.flow.sending.Aim.{Aim}
+use Rattle.j39_follow.specs.declared.flow.sending.Aim.TheVariants.{All}
+use Rattle.j39_follow.specs.declared.line.stamp.Stamp.{Stamp}
 
 -- the message that came
 abbrev pub arrived_message : Arrival → Message

@@ -3,8 +3,8 @@ use Rattle.std.specs.Prelude.{◌≡◌, ◌⊎◌, ◌-◌, ◌<◌, ◌≤◌,
 use Rattle.j39_id.specs.FrameLine.{is_separator}
 
 -- a word of this letter tells the direction
-abbrev pub TellsDirection : ℕ → Type 0
-TellsDirection letter = (letter ≡ 82) ⊎ (letter ≡ 84)
+abbrev pub IsDirectionLetter : ℕ → Type 0
+IsDirectionLetter letter = (letter ≡ 82) ⊎ (letter ≡ 84)
 
 -- 3 to 32 bytes, the first and the last of them parentheses
 pub record IsEnclosed (word : List ℕ) : Type 0 where

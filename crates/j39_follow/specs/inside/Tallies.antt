@@ -5,7 +5,7 @@ use Rattle.j39_network.specs.declared.plan.Plan.{Plan}
 use Rattle.j39_network.specs.declared.plan.group_plan.GroupPlan.{GroupPlan}
 use Rattle.j39_follow.specs.FollowText.{is_first_of, is_of_flow, is_other, is_without_flow}
 use Rattle.j39_follow.specs.declared.message.Sort.{Sort}
-use Rattle.j39_follow.specs.declared.tally.Tally.{Tally}
+use Rattle.j39_follow.specs.declared.flow.tally.Tally.{Tally}
 
 abbrev pub tally_at : List ℕ → ℕ → ℕ
 tally_at counts place = slice_index_or counts place 0

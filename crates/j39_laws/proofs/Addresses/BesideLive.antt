@@ -12,8 +12,10 @@ use Rattle.j39_claim.specs.AddressSets.{free_count}
 use Rattle.j39_claim.specs.ClaimRule.{PlannedUnit}
 use Rattle.j39_findings.proofs.CleanLaws.{parts_of}
 use Rattle.j39_findings.proofs.Deciding.{Decides-needs_pool_address, meeting_pass}
-use Rattle.j39_findings.specs.Findings.{AreNeeded, AreOneFlow, AskTheSame, CannotGoToOne, Clean, EndsOutside, GoesToItsSender, GoesUnanswered, GoesUnheard, HasBadPgn}
-use Rattle.j39_findings.specs.Findings.{HasRecordsOver, HaveSamePgn, HaveSameFixedAddress, HaveSilentAddress, IsAloneInPlan, IsAnsweredAstray, IsFlowContested, IsOutside}
+use Rattle.j39_findings.specs.Findings.{AreNeeded, AreOneFlow, AskTheSame, CannotGoToOne, Clean, EndsOutside, GoesToItsSender, GoesUnanswered, GoesUnheard}
+use Rattle.j39_findings.specs.Findings.{HasBadPgn}
+use Rattle.j39_findings.specs.Findings.{HasRecordsOver, HaveSamePgn, HaveSameFixedAddress, HaveSilentAddress, IsAloneInPlan, IsAnsweredAstray, IsFlowContested}
+use Rattle.j39_findings.specs.Findings.{IsOutside}
 use Rattle.j39_findings.specs.Findings.{IsPrivateUnsent, IsSilentInPool, IsUnmet, PrefersKept}
 use Rattle.j39_network.specs.PlannedGroups.{IsSelectorInside}
 use Rattle.j39_findings.specs.Found.{needs_pool_address}

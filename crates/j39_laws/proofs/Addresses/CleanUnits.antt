@@ -1,5 +1,6 @@
 -- What a plan without findings has of its units.
-use Rattle.std.proofs.Common.{◌≡◌, ◌≢◌, ℕ, zero, suc, ◌+◌, ◌^◌, ◌<◌, ◌≤◌, ◌⊎◌, Bool, true, false, cond, ◌&&◌, ◌||◌, List, [], ◌∷◌, length, map, inl, inr, Some, refl, sym}
+use Rattle.std.proofs.Common.{◌≡◌, ◌≢◌, ℕ, zero, suc, ◌+◌, ◌^◌, ◌<◌, ◌≤◌, ◌⊎◌, Bool, true, false, cond, ◌&&◌, ◌||◌, List, [], ◌∷◌, length, map, inl, inr, Some}
+use Rattle.std.proofs.Common.{refl, sym}
 use Rattle.std.proofs.Common.{ap, ◌∙◌, arith}
 use Rattle.std.proofs.lemmas.Bool.{cases_Bool, cases_lt, cases_order}
 use Rattle.std.proofs.lemmas.List.Sums.{sum_by-cons}
@@ -13,7 +14,9 @@ use Rattle.j39_id.specs.Addresses.{in_pool}
 use Rattle.j39_findings.specs.Findings.{Clean, Holds}
 use Rattle.j39_findings.specs.Found.{needed_addresses, needs_pool_address}
 use Rattle.j39_findings.proofs.Deciding.{Decides-needs_pool_address, passing_meet}
-use Rattle.j39_findings.specs.declared.checking.finding.Finding.TheVariants.{SameName, SameFixedAddress, TooFewAddresses, KeptAddress, SilentAddress, SilentInPool}
+use Rattle.j39_findings.specs.declared.checking.finding.Finding.TheVariants.{SameName, SameFixedAddress, TooFewAddresses, KeptAddress, SilentAddress}
+use Rattle.j39_findings.specs.declared.checking.finding.Finding.TheVariants.{SilentInPool}
+use Rattle.j39_findings.proofs.WhoStays.{placed}
 use Rattle.j39_network.specs.Kinds.{kind_of_name}
 use Rattle.j39_network.specs.declared.plan.Plan.{Plan}
 use Rattle.j39_network.specs.declared.plan.unit_plan.UnitPlan.{UnitPlan}
@@ -50,14 +53,7 @@ pub record IsClean (units : List PlannedUnit) : Type 0 where
   pub silent_kept : (s : ℕ) → s < length units → (unit_at units s).claims ≡ false → in_pool (unit_at units s).preferred ≡ true
       → contains (unit_at units s).kept (unit_at units s).preferred ≡ true
 
--- a place of a unit has its plan
-pub placed : (kept : FinSet nat_cmp) (ps : List UnitPlan) (i : ℕ) → i < length (map (planned_unit kept) ps)
-    → (p : UnitPlan) × (slice_get ps i ≡ Some p) × (unit_at (map (planned_unit kept) ps) i ≡ planned_unit kept p)
-placed kept [] i inside = absurd (omega arith)
-placed kept (p ∷ ps) zero inside = (p, refl, refl)
-placed kept (p ∷ ps) (suc i) inside = placed kept ps i (omega arith)
-
--- and a unit of a list stands at its place
+-- a unit of a list stands at its place
 pub stands : (kept : FinSet nat_cmp) (ps : List UnitPlan) (i : ℕ) (p : UnitPlan) → slice_get ps i ≡ Some p
     → (i < length ps) × (unit_at (map (planned_unit kept) ps) i ≡ planned_unit kept p)
 stands kept [] i p is = absurd (cc)

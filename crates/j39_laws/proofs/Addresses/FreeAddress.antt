@@ -1,7 +1,7 @@
 -- An address of the pool that isn't kept free is left where fewer are noted than there are.
-use Rattle.std.proofs.Common.{◌≡◌, ◌≢◌, ℕ, zero, suc, ◌+◌, ◌<◌, ◌≤◌, Bool, true, false, cond, not, ◌&&◌, ◌||◌, eqb, List, [], ◌∷◌, length, refl, sym, ◌∙◌}
+use Rattle.std.proofs.Common.{◌≡◌, ◌≢◌, ℕ, zero, suc, ◌+◌, ◌<◌, ◌≤◌, Bool, true, false, cond, ◌&&◌, ◌||◌, eqb, List, [], ◌∷◌, length, refl, sym, ◌∙◌}
 use Rattle.std.proofs.Common.{arith, Option, Some, None}
-use Rattle.std.proofs.lemmas.Bool.{eqb-true, eq-eqb, ne_eqb, or_from, or_parts, or_left, or_right, and_from, and_parts, le-leb, true≢false}
+use Rattle.std.proofs.lemmas.Bool.{eqb-true, eq-eqb, ne_eqb, or_from, or_parts, or_left, or_right, and_from, and_parts, le-leb, true≢false, not-true}
 use Rattle.std.proofs.lemmas.List.Sums.{sum_by-cons}
 use Rattle.std.specs.List.{list_any, filter_map, cons_option, count_by, range_with_len}
 use Rattle.std.specs.Ordering.{nat_cmp}
@@ -118,10 +118,6 @@ how_many_open : (kept : FinSet nat_cmp) → passing (is_open kept) 128 120 ≡ f
 unfolding free_count
 how_many_open kept = open_in kept 128 120 (omega arith) (omega arith)
 
-not_true : (b : Bool) → not b ≡ true → b ≡ false
-not_true true e = sym e
-not_true false e = refl
-
 -- where the plan has room and a unit may need the pool, an address of the pool is left that isn't kept free and that it has noted
 -- of no unit
 pub one_left : (kept : FinSet nat_cmp) (notes : FinMap nat_cmp ℕ) (units : List PlannedUnit) (v : ℕ)
@@ -133,4 +129,4 @@ one_left kept notes units v room in_units needs none =
     let fewer = length-noted_but notes units v in_units needs none in
     let (b, above, ok, left) = spare (is_open kept) 128 120 (noted notes units) (omega (arith, how_many_open kept, fewer)) in
     let both = and_parts (in_pool b) (is_free kept b) ok in
-    (b, both.0, not_true (contains kept b) both.1, λ u inside may is. true≢false (sym (has-noted notes units u b inside may is) ∙ left))
+    (b, both.0, not-true (contains kept b) both.1, λ u inside may is. true≢false (sym (has-noted notes units u b inside may is) ∙ left))

@@ -41,7 +41,8 @@ at_first units = record {
 
 -- v hears the oldest item of u
 given : (units : List PlannedUnit) → IsClean units → (stations : Stations) (claims : Undelivered) → AddressInvariant units stations claims
-    → (u v : ℕ) → u < length units → v < length units → (stations v).on ≡ true → (unit_at units v).claims ≡ true → (item : Item) (rest : List Item) → claims u v ≡ item ∷ rest
+    → (u v : ℕ) → u < length units → v < length units → (stations v).on ≡ true → (unit_at units v).claims ≡ true → (item : Item) (rest : List Item)
+    → claims u v ≡ item ∷ rest
     → (says : Option Say) (new : ClaimState) → Answers (unit_at units v) (stations v) (unit_at units u).name item says new
     → AddressInvariant units (stations_given stations v new) (claims_given stations claims u v rest says new)
 given units clean stations claims inv u v in_u in_v on claiming item rest list says new answers =

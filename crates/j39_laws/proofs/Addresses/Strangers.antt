@@ -1,7 +1,8 @@
 -- With strangers: a clean plan has room for so many as it tells, and a unit that may not choose stays.
-use Rattle.std.proofs.Common.{◌≡◌, ◌≢◌, ℕ, zero, suc, ◌+◌, ◌<◌, ◌≤◌, Bool, true, false, cond, not, ◌&&◌, List, [], ◌∷◌, ◌++◌, length, map, get_or, All, refl, sym, ap, ◌∙◌, subst, inl, inr}
+use Rattle.std.proofs.Common.{◌≡◌, ◌≢◌, ℕ, zero, suc, ◌+◌, ◌<◌, ◌≤◌, Bool, true, false, cond, not, ◌&&◌, List, [], ◌∷◌, ◌++◌, length, map, get_or, All, refl}
+use Rattle.std.proofs.Common.{sym, ap, ◌∙◌, subst, inl, inr}
 use Rattle.std.proofs.Common.{arith, leb, Some, None, ◌⊎◌}
-use Rattle.std.proofs.lemmas.Bool.{and_parts, and_from, cases_Bool, cases_lt, leb-true, or_left, or_parts, or_right, true≢false}
+use Rattle.std.proofs.lemmas.Bool.{and_parts, and_from, cases_Bool, cases_lt, leb-true, or_left, or_parts, or_right, true≢false, not-true}
 use Rattle.std.proofs.lemmas.List.{length-append, length-map}
 use Rattle.std.proofs.lemmas.List.FromFn.{length-range_with_len}
 use Rattle.std.proofs.lemmas.List.Sums.{count_by-le-length, sum_by-append}
@@ -17,6 +18,7 @@ use Rattle.j39_claim.specs.ClaimRule.{ClaimState, IsFree, PlannedUnit}
 use Rattle.j39_findings.specs.Findings.{Clean}
 use Rattle.j39_findings.specs.Found.{is_fixed, needs_pool_address}
 use Rattle.j39_findings.specs.declared.checking.finding.Finding.TheVariants.{SameFixedAddress, SilentAddress}
+use Rattle.j39_findings.proofs.WhoStays.{placed}
 use Rattle.j39_network.specs.declared.plan.Plan.{Plan}
 use Rattle.j39_network.specs.declared.plan.unit_plan.UnitPlan.{UnitPlan}
 use Rattle.j39_network.specs.PlannedUnits.{planned_unit, units_of, unit_at}
@@ -26,7 +28,7 @@ use Rattle.j39_network.specs.Staying.{Stays, StaysBeside}
 use Rattle.j39_world.specs.HeldAddresses.{HoldsPlanned}
 use Rattle.j39_world.specs.Strangers.{HasStrangers}
 use Rattle.j39_laws.proofs.Addresses.AddressInvariant.{AllNoted, IsOwn}
-use Rattle.j39_laws.proofs.Addresses.CleanUnits.{IsClean, clean_units, count, names_in_range, needs_pool, placed, room_told, unreached}
+use Rattle.j39_laws.proofs.Addresses.CleanUnits.{IsClean, clean_units, count, names_in_range, needs_pool, room_told, unreached}
 use Rattle.j39_laws.proofs.Addresses.Counting.{count_all, count_either, count_none, count_range}
 use Rattle.j39_laws.proofs.Addresses.FreeAddress.{one_left}
 use Rattle.j39_laws.proofs.Addresses.SoundAddresses.{addresses_sound, invariant, quiet_apart}
@@ -109,10 +111,6 @@ all_free =
     let none = count_none (contains (empty {R = nat_cmp})) (λ b is. true≢false (sym is ∙ contains-empty nat_cmp b)) (range_with_len 128 120) in
     omega (arith, none, count_free empty)
 
-not_true : (b : Bool) → not b ≡ true → b ≡ false
-not_true true e = sym e
-not_true false e = refl
-
 -- units that are kept there, of which no two have one address, are at most as many as addresses are kept free
 count_kept : (kept : FinSet nat_cmp) (ps : List UnitPlan)
     → ((i j : ℕ) (d : UnitPlan) → i < j → j < length ps → is_kept_there kept (get_or ps i d) ≡ true → is_kept_there kept (get_or ps j d) ≡ true
@@ -141,7 +139,7 @@ module _ (plan : Plan) (clean : Clean plan) where
       → (get_or plan.units.items i d).address ≢ (get_or plan.units.items j d).address
   fixed_apart i j d below inside one other same =
       let fixed : (x : UnitPlan) → is_kept_there plan.keep_free x ≡ true → is_arbitrary x.name ≡ false =
-      λ x is. not_true (is_arbitrary x.name) (and_parts (is_fixed x) (in_pool x.address && contains plan.keep_free x.address) is).0 in
+      λ x is. not-true (is_arbitrary x.name) (and_parts (is_fixed x) (in_pool x.address && contains plan.keep_free x.address) is).0 in
       let first : UnitPlan = get_or plan.units.items i d in
       let second : UnitPlan = get_or plan.units.items j d in
       let first_is = slice_get-get_or plan.units.items i d (omega arith) in
@@ -226,7 +224,8 @@ module _ (plan joined : Plan) (ss : List UnitPlan) (come : HasStrangers plan joi
   in_plan : (u : ℕ) → u < length planned → u < length (units_of plan)
   in_plan u inside = omega (arith, length-map planned (planned_unit plan.keep_free))
 
-  is_fixed_there : (u : ℕ) → u < length planned → is_arbitrary (unit_at (units_of joined) u).name ≡ false → is_arbitrary (unit_at (units_of plan) u).name ≡ false
+  is_fixed_there : (u : ℕ) → u < length planned → is_arbitrary (unit_at (units_of joined) u).name ≡ false
+      → is_arbitrary (unit_at (units_of plan) u).name ≡ false
   is_fixed_there u inside fixed = ap is_arbitrary (sym (named u inside)) ∙ fixed
 
   -- ---- addresses

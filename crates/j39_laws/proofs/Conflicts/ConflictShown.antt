@@ -180,7 +180,8 @@ module _ (plan : Plan) (l s : ℕ) (unit_l : is_unit plan l ≡ true) (unit_s : 
         on_l = on_l;
         on_s = ap (λ (x : ClaimState). x.on) (changed_here w.stations s (started winner));
         off = λ t not_l not_s. off t not_s not_l;
-        list = one_told new mid s items l apart off on_l ∙ ap (λ (xs : List Item). xs ++ items) (nothing (eqb l s) (w.claims s l) (is.told s l)) ∙ first_said winner claims_s;
+        list =
+            one_told new mid s items l apart off on_l ∙ ap (λ (xs : List Item). xs ++ items) (nothing (eqb l s) (w.claims s l) (is.told s l)) ∙ first_said winner claims_s;
         told = λ x y elsewhere. no_other_told new mid s items l apart off x y elsewhere ∙ nothing (eqb y s) (w.claims x y) (is.told x y);
       }
 

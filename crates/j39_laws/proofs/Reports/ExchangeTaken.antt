@@ -1,6 +1,6 @@
 -- What holds between a sender and a receiver, as the receiver takes something, or the sender rests.
-use Rattle.std.proofs.Common.{◌≡◌, ℕ, ◌⊎◌, inl, inr, Bool, true, false, not, ◌&&◌, List, [], ◌∷◌, ◌++◌, length, refl, sym, subst, Option, Some, None}
-use Rattle.std.proofs.lemmas.Bool.{and_parts}
+use Rattle.std.proofs.Common.{◌≡◌, ℕ, ◌⊎◌, inl, inr, true, false, not, ◌&&◌, List, [], ◌∷◌, ◌++◌, length, refl, sym, subst, Option, Some, None}
+use Rattle.std.proofs.lemmas.Bool.{and_parts, not-true}
 use Rattle.std.specs.List.{AllByRecursion, list_all}
 use Rattle.j39_tp.specs.Carried.{Carried}
 use Rattle.j39_tp.specs.Receiver.{is_open_at, hears}
@@ -167,10 +167,6 @@ not_of_receiver (wired.Packet (Abort reason pgn)) is = tt
 not_of_receiver (wired.Packet (Dt number seven)) is = tt
 not_of_receiver (wired.Alone f bytes) is = tt
 
-not_true : (b : Bool) → not b ≡ true → b ≡ false
-not_true true is = absurd (cc is)
-not_true false is = refl
-
 -- nothing of it is open or undelivered
 pub rests_keeps : (o : Option Message) (pair : Pair)
     → (not (is_open_at pair.receiver) && (list_all (λ item. not (is_of_sender item)) pair.wire && list_all (λ item. not (is_of_receiver item)) pair.back))
@@ -182,7 +178,7 @@ rests_keeps o pair over e =
     let more = and_parts (list_all (λ item. not (is_of_sender item)) pair.wire) (list_all (λ item. not (is_of_receiver item)) pair.back) first.1 in
     record {
       wire = all_tested (λ item. not (is_of_sender item)) IsAnswering not_of_sender pair.wire more.0;
-      closed = not_true (is_open_at pair.receiver) first.0;
+      closed = not-true (is_open_at pair.receiver) first.0;
       back = all_tested (λ item. not (is_of_receiver item)) IsUnacknowledging not_of_receiver pair.back more.1;
       part = is_part o pair e;
     }

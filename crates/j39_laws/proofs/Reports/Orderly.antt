@@ -74,7 +74,8 @@ module _ (plan : Plan) (stations : Stations) (claims : Undelivered) (sessions : 
 
   -- ---- what units claim, while no message is sent, unless the plan is live
 
-  pub claims_keep : (plan.live ≡ false → (u : ℕ) → sessions u ≡ None) → (new : Stations) → AreUnitsOn plan new → (more : Undelivered) → AreBetweenUnits plan more
+  pub claims_keep : (plan.live ≡ false → (u : ℕ) → sessions u ≡ None) → (new : Stations) → AreUnitsOn plan new → (more : Undelivered)
+      → AreBetweenUnits plan more
       → IsOrderly plan new more sessions
   claims_keep none new on more between = record {
     units = on;
@@ -89,7 +90,8 @@ module _ (plan : Plan) (stations : Stations) (claims : Undelivered) (sessions : 
 
   -- ---- what a unit sends
 
-  pub sessions_keep : (u : ℕ) (s : Option Outgoing) → PlannedAt plan u s → (plan.live ≡ false → DeliveredBefore claims s) → IsOrderly plan stations claims (changed sessions u s)
+  pub sessions_keep : (u : ℕ) (s : Option Outgoing) → PlannedAt plan u s → (plan.live ≡ false → DeliveredBefore claims s)
+      → IsOrderly plan stations claims (changed sessions u s)
   sessions_keep u s planned delivered = record {
     units = o.units;
     between = o.between;

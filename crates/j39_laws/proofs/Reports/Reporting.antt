@@ -41,7 +41,8 @@ pub reported_none : (rs : List Reported) (v u : ℕ) → reported (rs ++ []) v u
 reported_none rs v u = ap (λ (xs : List Reported). reported xs v u) (append-nil rs)
 
 pub reported_here : (rs : List Reported) (u v flow : ℕ) (bytes : List ℕ)
-    → reported (rs ++ record { receiver = v; sender = u; flow = flow; bytes = bytes; alone = false } ∷ []) v u ≡ reported rs v u ++ record { flow = flow; bytes = bytes } ∷ []
+    → reported (rs ++ record { receiver = v; sender = u; flow = flow; bytes = bytes; alone = false } ∷ []) v u ≡ reported rs v u
+    ++ record { flow = flow; bytes = bytes } ∷ []
 reported_here rs u v flow bytes =
     let e : eqb v v ≡ true = eq-eqb v v refl in
     let g : eqb u u ≡ true = eq-eqb u u refl in

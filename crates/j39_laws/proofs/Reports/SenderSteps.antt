@@ -26,7 +26,8 @@ use Rattle.j39_world.specs.Resting.{can_rest, is_over_with}
 use Rattle.j39_world.proofs.Refusals.{none_hold}
 use Rattle.j39_world.specs.Run.{count_of, is_on, at_ends, begin_refusal, begin_refusals}
 use Rattle.j39_world.specs.Transfers.{Outgoing, Wire, outcome_in, is_among, added}
-use Rattle.j39_world.specs.TransferSteps.{targets_of, sent_to_receivers, begun_stage, outgoing, first_item, begins, BeginsAt, SendsAt, Emits, SenderTimesOut, rested}
+use Rattle.j39_world.specs.TransferSteps.{targets_of, sent_to_receivers, begun_stage, outgoing, first_item, begins, BeginsAt, SendsAt, Emits, SenderTimesOut}
+use Rattle.j39_world.specs.TransferSteps.{rested}
 use Rattle.j39_world.specs.World.{World, changed, is_other_on}
 use Rattle.j39_world.specs.Sound.{reported}
 use Rattle.j39_tp.specs.HonestPackets.{GoesOn}

@@ -1,5 +1,6 @@
 -- In each world of a run what a unit reports of frames that were sent alone, with what of them lies on its way, is part of what was sent.
-use Rattle.std.proofs.Common.{◌≡◌, ℕ, inl, inr, true, false, cond, ◌&&◌, eqb, List, [], ◌∷◌, ◌++◌, length, refl, sym, ap, ◌∙◌, subst, append-nil, Option, Some, None}
+use Rattle.std.proofs.Common.{◌≡◌, ℕ, inl, inr, true, false, cond, ◌&&◌, eqb, List, [], ◌∷◌, ◌++◌, length, refl, sym, ap, ◌∙◌, subst, append-nil, Option, Some}
+use Rattle.std.proofs.Common.{None}
 use Rattle.std.specs.Prelude.{map, slice_get}
 use Rattle.std.proofs.lemmas.Bool.{cond_both, eqb-true, or_cases}
 use Rattle.std.proofs.lemmas.List.{append_assoc}

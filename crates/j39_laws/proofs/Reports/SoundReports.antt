@@ -1,6 +1,7 @@
 -- The steps of units that claim addresses keep what holds of messages in every world: reports are sound, and acknowledged messages were
 -- reported.
-use Rattle.std.proofs.Common.{Some, ◌≡◌, ◌≢◌, ◌⊎◌, inl, inr, ℕ, true, false, cond, not, ◌&&◌, ltb, List, [], ◌∷◌, length, refl, sym, ap, ◌∙◌, subst, Option, None}
+use Rattle.std.proofs.Common.{Some, ◌≡◌, ◌≢◌, ◌⊎◌, inl, inr, ℕ, true, false, cond, not, ◌&&◌, ltb, List, [], ◌∷◌, length, refl, sym, ap, ◌∙◌, subst, Option}
+use Rattle.std.proofs.Common.{None}
 use Rattle.std.proofs.lemmas.Bool.{and_parts, not-false, true≢false}
 use Rattle.std.specs.Option.{is_some}
 use Rattle.std.specs.Prelude.{slice_get}
@@ -69,7 +70,8 @@ planned_left plan u x (Some s) planned = record {
   one = λ v y to among. planned.one v y to (targets_less u s.targets y among).0;
 }
 
-delivered_left : (u : ℕ) (claims : Undelivered) (o : Option Outgoing) → DeliveredBefore claims o → DeliveredBefore (without_lists_to u claims) (session_without u o)
+delivered_left : (u : ℕ) (claims : Undelivered) (o : Option Outgoing) → DeliveredBefore claims o
+    → DeliveredBefore (without_lists_to u claims) (session_without u o)
 delivered_left u claims None all = tt
 delivered_left u claims (Some s) all = λ s' t'. without_lists_empty claims u s' t' (all s' t')
 

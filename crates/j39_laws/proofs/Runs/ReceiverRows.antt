@@ -14,8 +14,8 @@ use Rattle.j39_tp.specs.declared.receiving.heard.Heard.TheVariants as heards
 use Rattle.j39_tp.specs.declared.receiving.manner.Manner.TheVariants.{Answering}
 use Rattle.j39_tp.specs.declared.receiving.progress.Progress.{Progress}
 use Rattle.j39_tp.specs.declared.receiving.progress.Progress.TheVariants.{Closed, Open, Complete}
-use Rattle.j39_tp.specs.declared.receiving.reception.Kind.{Kind}
-use Rattle.j39_tp.specs.declared.receiving.reception.Kind.TheVariants.{Broadcast, Directed}
+use Rattle.j39_tp.specs.declared.receiving.reception.ReceptionKind.{ReceptionKind}
+use Rattle.j39_tp.specs.declared.receiving.reception.ReceptionKind.TheVariants.{Broadcast, Directed}
 use Rattle.j39_tp.specs.declared.receiving.reception.Reception.{Reception}
 
 -- the packet isn't the last one that is awaited
@@ -45,11 +45,11 @@ data_by window r p number P rows =
     (λ more. cond_both (r.held + 1 == r.granted) _ _ P (λ _. on r.kind refl more) (λ _. rows.taken r refl more)))
     (λ _. cond_both (nat_le number r.held) _ _ P (λ _. rows.passed) (λ _. later r.kind refl))
   where
-    on : (kind : Kind) → r.kind ≡ kind → IsShort r → P (receiver.going_on (Answering window) kind (one_more_held r))
+    on : (kind : ReceptionKind) → r.kind ≡ kind → IsShort r → P (receiver.going_on (Answering window) kind (one_more_held r))
     on Broadcast is more = rows.taken r refl more
     on Directed is more = rows.granted r refl is more
 
-    later : (kind : Kind) → r.kind ≡ kind → P (receiver.takes_later (Answering window) kind r number)
+    later : (kind : ReceptionKind) → r.kind ≡ kind → P (receiver.takes_later (Answering window) kind r number)
     later Broadcast is = rows.closed r refl
     later Directed is = cond_both (number == r.granted) _ _ P
         (λ _. cond_both (nat_lt r.asked receiver.ask_limit) _ _ (λ (x : Progress × Packet). P (x.0, heards.Reply x.1))

@@ -24,7 +24,7 @@ use Rattle.j39_laws.proofs.Runs.ClaimInvariants.{IsKeptByClaimSteps, claims_at, 
 use Rattle.j39_laws.proofs.Runs.Conditions.{is_unit}
 use Rattle.j39_laws.proofs.Runs.Units.{AreUnitsOn, in_units, names_differ}
 use Rattle.j39_laws.proofs.Settling.Deliveries.{AreDeliverable, apart, responds, claim_steps, deliverable}
-use Rattle.j39_laws.proofs.Settling.Responses.{Response, IsNotedOf}
+use Rattle.j39_laws.proofs.Settling.Responses.{Response, IsNotedOf, says_held}
 use Rattle.j39_laws.proofs.Settling.Silences.{AreSilent, at_first, given, passed_over, switched, told}
 
 -- the last that is said: by what is undelivered, else by what was noted
@@ -62,10 +62,6 @@ said_anyway : (items : List Item) (a : ℕ) (noted : Option ℕ) → last_said N
 said_anyway [] a noted is = absurd (cc is)
 said_anyway (Told say ∷ items) a noted is = is
 said_anyway (Request ∷ items) a noted is = said_anyway items a noted is
-
-says_held : (o : Option ℕ) → claimed_by (claim_of o) ≡ o
-says_held None = refl
-says_held (Some a) = refl
 
 -- v tells what it holds, and all others stay as they were
 told_rows : (plan : Plan) (f : Stations) (mid : Undelivered) (v : ℕ) (items : List Item)

@@ -14,7 +14,7 @@ use Rattle.j39_world.specs.ClaimSteps.{told_to_others, answer_items}
 use Rattle.j39_laws.proofs.Settling.Totals.{total, total-rise, total-two, total-le, total-less}
 use Rattle.j39_world.specs.Sent.{claimed_by}
 use Rattle.j39_laws.proofs.Settling.Changes.{changes, changes-noted, differ, differ-same, differ-other, differ-most}
-use Rattle.j39_laws.proofs.Settling.Responses.{Response, IsSilent, Repeats, Loses}
+use Rattle.j39_laws.proofs.Settling.Responses.{Response, SaysNothing, Repeats, Loses}
 use Rattle.j39_laws.proofs.Runs.Changed.{IsElsewhere, changed_here, changed_elsewhere, pair_here, pair_elsewhere}
 use Rattle.j39_laws.proofs.Settling.Measure.{heft, load, hefts, Says, relief, load_moved, load_told, load_heard, name_at, request_weight, say_weight}
 use Rattle.j39_laws.proofs.Settling.Measure.{rest_weight, change_weight, load_between, measure, answers_below_request, answers_below_say, say_some}
@@ -250,7 +250,7 @@ module _ (units : List PlannedUnit) (stations : Stations) (claims : Undelivered)
   says_held : (say : Say) → says ≡ Some say → claimed_by say ≡ new.address → Says says (stations v).address new.address
   says_held say is holds = rw is holds
 
-  by_silence : IsSilent (stations v) says new → IsLowered
+  by_silence : SaysNothing (stations v) says new → IsLowered
   unfolding IsLowered lost
   by_silence (none, same) =
       let quiet : hefts (request_weight units) (say_weight units v) (answer_items says) ≤ 0 = rw none (omega arith) in

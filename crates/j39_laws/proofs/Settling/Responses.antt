@@ -38,17 +38,21 @@ pub record Loses (c : PlannedUnit) (s : ClaimState) (n : ℕ) (item : Item) (say
   pub cause : item ≡ Told (Claim lost)
   pub unnoted : get s.notes n ≢ Some lost
 
-abbrev pub IsSilent : ClaimState → Option Say → ClaimState → Type 0
-IsSilent s says new = (says ≡ None) × (new.address ≡ s.address)
+abbrev pub SaysNothing : ClaimState → Option Say → ClaimState → Type 0
+SaysNothing s says new = (says ≡ None) × (new.address ≡ s.address)
 
 pub record Response (c : PlannedUnit) (s : ClaimState) (n : ℕ) (item : Item) (says : Option Say) (new : ClaimState) : Type 0 where
   pub on : new.on ≡ s.on
   pub unclashed : IsUnclashed c.name new
   pub noted : IsNotedOf s.notes new.notes n item
   pub others : (m : ℕ) → m ≢ n → get new.notes m ≡ get s.notes m
-  pub outcome : IsSilent s says new ⊎ (Repeats c s n item says new ⊎ Loses c s n item says new)
+  pub outcome : SaysNothing s says new ⊎ (Repeats c s n item says new ⊎ Loses c s n item says new)
 
 -- ---- what a unit is that has noted a claim of an address
+
+pub says_held : (o : Option ℕ) → claimed_by (claim_of o) ≡ o
+says_held None = refl
+says_held (Some a) = refl
 
 module _ (c : PlannedUnit) (s : ClaimState) (unclashed : IsUnclashed c.name s) (n : ℕ) (other : n ≢ c.name) where
   -- one that it doesn't hold
@@ -72,7 +76,7 @@ module _ (c : PlannedUnit) (s : ClaimState) (unclashed : IsUnclashed c.name s) (
 
   -- what it then is, where it has noted a
   response_with : (a : ℕ) (says : Option Say) (new is : ClaimState) → new ≡ is → is.on ≡ s.on → is.notes ≡ insert s.notes n a → IsUnclashed c.name is
-      → IsSilent s says is ⊎ (Repeats c s n (Told (Claim a)) says is ⊎ Loses c s n (Told (Claim a)) says is) → Response c s n (Told (Claim a)) says new
+      → SaysNothing s says is ⊎ (Repeats c s n (Told (Claim a)) says is ⊎ Loses c s n (Told (Claim a)) says is) → Response c s n (Told (Claim a)) says new
   response_with a says new is same on notes clear outcome = subst (Response c s n (Told (Claim a)) says) (sym same) (record {
     on = on;
     unclashed = clear;
@@ -106,10 +110,6 @@ module _ (c : PlannedUnit) (s : ClaimState) (unclashed : IsUnclashed c.name s) (
       response_with a says new (noted s n a) is refl refl (unclashed_still a larger)
       (inr (inl (record { say = Claim a; said = said; holds = sym held; address = refl; cause = inr (larger, Claim a, refl) }))))
       (λ not_held (said, is). response_with a says new (noted s n a) is refl refl (unclashed_after a not_held) (inl (said, refl)))
-
-  says_held : (o : Option ℕ) → claimed_by (claim_of o) ≡ o
-  says_held None = refl
-  says_held (Some a) = refl
 
   pub response : (item : Item) (says : Option Say) (new : ClaimState) → Answers c s n item says new → Response c s n item says new
   response (Told (Claim a)) says new answers = claimed a says new answers

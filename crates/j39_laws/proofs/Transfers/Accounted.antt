@@ -1,5 +1,6 @@
 -- What is undelivered of messages is of one that is still sent, and who sends and receives it is on.
-use Rattle.std.proofs.Common.{◌≡◌, ◌≢◌, ℕ, ◌⊎◌, inl, inr, Bool, true, false, not, ◌&&◌, eqb, List, [], ◌∷◌, length, refl, sym, ap, ◌∙◌, subst, Option, Some, None}
+use Rattle.std.proofs.Common.{◌≡◌, ◌≢◌, ℕ, ◌⊎◌, inl, inr, Bool, true, false, not, ◌&&◌, eqb, List, [], ◌∷◌, length, refl, sym, ap, ◌∙◌, subst, Option, Some}
+use Rattle.std.proofs.Common.{None}
 use Rattle.std.specs.Prelude.{map}
 use Rattle.std.specs.List.{AllByRecursion}
 use Rattle.std.proofs.lemmas.Bool.{cases_eq, cond_both, true≢false}
@@ -89,7 +90,8 @@ ends_still old new still u (Some s) on = (still u on.0, λ v among. still v (on.
 pub on_left : (stations : Stations) (u x : ℕ) → x ≢ u → (stations x).on ≡ true → (changed stations u off x).on ≡ true
 on_left stations u x other is = ap (λ (c : ClaimState). c.on) (changed_elsewhere stations u off x other) ∙ is
 
-pub ends_left : (stations : Stations) (u x : ℕ) (o : Option Outgoing) → x ≢ u → AreEndsOn stations x o → AreEndsOn (changed stations u off) x (session_without u o)
+pub ends_left : (stations : Stations) (u x : ℕ) (o : Option Outgoing) → x ≢ u → AreEndsOn stations x o
+    → AreEndsOn (changed stations u off) x (session_without u o)
 ends_left stations u x None other on = tt
 ends_left stations u x (Some s) other on = (
   on_left stations u x other on.0,
@@ -128,7 +130,8 @@ accounted_left sessions u s t other_s other_t item is = elim is [
 abbrev pub SendMore : Sessions → Sessions → Type 0
 SendMore old new = (x y : ℕ) → SendsTo (old x) y → SendsTo (new x) y
 
-pub send_more : (sessions : Sessions) (u : ℕ) (o : Option Outgoing) → ((y : ℕ) → SendsTo (sessions u) y → SendsTo o y) → SendMore sessions (changed sessions u o)
+pub send_more : (sessions : Sessions) (u : ℕ) (o : Option Outgoing) → ((y : ℕ) → SendsTo (sessions u) y → SendsTo o y)
+    → SendMore sessions (changed sessions u o)
 send_more sessions u o more = changed_each (λ x (p : Option Outgoing). (y : ℕ) → SendsTo (sessions x) y → SendsTo p y) sessions u o more (λ x y is. is)
 
 pub still_accounted : (old new : Sessions) → SendMore old new → (s t : ℕ) (items : List Wired) → AllByRecursion (IsAccounted old s t) items

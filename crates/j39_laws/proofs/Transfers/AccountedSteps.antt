@@ -1,9 +1,11 @@
 -- In every world of every run what is undelivered of messages is of one that is still sent, and who sends and receives it is on.
-use Rattle.std.proofs.Common.{◌≡◌, ℕ, inl, inr, Bool, true, false, not, ◌&&◌, eqb, ltb, List, [], ◌∷◌, ◌++◌, length, refl, sym, ap, ◌∙◌, subst, Option, Some, None}
+use Rattle.std.proofs.Common.{◌≡◌, ℕ, inl, inr, Bool, true, false, not, ◌&&◌, eqb, ltb, List, [], ◌∷◌, ◌++◌, length, refl, sym, ap, ◌∙◌, subst, Option, Some}
+use Rattle.std.proofs.Common.{None}
 use Rattle.std.specs.Prelude.{map, slice_get}
 use Rattle.std.specs.List.{AllByRecursion, list_all, range_with_len}
 use Rattle.std.specs.Option.{is_some}
 use Rattle.std.proofs.lemmas.Bool.{and_parts, cases_Bool, cond_both, eqb-true, not-false, not-true, true≢false}
+use Rattle.std.proofs.lemmas.List.{map-append}
 use Rattle.j39_tp.specs.Receiver as receiver
 use Rattle.j39_tp.specs.Receiver.{is_open_at}
 use Rattle.j39_tp.specs.Sender as sender
@@ -31,7 +33,8 @@ use Rattle.j39_world.specs.Run.{count_of, is_on, at_ends, begin_refusal, begin_r
 use Rattle.j39_world.specs.Run.{is_a_transfer_open, is_none_sending, is_no_transfer_open, is_nothing_undelivered}
 use Rattle.j39_world.specs.SoundPlan.{Always}
 use Rattle.j39_world.specs.Transfers.{Outgoing, Reported, Sessions, Wire, is_among, added, outcome_in}
-use Rattle.j39_world.specs.TransferSteps.{targets_of, outgoing, first_item, begins, BeginsAt, SendsAt, sends_alone, sent_to_receivers, session_after, reaction_of}
+use Rattle.j39_world.specs.TransferSteps.{targets_of, outgoing, first_item, begins, BeginsAt, SendsAt, sends_alone, sent_to_receivers, session_after}
+use Rattle.j39_world.specs.TransferSteps.{reaction_of}
 use Rattle.j39_world.specs.TransferSteps.{receiver_replies}
 use Rattle.j39_world.specs.TransferSteps.{sender_replies, hearing, packet_taken, TakenFrom, LostFrom, packets_in, receiver_timed_out, rested}
 use Rattle.j39_world.specs.World.{World, Stations, Undelivered, changed, changed_pair, is_other_on}
@@ -315,7 +318,7 @@ module _ (plan : Plan) (w : World) (inv : TransferInvariant plan w) (old : AllAc
       ] in
       let also = reacted_accounted now v u (w.sessions v) p (keeps v) in
       let all : AllByRecursion (IsAccounted now v u) (map wired.Packet (replies ++ reacted)) =
-      subst (AllByRecursion (IsAccounted now v u)) (sym (map-append replies reacted)) (all-append (IsAccounted now v u) (map wired.Packet replies) _ answered also) in
+      subst (AllByRecursion (IsAccounted now v u)) (sym (map-append wired.Packet replies reacted)) (all-append (IsAccounted now v u) (map wired.Packet replies) _ answered also) in
       record {
         wire = more now (changed_pair w.wire u v rest)
             (λ s t. still_accounted w.sessions now keeps s t (changed_pair w.wire u v rest s t) (less u v (wired.Packet p) rest is s t)) v u
@@ -323,12 +326,9 @@ module _ (plan : Plan) (w : World) (inv : TransferInvariant plan w) (old : AllAc
         alone = more_settled (changed_pair w.wire u v rest) (less_settled u v (wired.Packet p) rest is) v u (replies ++ reacted);
         ends = changed_each (AreEndsOn w.stations) w.sessions v then (ends_after w.stations v u p (w.sessions v) (old.ends v)) old.ends;
       }
-    where
-      map-append : (xs ys : List Packet) → map wired.Packet (xs ++ ys) ≡ map wired.Packet xs ++ map wired.Packet ys
-      map-append [] ys = refl
-      map-append (x ∷ xs) ys = ap (λ (zs : List Wired). wired.Packet x ∷ zs) (map-append xs ys)
 
-  take_accounted : (windows : List ℕ) (u v : ℕ) (list : List Wired) → w.wire u v ≡ list → (new : World) → TakenFrom windows w u v list new → AllAccounted plan new
+  take_accounted : (windows : List ℕ) (u v : ℕ) (list : List Wired) → w.wire u v ≡ list → (new : World) → TakenFrom windows w u v list new
+      → AllAccounted plan new
   take_accounted windows u v [] is new never = absurd never
   take_accounted windows u v (wired.Short bytes ∷ rest) is new e =
       subst (AllAccounted plan) (sym e) (record { wire = less u v (wired.Short bytes) rest is; alone = less_settled u v (wired.Short bytes) rest is; ends = old.ends })
@@ -437,10 +437,12 @@ keeps plan w old step allowed new leads = record {
 }
 
 pub all_kept : (plan : Plan) → Always plan (IsKept plan)
-all_kept plan = always plan (IsKept plan) (record { transfers = at_first plan; accounted = record { wire = λ s t. tt; alone = λ s t. tt; ends = λ u. tt } }) (keeps plan)
+all_kept plan =
+    always plan (IsKept plan) (record { transfers = at_first plan; accounted = record { wire = λ s t. tt; alone = λ s t. tt; ends = λ u. tt } }) (keeps plan)
 
 -- a message that is begun
-pub begin_kept : (plan : Plan) (w : World) → IsKept plan w → (f : ℕ) (flow : Flow) (bytes : List ℕ) → begin_refusal plan.live (count_of plan) w (Some flow) bytes ≡ None
+pub begin_kept : (plan : Plan) (w : World) → IsKept plan w → (f : ℕ) (flow : Flow) (bytes : List ℕ)
+    → begin_refusal plan.live (count_of plan) w (Some flow) bytes ≡ None
     → IsKept plan (begins (count_of plan) w f flow bytes)
 begin_kept plan w kept f flow bytes allowed = record {
   transfers = begin_keeps plan w kept.transfers f (Some flow) bytes allowed (begins (count_of plan) w f flow bytes) refl;
@@ -448,7 +450,8 @@ begin_kept plan w kept f flow bytes allowed = record {
 }
 
 -- a frame that is sent alone
-pub send_kept : (plan : Plan) (w : World) → IsKept plan w → (f : ℕ) (flow : Flow) (bytes : List ℕ) → send_refusal plan.live (count_of plan) w (Some flow) bytes ≡ None
+pub send_kept : (plan : Plan) (w : World) → IsKept plan w → (f : ℕ) (flow : Flow) (bytes : List ℕ)
+    → send_refusal plan.live (count_of plan) w (Some flow) bytes ≡ None
     → IsKept plan (sends_alone (count_of plan) w f flow bytes)
 send_kept plan w kept f flow bytes allowed = record {
   transfers = send_keeps plan w kept.transfers f (Some flow) bytes (sends_alone (count_of plan) w f flow bytes) refl;

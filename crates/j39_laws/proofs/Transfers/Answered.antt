@@ -35,7 +35,8 @@ use Rattle.j39_laws.proofs.Runs.SwitchedOff.{stage_stays, targets_stay}
 use Rattle.j39_laws.proofs.Reports.Orderly.{IsPlanned, PlannedAt}
 use Rattle.j39_laws.proofs.Reports.SenderSteps.{no_session, begin_keeps}
 use Rattle.j39_laws.proofs.Reports.TransferInvariant.{TransferInvariant}
-use Rattle.j39_laws.proofs.Runs.Changed.{IsElsewhere, changed_here, changed_elsewhere, changed_each, pair_here, pair_elsewhere, pair_each, pair_here_or_elsewhere}
+use Rattle.j39_laws.proofs.Runs.Changed.{IsElsewhere, changed_here, changed_elsewhere, changed_each, pair_here, pair_elsewhere, pair_each}
+use Rattle.j39_laws.proofs.Runs.Changed.{pair_here_or_elsewhere}
 use Rattle.j39_laws.proofs.Runs.Elements.{all_map}
 use Rattle.j39_laws.proofs.Transfers.Beside.{IsBesideForth, IsBesideBack, Holds, holds_beside, holds_own}
 use Rattle.j39_laws.proofs.Transfers.Between.{IsAt, emitted, coming_sent, answering_received}
@@ -286,7 +287,8 @@ module _ (plan : Plan) (u v : ℕ) (o : Outgoing) (before : List Begun) (apart :
         subst (λ (st : Stage). IsAnswering (sends_next (at_stage now.stage) p st)) (sym stage_is) (record {
           stage = then;
           session = changed_here w.sessions u (Some (at_stage then));
-          other = subst (λ (x : Option Outgoing). SendsOther x u o.pgn) (sym (changed_elsewhere w.sessions u (Some (at_stage then)) v (λ e. apart (sym e)))) now.other;
+          other =
+              subst (λ (x : Option Outgoing). SendsOther x u o.pgn) (sym (changed_elsewhere w.sessions u (Some (at_stage then)) v (λ e. apart (sym e)))) now.other;
           way = record {
             coming = way.coming ++ item ∷ [];
             answering = way.answering;

@@ -1,5 +1,5 @@
 -- From where a message of several frames to one unit was begun some run spares it, and all of it is taken.
-use Rattle.std.proofs.Common.{◌≡◌, ◌≢◌, ℕ, zero, suc, ◌≤◌, List, [], ◌∷◌, refl, arith, Option, Some, None}
+use Rattle.std.proofs.Common.{◌≡◌, ◌≢◌, ℕ, List, [], ◌∷◌, refl, arith, Option, Some, None}
 use Rattle.std.specs.List.{All}
 use Rattle.std.proofs.lemmas.List.Elements.{All-nil, All-cons}
 use Rattle.j39_network.specs.declared.plan.Plan.{Plan}
@@ -8,14 +8,13 @@ use Rattle.j39_network.specs.declared.steps.Step.TheVariants.{Emit, Take}
 use Rattle.j39_world.specs.declared.step_error.StepError.{StepError}
 use Rattle.j39_world.specs.Arriving.{SparesBetween, SparingRun, IsThroughBetween, BeginsOther, CanArriveAnswered}
 use Rattle.j39_world.specs.Ending.{IsOfTransfers}
-use Rattle.j39_world.specs.Run.{count_of, refusal}
+use Rattle.j39_world.specs.Run.{Follows, count_of, refusal}
 use Rattle.j39_world.specs.SoundPlan.{Always}
 use Rattle.j39_world.specs.TransferSteps.{begins}
 use Rattle.j39_world.specs.World.{World}
-use Rattle.j39_laws.proofs.Runs.Always.{leads_to_follows}
-use Rattle.j39_laws.proofs.Transfers.FitSteps.{IsWorldFit, begin_fits, steps_fit, worlds_fit}
-use Rattle.j39_laws.proofs.Transfers.Leading.{leads_on}
-use Rattle.j39_laws.proofs.Transfers.Lowering.{left_of, lowers}
+use Rattle.j39_laws.proofs.Transfers.ByLowering.{reaches}
+use Rattle.j39_laws.proofs.Transfers.FitSteps.{IsWorldFit, begin_fits, worlds_fit}
+use Rattle.j39_laws.proofs.Transfers.Lowering.{left_of}
 
 module _ (plan : Plan) (u v pgn : ℕ) where
   -- a run from here
@@ -26,16 +25,20 @@ module _ (plan : Plan) (u v pgn : ℕ) where
     through : IsThroughBetween plan after u v
     others : All (BeginsOther plan v u pgn) steps
 
+  -- a step that spares it, and begins no other message of the receiver
+  abbrev MayCome : World → Step → Type 0
+  MayCome w step = SparesBetween plan w u v step × BeginsOther plan v u pgn step
+
   -- a step that goes on with it and isn't refused
   abbrev GoesOn : World → Type 0
-  GoesOn w = (step : Step) → IsOfTransfers step → SparesBetween plan w u v step → BeginsOther plan v u pgn step → refusal plan w step ≡ None → Comes w
+  GoesOn w = (step : Step) → IsOfTransfers step → MayCome w step → refusal plan w step ≡ None → Comes w
 
   -- there is one, or all was sent and taken
   by_step : (w : World) → GoesOn w → Comes w
   by_step w goes =
-      if_refused (Emit u) (goes (Emit u) tt tt tt)
-      (λ sent. if_refused (Take u v) (goes (Take u v) tt tt tt)
-      (λ taken. if_refused (Take v u) (goes (Take v u) tt tt tt)
+      if_refused (Emit u) (goes (Emit u) tt (tt, tt))
+      (λ sent. if_refused (Take u v) (goes (Take u v) tt (tt, tt))
+      (λ taken. if_refused (Take v u) (goes (Take v u) tt (tt, tt))
       (λ answered. record {
         steps = [];
         after = w;
@@ -51,27 +54,23 @@ module _ (plan : Plan) (u v pgn : ℕ) where
             | Some e ↦ λ some. refused (λ none. cc (some, none))
           ] refl
 
-  comes : (fuel : ℕ) (w : World) → IsWorldFit w → left_of (count_of plan) w ≤ fuel → Comes w
-  comes zero w fit most = by_step w (λ step of spares other allowed.
-      let (mid, leads) = leads_on plan w fit step allowed in
-      absurd (let less = lowers plan w fit step of allowed mid leads in omega (arith, less, most)))
-  comes (suc fuel) w fit most = by_step w (λ step of spares other allowed.
-      let (mid, leads) = leads_on plan w fit step allowed in
-      let less = lowers plan w fit step of allowed mid leads in
-      let more : Comes mid = comes fuel mid (steps_fit plan w fit step allowed mid leads) (omega (arith, less, most)) in
-      record {
-        steps = step ∷ more.steps;
-        after = more.after;
-        runs = (spares, (mid, leads_to_follows plan w step allowed mid leads, more.runs));
-        through = more.through;
-        others = All-cons (BeginsOther plan v u pgn) step more.steps other more.others;
-      })
+  further : (w : World) (step : Step) → MayCome w step → (mid : World) → Follows plan w step mid → Comes mid → Comes w
+  further w step (spares, other) mid follows more = record {
+    steps = step ∷ more.steps;
+    after = more.after;
+    runs = (spares, (mid, follows, more.runs));
+    through = more.through;
+    others = All-cons (BeginsOther plan v u pgn) step more.steps other more.others;
+  }
+
+  comes : (w : World) → IsWorldFit w → Comes w
+  comes w fit = reaches plan Comes MayCome by_step further (left_of (count_of plan) w) w fit (omega arith)
 
 pub can_arrive : (plan : Plan) → Always plan (CanArriveAnswered plan)
 can_arrive plan before w run f flow v bytes planned one several allowed other =
     let begun : World = begins (count_of plan) w f flow bytes in
     let fit : IsWorldFit begun = begin_fits plan w (worlds_fit plan before w run) f bytes (Some flow) planned allowed begun refl in
-    let run_on : Comes plan flow.sender v flow.pgn begun = comes plan flow.sender v flow.pgn (left_of (count_of plan) begun) begun fit (omega arith) in (
+    let run_on : Comes plan flow.sender v flow.pgn begun = comes plan flow.sender v flow.pgn begun fit in (
       record {
         place = f;
         flow = flow;

@@ -28,7 +28,8 @@ use Rattle.j39_world.specs.TransferSteps.{alone_report, outgoing_hears, session_
 use Rattle.j39_world.specs.TransferSteps.{receiver_replies, sender_replies, flow_in, report, hearing, Reports, packet_taken, TakenFrom}
 use Rattle.j39_world.specs.World.{World, changed, changed_pair}
 use Rattle.j39_laws.proofs.Reports.Reporting.{reported_beside, reported_elsewhere}
-use Rattle.j39_laws.proofs.Runs.Changed.{IsElsewhere, changed_here, changed_elsewhere, changed_each, pair_here, pair_elsewhere, pair_each, pair_here_or_elsewhere}
+use Rattle.j39_laws.proofs.Runs.Changed.{IsElsewhere, changed_here, changed_elsewhere, changed_each, pair_here, pair_elsewhere, pair_each}
+use Rattle.j39_laws.proofs.Runs.Changed.{pair_here_or_elsewhere}
 use Rattle.j39_laws.proofs.Runs.Elements.{all_map, all_weaker}
 use Rattle.j39_laws.proofs.Transfers.Answered as answered
 use Rattle.j39_laws.proofs.Transfers.Answered.{says_beside, answers_beside, after_other, GrownBy, not_grown, at_stage}

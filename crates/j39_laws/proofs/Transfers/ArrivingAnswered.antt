@@ -22,7 +22,8 @@ use Rattle.j39_world.proofs.Refusals.{none_hold}
 use Rattle.j39_world.specs.declared.step_error.StepError.{StepError}
 use Rattle.j39_world.specs.declared.wired.Wired.{Wired}
 use Rattle.j39_world.specs.declared.wired.Wired.TheVariants as wired
-use Rattle.j39_world.specs.Arriving.{SparesBetween, SparingRun, IsThroughBetween, Answered, SendsOther, BeginsOther, IsAlone, HasArrivedAnswered, ArrivesAnswered}
+use Rattle.j39_world.specs.Arriving.{SparesBetween, SparingRun, IsThroughBetween, Answered, SendsOther, BeginsOther, IsAlone, HasArrivedAnswered}
+use Rattle.j39_world.specs.Arriving.{ArrivesAnswered}
 use Rattle.j39_claim.specs.declared.item.Item.{Item}
 use Rattle.j39_world.specs.ClaimSteps.{GivenFrom, asked, heard_and_answered, switched_on}
 use Rattle.j39_network.specs.PlannedUnits.{units_of}
@@ -234,7 +235,8 @@ module _ (plan : Plan) (w : World) (kept : IsKeptNamed plan w) (m : Answered pla
       ∙ ap (λ (to : To). sender.begun (dest_of to) (length m.bytes)) m.one
 
   item_is : first_item m.flow m.bytes ≡ wired.Packet (Rts (length m.bytes) 255 m.flow.pgn)
-  item_is = cond-false (is_short (length m.bytes)) (wired.Short m.bytes) (wired.Packet (sender.announcement (dest_of m.flow.to) m.flow.pgn (length m.bytes))) m.several
+  item_is =
+      cond-false (is_short (length m.bytes)) (wired.Short m.bytes) (wired.Packet (sender.announcement (dest_of m.flow.to) m.flow.pgn (length m.bytes))) m.several
       ∙ ap (λ (to : To). wired.Packet (sender.announcement (dest_of to) m.flow.pgn (length m.bytes))) m.one
 
   none_before : IsIdle (pair_of w u v)
@@ -276,7 +278,8 @@ module _ (plan : Plan) (w : World) (kept : IsKeptNamed plan w) (m : Answered pla
   begun_answering = record {
     stage = message.stage;
     session = session;
-    other = subst (λ (x : Option Outgoing). SendsOther x u m.flow.pgn) (sym (changed_elsewhere w.sessions u (Some message) v (λ e. apart (sym e)))) free_of.first;
+    other =
+        subst (λ (x : Option Outgoing). SendsOther x u m.flow.pgn) (sym (changed_elsewhere w.sessions u (Some message) v (λ e. apart (sym e)))) free_of.first;
     way = begun_on_its_way;
   }
 

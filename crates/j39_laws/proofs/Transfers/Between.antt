@@ -10,7 +10,7 @@ use Rattle.j39_tp.specs.declared.packet.Packet.{Packet}
 use Rattle.j39_tp.specs.declared.packet.Packet.TheVariants.{Rts, Cts, EndAck, Dt}
 use Rattle.j39_tp.specs.declared.receiving.progress.Progress.{Progress}
 use Rattle.j39_tp.specs.declared.receiving.progress.Progress.TheVariants.{Open}
-use Rattle.j39_tp.specs.declared.receiving.reception.Kind.TheVariants.{Directed}
+use Rattle.j39_tp.specs.declared.receiving.reception.ReceptionKind.TheVariants.{Directed}
 use Rattle.j39_tp.specs.declared.receiving.reception.Reception.{Reception}
 use Rattle.j39_tp.specs.declared.sending.dest.Dest.TheVariants as dests
 use Rattle.j39_tp.specs.declared.sending.outcome.Outcome.TheVariants.{Acked}

@@ -1,5 +1,6 @@
 -- A message of several frames to one unit, between the two, as its receiver takes a packet or its sender an answer.
-use Rattle.std.proofs.Common.{◌≡◌, ◌≢◌, ℕ, zero, suc, ◌+◌, ◌-◌, ◌==◌, ◌<◌, ◌≤◌, ◌⊎◌, inl, inr, ◌&&◌, true, false, min, List, [], ◌∷◌, ◌++◌, length, refl, sym, ap, ◌∙◌, subst, arith, append-nil}
+use Rattle.std.proofs.Common.{◌≡◌, ◌≢◌, ℕ, zero, suc, ◌+◌, ◌-◌, ◌==◌, ◌<◌, ◌≤◌, ◌⊎◌, inl, inr, ◌&&◌, true, false, min, List, [], ◌∷◌, ◌++◌, length, refl, sym}
+use Rattle.std.proofs.Common.{ap, ◌∙◌, subst, arith, append-nil}
 use Rattle.std.specs.Prelude.{map, nat_le}
 use Rattle.std.proofs.lemmas.Bool.{cases_Bool, cond_both, cond-true, cond-false, eq-eqb, ne_eqb, eqb-true, eqb-false, and_from, and_right, le-leb}
 use Rattle.j39_tp.specs.Chunks.{packets_of, chunk}
@@ -13,8 +14,8 @@ use Rattle.j39_tp.specs.declared.receiving.heard.Heard.TheVariants as heards
 use Rattle.j39_tp.specs.declared.receiving.manner.Manner.TheVariants.{Answering}
 use Rattle.j39_tp.specs.declared.receiving.progress.Progress.{Progress}
 use Rattle.j39_tp.specs.declared.receiving.progress.Progress.TheVariants.{Closed, Open, Complete}
-use Rattle.j39_tp.specs.declared.receiving.reception.Kind.{Kind}
-use Rattle.j39_tp.specs.declared.receiving.reception.Kind.TheVariants.{Directed}
+use Rattle.j39_tp.specs.declared.receiving.reception.ReceptionKind.{ReceptionKind}
+use Rattle.j39_tp.specs.declared.receiving.reception.ReceptionKind.TheVariants.{Directed}
 use Rattle.j39_tp.specs.declared.receiving.reception.Reception.{Reception}
 use Rattle.j39_tp.specs.declared.sending.dest.Dest.TheVariants as dests
 use Rattle.j39_tp.specs.declared.sending.outcome.Outcome.TheVariants.{Acked}
@@ -75,13 +76,13 @@ module _ (o : Outgoing) (before : List Begun) where
       let next : receiver.takes_data (Answering window) r number ≡ receiver.takes_next (Answering window) r = cond-true (number == r.held + 1) _ _ first in
       elim (cases_Bool (r.held + 1 == packets_of r.size)) [
         | inl last ↦ inl (
-          next ∙ (cond-true (r.held + 1 == packets_of r.size) _ _ last ∙ ap (λ (k : Kind). (Complete r.pgn, receiver.completed (Answering window) k r)) kind),
+          next ∙ (cond-true (r.held + 1 == packets_of r.size) _ _ last ∙ ap (λ (k : ReceptionKind). (Complete r.pgn, receiver.completed (Answering window) k r)) kind),
           (let e = eqb-true (r.held + 1) (packets_of r.size) last in omega (arith, e)),
         )
         | inr more ↦ inr (elim (cases_Bool (r.held + 1 == r.granted)) [
           | inl granted ↦ inl (
             next ∙ (cond-false (r.held + 1 == packets_of r.size) _ _ more ∙ (cond-true (r.held + 1 == r.granted) _ _ granted
-                ∙ ap (λ (k : Kind). receiver.going_on (Answering window) k (receiver.one_more_held r)) kind)),
+                ∙ ap (λ (k : ReceptionKind). receiver.going_on (Answering window) k (receiver.one_more_held r)) kind)),
             (λ e. eqb-false (r.held + 1) (packets_of r.size) more (omega (arith, e))),
             (let e = eqb-true (r.held + 1) r.granted granted in omega (arith, e)),
           )
@@ -322,7 +323,8 @@ module _ (o : Outgoing) (before : List Begun) where
       let none : answering ≡ [] = cc answers in
       let own : (o.pgn == o.pgn) ≡ true = eq-eqb o.pgn o.pgn refl in
       let all : (length o.bytes == length o.bytes) ≡ true = eq-eqb (length o.bytes) (length o.bytes) refl in
-      let ends : sender.stage_hears dests.One o.pgn (length o.bytes) Waiting (EndAck (length o.bytes) o.pgn) ≡ (Resting Acked, reactions.Ended) = rw (own, all) refl in
+      let ends : sender.stage_hears dests.One o.pgn (length o.bytes) Waiting (EndAck (length o.bytes) o.pgn) ≡ (Resting Acked, reactions.Ended) =
+      rw (own, all) refl in
       let heard : sender.stage_hears dests.One o.pgn (length o.bytes) stage p ≡ (Resting Acked, reactions.Ended) =
       (λ i. sender.stage_hears dests.One o.pgn (length o.bytes) (r.waits i) (is i)) ∙ ends in
       subst (λ (x : Stage × Reaction). IsAt o before x.0 coming answering pr reports × (sender_replies x.1 ≡ [])) (sym heard) (

@@ -1,5 +1,6 @@
 -- A message that no receiver answers is coming: what each step keeps of it that spares it.
-use Rattle.std.proofs.Common.{◌≡◌, ◌≢◌, ℕ, zero, suc, ◌+◌, ◌<◌, ◌≤◌, ◌⊎◌, inl, inr, true, false, ◌&&◌, eqb, List, [], ◌∷◌, ◌++◌, length, refl, sym, ap, ◌∙◌, subst, arith}
+use Rattle.std.proofs.Common.{◌≡◌, ◌≢◌, ℕ, zero, suc, ◌+◌, ◌<◌, ◌≤◌, ◌⊎◌, inl, inr, true, false, ◌&&◌, eqb, List, [], ◌∷◌, ◌++◌, length, refl, sym, ap, ◌∙◌}
+use Rattle.std.proofs.Common.{subst, arith}
 use Rattle.std.proofs.Common.{append-nil, Option, Some, None}
 use Rattle.std.specs.Prelude.{nat_lt}
 use Rattle.std.specs.List.{AllByRecursion, filter}
@@ -125,10 +126,12 @@ added_elsewhere wire s targets item x y other =
 
 pub resting_hears : (dest : Dest) (own size : ℕ) (outcome : Outcome) (p : Packet) → (sender.stage_hears dest own size (Resting outcome) p).0 ≡ Resting outcome
 resting_hears dests.All own size outcome p = refl
-resting_hears dests.One own size outcome (Cts count first pgn) = cond_both (eqb pgn own) _ _ (λ (x : Stage × Reaction). x.0 ≡ Resting outcome) (λ _. refl) (λ _. refl)
+resting_hears dests.One own size outcome (Cts count first pgn) =
+    cond_both (eqb pgn own) _ _ (λ (x : Stage × Reaction). x.0 ≡ Resting outcome) (λ _. refl) (λ _. refl)
 resting_hears dests.One own size outcome (EndAck received pgn) =
     cond_both (eqb pgn own && eqb received size) _ _ (λ (x : Stage × Reaction). x.0 ≡ Resting outcome) (λ _. refl) (λ _. refl)
-resting_hears dests.One own size outcome (Abort reason pgn) = cond_both (eqb pgn own) _ _ (λ (x : Stage × Reaction). x.0 ≡ Resting outcome) (λ _. refl) (λ _. refl)
+resting_hears dests.One own size outcome (Abort reason pgn) =
+    cond_both (eqb pgn own) _ _ (λ (x : Stage × Reaction). x.0 ≡ Resting outcome) (λ _. refl) (λ _. refl)
 resting_hears dests.One own size outcome (Rts announced limit pgn) = refl
 resting_hears dests.One own size outcome (Bam announced pgn) = refl
 resting_hears dests.One own size outcome (Dt number seven) = refl

@@ -31,7 +31,8 @@ use Rattle.j39_laws.proofs.Runs.Changed.{IsElsewhere, changed_here, changed_else
 use Rattle.j39_laws.proofs.Runs.Elements.{all-append}
 use Rattle.j39_laws.proofs.Transfers.FitSteps.{receiver_answers}
 use Rattle.j39_laws.proofs.Transfers.Flights.{is_whole, IsItem, InFlight, sent_most, HasTaken, IsUnderWay, grown_under_way, short_heard, HearsOn, packet_heard}
-use Rattle.j39_laws.proofs.Transfers.Coming.{reports_beside, answers_grow, reports_nothing, none_apart, reports_apart, message_reported, at_stage, IsComing, stage_kept}
+use Rattle.j39_laws.proofs.Transfers.Coming.{reports_beside, answers_grow, reports_nothing, none_apart, reports_apart, message_reported, at_stage, IsComing}
+use Rattle.j39_laws.proofs.Transfers.Coming.{stage_kept}
 
 -- no item of the message is an answer, or was sent alone
 abbrev IsBeside : Wired → Type 0

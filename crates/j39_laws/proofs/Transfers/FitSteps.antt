@@ -1,6 +1,7 @@
 -- In every world of every run what is on the wire fits, no message is longer than one can be, and each receiver has gathered what
 -- it took.
-use Rattle.std.proofs.Common.{◌≡◌, ℕ, zero, suc, ◌≤◌, ◌&&◌, eqb, nat_le, List, [], ◌∷◌, ◌++◌, length, refl, sym, subst, subst₂, arith, inl, inr, Option, Some, None}
+use Rattle.std.proofs.Common.{◌≡◌, ℕ, zero, suc, ◌≤◌, ◌&&◌, eqb, nat_le, List, [], ◌∷◌, ◌++◌, length, refl, sym, subst, subst₂, arith, inl, inr, Option, Some}
+use Rattle.std.proofs.Common.{None}
 use Rattle.std.specs.Prelude.{map, slice_get}
 use Rattle.std.specs.List.{AllByRecursion}
 use Rattle.std.specs.Option.{option_map_or}
@@ -30,7 +31,8 @@ use Rattle.j39_network.specs.PlannedUnits.{units_of}
 use Rattle.j39_world.specs.Run.{count_of, begin_refusal, begin_refusals}
 use Rattle.j39_world.specs.SoundPlan.{Always}
 use Rattle.j39_world.specs.Transfers.{Outgoing, Reported, Sessions, Wire, Receivers, is_among, added, closed_if_complete}
-use Rattle.j39_world.specs.TransferSteps.{targets_of, outgoing, first_item, BeginsAt, SendsAt, session_after, reaction_of, receiver_replies, sender_replies, hearing}
+use Rattle.j39_world.specs.TransferSteps.{targets_of, outgoing, first_item, BeginsAt, SendsAt, session_after, reaction_of, receiver_replies, sender_replies}
+use Rattle.j39_world.specs.TransferSteps.{hearing}
 use Rattle.j39_world.specs.TransferSteps.{packet_taken, TakenFrom, LostFrom, packets_in, receiver_timed_out, sent_to_receivers}
 use Rattle.j39_world.specs.SwitchingOff.{is_either, session_without, switched_off}
 use Rattle.j39_world.specs.World.{World, all_off, changed, changed_pair}
@@ -40,7 +42,8 @@ use Rattle.j39_laws.proofs.Runs.Elements.{all-append, all_map}
 use Rattle.j39_laws.proofs.Runs.SwitchedOff.{lists_left, sessions_each}
 use Rattle.j39_laws.proofs.Reports.ExchangeSteps.{asides_answer}
 use Rattle.j39_laws.proofs.Reports.Hearings.{replies_aside, replies_answer, packets_aside, reaction_aside}
-use Rattle.j39_laws.proofs.Transfers.Fitting.{IsFit, answer_fit, announcement_fit, data_fit, timeout_fit, IsWithin, hears_within, timed_out_within, closed_within}
+use Rattle.j39_laws.proofs.Transfers.Fitting.{IsFit, answer_fit, announcement_fit, data_fit, timeout_fit, IsWithin, hears_within, timed_out_within}
+use Rattle.j39_laws.proofs.Transfers.Fitting.{closed_within}
 use Rattle.j39_laws.proofs.Transfers.Fitting.{HasGathered, hears_gathered, timed_out_gathered, closed_gathered}
 
 abbrev pub IsItemFit : Wired → Type 0
@@ -116,7 +119,8 @@ module _ (plan : Plan) (w : World) (inv : IsWorldFit w) where
   less_fits : (u v : ℕ) (item : Wired) (rest : List Wired) → w.wire u v ≡ item ∷ rest → IsWireFit (changed_pair w.wire u v rest)
   less_fits u v item rest is = pair_each (λ s t (xs : List Wired). AllByRecursion IsItemFit xs) w.wire u v rest (subst (AllByRecursion IsItemFit) is (inv.wire u v)).1 inv.wire
 
-  pub begin_fits : (f : ℕ) (bytes : List ℕ) (o : Option Flow) → slice_get (flows_of plan) f ≡ o → begin_refusal plan.live (count_of plan) w o bytes ≡ None → (new : World)
+  pub begin_fits : (f : ℕ) (bytes : List ℕ) (o : Option Flow) → slice_get (flows_of plan) f ≡ o → begin_refusal plan.live (count_of plan) w o bytes ≡ None
+      → (new : World)
       → BeginsAt (count_of plan) w f o bytes new → IsWorldFit new
   begin_fits f bytes None is allowed new never = absurd never
   begin_fits f bytes (Some flow) is allowed new e =
@@ -165,7 +169,8 @@ module _ (plan : Plan) (w : World) (inv : IsWorldFit w) where
         wire = replied_fits (changed_pair w.wire u v rest) (less_fits u v (wired.Packet p) rest is) v u (receiver_replies heard.1 ++ reacted)
             (all-append IsAnswer (receiver_replies heard.1) reacted (receiver_answers window (w.receivers v u) p)
             (asides_answer reacted (reaction_aside (w.sessions v) u p)));
-        messages = changed_each (λ _ x. IsMessageFit x) w.sessions v (session_after (w.sessions v) u p) (after_fits (w.sessions v) u p (inv.messages v)) inv.messages;
+        messages =
+            changed_each (λ _ x. IsMessageFit x) w.sessions v (session_after (w.sessions v) u p) (after_fits (w.sessions v) u p (inv.messages v)) inv.messages;
         within = pair_each (λ y x (pr : Progress). IsWithin pr) w.receivers v u (closed_if_complete heard.0)
             (closed_within heard.0 (hears_within window (w.receivers v u) p fit (inv.within v u))) inv.within;
         gathered = pair_here_or_elsewhere
@@ -215,7 +220,8 @@ module _ (plan : Plan) (w : World) (inv : IsWorldFit w) where
             (closed_gathered (w.taken v u) late.0 (timed_out_gathered (w.taken v u) window (w.receivers v u) (inv.gathered v u))) inv.gathered;
       }
 
-  switched_fits : (u : ℕ) (new : World) → new.wire ≡ without_lists_to u w.wire → new.sessions ≡ w.sessions → new.receivers ≡ w.receivers → new.taken ≡ w.taken → IsWorldFit new
+  switched_fits : (u : ℕ) (new : World) → new.wire ≡ without_lists_to u w.wire → new.sessions ≡ w.sessions → new.receivers ≡ w.receivers → new.taken ≡ w.taken
+      → IsWorldFit new
   switched_fits u new wire sessions receivers taken = record {
     wire = subst IsWireFit (sym wire) (dropped u w.wire inv.wire);
     messages = subst (λ (x : Sessions). (y : ℕ) → IsMessageFit (x y)) (sym sessions) inv.messages;

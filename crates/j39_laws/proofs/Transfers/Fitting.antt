@@ -20,8 +20,8 @@ use Rattle.j39_tp.specs.declared.receiving.heard.Heard.{Heard}
 use Rattle.j39_tp.specs.declared.receiving.manner.Manner.TheVariants.{Answering}
 use Rattle.j39_tp.specs.declared.receiving.progress.Progress.{Progress}
 use Rattle.j39_tp.specs.declared.receiving.progress.Progress.TheVariants.{Closed, Open, Complete}
-use Rattle.j39_tp.specs.declared.receiving.reception.Kind.{Kind}
-use Rattle.j39_tp.specs.declared.receiving.reception.Kind.TheVariants.{Broadcast, Directed}
+use Rattle.j39_tp.specs.declared.receiving.reception.ReceptionKind.{ReceptionKind}
+use Rattle.j39_tp.specs.declared.receiving.reception.ReceptionKind.TheVariants.{Broadcast, Directed}
 use Rattle.j39_tp.specs.declared.receiving.reception.Reception.{Reception}
 use Rattle.j39_tp.specs.declared.sending.dest.Dest.{Dest}
 use Rattle.j39_tp.specs.declared.sending.dest.Dest.TheVariants as dests
@@ -101,7 +101,7 @@ hears_within window pr p fit less = hears_by window pr p (λ x. IsWithin x.0) (r
         let other = eqb-false (r.held + 1) (packets_of r.size) more in
         omega (arith, before, other)
 
-times_within : (window : ℕ) (kind : Kind) (r : Reception) → r.held < packets_of r.size → IsWithin (receiver.times_out (Answering window) kind r).0
+times_within : (window : ℕ) (kind : ReceptionKind) (r : Reception) → r.held < packets_of r.size → IsWithin (receiver.times_out (Answering window) kind r).0
 times_within window Directed r less = asks_within window 3 r less
 times_within window Broadcast r less = tt
 
@@ -130,7 +130,7 @@ module _ (h : List Packet) (p : Packet) where
 
   -- it is no data packet, and leaves the session open
   module _ (data_free : (number : ℕ) (seven : List ℕ) → p ≡ Dt number seven → ⊥) where
-    reaches_beside : (kind : Kind) (start k place : ℕ) (chunks : List ℕ) → Reaches h kind start k place chunks → Reaches (h ++ p ∷ []) kind start k place chunks
+    reaches_beside : (kind : ReceptionKind) (start k place : ℕ) (chunks : List ℕ) → Reaches h kind start k place chunks → Reaches (h ++ p ∷ []) kind start k place chunks
     reaches_beside kind start zero place chunks r = r
     reaches_beside kind start (suc k) place chunks r = (
       r.0,
@@ -143,12 +143,12 @@ module _ (h : List Packet) (p : Packet) where
       r.7,
     )
 
-    awaits_beside : (kind : Kind) (k from : ℕ) → Awaits h kind k from (length h) → Awaits (h ++ p ∷ []) kind k from (length (h ++ p ∷ []))
+    awaits_beside : (kind : ReceptionKind) (k from : ℕ) → Awaits h kind k from (length h) → Awaits (h ++ p ∷ []) kind k from (length (h ++ p ∷ []))
     awaits_beside kind k from old = λ j number seven lo hi is.
         let was = before_unless (Dt number seven) j (data_free number seven) is in
         old j number seven lo (slice_get_within h j (Dt number seven) was) was
 
-    undisturbed_beside : (kind : Kind) (pgn from : ℕ) → Leaves kind pgn p → IsUndisturbed h kind pgn from (length h)
+    undisturbed_beside : (kind : ReceptionKind) (pgn from : ℕ) → Leaves kind pgn p → IsUndisturbed h kind pgn from (length h)
         → IsUndisturbed (h ++ p ∷ []) kind pgn from (length (h ++ p ∷ []))
     undisturbed_beside kind pgn from leaves old = λ j q lo hi is. elim (last_or_before h q j is) [
       | inl was ↦ old j q lo (slice_get_within h j q was) was
@@ -171,7 +171,7 @@ module _ (h : List Packet) (p : Packet) where
     }
 
   -- it announces a session
-  gathered_announced : (kind : Kind) (pgn size limit granted : ℕ) → Announces p kind pgn size → IsSize size
+  gathered_announced : (kind : ReceptionKind) (pgn size limit granted : ℕ) → Announces p kind pgn size → IsSize size
       → Gathered (h ++ p ∷ []) (record (opened kind pgn size limit) { granted = granted }) []
   gathered_announced kind pgn size limit granted announces fits =
       let ends : length (h ++ p ∷ []) ≡ length h + 1 = length-append h (p ∷ []) in
@@ -196,7 +196,7 @@ HasGathered h pr = (bytes : List ℕ) × Gathers h pr bytes
 abbrev standing : ℕ → Progress → List ℕ → Receiving
 standing window pr bytes = record { manner = Answering window; progress = pr; bytes = bytes }
 
-abort_leaves : (kind : Kind) (own reason named : ℕ) → (is_directed kind && named == own) ≡ false → Leaves kind own (Abort reason named)
+abort_leaves : (kind : ReceptionKind) (own reason named : ℕ) → (is_directed kind && named == own) ≡ false → Leaves kind own (Abort reason named)
 abort_leaves Directed own reason named other = eqb-false named own other
 abort_leaves Broadcast own reason named other = tt
 

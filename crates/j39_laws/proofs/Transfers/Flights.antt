@@ -1,5 +1,6 @@
 -- A message that no receiver answers, between its sender and a receiver: what of it is on the wire, in order, and what was taken.
-use Rattle.std.proofs.Common.{◌≡◌, ◌≢◌, ℕ, zero, suc, ◌+◌, ◌==◌, ◌<◌, ◌≤◌, ◌⊎◌, inl, inr, Bool, true, false, cond, List, [], ◌∷◌, ◌++◌, length, refl, sym, ap, ◌∙◌, subst, arith}
+use Rattle.std.proofs.Common.{◌≡◌, ◌≢◌, ℕ, zero, suc, ◌+◌, ◌==◌, ◌<◌, ◌≤◌, ◌⊎◌, inl, inr, Bool, true, false, cond, List, [], ◌∷◌, ◌++◌, length, refl, sym, ap}
+use Rattle.std.proofs.Common.{◌∙◌, subst, arith}
 use Rattle.std.specs.List.{AllByRecursion}
 use Rattle.std.proofs.lemmas.Bool.{cases_Bool, cond-true, cond-false, eq-eqb, eqb-true, eqb-false, leb-false}
 use Rattle.j39_tp.specs.Chunks.{packets_of}
@@ -12,8 +13,8 @@ use Rattle.j39_tp.specs.declared.receiving.heard.Heard.TheVariants as heards
 use Rattle.j39_tp.specs.declared.receiving.manner.Manner.TheVariants.{Answering}
 use Rattle.j39_tp.specs.declared.receiving.progress.Progress.{Progress}
 use Rattle.j39_tp.specs.declared.receiving.progress.Progress.TheVariants.{Open, Complete}
-use Rattle.j39_tp.specs.declared.receiving.reception.Kind.{Kind}
-use Rattle.j39_tp.specs.declared.receiving.reception.Kind.TheVariants.{Broadcast}
+use Rattle.j39_tp.specs.declared.receiving.reception.ReceptionKind.{ReceptionKind}
+use Rattle.j39_tp.specs.declared.receiving.reception.ReceptionKind.TheVariants.{Broadcast}
 use Rattle.j39_tp.specs.declared.receiving.reception.Reception.{Reception}
 use Rattle.j39_tp.specs.declared.sending.outcome.Outcome.TheVariants.{Sent}
 use Rattle.j39_tp.specs.declared.sending.stage.Stage.{Stage}
@@ -186,7 +187,7 @@ next_heard window r number kind is =
     let next : receiver.takes_data (Answering window) r number ≡ receiver.takes_next (Answering window) r = cond-true (number == r.held + 1) _ _ first in
     elim (cases_Bool (r.held + 1 == packets_of r.size)) [
       | inl last ↦ inr (
-        next ∙ (cond-true (r.held + 1 == packets_of r.size) _ _ last ∙ ap (λ (k : Kind). (Complete r.pgn, receiver.completed (Answering window) k r)) kind),
+        next ∙ (cond-true (r.held + 1 == packets_of r.size) _ _ last ∙ ap (λ (k : ReceptionKind). (Complete r.pgn, receiver.completed (Answering window) k r)) kind),
         (let e = eqb-true (r.held + 1) (packets_of r.size) last in omega (arith, e)),
       )
       | inr more ↦ inl (
@@ -196,7 +197,7 @@ next_heard window r number kind is =
     ]
   where
     going : receiver.going_on (Answering window) r.kind (receiver.one_more_held r) ≡ (Open (receiver.one_more_held r), heards.Nothing)
-    going = ap (λ (k : Kind). receiver.going_on (Answering window) k (receiver.one_more_held r)) kind
+    going = ap (λ (k : ReceptionKind). receiver.going_on (Answering window) k (receiver.one_more_held r)) kind
 
     held : (b : Bool) → cond b (receiver.going_on (Answering window) r.kind (receiver.one_more_held r)) (Open (receiver.one_more_held r), heards.Nothing)
         ≡ (Open (receiver.one_more_held r), heards.Nothing)

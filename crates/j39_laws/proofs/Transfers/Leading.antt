@@ -26,7 +26,8 @@ use Rattle.j39_network.specs.PlannedUnits.{units_of, unit_at}
 use Rattle.j39_world.specs.Run.{count_of, begin_refusal, send_refusal, can_emit, is_waiting, is_waiting_at, is_empty}
 use Rattle.j39_world.specs.SoundPlan.{Always}
 use Rattle.j39_world.specs.Transfers.{Outgoing, Reported}
-use Rattle.j39_world.specs.TransferSteps.{BeginsAt, begins, SendsAt, sends_alone, Emits, SenderTimesOut, hearing, report, ReportsOne, Reports, TakenFrom, LostFrom}
+use Rattle.j39_world.specs.TransferSteps.{BeginsAt, begins, SendsAt, sends_alone, Emits, SenderTimesOut, hearing, report, ReportsOne, Reports, TakenFrom}
+use Rattle.j39_world.specs.TransferSteps.{LostFrom}
 use Rattle.j39_world.specs.TransferSteps.{packet_taken}
 use Rattle.j39_world.specs.World.{World}
 use Rattle.j39_laws.proofs.Runs.Conditions.{none_refuses}

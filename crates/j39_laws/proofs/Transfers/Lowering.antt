@@ -23,7 +23,8 @@ use Rattle.j39_world.specs.Flows.{windows_of, window_at, dest_of}
 use Rattle.j39_world.specs.Resting.{is_over_with}
 use Rattle.j39_world.specs.Run.{count_of, refusal, StepsTo}
 use Rattle.j39_world.specs.Transfers.{Outgoing, Reported, Sessions, Wire, Receivers, is_among, added, closed_if_complete, outcome_in}
-use Rattle.j39_world.specs.TransferSteps.{sent_to_receivers, outgoing_hears, session_after, reaction_of, receiver_replies, sender_replies, hearing, packet_taken}
+use Rattle.j39_world.specs.TransferSteps.{sent_to_receivers, outgoing_hears, session_after, reaction_of, receiver_replies, sender_replies, hearing}
+use Rattle.j39_world.specs.TransferSteps.{packet_taken}
 use Rattle.j39_world.specs.TransferSteps.{TakenFrom, LostFrom, packets_in, receiver_timed_out, rested}
 use Rattle.j39_world.specs.World.{World, changed, changed_pair}
 use Rattle.j39_laws.proofs.Runs.Conditions.{is_unit, none_refuses, units_known}
@@ -80,7 +81,8 @@ module _ (plan : Plan) (w : World) (inv : IsWorldFit w) where
   abbrev sends : (u : ℕ) (s : Outgoing) (stage : Stage) (p : Packet) → World
   sends u s stage p = record (sent_to_receivers w u s p) { sessions = changed w.sessions u (Some (record s { stage = stage })) }
 
-  sent_measure : (u : ℕ) (targets : List ℕ) (item : Wired) → u < n → wire_measure n (added w.wire u targets item) ≤ wire_measure n w.wire + n * item_weight n item
+  sent_measure : (u : ℕ) (targets : List ℕ) (item : Wired) → u < n
+      → wire_measure n (added w.wire u targets item) ≤ wire_measure n w.wire + n * item_weight n item
   sent_measure u targets item in_u = pairs_row n (λ s t. list_weight n (added w.wire u targets item s t)) (λ s t. list_weight n (w.wire s t)) u (item_weight n item) in_u
       (λ s t other. let e : eqb s u ≡ false = ne_eqb s u other in rw e refl)
       (λ t. cond_both (eqb u u && is_among targets t) (w.wire u t ++ item ∷ []) (w.wire u t)
@@ -145,7 +147,8 @@ module _ (plan : Plan) (w : World) (inv : IsWorldFit w) where
   abbrev Lowers : World → Type 0
   Lowers new = left_of n new < left_of n w
 
-  take_lowers : (windows : List ℕ) (u v : ℕ) → u < n → v < n → (list : List Wired) → w.wire u v ≡ list → (new : World) → TakenFrom windows w u v list new → Lowers new
+  take_lowers : (windows : List ℕ) (u v : ℕ) → u < n → v < n → (list : List Wired) → w.wire u v ≡ list → (new : World) → TakenFrom windows w u v list new
+      → Lowers new
   take_lowers windows u v in_u in_v [] is new never = absurd never
   take_lowers windows u v in_u in_v (wired.Short bytes ∷ rest) is new e =
       subst Lowers (sym e) (item_lowers u v (wired.Short bytes) rest in_u in_v is _ refl refl refl)

@@ -1,9 +1,11 @@
 -- In every world of every run each RTS and each Abort that is undelivered names the group of a message that is still sent to one unit,
 -- between the two, and so does each receiver that is open for such a message.
-use Rattle.std.proofs.Common.{◌≡◌, ◌≢◌, ℕ, ◌⊎◌, inl, inr, true, false, not, ◌&&◌, eqb, List, [], ◌∷◌, ◌++◌, length, refl, sym, ap, ◌∙◌, subst, Option, Some, None}
+use Rattle.std.proofs.Common.{◌≡◌, ◌≢◌, ℕ, ◌⊎◌, inl, inr, true, false, not, ◌&&◌, eqb, List, [], ◌∷◌, ◌++◌, length, refl, sym, ap, ◌∙◌, subst, Option, Some}
+use Rattle.std.proofs.Common.{None}
 use Rattle.std.specs.Prelude.{map, nat_lt, slice_get}
 use Rattle.std.specs.List.{AllByRecursion}
 use Rattle.std.proofs.lemmas.Bool.{and_parts, cases_eq, cond_both, eqb-false, eqb-true, not-false, or_parts, true≢false}
+use Rattle.std.proofs.lemmas.List.{map-append}
 use Rattle.j39_tp.specs.Receiver as receiver
 use Rattle.j39_tp.specs.Receiver.{is_open_at}
 use Rattle.j39_tp.specs.Sender as sender
@@ -344,7 +346,7 @@ module _ (plan : Plan) (w : World) (kept : IsKept plan w) (old : AllNamed w) whe
       (all_weaker (SaysTo (w.sessions v) u) (IsNamed w.sessions v u) (says_named w.sessions v u) (map wired.Packet reacted)
       (says_replies plan v (w.sessions v) (kept.transfers.order.planned v) u p)) in
       let all : AllByRecursion (IsNamed sessions v u) (map wired.Packet (replies ++ reacted)) =
-      subst (AllByRecursion (IsNamed sessions v u)) (sym (map-append replies reacted))
+      subst (AllByRecursion (IsNamed sessions v u)) (sym (map-append wired.Packet replies reacted))
       (all-append (IsNamed sessions v u) (map wired.Packet replies) (map wired.Packet reacted) answered also) in
       let opened : (pgn : ℕ) → IsOpenFor (closed_if_complete (hearing windows w u v p).0) pgn → IsTo (w.sessions u) v pgn =
       λ pgn at. elim (hears_open window pr p pgn (closed_open (hearing windows w u v p).0 pgn at)) [
@@ -361,10 +363,6 @@ module _ (plan : Plan) (w : World) (kept : IsKept plan w) (old : AllNamed w) whe
         waits = changed_each (λ _ x. WaitsForOne x) w.sessions v then (heard_waits (w.sessions v) u p (old.waits v)) old.waits;
         ended = changed_each (λ _ x. HasEndedWithout x) w.sessions v then (heard_ended (w.sessions v) u p (old.ended v)) old.ended;
       }
-    where
-      map-append : (xs ys : List Packet) → map wired.Packet (xs ++ ys) ≡ map wired.Packet xs ++ map wired.Packet ys
-      map-append [] ys = refl
-      map-append (x ∷ xs) ys = ap (λ (zs : List Wired). wired.Packet x ∷ zs) (map-append xs ys)
 
   take_named : (windows : List ℕ) (u v : ℕ) (list : List Wired) → w.wire u v ≡ list → (new : World) → TakenFrom windows w u v list new → AllNamed new
   take_named windows u v [] is new never = absurd never

@@ -12,8 +12,8 @@ use Rattle.j39_tp.specs.declared.receiving.heard.Heard.{Heard}
 use Rattle.j39_tp.specs.declared.receiving.manner.Manner.TheVariants.{Answering}
 use Rattle.j39_tp.specs.declared.receiving.progress.Progress.{Progress}
 use Rattle.j39_tp.specs.declared.receiving.progress.Progress.TheVariants.{Closed, Open, Complete}
-use Rattle.j39_tp.specs.declared.receiving.reception.Kind.{Kind}
-use Rattle.j39_tp.specs.declared.receiving.reception.Kind.TheVariants.{Broadcast, Directed}
+use Rattle.j39_tp.specs.declared.receiving.reception.ReceptionKind.{ReceptionKind}
+use Rattle.j39_tp.specs.declared.receiving.reception.ReceptionKind.TheVariants.{Broadcast, Directed}
 use Rattle.j39_tp.specs.declared.receiving.reception.Reception.{Reception}
 use Rattle.j39_tp.specs.declared.sending.dest.Dest.{Dest}
 use Rattle.j39_tp.specs.declared.sending.dest.Dest.TheVariants as dests
@@ -53,7 +53,7 @@ AnswersAt pr _ = ⊥
 abbrev RepliesAt : Progress → Progress × Heard → Type 0
 RepliesAt pr x = AllByRecursion (AnswersAt pr) (receiver_replies x.1)
 
-completed_answers : (pr : Progress) (window : ℕ) (kind : Kind) (r : Reception)
+completed_answers : (pr : Progress) (window : ℕ) (kind : ReceptionKind) (r : Reception)
     → AllByRecursion (AnswersAt pr) (receiver_replies (receiver.completed (Answering window) kind r))
 completed_answers pr window Broadcast r = tt
 completed_answers pr window Directed r = (tt, tt)
@@ -76,7 +76,7 @@ hears_answers window pr p = hears_by window pr p (RepliesAt pr) (record {
   closed = λ r at. tt;
 })
 
-times_out_answers : (window : ℕ) (kind : Kind) (r : Reception) → r.kind ≡ kind
+times_out_answers : (window : ℕ) (kind : ReceptionKind) (r : Reception) → r.kind ≡ kind
     → AllByRecursion (AnswersAt (Open r)) (packets_in (receiver.times_out (Answering window) kind r).1)
 times_out_answers window Broadcast r is = tt
 times_out_answers window Directed r is = (asks_answers window 3 r is, tt)
@@ -114,7 +114,7 @@ hears_open window pr p pgn = hears_by window pr p (λ x. IsOpenFor x.0 pgn → I
   closed = λ r at never. absurd never;
 })
 
-times_out_open : (window : ℕ) (kind : Kind) (r : Reception) → OpensFor (Open r) (receiver.times_out (Answering window) kind r).0
+times_out_open : (window : ℕ) (kind : ReceptionKind) (r : Reception) → OpensFor (Open r) (receiver.times_out (Answering window) kind r).0
 times_out_open window Broadcast r = λ pgn never. absurd never
 times_out_open window Directed r = asks_open window 3 r
 

@@ -153,7 +153,8 @@ steps_keep plan w old (Emit u) allowed new (s, p, session, next, e) = subst (Are
 steps_keep plan w old (Take u v) allowed new leads = taken plan w old (windows_of plan) u v (w.wire u v) refl new leads
 steps_keep plan w old (Lose u v) allowed new leads = lost plan w old u v (w.wire u v) refl new leads
 steps_keep plan w old (LateSender u) allowed new (s, p, session, packet, e) = subst (AreOfFlows plan) (sym e) (record {
-  sessions = changed_each (IsOfFlow plan) w.sessions u (Some (record s { stage = sender.after_timeout s.stage })) (of_session plan w old u s session) old.sessions;
+  sessions =
+      changed_each (IsOfFlow plan) w.sessions u (Some (record s { stage = sender.after_timeout s.stage })) (of_session plan w old u s session) old.sessions;
   wire = sent plan w old u s.targets (wired.Packet p) (λ t _. tt);
 })
 steps_keep plan w old (LateReceiver u v) allowed new e = subst (AreOfFlows plan) (sym e) (record {

@@ -1,5 +1,6 @@
 -- In each world of a run a frame that a unit sends alone is reported by each receiver that doesn't lose it; and each such frame can be.
-use Rattle.std.proofs.Common.{◌≡◌, ◌≢◌, ℕ, zero, suc, ◌+◌, ◌≤◌, true, ◌&&◌, eqb, List, [], ◌∷◌, ◌++◌, length, inl, inr, ◌⊎◌, refl, sym, ap, ◌∙◌, subst, append-nil, arith, Option, Some, None}
+use Rattle.std.proofs.Common.{◌≡◌, ◌≢◌, ℕ, ◌+◌, true, ◌&&◌, eqb, List, [], ◌∷◌, ◌++◌, length, inl, inr, ◌⊎◌, refl, sym, ap, ◌∙◌, subst, append-nil, arith}
+use Rattle.std.proofs.Common.{Option, Some, None}
 use Rattle.std.specs.Bool.{MatchBool}
 use Rattle.std.specs.Option.{is_some}
 use Rattle.std.proofs.lemmas.Bool.{and_from, cond-true, eq-eqb}
@@ -10,8 +11,10 @@ use Rattle.j39_network.specs.declared.steps.Step.TheVariants.{Up, Down, Give, As
 use Rattle.j39_world.specs.declared.step_error.StepError.{StepError}
 use Rattle.j39_world.specs.declared.wired.Wired.{Wired}
 use Rattle.j39_world.specs.declared.wired.Wired.TheVariants as wired
+use Rattle.j39_world.specs.Ending.{IsOfTransfers}
 use Rattle.j39_world.specs.Run.{Follows, StepsTo, count_of, refusal}
-use Rattle.j39_world.specs.SentArriving.{HasArrivedAlone, IsNextAlone, RunSparingAlone, SentAlone, SentFramesArrive, SentFramesCanArrive, SparesAlone, is_oldest_alone, lying_alone}
+use Rattle.j39_world.specs.SentArriving.{HasArrivedAlone, IsNextAlone, RunSparingAlone, SentAlone, SentFramesArrive, SentFramesCanArrive, SparesAlone}
+use Rattle.j39_world.specs.SentArriving.{is_oldest_alone, lying_alone}
 use Rattle.j39_world.specs.Sound.{IsSubsequence, reported_alone}
 use Rattle.j39_world.specs.SoundPlan.{Always}
 use Rattle.j39_world.specs.Transfers.{Begun, is_among}
@@ -19,13 +22,12 @@ use Rattle.j39_world.specs.TransferSteps.{sends_alone, targets_of}
 use Rattle.j39_world.specs.World.{World}
 use Rattle.j39_laws.proofs.Reports.SentFrames.{AreDropped, AreParts, lying_more, step_parts}
 use Rattle.j39_laws.proofs.Reports.Subsequences.{subsequence_both, subsequence_front, subsequence_same, subsequence_without}
-use Rattle.j39_laws.proofs.Runs.Always.{leads_to_follows}
 use Rattle.j39_laws.proofs.Runs.Conditions.{none_refuses, not_refused}
 use Rattle.j39_laws.proofs.Transfers.AccountedSteps.{IsKept, all_kept, keeps, send_kept, untaken}
+use Rattle.j39_laws.proofs.Transfers.ByLowering.{reaches}
 use Rattle.j39_laws.proofs.Transfers.Ending.{item_ready}
-use Rattle.j39_laws.proofs.Transfers.FitSteps.{IsWorldFit, send_fits, steps_fit, worlds_fit}
-use Rattle.j39_laws.proofs.Transfers.Leading.{leads_on}
-use Rattle.j39_laws.proofs.Transfers.Lowering.{left_of, lowers}
+use Rattle.j39_laws.proofs.Transfers.FitSteps.{IsWorldFit, send_fits, worlds_fit}
+use Rattle.j39_laws.proofs.Transfers.Lowering.{left_of}
 
 -- ---- where one frame is
 
@@ -334,34 +336,30 @@ module _ (plan : Plan) (u v place : ℕ) where
     taken : refusal plan after (Take u v) ≢ None
 
   -- v can take something, or all was taken
-  by_take : (w : World) → (refusal plan w (Take u v) ≡ None → IsTaken w) → IsTaken w
+  by_take : (w : World) → ((step : Step) → IsOfTransfers step → SparesAlone plan w u v place step → refusal plan w step ≡ None → IsTaken w) → IsTaken w
   by_take w goes =
       elim (refusal plan w (Take u v)) as (λ (x : Option StepError). refusal plan w (Take u v) ≡ x → IsTaken w) [
-        | None ↦ λ none. goes none
+        | None ↦ λ none. goes (Take u v) tt tt none
         | Some e ↦ λ some. record { steps = []; after = w; runs = refl; taken = λ none. cc (some, none) }
       ] refl
 
-  all_taken : (fuel : ℕ) (w : World) → IsWorldFit w → left_of (count_of plan) w ≤ fuel → IsTaken w
-  all_taken zero w fit most = by_take w (λ allowed.
-      let (mid, leads) = leads_on plan w fit (Take u v) allowed in
-      absurd (let less = lowers plan w fit (Take u v) tt allowed mid leads in omega (arith, less, most)))
-  all_taken (suc fuel) w fit most = by_take w (λ allowed.
-      let (mid, leads) = leads_on plan w fit (Take u v) allowed in
-      let less = lowers plan w fit (Take u v) tt allowed mid leads in
-      let more : IsTaken mid = all_taken fuel mid (steps_fit plan w fit (Take u v) allowed mid leads) (omega (arith, less, most)) in
-      record {
-        steps = Take u v ∷ more.steps;
-        after = more.after;
-        runs = (tt, (mid, leads_to_follows plan w (Take u v) allowed mid leads, more.runs));
-        taken = more.taken;
-      })
+  further : (w : World) (step : Step) → SparesAlone plan w u v place step → (mid : World) → Follows plan w step mid → IsTaken mid → IsTaken w
+  further w step spares mid follows more = record {
+    steps = step ∷ more.steps;
+    after = more.after;
+    runs = (spares, (mid, follows, more.runs));
+    taken = more.taken;
+  }
+
+  all_taken : (w : World) → IsWorldFit w → IsTaken w
+  all_taken w fit = reaches plan IsTaken (λ x step. SparesAlone plan x u v place step) by_take further (left_of (count_of plan) w) w fit (omega arith)
 
 pub can_arrive_alone : (plan : Plan) → Always plan (SentFramesCanArrive plan)
 can_arrive_alone plan before w run f flow bytes v planned allowed among =
     let begun : World = sends_alone (count_of plan) w f flow bytes in
     let fit : IsWorldFit begun = send_fits plan w (worlds_fit plan before w run) f bytes (Some flow) begun refl in
     let run_on : IsTaken plan flow.sender v (length (w.sent_alone flow.sender v)) begun =
-    all_taken plan flow.sender v (length (w.sent_alone flow.sender v)) (left_of (count_of plan) begun) begun fit (omega arith) in (
+    all_taken plan flow.sender v (length (w.sent_alone flow.sender v)) begun fit in (
       record {
         place = f;
         flow = flow;

@@ -1,5 +1,5 @@
 -- From where a message that no receiver answers was begun some run spares it, and all of it is taken.
-use Rattle.std.proofs.Common.{◌≡◌, ◌≢◌, ℕ, zero, suc, ◌≤◌, true, eqb, List, [], ◌∷◌, inl, inr, refl, sym, subst, arith, Option, Some, None}
+use Rattle.std.proofs.Common.{◌≡◌, ◌≢◌, ℕ, true, eqb, List, [], ◌∷◌, inl, inr, refl, sym, subst, arith, Option, Some, None}
 use Rattle.std.proofs.lemmas.Bool.{eqb-true, or_cases}
 use Rattle.j39_network.specs.declared.plan.Plan.{Plan}
 use Rattle.j39_network.specs.declared.steps.Step.{Step}
@@ -7,15 +7,14 @@ use Rattle.j39_network.specs.declared.steps.Step.TheVariants.{Emit, Take}
 use Rattle.j39_world.specs.declared.step_error.StepError.{StepError}
 use Rattle.j39_world.specs.Arriving.{CanArriveUnanswered, IsThrough, RunSparing, Spares}
 use Rattle.j39_world.specs.Ending.{IsOfTransfers}
-use Rattle.j39_world.specs.Run.{count_of, refusal}
+use Rattle.j39_world.specs.Run.{Follows, count_of, refusal}
 use Rattle.j39_world.specs.SoundPlan.{Always}
 use Rattle.j39_world.specs.Transfers.{is_among}
 use Rattle.j39_world.specs.TransferSteps.{begins, outgoing}
 use Rattle.j39_world.specs.World.{World}
-use Rattle.j39_laws.proofs.Runs.Always.{leads_to_follows}
-use Rattle.j39_laws.proofs.Transfers.FitSteps.{IsWorldFit, begin_fits, steps_fit, worlds_fit}
-use Rattle.j39_laws.proofs.Transfers.Leading.{leads_on}
-use Rattle.j39_laws.proofs.Transfers.Lowering.{left_of, lowers}
+use Rattle.j39_laws.proofs.Transfers.ByLowering.{reaches}
+use Rattle.j39_laws.proofs.Transfers.FitSteps.{IsWorldFit, begin_fits, worlds_fit}
+use Rattle.j39_laws.proofs.Transfers.Lowering.{left_of}
 
 module _ (plan : Plan) (u : ℕ) (targets : List ℕ) where
   -- a run from here
@@ -55,25 +54,21 @@ module _ (plan : Plan) (u : ℕ) (targets : List ℕ) where
         })
       ] refl
 
-  comes : (fuel : ℕ) (w : World) → IsWorldFit w → left_of (count_of plan) w ≤ fuel → Comes w
-  comes zero w fit most = by_step w (λ step of spares allowed.
-      let (mid, leads) = leads_on plan w fit step allowed in
-      absurd (let less = lowers plan w fit step of allowed mid leads in omega (arith, less, most)))
-  comes (suc fuel) w fit most = by_step w (λ step of spares allowed.
-      let (mid, leads) = leads_on plan w fit step allowed in
-      let less = lowers plan w fit step of allowed mid leads in
-      let more : Comes mid = comes fuel mid (steps_fit plan w fit step allowed mid leads) (omega (arith, less, most)) in
-      record {
-        steps = step ∷ more.steps;
-        after = more.after;
-        runs = (spares, (mid, leads_to_follows plan w step allowed mid leads, more.runs));
-        through = more.through;
-      })
+  further : (w : World) (step : Step) → Spares plan w u targets step → (mid : World) → Follows plan w step mid → Comes mid → Comes w
+  further w step spares mid follows more = record {
+    steps = step ∷ more.steps;
+    after = more.after;
+    runs = (spares, (mid, follows, more.runs));
+    through = more.through;
+  }
+
+  comes : (w : World) → IsWorldFit w → Comes w
+  comes w fit = reaches plan Comes (λ v step. Spares plan v u targets step) by_step further (left_of (count_of plan) w) w fit (omega arith)
 
 pub can_arrive_unanswered : (plan : Plan) → Always plan (CanArriveUnanswered plan)
 can_arrive_unanswered plan before w run f flow bytes planned unanswered allowed =
     let begun : World = begins (count_of plan) w f flow bytes in
     let targets : List ℕ = (outgoing (count_of plan) w.stations f flow bytes).targets in
     let fit : IsWorldFit begun = begin_fits plan w (worlds_fit plan before w run) f bytes (Some flow) planned allowed begun refl in
-    let run_on : Comes plan flow.sender targets begun = comes plan flow.sender targets (left_of (count_of plan) begun) begun fit (omega arith) in
+    let run_on : Comes plan flow.sender targets begun = comes plan flow.sender targets begun fit in
     (run_on.steps, run_on.after, run_on.runs, run_on.through)

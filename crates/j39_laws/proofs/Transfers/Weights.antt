@@ -16,8 +16,8 @@ use Rattle.j39_tp.specs.declared.receiving.heard.Heard.TheVariants as heards
 use Rattle.j39_tp.specs.declared.receiving.manner.Manner.TheVariants.{Answering}
 use Rattle.j39_tp.specs.declared.receiving.progress.Progress.{Progress}
 use Rattle.j39_tp.specs.declared.receiving.progress.Progress.TheVariants.{Closed, Open, Complete}
-use Rattle.j39_tp.specs.declared.receiving.reception.Kind.{Kind}
-use Rattle.j39_tp.specs.declared.receiving.reception.Kind.TheVariants.{Broadcast, Directed}
+use Rattle.j39_tp.specs.declared.receiving.reception.ReceptionKind.{ReceptionKind}
+use Rattle.j39_tp.specs.declared.receiving.reception.ReceptionKind.TheVariants.{Broadcast, Directed}
 use Rattle.j39_tp.specs.declared.receiving.reception.Reception.{Reception}
 use Rattle.j39_tp.specs.declared.sending.dest.Dest.{Dest}
 use Rattle.j39_tp.specs.declared.sending.dest.Dest.TheVariants as dests
@@ -116,14 +116,16 @@ module _ (n : ℕ) where
   stays : (pr : Progress) (more : ℕ) → WeighsUpTo (receiver_weight n pr + more) (pr, heards.Nothing)
   stays pr more = omega (arith, closed_weight pr)
 
-  going_weight : (window : ℕ) (kind : Kind) (r : Reception) → WeighsUpTo (2 + budget r * asking n + asking n) (receiver.going_on (Answering window) kind r)
+  going_weight : (window : ℕ) (kind : ReceptionKind) (r : Reception)
+      → WeighsUpTo (2 + budget r * asking n + asking n) (receiver.going_on (Answering window) kind r)
   going_weight window Directed r = omega (arith, asking_is)
   going_weight window Broadcast r = omega arith
 
   one_more_less : (r : Reception) → r.held < packets_of r.size → budget (receiver.one_more_held r) + 1 ≤ budget r
   one_more_less r less = omega (arith, less)
 
-  completed_weight : (window : ℕ) (kind : Kind) (r : Reception) (done most : ℕ) → 1 ≤ most → WeighsUpTo most (Complete done, receiver.completed (Answering window) kind r)
+  completed_weight : (window : ℕ) (kind : ReceptionKind) (r : Reception) (done most : ℕ) → 1 ≤ most
+      → WeighsUpTo most (Complete done, receiver.completed (Answering window) kind r)
   completed_weight window Directed r done most some = omega arith
   completed_weight window Broadcast r done most some = omega arith
 
@@ -147,7 +149,8 @@ module _ (n : ℕ) where
       cond_both (nat_lt r.asked receiver.ask_limit) _ _ (AsksUpTo (1 + budget r * asking n))
       (λ may. let paid = asked_for (budget (receiver.asking r)) (budget r) (asking_less r may) in omega (arith, paid, asking_is)) (λ _. omega arith)
 
-  later_weight : (window : ℕ) (kind : Kind) (r : Reception) (number : ℕ) → WeighsUpTo (2 + budget r * asking n) (receiver.takes_later (Answering window) kind r number)
+  later_weight : (window : ℕ) (kind : ReceptionKind) (r : Reception) (number : ℕ)
+      → WeighsUpTo (2 + budget r * asking n) (receiver.takes_later (Answering window) kind r number)
   later_weight window Broadcast r number = omega arith
   later_weight window Directed r number =
       cond_both (number == r.granted) _ _ (WeighsUpTo (2 + budget r * asking n)) (λ _. omega (arith, asks_weight window 5 r)) (λ _. omega arith)
@@ -158,7 +161,8 @@ module _ (n : ℕ) where
       cond_both (number == r.held + 1) _ _ (WeighsUpTo (2 + budget r * asking n)) (λ _. next_weight window r less)
       (λ _. cond_both (nat_le number r.held) _ _ (WeighsUpTo (2 + budget r * asking n)) (λ _. omega arith) (λ _. later_weight window r.kind r number))
 
-  opened_weight : (kind : Kind) (pgn size limit : ℕ) → budget (receiver.opened kind pgn size limit) * asking n + asking n ≤ (packets_of size + 3) * asking n
+  opened_weight : (kind : ReceptionKind) (pgn size limit : ℕ)
+      → budget (receiver.opened kind pgn size limit) * asking n + asking n ≤ (packets_of size + 3) * asking n
   opened_weight kind pgn size limit = asked_for (budget (receiver.opened kind pgn size limit)) (packets_of size + 3) (omega arith)
 
   pub hears_weight : (window : ℕ) (pr : Progress) (p : Packet) → IsWithin pr
@@ -181,7 +185,7 @@ module _ (n : ℕ) where
   abbrev pub TimesOutBelow : ℕ → Progress × Option Packet → Type 0
   TimesOutBelow most x = receiver_weight n (closed_if_complete x.0) + packets_weight n (packets_in x.1) < most
 
-  times_weight : (window : ℕ) (kind : Kind) (r : Reception) → TimesOutBelow (2 + budget r * asking n) (receiver.times_out (Answering window) kind r)
+  times_weight : (window : ℕ) (kind : ReceptionKind) (r : Reception) → TimesOutBelow (2 + budget r * asking n) (receiver.times_out (Answering window) kind r)
   times_weight window Directed r = omega (arith, asks_weight window 3 r)
   times_weight window Broadcast r = omega arith
 

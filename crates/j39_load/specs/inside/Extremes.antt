@@ -2,8 +2,8 @@
 use Rattle.std.specs.Prelude.{ℕ, Bool}
 use Rattle.j39_network.specs.declared.plan.unit_plan.UnitPlan.{UnitPlan}
 use Rattle.j39_load.specs.Loads.{greatest_address, least_address}
-use Rattle.j39_load.specs.declared.extreme.Extreme.{Extreme}
-use Rattle.j39_load.specs.declared.extreme.Extreme.TheVariants.{Greatest, Least}
+use Rattle.j39_load.specs.declared.frames.extreme.Extreme.{Extreme}
+use Rattle.j39_load.specs.declared.frames.extreme.Extreme.TheVariants.{Greatest, Least}
 
 abbrev pub extreme_address : Extreme → (UnitPlan → Bool) → UnitPlan → ℕ
 extreme_address Least stays = least_address stays

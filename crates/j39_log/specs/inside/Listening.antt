@@ -1,5 +1,6 @@
 -- What the reader of a log keeps, and what it stands for.
-use Rattle.std.specs.Prelude.{◌≡◌, ◌≢◌, ◌==◌, ◌+◌, ◌&&◌, ◌||◌, ◌<◌, ◌≤◌, ◌⊎◌, Bool, true, false, if◌then◌else◌, ℕ, nat_eq, List, [], length, get_or, map, All, Box, Option, Some, None}
+use Rattle.std.specs.Prelude.{◌≡◌, ◌≢◌, ◌==◌, ◌+◌, ◌&&◌, ◌||◌, ◌<◌, ◌≤◌, ◌⊎◌, Bool, true, false, if◌then◌else◌, ℕ, nat_eq, List, [], length, get_or, map, All}
+use Rattle.std.specs.Prelude.{Box, Option, Some, None}
 use Rattle.std.specs.declared.alloc.Global.{Global}
 use Rattle.std.specs.declared.vec.Vec.{Vec}
 use Rattle.std.specs.HashMap.{HashMap, get}

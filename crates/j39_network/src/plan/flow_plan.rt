@@ -11,7 +11,7 @@ pub struct FlowPlan {
     pub sender: usize,
     pub to: To,
     pub pace: Option<Pace>,
-    /// In so many milliseconds at least one message of the flow has its moment, however they lie.
+    /// In so many milliseconds at least one message of the flow is released, however they lie.
     pub pause: Option<u16>,
     /// Whether the flow is sent only as the answer to a request.
     pub on_request: bool,

@@ -2,7 +2,7 @@
 ghost use Rattle.std.specs.Prelude.{◌≡◌, ◌≢◌, ◌≤◌, false, None, IsTrue, length as count, All, AllPairs};
 ghost use Rattle.std.specs.Option.{ForSome};
 ghost use Rattle.j39_id.specs.Limits.{message_bytes};
-ghost use Rattle.j39_signal.specs.Parts.{IsSignal};
+ghost use Rattle.j39_signal.specs.Parts.{IsDivisor, IsSignal};
 ghost use Rattle.j39_network.specs.LabelForm.{is_label};
 ghost use Rattle.j39_network.specs.PlanLimits.{signal_limit, text_limit};
 
@@ -26,8 +26,8 @@ pub struct GroupPlan {
     pub private: bool,
     /// The length of the longest payload in bytes, to 1785.
     pub most: u16,
-    /// How many bytes each record of the signals that are repeated stands behind the one before, 1 to 255. No signal is repeated without
-    /// it.
+    /// How many bytes each record of the signals that are repeated stands behind the one before, 1 to 255. No signal is
+    /// repeated without it.
     pub every: Option<u8>,
     /// Bits by whose number messages of this group are told from those of others of its PGN.
     pub when: Option<Selector>,
@@ -46,6 +46,7 @@ pub struct GroupPlan {
     pub ghost signal_count: { count signals.items ≤ signal_limit },
     pub ghost signal_forms: { All (λ s. IsTrue (is_label s.label.bytes)) signals.items },
     pub ghost signal_ranges: { All (λ s. IsSignal s.start s.bits s.step s.offset) signals.items },
+    pub ghost signal_divisors: { All (λ s. IsDivisor s.per) signals.items },
     pub ghost signal_labels: { AllPairs (λ s t. s.label.bytes ≢ t.label.bytes) signals.items },
     pub ghost meaning_count: { count meanings.items ≡ count signals.items },
     pub ghost text_count: { count texts.items ≤ text_limit },

@@ -5,6 +5,7 @@
 pub enum Queue {
     /// With the one that has the least identifier.
     Priority,
-    /// With any of them: a FIFO queue, few mailboxes, or one buffer that is filled again within the intermission of three bits.
+    /// With any of them: a FIFO queue, few mailboxes, or one buffer that is filled again within the intermission of
+    /// three bits.
     Any,
 }

@@ -30,8 +30,8 @@ pub struct ErrorRate {
 #[derive(Clone, Copy, Debug, PartialEq, Eq)]
 pub struct Timing {
     pub bitrate: Bitrate,
-    /// How many frames of no planned flow, and of a smaller identifier, are queued at most while a planned frame waits, together with the
-    /// time before in which planned frames that may go before it wait without a break.
+    /// How many frames of no planned flow, and of a smaller identifier, are queued at most while a planned frame waits,
+    /// together with the time before in which planned frames that may go before it wait without a break.
     pub unplanned: u16,
     /// Frames of no planned flow have this priority or a larger number.
     pub unplanned_priority: u8,

@@ -11,8 +11,8 @@ use j39_rules::{find_each, find_pairs};
 use j39_vehicle::Vehicle;
 use std::alloc::AllocError;
 
-/// Adds the forwards that copy into another layout, the signals that don't say what goes into them, and the forwards that may say
-/// different things of one flow.
+/// Adds the forwards that copy into another layout, the signals that don't say what goes into them, and the forwards
+/// that may say different things of one flow.
 pub fn find_in_contents(
     findings: &mut Vec<VehicleFinding>,
     vehicle: &Vehicle,

@@ -5,7 +5,8 @@ ghost use Rattle.j39_rules.specs.Adding.{Adds};
 ghost use Rattle.j39_rules.specs.ListPlaces.{found_if};
 ghost use Rattle.j39_paths.specs.ForwardTests.{is_input, is_output};
 ghost use Rattle.j39_paths.specs.ForwardEnds.{input_flows, output_flows};
-ghost use Rattle.j39_paths.specs.FoundPaths.{end_findings, has_many_inputs, has_many_outputs, has_no_input, has_no_output};
+ghost use Rattle.j39_paths.specs.FoundPaths.{end_findings, has_many_inputs, has_many_outputs, has_no_input};
+ghost use Rattle.j39_paths.specs.FoundPaths.{has_no_output};
 
 use crate::finding::VehicleFinding;
 use crate::forwards::{input_flows, is_input, is_output, output_flows};

@@ -3,7 +3,8 @@ ghost use Rattle.std.specs.Prelude.{◌≡◌};
 ghost use Rattle.std.specs.List.{list_any};
 ghost use Rattle.j39_rules.specs.Adding.{Adds};
 ghost use Rattle.j39_rules.specs.ListPlaces.{found_if};
-ghost use Rattle.j39_paths.specs.FoundPaths.{copies_other_layout, has_other_records, has_other_selector, have_other_layouts, is_selector, same_byte};
+ghost use Rattle.j39_paths.specs.FoundPaths.{copies_other_layout, has_other_records, has_other_selector};
+ghost use Rattle.j39_paths.specs.FoundPaths.{have_other_layouts, is_selector, same_byte};
 
 use crate::buses::group_at;
 use crate::finding::VehicleFinding;

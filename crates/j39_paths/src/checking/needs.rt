@@ -51,18 +51,19 @@ fn some_is_need_flow(routes: &Routes<'_>, need: &VehicleNeed, flows: &[FlowPlan]
 }
 
 fn is_need_met(routes: &Routes<'_>, need: &VehicleNeed) -> bool
-    ensures { result ≡ some_at (is_need_flow routes.now.vehicle.now need.now) 0 (flows_of_need routes.now.vehicle.now need.now) }
+    ensures { result
+        ≡ some_at (is_need_flow routes.now.vehicle.now need.now) 0 (flows_of_need routes.now.vehicle.now need.now) }
 {
     let flows = flows_on(&routes.vehicle.buses, need.unit.bus);
     some_is_need_flow(routes, need, flows)
 }
 
 #[derive(Clone, Copy)]
-struct NeedUnmet<'a> {
+struct VehicleNeedUnmet<'a> {
     routes: Routes<'a>,
 }
 
-impl Rule<VehicleNeed, VehicleFinding> for NeedUnmet<'_> {
+impl Rule<VehicleNeed, VehicleFinding> for VehicleNeedUnmet<'_> {
     ghost use Rattle.j39_paths.specs.declared.finding.VehicleFinding.TheVariants.{NeedUnmet as NeedsUnmet};
 
     ghost gives = { λ rule d need. found_if (is_need_unmet rule.routes.vehicle.now need) (NeedsUnmet d) };
@@ -91,7 +92,7 @@ pub fn find_in_needs(
 {
     find_each(
         findings,
-        &NeedUnmet { routes: *routes },
+        &VehicleNeedUnmet { routes: *routes },
         &routes.vehicle.needs,
     )
 }

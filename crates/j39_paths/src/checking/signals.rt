@@ -3,7 +3,9 @@ ghost use Rattle.std.specs.Prelude.{◌≡◌, false};
 ghost use Rattle.std.specs.Option.{option_map_or};
 ghost use Rattle.j39_rules.specs.Adding.{Adds};
 ghost use Rattle.j39_rules.specs.ListPlaces.{found_if, in_each};
-ghost use Rattle.j39_paths.specs.FoundPaths.{are_unlike, differences, differs_from, is_copied_otherwise, is_in_selector, is_other_signal, is_other_source, is_written_otherwise, signals_that_differ};
+ghost use Rattle.j39_paths.specs.FoundPaths.{are_unlike, differences, differs_from, is_copied_otherwise};
+ghost use Rattle.j39_paths.specs.FoundPaths.{is_in_selector, is_other_signal, is_other_source, is_written_otherwise};
+ghost use Rattle.j39_paths.specs.FoundPaths.{signals_that_differ};
 
 use crate::buses::{group_at, spn_at};
 use crate::finding::VehicleFinding;

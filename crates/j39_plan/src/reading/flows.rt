@@ -1,18 +1,19 @@
 //! The flows of a plan.
-ghost use Rattle.std.specs.Prelude.{◌≡◌, ◌≤◌, [], map, Some, IfOk, IfSome};
+ghost use Rattle.std.specs.Prelude.{◌≡◌, ◌≤◌, ◌++◌, [], map, Some, IfOk, IfSome};
 ghost use Rattle.std.specs.Option.{ForSome};
 ghost use Rattle.toml.specs.View.{table_view};
-ghost use Rattle.j39_plan.specs.Outcome.{Gives};
+ghost use Rattle.j39_tables.specs.Outcome.{Gives};
 ghost use Rattle.j39_plan.specs.Since.{since, since_faults, known_faults};
 ghost use Rattle.j39_plan.specs.declared.reading.version.Version.TheVariants.{Third};
 ghost use Rattle.j39_plan.specs.FlowTables as spec;
 
-use super::elements::ReadElement;
 use super::labels::{Labelled, place_of};
-use super::tables::{only_known, table_of};
-use super::values::{any_text, flag, has_key, number, optional_number, refused};
-use super::{Cause, Key, PlanError, Table, Version};
+use super::tables::only_known;
+use super::text_kind::TextKind;
+use super::values::{flag, has_key, number};
+use super::{Cause, Key, PlanError, PlanFault, Table, Version};
 use j39_network::{FlowPlan, GroupPlan, Pace, To, UnitPlan};
+use j39_tables::{ReadElement, given_number, refused, required_text, table_of};
 use std::alloc::Global;
 use toml::Value;
 
@@ -81,7 +82,7 @@ pub fn milliseconds(given: Option<u32>) -> Option<u16>
     }
 }
 
-// How far behind its moments a flow is sent, for how long it is silent, and whether it is sent on request alone.
+// How far behind its releases a flow is sent, for how long it is silent, and whether it is sent on request alone.
 #[derive(Clone, Copy)]
 struct LaterPace {
     jitter: u32,
@@ -90,7 +91,7 @@ struct LaterPace {
 }
 
 // The same, by the period, where the version knows it.
-#[tactic(auto, using(crate::proofs::FirstFaults::faults_after))]
+#[tactic(auto, using(j39_tables::proofs::FirstFaults::faults_after))]
 fn later_pace(
     members: &toml::Table,
     table: Table,
@@ -119,7 +120,7 @@ fn later_pace(
         None => (MS_MOST, 1),
     };
     let jitter = number(members, table, Key::Jitter, 0, jitter_most, Some(0))?;
-    let pause = optional_number(members, table, Key::Pause, pause_least, MS_MOST, false)?;
+    let pause = given_number(members, table, Key::Pause, pause_least, MS_MOST, false)?;
     let on_request = flag(members, table, Key::OnRequest, false)?;
     Ok(LaterPace {
         jitter,
@@ -128,7 +129,8 @@ fn later_pace(
     })
 }
 
-// How often a flow is sent, for how long it is silent, and whether it is sent on request alone, where its table tells it.
+// How often a flow is sent, for how long it is silent, and whether it is sent on request alone, where its table tells
+// it.
 #[derive(Clone, Copy)]
 struct Rhythm {
     pace: Option<Pace>,
@@ -153,9 +155,9 @@ fn known_period(
     }
     let jitter = version.knows(Version::Fourth) && has_key(members, Key::Jitter);
     if jitter || has_key(members, Key::Deadline) {
-        optional_number(members, table, Key::Period, 1, MS_MOST, true)
+        given_number(members, table, Key::Period, 1, MS_MOST, true)
     } else {
-        optional_number(members, table, Key::Period, 1, MS_MOST, false)
+        given_number(members, table, Key::Period, 1, MS_MOST, false)
     }
 }
 
@@ -171,17 +173,18 @@ fn known_deadline(
     ensures few { IfOk result (λ found. IfSome found (λ n. n ≤ 65535)) }
 {
     if version.knows(Version::Third) {
-        optional_number(members, table, Key::Deadline, 1, MS_MOST, false)
+        given_number(members, table, Key::Deadline, 1, MS_MOST, false)
     } else {
         Ok(None)
     }
 }
 
-#[tactic(auto, using(crate::proofs::FirstFaults::faults_after))]
+#[tactic(auto, using(j39_tables::proofs::FirstFaults::faults_after))]
 fn known_rhythm(members: &toml::Table, table: Table, version: Version) -> Result<Rhythm, PlanError>
     ensures { Gives result (known_faults table version (table_view members.now) (spec.pace_rules version (table_view members.now)))
-        (λ rhythm. spec.TellsPace version (table_view members.now) rhythm.pace
-        × (rhythm.pause ≡ spec.pause_of version (spec.given_period version (table_view members.now)) (table_view members.now))
+        (λ rhythm. spec.DescribesPace version (table_view members.now) rhythm.pace
+        × (rhythm.pause
+        ≡ spec.pause_of version (spec.given_period version (table_view members.now)) (table_view members.now))
         × (rhythm.on_request ≡ spec.on_request_of version (table_view members.now))) }
 {
     let period = known_period(members, table, version)?;
@@ -202,15 +205,48 @@ fn known_rhythm(members: &toml::Table, table: Table, version: Version) -> Result
     })
 }
 
+// What a flow is sent of, by whom and to whom.
+#[derive(Clone, Copy)]
+struct FlowEnds {
+    group: usize,
+    sender: usize,
+    to: To,
+}
+
+// What the texts of a flow name.
+#[tactic(auto, using(j39_tables::proofs::FirstFaults::faults_after))]
+fn ends(
+    groups: &[GroupPlan],
+    units: &[UnitPlan],
+    table: Table,
+    group: &str,
+    sender: &str,
+    receivers: &str,
+) -> Result<FlowEnds, PlanError>
+    ensures { let group_labels = map (λ g. g.label.bytes) groups.now in
+        let unit_labels = map (λ u. u.label.bytes) units.now in
+        Gives result (spec.place_faults table Key.Group group_labels (Some group.now)
+        ++ (spec.place_faults table Key.From unit_labels (Some sender.now)
+        ++ spec.receiver_faults table unit_labels (Some receivers.now)))
+        (λ e. (spec.place_of group_labels group.now ≡ Some e.group)
+        × (spec.place_of unit_labels sender.now ≡ Some e.sender)
+        × (spec.receivers unit_labels receivers.now ≡ Some e.to)) }
+{
+    let group = place(groups, group, table, Key::Group)?;
+    let sender = place(units, sender, table, Key::From)?;
+    let to = to(units, receivers, table)?;
+    Ok(FlowEnds { group, sender, to })
+}
+
 /// The reader of flows between units.
 #[derive(Clone, Copy)]
-pub struct Flows<'a> {
+pub struct FlowReader<'a> {
     pub version: Version,
     pub groups: &'a [GroupPlan],
     pub units: &'a [UnitPlan],
 }
 
-#[tactic(auto, using(crate::proofs::FirstFaults::faults_after), unfolding(crate::specs::FlowTables::flow_table_faults))]
+#[tactic(auto, using(j39_tables::proofs::FirstFaults::faults_after), unfolding(crate::specs::FlowTables::flow_table_faults))]
 fn flow(
     version: Version,
     groups: &[GroupPlan],
@@ -221,43 +257,44 @@ fn flow(
     ensures { let group_labels = map (λ g. g.label.bytes) groups.now in
         let unit_labels = map (λ u. u.label.bytes) units.now in
         Gives result (spec.flow_table_faults version group_labels unit_labels index (table_view members.now))
-        (spec.TellsFlow version group_labels unit_labels (table_view members.now)) }
+        (spec.DescribesFlow version group_labels unit_labels (table_view members.now)) }
 {
     let table = Table::Flow(index);
     only_known(members, table, version, &KEYS)?;
-    let group_text = any_text(members, table, Key::Group)?;
-    let from_text = any_text(members, table, Key::From)?;
-    let to_text = any_text(members, table, Key::To)?;
+    let group_text = required_text(members, table, Key::Group, TextKind::Any)?;
+    let from_text = required_text(members, table, Key::From, TextKind::Any)?;
+    let to_text = required_text(members, table, Key::To, TextKind::Any)?;
     let rhythm = known_rhythm(members, table, version)?;
-    let group = place(groups, group_text, table, Key::Group)?;
-    let sender = place(units, from_text, table, Key::From)?;
-    let to = to(units, to_text, table)?;
+    let ends = ends(groups, units, table, group_text, from_text, to_text)?;
     Ok(FlowPlan {
-        group,
-        sender,
-        to,
+        group: ends.group,
+        sender: ends.sender,
+        to: ends.to,
         pace: rhythm.pace,
         pause: rhythm.pause,
         on_request: rhythm.on_request,
     })
 }
 
-impl ReadElement<FlowPlan> for Flows<'_> {
-    ghost use Rattle.j39_plan.specs.Growing.{NeverGrows};
+impl ReadElement<FlowPlan, PlanFault> for FlowReader<'_> {
+    ghost use Rattle.std.specs.Prelude.{ℕ, List};
+    ghost use Rattle.j39_tables.specs.InOrder.{NeverGrows};
     ghost use Rattle.j39_plan.specs.PlanFaults.{no_label};
     ghost use Rattle.j39_plan.specs.FlowTables.{flow_faults, IsFlowOf};
 
-    ghost label_bytes = { λ _. [] };
+    ghost Label = { List ℕ };
 
-    ghost label_of = { no_label };
+    ghost label = { λ _. [] };
+
+    ghost data_label = { no_label };
 
     ghost faults = { λ r i seen. flow_faults r.version (map (λ g. g.label.bytes) r.groups.now) (map (λ u. u.label.bytes) r.units.now) i };
 
     ghost Grows = { λ _. NeverGrows };
 
-    ghost Tells = { λ r. IsFlowOf r.version (map (λ g. g.label.bytes) r.groups.now) (map (λ u. u.label.bytes) r.units.now) };
+    ghost Describes = { λ r. IsFlowOf r.version (map (λ g. g.label.bytes) r.groups.now) (map (λ u. u.label.bytes) r.units.now) };
 
-    #[tactic(auto, using(crate::proofs::FirstFaults::faults_after), unfolding(crate::specs::FlowTables::flow_faults))]
+    #[tactic(auto, using(j39_tables::proofs::FirstFaults::faults_after), unfolding(crate::specs::FlowTables::flow_faults))]
     fn read(
         &self,
         _alloc: Global,
@@ -270,7 +307,7 @@ impl ReadElement<FlowPlan> for Flows<'_> {
             self.groups,
             self.units,
             index,
-            table_of(value, Table::Flow(index))?,
+            table_of::<Table, Key>(value, Table::Flow(index))?,
         )
     }
 }

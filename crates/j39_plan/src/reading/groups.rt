@@ -5,24 +5,26 @@ ghost use Rattle.j39_id.specs.Limits.{message_bytes};
 ghost use Rattle.j39_plan.specs.Schema.{tables_of};
 ghost use Rattle.j39_plan.specs.Since.{since, since_faults, known_faults};
 ghost use Rattle.j39_plan.specs.declared.reading.version.Version.TheVariants.{Third, Fourth};
-ghost use Rattle.j39_plan.specs.Outcome.{Gives, GivesGrowing};
+ghost use Rattle.j39_tables.specs.Outcome.{Gives, GivesGrowing};
 ghost use Rattle.j39_plan.specs.Growing.{GroupGrows};
 ghost use Rattle.j39_plan.specs.SelectorTables.{when_rule, when_table};
-ghost use Rattle.j39_plan.specs.GroupTables.{every_of, every_rule, group_table_faults, inner_rules, later_rules, most_of, most_rule, private_of, private_rule, signal_rule, text_rule, text_tables_of, TellsGroup};
+ghost use Rattle.j39_plan.specs.GroupTables.{every_of, every_rule, group_table_faults, inner_rules, later_rules};
+ghost use Rattle.j39_plan.specs.GroupTables.{most_of, most_rule, private_of, private_rule, signal_rule, text_rule};
+ghost use Rattle.j39_plan.specs.GroupTables.{text_tables_of, DescribesGroup};
 
-use super::elements::{ReadElement, read_each};
 use super::labels::untaken;
 use super::selectors::when;
-use super::signals::{PlannedSignal, Signals};
-use super::tables::{array, only_known, optional_inner, table_of};
+use super::signals::{PlannedSignal, SignalReader};
+use super::tables::{array, only_known, optional_inner};
 use super::text_kind::TextKind;
-use super::texts::Texts;
-use super::values::{flag, number, optional_number, short_text};
-use super::{Key, PlanError, Table, Version};
+use super::texts::TextReader;
+use super::values::{flag, number, short_text};
+use super::{Key, PlanError, PlanFault, Table, Version};
 use j39_id::limits::MESSAGE_BYTES;
 use j39_network::limits::{SIGNAL_LIMIT, TEXT_LIMIT};
 use j39_network::{GroupPlan, Meaning};
 use j39_signal::Signal;
+use j39_tables::{ReadElement, given_number, read_each, table_of};
 use std::alloc::{AllocError, Global};
 use toml::Value;
 
@@ -39,8 +41,8 @@ const KEYS: [(Key, Version); 10] = [
     (Key::Text, Version::Third),
 ];
 
-// What stands behind the length: whether the number is a maker's own, the length of the longest messages, how far apart records stand,
-// and the table of the selector.
+// What stands behind the length: whether the number is a maker's own, the length of the longest messages, how far apart
+// records stand, and the table of the selector.
 #[derive(Clone, Copy)]
 struct LaterKeys<'a> {
     private: bool,
@@ -90,7 +92,7 @@ fn every(version: Version, members: &toml::Table, table: Table) -> Result<Option
     ensures few { IfOk result (λ found. IfSome found (λ n. n ≤ 255)) }
 {
     if version.knows(Version::Third) {
-        optional_number(members, table, Key::Every, 1, 255, false)
+        given_number(members, table, Key::Every, 1, 255, false)
     } else {
         Ok(None)
     }
@@ -112,7 +114,7 @@ fn when_key(
     }
 }
 
-#[tactic(auto, using(crate::proofs::FirstFaults::faults_after))]
+#[tactic(auto, using(j39_tables::proofs::FirstFaults::faults_after))]
 fn later_keys(
     version: Version,
     length: u32,
@@ -160,7 +162,7 @@ struct Inside<'a> {
     texts: &'a [Value],
 }
 
-#[tactic(auto, using(crate::proofs::FirstFaults::faults_after))]
+#[tactic(auto, using(j39_tables::proofs::FirstFaults::faults_after))]
 fn arrays(version: Version, members: &toml::Table, table: Table) -> Result<Inside, PlanError>
     ensures { Gives result (known_faults table version (table_view members.now) inner_rules)
         (λ arrays. (items_view arrays.signals.now ≡ tables_of signal_rule (table_view members.now))
@@ -200,7 +202,7 @@ fn parted(
     Ok((signals, meanings))
 }
 
-#[tactic(auto, using(crate::proofs::FirstFaults::faults_after), unfolding(crate::specs::GroupTables::group_table_faults))]
+#[tactic(auto, using(j39_tables::proofs::FirstFaults::faults_after), unfolding(crate::specs::GroupTables::group_table_faults))]
 fn group(
     alloc: Global,
     version: Version,
@@ -208,7 +210,7 @@ fn group(
     members: &toml::Table,
 ) -> Result<GroupPlan, PlanError>
     ensures { GivesGrowing (GroupGrows version index (table_view members.now)) result
-        (group_table_faults version index (table_view members.now)) (TellsGroup version (table_view members.now)) }
+        (group_table_faults version index (table_view members.now)) (DescribesGroup version (table_view members.now)) }
 {
     let table = Table::Group(index);
     only_known(members, table, version, &KEYS)?;
@@ -221,7 +223,7 @@ fn group(
     let arrays = arrays(version, members, table)?;
     let every = distance(later.every);
     let records = later.every.is_some();
-    let reader = Signals {
+    let reader = SignalReader {
         version,
         records,
         group: index,
@@ -230,7 +232,7 @@ fn group(
     let parts = parted(alloc, planned)?;
     let texts = read_each(
         alloc,
-        &Texts {
+        &TextReader {
             group: index,
             signals: &parts.0,
         },
@@ -253,26 +255,29 @@ fn group(
 
 /// The reader of groups.
 #[derive(Clone, Copy)]
-pub struct Groups {
+pub struct GroupReader {
     pub version: Version,
 }
 
-impl ReadElement<GroupPlan> for Groups {
+impl ReadElement<GroupPlan, PlanFault> for GroupReader {
+    ghost use Rattle.std.specs.Prelude.{ℕ, List};
     ghost use Rattle.j39_plan.specs.Growing.{GroupElementGrows};
     ghost use Rattle.j39_plan.specs.GroupTables.{group_faults, IsGroupOf};
-    ghost use Rattle.j39_plan.specs.Elements.{label_in};
+    ghost use Rattle.j39_plan.specs.LabelsSeen.{label_in};
 
-    ghost label_bytes = { λ g. g.label.bytes };
+    ghost Label = { List ℕ };
 
-    ghost label_of = { label_in };
+    ghost label = { λ g. g.label.bytes };
+
+    ghost data_label = { label_in };
 
     ghost faults = { λ r. group_faults r.version };
 
     ghost Grows = { λ r. GroupElementGrows r.version };
 
-    ghost Tells = { λ r. IsGroupOf r.version };
+    ghost Describes = { λ r. IsGroupOf r.version };
 
-    #[tactic(auto, using(crate::proofs::FirstFaults::faults_after), unfolding(crate::specs::GroupTables::group_faults))]
+    #[tactic(auto, using(j39_tables::proofs::FirstFaults::faults_after), unfolding(crate::specs::GroupTables::group_faults))]
     fn read(
         &self,
         alloc: Global,
@@ -281,7 +286,12 @@ impl ReadElement<GroupPlan> for Groups {
         value: &Value,
     ) -> Result<GroupPlan, PlanError> {
         let table = Table::Group(index);
-        let group = group(alloc, self.version, index, table_of(value, table)?)?;
+        let group = group(
+            alloc,
+            self.version,
+            index,
+            table_of::<Table, Key>(value, table)?,
+        )?;
         untaken(seen, group.label.as_str(), TextKind::Label, table)?;
         Ok(group)
     }

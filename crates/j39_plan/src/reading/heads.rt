@@ -1,23 +1,28 @@
-//! The head of a plan file: its version, the addresses that it keeps free, how many strangers may come, and whether the bus is live.
+//! The head of a plan file: its version, the addresses that it keeps free, how many strangers may come, and whether the
+//! bus is live.
 ghost use Rattle.std.specs.Prelude.{◌≡◌, ◌≤◌, ℕ, true, None, Some, IfOk, IfErr};
 ghost use Rattle.std.specs.FinSet.{empty, from_list, contains};
 ghost use Rattle.toml.specs.View.{view, table_view, items_view};
 ghost use Rattle.j39_id.specs.Addresses.{in_pool, pool_size};
 ghost use Rattle.j39_plan.specs.declared.reading.place.Table.TheVariants as at;
-ghost use Rattle.j39_plan.specs.Schema.{addresses_of, natural, number_in, numbers_in};
-ghost use Rattle.j39_plan.specs.TableFaults.{address_cause, addresses_cause, key_faults};
+ghost use Rattle.j39_plan.specs.Schema.{addresses_of};
+ghost use Rattle.j39_tables.specs.Rules.{natural};
+ghost use Rattle.j39_plan.specs.ValueCauses.{number_in, numbers_in, address_cause, addresses_cause};
+ghost use Rattle.j39_tables.specs.TableFaults.{key_faults};
 ghost use Rattle.j39_plan.specs.Since.{since, since_faults};
 ghost use Rattle.j39_plan.specs.declared.reading.version.Version.TheVariants.{Second, Fourth};
-ghost use Rattle.j39_plan.specs.PlanFaults.{version_of, version_numbered, keep_free_rule, strangers_rule, strangers_of, live_rule, live_of, head_faults};
+ghost use Rattle.j39_plan.specs.PlanFaults.{version_of, version_numbered, keep_free_rule, strangers_rule, strangers_of};
+ghost use Rattle.j39_plan.specs.PlanFaults.{live_rule, live_of, head_faults};
 ghost use Rattle.j39_plan.specs.Described.{keep_free_of, kept_of};
-ghost use Rattle.j39_plan.specs.Outcome.{Gives};
+ghost use Rattle.j39_tables.specs.Outcome.{Gives};
 
 use super::tables::only_known;
-use super::values::{flag, number, refused, value_at};
+use super::values::{flag, number};
 use super::{Cause, Key, PlanError, Table, Version};
 use j39_claim::AddressSet;
 use j39_id::Address;
 use j39_id::addresses::{POOL_FIRST, POOL_LAST, POOL_SIZE};
+use j39_tables::{refused, value_at};
 use toml::Value;
 
 const KEYS: [(Key, Version); 10] = [
@@ -35,7 +40,8 @@ const KEYS: [(Key, Version); 10] = [
 
 /// The address that an element tells that stands behind those with the addresses seen.
 fn address(seen: &AddressSet, value: &Value) -> Result<Address, Cause>
-    ensures told { IfOk result (λ a. (address_cause seen.now (view value.now) ≡ None) × (a ≡ number_in (view value.now))) }
+    ensures told { IfOk result (λ a. (address_cause seen.now (view value.now) ≡ None)
+        × (a ≡ number_in (view value.now))) }
     ensures range { IfOk result (λ a. in_pool a ≡ true) }
     ensures refused { IfErr result (λ cause. address_cause seen.now (view value.now) ≡ Some cause) }
 {
@@ -60,7 +66,8 @@ fn address(seen: &AddressSet, value: &Value) -> Result<Address, Cause>
 
 /// The addresses that the elements tell, or the first cause for which one is refused.
 fn addresses(values: &[Value]) -> Result<AddressSet, Cause>
-    ensures told { IfOk result (λ s. (addresses_cause empty (items_view values.now) ≡ None) × (s ≡ from_list (numbers_in (items_view values.now)))) }
+    ensures told { IfOk result (λ s. (addresses_cause empty (items_view values.now) ≡ None)
+        × (s ≡ from_list (numbers_in (items_view values.now)))) }
     ensures range { IfOk result (λ s. (a : ℕ) → contains s a ≡ true → in_pool a ≡ true) }
     ensures refused { IfErr result (λ cause. addresses_cause empty (items_view values.now) ≡ Some cause) }
 {
@@ -75,7 +82,7 @@ fn addresses(values: &[Value]) -> Result<AddressSet, Cause>
 }
 
 /// The addresses at the key, and none where it is absent.
-#[tactic(auto, using(crate::proofs::Tables::items_count_view), unfolding(crate::specs::TableFaults::key_faults, crate::specs::Schema::addresses_of))]
+#[tactic(auto, using(j39_tables::proofs::TableViews::items_count_view), unfolding(j39_tables::specs::TableFaults::key_faults, crate::specs::Schema::addresses_of, crate::specs::ValueCauses::addresses_up_to))]
 fn keep_free(members: &toml::Table) -> Result<AddressSet, PlanError>
     ensures gives { Gives result (key_faults at.Top (table_view members.now) keep_free_rule)
         (λ s. s ≡ addresses_of keep_free_rule (table_view members.now)) }
@@ -111,7 +118,7 @@ fn version_numbered(number: i64) -> Version
 }
 
 /// The version of a plan: the first where it tells none.
-#[tactic(auto, unfolding(crate::specs::PlanFaults::version_of, crate::specs::Schema::number_of))]
+#[tactic(auto, unfolding(crate::specs::PlanFaults::version_of, j39_tables::specs::Rules::number_of))]
 pub fn version_of(members: &toml::Table) -> Version
     ensures { result ≡ version_of (table_view members.now) }
 {
@@ -138,7 +145,7 @@ fn known_keep_free(members: &toml::Table, version: Version) -> Result<AddressSet
 }
 
 /// The addresses that a plan keeps free, where its head has no fault.
-#[tactic(auto, using(crate::proofs::FirstFaults::faults_after))]
+#[tactic(auto, using(j39_tables::proofs::FirstFaults::faults_after))]
 pub fn head(members: &toml::Table, version: Version) -> Result<AddressSet, PlanError>
     requires { version ≡ version_of (table_view members.now) }
     ensures gives { Gives result (head_faults (table_view members.now)) (λ s. s ≡ keep_free_of (table_view members.now)) }

@@ -1,6 +1,8 @@
 //! Keys of a plan file.
 ghost use Rattle.std.specs.Prelude.{◌≡◌};
 
+use j39_tables::FileKey;
+
 /// A key of a table.
 #[derive(Clone, Copy, Debug, PartialEq, Eq)]
 pub enum Key {
@@ -143,5 +145,15 @@ impl Key {
             Key::OnRequest => "on_request",
             Key::Within => "within",
         }
+    }
+}
+
+impl FileKey for Key {
+    ghost use Rattle.j39_plan.specs.Words.{word_of};
+
+    ghost word = { word_of };
+
+    fn spelled(self) -> &'static str {
+        self.word()
     }
 }

@@ -3,16 +3,16 @@ ghost use Rattle.std.specs.Prelude.{◌≡◌, ℕ, List, ◌++◌, map, positio
 ghost use Rattle.std.specs.List.{list_any};
 ghost use Rattle.std.specs.Str.{bytes_eq};
 ghost use Rattle.j39_plan.specs.TextKinds.{takes};
-ghost use Rattle.j39_plan.specs.Elements.{repeated_faults};
-ghost use Rattle.j39_plan.specs.Outcome.{Gives};
+ghost use Rattle.j39_plan.specs.LabelsSeen.{repeated_faults};
+ghost use Rattle.j39_tables.specs.Outcome.{Gives};
 ghost use Rattle.j39_plan.specs.FlowTables.{place_of};
 
 use super::signals::PlannedSignal;
 use super::text_kind::TextKind;
-use super::values::refused;
 use super::{Cause, Key, PlanError, Table};
 use j39_network::{GroupPlan, TextPlan, UnitPlan};
 use j39_signal::Signal;
+use j39_tables::refused;
 
 /// What has a label.
 pub trait Labelled {
@@ -71,7 +71,7 @@ fn is_taken<T: Labelled>(items: &[T], label: &str) -> bool
 }
 
 /// Refuses a label that one of the items has.
-#[tactic(auto, using(crate::proofs::Labelled::is_taken_view), unfolding(crate::specs::Elements::repeated_faults))]
+#[tactic(auto, using(crate::proofs::Labelled::is_taken_view), unfolding(crate::specs::LabelsSeen::repeated_faults))]
 pub fn untaken<T: Labelled>(
     items: &[T],
     label: &str,
@@ -89,7 +89,7 @@ pub fn untaken<T: Labelled>(
 }
 
 /// Refuses a label that one of the others or of the items has.
-#[tactic(auto, using(crate::proofs::Labelled::is_taken_view, crate::proofs::Labelled::is_among_both), unfolding(crate::specs::Elements::repeated_faults))]
+#[tactic(auto, using(crate::proofs::Labelled::is_taken_view, crate::proofs::Labelled::is_among_both), unfolding(crate::specs::LabelsSeen::repeated_faults))]
 pub fn untaken_beside<U: Labelled, T: Labelled>(
     others: &[U],
     items: &[T],
@@ -98,7 +98,8 @@ pub fn untaken_beside<U: Labelled, T: Labelled>(
     table: Table,
 ) -> Result<(), PlanError>
     requires { takes kind label.now ≡ true }
-    ensures { Gives result (repeated_faults table kind (map U.label_bytes others.now ++ map T.label_bytes items.now) label.now) (λ _. Unit {0}) }
+    ensures { Gives result (repeated_faults table kind (map U.label_bytes others.now
+        ++ map T.label_bytes items.now) label.now) (λ _. Unit {0}) }
 {
     if is_taken(others, label) || is_taken(items, label) {
         Err(refused(Cause::Repeated, table, Key::Label))

@@ -1,5 +1,7 @@
-//! What is said of a signal beside its place and its scale: whether it is optional, its number, and the names of its raw numbers.
-ghost use Rattle.std.specs.Prelude.{◌≡◌, ◌≤◌, ◌^◌, ◌&&◌, if◌then◌else◌, true, false, Some, None, is_some, string_bytes, unwrap_or, option_map, length, IfOk, IfSome, MatchOption};
+//! What is said of a signal beside its place and its scale: whether it is optional, its number, and the names of its
+//! raw numbers.
+ghost use Rattle.std.specs.Prelude.{◌≡◌, ◌≤◌, ◌^◌, ◌&&◌, if◌then◌else◌, true, false, Some, None, is_some, string_bytes};
+ghost use Rattle.std.specs.Prelude.{unwrap_or, option_map, length, IfOk, IfSome, MatchOption};
 ghost use Rattle.std.specs.List.{list_all};
 ghost use Rattle.std.specs.Map.{keys_of, values_of};
 ghost use Rattle.std.specs.Option.{option_map_or};
@@ -10,19 +12,22 @@ ghost use Rattle.toml.specs.View.{view, table_view};
 ghost use Rattle.j39_network.specs.LabelForm.{is_label};
 ghost use Rattle.j39_network.specs.PlanLimits.{spn_most, value_limit};
 ghost use Rattle.j39_plan.specs.Schema as schema;
-ghost use Rattle.j39_plan.specs.Schema.{flag_of};
-ghost use Rattle.j39_plan.specs.TableFaults.{has_labels, has_numbers, has_texts, is_decimal, is_number_below, key_faults, names_cause};
-ghost use Rattle.j39_plan.specs.MeaningTables.{AreValueNames, TellsKeys, meaning_rules, optional_rule, raw_limit};
+ghost use Rattle.j39_tables.specs.Rules.{flag_of};
+ghost use Rattle.j39_plan.specs.ValueCauses.{has_labels, has_numbers, has_texts, is_decimal, is_number_below};
+ghost use Rattle.j39_plan.specs.ValueCauses.{names_cause};
+ghost use Rattle.j39_tables.specs.TableFaults.{key_faults};
+ghost use Rattle.j39_plan.specs.MeaningTables.{AreValueNames, DescribesKeys, meaning_rules, optional_rule, raw_limit};
 ghost use Rattle.j39_plan.specs.Since.{known_faults};
-ghost use Rattle.j39_plan.specs.Outcome.{Gives};
+ghost use Rattle.j39_tables.specs.Outcome.{Gives};
 
 use super::text_kind::TextKind;
-use super::values::{flag_if, optional_number, refused, value_at};
+use super::values::flag_if;
 use super::{Cause, Key, PlanError, Table, Version};
 use arrayvec::ArrayString;
 use j39_id::Label;
 use j39_network::limits::{SPN_MOST, VALUE_LIMIT};
 use j39_network::{Meaning, ValueName};
+use j39_tables::{given_number, refused, value_at};
 use std::alloc::{AllocError, Global};
 use toml::Value;
 
@@ -136,7 +141,8 @@ fn is_label(value: &Value) -> bool
 }
 
 fn are_labels(names: &toml::Table) -> bool
-    ensures { result ≡ list_all (λ value. option_map_or is_label (as_str (view value)) false) (values_of names.now.entries) }
+    ensures { result
+        ≡ list_all (λ value. option_map_or is_label (as_str (view value)) false) (values_of names.now.entries) }
 {
     names.values().all(|value| is_label(value))
 }
@@ -166,7 +172,7 @@ fn names_cause(limit: u64, names: &toml::Table) -> Option<Cause>
 }
 
 // The table of names at the key, which may stand only where this says so.
-#[tactic(auto, unfolding(crate::specs::TableFaults::key_faults, crate::specs::Schema::table_of))]
+#[tactic(auto, unfolding(j39_tables::specs::TableFaults::key_faults, j39_tables::specs::Rules::table_found, crate::specs::ValueCauses::names_below))]
 fn names<'a>(
     members: &'a toml::Table,
     table: Table,
@@ -203,7 +209,7 @@ pub struct MeaningKeys<'a> {
 }
 
 // Whether the signal is optional, which it can't be where it is repeated.
-#[tactic(auto, unfolding(crate::specs::Schema::flag_of))]
+#[tactic(auto, unfolding(j39_tables::specs::Rules::flag_of))]
 fn optional(members: &toml::Table, table: Table, repeated: bool) -> Result<bool, PlanError>
     ensures { Gives result (key_faults table (table_view members.now) (optional_rule repeated))
         (λ b. b ≡ flag_of (optional_rule false) (table_view members.now)) }
@@ -218,8 +224,9 @@ fn raw_limit(bits: u32) -> u64
     1 << bits.min(32)
 }
 
-/// The same of a signal of so many bits, which is repeated or isn't, and a trouble code or none, where the version knows it.
-#[tactic(auto, using(crate::proofs::FirstFaults::faults_after))]
+/// The same of a signal of so many bits, which is repeated or isn't, and a trouble code or none, where the version
+/// knows it.
+#[tactic(auto, using(j39_tables::proofs::FirstFaults::faults_after))]
 pub fn meaning_keys<'a>(
     members: &'a toml::Table,
     table: Table,
@@ -229,7 +236,7 @@ pub fn meaning_keys<'a>(
     bits: u32,
 ) -> Result<MeaningKeys<'a>, PlanError>
     ensures gives { Gives result (known_faults table version (table_view members.now) (meaning_rules repeated code bits))
-        (TellsKeys version (table_view members.now)) }
+        (DescribesKeys version (table_view members.now)) }
     ensures spn { IfOk result (λ m. IfSome m.spn (λ n. n ≤ spn_most)) }
     ensures named { IfOk result (λ m. IfSome m.names (λ t. names_cause (raw_limit bits) (table_view t.now) ≡ None)) }
 {
@@ -241,7 +248,7 @@ pub fn meaning_keys<'a>(
         });
     }
     let optional = optional(members, table, repeated)?;
-    let spn = optional_number(members, table, Key::Spn, 0, SPN_MOST, false)?;
+    let spn = given_number(members, table, Key::Spn, 0, SPN_MOST, false)?;
     let names = names(members, table, !code, raw_limit(bits))?;
     Ok(MeaningKeys {
         optional,

@@ -2,18 +2,17 @@
 ghost use Rattle.std.specs.Prelude.{◌≡◌, [], ◌∷◌, map, option_map, option_and_then, Some};
 ghost use Rattle.std.specs.List.{slice_get};
 ghost use Rattle.toml.specs.View.{table_view};
-ghost use Rattle.j39_plan.specs.Outcome.{Gives};
+ghost use Rattle.j39_tables.specs.Outcome.{Gives};
 ghost use Rattle.j39_plan.specs.FlowTables.{place_of, place_faults};
 ghost use Rattle.j39_plan.specs.NeedTables as spec;
 
-use super::elements::ReadElement;
 use super::flows::place;
 use super::labels::Labelled;
-use super::tables::{only, table_of};
-use super::values::{any_text, optional_number, optional_text};
-use super::{Key, PlanError, Table};
+use super::text_kind::TextKind;
+use super::{Key, PlanError, PlanFault, Table};
 use j39_network::{GroupPlan, NeedPlan, UnitPlan};
 use j39_signal::Signal;
+use j39_tables::{ReadElement, given_number, given_text, only, required_text, table_of};
 use std::alloc::Global;
 use toml::Value;
 
@@ -65,12 +64,12 @@ fn signal_place(
 
 /// The reader of needs of units for groups.
 #[derive(Clone, Copy)]
-pub struct Needs<'a> {
+pub struct NeedReader<'a> {
     pub groups: &'a [GroupPlan],
     pub units: &'a [UnitPlan],
 }
 
-#[tactic(auto, using(crate::proofs::FirstFaults::faults_after), unfolding(crate::specs::NeedTables::need_table_faults))]
+#[tactic(auto, using(j39_tables::proofs::FirstFaults::faults_after), unfolding(crate::specs::NeedTables::need_table_faults))]
 fn need(
     groups: &[GroupPlan],
     units: &[UnitPlan],
@@ -81,15 +80,15 @@ fn need(
         let signals = map (λ g. map (λ s. s.label.bytes) g.signals.items) groups.now in
         let unit_labels = map (λ u. u.label.bytes) units.now in
         Gives result (spec.need_table_faults group_labels signals unit_labels index (table_view members.now))
-        (spec.TellsNeed group_labels signals unit_labels (table_view members.now)) }
+        (spec.DescribesNeed group_labels signals unit_labels (table_view members.now)) }
 {
     let table = Table::Need(index);
     only(members, table, &NEED_KEYS)?;
-    let unit_text = any_text(members, table, Key::Unit)?;
-    let group_text = any_text(members, table, Key::Group)?;
-    let signal_text = optional_text(members, table, Key::Signal)?;
-    let from_text = optional_text(members, table, Key::From)?;
-    let within = optional_number(members, table, Key::Within, 1, 65_535, false)?;
+    let unit_text = required_text(members, table, Key::Unit, TextKind::Any)?;
+    let group_text = required_text(members, table, Key::Group, TextKind::Any)?;
+    let signal_text = given_text(members, table, Key::Signal, TextKind::Any)?;
+    let from_text = given_text(members, table, Key::From, TextKind::Any)?;
+    let within = given_number(members, table, Key::Within, 1, 65_535, false)?;
     let unit = place(units, unit_text, table, Key::Unit)?;
     let group = place(groups, group_text, table, Key::Group)?;
     let signal = signal_place(groups, group, signal_text, table)?;
@@ -106,24 +105,27 @@ fn need(
     })
 }
 
-impl ReadElement<NeedPlan> for Needs<'_> {
-    ghost use Rattle.j39_plan.specs.Growing.{NeverGrows};
+impl ReadElement<NeedPlan, PlanFault> for NeedReader<'_> {
+    ghost use Rattle.std.specs.Prelude.{ℕ, List};
+    ghost use Rattle.j39_tables.specs.InOrder.{NeverGrows};
     ghost use Rattle.j39_plan.specs.PlanFaults.{no_label};
     ghost use Rattle.j39_plan.specs.NeedTables.{need_faults, IsNeedOf};
 
-    ghost label_bytes = { λ _. [] };
+    ghost Label = { List ℕ };
 
-    ghost label_of = { no_label };
+    ghost label = { λ _. [] };
+
+    ghost data_label = { no_label };
 
     ghost faults = { λ r i seen. need_faults (map (λ g. g.label.bytes) r.groups.now)
         (map (λ g. map (λ s. s.label.bytes) g.signals.items) r.groups.now) (map (λ u. u.label.bytes) r.units.now) i };
 
     ghost Grows = { λ _. NeverGrows };
 
-    ghost Tells = { λ r. IsNeedOf (map (λ g. g.label.bytes) r.groups.now)
+    ghost Describes = { λ r. IsNeedOf (map (λ g. g.label.bytes) r.groups.now)
         (map (λ g. map (λ s. s.label.bytes) g.signals.items) r.groups.now) (map (λ u. u.label.bytes) r.units.now) };
 
-    #[tactic(auto, using(crate::proofs::FirstFaults::faults_after), unfolding(crate::specs::NeedTables::need_faults))]
+    #[tactic(auto, using(j39_tables::proofs::FirstFaults::faults_after), unfolding(crate::specs::NeedTables::need_faults))]
     fn read(
         &self,
         _alloc: Global,
@@ -135,7 +137,7 @@ impl ReadElement<NeedPlan> for Needs<'_> {
             self.groups,
             self.units,
             index,
-            table_of(value, Table::Need(index))?,
+            table_of::<Table, Key>(value, Table::Need(index))?,
         )
     }
 }

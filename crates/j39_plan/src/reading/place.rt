@@ -1,5 +1,4 @@
 //! Places in a plan file.
-use super::Key;
 
 /// A table of a plan file, its indices counted from 0.
 #[derive(Clone, Copy, Debug, PartialEq, Eq)]
@@ -21,11 +20,4 @@ pub enum Table {
     Flow(usize),
     Need(usize),
     Request(usize),
-}
-
-/// A table, and the key of it that is at fault where there is one.
-#[derive(Clone, Copy, Debug, PartialEq, Eq)]
-pub struct Place {
-    pub table: Table,
-    pub key: Option<Key>,
 }

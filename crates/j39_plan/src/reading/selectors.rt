@@ -2,15 +2,15 @@
 ghost use Rattle.std.specs.Prelude.{◌≡◌, ◌≤◌, ◌-◌, ◌^◌, [], option_map};
 ghost use Rattle.std.specs.Option.{option_map_or};
 ghost use Rattle.toml.specs.View.{table_view};
-ghost use Rattle.j39_plan.specs.Outcome.{Gives};
-ghost use Rattle.j39_plan.specs.SelectorTables.{TellsSelector, TellsWhen, selector_table_faults};
+ghost use Rattle.j39_tables.specs.Outcome.{Gives};
+ghost use Rattle.j39_plan.specs.SelectorTables.{DescribesSelector, DescribesWhen, selector_table_faults};
 
 use super::signals::start_of;
-use super::tables::only;
 use super::values::number;
 use super::{Key, PlanError, Table};
 use j39_id::limits::MESSAGE_BYTES;
 use j39_signal::Selector;
+use j39_tables::only;
 
 const KEYS: [Key; 4] = [Key::Byte, Key::Bit, Key::Bits, Key::Value];
 
@@ -23,9 +23,9 @@ fn greatest(bits: u32) -> u32
     most as u32
 }
 
-#[tactic(auto, using(crate::proofs::FirstFaults::faults_after), unfolding(crate::specs::SelectorTables::selector_table_faults))]
+#[tactic(auto, using(j39_tables::proofs::FirstFaults::faults_after), unfolding(crate::specs::SelectorTables::selector_table_faults))]
 fn selector(members: &toml::Table, group: usize) -> Result<Selector, PlanError>
-    ensures { Gives result (selector_table_faults group (table_view members.now)) (TellsSelector (table_view members.now)) }
+    ensures { Gives result (selector_table_faults group (table_view members.now)) (DescribesSelector (table_view members.now)) }
 {
     let table = Table::GroupWhen(group);
     only(members, table, &KEYS)?;
@@ -43,7 +43,7 @@ fn selector(members: &toml::Table, group: usize) -> Result<Selector, PlanError>
 /// The selector of the group at a place, where there is a table of it.
 pub fn when(inner: Option<&toml::Table>, group: usize) -> Result<Option<Selector>, PlanError>
     ensures { let found = option_map (λ t. table_view t.now) inner.entry in
-        Gives result (option_map_or (selector_table_faults group) found []) (TellsWhen found) }
+        Gives result (option_map_or (selector_table_faults group) found []) (DescribesWhen found) }
 {
     match inner {
         None => Ok(None),

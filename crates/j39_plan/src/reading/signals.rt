@@ -3,27 +3,30 @@ ghost use Rattle.std.specs.Prelude.{◌≡◌, ◌≤◌, ◌≤ℤ◌, true, fa
 ghost use Rattle.toml.specs.View.{table_view};
 ghost use Rattle.j39_signal.specs.Parts.{IsSignal, IsDivisor};
 ghost use Rattle.j39_network.specs.LabelForm.{is_label};
-ghost use Rattle.j39_plan.specs.Schema.{flag_of, integer_of, number_of, text_of};
-ghost use Rattle.j39_plan.specs.TableFaults.{key_faults, names_cause};
+ghost use Rattle.j39_tables.specs.Rules.{flag_of, integer_of, number_of, text_of};
+ghost use Rattle.j39_tables.specs.TableFaults.{key_faults};
+ghost use Rattle.j39_plan.specs.ValueCauses.{names_cause};
 ghost use Rattle.j39_plan.specs.Since.{since, since_faults};
 ghost use Rattle.j39_plan.specs.declared.reading.version.Version.TheVariants.{Third};
-ghost use Rattle.j39_plan.specs.MeaningTables.{TellsKeys, raw_limit};
+ghost use Rattle.j39_plan.specs.MeaningTables.{DescribesKeys, raw_limit};
 ghost use Rattle.j39_network.specs.PlanLimits.{spn_most};
-ghost use Rattle.j39_plan.specs.Outcome.{Gives};
+ghost use Rattle.j39_tables.specs.Outcome.{Gives};
 ghost use Rattle.j39_id.specs.Limits.{message_bytes};
-ghost use Rattle.j39_plan.specs.SignalTables.{is_code, is_dtc, kind_of, kind_rule, kinds, offset_rule, per_of, per_rule, repeated_of, repeated_rule, signal_table_faults, start_of, step_rule, unit_rule, TellsSignal};
+ghost use Rattle.j39_plan.specs.SignalTables.{is_code, is_dtc, kind_of, kind_rule, kinds, offset_rule, per_of};
+ghost use Rattle.j39_plan.specs.SignalTables.{per_rule, repeated_of, repeated_rule, signal_table_faults, start_of};
+ghost use Rattle.j39_plan.specs.SignalTables.{step_rule, unit_rule, DescribesSignal};
 
-use super::elements::ReadElement;
 use super::labels::{Labelled, untaken};
 use super::meanings::{MeaningKeys, meaning_keys, meaning_of};
-use super::tables::{only_known, table_of};
+use super::tables::only_known;
 use super::text_kind::TextKind;
 use super::values::{divisor, flag_if, integer, number, short_text, text};
-use super::{Key, PlanError, Table, Version};
+use super::{Key, PlanError, PlanFault, Table, Version};
 use j39_id::Label;
 use j39_id::limits::MESSAGE_BYTES;
 use j39_network::Meaning;
 use j39_signal::{Kind, Signal};
+use j39_tables::{ReadElement, table_of};
 use std::alloc::Global;
 use toml::Value;
 
@@ -97,7 +100,7 @@ fn kind(version: Version, members: &toml::Table, table: Table) -> Result<(Kind, 
     Ok((kind, version.knows(Version::Third) && is_dtc(kind)))
 }
 
-#[tactic(auto, unfolding(crate::specs::Schema::number_of))]
+#[tactic(auto, unfolding(j39_tables::specs::Rules::number_of))]
 fn step(members: &toml::Table, table: Table, code: bool) -> Result<u32, PlanError>
     ensures gives { Gives result (key_faults table (table_view members.now) (step_rule code))
         (λ n. n ≡ number_of (step_rule false) (table_view members.now)) }
@@ -111,7 +114,7 @@ fn step(members: &toml::Table, table: Table, code: bool) -> Result<u32, PlanErro
     }
 }
 
-#[tactic(auto, unfolding(crate::specs::Schema::number_of))]
+#[tactic(auto, unfolding(j39_tables::specs::Rules::number_of))]
 fn per(members: &toml::Table, table: Table, code: bool) -> Result<u32, PlanError>
     ensures gives { Gives result (key_faults table (table_view members.now) (per_rule code))
         (λ n. n ≡ number_of (per_rule false) (table_view members.now)) }
@@ -124,7 +127,7 @@ fn per(members: &toml::Table, table: Table, code: bool) -> Result<u32, PlanError
     }
 }
 
-#[tactic(auto, unfolding(crate::specs::Schema::integer_of))]
+#[tactic(auto, unfolding(j39_tables::specs::Rules::integer_of))]
 fn offset(members: &toml::Table, table: Table, code: bool) -> Result<i64, PlanError>
     ensures gives { Gives result (key_faults table (table_view members.now) (offset_rule code))
         (λ n. n ≡ integer_of (offset_rule false) (table_view members.now)) }
@@ -139,7 +142,7 @@ fn offset(members: &toml::Table, table: Table, code: bool) -> Result<i64, PlanEr
     }
 }
 
-#[tactic(auto, unfolding(crate::specs::Schema::text_of))]
+#[tactic(auto, unfolding(j39_tables::specs::Rules::text_of))]
 fn unit(members: &toml::Table, table: Table, code: bool) -> Result<Label, PlanError>
     ensures { Gives result (key_faults table (table_view members.now) (unit_rule code))
         (λ t. t.bytes ≡ text_of (unit_rule false) (table_view members.now)) }
@@ -152,7 +155,7 @@ fn unit(members: &toml::Table, table: Table, code: bool) -> Result<Label, PlanEr
 }
 
 // Whether the signal is repeated, which it can't be in a group without records.
-#[tactic(auto, unfolding(crate::specs::Schema::flag_of))]
+#[tactic(auto, unfolding(j39_tables::specs::Rules::flag_of))]
 fn repeated(members: &toml::Table, table: Table, records: bool) -> Result<bool, PlanError>
     ensures gives { Gives result (key_faults table (table_view members.now) (repeated_rule records))
         (λ b. b ≡ flag_of (repeated_rule true) (table_view members.now)) }
@@ -244,16 +247,17 @@ fn known_repeated(
     }
 }
 
-#[tactic(auto, using(crate::proofs::FirstFaults::faults_after), unfolding(crate::specs::SignalTables::signal_table_faults))]
+#[tactic(auto, using(j39_tables::proofs::FirstFaults::faults_after), unfolding(crate::specs::SignalTables::signal_table_faults))]
 fn signal<'a>(
-    reader: &Signals,
+    reader: &SignalReader,
     table: Table,
     members: &'a toml::Table,
 ) -> Result<SignalKeys<'a>, PlanError>
     ensures gives { Gives result (signal_table_faults reader.now.version reader.now.records table (table_view members.now))
-        (λ k. TellsSignal reader.now.version (table_view members.now) k.signal × TellsKeys reader.now.version (table_view members.now) k.meant) }
+        (λ k. DescribesSignal reader.now.version (table_view members.now) k.signal × DescribesKeys reader.now.version (table_view members.now) k.meant) }
     ensures label_form { IfOk result (λ k. IsTrue (is_label k.signal.label.bytes)) }
     ensures ranges { IfOk result (λ k. IsSignal k.signal.start k.signal.bits k.signal.step k.signal.offset) }
+    ensures divides { IfOk result (λ k. IsDivisor k.signal.per) }
     ensures single { IfOk result (λ k. reader.now.records ≡ false → k.signal.repeated ≡ false) }
     ensures spn { IfOk result (λ k. IfSome k.meant.spn (λ n. n ≤ spn_most)) }
     ensures named { IfOk result (λ k. IfSome k.meant.names (λ t. names_cause (raw_limit k.signal.bits) (table_view t.now) ≡ None)) }
@@ -290,28 +294,32 @@ pub struct PlannedSignal {
 
 /// The reader of the signals of the group at a place, which has records or hasn't.
 #[derive(Clone, Copy)]
-pub struct Signals {
+pub struct SignalReader {
     pub version: Version,
     pub records: bool,
     pub group: usize,
 }
 
-impl ReadElement<PlannedSignal> for Signals {
+impl ReadElement<PlannedSignal, PlanFault> for SignalReader {
+    ghost use Rattle.std.specs.Prelude.{ℕ, List};
     ghost use Rattle.j39_plan.specs.Growing.{SignalGrows};
     ghost use Rattle.j39_plan.specs.SignalTables.{signal_faults, IsSignalOf, IsMeaningOf, IsFit};
-    ghost use Rattle.j39_plan.specs.Elements.{label_in};
+    ghost use Rattle.j39_plan.specs.LabelsSeen.{label_in};
 
-    ghost label_bytes = { λ x. x.signal.label.bytes };
+    ghost Label = { List ℕ };
 
-    ghost label_of = { label_in };
+    ghost label = { λ x. x.signal.label.bytes };
+
+    ghost data_label = { label_in };
 
     ghost faults = { λ r. signal_faults r.version r.records r.group };
 
     ghost Grows = { λ r. SignalGrows r.version r.records r.group };
 
-    ghost Tells = { λ r d x. (IsSignalOf r.version d x.signal × IsFit r.records x.signal) × IsMeaningOf r.version d x.meaning };
+    ghost Describes = { λ r d x. (IsSignalOf r.version d x.signal × IsFit r.records x.signal)
+        × IsMeaningOf r.version d x.meaning };
 
-    #[tactic(auto, using(crate::proofs::FirstFaults::faults_after), unfolding(crate::specs::SignalTables::signal_faults))]
+    #[tactic(auto, using(j39_tables::proofs::FirstFaults::faults_after), unfolding(crate::specs::SignalTables::signal_faults))]
     fn read(
         &self,
         alloc: Global,
@@ -320,7 +328,7 @@ impl ReadElement<PlannedSignal> for Signals {
         value: &Value,
     ) -> Result<PlannedSignal, PlanError> {
         let table = Table::Signal(self.group, index);
-        let members = table_of(value, table)?;
+        let members = table_of::<Table, Key>(value, table)?;
         let keys = match signal(self, table, members) {
             Ok(keys) => keys,
             Err(error) => return Err(error),

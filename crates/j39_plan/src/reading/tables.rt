@@ -3,18 +3,19 @@ ghost use Rattle.std.specs.Prelude.{◌≡◌, string_bytes, Some, option_map};
 ghost use Rattle.std.specs.List.{list_all};
 ghost use Rattle.std.specs.Map.{keys_of};
 ghost use Rattle.toml.specs.Data.{as_table};
-ghost use Rattle.toml.specs.View.{view, table_view, items_view};
+ghost use Rattle.toml.specs.View.{table_view, items_view};
+ghost use Rattle.j39_plan.specs.Words.{word_of};
 ghost use Rattle.j39_plan.specs.Schema as schema;
-ghost use Rattle.j39_plan.specs.TableFaults.{is_key_word, key_faults, table_only_faults, unknown_faults};
+ghost use Rattle.j39_tables.specs.TableFaults.{key_faults, unknown_faults};
 ghost use Rattle.j39_plan.specs.Since.{is_known_word, known_keys};
-ghost use Rattle.j39_plan.specs.Outcome.{Gives};
+ghost use Rattle.j39_tables.specs.Outcome.{Gives};
 
-use super::values::{refused, value_at};
-use super::{Cause, Fault, Key, Place, PlanError, Table, Version};
+use super::{Cause, Key, PlanError, Table, Version};
+use j39_tables::{elements, refused, unknown_key, value_at};
 use toml::Value;
 
 /// The table at a key.
-#[tactic(auto, unfolding(crate::specs::TableFaults::key_faults, crate::specs::Schema::table_of))]
+#[tactic(auto, unfolding(j39_tables::specs::TableFaults::key_faults, j39_tables::specs::Rules::table_found, j39_tables::specs::Rules::one_table))]
 pub fn inner<'a>(
     members: &'a toml::Table,
     table: Table,
@@ -34,7 +35,7 @@ pub fn inner<'a>(
 }
 
 /// The table at a key, or none where the key is absent.
-#[tactic(auto, unfolding(crate::specs::TableFaults::key_faults, crate::specs::Schema::table_of))]
+#[tactic(auto, unfolding(j39_tables::specs::TableFaults::key_faults, j39_tables::specs::Rules::table_found, j39_tables::specs::Rules::one_table))]
 pub fn optional_inner<'a>(
     members: &'a toml::Table,
     table: Table,
@@ -54,7 +55,7 @@ pub fn optional_inner<'a>(
 }
 
 /// The array at a key, of at most so many elements, and an empty one where the key is absent.
-#[tactic(auto, using(crate::proofs::Tables::items_count_view), unfolding(crate::specs::TableFaults::key_faults, crate::specs::Schema::tables_of))]
+#[tactic(auto, using(j39_tables::proofs::TableViews::items_count_view), unfolding(crate::specs::Schema::tables_of, j39_tables::specs::Rules::array_up_to))]
 pub fn array<'a>(
     members: &'a toml::Table,
     table: Table,
@@ -65,46 +66,8 @@ pub fn array<'a>(
         Gives result (key_faults table (table_view members.now) rule)
         (λ vs. items_view vs.now ≡ schema.tables_of rule (table_view members.now)) }
 {
-    match value_at(members, key) {
-        None => Ok(&[]),
-        Some(value) => match value.as_array() {
-            None => Err(refused(Cause::WrongType, table, key)),
-            Some(values) => {
-                if values.len() <= limit {
-                    Ok(values.as_slice())
-                } else {
-                    Err(refused(Cause::TooMany, table, key))
-                }
-            }
-        },
-    }
-}
-
-fn is_named(name: &str, keys: &[Key]) -> bool
-    ensures { result ≡ is_key_word keys.now name.now }
-{
-    keys.iter().any(|key| key.word() == name)
-}
-
-fn has_only(members: &toml::Table, keys: &[Key]) -> bool
-    ensures { result ≡ list_all (λ name. is_key_word keys.now (string_bytes name)) (keys_of members.now.entries) }
-{
-    members.keys().all(|name| is_named(name.as_str(), keys))
-}
-
-/// Refuses a table with a key that is none of these.
-#[tactic(auto, using(crate::proofs::Tables::has_only_view), unfolding(crate::specs::TableFaults::unknown_faults))]
-pub fn only(members: &toml::Table, table: Table, keys: &[Key]) -> Result<(), PlanError>
-    ensures { Gives result (unknown_faults table keys.now (table_view members.now)) (λ _. Unit {0}) }
-{
-    if has_only(members, keys) {
-        Ok(())
-    } else {
-        Err(PlanError::Fault(Fault {
-            cause: Cause::UnknownKey,
-            place: Place { table, key: None },
-        }))
-    }
+    let values = elements(members, table, key, limit, false)?;
+    Ok(values)
 }
 
 fn is_known(name: &str, version: Version, keys: &[(Key, Version)]) -> bool
@@ -115,7 +78,8 @@ fn is_known(name: &str, version: Version, keys: &[(Key, Version)]) -> bool
 }
 
 fn has_known(members: &toml::Table, version: Version, keys: &[(Key, Version)]) -> bool
-    ensures { result ≡ list_all (λ name. is_known_word version keys.now (string_bytes name)) (keys_of members.now.entries) }
+    ensures { result
+        ≡ list_all (λ name. is_known_word version keys.now (string_bytes name)) (keys_of members.now.entries) }
 {
     members
         .keys()
@@ -123,36 +87,19 @@ fn has_known(members: &toml::Table, version: Version, keys: &[(Key, Version)]) -
 }
 
 /// Refuses a table with a key that the version doesn't know, of these, each with the version since which it is known.
-#[tactic(auto, using(crate::proofs::Tables::has_known_view), unfolding(crate::specs::TableFaults::unknown_faults))]
+#[tactic(auto, using(crate::proofs::Tables::has_known_view), unfolding(j39_tables::specs::TableFaults::unknown_faults))]
 pub fn only_known(
     members: &toml::Table,
     table: Table,
     version: Version,
     keys: &[(Key, Version)],
 ) -> Result<(), PlanError>
-    ensures { Gives result (unknown_faults table (known_keys version keys.now) (table_view members.now)) (λ _. Unit {0}) }
+    ensures { let known = known_keys version keys.now in
+        Gives result (unknown_faults word_of table known (table_view members.now)) (λ _. Unit {0}) }
 {
     if has_known(members, version, keys) {
         Ok(())
     } else {
-        Err(PlanError::Fault(Fault {
-            cause: Cause::UnknownKey,
-            place: Place { table, key: None },
-        }))
-    }
-}
-
-/// The members of a value that is to be a table.
-#[tactic(auto, unfolding(crate::specs::TableFaults::table_only_faults))]
-pub fn table_of(value: &Value, table: Table) -> Result<&toml::Table, PlanError>
-    ensures { Gives result (table_only_faults table (view value.now))
-        (λ t. Some (table_view t.now) ≡ as_table (view value.now)) }
-{
-    match value.as_table() {
-        None => Err(PlanError::Fault(Fault {
-            cause: Cause::WrongType,
-            place: Place { table, key: None },
-        })),
-        Some(members) => Ok(members),
+        Err(unknown_key(table))
     }
 }

@@ -1,30 +1,29 @@
 //! The texts of a group.
 ghost use Rattle.toml.specs.View.{table_view};
-ghost use Rattle.j39_plan.specs.Outcome.{Gives};
-ghost use Rattle.j39_plan.specs.TextTables.{text_table_faults, TellsText};
+ghost use Rattle.j39_tables.specs.Outcome.{Gives};
+ghost use Rattle.j39_plan.specs.TextTables.{text_table_faults, DescribesText};
 
-use super::elements::ReadElement;
 use super::labels::untaken_beside;
-use super::tables::{only, table_of};
 use super::text_kind::TextKind;
-use super::values::{number, optional_number, short_text};
-use super::{Key, PlanError, Table};
+use super::values::{number, short_text};
+use super::{Key, PlanError, PlanFault, Table};
 use j39_id::limits::MESSAGE_BYTES;
 use j39_network::TextPlan;
 use j39_signal::Signal;
+use j39_tables::{ReadElement, given_number, only, table_of};
 use std::alloc::Global;
 use toml::Value;
 
 const TEXT_KEYS: [Key; 3] = [Key::Label, Key::Byte, Key::Bytes];
 
-#[tactic(auto, using(crate::proofs::FirstFaults::faults_after), unfolding(crate::specs::TextTables::text_table_faults))]
+#[tactic(auto, using(j39_tables::proofs::FirstFaults::faults_after), unfolding(crate::specs::TextTables::text_table_faults))]
 fn text(table: Table, members: &toml::Table) -> Result<TextPlan, PlanError>
-    ensures { Gives result (text_table_faults table (table_view members.now)) (TellsText (table_view members.now)) }
+    ensures { Gives result (text_table_faults table (table_view members.now)) (DescribesText (table_view members.now)) }
 {
     only(members, table, &TEXT_KEYS)?;
     let label = short_text(members, table, Key::Label, TextKind::Label, None)?;
     let byte = number(members, table, Key::Byte, 1, MESSAGE_BYTES as u32, None)?;
-    let bytes = optional_number(members, table, Key::Bytes, 1, MESSAGE_BYTES as u32, false)?;
+    let bytes = given_number(members, table, Key::Bytes, 1, MESSAGE_BYTES as u32, false)?;
     Ok(TextPlan {
         label,
         byte: byte as u16,
@@ -37,28 +36,30 @@ fn text(table: Table, members: &toml::Table) -> Result<TextPlan, PlanError>
 
 /// The reader of the texts of the group at a place, behind its signals.
 #[derive(Clone, Copy)]
-pub struct Texts<'a> {
+pub struct TextReader<'a> {
     pub group: usize,
     pub signals: &'a [Signal],
 }
 
-impl ReadElement<TextPlan> for Texts<'_> {
-    ghost use Rattle.std.specs.Prelude.{map};
-    ghost use Rattle.j39_plan.specs.Growing.{NeverGrows};
+impl ReadElement<TextPlan, PlanFault> for TextReader<'_> {
+    ghost use Rattle.std.specs.Prelude.{ℕ, List, map};
+    ghost use Rattle.j39_tables.specs.InOrder.{NeverGrows};
     ghost use Rattle.j39_plan.specs.TextTables.{text_faults, IsTextOf};
-    ghost use Rattle.j39_plan.specs.Elements.{label_in};
+    ghost use Rattle.j39_plan.specs.LabelsSeen.{label_in};
 
-    ghost label_bytes = { λ t. t.label.bytes };
+    ghost Label = { List ℕ };
 
-    ghost label_of = { label_in };
+    ghost label = { λ t. t.label.bytes };
+
+    ghost data_label = { label_in };
 
     ghost faults = { λ r. text_faults (map (λ s. s.label.bytes) r.signals.now) r.group };
 
     ghost Grows = { λ _. NeverGrows };
 
-    ghost Tells = { λ _. IsTextOf };
+    ghost Describes = { λ _. IsTextOf };
 
-    #[tactic(auto, using(crate::proofs::FirstFaults::faults_after), unfolding(crate::specs::TextTables::text_faults))]
+    #[tactic(auto, using(j39_tables::proofs::FirstFaults::faults_after), unfolding(crate::specs::TextTables::text_faults))]
     fn read(
         &self,
         _alloc: Global,
@@ -67,7 +68,7 @@ impl ReadElement<TextPlan> for Texts<'_> {
         value: &Value,
     ) -> Result<TextPlan, PlanError> {
         let table = Table::Text(self.group, index);
-        let text = text(table, table_of(value, table)?)?;
+        let text = text(table, table_of::<Table, Key>(value, table)?)?;
         untaken_beside(
             self.signals,
             seen,

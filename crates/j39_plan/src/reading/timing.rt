@@ -2,19 +2,20 @@
 ghost use Rattle.std.specs.Prelude.{◌≡◌, ◌≤◌, [], true, option_map, IfOk};
 ghost use Rattle.std.specs.Option.{option_map_or};
 ghost use Rattle.toml.specs.View.{table_view};
+ghost use Rattle.j39_tables.specs.Rules.{number_of};
 ghost use Rattle.j39_plan.specs.declared.reading.place.Table.TheVariants as at;
-ghost use Rattle.j39_plan.specs.Schema as schema;
-ghost use Rattle.j39_plan.specs.TableFaults.{key_faults};
+ghost use Rattle.j39_tables.specs.TableFaults.{key_faults};
 ghost use Rattle.j39_plan.specs.Since.{is_known, known_faults};
 ghost use Rattle.j39_plan.specs.declared.reading.version.Version.TheVariants.{Third};
 ghost use Rattle.j39_plan.specs.TimingTables as spec;
 ghost use Rattle.j39_plan.specs.PlanFaults.{version_of, timing_faults, timing_table};
-ghost use Rattle.j39_plan.specs.Outcome.{Gives};
+ghost use Rattle.j39_tables.specs.Outcome.{Gives};
 
-use super::tables::{only, only_known, optional_inner};
+use super::tables::{only_known, optional_inner};
 use super::values::{bitrate_number, number};
 use super::{Key, PlanError, Table, Version};
 use j39_network::{Bitrate, ErrorRate, Timing};
+use j39_tables::only;
 
 const KEYS: [(Key, Version); 7] = [
     (Key::Bitrate, Version::Third),
@@ -30,7 +31,7 @@ const ERROR_KEYS: [Key; 2] = [Key::Count, Key::Every];
 
 fn bitrate(members: &toml::Table, version: Version) -> Result<Bitrate, PlanError>
     ensures { Gives result (key_faults at.Timing (table_view members.now) (spec.bitrate_rule version))
-        (λ b. b ≡ spec.bitrate_of (schema.number_of (spec.bitrate_rule version) (table_view members.now))) }
+        (λ b. b ≡ spec.bitrate_of (number_of (spec.bitrate_rule version) (table_view members.now))) }
 {
     let more = version.knows(Version::Fourth);
     Ok(
@@ -53,7 +54,7 @@ struct LaterKeys<'a> {
     errors: Option<&'a toml::Table>,
 }
 
-#[tactic(auto, using(crate::proofs::FirstFaults::faults_after))]
+#[tactic(auto, using(j39_tables::proofs::FirstFaults::faults_after))]
 fn later_keys(members: &toml::Table, version: Version) -> Result<LaterKeys, PlanError>
     ensures gives { Gives result (known_faults at.Timing version (table_view members.now) (spec.later_timing_rules (table_view members.now)))
         (λ later. (later.unplanned_priority ≡ spec.unplanned_priority_of version (table_view members.now))
@@ -92,9 +93,9 @@ fn later_keys(members: &toml::Table, version: Version) -> Result<LaterKeys, Plan
     })
 }
 
-#[tactic(auto, using(crate::proofs::FirstFaults::faults_after), unfolding(crate::specs::TimingTables::error_table_faults))]
+#[tactic(auto, using(j39_tables::proofs::FirstFaults::faults_after), unfolding(crate::specs::TimingTables::error_table_faults))]
 fn error_rate(members: &toml::Table) -> Result<ErrorRate, PlanError>
-    ensures { Gives result (spec.error_table_faults (table_view members.now)) (spec.TellsErrorRate (table_view members.now)) }
+    ensures { Gives result (spec.error_table_faults (table_view members.now)) (spec.DescribesErrorRate (table_view members.now)) }
 {
     let table = Table::TimingErrors;
     only(members, table, &ERROR_KEYS)?;
@@ -109,7 +110,7 @@ fn error_rate(members: &toml::Table) -> Result<ErrorRate, PlanError>
 // How many frames are damaged at most, where there is a table of it.
 fn errors(inner: Option<&toml::Table>) -> Result<Option<ErrorRate>, PlanError>
     ensures { let found = option_map (λ t. table_view t.now) inner.entry in
-        Gives result (option_map_or spec.error_table_faults found []) (spec.TellsErrors found) }
+        Gives result (option_map_or spec.error_table_faults found []) (spec.DescribesErrors found) }
 {
     match inner {
         None => Ok(None),
@@ -117,10 +118,10 @@ fn errors(inner: Option<&toml::Table>) -> Result<Option<ErrorRate>, PlanError>
     }
 }
 
-#[tactic(auto, using(crate::proofs::FirstFaults::faults_after), unfolding(crate::specs::TimingTables::timing_table_faults))]
+#[tactic(auto, using(j39_tables::proofs::FirstFaults::faults_after), unfolding(crate::specs::TimingTables::timing_table_faults))]
 fn bus(members: &toml::Table, version: Version) -> Result<Timing, PlanError>
     requires { is_known Third version ≡ true }
-    ensures { Gives result (spec.timing_table_faults version (table_view members.now)) (spec.TellsBus version (table_view members.now)) }
+    ensures { Gives result (spec.timing_table_faults version (table_view members.now)) (spec.DescribesBus version (table_view members.now)) }
 {
     only_known(members, Table::Timing, version, &KEYS)?;
     let bitrate = bitrate(members, version)?;
@@ -139,11 +140,11 @@ fn bus(members: &toml::Table, version: Version) -> Result<Timing, PlanError>
 }
 
 /// What is known of the bus, where the version knows its table and there is one.
-#[tactic(auto, using(crate::proofs::FirstFaults::faults_after))]
+#[tactic(auto, using(j39_tables::proofs::FirstFaults::faults_after))]
 pub fn timing(members: &toml::Table, version: Version) -> Result<Option<Timing>, PlanError>
     requires { version ≡ version_of (table_view members.now) }
     ensures { Gives result (timing_faults (table_view members.now))
-        (spec.TellsTiming (version_of (table_view members.now)) (timing_table (table_view members.now))) }
+        (spec.DescribesTiming (version_of (table_view members.now)) (timing_table (table_view members.now))) }
 {
     if !version.knows(Version::Third) {
         return Ok(None);

@@ -3,22 +3,23 @@ ghost use Rattle.std.specs.Prelude.{◌≡◌, ◌<◌, false, IfOk};
 ghost use Rattle.j39_id.specs.Addresses.{null_address};
 ghost use Rattle.j39_id.specs.Name.{is_arbitrary};
 ghost use Rattle.toml.specs.View.{table_view};
-ghost use Rattle.j39_plan.specs.Schema.{text_of, number_of};
-ghost use Rattle.j39_plan.specs.TableFaults.{key_faults};
+ghost use Rattle.j39_tables.specs.Rules.{text_of, number_of};
+ghost use Rattle.j39_tables.specs.TableFaults.{key_faults};
 ghost use Rattle.j39_plan.specs.Since.{since, since_faults};
 ghost use Rattle.j39_plan.specs.declared.reading.version.Version.TheVariants.{Fourth};
-ghost use Rattle.j39_plan.specs.Outcome.{Gives};
-ghost use Rattle.j39_plan.specs.UnitTables.{way_of, address_rule, chooser_rule, claims_of, claims_rule, queue_in, queue_of, queue_rule, silent_faults, unit_table_faults, TellsUnit};
+ghost use Rattle.j39_tables.specs.Outcome.{Gives};
+ghost use Rattle.j39_plan.specs.UnitTables.{way_of, address_rule, chooser_rule, claims_of, claims_rule, queue_in};
+ghost use Rattle.j39_plan.specs.UnitTables.{queue_of, queue_rule, silent_faults, unit_table_faults, DescribesUnit};
 
-use super::elements::ReadElement;
 use super::labels::untaken;
 use super::names::{is_open, name};
-use super::tables::{inner, only_known, table_of};
+use super::tables::{inner, only_known};
 use super::text_kind::TextKind;
-use super::values::{flag, number, refused, short_text, text};
-use super::{Cause, Key, PlanError, Table, Version};
+use super::values::{flag, number, short_text, text};
+use super::{Cause, Key, PlanError, PlanFault, Table, Version};
 use j39_id::{Address, Name};
 use j39_network::{Queue, UnitPlan, Way};
+use j39_tables::{ReadElement, refused, table_of};
 use std::alloc::Global;
 use toml::Value;
 
@@ -130,9 +131,9 @@ fn silent_stays(index: usize, claims: bool, name: Name) -> Result<(), PlanError>
     }
 }
 
-#[tactic(auto, using(crate::proofs::FirstFaults::faults_after), unfolding(crate::specs::UnitTables::unit_table_faults))]
+#[tactic(auto, using(j39_tables::proofs::FirstFaults::faults_after), unfolding(crate::specs::UnitTables::unit_table_faults))]
 fn unit(version: Version, index: usize, members: &toml::Table) -> Result<UnitPlan, PlanError>
-    ensures { Gives result (unit_table_faults version index (table_view members.now)) (TellsUnit version (table_view members.now)) }
+    ensures { Gives result (unit_table_faults version index (table_view members.now)) (DescribesUnit version (table_view members.now)) }
 {
     let table = Table::Unit(index);
     only_known(members, table, version, &KEYS)?;
@@ -159,25 +160,28 @@ fn unit(version: Version, index: usize, members: &toml::Table) -> Result<UnitPla
 
 /// The reader of units.
 #[derive(Clone, Copy)]
-pub struct Units {
+pub struct UnitReader {
     pub version: Version,
 }
 
-impl ReadElement<UnitPlan> for Units {
-    ghost use Rattle.j39_plan.specs.Growing.{NeverGrows};
+impl ReadElement<UnitPlan, PlanFault> for UnitReader {
+    ghost use Rattle.std.specs.Prelude.{ℕ, List};
+    ghost use Rattle.j39_tables.specs.InOrder.{NeverGrows};
     ghost use Rattle.j39_plan.specs.UnitTables.{unit_faults, unit_label_in, IsUnitOf};
 
-    ghost label_bytes = { λ u. u.label.bytes };
+    ghost Label = { List ℕ };
 
-    ghost label_of = { unit_label_in };
+    ghost label = { λ u. u.label.bytes };
+
+    ghost data_label = { unit_label_in };
 
     ghost faults = { λ r. unit_faults r.version };
 
     ghost Grows = { λ _. NeverGrows };
 
-    ghost Tells = { λ r. IsUnitOf r.version };
+    ghost Describes = { λ r. IsUnitOf r.version };
 
-    #[tactic(auto, using(crate::proofs::FirstFaults::faults_after), unfolding(crate::specs::UnitTables::unit_faults))]
+    #[tactic(auto, using(j39_tables::proofs::FirstFaults::faults_after), unfolding(crate::specs::UnitTables::unit_faults))]
     fn read(
         &self,
         _alloc: Global,
@@ -186,7 +190,7 @@ impl ReadElement<UnitPlan> for Units {
         value: &Value,
     ) -> Result<UnitPlan, PlanError> {
         let table = Table::Unit(index);
-        let unit = unit(self.version, index, table_of(value, table)?)?;
+        let unit = unit(self.version, index, table_of::<Table, Key>(value, table)?)?;
         untaken(seen, unit.label.as_str(), TextKind::UnitLabel, table)?;
         Ok(unit)
     }

@@ -1,41 +1,23 @@
 //! The values of a table's keys.
-ghost use Rattle.std.specs.Prelude.{◌≡◌, ℕ, true, false, if◌then◌else◌, Some, None, List, option_map, IfSome, IfOk, ◌≤◌, ◌≤ℤ◌, length};
+ghost use Rattle.std.specs.Prelude.{◌≡◌, ℕ, true, false, if◌then◌else◌, Some, None, List, IfSome, IfOk, ◌≤◌, ◌≤ℤ◌};
+ghost use Rattle.std.specs.Prelude.{length};
 ghost use Rattle.std.specs.Option.{option_copied};
-ghost use Rattle.toml.specs.Data.{get_member};
-ghost use Rattle.toml.specs.View.{view, table_view};
+ghost use Rattle.toml.specs.View.{table_view};
+ghost use Rattle.j39_tables.specs.Rules.{flag_of, integer_of, natural, number_of, text_of};
 ghost use Rattle.j39_signal.specs.Parts.{IsDivisor};
-ghost use Rattle.j39_plan.specs.Words.{word_of};
 ghost use Rattle.j39_plan.specs.TextKinds.{takes};
 ghost use Rattle.j39_plan.specs.Schema as schema;
-ghost use Rattle.j39_plan.specs.TableFaults.{fault, is_bitrate, key_faults};
-ghost use Rattle.j39_plan.specs.Outcome.{Gives};
+ghost use Rattle.j39_tables.specs.TableFaults.{key_faults};
+ghost use Rattle.j39_plan.specs.ValueCauses.{is_bitrate};
+ghost use Rattle.j39_tables.specs.Outcome.{Gives};
 
 use super::text_kind::TextKind;
-use super::{Cause, Fault, Key, Place, PlanError, Table};
+use super::{Cause, Key, PlanError, Table};
 use arrayvec::ArrayString;
 use j39_id::Label;
 use j39_signal::divides_decimally;
+use j39_tables::{refused, value_at};
 use toml::Value;
-
-/// The refusal of a key's value.
-pub fn refused(cause: Cause, table: Table, key: Key) -> PlanError
-    ensures { result ≡ PlanError.Fault (fault cause table (Some key)) }
-{
-    PlanError::Fault(Fault {
-        cause,
-        place: Place {
-            table,
-            key: Some(key),
-        },
-    })
-}
-
-/// What stands at a key.
-pub fn value_at(members: &toml::Table, key: Key) -> Option<&Value>
-    ensures { option_map (λ v. view v.now) result ≡ get_member (word_of key) (table_view members.now) }
-{
-    members.get(key.word())
-}
 
 /// Whether something stands at a key.
 #[tactic(auto, unfolding(crate::specs::Schema::has_key))]
@@ -46,7 +28,7 @@ pub fn has_key(members: &toml::Table, key: Key) -> bool
 }
 
 /// The integer at a key, within a range, or the default where there is one.
-#[tactic(auto, unfolding(crate::specs::TableFaults::key_faults, crate::specs::Schema::integer_of))]
+#[tactic(auto, unfolding(j39_tables::specs::TableFaults::key_faults, j39_tables::specs::Rules::integer_of, j39_tables::specs::Rules::integer_in))]
 pub fn integer(
     members: &toml::Table,
     table: Table,
@@ -58,7 +40,7 @@ pub fn integer(
     requires { IfSome default (λ n. (low ≤ℤ n) × (n ≤ℤ high)) }
     ensures gives { let rule = schema.signed key low high default in
         Gives result (key_faults table (table_view members.now) rule)
-        (λ n. n ≡ schema.integer_of rule (table_view members.now)) }
+        (λ n. n ≡ integer_of rule (table_view members.now)) }
     ensures at_least { IfOk result (λ n. low ≤ℤ n) }
     ensures at_most { IfOk result (λ n. n ≤ℤ high) }
 {
@@ -81,7 +63,7 @@ pub fn integer(
 }
 
 /// The number at a key, within a range, or the default where there is one.
-#[tactic(auto, unfolding(crate::specs::TableFaults::key_faults, crate::specs::Schema::number_of))]
+#[tactic(auto, unfolding(j39_tables::specs::TableFaults::key_faults, j39_tables::specs::Rules::number_of, j39_tables::specs::Rules::integer_in))]
 pub fn number(
     members: &toml::Table,
     table: Table,
@@ -93,7 +75,7 @@ pub fn number(
     requires { IfSome default (λ n. (low ≤ n) × (n ≤ high)) }
     ensures gives { let rule = schema.number key low high default in
         Gives result (key_faults table (table_view members.now) rule)
-        (λ n. n ≡ schema.number_of rule (table_view members.now)) }
+        (λ n. n ≡ number_of rule (table_view members.now)) }
     ensures at_least { IfOk result (λ n. low ≤ n) }
     ensures at_most { IfOk result (λ n. n ≤ high) }
 {
@@ -115,52 +97,15 @@ pub fn number(
     }
 }
 
-/// The number at a key, within a range, or none where the key is absent, unless it is required.
-#[tactic(auto, unfolding(crate::specs::TableFaults::key_faults, crate::specs::Schema::given_number))]
-pub fn optional_number(
-    members: &toml::Table,
-    table: Table,
-    key: Key,
-    low: u32,
-    high: u32,
-    is_required: bool,
-) -> Result<Option<u32>, PlanError>
-    ensures gives { let rule = if is_required then schema.number key low high None else schema.optional key low high in
-        Gives result (key_faults table (table_view members.now) rule)
-        (λ n. n ≡ schema.given_number rule (table_view members.now)) }
-    ensures at_least { IfOk result (λ given. IfSome given (λ n. low ≤ n)) }
-    ensures at_most { IfOk result (λ given. IfSome given (λ n. n ≤ high)) }
-{
-    match value_at(members, key) {
-        None => {
-            if is_required {
-                Err(refused(Cause::Missing, table, key))
-            } else {
-                Ok(None)
-            }
-        }
-        Some(value) => match value.as_integer() {
-            None => Err(refused(Cause::WrongType, table, key)),
-            Some(number) => {
-                if number < i64::from(low) || i64::from(high) < number {
-                    Err(refused(Cause::Range, table, key))
-                } else {
-                    Ok(Some(number as u32))
-                }
-            }
-        },
-    }
-}
-
 // Whether a bus has this bitrate, of those that the third version knows or of more.
 fn is_bitrate(number: i64, more: bool) -> bool
-    ensures { result ≡ is_bitrate more (schema.natural number) }
+    ensures { result ≡ is_bitrate more (natural number) }
 {
     number == 250_000 || number == 500_000 || more && (number == 125_000 || number == 1_000_000)
 }
 
 /// The bitrate at a key, of those that the third version knows or of more.
-#[tactic(auto, unfolding(crate::specs::TableFaults::key_faults, crate::specs::Schema::number_of))]
+#[tactic(auto, unfolding(j39_tables::specs::TableFaults::key_faults, j39_tables::specs::Rules::number_of, crate::specs::ValueCauses::bitrate_of_bus))]
 pub fn bitrate_number(
     members: &toml::Table,
     table: Table,
@@ -169,7 +114,7 @@ pub fn bitrate_number(
 ) -> Result<u32, PlanError>
     ensures gives { let rule = schema.bitrate key more in
         Gives result (key_faults table (table_view members.now) rule)
-        (λ n. n ≡ schema.number_of rule (table_view members.now)) }
+        (λ n. n ≡ number_of rule (table_view members.now)) }
 {
     match value_at(members, key) {
         None => Err(refused(Cause::Missing, table, key)),
@@ -187,12 +132,12 @@ pub fn bitrate_number(
 }
 
 /// The number at a key that values are divided by, a product of 2s and 5s up to a limit, or 1.
-#[tactic(auto, unfolding(crate::specs::TableFaults::key_faults, crate::specs::Schema::number_of))]
+#[tactic(auto, unfolding(j39_tables::specs::TableFaults::key_faults, j39_tables::specs::Rules::number_of, crate::specs::ValueCauses::divisor_up_to))]
 pub fn divisor(members: &toml::Table, table: Table, key: Key, limit: u32) -> Result<u32, PlanError>
     requires { 1 ≤ limit }
     ensures gives { let rule = schema.divisor key limit in
         Gives result (key_faults table (table_view members.now) rule)
-        (λ n. n ≡ schema.number_of rule (table_view members.now)) }
+        (λ n. n ≡ number_of rule (table_view members.now)) }
     ensures divides { IfOk result IsDivisor }
 {
     match value_at(members, key) {
@@ -211,11 +156,11 @@ pub fn divisor(members: &toml::Table, table: Table, key: Key, limit: u32) -> Res
 }
 
 /// The truth value at a key, or the default.
-#[tactic(auto, unfolding(crate::specs::TableFaults::key_faults, crate::specs::Schema::flag_of))]
+#[tactic(auto, unfolding(j39_tables::specs::TableFaults::key_faults, j39_tables::specs::Rules::flag_of, j39_tables::specs::Rules::truth))]
 pub fn flag(members: &toml::Table, table: Table, key: Key, default: bool) -> Result<bool, PlanError>
     ensures { let rule = schema.flag key default in
         Gives result (key_faults table (table_view members.now) rule)
-        (λ b. b ≡ schema.flag_of rule (table_view members.now)) }
+        (λ b. b ≡ flag_of rule (table_view members.now)) }
 {
     match value_at(members, key) {
         None => Ok(default),
@@ -227,11 +172,11 @@ pub fn flag(members: &toml::Table, table: Table, key: Key, default: bool) -> Res
 }
 
 /// The truth value at a key, which may be true only where this is so, and false where the key is absent.
-#[tactic(auto, unfolding(crate::specs::TableFaults::key_faults, crate::specs::Schema::flag_of))]
+#[tactic(auto, unfolding(j39_tables::specs::TableFaults::key_faults, j39_tables::specs::Rules::flag_of, crate::specs::ValueCauses::truth_where))]
 pub fn flag_if(members: &toml::Table, table: Table, key: Key, may: bool) -> Result<bool, PlanError>
     ensures gives { let rule = schema.flag_if key may in
         Gives result (key_faults table (table_view members.now) rule)
-        (λ b. b ≡ schema.flag_of rule (table_view members.now)) }
+        (λ b. b ≡ flag_of rule (table_view members.now)) }
     ensures only { IfOk result (λ b. may ≡ false → b ≡ false) }
 {
     match value_at(members, key) {
@@ -250,7 +195,7 @@ pub fn flag_if(members: &toml::Table, table: Table, key: Key, may: bool) -> Resu
 }
 
 /// The text at a key, or the default where there is one.
-#[tactic(auto, unfolding(crate::specs::TableFaults::key_faults, crate::specs::Schema::text_of))]
+#[tactic(auto, unfolding(j39_tables::specs::TableFaults::key_faults, j39_tables::specs::Rules::text_of, j39_tables::specs::Rules::text_where))]
 pub fn text<'a>(
     members: &'a toml::Table,
     table: Table,
@@ -261,7 +206,7 @@ pub fn text<'a>(
     requires { IfSome (option_copied default) (λ t. takes kind t ≡ true) }
     ensures gives { let rule = schema.text key kind (option_copied default.entry) in
         Gives result (key_faults table (table_view members.now) rule)
-        (λ t. t.now ≡ schema.text_of rule (table_view members.now)) }
+        (λ t. t.now ≡ text_of rule (table_view members.now)) }
     ensures taken { IfOk result (λ t. takes kind t.now ≡ true) }
 {
     match value_at(members, key) {
@@ -282,44 +227,8 @@ pub fn text<'a>(
     }
 }
 
-/// The text at a key, which must be there and may be any.
-#[tactic(auto, unfolding(crate::specs::TableFaults::key_faults, crate::specs::Schema::found_text))]
-pub fn any_text<'a>(members: &'a toml::Table, table: Table, key: Key) -> Result<&'a str, PlanError>
-    ensures { let rule = schema.text key TextKind.Any None in
-        Gives result (key_faults table (table_view members.now) rule)
-        (λ t. Some t.now ≡ schema.found_text rule (table_view members.now)) }
-{
-    match value_at(members, key) {
-        None => Err(refused(Cause::Missing, table, key)),
-        Some(value) => match value.as_str() {
-            None => Err(refused(Cause::WrongType, table, key)),
-            Some(text) => Ok(text),
-        },
-    }
-}
-
-/// The text at a key, which may be any, or none where the key is absent.
-#[tactic(auto, unfolding(crate::specs::TableFaults::key_faults, crate::specs::Schema::found_text))]
-pub fn optional_text<'a>(
-    members: &'a toml::Table,
-    table: Table,
-    key: Key,
-) -> Result<Option<&'a str>, PlanError>
-    ensures { let rule = schema.optional_text key in
-        Gives result (key_faults table (table_view members.now) rule)
-        (λ found. option_map (λ t. t.now) found ≡ schema.found_text rule (table_view members.now)) }
-{
-    match value_at(members, key) {
-        None => Ok(None),
-        Some(value) => match value.as_str() {
-            None => Err(refused(Cause::WrongType, table, key)),
-            Some(text) => Ok(Some(text)),
-        },
-    }
-}
-
 /// The short text at a key, or the default where there is one.
-#[tactic(auto, unfolding(crate::specs::TableFaults::key_faults, crate::specs::Schema::text_of))]
+#[tactic(auto, unfolding(j39_tables::specs::TableFaults::key_faults, j39_tables::specs::Rules::text_of, j39_tables::specs::Rules::text_where))]
 pub fn short_text(
     members: &toml::Table,
     table: Table,
@@ -331,7 +240,7 @@ pub fn short_text(
     requires default { IfSome (option_copied default) (λ t. takes kind t ≡ true) }
     ensures gives { let rule = schema.text key kind (option_copied default.entry) in
         Gives result (key_faults table (table_view members.now) rule)
-        (λ t. t.bytes ≡ schema.text_of rule (table_view members.now)) }
+        (λ t. t.bytes ≡ text_of rule (table_view members.now)) }
     ensures taken { IfOk result (λ t. takes kind t.bytes ≡ true) }
 {
     let text = text(members, table, key, kind, default)?;

@@ -74,8 +74,8 @@ fn managed(bytes: &[u8]) -> Result<Packet, PacketError>
     }
 }
 
-/// The connection management packet (TP.CM of SAE J1939-21) that the bytes are; a byte without a meaning may be anything.
-/// The refusals are Length, Control, Size, Count, Number and Group, the first that holds.
+/// The connection management packet (TP.CM of SAE J1939-21) that the bytes are; a byte without a meaning may be
+/// anything. The refusals are Length, Control, Size, Count, Number and Group, the first that holds.
 pub fn from_cm(bytes: &[u8]) -> Result<Packet, PacketError>
     ensures found { IfOk result (ManagementReads bytes.now) }
     ensures range { IfOk result InRange }
@@ -87,7 +87,8 @@ pub fn from_cm(bytes: &[u8]) -> Result<Packet, PacketError>
     Ok(packet)
 }
 
-/// The data packet (TP.DT of SAE J1939-21) that the bytes are. The refusals are Length and Number, the first that holds.
+/// The data packet (TP.DT of SAE J1939-21) that the bytes are. The refusals are Length and Number, the first that
+/// holds.
 pub fn from_dt(bytes: &[u8]) -> Result<Packet, PacketError>
     ensures found { IfOk result (DataReads bytes.now) }
     ensures range { IfOk result InRange }

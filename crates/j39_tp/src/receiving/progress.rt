@@ -5,7 +5,7 @@ ghost use Rattle.j39_tp.specs.Receiver.{going_on, takes_next, takes_later, takes
 ghost use Rattle.j39_tp.specs.inside.Held.{is_within, last_size};
 
 use super::manner::Manner;
-use super::reception::{Kind, Reception};
+use super::reception::{Reception, ReceptionKind};
 use crate::packet::NO_LIMIT;
 use crate::packet::reasons::{ASKED_TOO_OFTEN, TIMEOUT};
 use crate::{Heard, Packet, Size};
@@ -32,7 +32,7 @@ fn go_on(manner: Manner, reception: Reception) -> (Progress, Heard)
     ensures within { is_within result.0 ≡ true }
 {
     match manner {
-        Manner::Answering { window } if reception.kind == Kind::Directed => {
+        Manner::Answering { window } if reception.kind == ReceptionKind::Directed => {
             let (granted, packet) = reception.clear(window);
             (Progress::Open(granted), Heard::Reply(packet))
         }
@@ -76,7 +76,7 @@ fn take_next(manner: Manner, reception: Reception) -> (Progress, Heard)
         };
     }
     let heard = match manner {
-        Manner::Answering { .. } if taken.kind == Kind::Directed => {
+        Manner::Answering { .. } if taken.kind == ReceptionKind::Directed => {
             Heard::CompleteReply(Packet::EndAck {
                 size: taken.size,
                 pgn: taken.pgn,
@@ -93,7 +93,7 @@ fn take_later(manner: Manner, reception: Reception, number: u8) -> (Progress, He
     ensures result { result ≡ takes_later manner reception.kind reception number }
     ensures within { is_within result.0 ≡ true }
 {
-    if reception.kind == Kind::Broadcast {
+    if reception.kind == ReceptionKind::Broadcast {
         return (Progress::Closed, Heard::Closed);
     }
     match manner {
@@ -131,11 +131,14 @@ impl Progress {
             Packet::Bam { size, pgn } => {
                 go_on(
                     manner,
-                    Reception::open(Kind::Broadcast, pgn, size, NO_LIMIT),
+                    Reception::open(ReceptionKind::Broadcast, pgn, size, NO_LIMIT),
                 )
             }
             Packet::Rts { size, limit, pgn } => {
-                go_on(manner, Reception::open(Kind::Directed, pgn, size, limit))
+                go_on(
+                    manner,
+                    Reception::open(ReceptionKind::Directed, pgn, size, limit),
+                )
             }
             Packet::Dt { number, .. } => match self {
                 Progress::Open(reception) => take(manner, reception, number),
@@ -143,7 +146,7 @@ impl Progress {
             },
             Packet::Abort { pgn, .. } => match self {
                 Progress::Open(reception)
-                    if reception.kind == Kind::Directed && reception.pgn == pgn => {
+                    if reception.kind == ReceptionKind::Directed && reception.pgn == pgn => {
                     (Progress::Closed, Heard::Closed)
                 }
                 _ => (self, Heard::Nothing),
@@ -162,7 +165,7 @@ impl Progress {
             return (self, None);
         };
         match manner {
-            Manner::Answering { window } if reception.kind == Kind::Directed => {
+            Manner::Answering { window } if reception.kind == ReceptionKind::Directed => {
                 let (progress, packet) = ask(reception, window, TIMEOUT);
                 (progress, Some(packet))
             }

@@ -72,7 +72,8 @@ fn append(bytes: &mut ArrayVec<u8, MESSAGE_BYTES>, size: Size, chunk: Chunk)
 impl Receiver {
     ghost use Rattle.j39_id.specs.Limits.{message_bytes};
     ghost use Rattle.j39_tp.specs.declared.receiving.manner.Manner.TheVariants.{Answering, Listening};
-    ghost use Rattle.j39_tp.specs.Receiver.{fresh, hears, receives, timed_out, gives_up, is_open_at, pgn_at, message_of, completed_size};
+    ghost use Rattle.j39_tp.specs.Receiver.{fresh, hears, receives, timed_out, gives_up, is_open_at, pgn_at};
+    ghost use Rattle.j39_tp.specs.Receiver.{message_of, completed_size};
 
     /// A closed receiver that grants at most `window` packets in each CTS; `None` for 0.
     pub fn new(window: u8) -> Option<Self>

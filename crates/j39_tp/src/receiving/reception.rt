@@ -7,7 +7,7 @@ use j39_id::Pgn;
 
 /// How a message was announced.
 #[derive(Clone, Copy, PartialEq, Eq)]
-pub enum Kind {
+pub enum ReceptionKind {
     /// To all, by BAM.
     Broadcast,
     /// To one, by RTS.
@@ -18,7 +18,7 @@ pub enum Kind {
 /// the last that was granted by a CTS, and how often a packet was asked for again.
 #[derive(Clone, Copy)]
 pub struct Reception {
-    pub(crate) kind: Kind,
+    pub(crate) kind: ReceptionKind,
     pub(crate) pgn: Pgn,
     pub(crate) size: Size,
     pub(crate) limit: u8,
@@ -32,7 +32,7 @@ impl Reception {
     ghost use Rattle.j39_tp.specs.Receiver.{opened, granted_to, clear_packet};
 
     /// A session that was just announced.
-    pub(crate) fn open(kind: Kind, pgn: Pgn, size: Size, limit: u8) -> Self
+    pub(crate) fn open(kind: ReceptionKind, pgn: Pgn, size: Size, limit: u8) -> Self
         ensures { result ≡ opened kind pgn size limit }
     {
         Reception {

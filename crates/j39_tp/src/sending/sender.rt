@@ -20,8 +20,10 @@ impl Model for Sender {
 }
 
 impl Sender {
-    ghost use Rattle.j39_tp.specs.Sender.{announced, announcement, packet_next, answer, late_packet, is_resting, outcome_seen, phase_seen};
-    ghost use Rattle.j39_tp.specs.Sender.{sender_after_sending, sender_after_hearing, sender_after_timeout, sender_after_rest};
+    ghost use Rattle.j39_tp.specs.Sender.{announced, announcement, packet_next, answer, late_packet, is_resting};
+    ghost use Rattle.j39_tp.specs.Sender.{outcome_seen, phase_seen};
+    ghost use Rattle.j39_tp.specs.Sender.{sender_after_sending, sender_after_hearing, sender_after_timeout};
+    ghost use Rattle.j39_tp.specs.Sender.{sender_after_rest};
 
     /// An idle sender.
     pub fn new() -> Self

@@ -17,7 +17,8 @@ pub enum Stage {
 impl Stage {
     ghost use Rattle.std.specs.Prelude.{◌≡◌};
     ghost use Rattle.j39_tp.specs.declared.sending.outcome.Outcome.TheVariants.{GaveUp};
-    ghost use Rattle.j39_tp.specs.Sender.{begun, after_packet, cleared, ended, stage_hears, after_timeout, timeout_packet, phase_of, outcome_of};
+    ghost use Rattle.j39_tp.specs.Sender.{begun, after_packet, cleared, ended, stage_hears, after_timeout};
+    ghost use Rattle.j39_tp.specs.Sender.{timeout_packet, phase_of, outcome_of};
 
     /// Where a session stands once its message was announced.
     pub(crate) fn begin(dest: Dest, size: Size) -> Self

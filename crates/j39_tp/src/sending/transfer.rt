@@ -1,7 +1,8 @@
 //! Transfers of messages.
 ghost use Rattle.std.specs.Prelude.{◌≡◌, length};
 ghost use Rattle.j39_tp.specs.declared.sending.outcome.Outcome.TheVariants.{GaveUp};
-ghost use Rattle.j39_tp.specs.Sender.{after_packet, after_timeout, announced, announcement, data_next, ended, outcome_of, phase_of, timeout_packet, transfer_hears};
+ghost use Rattle.j39_tp.specs.Sender.{after_packet, after_timeout, announced, announcement, data_next, ended};
+ghost use Rattle.j39_tp.specs.Sender.{outcome_of, phase_of, timeout_packet, transfer_hears};
 
 use super::stage::Stage;
 use crate::packet::NO_LIMIT;
@@ -9,8 +10,8 @@ use crate::{Dest, Message, Outcome, Packet, Phase, Reaction};
 use j39_id::Pgn;
 use std::marker::Model;
 
-/// A message that is being sent, from its announcement on (SAE J1939-21, transport protocol functions). There is no transfer
-/// without a message: a `Sender` has one or none.
+/// A message that is being sent, from its announcement on (SAE J1939-21, transport protocol functions). There is no
+/// transfer without a message: a `Sender` has one or none.
 #[derive(Drop)]
 pub struct Transfer {
     message: Message,

@@ -1,23 +1,22 @@
 //! The buses of a vehicle file.
 ghost use Rattle.std.specs.Prelude.{◌≡◌, [], map};
 ghost use Rattle.toml.specs.View.{table_view};
-ghost use Rattle.j39_vehicle.specs.Outcome.{GivesGrowing};
-ghost use Rattle.j39_vehicle.specs.BusTables.{bus_table_faults, named_bus, TellsBus};
+ghost use Rattle.j39_tables.specs.Outcome.{GivesGrowing};
+ghost use Rattle.j39_vehicle.specs.BusTables.{bus_table_faults, named_bus, DescribesBus};
 
-use super::elements::ReadElement;
 use super::named::untaken;
 use super::owned::owned;
-use super::tables::{only, table_of};
 use super::text_kind::TextKind;
-use super::values::{label, text};
-use super::{Key, Table, VehicleError};
+use super::values::label;
+use super::{Key, Table, VehicleError, VehicleFault};
 use crate::file::BusTable;
+use j39_tables::{ReadElement, only, required_text, table_of};
 use std::alloc::Global;
 use toml::Value;
 
 const BUS_KEYS: [Key; 2] = [Key::Label, Key::Plan];
 
-#[tactic(auto, using(crate::proofs::FirstFaults::faults_after), unfolding(crate::specs::BusTables::bus_table_faults))]
+#[tactic(auto, using(j39_tables::proofs::FirstFaults::faults_after), unfolding(crate::specs::BusTables::bus_table_faults))]
 fn bus(
     alloc: Global,
     index: usize,
@@ -25,12 +24,12 @@ fn bus(
     members: &toml::Table,
 ) -> Result<BusTable, VehicleError>
     ensures { let faults = bus_table_faults index (map named_bus seen.now) (table_view members.now) in
-        GivesGrowing (faults ≡ []) result faults (TellsBus (table_view members.now)) }
+        GivesGrowing (faults ≡ []) result faults (DescribesBus (table_view members.now)) }
 {
     let table = Table::Bus(index);
     only(members, table, &BUS_KEYS)?;
     let label = label(members, table)?;
-    let plan = text(members, table, Key::Plan, TextKind::FileName)?;
+    let plan = required_text(members, table, Key::Plan, TextKind::FileName)?;
     untaken(seen, label.as_str(), table, Key::Label)?;
     let plan = owned(alloc, plan)?;
     Ok(BusTable { label, plan })
@@ -38,23 +37,26 @@ fn bus(
 
 /// The reader of buses.
 #[derive(Clone, Copy)]
-pub struct Buses;
+pub struct BusReader;
 
-impl ReadElement<BusTable> for Buses {
+impl ReadElement<BusTable, VehicleFault> for BusReader {
+    ghost use Rattle.j39_vehicle.specs.LabelsSeen.{Named};
     ghost use Rattle.j39_vehicle.specs.Growing.{BusGrows};
     ghost use Rattle.j39_vehicle.specs.BusTables.{bus_faults, bus_name, IsBusOf};
 
-    ghost name = { named_bus };
+    ghost Label = { Named };
 
-    ghost name_in = { bus_name };
+    ghost label = { named_bus };
+
+    ghost data_label = { bus_name };
 
     ghost faults = { λ _. bus_faults };
 
     ghost Grows = { λ _. BusGrows };
 
-    ghost Tells = { λ _. IsBusOf };
+    ghost Describes = { λ _. IsBusOf };
 
-    #[tactic(auto, using(crate::proofs::FirstFaults::faults_after), unfolding(crate::specs::BusTables::bus_faults))]
+    #[tactic(auto, using(j39_tables::proofs::FirstFaults::faults_after), unfolding(crate::specs::BusTables::bus_faults))]
     fn read(
         &self,
         alloc: Global,
@@ -62,6 +64,11 @@ impl ReadElement<BusTable> for Buses {
         seen: &[BusTable],
         value: &Value,
     ) -> Result<BusTable, VehicleError> {
-        bus(alloc, index, seen, table_of(value, Table::Bus(index))?)
+        bus(
+            alloc,
+            index,
+            seen,
+            table_of::<Table, Key>(value, Table::Bus(index))?,
+        )
     }
 }

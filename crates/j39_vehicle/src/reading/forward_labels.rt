@@ -3,7 +3,7 @@ ghost use Rattle.std.specs.Prelude.{◌≡◌, ◌&&◌, map, option_and_then, o
 ghost use Rattle.std.specs.List.{list_any, slice_get};
 ghost use Rattle.std.specs.Str.{bytes_eq};
 ghost use Rattle.j39_vehicle.specs.TextKinds.{name_of};
-ghost use Rattle.j39_vehicle.specs.Outcome.{Gives};
+ghost use Rattle.j39_tables.specs.Outcome.{Gives};
 ghost use Rattle.j39_vehicle.specs.GatewayTables.{named_gateway};
 ghost use Rattle.j39_vehicle.specs.ForwardTables as spec;
 
@@ -25,7 +25,8 @@ fn gateway_of<'a>(gateways: &'a [GatewayTable], label: &str) -> Option<&'a Gatew
 // Its units: none where there is none.
 #[tactic(auto, using(crate::proofs::UnitsOf::units_found))]
 fn units_of<'a>(gateways: &'a [GatewayTable], label: &str) -> &'a [NameOnBus]
-    ensures { map (λ n. string_bytes n.text) result.now ≡ spec.units_of_named (map named_gateway gateways.now) (Some label.now) }
+    ensures { map (λ n. string_bytes n.text) result.now
+        ≡ spec.units_of_named (map named_gateway gateways.now) (Some label.now) }
 {
     match gateway_of(gateways, label) {
         Some(gateway) => gateway.units.as_slice(),
@@ -66,7 +67,8 @@ fn has_unit(units: &[NameOnBus], bus: &str, label: &str) -> bool
 
 // Whether one of the units is on the bus of a group and has the label, where one is asked for.
 fn is_unit_beside(units: &[NameOnBus], group: &str, label: Option<&str>) -> bool
-    ensures { result ≡ spec.is_unit_beside (map (λ n. string_bytes n.text) units.now) (Some group.now) (option_map (λ t. t.now) label.entry) }
+    ensures { result
+        ≡ spec.is_unit_beside (map (λ n. string_bytes n.text) units.now) (Some group.now) (option_map (λ t. t.now) label.entry) }
 {
     match label {
         None => true,
@@ -74,9 +76,9 @@ fn is_unit_beside(units: &[NameOnBus], group: &str, label: Option<&str>) -> bool
     }
 }
 
-/// Refuses the first label that names nothing: a gateway that isn't there, a group on a bus where it has no unit, a unit that it
-/// doesn't have there.
-#[tactic(auto, using(crate::proofs::FirstFaults::faults_after), unfolding(crate::specs::ForwardTables::known_faults))]
+/// Refuses the first label that names nothing: a gateway that isn't there, a group on a bus where it has no unit, a
+/// unit that it doesn't have there.
+#[tactic(auto, using(j39_tables::proofs::FirstFaults::faults_after), unfolding(crate::specs::ForwardTables::known_faults))]
 pub fn known_labels(
     gateways: &[GatewayTable],
     table: Table,

@@ -3,27 +3,27 @@ ghost use Rattle.std.specs.Prelude.{◌≡◌, ◌≤◌, [], map, length, optio
 ghost use Rattle.std.specs.Option.{ForSome};
 ghost use Rattle.toml.specs.View.{items_view, table_view};
 ghost use Rattle.j39_network.specs.PlanLimits.{signal_limit};
-ghost use Rattle.j39_vehicle.specs.declared.reading.vehicle_error.VehicleError.TheVariants.{Memory};
+ghost use Rattle.j39_tables.specs.declared.file_error.FileError.TheVariants.{Memory};
+ghost use Rattle.j39_vehicle.specs.Words.{word_of};
 ghost use Rattle.j39_vehicle.specs.Schema.{array_at, number_under, text_at};
-ghost use Rattle.j39_vehicle.specs.Outcome.{Gives, GivesGrowing};
-ghost use Rattle.j39_vehicle.specs.TableFaults.{keys_faults, table_faults};
-ghost use Rattle.j39_vehicle.specs.Elements.{each_faults};
-ghost use Rattle.j39_vehicle.specs.Growing.{EachGrows, ForwardTableGrows, SignalGrows};
+ghost use Rattle.j39_tables.specs.Outcome.{Gives, GivesGrowing};
+ghost use Rattle.j39_tables.specs.TableFaults.{keys_faults, table_faults};
+ghost use Rattle.j39_tables.specs.InOrder.{each_faults, EachGrows};
+ghost use Rattle.j39_vehicle.specs.Growing.{ForwardTableGrows, SignalGrows};
 ghost use Rattle.j39_vehicle.specs.GatewayTables.{named_gateway};
 ghost use Rattle.j39_vehicle.specs.SignalTables.{signal_faults, forwarded_name};
 ghost use Rattle.j39_vehicle.specs.ForwardTables as spec;
 
-use super::elements::{ReadElement, read_each};
 use super::forward_labels::known_labels;
 use super::owned::{name, optional_owned, owned};
-use super::signals::Signals;
-use super::tables::{array, only, table_of};
+use super::signals::SignalReader;
 use super::text_kind::TextKind;
-use super::values::{number, optional_text, text};
-use super::{Key, Table, VehicleError};
+use super::values::number;
+use super::{Key, Table, VehicleError, VehicleFault};
 use crate::file::{ForwardTable, GatewayTable, SignalTable};
 use crate::limits::FORWARD_SIGNAL_LIMIT;
 use crate::vehicle::Mode;
+use j39_tables::{ReadElement, given_array, given_text, only, read_each, required_text, table_of};
 use std::alloc::Global;
 use toml::Value;
 
@@ -78,19 +78,20 @@ fn mode(word: Option<&str>) -> Mode
     }
 }
 
-#[tactic(auto, using(crate::proofs::FirstFaults::faults_after))]
+#[tactic(auto, using(j39_tables::proofs::FirstFaults::faults_after))]
 fn sent_keys(members: &toml::Table, table: Table) -> Result<SentKeys<'_>, VehicleError>
     ensures { Gives result (keys_faults table (table_view members.now) spec.sent_rules) (λ k. let ms = table_view members.now in
         (text_at Key.As ms ≡ Some k.output.now) × (text_at Key.By ms ≡ option_map (λ t. t.now) k.by)
         × (text_at Key.To ms ≡ option_map (λ t. t.now) k.to) × (k.mode ≡ spec.mode_of (text_at Key.Mode ms))
-        × (k.within ≡ number_under Key.Within ms) × (array_at Key.Signal ms ≡ option_map (λ vs. items_view vs.now) k.signals)) }
+        × (k.within ≡ number_under Key.Within ms)
+        × (array_at Key.Signal ms ≡ option_map (λ vs. items_view vs.now) k.signals)) }
 {
-    let output = text(members, table, Key::As, TextKind::OnBus)?;
-    let by = optional_text(members, table, Key::By, TextKind::Any)?;
-    let to = optional_text(members, table, Key::To, TextKind::Any)?;
-    let word = optional_text(members, table, Key::Mode, TextKind::ModeWord)?;
+    let output = required_text(members, table, Key::As, TextKind::OnBus)?;
+    let by = given_text(members, table, Key::By, TextKind::Any)?;
+    let to = given_text(members, table, Key::To, TextKind::Any)?;
+    let word = given_text(members, table, Key::Mode, TextKind::ModeWord)?;
     let within = number(members, table, Key::Within, 1, 65_535, false)?;
-    let signals = array(members, table, Key::Signal, FORWARD_SIGNAL_LIMIT, false)?;
+    let signals = given_array(members, table, Key::Signal, FORWARD_SIGNAL_LIMIT, false)?;
     Ok(SentKeys {
         output,
         by,
@@ -101,20 +102,22 @@ fn sent_keys(members: &toml::Table, table: Table) -> Result<SentKeys<'_>, Vehicl
     })
 }
 
-#[tactic(auto, using(crate::proofs::FirstFaults::faults_after))]
+#[tactic(auto, using(j39_tables::proofs::FirstFaults::faults_after))]
 fn keys(members: &toml::Table, table: Table) -> Result<ForwardKeys<'_>, VehicleError>
-    ensures { Gives result (table_faults table spec.forward_rules (table_view members.now)) (λ k. let ms = table_view members.now in
+    ensures { let ms = table_view members.now in
+        Gives result (table_faults word_of table spec.forward_rules ms) (λ k.
         (text_at Key.Gateway ms ≡ Some k.gateway.now) × (text_at Key.Group ms ≡ Some k.input.now)
         × (text_at Key.From ms ≡ option_map (λ t. t.now) k.from) × (text_at Key.At ms ≡ option_map (λ t. t.now) k.at)
         × (text_at Key.As ms ≡ Some k.sent.output.now) × (text_at Key.By ms ≡ option_map (λ t. t.now) k.sent.by)
         × (text_at Key.To ms ≡ option_map (λ t. t.now) k.sent.to) × (k.sent.mode ≡ spec.mode_of (text_at Key.Mode ms))
-        × (k.sent.within ≡ number_under Key.Within ms) × (array_at Key.Signal ms ≡ option_map (λ vs. items_view vs.now) k.sent.signals)) }
+        × (k.sent.within ≡ number_under Key.Within ms)
+        × (array_at Key.Signal ms ≡ option_map (λ vs. items_view vs.now) k.sent.signals)) }
 {
     only(members, table, &FORWARD_KEYS)?;
-    let gateway = text(members, table, Key::Gateway, TextKind::Any)?;
-    let input = text(members, table, Key::Group, TextKind::OnBus)?;
-    let from = optional_text(members, table, Key::From, TextKind::Any)?;
-    let at = optional_text(members, table, Key::At, TextKind::Any)?;
+    let gateway = required_text(members, table, Key::Gateway, TextKind::Any)?;
+    let input = required_text(members, table, Key::Group, TextKind::OnBus)?;
+    let from = given_text(members, table, Key::From, TextKind::Any)?;
+    let at = given_text(members, table, Key::At, TextKind::Any)?;
     let sent = sent_keys(members, table)?;
     Ok(ForwardKeys {
         gateway,
@@ -126,7 +129,7 @@ fn keys(members: &toml::Table, table: Table) -> Result<ForwardKeys<'_>, VehicleE
 }
 
 // The signals that an array tells, where there is one.
-#[tactic(auto, unfolding(crate::specs::Elements::each_faults))]
+#[tactic(auto, unfolding(j39_tables::specs::InOrder::each_faults))]
 fn signals(
     alloc: Global,
     forward: usize,
@@ -136,12 +139,12 @@ fn signals(
     ensures gives { let items = spec.items_or_none (option_map (λ vs. items_view vs.now) values.entry) in
         GivesGrowing (EachGrows (signal_faults forward) (SignalGrows forward) items) result
         (each_faults (signal_faults forward) forwarded_name 0 [] items)
-        (λ signals. spec.TellsSignals (option_map (λ vs. items_view vs.now) values.entry) (option_map (λ v. v.items) signals)) }
+        (λ signals. spec.DescribesSignals (option_map (λ vs. items_view vs.now) values.entry) (option_map (λ v. v.items) signals)) }
     ensures count { IfOk result (λ signals. IfSome signals (λ v. length v.items ≤ signal_limit)) }
 {
     match values {
         None => Ok(None),
-        Some(values) => Ok(Some(read_each(alloc, &Signals { forward }, values)?)),
+        Some(values) => Ok(Some(read_each(alloc, &SignalReader { forward }, values)?)),
     }
 }
 
@@ -153,9 +156,12 @@ fn told(
 ) -> Result<ForwardTable, VehicleError>
     requires { IfSome signals (λ v. length v.items ≤ signal_limit) }
     ensures told { IfOk result (λ f. (string_bytes f.gateway ≡ keys.now.gateway.now)
-        × (string_bytes f.input.text ≡ keys.now.input.now) × (option_map string_bytes f.from ≡ option_map (λ t. t.now) keys.now.from)
-        × (option_map string_bytes f.at ≡ option_map (λ t. t.now) keys.now.at) × (string_bytes f.output.text ≡ keys.now.sent.output.now)
-        × (option_map string_bytes f.by ≡ option_map (λ t. t.now) keys.now.sent.by) × (option_map string_bytes f.to ≡ option_map (λ t. t.now) keys.now.sent.to)
+        × (string_bytes f.input.text ≡ keys.now.input.now)
+        × (option_map string_bytes f.from ≡ option_map (λ t. t.now) keys.now.from)
+        × (option_map string_bytes f.at ≡ option_map (λ t. t.now) keys.now.at)
+        × (string_bytes f.output.text ≡ keys.now.sent.output.now)
+        × (option_map string_bytes f.by ≡ option_map (λ t. t.now) keys.now.sent.by)
+        × (option_map string_bytes f.to ≡ option_map (λ t. t.now) keys.now.sent.to)
         × (f.mode ≡ keys.now.sent.mode) × (f.within ≡ keys.now.sent.within) × (f.signals ≡ signals)) }
     ensures memory { IfErr result (λ e. e ≡ Memory) }
 {
@@ -173,7 +179,7 @@ fn told(
     })
 }
 
-#[tactic(auto, using(crate::proofs::FirstFaults::faults_after), unfolding(crate::specs::ForwardTables::forward_table_faults))]
+#[tactic(auto, using(j39_tables::proofs::FirstFaults::faults_after), unfolding(crate::specs::ForwardTables::forward_table_faults))]
 fn forward(
     alloc: Global,
     gateways: &[GatewayTable],
@@ -182,7 +188,7 @@ fn forward(
 ) -> Result<ForwardTable, VehicleError>
     ensures { let seen = map named_gateway gateways.now in
         GivesGrowing (ForwardTableGrows seen index (table_view members.now)) result
-        (spec.forward_table_faults seen index (table_view members.now)) (spec.TellsForward (table_view members.now)) }
+        (spec.forward_table_faults seen index (table_view members.now)) (spec.DescribesForward (table_view members.now)) }
 {
     let table = Table::Forward(index);
     let keys = keys(members, table)?;
@@ -201,27 +207,29 @@ fn forward(
 
 /// The reader of forwards.
 #[derive(Clone, Copy)]
-pub struct Forwards<'a> {
+pub struct ForwardReader<'a> {
     pub gateways: &'a [GatewayTable],
 }
 
-impl ReadElement<ForwardTable> for Forwards<'_> {
-    ghost use Rattle.j39_vehicle.specs.Elements.{nameless};
+impl ReadElement<ForwardTable, VehicleFault> for ForwardReader<'_> {
+    ghost use Rattle.j39_vehicle.specs.LabelsSeen.{Named, nameless};
     ghost use Rattle.j39_vehicle.specs.Growing.{ForwardGrows};
     ghost use Rattle.j39_vehicle.specs.VehicleFaults.{no_name};
     ghost use Rattle.j39_vehicle.specs.ForwardTables.{forward_faults, IsForwardOf};
 
-    ghost name = { λ _. nameless };
+    ghost Label = { Named };
 
-    ghost name_in = { no_name };
+    ghost label = { λ _. nameless };
+
+    ghost data_label = { no_name };
 
     ghost faults = { λ r i seen. forward_faults (map named_gateway r.gateways.now) i };
 
     ghost Grows = { λ r. ForwardGrows (map named_gateway r.gateways.now) };
 
-    ghost Tells = { λ _. IsForwardOf };
+    ghost Describes = { λ _. IsForwardOf };
 
-    #[tactic(auto, using(crate::proofs::FirstFaults::faults_after), unfolding(crate::specs::ForwardTables::forward_faults))]
+    #[tactic(auto, using(j39_tables::proofs::FirstFaults::faults_after), unfolding(crate::specs::ForwardTables::forward_faults))]
     fn read(
         &self,
         alloc: Global,
@@ -233,7 +241,7 @@ impl ReadElement<ForwardTable> for Forwards<'_> {
             alloc,
             self.gateways,
             index,
-            table_of(value, Table::Forward(index))?,
+            table_of::<Table, Key>(value, Table::Forward(index))?,
         )
     }
 }

@@ -3,18 +3,19 @@ ghost use Rattle.std.specs.Prelude.{◌≡◌, ◌++◌, IfOk, IfErr, length, ma
 ghost use Rattle.std.specs.List.{list_all, list_any};
 ghost use Rattle.std.specs.Str.{bytes_eq};
 ghost use Rattle.toml.specs.View.{view, items_view};
-ghost use Rattle.j39_vehicle.specs.declared.reading.vehicle_error.VehicleError.TheVariants.{Memory};
+ghost use Rattle.j39_tables.specs.declared.file_error.FileError.TheVariants.{Memory};
 ghost use Rattle.j39_vehicle.specs.TextKinds.{name_of};
-ghost use Rattle.j39_vehicle.specs.Elements.{is_label_among};
+ghost use Rattle.j39_vehicle.specs.LabelsSeen.{is_label_among};
 ghost use Rattle.j39_vehicle.specs.BusTables.{named_bus};
-ghost use Rattle.j39_vehicle.specs.GatewayTables.{all_units, are_on, is_text_among, named_gateway, text_in, texts_in, unit_cause, units_cause};
+ghost use Rattle.j39_vehicle.specs.GatewayTables.{all_units, are_on, is_text_among, named_gateway, text_in, texts_in};
+ghost use Rattle.j39_vehicle.specs.GatewayTables.{unit_cause, units_cause};
 
 use super::VehicleError;
 use super::named::has_label;
 use super::owned::name;
 use super::text_kind::TextKind;
 use crate::file::{BusTable, GatewayTable, NameOnBus, before_point};
-use j39_plan::Cause;
+use j39_tables::Cause;
 use std::alloc::Global;
 use toml::Value;
 
@@ -49,14 +50,16 @@ fn is_elsewhere(seen: &[GatewayTable], text: &str) -> bool
 // Whether the text stands before, in the same gateway or in an earlier one.
 #[tactic(auto, using(crate::proofs::Units::is_earlier))]
 fn is_taken(seen: &[GatewayTable], before: &[Value], text: &str) -> bool
-    ensures { result ≡ is_text_among (all_units (map named_gateway seen.now) ++ texts_in (items_view before.now)) text.now }
+    ensures { result
+        ≡ is_text_among (all_units (map named_gateway seen.now) ++ texts_in (items_view before.now)) text.now }
 {
     is_elsewhere(seen, text) || is_before(before, text)
 }
 
 // The cause for which an element is refused behind those before it, in this gateway and in earlier ones.
 fn unit_cause(seen: &[GatewayTable], before: &[Value], value: &Value) -> Option<Cause>
-    ensures { result ≡ unit_cause (all_units (map named_gateway seen.now) ++ texts_in (items_view before.now)) (view value.now) }
+    ensures { result
+        ≡ unit_cause (all_units (map named_gateway seen.now) ++ texts_in (items_view before.now)) (view value.now) }
 {
     match value.as_str() {
         None => Some(Cause::WrongType),
@@ -86,7 +89,8 @@ pub fn units_cause(seen: &[GatewayTable], values: &[Value]) -> Option<Cause>
 }
 
 fn all_on(buses: &[BusTable], values: &[Value]) -> bool
-    ensures { result ≡ list_all (λ v. is_label_among (map named_bus buses.now) (name_of (text_in (view v))).bus) values.now }
+    ensures { result
+        ≡ list_all (λ v. is_label_among (map named_bus buses.now) (name_of (text_in (view v))).bus) values.now }
 {
     values
         .iter()

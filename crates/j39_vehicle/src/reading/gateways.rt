@@ -1,18 +1,17 @@
 //! The gateways of a vehicle file.
 ghost use Rattle.std.specs.Prelude.{◌≡◌, [], map};
 ghost use Rattle.toml.specs.View.{items_view, table_view};
-ghost use Rattle.j39_vehicle.specs.Outcome.{Gives, GivesGrowing};
+ghost use Rattle.j39_tables.specs.Outcome.{Gives, GivesGrowing};
 ghost use Rattle.j39_vehicle.specs.BusTables.{named_bus};
-ghost use Rattle.j39_vehicle.specs.GatewayTables.{gateway_table_faults, named_gateway, units_faults, TellsGateway};
+ghost use Rattle.j39_vehicle.specs.GatewayTables.{gateway_table_faults, named_gateway, units_faults, DescribesGateway};
 
-use super::elements::ReadElement;
 use super::gateway_units::{are_on, units, units_cause};
 use super::named::{known, untaken};
-use super::tables::{elements, only, table_of};
-use super::values::{label, refused};
-use super::{Key, Table, VehicleError};
+use super::values::label;
+use super::{Key, Table, VehicleError, VehicleFault};
 use crate::file::{BusTable, GatewayTable};
 use crate::limits::GATEWAY_UNIT_LIMIT;
+use j39_tables::{ReadElement, elements, only, refused, table_of};
 use std::alloc::Global;
 use toml::Value;
 
@@ -28,7 +27,7 @@ fn may_stand(index: usize, seen: &[GatewayTable], values: &[Value]) -> Result<()
     }
 }
 
-#[tactic(auto, using(crate::proofs::FirstFaults::faults_after), unfolding(crate::specs::GatewayTables::gateway_table_faults))]
+#[tactic(auto, using(j39_tables::proofs::FirstFaults::faults_after), unfolding(crate::specs::GatewayTables::gateway_table_faults))]
 fn gateway(
     alloc: Global,
     buses: &[BusTable],
@@ -37,7 +36,7 @@ fn gateway(
     members: &toml::Table,
 ) -> Result<GatewayTable, VehicleError>
     ensures { let faults = gateway_table_faults (map named_bus buses.now) index (map named_gateway seen.now) (table_view members.now) in
-        GivesGrowing (faults ≡ []) result faults (TellsGateway (table_view members.now)) }
+        GivesGrowing (faults ≡ []) result faults (DescribesGateway (table_view members.now)) }
 {
     let table = Table::Gateway(index);
     only(members, table, &GATEWAY_KEYS)?;
@@ -52,25 +51,28 @@ fn gateway(
 
 /// The reader of gateways.
 #[derive(Clone, Copy)]
-pub struct Gateways<'a> {
+pub struct GatewayReader<'a> {
     pub buses: &'a [BusTable],
 }
 
-impl ReadElement<GatewayTable> for Gateways<'_> {
+impl ReadElement<GatewayTable, VehicleFault> for GatewayReader<'_> {
+    ghost use Rattle.j39_vehicle.specs.LabelsSeen.{Named};
     ghost use Rattle.j39_vehicle.specs.Growing.{GatewayGrows};
     ghost use Rattle.j39_vehicle.specs.GatewayTables.{gateway_faults, gateway_name, IsGatewayOf};
 
-    ghost name = { named_gateway };
+    ghost Label = { Named };
 
-    ghost name_in = { gateway_name };
+    ghost label = { named_gateway };
+
+    ghost data_label = { gateway_name };
 
     ghost faults = { λ r. gateway_faults (map named_bus r.buses.now) };
 
     ghost Grows = { λ r. GatewayGrows (map named_bus r.buses.now) };
 
-    ghost Tells = { λ _. IsGatewayOf };
+    ghost Describes = { λ _. IsGatewayOf };
 
-    #[tactic(auto, using(crate::proofs::FirstFaults::faults_after), unfolding(crate::specs::GatewayTables::gateway_faults))]
+    #[tactic(auto, using(j39_tables::proofs::FirstFaults::faults_after), unfolding(crate::specs::GatewayTables::gateway_faults))]
     fn read(
         &self,
         alloc: Global,
@@ -79,6 +81,12 @@ impl ReadElement<GatewayTable> for Gateways<'_> {
         value: &Value,
     ) -> Result<GatewayTable, VehicleError> {
         let table = Table::Gateway(index);
-        gateway(alloc, self.buses, index, seen, table_of(value, table)?)
+        gateway(
+            alloc,
+            self.buses,
+            index,
+            seen,
+            table_of::<Table, Key>(value, table)?,
+        )
     }
 }

@@ -1,6 +1,8 @@
 //! Keys of a vehicle file.
 ghost use Rattle.std.specs.Prelude.{◌≡◌};
 
+use j39_tables::FileKey;
+
 /// A key of a table.
 #[derive(Clone, Copy, Debug, PartialEq, Eq)]
 pub enum Key {
@@ -51,5 +53,15 @@ impl Key {
             Key::Signal => "signal",
             Key::Exact => "exact",
         }
+    }
+}
+
+impl FileKey for Key {
+    ghost use Rattle.j39_vehicle.specs.Words.{word_of};
+
+    ghost word = { word_of };
+
+    fn spelled(self) -> &'static str {
+        self.word()
     }
 }

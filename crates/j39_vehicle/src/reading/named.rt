@@ -2,18 +2,16 @@
 ghost use Rattle.std.specs.Prelude.{◌≡◌, map, position};
 ghost use Rattle.std.specs.List.{list_any};
 ghost use Rattle.std.specs.Str.{bytes_eq};
-ghost use Rattle.j39_vehicle.specs.TableFaults.{label_faults};
-ghost use Rattle.j39_vehicle.specs.Elements.{is_label_among, repeated_faults};
-ghost use Rattle.j39_vehicle.specs.Outcome.{Gives};
+ghost use Rattle.j39_vehicle.specs.LabelsSeen.{label_faults, is_label_among, repeated_faults};
+ghost use Rattle.j39_tables.specs.Outcome.{Gives};
 
-use super::values::refused;
 use super::{Key, Table, VehicleError};
 use crate::file::{BusTable, GatewayTable, SignalTable};
-use j39_plan::Cause;
+use j39_tables::{Cause, refused};
 
 /// What has a label that no other one has.
 pub trait HasName {
-    ghost use Rattle.j39_vehicle.specs.Elements.{Named};
+    ghost use Rattle.j39_vehicle.specs.LabelsSeen.{Named};
 
     ghost name: { Self → Named };
 
@@ -66,7 +64,7 @@ pub fn has_label<T: HasName>(items: &[T], label: &str) -> bool
 }
 
 /// Refuses a label that one of the items has.
-#[tactic(auto, unfolding(crate::specs::Elements::repeated_faults))]
+#[tactic(auto, unfolding(crate::specs::LabelsSeen::repeated_faults))]
 pub fn untaken<T: HasName>(
     items: &[T],
     label: &str,
@@ -83,7 +81,7 @@ pub fn untaken<T: HasName>(
 }
 
 /// Refuses a text that names nothing.
-#[tactic(auto, unfolding(crate::specs::TableFaults::label_faults))]
+#[tactic(auto, unfolding(crate::specs::LabelsSeen::label_faults))]
 pub fn known(is_known: bool, table: Table, key: Key) -> Result<(), VehicleError>
     ensures { Gives result (label_faults table key is_known) (λ _. Unit {0}) }
 {

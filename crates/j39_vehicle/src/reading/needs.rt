@@ -2,23 +2,23 @@
 ghost use Rattle.std.specs.Prelude.{◌≡◌, ◌≤◌, [], map, option_map, Some, string_bytes, IfOk, IfErr};
 ghost use Rattle.std.specs.Option.{ForSome};
 ghost use Rattle.toml.specs.View.{table_view};
-ghost use Rattle.j39_vehicle.specs.declared.reading.vehicle_error.VehicleError.TheVariants.{Memory};
+ghost use Rattle.j39_tables.specs.declared.file_error.FileError.TheVariants.{Memory};
+ghost use Rattle.j39_vehicle.specs.Words.{word_of};
 ghost use Rattle.j39_vehicle.specs.TextKinds.{name_of};
 ghost use Rattle.j39_vehicle.specs.Schema.{number_under, text_at};
-ghost use Rattle.j39_vehicle.specs.Elements.{is_label_among};
-ghost use Rattle.j39_vehicle.specs.Outcome.{Gives, GivesGrowing};
-ghost use Rattle.j39_vehicle.specs.TableFaults.{table_faults};
+ghost use Rattle.j39_vehicle.specs.LabelsSeen.{is_label_among};
+ghost use Rattle.j39_tables.specs.Outcome.{Gives, GivesGrowing};
+ghost use Rattle.j39_tables.specs.TableFaults.{table_faults};
 ghost use Rattle.j39_vehicle.specs.BusTables.{named_bus};
 ghost use Rattle.j39_vehicle.specs.NeedTables as spec;
 
-use super::elements::ReadElement;
 use super::named::{has_label, known};
 use super::owned::{name, optional_owned, owned};
-use super::tables::{only, table_of};
 use super::text_kind::TextKind;
-use super::values::{number, optional_text, text};
-use super::{Key, Table, VehicleError};
+use super::values::number;
+use super::{Key, Table, VehicleError, VehicleFault};
 use crate::file::{BusTable, NeedTable, before_point};
+use j39_tables::{ReadElement, given_text, only, required_text, table_of};
 use std::alloc::Global;
 use toml::Value;
 
@@ -35,18 +35,19 @@ struct NeedKeys<'a> {
     ghost within_positive: { ForSome within (λ n. 1 ≤ n) },
 }
 
-#[tactic(auto, using(crate::proofs::FirstFaults::faults_after))]
+#[tactic(auto, using(j39_tables::proofs::FirstFaults::faults_after))]
 fn keys(members: &toml::Table, table: Table) -> Result<NeedKeys<'_>, VehicleError>
-    ensures { Gives result (table_faults table spec.need_rules (table_view members.now)) (λ k. let ms = table_view members.now in
+    ensures { let ms = table_view members.now in
+        Gives result (table_faults word_of table spec.need_rules ms) (λ k.
         (text_at Key.Unit ms ≡ Some k.unit.now) × (text_at Key.Group ms ≡ Some k.group.now)
         × (text_at Key.Signal ms ≡ option_map (λ t. t.now) k.signal) × (text_at Key.From ms ≡ Some k.from.now)
         × (k.within ≡ number_under Key.Within ms)) }
 {
     only(members, table, &NEED_KEYS)?;
-    let unit = text(members, table, Key::Unit, TextKind::OnBus)?;
-    let group = text(members, table, Key::Group, TextKind::Any)?;
-    let signal = optional_text(members, table, Key::Signal, TextKind::Any)?;
-    let from = text(members, table, Key::From, TextKind::OnBus)?;
+    let unit = required_text(members, table, Key::Unit, TextKind::OnBus)?;
+    let group = required_text(members, table, Key::Group, TextKind::Any)?;
+    let signal = given_text(members, table, Key::Signal, TextKind::Any)?;
+    let from = required_text(members, table, Key::From, TextKind::OnBus)?;
     let within = number(members, table, Key::Within, 1, 65_535, false)?;
     Ok(NeedKeys {
         unit,
@@ -59,7 +60,8 @@ fn keys(members: &toml::Table, table: Table) -> Result<NeedKeys<'_>, VehicleErro
 
 // The need of these keys, with texts of its own.
 fn told(alloc: Global, keys: &NeedKeys<'_>) -> Result<NeedTable, VehicleError>
-    ensures told { IfOk result (λ d. (string_bytes d.unit.text ≡ keys.now.unit.now) × (string_bytes d.group ≡ keys.now.group.now)
+    ensures told { IfOk result (λ d. (string_bytes d.unit.text ≡ keys.now.unit.now)
+        × (string_bytes d.group ≡ keys.now.group.now)
         × (option_map string_bytes d.signal ≡ option_map (λ t. t.now) keys.now.signal)
         × (string_bytes d.from.text ≡ keys.now.from.now) × (d.within ≡ keys.now.within)) }
     ensures memory { IfErr result (λ e. e ≡ Memory) }
@@ -80,7 +82,7 @@ fn is_on_bus(buses: &[BusTable], unit: &str) -> bool
     has_label(buses, before_point(unit))
 }
 
-#[tactic(auto, using(crate::proofs::FirstFaults::faults_after), unfolding(crate::specs::NeedTables::need_table_faults))]
+#[tactic(auto, using(j39_tables::proofs::FirstFaults::faults_after), unfolding(crate::specs::NeedTables::need_table_faults))]
 fn need(
     alloc: Global,
     buses: &[BusTable],
@@ -88,7 +90,7 @@ fn need(
     members: &toml::Table,
 ) -> Result<NeedTable, VehicleError>
     ensures { let faults = spec.need_table_faults (map named_bus buses.now) index (table_view members.now) in
-        GivesGrowing (faults ≡ []) result faults (spec.TellsNeed (table_view members.now)) }
+        GivesGrowing (faults ≡ []) result faults (spec.DescribesNeed (table_view members.now)) }
 {
     let table = Table::Need(index);
     let keys = keys(members, table)?;
@@ -99,27 +101,29 @@ fn need(
 
 /// The reader of needs.
 #[derive(Clone, Copy)]
-pub struct Needs<'a> {
+pub struct NeedReader<'a> {
     pub buses: &'a [BusTable],
 }
 
-impl ReadElement<NeedTable> for Needs<'_> {
-    ghost use Rattle.j39_vehicle.specs.Elements.{nameless};
+impl ReadElement<NeedTable, VehicleFault> for NeedReader<'_> {
+    ghost use Rattle.j39_vehicle.specs.LabelsSeen.{Named, nameless};
     ghost use Rattle.j39_vehicle.specs.Growing.{NeedGrows};
     ghost use Rattle.j39_vehicle.specs.VehicleFaults.{no_name};
     ghost use Rattle.j39_vehicle.specs.NeedTables.{need_faults, IsNeedOf};
 
-    ghost name = { λ _. nameless };
+    ghost Label = { Named };
 
-    ghost name_in = { no_name };
+    ghost label = { λ _. nameless };
+
+    ghost data_label = { no_name };
 
     ghost faults = { λ r i seen. need_faults (map named_bus r.buses.now) i };
 
     ghost Grows = { λ r. NeedGrows (map named_bus r.buses.now) };
 
-    ghost Tells = { λ _. IsNeedOf };
+    ghost Describes = { λ _. IsNeedOf };
 
-    #[tactic(auto, using(crate::proofs::FirstFaults::faults_after), unfolding(crate::specs::NeedTables::need_faults))]
+    #[tactic(auto, using(j39_tables::proofs::FirstFaults::faults_after), unfolding(crate::specs::NeedTables::need_faults))]
     fn read(
         &self,
         alloc: Global,
@@ -131,7 +135,7 @@ impl ReadElement<NeedTable> for Needs<'_> {
             alloc,
             self.buses,
             index,
-            table_of(value, Table::Need(index))?,
+            table_of::<Table, Key>(value, Table::Need(index))?,
         )
     }
 }

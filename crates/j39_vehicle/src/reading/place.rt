@@ -1,5 +1,4 @@
 //! Places in a vehicle file.
-use super::Key;
 
 /// A table of a vehicle file, its indices counted from 0.
 #[derive(Clone, Copy, Debug, PartialEq, Eq)]
@@ -11,11 +10,4 @@ pub enum Table {
     /// A signal, behind the index of its forward.
     Signal(usize, usize),
     Need(usize),
-}
-
-/// A table, and the key of it that is at fault where there is one.
-#[derive(Clone, Copy, Debug, PartialEq, Eq)]
-pub struct Place {
-    pub table: Table,
-    pub key: Option<Key>,
 }

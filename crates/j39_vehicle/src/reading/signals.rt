@@ -1,23 +1,22 @@
 //! The signals of a forward.
 ghost use Rattle.std.specs.Prelude.{◌≡◌, [], map, unwrap_or, true};
 ghost use Rattle.toml.specs.View.{table_view};
-ghost use Rattle.j39_vehicle.specs.Outcome.{GivesGrowing};
-ghost use Rattle.j39_vehicle.specs.SignalTables.{named_signal, signal_table_faults, TellsSignal};
+ghost use Rattle.j39_tables.specs.Outcome.{GivesGrowing};
+ghost use Rattle.j39_vehicle.specs.SignalTables.{named_signal, signal_table_faults, DescribesSignal};
 
-use super::elements::ReadElement;
 use super::named::untaken;
 use super::owned::owned;
-use super::tables::{only, table_of};
 use super::text_kind::TextKind;
-use super::values::{optional_text, optional_truth, text};
-use super::{Key, Table, VehicleError};
+use super::values::optional_truth;
+use super::{Key, Table, VehicleError, VehicleFault};
 use crate::file::SignalTable;
+use j39_tables::{ReadElement, given_text, only, required_text, table_of};
 use std::alloc::Global;
 use toml::Value;
 
 const SIGNAL_KEYS: [Key; 3] = [Key::Label, Key::As, Key::Exact];
 
-#[tactic(auto, using(crate::proofs::FirstFaults::faults_after), unfolding(crate::specs::SignalTables::signal_table_faults))]
+#[tactic(auto, using(j39_tables::proofs::FirstFaults::faults_after), unfolding(crate::specs::SignalTables::signal_table_faults))]
 fn signal(
     alloc: Global,
     forward: usize,
@@ -26,12 +25,12 @@ fn signal(
     members: &toml::Table,
 ) -> Result<SignalTable, VehicleError>
     ensures { let faults = signal_table_faults forward index (map named_signal seen.now) (table_view members.now) in
-        GivesGrowing (faults ≡ []) result faults (TellsSignal (table_view members.now)) }
+        GivesGrowing (faults ≡ []) result faults (DescribesSignal (table_view members.now)) }
 {
     let table = Table::Signal(forward, index);
     only(members, table, &SIGNAL_KEYS)?;
-    let read = text(members, table, Key::Label, TextKind::Any)?;
-    let given = optional_text(members, table, Key::As, TextKind::Any)?;
+    let read = required_text(members, table, Key::Label, TextKind::Any)?;
+    let given = given_text(members, table, Key::As, TextKind::Any)?;
     let exact = optional_truth(members, table, Key::Exact)?.unwrap_or(true);
     let written = given.unwrap_or(read);
     untaken(seen, written, table, Key::As)?;
@@ -44,25 +43,28 @@ fn signal(
 
 /// The reader of the signals of the forward at a place.
 #[derive(Clone, Copy)]
-pub struct Signals {
+pub struct SignalReader {
     pub forward: usize,
 }
 
-impl ReadElement<SignalTable> for Signals {
+impl ReadElement<SignalTable, VehicleFault> for SignalReader {
+    ghost use Rattle.j39_vehicle.specs.LabelsSeen.{Named};
     ghost use Rattle.j39_vehicle.specs.Growing.{SignalGrows};
     ghost use Rattle.j39_vehicle.specs.SignalTables.{signal_faults, forwarded_name, IsSignalOf};
 
-    ghost name = { named_signal };
+    ghost Label = { Named };
 
-    ghost name_in = { forwarded_name };
+    ghost label = { named_signal };
+
+    ghost data_label = { forwarded_name };
 
     ghost faults = { λ r. signal_faults r.forward };
 
     ghost Grows = { λ r. SignalGrows r.forward };
 
-    ghost Tells = { λ _. IsSignalOf };
+    ghost Describes = { λ _. IsSignalOf };
 
-    #[tactic(auto, using(crate::proofs::FirstFaults::faults_after), unfolding(crate::specs::SignalTables::signal_faults))]
+    #[tactic(auto, using(j39_tables::proofs::FirstFaults::faults_after), unfolding(crate::specs::SignalTables::signal_faults))]
     fn read(
         &self,
         alloc: Global,
@@ -71,6 +73,12 @@ impl ReadElement<SignalTable> for Signals {
         value: &Value,
     ) -> Result<SignalTable, VehicleError> {
         let table = Table::Signal(self.forward, index);
-        signal(alloc, self.forward, index, seen, table_of(value, table)?)
+        signal(
+            alloc,
+            self.forward,
+            index,
+            seen,
+            table_of::<Table, Key>(value, table)?,
+        )
     }
 }

@@ -3,7 +3,7 @@ ghost use Rattle.std.specs.Prelude.{◌≡◌};
 ghost use Rattle.j39_vehicle.specs.TextKinds.{is_file_name, is_mode, is_name, takes};
 
 use crate::file::{before_point, behind_point};
-use j39_plan::{are_printable, is_label};
+use j39_tables::{TextForm, are_printable, is_label};
 
 /// Which texts a key takes.
 #[derive(Clone, Copy)]
@@ -45,5 +45,13 @@ impl TextKind {
             TextKind::ModeWord => is_mode(text),
             TextKind::Any => true,
         }
+    }
+}
+
+impl TextForm for TextKind {
+    ghost fits = { takes };
+
+    fn is_taken(self, text: &str) -> bool {
+        self.takes(text)
     }
 }

@@ -1,7 +1,7 @@
 //! The tables of a kind, one after another.
 ghost use Rattle.std.specs.Prelude.{◌≡◌, IfOk, length};
 ghost use Rattle.std.specs.List.{AllZip};
-ghost use Rattle.j39_vehicle.specs.Outcome.{GivesGrowing};
+ghost use Rattle.j39_tables.specs.Outcome.{GivesGrowing};
 ghost use Rattle.j39_vehicle.specs.Resolved.{each_found, FoundGrows};
 
 use crate::reading::VehicleError;
@@ -10,10 +10,10 @@ use std::alloc::Global;
 /// How what a table names is found.
 pub trait Resolve<S, T> {
     ghost use Rattle.std.specs.Prelude.{ℕ, List};
-    ghost use Rattle.j39_vehicle.specs.declared.reading.fault.Fault.{Fault as FileFault};
+    ghost use Rattle.j39_vehicle.specs.VehicleErrors.{VehicleFault};
 
     // The faults of the table of a place.
-    ghost faults: { Self → ℕ → S → List FileFault };
+    ghost faults: { Self → ℕ → S → List VehicleFault };
 
     // Where room is asked for.
     ghost Grows: { Self → ℕ → S → Type 0 };

@@ -1,24 +1,24 @@
 //! What forwards name.
 ghost use Rattle.std.specs.Prelude.{◌≡◌, ◌≤◌, length, option_and_then, option_map, Some, string_bytes, IfOk, IfSome};
 ghost use Rattle.j39_network.specs.PlanLimits.{signal_limit};
-ghost use Rattle.j39_vehicle.specs.Outcome.{Gives, GivesGrowing};
+ghost use Rattle.j39_tables.specs.Outcome.{Gives, GivesGrowing};
 ghost use Rattle.j39_vehicle.specs.LabelsFound as found;
 ghost use Rattle.j39_vehicle.specs.Resolved as spec;
 
 use super::each::{Resolve, resolve_each};
 use super::found::group_named;
 use super::own::{gateway_labelled, given_receivers, given_unit, own_unit, units_by};
-use super::signals::Signals;
+use super::signals::SignalResolver;
 use crate::file::{ForwardTable, GatewayTable, NameOnBus, SignalTable};
-use crate::reading::{Key, Table, VehicleError, refused};
+use crate::reading::{Key, Table, VehicleError};
 use crate::vehicle::{BusPlan, Forward, ForwardedSignal, GroupAt};
 use j39_network::To;
-use j39_plan::Cause;
+use j39_tables::{Cause, refused};
 use std::alloc::Global;
 
 // The group that is heard, the unit that has to send it, and the gateway's that hears it.
 #[derive(Clone, Copy)]
-struct Heard {
+struct HeardGroup {
     group: GroupAt,
     from: Option<usize>,
     hearer: usize,
@@ -26,19 +26,19 @@ struct Heard {
 
 // The group that is sent, the gateway's unit that sends it, and whom it sends it to.
 #[derive(Clone, Copy)]
-struct Sent {
+struct SentGroup {
     group: GroupAt,
     sender: usize,
     to: Option<To>,
 }
 
-#[tactic(auto, using(crate::proofs::FirstFaults::faults_after), unfolding(crate::specs::Resolved::heard_found, crate::specs::TableFaults::label_faults))]
+#[tactic(auto, using(j39_tables::proofs::FirstFaults::faults_after), unfolding(crate::specs::Resolved::heard_found, crate::specs::LabelsSeen::label_faults))]
 fn hearing(
     buses: &[BusPlan],
     units: &[NameOnBus],
     index: usize,
     table: &ForwardTable,
-) -> Result<Heard, VehicleError>
+) -> Result<HeardGroup, VehicleError>
     ensures { Gives result (spec.heard_found buses.now units.now index table.now) (λ h.
         (found.group_named buses.now (string_bytes table.now.input.text) ≡ Some h.group)
         × (h.from ≡ option_and_then (found.unit_place buses.now h.group.bus) (option_map string_bytes table.now.from))
@@ -51,7 +51,7 @@ fn hearing(
     };
     let from = given_unit(buses, group.bus, &table.from, place, Key::From)?;
     match own_unit(buses, units, &table.input, group.bus, &table.at) {
-        Some(hearer) => Ok(Heard {
+        Some(hearer) => Ok(HeardGroup {
             group,
             from,
             hearer,
@@ -60,13 +60,13 @@ fn hearing(
     }
 }
 
-#[tactic(auto, using(crate::proofs::FirstFaults::faults_after), unfolding(crate::specs::Resolved::sent_found, crate::specs::TableFaults::label_faults))]
+#[tactic(auto, using(j39_tables::proofs::FirstFaults::faults_after), unfolding(crate::specs::Resolved::sent_found, crate::specs::LabelsSeen::label_faults))]
 fn sending(
     buses: &[BusPlan],
     units: &[NameOnBus],
     index: usize,
     table: &ForwardTable,
-) -> Result<Sent, VehicleError>
+) -> Result<SentGroup, VehicleError>
     ensures { Gives result (spec.sent_found buses.now units.now index table.now) (λ s.
         (found.group_named buses.now (string_bytes table.now.output.text) ≡ Some s.group)
         × (found.own_unit buses.now units.now table.now.output s.group.bus table.now.by ≡ Some s.sender)
@@ -82,14 +82,14 @@ fn sending(
         None => return Err(refused(Cause::UnknownLabel, place, Key::By)),
     };
     let to = given_receivers(buses, group.bus, &table.to, place, Key::To)?;
-    Ok(Sent { group, sender, to })
+    Ok(SentGroup { group, sender, to })
 }
 
 // The signals that are listed, between the groups that are heard and sent, or none where there is no list.
 #[tactic(auto, unfolding(crate::specs::Resolved::signals_found))]
 fn signals(
     alloc: Global,
-    resolver: &Signals<'_>,
+    resolver: &SignalResolver<'_>,
     listed: &Option<Vec<SignalTable>>,
 ) -> Result<Option<Vec<ForwardedSignal>>, VehicleError>
     requires { IfSome listed.now (λ v. length v.items ≤ signal_limit) }
@@ -107,19 +107,19 @@ fn signals(
 
 /// What the tables of forwards stand for, by the gateways of the file.
 #[derive(Clone, Copy)]
-pub struct Forwards<'a> {
+pub struct ForwardResolver<'a> {
     pub buses: &'a [BusPlan],
     pub gateways: &'a [GatewayTable],
 }
 
-impl Resolve<ForwardTable, Forward> for Forwards<'_> {
+impl Resolve<ForwardTable, Forward> for ForwardResolver<'_> {
     ghost faults = { λ r. spec.forward_found r.buses.now r.gateways.now };
 
     ghost Grows = { λ r. spec.ForwardFoundGrows r.buses.now };
 
     ghost StandsFor = { λ r. spec.StandsForForward r.buses.now r.gateways.now };
 
-    #[tactic(auto, using(crate::proofs::FirstFaults::faults_after), unfolding(crate::specs::Resolved::forward_found, crate::specs::TableFaults::label_faults))]
+    #[tactic(auto, using(j39_tables::proofs::FirstFaults::faults_after), unfolding(crate::specs::Resolved::forward_found, crate::specs::LabelsSeen::label_faults))]
     fn resolve(
         &self,
         alloc: Global,
@@ -134,7 +134,7 @@ impl Resolve<ForwardTable, Forward> for Forwards<'_> {
         let units = units_by(self.gateways, table.gateway.as_str());
         let heard = hearing(self.buses, units, index, table)?;
         let sent = sending(self.buses, units, index, table)?;
-        let resolver = Signals {
+        let resolver = SignalResolver {
             buses: self.buses,
             forward: index,
             heard: heard.group,

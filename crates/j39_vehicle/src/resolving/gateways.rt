@@ -4,26 +4,26 @@ ghost use Rattle.j39_vehicle.specs.Resolved as spec;
 use super::each::{Resolve, resolve_each};
 use super::found::unit_named;
 use crate::file::{GatewayTable, NameOnBus};
-use crate::reading::{Key, Table, VehicleError, refused};
+use crate::reading::{Key, Table, VehicleError};
 use crate::vehicle::{BusPlan, Gateway, UnitAt};
-use j39_plan::Cause;
+use j39_tables::{Cause, refused};
 use std::alloc::Global;
 
 /// What the names of the units of the gateway at a place stand for.
 #[derive(Clone, Copy)]
-struct Units<'a> {
+struct UnitResolver<'a> {
     buses: &'a [BusPlan],
     gateway: usize,
 }
 
-impl Resolve<NameOnBus, UnitAt> for Units<'_> {
+impl Resolve<NameOnBus, UnitAt> for UnitResolver<'_> {
     ghost faults = { λ r. spec.unit_found r.buses.now r.gateway };
 
     ghost Grows = { λ _. spec.NeverFoundGrows };
 
     ghost StandsFor = { λ r. spec.StandsForName r.buses.now };
 
-    #[tactic(auto, unfolding(crate::specs::Resolved::unit_found, crate::specs::TableFaults::label_faults))]
+    #[tactic(auto, unfolding(crate::specs::Resolved::unit_found, crate::specs::LabelsSeen::label_faults))]
     fn resolve(
         &self,
         _alloc: Global,
@@ -39,11 +39,11 @@ impl Resolve<NameOnBus, UnitAt> for Units<'_> {
 
 /// What the tables of gateways stand for.
 #[derive(Clone, Copy)]
-pub struct Gateways<'a> {
+pub struct GatewayResolver<'a> {
     pub buses: &'a [BusPlan],
 }
 
-impl Resolve<GatewayTable, Gateway> for Gateways<'_> {
+impl Resolve<GatewayTable, Gateway> for GatewayResolver<'_> {
     ghost faults = { λ r. spec.gateway_found r.buses.now };
 
     ghost Grows = { λ r. spec.GatewayFoundGrows r.buses.now };
@@ -57,7 +57,7 @@ impl Resolve<GatewayTable, Gateway> for Gateways<'_> {
         index: usize,
         table: &GatewayTable,
     ) -> Result<Gateway, VehicleError> {
-        let names = Units {
+        let names = UnitResolver {
             buses: self.buses,
             gateway: index,
         };

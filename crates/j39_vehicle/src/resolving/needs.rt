@@ -5,25 +5,25 @@ use super::each::Resolve;
 use super::found::{group_place, unit_named};
 use super::own::given_signal;
 use crate::file::NeedTable;
-use crate::reading::{Key, Table, VehicleError, refused};
+use crate::reading::{Key, Table, VehicleError};
 use crate::vehicle::{BusPlan, GroupAt, VehicleNeed};
-use j39_plan::Cause;
+use j39_tables::{Cause, refused};
 use std::alloc::Global;
 
 /// What the tables of needs stand for.
 #[derive(Clone, Copy)]
-pub struct Needs<'a> {
+pub struct NeedResolver<'a> {
     pub buses: &'a [BusPlan],
 }
 
-impl Resolve<NeedTable, VehicleNeed> for Needs<'_> {
+impl Resolve<NeedTable, VehicleNeed> for NeedResolver<'_> {
     ghost faults = { λ r. spec.need_found r.buses.now };
 
     ghost Grows = { λ _. spec.NeverFoundGrows };
 
     ghost StandsFor = { λ r. spec.StandsForNeed r.buses.now };
 
-    #[tactic(auto, using(crate::proofs::FirstFaults::faults_after), unfolding(crate::specs::Resolved::need_found, crate::specs::TableFaults::label_faults))]
+    #[tactic(auto, using(j39_tables::proofs::FirstFaults::faults_after), unfolding(crate::specs::Resolved::need_found, crate::specs::LabelsSeen::label_faults))]
     fn resolve(
         &self,
         _alloc: Global,

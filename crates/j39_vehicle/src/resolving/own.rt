@@ -2,16 +2,16 @@
 ghost use Rattle.std.specs.Prelude.{◌≡◌, option_and_then, option_map, position, string_bytes};
 ghost use Rattle.std.specs.Str.{bytes_eq};
 ghost use Rattle.j39_vehicle.specs.TextKinds.{name_of};
-ghost use Rattle.j39_vehicle.specs.TableFaults.{label_faults};
-ghost use Rattle.j39_vehicle.specs.Outcome.{Gives};
+ghost use Rattle.j39_vehicle.specs.LabelsSeen.{label_faults};
+ghost use Rattle.j39_tables.specs.Outcome.{Gives};
 ghost use Rattle.j39_vehicle.specs.LabelsFound as spec;
 
 use super::found::{receivers_on, signal_place, unit_place};
 use crate::file::{GatewayTable, NameOnBus};
-use crate::reading::{Key, Table, VehicleError, refused};
+use crate::reading::{Key, Table, VehicleError};
 use crate::vehicle::{BusPlan, GroupAt};
 use j39_network::To;
-use j39_plan::Cause;
+use j39_tables::{Cause, refused};
 
 /// The place of the gateway of a label.
 pub fn gateway_labelled(gateways: &[GatewayTable], label: &str) -> Option<usize>
@@ -71,7 +71,7 @@ pub fn own_unit(
 }
 
 /// The unit on the bus at a place that is given, or none where none is.
-#[tactic(auto, unfolding(crate::specs::TableFaults::label_faults))]
+#[tactic(auto, unfolding(crate::specs::LabelsSeen::label_faults))]
 pub fn given_unit(
     buses: &[BusPlan],
     bus: usize,
@@ -93,7 +93,7 @@ pub fn given_unit(
 }
 
 /// The receivers on the bus at a place that are given, or none where none are.
-#[tactic(auto, unfolding(crate::specs::TableFaults::label_faults))]
+#[tactic(auto, unfolding(crate::specs::LabelsSeen::label_faults))]
 pub fn given_receivers(
     buses: &[BusPlan],
     bus: usize,
@@ -115,7 +115,7 @@ pub fn given_receivers(
 }
 
 /// The signal of a group that is given, or none where none is.
-#[tactic(auto, unfolding(crate::specs::TableFaults::label_faults))]
+#[tactic(auto, unfolding(crate::specs::LabelsSeen::label_faults))]
 pub fn given_signal(
     buses: &[BusPlan],
     group: GroupAt,

@@ -4,21 +4,21 @@ ghost use Rattle.j39_vehicle.specs.Resolved as spec;
 use super::each::{Resolve, resolve_each};
 use super::found::signal_place;
 use crate::file::SignalTable;
-use crate::reading::{Key, Table, VehicleError, refused};
+use crate::reading::{Key, Table, VehicleError};
 use crate::vehicle::{BusPlan, ForwardedSignal, GroupAt};
-use j39_plan::Cause;
+use j39_tables::{Cause, refused};
 use std::alloc::Global;
 
 /// What the signals of the forward at a place stand for, between the groups that are heard and sent.
 #[derive(Clone, Copy)]
-pub struct Signals<'a> {
+pub struct SignalResolver<'a> {
     pub buses: &'a [BusPlan],
     pub forward: usize,
     pub heard: GroupAt,
     pub sent: GroupAt,
 }
 
-impl Resolve<SignalTable, ForwardedSignal> for Signals<'_> {
+impl Resolve<SignalTable, ForwardedSignal> for SignalResolver<'_> {
     ghost faults = { λ r. spec.signal_found r.buses.now r.forward r.heard r.sent };
 
     ghost Grows = { λ _. spec.NeverFoundGrows };

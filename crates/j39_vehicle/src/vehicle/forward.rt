@@ -26,7 +26,8 @@ pub struct ForwardedSignal {
     pub exact: bool,
 }
 
-/// A forward: a gateway hears a group on one bus and sends it, or signals of it in another group, on the same or another bus.
+/// A forward: a gateway hears a group on one bus and sends it, or signals of it in another group, on the same or
+/// another bus.
 #[derive(Debug, Drop)]
 pub struct Forward {
     /// The place of the gateway.
@@ -46,7 +47,8 @@ pub struct Forward {
     pub mode: Mode,
     /// In how many milliseconds behind the end of what was heard at most it is queued, or can be sent.
     pub within: Option<u16>,
-    /// Which signals go into which. Without them the message goes on as it is, and with an empty list nothing of it does.
+    /// Which signals go into which. Without them the message goes on as it is, and with an empty list nothing of it
+    /// does.
     pub signals: Option<Vec<ForwardedSignal>>,
     pub ghost within_positive: { ForSome within (λ n. 1 ≤ n) },
     pub ghost signal_count: { ForSome signals (λ listed. length listed.items ≤ signal_limit) },

@@ -5,8 +5,8 @@ ghost use Rattle.j39_vehicle.specs.VehicleLimits.{gateway_unit_limit};
 use super::UnitAt;
 use j39_id::Label;
 
-/// A gateway: its label, and its units on its buses. The first on a bus is the one by which it hears and sends there where nothing else
-/// is said; others stand there for units of other buses.
+/// A gateway: its label, and its units on its buses. The first on a bus is the one by which it hears and sends there
+/// where nothing else is said; others stand there for units of other buses.
 #[derive(Debug, Drop)]
 pub struct Gateway {
     /// 1 to 32 ASCII letters, digits and `_`.

@@ -1,4 +1,4 @@
-use Rattle.j39_load.specs.Asked.{asked_by}
+use Rattle.j39_load.specs.AskedLoads.{asked_in}
 use Rattle.j39_ages.proofs.Told.{delays_known}
 use Rattle.j39_ages.proofs.bus_delays.delays_by.Goals as goal
 
@@ -7,7 +7,6 @@ returns c =
     let plan = c.args.plan.now in
     let timing = c.in-Some.timing in
     let loads = c.in_ok-loads.loads in
-    let asked = asked_by loads.flows.items loads.units.items loads.requests.items in
     let known = c.in_ok-loads.ensures.asked in
-    delays_known plan timing plan.timing c.in-Some.is known.0 asked c.in_ok-delays.delays.items known.1 known.2
+    delays_known plan timing plan.timing c.in-Some.is known.0 (asked_in loads) c.in_ok-delays.delays.items known.1 known.2
     (rw c.in_ok-loads.ensures.timing at c.in_ok-delays.ensures.delays)

@@ -8,7 +8,7 @@ returns-in_err-plan g c = no_plan IsRunOf IsRunFrontOf _ _ c.plan_of.result c.pl
 
 pub returns-in-Some : goal.returns-in-Some
 returns-in-Some g c =
-    let same : c.plan_of.new.sink ≡ c.args.sink.now = rw c.in-Some.is at c.in_ok-plan.ensures.silent in
+    let same : c.plan_of.new.sink ≡ c.args.sink.now = rw c.in-Some.is at c.in_ok-plan.ensures.writes_nothing in
     plan_known IsRunOf IsRunFrontOf _ _ c.plan_of.result c.plan_of.ensures.ends c.in-Some.plan c.run_by.result (search rules) same c.run_by.ensures
 
 pub returns-in-None : goal.returns-in-None

@@ -14,7 +14,7 @@ loop-table-preserved g c =
     let IsOf = IsPlanOfBus (g.F.Folder.bytes_of c.args.files.now) c.args.vehicle.now in
     let table = c.table-item.result in
     let so = next_left IsOf _ _ c.loop-table.table-index table c.table-item.is c.loop-table-test.true c.loop-table.invariant.read in
-    let same : c.plan_of_bus.new.sink ≡ c.loop-table.sink = rw c.in-Some.is at c.in_ok-plan.ensures.silent in
+    let same : c.plan_of_bus.new.sink ≡ c.loop-table.sink = rw c.in-Some.is at c.in_ok-plan.ensures.writes_nothing in
     let (text, is, put) = (rw c.in-Some.is at c.in_ok-plan.ensures.ends).written in
     record {
       same = same ∙ c.loop-table.invariant.same;
@@ -31,7 +31,7 @@ returns-in_err-plan-clause-ends g c =
 
 pub returns-in_err-add_bus-in-Some-clause-ends : goal.returns-in_err-add_bus-in-Some-clause-ends
 returns-in_err-add_bus-in-Some-clause-ends g c =
-    let same : c.plan_of_bus.new.sink ≡ c.loop-table.sink = rw c.in-Some.is at c.in_ok-plan.ensures.silent in
+    let same : c.plan_of_bus.new.sink ≡ c.loop-table.sink = rw c.in-Some.is at c.in_ok-plan.ensures.writes_nothing in
     continues (same ∙ c.loop-table.invariant.same) (wants_memory _ (search rules))
 
 pub returns-in-None-clause-ends : goal.returns-in-None-clause-ends

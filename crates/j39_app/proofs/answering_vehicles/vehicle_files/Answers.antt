@@ -10,7 +10,7 @@ returns-in_err-file g c =
 
 pub returns-in-Some : goal.returns-in-Some
 returns-in-Some g c =
-    let same : c.vehicle_of.new.sink ≡ c.args.sink.now = rw c.in-Some.is at c.in_ok-file.ensures.silent in
+    let same : c.vehicle_of.new.sink ≡ c.args.sink.now = rw c.in-Some.is at c.in_ok-file.ensures.writes_nothing in
     let before = rw c.in-Some.is at c.in_ok-file.ensures.ends in
     let (text, (bytes, of, (says, nothing)), put) = before.written in
     let file = c.in-Some.file in

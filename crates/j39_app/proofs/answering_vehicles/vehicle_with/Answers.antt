@@ -13,7 +13,7 @@ returns-in_err-buses g c =
 
 pub returns-in-Some : goal.returns-in-Some
 returns-in-Some g c =
-    let same : c.buses_of.new.sink ≡ c.args.sink.now = rw c.in-Some.is at c.in_ok-buses.ensures.silent in
+    let same : c.buses_of.new.sink ≡ c.args.sink.now = rw c.in-Some.is at c.in_ok-buses.ensures.writes_nothing in
     let before = rw (c.in-Some.is, c.deref.ensures.value) at c.in_ok-buses.ensures.ends in
     let (text, (read, nothing), put) = before.written in
     let buses = c.in-Some.buses.items in

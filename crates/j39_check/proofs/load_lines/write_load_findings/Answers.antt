@@ -1,6 +1,6 @@
 use Rattle.std.proofs.Common.{◌++◌, ℕ, List, append_assoc, sym, ap}
 use Rattle.j39_check.specs.LoadLines.{load_finding_part}
-use Rattle.j39_load.specs.declared.load_finding.LoadFinding.TheVariants.{NoPeriod}
+use Rattle.j39_load.specs.declared.findings.load_finding.LoadFinding.TheVariants.{NoPeriod}
 use Rattle.j39_load.proofs.Before.{more}
 use Rattle.j39_check.proofs.load_lines.write_load_findings.Goals as goal
 

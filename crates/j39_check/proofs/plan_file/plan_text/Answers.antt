@@ -1,7 +1,8 @@
 use Rattle.std.proofs.Common.{rules, List, ℕ, [], Some, Err, refl}
 use Rattle.j39_stream.proofs.Answering.{answered, not_read, read_and_put}
 use Rattle.j39_stream.proofs.Parts.{none_taken}
-use Rattle.j39_plan.specs.Described.{Reads, tree_of}
+use Rattle.j39_plan.specs.Described.{Reads}
+use Rattle.j39_tables.specs.FileTrees.{tree_of}
 use Rattle.j39_check.specs.PlanText.{IsRefusedText}
 use Rattle.j39_check.proofs.plan_file.plan_text.Goals as goal
 

@@ -7,7 +7,7 @@ returns-in_err-plan g c = none_read c.plan_text.result c.plan_text.ensures.answe
 
 pub returns-in-Some : goal.returns-in-Some
 returns-in-Some g c =
-    let same : c.plan_text.new.sink ≡ c.args.sink.now = rw c.in-Some.is at c.in_ok-plan.ensures.silent in
+    let same : c.plan_text.new.sink ≡ c.args.sink.now = rw c.in-Some.is at c.in_ok-plan.ensures.writes_nothing in
     reported c.plan_text.result c.plan_text.ensures.answers c.in-Some.plan c.put_report.result (search rules) same c.put_report.ensures
 
 pub returns-in-None : goal.returns-in-None

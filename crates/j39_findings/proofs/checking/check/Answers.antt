@@ -3,13 +3,16 @@ use Rattle.j39_findings.specs.declared.checking.finding.Finding.{Finding}
 use Rattle.j39_findings.specs.Findings.{AreFindings}
 use Rattle.j39_findings.specs.Found.{unit_findings}
 use Rattle.j39_findings.proofs.FoundLaws.{are_findings}
-use Rattle.j39_findings.proofs.FoundParts.{WantsMemory, wants_memory, units_some, groups_some, signals_some, flows_some, kept_some, unsent_some, records_some, texts_some, needs_some, requests_some, whole_list}
+use Rattle.j39_findings.proofs.FoundParts.{WantsMemory, wants_memory, units_some, groups_some, signals_some, flows_some, kept_some, unsent_some, records_some}
+use Rattle.j39_findings.proofs.FoundParts.{texts_some, needs_some, requests_some, whole_list}
 use Rattle.j39_findings.proofs.FoundParts.{silent_some, contested_some}
 use Rattle.j39_findings.proofs.checking.check.Goals as goal
 use Rattle.j39_findings.proofs.checking.check.Goals.{After-drop-findings, After-drop-findings-in_err-find_in_groups}
 use Rattle.j39_findings.proofs.checking.check.Goals.{After-drop-findings-in_err-find_in_signals}
 use Rattle.j39_findings.proofs.checking.check.Goals.{After-drop-findings-in_err-find_in_flows, After-drop-findings-in_err-find_kept}
-use Rattle.j39_findings.proofs.checking.check.Goals.{After-drop-findings-in_err-find_unsent, After-drop-findings-in_err-find_in_records, After-drop-findings-in_err-find_in_texts, After-drop-findings-in_err-find_in_needs, After-drop-findings-in_err-find_in_requests}
+use Rattle.j39_findings.proofs.checking.check.Goals.{After-drop-findings-in_err-find_unsent, After-drop-findings-in_err-find_in_records}
+use Rattle.j39_findings.proofs.checking.check.Goals.{After-drop-findings-in_err-find_in_texts, After-drop-findings-in_err-find_in_needs}
+use Rattle.j39_findings.proofs.checking.check.Goals.{After-drop-findings-in_err-find_in_requests}
 use Rattle.j39_findings.proofs.checking.check.Goals.{After-drop-findings-in_err-find_silent, After-drop-findings-in_err-find_contested}
 
 units_want : (c : After-drop-findings) → WantsMemory c.args.plan.now c.from_residual.result
@@ -147,7 +150,8 @@ returns-in_err-find_contested-clause-clean c = (contested_want c).1
 
 pub returns-clause-list : goal.returns-clause-list
 returns-clause-list c =
-    let units : c.find_in_units.new.findings.items ≡ unit_findings c.args.plan.now.keep_free c.args.plan.now.strangers c.args.plan.now.units.items = search rules in
+    let units : c.find_in_units.new.findings.items ≡ unit_findings c.args.plan.now.keep_free c.args.plan.now.strangers c.args.plan.now.units.items =
+    search rules in
     whole_list c.args.plan.now _ _ _ _ _ _ _ _ _ _ _ _ units
     (rw (c.deref-2.ensures.value, c.deref-3.ensures.value) at c.in_ok-find_in_groups.ensures)
     (rw (c.deref-4.ensures.value) at c.in_ok-find_in_signals.ensures)

@@ -3,7 +3,7 @@ use Rattle.std.proofs.lemmas.List.{append-nil}
 use Rattle.j39_follow.specs.FollowReports.{in_frame}
 use Rattle.j39_follow.specs.inside.Reporting.{front_of}
 use Rattle.j39_follow.proofs.FrameTexts.{is_a_group, is_no_group, last_text}
-use Rattle.j39_follow.proofs.Heard.{unheard_more}
+use Rattle.j39_follow.proofs.Addresses.Heard.{unheard_more}
 use Rattle.j39_follow.proofs.frame_report.write_frame.Goals as goal
 
 pub returns-then-is_grouped : goal.returns-then-is_grouped

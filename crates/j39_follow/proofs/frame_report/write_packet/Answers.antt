@@ -7,7 +7,7 @@ use Rattle.j39_tp.specs.declared.packet.Packet.{Packet}
 use Rattle.j39_tp.specs.declared.receiving.progress.Progress.{Progress}
 use Rattle.j39_tp.specs.declared.receiving.progress.Progress.TheVariants.{Complete}
 use Rattle.j39_follow.specs.inside.Hearing.{listener_between}
-use Rattle.j39_follow.proofs.Heard.{heard_packet, since_in_range}
+use Rattle.j39_follow.proofs.Addresses.Heard.{heard_packet, since_in_range}
 use Rattle.j39_follow.proofs.frame_report.write_packet.Goals as goal
 
 pub returns-clause-heard : goal.returns-clause-heard
@@ -22,7 +22,7 @@ returns-clause-carried c = λ seen log shows have ranges.
     let p : Packet = c.args.packet.now in
     let old = listener_between c.args.listeners.now i.sa i.ps in
     let new = listener_between c.listen.new.listeners i.sa i.ps in
-    let done = completed_there old p c.in-Some.pgn (sym c.in_ok-pgn.ensures.told ∙ c.in-Some.is) in
+    let done = completed_there old p c.in-Some.pgn (sym c.in_ok-pgn.ensures.group ∙ c.in-Some.is) in
     let itself = heard_itself c.args.listeners.now.rows.items c.listen.new.listeners.rows.items i p c.in_ok-pgn.ensures.heard in
     let progress : new.progress ≡ Complete c.number.result =
     ap (λ (r : Receiving). r.progress) itself ∙ done.1 ∙ ap Complete (sym c.number.ensures.value) in
@@ -58,7 +58,7 @@ returns-in_default-clause-carried c = λ seen log shows have ranges.
     let i = c.args.frame.now.ident in
     let p : Packet = c.args.packet.now in
     let old = listener_between c.args.listeners.now i.sa i.ps in
-    let untold = uncompleted old p (sym c.in_ok-pgn.ensures.told ∙ c.in_default.is) in
+    let untold = uncompleted old p (sym c.in_ok-pgn.ensures.group ∙ c.in_default.is) in
     let one = have i.sa i.ps i.sa_range i.ps_range in (
       [],
       (one.0, one.1, inr (uncarried_there c.listener_completes_what_is_carried.ensures.carried one.0 p old one.2 untold, refl, refl)),

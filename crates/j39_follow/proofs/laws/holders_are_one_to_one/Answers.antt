@@ -1,4 +1,4 @@
-use Rattle.j39_follow.proofs.HolderLaws.{one_address, one_holder}
+use Rattle.j39_follow.proofs.Addresses.HolderLaws.{one_address, one_holder}
 use Rattle.j39_follow.proofs.laws.holders_are_one_to_one.Goals as goal
 
 pub returns-clause-holder : goal.returns-clause-holder

@@ -1,4 +1,4 @@
-use Rattle.j39_follow.proofs.VehicleTexts.{types_tell_vehicles}
+use Rattle.j39_follow.proofs.Vehicles.Texts.{types_tell_vehicles}
 use Rattle.j39_follow.proofs.laws.types_tell_vehicles.Goals as goal
 
 pub returns : goal.returns

@@ -1,13 +1,36 @@
-use Rattle.std.proofs.Common.{◌++◌, [], ℕ, refl, sym, ap, ◌∙◌}
+use Rattle.std.proofs.Common.{◌≡◌, ◌++◌, [], ℕ, List, Option, refl, sym, ap, ◌∙◌}
 use Rattle.std.proofs.lemmas.List.{append-nil}
 use Rattle.std.proofs.lemmas.Result.{IfOk-weaker}
-use Rattle.j39_follow.specs.FollowReports.{cannot_line, cannot_text, claim_line, claim_text}
-use Rattle.j39_follow.specs.LoggedRequests.{acknowledges}
-use Rattle.j39_follow.specs.inside.Reporting.{front_of}
 use Rattle.j39_id.specs.FrameMeaning.{cannot_claim, claims_address, requests_group}
-use Rattle.j39_follow.proofs.Told.{an_answer_way, an_asked}
-use Rattle.j39_follow.proofs.Ways.{a_way, if_not, if_so}
+use Rattle.j39_id.specs.declared.frame.Frame.{Frame}
+use Rattle.j39_network.specs.declared.plan.Plan.{Plan}
+use Rattle.j39_follow.specs.Contests.{Timed}
+use Rattle.j39_follow.specs.FollowReports.{IsNotice, cannot_line, cannot_text, claim_line, claim_text, notice_text}
+use Rattle.j39_follow.specs.LoggedRequests.{acknowledges}
+use Rattle.j39_follow.specs.declared.address.known_parties.Parties.{Parties}
+use Rattle.j39_follow.specs.inside.Contesting.{ShowsAsker, ShowsParties}
+use Rattle.j39_follow.specs.inside.Reporting.{front_of}
+use Rattle.j39_follow.proofs.Requests.Noted.{an_answer_way, an_asked}
+use Rattle.j39_follow.proofs.Addresses.Ways.{a_way, if_not, if_so}
 use Rattle.j39_follow.proofs.notice.write_notice.Goals as goal
+
+-- whichever way the frame went, and whatever it asks, this is written
+whichever_way : (plan : Plan) (parties : Parties) (log : List Timed) (front : List ℕ) (f : Frame) (text : List ℕ) → ShowsParties plan parties log f.ident
+    → ShowsAsker plan parties log f → ((way back : List ℕ) (asked : Option ℕ) → text ≡ notice_text plan front f way asked back)
+    → IsNotice plan log front f text
+whichever_way plan parties log front f text shows asks is =
+    let way = a_way plan parties log f.ident shows in
+    let back = an_answer_way plan parties log f shows asks in
+    let asked = an_asked plan parties log f shows in
+    record {
+      way = way.0;
+      back = back.0;
+      asked = asked.0;
+      way_is = way.1;
+      back_is = back.1;
+      asked_is = asked.1;
+      text_is = is way.0 back.0 asked.0;
+    }
 
 pub returns-then-claims_address : goal.returns-then-claims_address
 returns-then-claims_address c =
@@ -15,20 +38,10 @@ returns-then-claims_address c =
     let front = front_of c.args.stamp in
     let f = c.args.frame.now in
     IfOk-weaker c.write_claim.result _ _
-    (λ _ written. λ log shows asks.
-    let way = a_way plan c.args.parties.now log f.ident shows in
-    let back = an_answer_way plan c.args.parties.now log f shows asks in
-    let asked = an_asked plan c.args.parties.now log f shows in (
+    (λ _ written. λ log shows asks. (
       claim_line plan front f,
-      record {
-        way = way.0;
-        back = back.0;
-        asked = asked.0;
-        way_is = way.1;
-        back_is = back.1;
-        asked_is = asked.1;
-        text_is = if_so (claims_address f) _ _ (sym c.claims_address.ensures ∙ c.if-claims_address.true);
-      },
+      whichever_way plan c.args.parties.now log front f _ shows asks
+          (λ way back asked. if_so (claims_address f) _ _ (sym c.claims_address.ensures ∙ c.if-claims_address.true)),
       written ∙ ap (λ (name : ℕ). c.args.text.now ++ claim_text plan front name f.ident.sa) (c.to_bits.ensures.value ∙ c.carried_name.ensures),
     ))
     c.write_claim.ensures
@@ -39,21 +52,11 @@ returns-then-cannot_claim c =
     let front = front_of c.args.stamp in
     let f = c.args.frame.now in
     IfOk-weaker c.write_cannot.result _ _
-    (λ _ written. λ log shows asks.
-    let way = a_way plan c.args.parties.now log f.ident shows in
-    let back = an_answer_way plan c.args.parties.now log f shows asks in
-    let asked = an_asked plan c.args.parties.now log f shows in (
+    (λ _ written. λ log shows asks. (
       cannot_line plan front f,
-      record {
-        way = way.0;
-        back = back.0;
-        asked = asked.0;
-        way_is = way.1;
-        back_is = back.1;
-        asked_is = asked.1;
-        text_is = if_not (claims_address f) _ _ _ (sym c.claims_address.ensures ∙ c.if-claims_address.false)
-            (if_so (cannot_claim f) _ _ (sym c.cannot_claim.ensures ∙ c.if-cannot_claim.true));
-      },
+      whichever_way plan c.args.parties.now log front f _ shows asks
+          (λ way back asked. if_not (claims_address f) _ _ _ (sym c.claims_address.ensures ∙ c.if-claims_address.false)
+          (if_so (cannot_claim f) _ _ (sym c.cannot_claim.ensures ∙ c.if-cannot_claim.true))),
       written ∙ ap (λ (name : ℕ). c.args.text.now ++ cannot_text plan front name) (c.to_bits-then-cannot_claim.ensures.value ∙ c.carried_name-then-cannot_claim.ensures),
     ))
     c.write_cannot.ensures
@@ -102,7 +105,7 @@ returns-then-acknowledges c =
         text_is = if_not (claims_address f) _ _ _ (sym c.claims_address.ensures ∙ c.if-claims_address.false)
             (if_not (cannot_claim f) _ _ _ (sym c.cannot_claim.ensures ∙ c.if-cannot_claim.false)
             (if_not (requests_group f) _ _ _ (sym c.requests_group.ensures ∙ c.if-requests_group.false)
-            (if_so (acknowledges plan f) _ _ (sym c.acknowledges.ensures.told ∙ c.if-acknowledges.true))));
+            (if_so (acknowledges plan f) _ _ (sym c.acknowledges.ensures.same ∙ c.if-acknowledges.true))));
       },
       one.2,
     ))
@@ -111,22 +114,12 @@ returns-then-acknowledges c =
 pub returns-else-acknowledges : goal.returns-else-acknowledges
 returns-else-acknowledges c = λ log shows asks.
     let plan = c.args.plan.now in
-    let f = c.args.frame.now in
-    let way = a_way plan c.args.parties.now log f.ident shows in
-    let back = an_answer_way plan c.args.parties.now log f shows asks in
-    let asked = an_asked plan c.args.parties.now log f shows in (
+    let f = c.args.frame.now in (
       [],
-      record {
-        way = way.0;
-        back = back.0;
-        asked = asked.0;
-        way_is = way.1;
-        back_is = back.1;
-        asked_is = asked.1;
-        text_is = if_not (claims_address f) _ _ _ (sym c.claims_address.ensures ∙ c.if-claims_address.false)
-            (if_not (cannot_claim f) _ _ _ (sym c.cannot_claim.ensures ∙ c.if-cannot_claim.false)
-            (if_not (requests_group f) _ _ _ (sym c.requests_group.ensures ∙ c.if-requests_group.false)
-            (if_not (acknowledges plan f) _ _ _ (sym c.acknowledges.ensures.told ∙ c.if-acknowledges.false) refl)));
-      },
+      whichever_way plan c.args.parties.now log (front_of c.args.stamp) f [] shows asks
+          (λ way back asked. if_not (claims_address f) _ _ _ (sym c.claims_address.ensures ∙ c.if-claims_address.false)
+          (if_not (cannot_claim f) _ _ _ (sym c.cannot_claim.ensures ∙ c.if-cannot_claim.false)
+          (if_not (requests_group f) _ _ _ (sym c.requests_group.ensures ∙ c.if-requests_group.false)
+          (if_not (acknowledges plan f) _ _ _ (sym c.acknowledges.ensures.same ∙ c.if-acknowledges.false) refl)))),
       sym (append-nil c.args.text.now),
     )

@@ -1,24 +1,32 @@
-use Rattle.std.proofs.Common.{[], refl, subst}
+use Rattle.std.proofs.Common.{List, ℕ, [], refl, arith}
+use Rattle.j39_stream.specs.declared.verdict.Verdict.{Verdict}
+use Rattle.j39_stream.specs.declared.verdict.Verdict.TheVariants.{Done, Findings, Refused, Unreadable}
+use Rattle.j39_stream.proofs.Answering.{said_of}
 use Rattle.j39_network.specs.declared.plan.Plan.{Plan}
-use Rattle.j39_stream.proofs.Answering.{not_begun, put_unread, said_of}
-use Rattle.j39_log.specs.ReadText.{IsLogText}
-use Rattle.j39_log.proofs.LogReading.{begun, so_far}
+use Rattle.j39_log.specs.ReadText.{IsLogText, IsReadText, nothing_yet}
+use Rattle.j39_log.specs.ReportedLogs.{IsTextFor}
 use Rattle.j39_log.proofs.log_text.read_text.Goals as goal
 
-pub read_lines-requires-clause-begins : goal.read_lines-requires-clause-begins
-read_lines-requires-clause-begins g c =
-    so_far c.in-Ok.groups [] c.new-reading.result [] (begun c.in-Ok.groups c.new-reading.result c.new-reading.ensures.text c.new-reading.ensures.past)
+-- what is reported is what the command writes
+read : (plan : Plan) (log text : List ℕ) (verdict : Verdict)
+    → IsTextFor plan (λ log text. IsLogText plan log text) log text verdict → IsReadText plan log text verdict
+read plan log text Done is = is
+read plan log text Refused is = is
+read plan log text Findings is = is
+read plan log text Unreadable is = is
 
-pub returns-in-Ok : goal.returns-in-Ok
-returns-in-Ok g c =
-    said_of c.read_lines.result
-    (λ log text verdict is. rw is.1 (c.in-Ok.ensures.readable, subst (λ (p : Plan). IsLogText p log text) c.in-Ok.ensures.plan is.0))
-    c.read_lines.ensures.answers
+pub report_log-requires : goal.report_log-requires
+report_log-requires g c = record {
+  past = nothing_yet;
+  read = (refl, refl);
+  recalls = record {
+    heard_all = c.new-report.ensures;
+    ranges = λ k d less. absurd (omega arith);
+    frames_are = refl;
+    skipped_are = refl;
+    bad_are = refl;
+  };
+}
 
-pub returns-in-Err-Memory : goal.returns-in-Err-Memory
-returns-in-Err-Memory g c = not_begun _ refl
-
-pub returns-in-Err-BadGroup : goal.returns-in-Err-BadGroup
-returns-in-Err-BadGroup g c =
-    let first = rw c.in-Err-BadGroup.field-0-is at c.in-Err-BadGroup.ensures.refused in
-    put_unread c.refuse.result (λ text verdict is. rw is.1 ((c.in-Err-BadGroup.group, first, is.0, refl), λ done. cc done)) c.refuse.ensures
+pub returns : goal.returns
+returns g c = said_of c.report_log.result (read c.args.plan.now) c.report_log.ensures

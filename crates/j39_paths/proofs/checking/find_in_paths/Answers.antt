@@ -1,6 +1,7 @@
 use Rattle.std.proofs.Common.{inl, inr}
-use Rattle.j39_paths.proofs.Whole.{contents_want, ends_want, loops_want, needs_want, on_err, whole_paths}
+use Rattle.j39_paths.proofs.Whole.{contents_want, ends_want, loops_want, needs_want, whole_paths}
 use Rattle.j39_paths.proofs.checking.find_in_paths.Goals as goal
+use Rattle.j39_findings.proofs.FoundParts.{on_err}
 
 pub returns-in_err-find_in_ends-clause-memory : goal.returns-in_err-find_in_ends-clause-memory
 returns-in_err-find_in_ends-clause-memory c =

@@ -1,8 +1,4 @@
-use Rattle.std.proofs.Common.{◌≡◌, true, false, refl, sym, ◌∙◌}
-use Rattle.std.proofs.lemmas.Bool.{false≢true}
-use Rattle.toml.specs.Data.{Members}
-use Rattle.j39_network.specs.declared.plan.group_plan.GroupPlan.{GroupPlan}
-use Rattle.j39_plan.specs.declared.reading.version.Version.{Version}
+use Rattle.std.proofs.Common.{refl, sym, ◌∙◌}
 use Rattle.j39_plan.specs.declared.reading.version.Version.TheVariants.{First, Second, Third, Fourth}
 use Rattle.j39_plan.specs.FlowTables.{SecondFlowRules}
 use Rattle.j39_plan.specs.GroupTables.{OlderGroupRules, OlderLengths}

@@ -6,7 +6,8 @@ use Rattle.j39_schedule.proofs.order_line.order_of.Goals as goal
 pub returns-in-Begin-Two : goal.returns-in-Begin-Two
 returns-in-Begin-Two c =
     let words : words_of c.args.values.now ≡ c.in-Begin-Two.number.now ∷ c.in-Begin-Two.digits.now ∷ [] = search rules in
-    let told : IsReadAs (with_flow c.args.units.now begins c.in-Begin-Two.number.now c.in-Begin-Two.digits.now) c.begin.result = rw c.plan.ensures at c.begin.ensures in
+    let told : IsReadAs (with_flow c.args.units.now begins c.in-Begin-Two.number.now c.in-Begin-Two.digits.now) c.begin.result =
+    rw c.plan.ensures at c.begin.ensures in
     rw (c.in-Begin-Two.is-0, words) told
 
 pub returns-in-Send-Two : goal.returns-in-Send-Two

@@ -26,7 +26,8 @@ pub read-requires : goal.read-requires
 read-requires g c =
     let before = c.loop-rest.invariant in
     let (most, within, room) = c.requires.room in
-    let len : length c.args.piece.now ≡ length before.used + length c.loop-rest.rest.now = ap length before.parts ∙ length-append before.used c.loop-rest.rest.now in
+    let len : length c.args.piece.now ≡ length before.used + length c.loop-rest.rest.now =
+    ap length before.parts ∙ length-append before.used c.loop-rest.rest.now in
     record { room = (most + length before.used, before.count most within, omega (arith, room, len)) }
 
 pub loop-rest-smaller : goal.loop-rest-smaller
@@ -69,7 +70,8 @@ loop-rest-preserved g c =
 pub returns-clause-count : goal.returns-clause-count
 returns-clause-count g c = λ most within.
     let before = c.loop-rest.invariant in
-    let len : length c.args.piece.now ≡ length before.used + length c.loop-rest.rest.now = ap length before.parts ∙ length-append before.used c.loop-rest.rest.now in
+    let len : length c.args.piece.now ≡ length before.used + length c.loop-rest.rest.now =
+    ap length before.parts ∙ length-append before.used c.loop-rest.rest.now in
     let none : length c.loop-rest.rest.now ≡ 0 = search rules in
     let all : most + length before.used ≡ most + length c.args.piece.now = omega (arith, len, none) in
     subst (g.R.LineReader.within c.loop-rest.reader) all (before.count most within)

@@ -8,7 +8,7 @@ use Rattle.j39_timing.proofs.lines.stretch_of_all.Goals as goal
 
 pub loop-stream-preserved : goal.loop-stream-preserved
 loop-stream-preserved c =
-    let none : Stream = record { frames = 0; period = 0; bits = 0; late = 0; wanted = None } in
+    let none : Stream = record { frames = 0; period = 0; bits = 0; jitter = 0; wanted = None } in
     let stretch : Stretch = record { line = c.loop-stream.line; until = c.loop-stream.until } in
     let next : IsStretchBelow c.stretch_of-next.result c.args.span (λ x. lesser_share (map as_demand c.args.all.now) x (get_or c.args.streams.now c.loop-stream.stream-index none)) =
     c.stretch_of-next.ensures.below in

@@ -1,4 +1,4 @@
-use Rattle.j39_network.specs.Kinds.{AreToldApart}
+use Rattle.j39_network.specs.Kinds.{AreDistinctUnits}
 use Rattle.j39_findings.specs.declared.checking.finding.Finding.TheVariants.{SameName}
 use Rattle.j39_findings.proofs.Vehicles.{clean_vehicle}
 use Rattle.j39_traces.proofs.Between.{messages_go}
@@ -26,7 +26,7 @@ returns-clause-logged c = λ plan vehicle steps w is apart keeps own run.
 
 pub returns-clause-begun : goal.returns-clause-begun
 returns-clause-begun c = λ plan vehicle steps w is clean claims run.
-    let apart : AreToldApart plan = λ i j pair. clean (SameName i j) pair in
+    let apart : AreDistinctUnits plan = λ i j pair. clean (SameName i j) pair in
     let distinct = distinct_boxes plan vehicle is apart in
     let own = own_boxes plan vehicle is apart (own_numbers plan clean) in
     told_so plan vehicle is apart w

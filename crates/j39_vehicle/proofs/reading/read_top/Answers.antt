@@ -1,15 +1,15 @@
 use Rattle.std.proofs.Common.{◌≡◌, [], map, refl, inl, inr}
 use Rattle.std.proofs.lemmas.Result.{err_from_is_err_and}
 use Rattle.toml.specs.View.{items_view}
-use Rattle.j39_vehicle.specs.Elements.{each_faults}
-use Rattle.j39_vehicle.specs.Growing.{EachGrows, GatewayGrows, ForwardGrows, NeedGrows}
-use Rattle.j39_vehicle.specs.Outcome.{FailsGrowing}
+use Rattle.j39_tables.specs.InOrder.{each_faults, EachGrows}
+use Rattle.j39_vehicle.specs.Growing.{GatewayGrows, ForwardGrows, NeedGrows}
+use Rattle.j39_tables.specs.Outcome.{FailsGrowing}
 use Rattle.j39_vehicle.specs.BusTables.{named_bus}
 use Rattle.j39_vehicle.specs.GatewayTables.{gateway_faults, gateway_name, named_gateway}
 use Rattle.j39_vehicle.specs.ForwardTables.{forward_faults}
 use Rattle.j39_vehicle.specs.NeedTables.{need_faults}
 use Rattle.j39_vehicle.specs.VehicleFaults.{no_name}
-use Rattle.j39_vehicle.proofs.FirstFaults.{fails_on, first-append}
+use Rattle.j39_tables.proofs.FirstFaults.{fails_on, first-append}
 use Rattle.j39_vehicle.proofs.reading.read_top.Goals as goal
 
 pub returns-in_err-gateways : goal.returns-in_err-gateways
@@ -17,7 +17,7 @@ returns-in_err-gateways c =
     let p = err_from_is_err_and c.from_residual-in_err-gateways.result c.from_residual-in_err-gateways.ensures.1 in
     let a = c.in_ok-arrays.ensures.1 in
     let no_buses = rw a.0 at c.in_ok-buses.ensures.gives.0 in
-    let bus_names = rw a.0 at c.in_ok-buses.ensures.names in
+    let bus_names = rw a.0 at c.in_ok-buses.ensures.labels in
     let bs = map named_bus c.in_ok-buses.buses.items in
     let ds = items_view c.in_ok-arrays.arrays.gateways.now in
     let told : FailsGrowing (EachGrows (gateway_faults bs) (GatewayGrows bs) ds) c.in_err-gateways.field-0.0 (each_faults (gateway_faults bs) gateway_name 0 [] ds) =
@@ -31,12 +31,12 @@ returns-in_err-forwards c =
     let p = err_from_is_err_and c.from_residual-in_err-forwards.result c.from_residual-in_err-forwards.ensures.1 in
     let a = c.in_ok-arrays.ensures.1 in
     let no_buses = rw a.0 at c.in_ok-buses.ensures.gives.0 in
-    let bus_names = rw a.0 at c.in_ok-buses.ensures.names in
+    let bus_names = rw a.0 at c.in_ok-buses.ensures.labels in
     let bs = map named_bus c.in_ok-buses.buses.items in
     let ds = items_view c.in_ok-arrays.arrays.gateways.now in
     let none_told : each_faults (gateway_faults bs) gateway_name 0 [] ds ≡ [] = rw c.deref.ensures.value at c.in_ok-gateways.ensures.gives.0 in
     let no_gateways = rw (bus_names, a.1) at none_told in
-    let gateway_names = rw a.1 at c.in_ok-gateways.ensures.names in
+    let gateway_names = rw a.1 at c.in_ok-gateways.ensures.labels in
     let gs = map named_gateway c.in_ok-gateways.gateways.items in
     let fs = items_view c.in_ok-arrays.arrays.forwards.now in
     let told : FailsGrowing (EachGrows (λ i seen. forward_faults gs i) (ForwardGrows gs) fs) c.in_err-forwards.field-0.0 (each_faults (λ i seen. forward_faults gs i) no_name 0 [] fs) =
@@ -50,12 +50,12 @@ returns-in_err-needs c =
     let p = err_from_is_err_and c.from_residual-in_err-needs.result c.from_residual-in_err-needs.ensures.1 in
     let a = c.in_ok-arrays.ensures.1 in
     let no_buses = rw a.0 at c.in_ok-buses.ensures.gives.0 in
-    let bus_names = rw a.0 at c.in_ok-buses.ensures.names in
+    let bus_names = rw a.0 at c.in_ok-buses.ensures.labels in
     let bs = map named_bus c.in_ok-buses.buses.items in
     let ds = items_view c.in_ok-arrays.arrays.gateways.now in
     let none_told : each_faults (gateway_faults bs) gateway_name 0 [] ds ≡ [] = rw c.deref.ensures.value at c.in_ok-gateways.ensures.gives.0 in
     let no_gateways = rw (bus_names, a.1) at none_told in
-    let gateway_names = rw a.1 at c.in_ok-gateways.ensures.names in
+    let gateway_names = rw a.1 at c.in_ok-gateways.ensures.labels in
     let gs = map named_gateway c.in_ok-gateways.gateways.items in
     let fs = items_view c.in_ok-arrays.arrays.forwards.now in
     let none_more : each_faults (λ i seen. forward_faults gs i) no_name 0 [] fs ≡ [] = rw c.deref-2.ensures.value at c.in_ok-forwards.ensures.gives.0 in
@@ -71,12 +71,12 @@ pub returns : goal.returns
 returns c =
     let a = c.in_ok-arrays.ensures.1 in
     let no_buses = rw a.0 at c.in_ok-buses.ensures.gives.0 in
-    let bus_names = rw a.0 at c.in_ok-buses.ensures.names in
+    let bus_names = rw a.0 at c.in_ok-buses.ensures.labels in
     let bs = map named_bus c.in_ok-buses.buses.items in
     let ds = items_view c.in_ok-arrays.arrays.gateways.now in
     let none_told : each_faults (gateway_faults bs) gateway_name 0 [] ds ≡ [] = rw c.deref.ensures.value at c.in_ok-gateways.ensures.gives.0 in
     let no_gateways = rw (bus_names, a.1) at none_told in
-    let gateway_names = rw a.1 at c.in_ok-gateways.ensures.names in
+    let gateway_names = rw a.1 at c.in_ok-gateways.ensures.labels in
     let gs = map named_gateway c.in_ok-gateways.gateways.items in
     let fs = items_view c.in_ok-arrays.arrays.forwards.now in
     let none_more : each_faults (λ i seen. forward_faults gs i) no_name 0 [] fs ≡ [] = rw c.deref-2.ensures.value at c.in_ok-forwards.ensures.gives.0 in

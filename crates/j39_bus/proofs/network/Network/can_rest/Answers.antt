@@ -26,7 +26,8 @@ returns c =
     let net = c.args.self.now in
     let n = length net.claimers.items in
     let past : n ≤ c.loop-other.other = omega (arith, c.len-other-end.ensures, net.claimers.ok.0) in
-    let over : list_all (is_over_with (world_in nowhere net) c.args.unit) (range_with_len 0 n) ≡ true = all_below (is_over_with (world_in nowhere net) c.args.unit) n
+    let over : list_all (is_over_with (world_in nowhere net) c.args.unit) (range_with_len 0 n) ≡ true =
+    all_below (is_over_with (world_in nowhere net) c.args.unit) n
     (λ k inside. c.loop-other.invariant k (omega arith)) in
     let ended : is_some (outcome_in (session_at net.sessions.items c.args.unit)) ≡ true =
     ap is_some (sym (c.outcome.ensures ∙ ap (λ ts. outcome_in (session_at ts c.args.unit)) c.as_slice.ensures.value)) ∙ c.is_none.ensures

@@ -12,7 +12,8 @@ use Rattle.j39_bus.proofs.Steady.{steps_after}
 use Rattle.j39_bus.proofs.network.Network.send.Goals as goal
 
 pub prepare-requires-clause-flow : goal.prepare-requires-clause-flow
-prepare-requires-clause-flow c = flow_fits c.args.self.now c.requires.network c.args.place c.args.bytes.now.items c.requires.allowed.refusal.is c.index.result.now
+prepare-requires-clause-flow c =
+    flow_fits c.args.self.now c.requires.network c.args.place c.args.bytes.now.items c.requires.allowed.refusal.is c.index.result.now
     c.index.ensures
 
 pub send_frame-requires-clause-flow : goal.send_frame-requires-clause-flow

@@ -1,5 +1,5 @@
 use Rattle.std.proofs.Common.{length, ltb, subst}
-use Rattle.j39_findings.specs.Standing.{AreFirsts, TellsAtEach, AreTwoThere, IsMover}
+use Rattle.j39_findings.specs.Standing.{AreFirsts, DecidesAtEach, AreTwoThere, IsMover}
 use Rattle.j39_findings.proofs.WhoIsAlone.{alone_by_arrays}
 use Rattle.j39_findings.proofs.WhoStays.{some_come, told}
 use Rattle.j39_findings.proofs.standing.Standing.new.Goals as goal
@@ -18,4 +18,4 @@ returns-clause-alone c =
     alone_by_arrays plan c.firsts_of-firsts.result c.mover_of-mover.result c.shared_addresses.result
     (subst (λ units. AreFirsts units (length units) c.firsts_of-firsts.result) c.as_slice.ensures.value c.firsts_of-firsts.ensures)
     (subst (λ units. IsMover units (length units) c.firsts_of-firsts.result c.mover_of-mover.result) c.as_slice-2.ensures.value c.mover_of-mover.ensures)
-    (subst (λ units. TellsAtEach (AreTwoThere units (length units)) c.shared_addresses.result) c.as_slice-3.ensures.value c.shared_addresses.ensures)
+    (subst (λ units. DecidesAtEach (AreTwoThere units (length units)) c.shared_addresses.result) c.as_slice-3.ensures.value c.shared_addresses.ensures)

@@ -1,14 +1,14 @@
 use Rattle.std.proofs.Common.{◌≡◌, ◌∷◌, [], List, length, length-append, get_or, Option, None, sym, subst, ap, arith}
-use Rattle.j39_load.specs.declared.delay.Delay.{Delay}
-use Rattle.j39_load.specs.Asked.{asked_by}
+use Rattle.j39_load.specs.declared.waits.delay.Delay.{Delay}
+use Rattle.j39_load.specs.AskedLoads.{asked_in}
 use Rattle.j39_load.specs.Delays.{HasDelay}
-use Rattle.j39_load.proofs.Offering.{one_more}
+use Rattle.j39_load.proofs.BufferingDelays.{one_more}
 use Rattle.j39_load.proofs.loads.Loads.delays.Goals as goal
 
 pub loop-flow-preserved : goal.loop-flow-preserved
 loop-flow-preserved c =
     let self = c.args.self.now in
-    let asked = asked_by self.flows.items self.units.items self.requests.items in
+    let asked = asked_in self in
     let old = c.loop-flow.delays.items in
     let delay = c.in_ok-delay.field-0 in
     let flow = c.loop-flow.flow in

@@ -1,7 +1,7 @@
 use Rattle.std.proofs.Common.{◌∷◌, [], length, length-append, ap, ◌∙◌, arith}
 use Rattle.std.proofs.lemmas.List.Elements.{All-append, All-cons}
-use Rattle.j39_load.specs.Asked.{asked_by}
-use Rattle.j39_load.specs.inside.Offers.{offer_of}
+use Rattle.j39_load.specs.AskedLoads.{asked_in}
+use Rattle.j39_load.specs.inside.BufferingDelays.{buffering_of}
 use Rattle.j39_load.specs.inside.TurnTimes.{IsShortTime}
 use Rattle.j39_load.proofs.TurnTimes.{one_more}
 use Rattle.j39_load.proofs.loads.Loads.turn_times.Goals as goal
@@ -15,7 +15,7 @@ loop-unit-preserved c =
     record {
       count = ap length c.in_ok-push.ensures.items ∙ omega (arith, length-append times (time ∷ []), old.count);
       each = rw (c.in_ok-push.ensures.items)
-          (one_more self.timing (asked_by self.flows.items self.units.items self.requests.items) (offer_of c.args.offers.now) times time c.loop-unit.unit old.count old.each c.in_ok-time.ensures.time);
+          (one_more self.timing (asked_in self) (buffering_of c.args.buffering_delays.now) times time c.loop-unit.unit old.count old.each c.in_ok-time.ensures.time);
       short = rw (c.in_ok-push.ensures.items)
           (All-append IsShortTime times (time ∷ []) old.short
           (All-cons IsShortTime time [] c.in_ok-time.ensures.short (λ j d below. absurd (omega arith))));

@@ -6,7 +6,8 @@ use Rattle.j39_log.specs.inside.Listening.{is_of_pair, is_pair, listener_of_pair
 use Rattle.j39_log.proofs.listeners.Listeners.forget.Goals as goal
 
 merged : (a b c : Bool) (f x : Receiving) → (if a then f else (if b then f else (if c then f else x))) ≡ (if c || (b || a) then f else x)
-merged a b true f x = elim a as (λ a. (if a then f else (if b then f else f)) ≡ f) [ true ↦ refl | false ↦ elim b as (λ b. (if b then f else f) ≡ f) [ true ↦ refl | false ↦ refl ] ]
+merged a b true f x =
+    elim a as (λ a. (if a then f else (if b then f else f)) ≡ f) [ true ↦ refl | false ↦ elim b as (λ b. (if b then f else f) ≡ f) [ true ↦ refl | false ↦ refl ] ]
 merged a true false f x = elim a as (λ a. (if a then f else f) ≡ f) [ true ↦ refl | false ↦ refl ]
 merged a false false f x = refl
 

@@ -1,4 +1,4 @@
-use Rattle.std.proofs.Common.{◌≡◌, ◌+◌, ◌∷◌, [], List, length, string_bytes, subst, arith}
+use Rattle.std.proofs.Common.{◌≡◌, ◌+◌, ◌∷◌, [], string_bytes, subst, arith}
 use Rattle.std.proofs.lemmas.Bool.{and_parts}
 use Rattle.std.proofs.lemmas.List.{append-nil, length_push}
 use Rattle.std.proofs.lemmas.Map.Iter.{rest_all, rest_more}
@@ -8,7 +8,7 @@ use Rattle.toml.specs.Data.{as_str}
 use Rattle.toml.specs.View.{members_view, table_view, view}
 use Rattle.j39_network.specs.LabelForm.{is_label}
 use Rattle.j39_plan.specs.MeaningTables.{AreValueNames}
-use Rattle.j39_plan.specs.TableFaults.{has_labels, has_numbers, is_number_below}
+use Rattle.j39_plan.specs.ValueCauses.{has_labels, has_numbers, is_number_below}
 use Rattle.j39_plan.proofs.Numbers.{few_names, one_more_name}
 use Rattle.j39_plan.proofs.reading.meanings.value_names.Goals as goal
 

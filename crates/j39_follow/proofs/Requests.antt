@@ -1,0 +1,3 @@
+-- What is asked and answered.
+pub mod Exchanged
+pub mod Noted

@@ -1,0 +1,7 @@
+-- What two plans that tell a NAME as one unit make of one log.
+pub mod Ends
+pub mod Lines
+pub mod Parties
+pub mod Reports
+pub mod Texts
+pub mod Units

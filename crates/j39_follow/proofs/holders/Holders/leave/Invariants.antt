@@ -1,6 +1,0 @@
-use Rattle.std.proofs.Common.{◌≡◌}
-use Rattle.j39_follow.proofs.Tables.{IsLeftBelow}
-use Rattle.j39_follow.proofs.holders.Holders.leave.Given as goal
-
-abbrev pub invariant-loop-address : goal.invariant-loop-address
-invariant-loop-address l = IsLeftBelow l.fn.self.names l.self.names l.name l.address × (l.self.told ≡ l.fn.self.told) × (l.self.claimed ≡ l.fn.self.claimed)

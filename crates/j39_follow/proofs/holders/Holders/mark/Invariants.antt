@@ -1,7 +1,0 @@
-use Rattle.std.proofs.Common.{◌≡◌, length}
-use Rattle.j39_follow.proofs.Tables.{IsMarkedBelow}
-use Rattle.j39_follow.proofs.holders.Holders.mark.Given as goal
-
-abbrev pub invariant-loop-place : goal.invariant-loop-place
-invariant-loop-place l = IsMarkedBelow l.plan l.fn.self.told l.self.told l.name l.place × (l.self.names ≡ l.fn.self.names)
-    × (l.self.claimed ≡ l.fn.self.claimed) × (length l.self.told ≡ 128)

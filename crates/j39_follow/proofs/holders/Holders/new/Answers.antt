@@ -1,5 +1,0 @@
-use Rattle.j39_follow.proofs.Tables.{empty_recounts, unmarked}
-use Rattle.j39_follow.proofs.holders.Holders.new.Goals as goal
-
-pub returns : goal.returns
-returns c = λ plan. empty_recounts plan _ c.no_names.ensures (unmarked 128)

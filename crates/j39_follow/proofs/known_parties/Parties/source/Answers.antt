@@ -1,6 +1,0 @@
-use Rattle.std.proofs.Common.{sym, subst}
-use Rattle.j39_follow.specs.Contests.{IsTaken}
-use Rattle.j39_follow.proofs.known_parties.Parties.source.Goals as goal
-
-pub returns : goal.returns
-returns c = λ plan log shows. subst (IsTaken plan log c.args.ident.sa) (sym c.party.ensures) shows.source

@@ -1,5 +1,0 @@
-use Rattle.j39_follow.proofs.TimeNumbers.{six_of}
-use Rattle.j39_follow.proofs.moment.six_decimals.Goals as goal
-
-pub returns : goal.returns
-returns c = let six = six_of c.args.decimals.now in cc

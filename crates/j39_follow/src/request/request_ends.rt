@@ -1,0 +1,66 @@
+//! How often what was asked was answered.
+ghost use Rattle.std.specs.Prelude.{◌≡◌, ◌++◌, List, OnOk};
+ghost use Rattle.j39_follow.specs.FollowText.{asked_ends_text, exchange_text, request_end_line, request_ends};
+ghost use Rattle.j39_follow.specs.declared.request.event.Event.{Event as AnEvent};
+ghost use Rattle.j39_follow.specs.inside.Exchanging.{AreExchanges};
+
+use crate::flow::endings::write_to;
+use crate::request::exchange::Exchange;
+use crate::request::exchanges::Exchanges;
+use j39_network::{Plan, RequestPlan};
+use j39_text::{TextBuffer, group_label, unit_label};
+use std::alloc::AllocError;
+
+#[tactic(auto, unfolding(crate::specs::FollowText::asked_ends_text))]
+fn write_ends(text: &mut TextBuffer, plan: &Plan, request: &RequestPlan) -> Result<(), AllocError>
+    ensures { OnOk result (text.new ≡ text.old ++ asked_ends_text plan.now request.now) }
+{
+    text.word(" from ")?;
+    text.word(unit_label(plan, request.sender))?;
+    text.word(" to ")?;
+    write_to(text, plan, request.to)
+}
+
+#[tactic(auto, unfolding(crate::specs::FollowText::exchange_text))]
+fn write_exchange(text: &mut TextBuffer, exchange: Exchange) -> Result<(), AllocError>
+    ensures { OnOk result (text.new ≡ text.old ++ exchange_text exchange.asked exchange.answered exchange.refused) }
+{
+    text.field(" asked ", exchange.asked)?;
+    text.field(" answered ", exchange.answered)?;
+    text.field(" refused ", exchange.refused)?;
+    text.end_line()
+}
+
+#[tactic(auto, unfolding(crate::specs::FollowText::request_end_line))]
+fn write_request_end(
+    text: &mut TextBuffer,
+    plan: &Plan,
+    place: usize,
+    request: &RequestPlan,
+    exchange: Exchange,
+) -> Result<(), AllocError>
+    ensures { OnOk result (text.new ≡ text.old
+        ++ request_end_line plan.now place request.now exchange.asked exchange.answered exchange.refused) }
+{
+    text.place("request ", place)?;
+    text.word(" ")?;
+    text.word(group_label(plan, request.group))?;
+    write_ends(text, plan, request)?;
+    write_exchange(text, exchange)
+}
+
+/// Writes how often each request was asked, answered and refused.
+pub(crate) fn write_requests(
+    text: &mut TextBuffer,
+    plan: &Plan,
+    exchanges: &Exchanges,
+) -> Result<(), AllocError>
+    ensures { OnOk result ((events : List AnEvent) → AreExchanges plan.now exchanges.now events
+        → text.new ≡ text.old ++ request_ends plan.now events 0 plan.now.requests.items) }
+{
+    for place in 0..plan.requests.len() {
+        let request = &plan.requests[place];
+        write_request_end(text, plan, place, request, exchanges.exchange(place))?;
+    }
+    Ok(())
+}

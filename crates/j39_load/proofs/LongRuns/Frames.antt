@@ -1,0 +1,165 @@
+-- Frames that are queued in a long time on a bus that keeps to a plan, by what they are of.
+use Rattle.std.proofs.Common.{◌≡◌, ℕ, ◌+◌, ◌*◌, ◌<◌, ◌≤◌, Bool, true, false, not, cond, ◌&&◌, eqb, leb, ltb}
+use Rattle.std.proofs.Common.{List, Option}
+use Rattle.std.proofs.Common.{refl, sym, subst, inl, inr, arith}
+use Rattle.std.proofs.lemmas.Bool.{and_from, and_parts, both_ways, cases_lt, eqb-true, le-leb, lt-ltb, ltb-true}
+use Rattle.j39_findings.specs.Findings.{Clean}
+use Rattle.j39_findings.specs.Standing.{DecidesWhoStays}
+use Rattle.j39_network.specs.declared.plan.Plan.{Plan}
+use Rattle.j39_network.specs.declared.plan.timing.Timing.{Timing}
+use Rattle.j39_network.specs.declared.plan.unit_plan.UnitPlan.{UnitPlan}
+use Rattle.j39_load.specs.declared.frames.flow_frames.FlowFrames.{FlowFrames}
+use Rattle.j39_load.specs.Asked.{frames_asked}
+use Rattle.j39_load.specs.Demands.{demands_of}
+use Rattle.j39_load.specs.KeepsPlan.{KeepsToPlan, origins_of, source_place}
+use Rattle.j39_load.specs.Loads.{bits_of_ms, bits_per_ms}
+use Rattle.j39_load.specs.LongRuns.{is_queued_within, seconds}
+use Rattle.j39_load.specs.SentFrames.{Broadcasts, FrameSources, Held, IsFrameOf, Source, Single, InSession, Asking, Announcing, Carrying, bit_time}
+use Rattle.j39_load.proofs.AnyTraffic.{positive as positive_at}
+use Rattle.j39_load.proofs.KeepingPlan.{as_wanted, of_streams}
+use Rattle.j39_load.proofs.LongRuns.Rates.{IsRate, stream_rate}
+use Rattle.j39_load.proofs.LongRuns.Streams.{more_bits, one_stream}
+use Rattle.j39_load.proofs.Milliseconds.{window_bits}
+use Rattle.j39_load.proofs.PlacedFrames.{all, asked}
+use Rattle.j39_load.proofs.PlacedFrames.{traffic}
+use Rattle.j39_load.proofs.PositivePeriods.{all_paced}
+use Rattle.j39_load.proofs.Sending.{all_sent}
+use Rattle.j39_timing.specs.Sums.{total}
+use Rattle.j39_timing.specs.TimedFrames.{Schedule}
+use Rattle.j39_timing.specs.Waits.{Demand, demand_of, lesser_share, share}
+use Rattle.j39_timing.specs.declared.stream.Stream.{Stream}
+use Rattle.j39_timing.proofs.AskedFrames.{found}
+use Rattle.j39_timing.proofs.Demands.{lesser-most}
+use Rattle.j39_timing.proofs.WaitingWindow.{is_within}
+
+-- ---- kinds of sources
+
+abbrev pub kind : Source → ℕ
+kind (Single f) = 0
+kind (InSession f part) = 0
+kind (Asking r) = 1
+kind (Announcing u m) = 2
+kind (Carrying u m k) = 3
+
+pub kind_below : (x : Source) → kind x < 4
+kind_below (Single f) = omega arith
+kind_below (InSession f part) = omega arith
+kind_below (Asking r) = omega arith
+kind_below (Announcing u m) = omega arith
+kind_below (Carrying u m k) = omega arith
+
+-- the place of a source among those of its kind
+abbrev pub index : Source → ℕ
+index (Single f) = f
+index (InSession f part) = f
+index (Asking r) = r
+index (Announcing u m) = u
+index (Carrying u m k) = u
+
+pub isnt : (x : Bool) → not x ≡ true → x ≡ false
+isnt false is = refl
+isnt true is = absurd (both_ways false refl is)
+
+module _ (plan : Plan) (timing : Timing) (stays : UnitPlan → Bool) where
+  abbrev pub whole : List (Option FlowFrames)
+  whole = all plan timing stays
+
+  abbrev stream : ℕ → Stream
+  stream = (traffic plan timing stays).stream
+
+  -- what is more of a stream, whatever the time is
+  abbrev pub more_at : ℕ → ℕ
+  more_at j = more_bits ((stream j).frames * (stream j).bits) (stream j).jitter (stream j).period
+
+module _ (plan : Plan) (timing : Timing) (stays : UnitPlan → Bool) (tells : DecidesWhoStays plan stays) (clean : Clean plan) (s : Schedule)
+    (queued_first : (p : ℕ) → p < s.count → s.queued p ≤ s.start p) (planned : ℕ → Bool) (sent : FrameSources) (held : Held)
+    (keeps : KeepsToPlan plan timing s planned sent held) (from wait n : ℕ) (span : wait + 1 ≡ bits_of_ms timing (seconds n)) where
+  abbrev b : Broadcasts
+  b = sent.broadcasts
+
+  abbrev place : ℕ → ℕ
+  place p = source_place plan (sent.source p)
+
+  abbrev streams : ℕ → Stream
+  streams = (traffic plan timing stays).stream
+
+  abbrev demands : List Demand
+  demands = demands_of (whole plan timing stays)
+
+  -- ---- frames that count
+
+  abbrev pub passes : ℕ → Bool
+  passes p = planned p && is_queued_within timing (seconds n) s from p
+
+  abbrev pub of_kind : ℕ → ℕ → Bool
+  of_kind k p = passes p && eqb (kind (sent.source p)) k
+
+  abbrev pub of_index : ℕ → ℕ → ℕ → Bool
+  of_index k i p = of_kind k p && eqb (index (sent.source p)) i
+
+  -- the bits of one flow, one request, or of one unit's packets or announcements
+  abbrev pub bits_at : ℕ → ℕ → ℕ
+  bits_at k i = total s.count (λ p. cond (of_index k i p) (s.bits p) 0)
+
+  window : (p : ℕ) → is_queued_within timing (seconds n) s from p ≡ true → (from ≤ s.queued p) × (s.queued p < from + (wait + 1))
+  window p is =
+      let two = and_parts (not (ltb (s.queued p) from)) (ltb (s.queued p * bit_time timing.bitrate) (from * bit_time timing.bitrate + 1000 * seconds n)) is in
+      let low : from ≤ s.queued p = elim (cases_lt (s.queued p) from) [
+        | inl less ↦ absurd (both_ways (ltb (s.queued p) from) (isnt (ltb (s.queued p) from) two.0) (lt-ltb (s.queued p) from less))
+        | inr not_less ↦ not_less
+      ] in
+      let high : s.queued p < from + seconds n * bits_per_ms timing.bitrate =
+      window_bits timing.bitrate (seconds n) from (s.queued p)
+      (ltb-true (s.queued p * bit_time timing.bitrate) (from * bit_time timing.bitrate + 1000 * seconds n) two.1) in
+      (low, omega (arith, high, span))
+
+  pub record Counts (k i p : ℕ) : Type 0 where
+    pub is : planned p ≡ true
+    pub its_kind : kind (sent.source p) ≡ k
+    pub its_index : index (sent.source p) ≡ i
+    pub inside : is_within s from (wait + 1) p ≡ true
+
+  pub parts : (k i p : ℕ) → of_index k i p ≡ true → Counts k i p
+  parts k i p counts =
+      let one = and_parts (of_kind k p) (eqb (index (sent.source p)) i) counts in
+      let two = and_parts (passes p) (eqb (kind (sent.source p)) k) one.0 in
+      let three = and_parts (planned p) (is_queued_within timing (seconds n) s from p) two.0 in
+      let (low, high) = window p three.1 in
+      record {
+        is = three.0;
+        its_kind = eqb-true (kind (sent.source p)) k two.1;
+        its_index = eqb-true (index (sent.source p)) i one.1;
+        inside = and_from (leb from (s.queued p)) (ltb (s.queued p) (from + (wait + 1))) (le-leb from (s.queued p) low)
+            (lt-ltb (s.queued p) (from + (wait + 1)) high);
+      }
+
+  -- where some frame counts, it does
+  abbrev pub HasOne : ℕ → ℕ → Type 0
+  HasOne k i = (p : ℕ) × (p < s.count) × Counts k i p
+
+  pub some_counts : (k i : ℕ) → 0 < bits_at k i → HasOne k i
+  some_counts k i some = let (p, in_p, is) = found s.count (of_index k i) s.bits some in (p, in_p, parts k i p is)
+
+  -- ---- one stream
+
+  positive : (j : ℕ) → j < (traffic plan timing stays).count → 0 < (streams j).period
+  positive j below = positive_at timing (frames_asked (asked plan timing stays)) (all_paced timing plan stays) (all_sent timing plan stays) j below
+
+  -- frames at one place
+  pub at_lesser : (k i j : ℕ) → ((p : ℕ) → p < s.count → Counts k i p → place p ≡ j) → bits_at k i ≤ lesser_share demands (wait + 1) (streams j)
+  at_lesser k i j same = one_stream s (traffic plan timing stays).count streams demands planned (origins_of plan sent)
+      (of_streams plan timing stays tells clean s queued_first planned sent held keeps)
+      (as_wanted plan timing stays tells clean s queued_first planned sent held keeps)
+      positive j wait from (of_index k i) (λ p in_p counts. let x = parts k i p counts in (x.is, same p in_p x, x.inside))
+
+  pub at_rate : (k i j rate : ℕ) → ((p : ℕ) → p < s.count → Counts k i p → place p ≡ j) → 0 < (streams j).period
+      → IsRate timing ((streams j).frames * (streams j).bits) (streams j).period rate → bits_at k i ≤ n * rate + more_at plan timing stays j
+  at_rate k i j rate same some is =
+      let lesser_most = lesser-most (wait + 1) (streams j) (demand_of demands (streams j)) in
+      let most = at_lesser k i j same in
+      let all : share (wait + 1) (streams j) ≤ n * rate + more_at plan timing stays j =
+      subst (λ (x : ℕ). share x (streams j) ≤ n * rate + more_at plan timing stays j) (sym span) (stream_rate timing (streams j) n rate some is) in
+      omega (arith, lesser_most, most, all)
+
+  pub frame_of : (p : ℕ) → p < s.count → planned p ≡ true → (x : Source) → sent.source p ≡ x → IsFrameOf plan timing s held b x (sent.release p) p
+  frame_of p in_p is x at = subst (λ (y : Source). IsFrameOf plan timing s held b y (sent.release p) p) at (keeps.frames p in_p is)

@@ -1,9 +1,0 @@
-use Rattle.std.proofs.Common.{◌≡◌, ◌≤◌, take}
-use Rattle.j39_load.specs.Broadcasts.{least_announced}
-use Rattle.j39_load.proofs.broadcasts.least_announced.Given as goal
-
-abbrev pub invariant-loop-broadcast : goal.invariant-loop-broadcast
-invariant-loop-broadcast l = record {
-  least : l.least ≡ least_announced (take l.broadcast-index l.broadcasts);
-  some : 1 ≤ l.least;
-}

@@ -1,0 +1,9 @@
+use Rattle.std.proofs.Common.{◌≡◌, ◌≤◌, ◌*◌, take, sum_by}
+use Rattle.j39_load.specs.Broadcasts.{bits_of_firsts}
+use Rattle.j39_load.proofs.loads.broadcasts.load_of_firsts.Given as goal
+
+abbrev pub invariant-loop-broadcast : goal.invariant-loop-broadcast
+invariant-loop-broadcast l = record {
+  sum : l.bits ≡ sum_by bits_of_firsts (take l.broadcast-index l.broadcasts);
+  small : l.bits ≤ l.broadcast-index * 160000;
+}

@@ -1,0 +1,11 @@
+//! What is wrong with what a plan asks of its bus.
+
+mod ages;
+mod faults;
+mod load_answer;
+mod load_finding;
+
+pub use ages::least_age;
+pub(crate) use ages::smaller;
+pub use load_answer::{LoadAnswer, check_load};
+pub use load_finding::LoadFinding;

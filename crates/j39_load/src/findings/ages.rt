@@ -1,0 +1,146 @@
+//! How old what units need is at most.
+ghost use Rattle.std.specs.Prelude.{◌≡◌, ◌≢◌, ◌∷◌, ◌++◌, [], length, ◌<◌, IfSome, IfNone, OnOk, OnErr};
+ghost use Rattle.j39_load.specs.Ages.{ages_for, ages_of, is_in_limit, is_too_old, least, least_age, old_needs, oldness};
+ghost use Rattle.j39_load.specs.Ages.{smaller_known};
+
+use crate::findings::load_finding::LoadFinding;
+use crate::frames::bits_of_ms;
+use crate::waits::Delay;
+use j39_network::{FlowPlan, NeedPlan, RequestPlan, Timing, is_met, meets};
+use std::alloc::AllocError;
+
+// The age of what a flow of this delay brings, in bits, where one is known: it isn't known when answers are asked for.
+fn age_of(timing: Timing, flow: &FlowPlan, delay: Option<Delay>) -> Option<u64>
+    ensures some { IfSome result (λ age. ages_of timing flow.now delay ≡ age ∷ []) }
+    ensures none { IfNone result (ages_of timing flow.now delay ≡ []) }
+{
+    if flow.on_request {
+        return None;
+    }
+    match (delay, flow.pause) {
+        (Some(Delay::Within(bits)), Some(pause)) => {
+            Some(u64::from(bits_of_ms(timing, pause)) + u64::from(bits))
+        }
+        _ => None,
+    }
+}
+
+/// The smaller one of two numbers that may be known.
+pub(crate) fn smaller(one: Option<u64>, other: Option<u64>) -> Option<u64>
+    ensures { result ≡ smaller_known one other }
+{
+    match (one, other) {
+        (Some(first), Some(second)) => Some(first.min(second)),
+        (Some(first), None) => Some(first),
+        (None, other) => other,
+    }
+}
+
+// The age of what the flow at a place brings, where it meets the need and one is known.
+fn age_for(
+    timing: Timing,
+    requests: &[RequestPlan],
+    delays: &[Option<Delay>],
+    need: &NeedPlan,
+    place: usize,
+    flow: &FlowPlan,
+) -> Option<u64>
+    requires { place < length delays.now }
+    ensures { result ≡ least (ages_for timing requests.now delays.now need.now place flow.now) }
+{
+    if meets(requests, need, flow) {
+        age_of(timing, flow, delays[place])
+    } else {
+        None
+    }
+}
+
+/// How old what a unit needs is at most, in bits, by these delays of the flows: none where of no flow that brings it an
+/// age is known.
+#[tactic(auto, unfolding(crate::specs::LineLists::lines_of_each))]
+pub fn least_age(
+    timing: Timing,
+    requests: &[RequestPlan],
+    flows: &[FlowPlan],
+    delays: &[Option<Delay>],
+    need: &NeedPlan,
+) -> Option<u64>
+    requires { length delays.now ≡ length flows.now }
+    ensures { result ≡ least_age timing requests.now flows.now delays.now need.now }
+{
+    let mut least = None;
+    for (place, flow) in flows.iter().enumerate() {
+        least = smaller(least, age_for(timing, requests, delays, need, place, flow));
+    }
+    least
+}
+
+/// Whether a time is known, and within so many bits.
+pub(crate) fn is_in_limit(limit: u32, bits: Option<u64>) -> bool
+    ensures { result ≡ is_in_limit limit bits }
+{
+    match bits {
+        None => false,
+        Some(bits) => bits <= u64::from(limit),
+    }
+}
+
+fn is_too_old(
+    timing: Timing,
+    requests: &[RequestPlan],
+    flows: &[FlowPlan],
+    delays: &[Option<Delay>],
+    need: &NeedPlan,
+    within: u16,
+) -> bool
+    requires { length delays.now ≡ length flows.now }
+    ensures { result ≡ is_too_old timing requests.now flows.now delays.now need.now within }
+{
+    let limit = bits_of_ms(timing, within);
+    is_met(requests, flows, need)
+        && !is_in_limit(limit, least_age(timing, requests, flows, delays, need))
+}
+
+// What is wrong with the need at a place.
+fn oldness(
+    timing: Timing,
+    requests: &[RequestPlan],
+    flows: &[FlowPlan],
+    delays: &[Option<Delay>],
+    place: usize,
+    need: &NeedPlan,
+) -> Option<LoadFinding>
+    requires { length delays.now ≡ length flows.now }
+    ensures some { IfSome result (λ finding. oldness timing requests.now flows.now delays.now place need.now ≡ finding ∷ []) }
+    ensures none { IfNone result (oldness timing requests.now flows.now delays.now place need.now ≡ []) }
+{
+    match need.within {
+        Some(within) if is_too_old(timing, requests, flows, delays, need, within) => {
+            Some(LoadFinding::NeedTooOld(place))
+        }
+        _ => None,
+    }
+}
+
+/// Adds what is wrong with the ages of what units need.
+#[tactic(auto, unfolding(crate::specs::LineLists::lines_of_each))]
+pub(crate) fn find_old_needs(
+    findings: &mut Vec<LoadFinding>,
+    timing: Timing,
+    requests: &[RequestPlan],
+    flows: &[FlowPlan],
+    delays: &[Option<Delay>],
+    needs: &[NeedPlan],
+) -> Result<(), AllocError>
+    requires { length delays.now ≡ length flows.now }
+    ensures found { OnOk result (findings.new.items ≡ findings.old.items
+        ++ old_needs timing requests.now flows.now delays.now needs.now) }
+    ensures memory { OnErr result (old_needs timing requests.now flows.now delays.now needs.now ≢ []) }
+{
+    for (place, need) in needs.iter().enumerate() {
+        if let Some(finding) = oldness(timing, requests, flows, delays, place, need) {
+            findings.push(finding)?;
+        }
+    }
+    Ok(())
+}

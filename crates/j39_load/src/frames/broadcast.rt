@@ -1,0 +1,29 @@
+//! Long messages to all.
+
+/// Frames of the long messages of a unit to all.
+#[derive(Clone, Copy, PartialEq, Eq)]
+pub(crate) enum BroadcastPart {
+    Packets,
+    Announcements,
+}
+
+/// The long messages of a flow to all. Their unit sends one such message at a time.
+#[derive(Clone, Copy, Debug, PartialEq, Eq)]
+pub struct Broadcast {
+    /// The unit that sends them, by its place.
+    pub sender: usize,
+    /// How many packets the longest has.
+    pub packets: u8,
+    /// How many packets the shortest has.
+    pub least_packets: u8,
+    /// Whether others of the flow's messages go in one frame.
+    pub has_short: bool,
+    /// How far apart the releases at which one is wanted are at least, in milliseconds.
+    pub period: u16,
+    /// The same in bits.
+    pub apart: u32,
+    /// A message is ready to be sent at most so many bits after its release.
+    pub jitter: u32,
+    /// Within so many bits of its release each has to be whole, where a deadline is written.
+    pub deadline: Option<u32>,
+}

@@ -1,0 +1,16 @@
+//! How long the frames of a flow wait.
+
+use crate::waits::whole_time::WholeTime;
+
+/// How long the messages of a flow take, from their releases until they have been sent: their worst-case response time.
+#[derive(Clone, Copy, Debug, PartialEq, Eq)]
+pub enum Delay {
+    /// At most so many bits, which are within the flow's limit.
+    Within(u32),
+    /// It isn't shown that they are in time.
+    Late,
+    /// A message to one unit takes so many frames, of which no bound is told.
+    Long(u16),
+    /// Long messages to all.
+    Whole(WholeTime),
+}

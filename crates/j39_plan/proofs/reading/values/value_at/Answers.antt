@@ -1,5 +1,0 @@
-use Rattle.toml.proofs.Views.{table_get}
-use Rattle.j39_plan.proofs.reading.values.value_at.Goals as goal
-
-pub returns : goal.returns
-returns c = rw c.word.ensures at (table_get c.get.result c.word.result.now c.args.members.now.entries c.get.ensures.value)

@@ -1,0 +1,4 @@
+pub mod EachElement
+pub mod FirstFaults
+pub mod TreesRead
+pub mod TableViews
