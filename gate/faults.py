@@ -1,6 +1,6 @@
 #!/usr/bin/env python3
-"""Runs the built program on devices that fail and with little memory, and sees that each status, what it says on standard
-error and what it writes are as documented. The program of the environment's J39PLAN is taken, else the built one.
+"""Runs the built program on devices that fail and with little memory and stack, and sees that each status, what it says on
+standard error and what it writes are as documented. The program of the environment's J39PLAN is taken, else the built one.
 
 The last line is 'N passed, M failed'.
 """
@@ -16,6 +16,8 @@ from tally import BAD_WORDS, COMMANDS, DEVICE, MEMORY, PROGRAM, TOO_LONG, Tally,
 # The address space, in KiB: no program starts within the first figure, each of the commands has enough within the last.
 # With less than the least the system ends the program while it starts it: its file has 0.9 MB.
 LEAST, MOST, STEP = 2_048, 8_192, 16
+# The stack, in KiB: the system gives a program 128 at its start, and may refuse it more, which ends it by a signal.
+STACK = 112
 
 
 def outputs(tally: Tally) -> None:
@@ -64,12 +66,20 @@ def complaints(tally: Tally) -> None:
     tally.expect("a word that is no text", run([b"frame", b"\xff"]), 2, BAD_WORDS)
 
 
-def limit(kibibytes: int) -> Callable[[], None]:
+def limit(resource_limited: int, kibibytes: int) -> Callable[[], None]:
     def set_limits() -> None:
-        resource.setrlimit(resource.RLIMIT_AS, (1024 * kibibytes, 1024 * kibibytes))
+        resource.setrlimit(resource_limited, (1024 * kibibytes, 1024 * kibibytes))
         resource.setrlimit(resource.RLIMIT_CORE, (0, 0))
 
     return set_limits
+
+
+def stacks(tally: Tally) -> None:
+    """With less stack than the system gives at the start all is as with more: no command needs any that can be refused."""
+    for words in COMMANDS:
+        enough = run(words)
+        ran = run(words, preexec_fn=limit(resource.RLIMIT_STACK, STACK), env={})
+        tally.expect(f"{' '.join(words)} with {STACK} KiB of stack", ran, enough.returncode, enough.stderr, enough.stdout)
 
 
 def memory(tally: Tally) -> None:
@@ -80,7 +90,7 @@ def memory(tally: Tally) -> None:
         stage, found = 0, ""
         reached = {0: 0, 1: 0, 2: 0}
         for kibibytes in range(LEAST, MOST + 1, STEP):
-            ran = run(words, preexec_fn=limit(kibibytes))
+            ran = run(words, preexec_fn=limit(resource.RLIMIT_AS, kibibytes))
             if (ran.returncode, ran.stdout) == (127, b"") and not ran.stderr.startswith(b"j39plan:"):
                 now = 0
             elif (ran.returncode, ran.stderr) == (3, MEMORY) and enough.stdout.startswith(ran.stdout):
@@ -103,7 +113,7 @@ def main() -> int:
         print(f"faults: there is no program {PROGRAM}\n0 passed, 1 failed")
         return 1
     tally = Tally()
-    for part in (outputs, inputs, complaints, memory):
+    for part in (outputs, inputs, complaints, stacks, memory):
         part(tally)
     print(f"faults: {tally.passed} passed, {tally.failed} failed" if tally.failed else "faults: all as documented")
     return tally.end()

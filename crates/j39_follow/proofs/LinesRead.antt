@@ -64,7 +64,7 @@ names_it part (Some i) some none = some
 
 pub begun : (plan : Plan) (report : UnitReport) → RecallsPast plan report no_lines nothing_followed → HasFollowedLines plan report no_lines [] []
 begun plan report recalls =
-    let units = unit_lines plan report.directory.holders [] recalls.remembers.knows.recounts in
+    let units = unit_lines plan report.directory.holders.value [] recalls.remembers.knows.recounts in
     record {
       past = nothing_followed;
       units = units.0;
@@ -93,7 +93,7 @@ line_read plan old new counts counted number line old_text new_text step same be
       elsewhere_are = recalls.elsewhere_are;
     } in
     let done = step (one_line_more all.past) begins (here ∙ sym many) in
-    let units = unit_lines plan new.directory.holders (frames_seen done.next.seen) done.recalls.remembers.knows.recounts in (
+    let units = unit_lines plan new.directory.holders.value (frames_seen done.next.seen) done.recalls.remembers.knows.recounts in (
       done.piece,
       record {
         past = done.next;

@@ -141,9 +141,9 @@ impl UnitReport {
             × AreUnitLines plan.now (frames_seen past.seen) 0 plan.now.units.items units
             × (text.new ≡ text.old ++ behind_reports plan.now past units)) }
     {
-        write_endings(text, plan, &self.tally, self.directory.holders())?;
+        write_endings(text, plan, &*self.tally, self.directory.holders())?;
         write_requests(text, plan, &self.exchanges)?;
-        write_needs(text, plan, &self.tally)?;
+        write_needs(text, plan, &*self.tally)?;
         write_counts(counts, text)
     }
 }

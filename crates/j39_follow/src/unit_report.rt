@@ -42,7 +42,8 @@ pub(crate) struct UnitReport {
     pub all_frames: bool,
     // That of the first line that names one.
     pub interface: Option<Vec<u8>>,
-    pub tally: Tally,
+    // 8 KB, so it isn't kept on the stack.
+    pub tally: Box<Tally>,
     pub exchanges: Exchanges,
     pub directory: Directory,
     contests: Contests,
@@ -50,20 +51,20 @@ pub(crate) struct UnitReport {
 }
 
 impl UnitReport {
-    pub fn new(alloc: Global, plan: &Plan, all_frames: bool) -> Self
-        ensures all_frames { result.all_frames ≡ all_frames }
-        ensures past { RecallsPast plan.now result no_lines nothing_followed }
+    pub fn new(alloc: Global, plan: &Plan, all_frames: bool) -> Result<Self, AllocError>
+        ensures all_frames { IfOk result (λ report. report.all_frames ≡ all_frames) }
+        ensures past { IfOk result (λ report. RecallsPast plan.now report no_lines nothing_followed) }
     {
-        UnitReport {
+        Ok(UnitReport {
             alloc,
             all_frames,
             interface: None,
-            tally: Tally::new(),
-            exchanges: Exchanges::new(),
-            directory: Directory::new(alloc, plan),
-            contests: Contests::new(alloc),
+            tally: Box::new(alloc, Tally::new())?,
+            exchanges: Exchanges::new(alloc)?,
+            directory: Directory::new(alloc, plan)?,
+            contests: Contests::new(alloc)?,
             listeners: Listeners::new(alloc),
-        }
+        })
     }
 
     // Writes a frame of which an address may be contested.
@@ -166,7 +167,7 @@ impl UnitReport {
             → Knows groups.now self.old.directory (frames_of (lines_with past frame.now stamp.entry.time.now))
             → AreContests groups.now self.old.contests (lines_with past frame.now stamp.entry.time.now)
             → HaveHeardSince groups.now self.old.listeners past.seen → AreAllInRange past.seen
-            → IsTally groups.now self.old.tally past.sent
+            → IsTally groups.now self.old.tally.value past.sent
             → AreExchanges groups.now self.old.exchanges past.events → length past.sent + 2 < 2 ^ 64
             → length past.events + 3 < 2 ^ 64
             → IsReported groups.now self.old self.new past stamp.entry frame.now text.old text.new) }
@@ -199,8 +200,8 @@ impl UnitReport {
             .hear(groups.plan(), &self.directory, frame, moment(stamp.time))?;
         self.directory.hear(groups.plan(), frame, earlier);
         self.report(groups, stamp, frame, text)?;
-        let after = self.directory.all_parties();
-        begin_anew(&mut self.listeners, &before, &after, taken);
+        let after = &self.directory.parties().all;
+        begin_anew(&mut self.listeners, &before, after, taken);
         Ok(())
     }
 

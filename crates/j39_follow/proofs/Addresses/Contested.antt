@@ -121,7 +121,7 @@ pub contests_on : (plan : Plan) (contests : Contests) (log : List Timed) (x : Ti
     → AreContests plan contests (log ++ x ∷ [])
 contests_on plan contests log x silent of = record {
   contentions = λ a less.
-      let old : Contention = contention_at contests.table a in
+      let old : Contention = contention_at contests.table.value a in
       contention_on plan log a old old x (of.contentions a less) (silent_behind plan log old x a silent);
   claimants = subst (AreClaimants plan contests.claimants) (sym (timed_more log x))
       (known_still plan contests.claimants (frames_of log) x.frame silent of.claimants);

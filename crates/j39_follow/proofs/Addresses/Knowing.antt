@@ -14,11 +14,11 @@ use Rattle.j39_follow.proofs.Addresses.Recounts.{TellsNothing, nothing_told}
 pub knows_on : (plan : Plan) (directory : Directory) (frames : List Frame) (f : Frame) → TellsNothing f → Knows plan directory frames
     → Knows plan directory (frames ++ f ∷ [])
 knows_on plan directory frames f silent of =
-    let told = nothing_told plan directory.holders frames f silent of.recounts in
+    let told = nothing_told plan directory.holders.value frames f silent of.recounts in
     record {
       recounts = told;
       parties = λ a less.
-          who_as_well plan directory.holders frames (frames ++ f ∷ []) a (party_at directory.parties.all a) of.recounts told (of.parties a less);
+          who_as_well plan directory.holders.value frames (frames ++ f ∷ []) a (party_at directory.parties.all a) of.recounts told (of.parties a less);
       names = of.names;
     }
 

@@ -54,7 +54,7 @@ contention_at table address = slice_index_or table address nothing_contended
 
 -- what is kept of contests and NAMEs is that of these lines
 pub record AreContests (plan : Plan) (contests : Contests) (log : List Timed) : Type 0 where
-  pub contentions : (address : ℕ) → address < 256 → IsContention plan log address (contention_at contests.table address)
+  pub contentions : (address : ℕ) → address < 256 → IsContention plan log address (contention_at contests.table.value address)
   pub claimants : AreClaimants plan contests.claimants (frames_of log)
 
 -- ---- a contest
@@ -77,7 +77,7 @@ defender_in (Some c) (Some now) = if is_lasting c now && is_heard c.taken now th
 defender_in _ _ = None
 
 abbrev pub defender_at : Contests → ℕ → Option ℕ → Option Who
-defender_at contests address time = defender_in (contention_at contests.table address).contest time
+defender_at contests address time = defender_in (contention_at contests.table.value address).contest time
 
 -- what is left of a contest at a frame that tells of this one
 abbrev pub remaining_of : Who → Option Contest → Option Contest

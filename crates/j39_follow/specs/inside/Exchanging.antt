@@ -43,7 +43,7 @@ exchange_at table place = slice_index_or table place nothing_asked
 
 abbrev pub AreExchanges : Plan → Exchanges → List Event → Type 0
 AreExchanges plan kept events = (place : ℕ) (r : RequestPlan) → slice_get plan.requests.items place ≡ Some r
-    → IsExchange plan place r (exchange_at kept.table place) events
+    → IsExchange plan place r (exchange_at kept.table.value place) events
 
 -- what is kept of the requests below a place is that behind an event, and the rest as it was
 pub record IsHeardBelow (plan : Plan) (event : Event) (old new : List Exchange) (many : ℕ) : Type 0 where

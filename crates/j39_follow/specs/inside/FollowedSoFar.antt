@@ -40,7 +40,7 @@ pub record Remembers (plan : Plan) (report : UnitReport) (seen : List Seen) (tim
   pub frames : frames_of timed ≡ frames_seen seen
   pub heard : HaveHeardSince plan report.listeners seen
   pub ranges : AreAllInRange seen
-  pub tally : IsTally plan report.tally sent
+  pub tally : IsTally plan report.tally.value sent
   pub few : length sent ≤ 2 * length seen
   pub exchanges : AreExchanges plan report.exchanges events
   pub few_noted : length events ≤ 3 * length seen
@@ -63,7 +63,7 @@ pub record IsSameLog (old new : UnitReport) : Type 0 where
 pub record IsSameButWritten (old new : UnitReport) : Type 0 where
   pub directory : new.directory ≡ old.directory
   pub contests : new.contests ≡ old.contests
-  pub tally : new.tally ≡ old.tally
+  pub tally : new.tally.value ≡ old.tally.value
   pub same : IsSameLog old new
 
 -- who holds what, and what is contested, is known of these lines, the last of which is of this time
@@ -79,7 +79,7 @@ pub record IsReported (plan : Plan) (old new : UnitReport) (past : FollowedPast)
   pub sort : Sort
   pub ended : Option Sort
   pub written : IsFrameWritten plan old.all_frames new.listeners past.seen (lines_with past f s.time.now) (front_of s) f sort ended old_text new_text
-  pub tally : IsTally plan new.tally (past.sent ++ sort ∷ option_to_list ended)
+  pub tally : IsTally plan new.tally.value (past.sent ++ sort ∷ option_to_list ended)
   pub noted : AreNoted plan (lines_with past f s.time.now) f (sort ∷ option_to_list ended) past.events new.exchanges
 
 -- the frame was written and counted, and what it tells was noted
@@ -91,7 +91,7 @@ pub record IsFollowed (plan : Plan) (old new : UnitReport) (past : FollowedPast)
   pub knows : Knows plan new.directory (frames_with past.seen f)
   pub contests : AreContests plan new.contests (lines_with past f s.time.now)
   pub heard : HaveHeardSince plan new.listeners (past.seen ++ record { frame = f; packet = written.packet } ∷ [])
-  pub tally : IsTally plan new.tally (past.sent ++ sort ∷ option_to_list ended)
+  pub tally : IsTally plan new.tally.value (past.sent ++ sort ∷ option_to_list ended)
   pub noted : AreNoted plan (lines_with past f s.time.now) f (sort ∷ option_to_list ended) past.events new.exchanges
 
 -- what was read leads to a past that is kept, with as many lines, and what is written at it was written

@@ -105,6 +105,6 @@ HasNames plan parties (Some names) = ArePartyNames plan parties 256 names.items
 
 -- a directory has what these frames tell
 pub record Knows (plan : Plan) (directory : Directory) (frames : List Frame) : Type 0 where
-  pub recounts : Recounts plan directory.holders frames
+  pub recounts : Recounts plan directory.holders.value frames
   pub parties : ArePartiesOf plan frames directory.parties.all
   pub names : HasNames plan directory.parties.all directory.parties.names

@@ -1,5 +1,5 @@
 //! Contests for addresses.
-ghost use Rattle.std.specs.Prelude.{◌≡◌, ◌<◌, ◌==◌, ◌||◌, if◌then◌else◌, [], ◌∷◌, ◌++◌, ℕ, List, None, OnOk, true};
+ghost use Rattle.std.specs.Prelude.{◌≡◌, ◌<◌, ◌==◌, ◌||◌, if◌then◌else◌, [], ◌∷◌, ◌++◌, ℕ, List, None, IfOk, OnOk, true};
 ghost use Rattle.std.specs.Prelude.{is_some};
 ghost use Rattle.j39_network.specs.declared.plan.Plan.{Plan as APlan};
 ghost use Rattle.j39_id.specs.FrameMeaning.{cannot_claim, claims_address, name_in};
@@ -23,7 +23,8 @@ use std::alloc::{AllocError, Global};
 /// What is known of the contests for each address, and of the NAMEs that claimed any.
 #[derive(Drop)]
 pub(crate) struct Contests {
-    table: [Contention; ADDRESSES],
+    // 16 KB, so it isn't kept on the stack.
+    table: Box<[Contention; ADDRESSES]>,
     claimants: Claimants,
 }
 
@@ -107,13 +108,15 @@ fn are_none(source: Option<Who>, receiver: Option<Who>) -> bool
 }
 
 impl Contests {
-    pub fn new(alloc: Global) -> Self
-        ensures { (plan : APlan) → AreContests plan result [] }
+    // Not inlined: the table is on the stack until it is in its box, and no longer.
+    #[inline(never)]
+    pub fn new(alloc: Global) -> Result<Self, AllocError>
+        ensures { IfOk result (λ kept. (plan : APlan) → AreContests plan kept []) }
     {
-        Contests {
-            table: [Contention::new(); ADDRESSES],
+        Ok(Contests {
+            table: Box::new(alloc, [Contention::new(); ADDRESSES])?,
             claimants: Claimants::new(alloc),
-        }
+        })
     }
 
     /// Notes a frame that claims an address or tells that a NAME can't, on a line with this time: what it ends and
@@ -133,7 +136,7 @@ impl Contests {
         let name = carried_name(frame).to_bits();
         let claimant = self.claimants.claimant(plan, name);
         note_contests(
-            &mut self.table,
+            &mut *self.table,
             plan,
             directory,
             frame,
@@ -150,7 +153,7 @@ impl Contests {
 
     // Whether a contest began at an address, and nothing has ended it.
     fn has_begun(&self, address: u8) -> bool
-        ensures { result ≡ is_some (contention_at self.now.table address).contest }
+        ensures { result ≡ is_some (contention_at self.now.table.value address).contest }
     {
         self.table[usize::from(address)].contest.is_some()
     }

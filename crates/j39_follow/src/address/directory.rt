@@ -1,5 +1,5 @@
 //! Who stands behind each address.
-ghost use Rattle.std.specs.Prelude.{◌≡◌, [], ◌∷◌, ◌++◌, List, length};
+ghost use Rattle.std.specs.Prelude.{◌≡◌, [], ◌∷◌, ◌++◌, List, length, IfOk};
 ghost use Rattle.j39_id.specs.declared.frame.Frame.{Frame as AFrame};
 ghost use Rattle.j39_network.specs.declared.plan.Plan.{Plan as APlan};
 ghost use Rattle.j39_follow.specs.Holders.{IsHolder};
@@ -13,14 +13,15 @@ use crate::address::who::{Who, who_at};
 use j39_id::Frame;
 use j39_network::Plan;
 use j39_text::TextBuffer;
-use std::alloc::Global;
+use std::alloc::{AllocError, Global};
 
 /// Who stands behind each address, by the frames that were heard, and the texts of it as long as no memory was refused
 /// to them.
 #[derive(Drop)]
 pub(crate) struct Directory {
     alloc: Global,
-    holders: Holders,
+    // 6 KB, so they aren't kept on the stack.
+    holders: Box<Holders>,
     parties: Parties,
 }
 
@@ -68,24 +69,24 @@ fn likely_name(plan: &Plan, who: Who) -> Option<u64>
 }
 
 impl Directory {
-    pub fn new(alloc: Global, plan: &Plan) -> Self
-        ensures { Knows plan.now result [] }
+    pub fn new(alloc: Global, plan: &Plan) -> Result<Self, AllocError>
+        ensures { IfOk result (λ directory. Knows plan.now directory []) }
     {
-        let holders = Holders::new();
-        let all = parties_of(plan, &holders);
+        let holders = Box::new(alloc, Holders::new())?;
+        let all = parties_of(plan, &*holders);
         let names = kept_names(alloc, plan, &all);
-        Directory {
+        Ok(Directory {
             alloc,
             holders,
             parties: Parties { all, names },
-        }
+        })
     }
 
     /// The holders of the addresses.
     pub fn holders(&self) -> &Holders
-        ensures { result.now ≡ self.now.holders }
+        ensures { result.now ≡ self.now.holders.value }
     {
-        &self.holders
+        &*self.holders
     }
 
     /// Who stands behind each address.
@@ -122,7 +123,7 @@ impl Directory {
             → Knows plan.now self.new (frames ++ frame.now ∷ []) }
     {
         self.holders.hear(plan, frame, count);
-        let all = parties_of(plan, &self.holders);
+        let all = parties_of(plan, &*self.holders);
         let names = kept_names(self.alloc, plan, &all);
         self.parties = Parties { all, names };
     }

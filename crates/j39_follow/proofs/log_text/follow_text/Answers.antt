@@ -1,7 +1,7 @@
-use Rattle.std.proofs.Common.{Bool, List, ℕ, subst}
+use Rattle.std.proofs.Common.{rules, Bool, List, ℕ, subst}
 use Rattle.j39_stream.specs.declared.verdict.Verdict.{Verdict}
 use Rattle.j39_stream.specs.declared.verdict.Verdict.TheVariants.{Done, Findings, Refused, Unreadable}
-use Rattle.j39_stream.proofs.Answering.{said_of}
+use Rattle.j39_stream.proofs.Answering.{not_begun, said_of}
 use Rattle.j39_network.specs.declared.plan.Plan.{Plan}
 use Rattle.j39_log.specs.ReportedLogs.{IsTextFor}
 use Rattle.j39_follow.specs.FollowText.{IsFollowText, IsFollowedLog}
@@ -17,12 +17,15 @@ followed plan all_frames log text Findings is = is
 followed plan all_frames log text Unreadable is = is
 
 pub report_log-requires : goal.report_log-requires
-report_log-requires g c = begun c.args.plan.now c.new-report.result c.new-report.ensures.past
+report_log-requires g c = begun c.args.plan.now c.in_ok-report.report c.in_ok-report.ensures.past
+
+pub returns-in_err-report : goal.returns-in_err-report
+returns-in_err-report g c = not_begun _ (search rules)
 
 pub returns : goal.returns
 returns g c =
     said_of c.report_log.result
     (λ log text verdict is.
-    subst (λ (b : Bool). IsFollowText c.args.plan.now b log text verdict) c.new-report.ensures.all_frames
-    (followed c.args.plan.now c.new-report.result.all_frames log text verdict is))
+    subst (λ (b : Bool). IsFollowText c.args.plan.now b log text verdict) c.in_ok-report.ensures.all_frames
+    (followed c.args.plan.now c.in_ok-report.report.all_frames log text verdict is))
     c.report_log.ensures

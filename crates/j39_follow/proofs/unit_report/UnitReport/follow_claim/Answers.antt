@@ -7,6 +7,7 @@ use Rattle.j39_follow.specs.declared.address.directory.Directory.{Directory}
 use Rattle.j39_follow.specs.Contests.{Timed, frames_of}
 use Rattle.j39_follow.specs.LogLines.{moment_of}
 use Rattle.j39_follow.specs.declared.address.contests.Contests.{Contests}
+use Rattle.j39_follow.specs.declared.address.known_parties.Parties.{Parties}
 use Rattle.j39_follow.specs.declared.address.who.Who.{Who}
 use Rattle.j39_follow.specs.inside.Contesting.{AreContests}
 use Rattle.j39_follow.proofs.Addresses.Knowing.{frames_as_well}
@@ -40,7 +41,7 @@ returns-clause-followed c = λ past of few counted.
     let w = told.written in
     let knows = subst (λ (d : Directory). Knows plan d (frames_with past.seen f)) (sym c.in_ok-report.ensures.directory) heard in
     let before = subst (λ (ps : List Who). ArePartiesOf plan (frames_seen past.seen) ps) (sym c.all_parties-before.ensures) of.knows.parties in
-    let after = subst (λ (ps : List Who). ArePartiesOf plan (frames_with past.seen f) ps) (sym c.all_parties-after.ensures) knows.parties in
+    let after = subst (λ (d : Parties). ArePartiesOf plan (frames_with past.seen f) d.all) (sym c.parties.ensures) knows.parties in
     record {
       sort = told.sort;
       ended = told.ended;
@@ -48,7 +49,7 @@ returns-clause-followed c = λ past of few counted.
       written = w;
       knows = knows;
       contests = subst (λ (cs : Contests). AreContests plan cs log) (sym c.in_ok-report.ensures.contests) contests;
-      heard = heard_anew plan past.seen (record { frame = f; packet = w.packet }) c.all_parties-before.result c.all_parties-after.result c.replaced-taken.result
+      heard = heard_anew plan past.seen (record { frame = f; packet = w.packet }) c.all_parties-before.result c.parties.result.now.all c.replaced-taken.result
           c.report.new.self.listeners c.begin_anew.new.listeners before after
           (c.replaced-taken.ensures (frames_seen past.seen) (c.holder.ensures plan (frames_seen past.seen) of.knows)) c.begin_anew.ensures w.heard;
       tally = told.tally;

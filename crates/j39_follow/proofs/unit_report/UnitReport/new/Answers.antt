@@ -1,18 +1,20 @@
-use Rattle.std.proofs.Common.{refl, arith}
+use Rattle.std.proofs.Common.{[], refl, sym, subst, arith}
+use Rattle.j39_follow.specs.declared.flow.tally.Tally.{Tally}
+use Rattle.j39_follow.specs.inside.Tallies.{IsTally}
 use Rattle.j39_follow.proofs.Addresses.Heard.{nothing_heard_since}
 use Rattle.j39_follow.proofs.unit_report.UnitReport.new.Goals as goal
 
 pub returns-clause-past : goal.returns-clause-past
 returns-clause-past c = record {
   remembers = record {
-    knows = c.new-3.ensures;
-    contests = c.new-4.ensures c.args.plan.now;
+    knows = c.in_ok-new-3.ensures;
+    contests = c.in_ok-new-4.ensures c.args.plan.now;
     frames = refl;
-    heard = nothing_heard_since c.args.plan.now c.new-5.result c.new-5.ensures;
+    heard = nothing_heard_since c.args.plan.now c.new-6.result c.new-6.ensures;
     ranges = λ k d less. absurd (omega arith);
-    tally = c.new.ensures c.args.plan.now;
+    tally = subst (λ (t : Tally). IsTally c.args.plan.now t []) (sym c.in_ok-new.ensures.ok) (c.new.ensures c.args.plan.now);
     few = omega arith;
-    exchanges = c.new-2.ensures c.args.plan.now;
+    exchanges = c.in_ok-new-2.ensures c.args.plan.now;
     few_noted = omega arith;
   };
   interface_is = refl;

@@ -1,4 +1,4 @@
-use Rattle.std.proofs.Common.{ℕ, Option, List, sym, subst, refl}
+use Rattle.std.proofs.Common.{ℕ, Option, List, sym, subst, refl, ◌∙◌}
 use Rattle.j39_follow.specs.Contests.{Timed}
 use Rattle.j39_follow.specs.FollowText.{lines_with}
 use Rattle.j39_follow.specs.LogLines.{moment_of}
@@ -19,6 +19,6 @@ returns-clause-reported c = λ past knows contests have ranges tally exchanges f
       sort = c.in_ok-sort.sort;
       ended = c.in_ok-sort.ended;
       written = done.written past.seen log so have ranges;
-      tally = c.count_frame.ensures past.sent few (subst (λ (t : Tally). IsTally plan t past.sent) (sym c.write.ensures.stays.tally) tally);
+      tally = c.count_frame.ensures past.sent few (subst (λ (t : Tally). IsTally plan t past.sent) (sym (c.deref_mut.ensures.value ∙ c.write.ensures.stays.tally)) tally);
       noted = done.noted log past.events so few_noted exchanges;
     }

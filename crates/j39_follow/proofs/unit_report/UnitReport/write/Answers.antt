@@ -10,7 +10,7 @@ pub returns-then-are_calm-clause-written : goal.returns-then-are_calm-clause-wri
 returns-then-are_calm-clause-written c =
     let plan = c.args.groups.now in
     let i = c.args.frame.now.ident in
-    let table = c.args.self.now.contests.table in
+    let table = c.args.self.now.contests.table.value in
     let time : Option ℕ = moment_of c.args.stamp.time.now in
     IfOk-weaker c.write_plain.result _ _
     (λ _ written. written_so

@@ -20,7 +20,7 @@ taken_there : (plan : Plan) (directory : Directory) (contests : Contests) (log :
     → who ≡ taken_party (party_at directory.parties.all a) (defender_at contests a time) → IsTaken plan log a who
 taken_there plan directory contests log time a who range knows are timed is =
     subst (IsTaken plan log a) (sym is) (taken_so plan log a (party_at directory.parties.all a) _ (knows.parties a range)
-    (defends plan log a (contention_at contests.table a) time (are.contentions a range) timed))
+    (defends plan log a (contention_at contests.table.value a) time (are.contentions a range) timed))
 
 abbrev IsTakenFrom : Plan → Directory → Contests → Option ℕ → Parties → ℕ → Type 0
 IsTakenFrom plan directory contests time taken a =
