@@ -22,11 +22,15 @@ import crates
 
 # The parts behind rt ci: a name, its words from the top, and the minutes that it may take.
 PARTS = (
+    ("edits", [sys.executable, "gate/edits.py"], 90),
+    ("plants", [sys.executable, "gate/edits_plants.py"], 20),
+    ("equations", [sys.executable, "gate/equations.py"], 5),
     ("lint", [sys.executable, "gate/lint.py"], 10),
     ("launcher", [sys.executable, "gate/launcher.py"], 20),
     ("tools", ["tools/test"], 45),
     ("faults", [sys.executable, "gate/faults.py"], 20),
     ("memory", [sys.executable, "gate/memory.py"], 20),
+    ("program", [sys.executable, "gate/program.py"], 5),
 )
 COUNTS = re.compile(r"(\d+) passed, (\d+) failed")
 

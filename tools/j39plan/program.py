@@ -25,6 +25,8 @@ INPUT_MOST = 16_777_216
 # The folder of this package.
 PACKAGE = os.path.dirname(os.path.realpath(__file__))
 
+# In a checkout: what prints the program that lies in it, where that is of its sources; and the program that was built there.
+FIND = os.path.join(PACKAGE, "..", "..", "program", "find")
 BUILT = os.path.join(PACKAGE, "..", "..", "crates", "j39plan", "out", "j39plan")
 
 
@@ -36,12 +38,22 @@ class Refused(Exception):
         self.status = status
 
 
+@functools.lru_cache(maxsize=None)
+def repository_program() -> str | None:
+    """The program of this repository, as its launcher takes it: the one that lies in it, where it is of its sources, else the built one."""
+    if os.access(FIND, os.X_OK):
+        found = subprocess.run([FIND], stdin=subprocess.DEVNULL, stdout=subprocess.PIPE, stderr=subprocess.DEVNULL, text=True, check=False)
+        if found.returncode == 0:
+            return found.stdout.rstrip("\n")
+    return BUILT if os.path.exists(BUILT) else None
+
+
 def path() -> str:
-    """The program: the one that J39PLAN names, else the one that this repository has built, else the one on the PATH."""
+    """The program: the one that J39PLAN names, else this repository's, else the one on the PATH."""
     named = os.environ.get("J39PLAN")
     if named:
         return named
-    found = BUILT if os.path.exists(BUILT) else shutil.which("j39plan")
+    found = repository_program() or shutil.which("j39plan")
     if found is None:
         print("j39plan isn't there: build it by ./j39plan, put it on the PATH, or name it by J39PLAN", file=sys.stderr)
         sys.exit(MISSING)

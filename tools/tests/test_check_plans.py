@@ -128,7 +128,7 @@ class CheckPlans(InFolder):
 
     def test_it_finds_the_program_through_a_link(self) -> None:
         os.symlink(os.path.join(TOOLS, "check-plans"), self.path("linked"))
-        if os.path.exists(program.BUILT):
+        if program.repository_program():
             ended = subprocess.run([self.path("linked"), CLEAN], capture_output=True, text=True, check=False,
                                    env={"PATH": "/usr/bin:/bin"})
             self.assertEqual((ended.returncode, ended.stderr), (0, ""))

@@ -24,7 +24,7 @@ def unknown(edit: str, code: str) -> list[str]:
 
 class Edits(unittest.TestCase):
     def test_edits_are_of_names_that_their_files_know(self) -> None:
-        edits = glob.glob(f"{TOP}/crates/*/must-fail/*.edit")
+        edits = [it for folder in ("edits", "must-fail") for it in glob.glob(f"{TOP}/crates/*/{folder}/*.edit")]
         self.assertGreater(len(edits), 100)
         for edit in edits:
             text, crate = text_of(edit), os.path.dirname(os.path.dirname(edit))

@@ -58,7 +58,7 @@ class Shown(InFolder):
         """What a command writes, with the built program in the launcher's place and a folder of its own for /tmp."""
         name = os.path.realpath(program.path())
         environment = {**os.environ, "J39PLAN": name}
-        if name == os.path.realpath(program.BUILT):
+        if name == os.path.realpath(program.repository_program() or ""):
             # The tools find the repository's own program without its name, as a reader's do.
             del environment["J39PLAN"]
         ended = subprocess.run(
@@ -153,7 +153,7 @@ class Form(unittest.TestCase):
 
 
 # A vehicle file has tables and findings as a plan has them: the rules that both have stand under one name in either crate.
-PARALLEL = (("j39_plan", "j39_vehicle"), ("j39_findings", "j39_paths"))
+PARALLEL = (("j39_plan", "j39_vehicle"), ("j39_findings", "j39_vehicle_findings"))
 
 # The types that the reader of plan files and that of vehicle files each have, for tables of their own.
 READERS = ["Key", "NeedReader", "SignalReader", "Table", "TextKind"]

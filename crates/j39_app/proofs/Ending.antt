@@ -8,7 +8,7 @@ use Rattle.j39_app.specs.Answers.{IsAnswerOfTwo, IsOfBytes, IsOfSome}
 use Rattle.j39_app.specs.Faults.{Ends}
 use Rattle.j39_app.specs.Known.{AreFrontOf, AreLeft, AreOf, AreOfPlan, MayBeTooLong}
 use Rattle.j39_app.proofs.WholeInputs.{some_same, whole_file}
-use Rattle.j39_check.specs.PlanText.{Describes, IsPlanText, IsRefusedText}
+use Rattle.j39_plan_text.specs.PlanText.{Describes, IsPlanText, IsRefusedText}
 use Rattle.j39_network.specs.declared.plan.Plan.{Plan}
 use Rattle.j39_stream.specs.CommandEnds.{AnswersInPieces, AnswersWhole, PutsText}
 use Rattle.j39_stream.specs.Streams.{HasFailed, PassesLimits, SinkState, SourceState}

@@ -2,20 +2,20 @@
 use Rattle.std.specs.Prelude.{◌≡◌, ◌⊎◌, ℕ, Bool, List, Option, string_bytes, length}
 use Rattle.j39_app.specs.Known.{AreFrontOf, AreOf, Names}
 use Rattle.j39_app.specs.VehicleAnswers.{IsAnswerOfVehicle}
-use Rattle.j39_check.specs.AddressesText.{IsAddressesText}
-use Rattle.j39_check.specs.LoadText.{IsLoadText}
-use Rattle.j39_check.specs.CheckText.{IsCheckText}
-use Rattle.j39_check.specs.ShowText.{IsShowText}
+use Rattle.j39_plan_text.specs.AddressesText.{IsAddressesText}
+use Rattle.j39_plan_text.specs.LoadText.{IsLoadText}
+use Rattle.j39_plan_text.specs.CheckText.{IsCheckText}
+use Rattle.j39_plan_text.specs.ShowText.{IsShowText}
 use Rattle.j39_text.specs.FrameText.{IsFrameText, IsInputText}
-use Rattle.j39_check.specs.PlanText.{Describes, IsRefusedText}
+use Rattle.j39_plan_text.specs.PlanText.{Describes, IsRefusedText}
 use Rattle.j39_follow.specs.FollowText.{IsFollowText}
 use Rattle.j39_log.specs.ReadText.{IsReadText}
 use Rattle.j39_run.specs.RunText.{IsRunText}
 use Rattle.j39_network.specs.declared.plan.Plan.{Plan}
 use Rattle.j39_stream.specs.declared.verdict.Verdict.{Verdict}
 use Rattle.j39_stream.specs.declared.verdict.Verdict.TheVariants.{Done, Unreadable}
-use Rattle.j39_words.specs.declared.orders.Order.{Order}
-use Rattle.j39_words.specs.declared.orders.Order.TheVariants.{Input, Frame, Show, Check, Addresses, Load, Run, Read, Follow, Vehicle, Help}
+use Rattle.j39_command_line.specs.declared.orders.Order.{Order}
+use Rattle.j39_command_line.specs.declared.orders.Order.TheVariants.{Input, Frame, Show, Check, Addresses, Load, Run, Read, Follow, Vehicle, Help}
 
 -- for the bytes of a file, or of an input
 abbrev pub IsOfBytes : {V : Type 0} → (List ℕ → List ℕ → V → Type 0) → Option (List ℕ) → List ℕ → V → Type 0

@@ -16,8 +16,8 @@ use Rattle.j39_network.specs.declared.plan.Plan.{Plan}
 use Rattle.j39_vehicle.specs.declared.file.VehicleFile.{VehicleFile}
 use Rattle.j39_vehicle.specs.declared.file.bus_table.BusTable.{BusTable}
 use Rattle.j39_vehicle.specs.declared.vehicle.bus_plan.BusPlan.{BusPlan}
-use Rattle.j39_words.specs.declared.orders.Order.{Order}
-use Rattle.j39_words.specs.declared.orders.Order.TheVariants.{Input, Frame, Show, Check, Addresses, Load, Run, Read, Follow, Vehicle, Help}
+use Rattle.j39_command_line.specs.declared.orders.Order.{Order}
+use Rattle.j39_command_line.specs.declared.orders.Order.TheVariants.{Input, Frame, Show, Check, Addresses, Load, Run, Read, Follow, Vehicle, Help}
 
 -- the file of a name can't be opened, or a call of it failed once it was open
 abbrev pub HasFileFailed : {File : Type 0} → (List ℕ → Type 0) → Names → (File → SourceState) → List ℕ → Type 0

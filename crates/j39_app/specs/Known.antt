@@ -1,7 +1,7 @@
 -- What is known of the bytes of a file, or of an input, and bytes that come out of it.
 use Rattle.std.specs.Prelude.{◌≡◌, ◌⊎◌, ◌<◌, ◌≤◌, ℕ, List, ◌++◌, length, Option, Some}
 use Rattle.j39_network.specs.declared.plan.Plan.{Plan}
-use Rattle.j39_check.specs.PlanText.{Describes}
+use Rattle.j39_plan_text.specs.PlanText.{Describes}
 use Rattle.j39_stream.specs.declared.limits.Limits.{Limits}
 
 -- what is known of the bytes of each name

@@ -2,7 +2,7 @@
 use Rattle.std.specs.Prelude.{◌≡◌, ◌⊎◌, ℕ, List, [], ◌∷◌, ◌++◌, Option, Some, None, string_bytes}
 use Rattle.std.specs.List.{AllZip}
 use Rattle.j39_app.specs.Known.{AreOf, Names}
-use Rattle.j39_check.specs.PlanText.{Describes}
+use Rattle.j39_plan_text.specs.PlanText.{Describes}
 use Rattle.j39_network.specs.declared.plan.Plan.{Plan}
 use Rattle.j39_stream.specs.declared.verdict.Verdict.{Verdict}
 use Rattle.j39_stream.specs.declared.verdict.Verdict.TheVariants.{Unreadable}
@@ -10,8 +10,8 @@ use Rattle.j39_vehicle.specs.PlanNames.{IsPlanFile}
 use Rattle.j39_vehicle.specs.declared.file.VehicleFile.{VehicleFile}
 use Rattle.j39_vehicle.specs.declared.file.bus_table.BusTable.{BusTable}
 use Rattle.j39_vehicle.specs.declared.vehicle.bus_plan.BusPlan.{BusPlan}
-use Rattle.j39_vehicle_check.specs.VehicleFileText.{IsBusPlanText, IsRefusedBus, IsRefusedVehicle, SaysOfVehicle}
-use Rattle.j39_vehicle_check.specs.VehicleText.{IsVehicleText}
+use Rattle.j39_vehicle_text.specs.VehicleFileText.{IsBusPlanText, IsRefusedBus, IsRefusedVehicle, SaysOfVehicle}
+use Rattle.j39_vehicle_text.specs.VehicleText.{IsVehicleText}
 
 -- why the bytes of a vehicle file, or of the plan of a bus, are refused
 abbrev pub IsRefusedVehicleOf : Option (List ℕ) → List ℕ → Type 0

@@ -6,11 +6,11 @@ ghost use Rattle.j39_app.specs.Answers.{IsOfSome, IsReadOf, IsRefusedOf, IsRunFr
 ghost use Rattle.j39_app.specs.Faults.{AsksForMemory, Ends, EndsByFile, EndsByTwo, HasFileFailed, IsOfRead};
 ghost use Rattle.j39_app.specs.Faults.{PutsAtOnce};
 ghost use Rattle.j39_app.specs.Known.{MayBeTooLong};
-ghost use Rattle.j39_check.specs.AddressesText.{IsAddressesText};
-ghost use Rattle.j39_check.specs.LoadText.{IsLoadText};
-ghost use Rattle.j39_check.specs.CheckText.{IsCheckText};
-ghost use Rattle.j39_check.specs.PlanText.{IsPlanText};
-ghost use Rattle.j39_check.specs.ShowText.{IsShowText};
+ghost use Rattle.j39_plan_text.specs.AddressesText.{IsAddressesText};
+ghost use Rattle.j39_plan_text.specs.LoadText.{IsLoadText};
+ghost use Rattle.j39_plan_text.specs.CheckText.{IsCheckText};
+ghost use Rattle.j39_plan_text.specs.PlanText.{IsPlanText};
+ghost use Rattle.j39_plan_text.specs.ShowText.{IsShowText};
 ghost use Rattle.j39_stream.specs.CommandEnds.{AnswersWhole, IsOfAny};
 ghost use Rattle.j39_stream.specs.Streams.{HasFailed, log_limits, plan_limits};
 ghost use Rattle.j39_text.specs.FrameText.{IsInputText};

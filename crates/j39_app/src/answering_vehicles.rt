@@ -5,8 +5,8 @@ ghost use Rattle.j39_app.specs.Faults.{EndsByBus, EndsByBuses, EndsByFile, EndsB
 ghost use Rattle.j39_app.specs.VehicleAnswers.{IsRefusedBusOf, IsRefusedVehicleOf};
 ghost use Rattle.j39_stream.specs.CommandEnds.{PutsText};
 ghost use Rattle.j39_stream.specs.Streams.{plan_limits};
-ghost use Rattle.j39_vehicle_check.specs.VehicleFileText.{IsBusPlanText, IsVehicleFileText};
-ghost use Rattle.j39_vehicle_check.specs.VehicleText.{IsVehicleText};
+ghost use Rattle.j39_vehicle_text.specs.VehicleFileText.{IsBusPlanText, IsVehicleFileText};
+ghost use Rattle.j39_vehicle_text.specs.VehicleText.{IsVehicleText};
 
 use crate::{Fault, Folder, Sink, Verdict, bus_plan, vehicle_file, vehicle_text};
 use j39_id::Label;

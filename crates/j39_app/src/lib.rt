@@ -10,15 +10,15 @@ mod program;
 pub use answering::answer;
 pub use exit_status::status;
 pub use folder::{Folder, SystemFiles};
-pub use j39_check::{addresses_text, check_text, load_text, plan_text, show_text};
+pub use j39_command_line::{Order, WordsFault, order};
 pub use j39_follow::follow_text;
 pub use j39_log::read_text;
+pub use j39_plan_text::{addresses_text, check_text, load_text, plan_text, show_text};
 pub use j39_run::{refused_lines_end_the_text, run_planned, run_text};
 pub use j39_schedule::LineFault;
 pub use j39_stream::{
     Failed, Fault, FromRead, Pieces, Sink, Source, Stop, ToWrite, Verdict, put_all, read_whole,
 };
 pub use j39_text::{frame_text, input_text};
-pub use j39_vehicle_check::{bus_plan, vehicle_file, vehicle_text};
-pub use j39_words::{Order, WordsFault, order};
+pub use j39_vehicle_text::{bus_plan, vehicle_file, vehicle_text};
 pub use program::run_program;

@@ -9,7 +9,7 @@ use j39_id::Address;
 use std::marker::Model;
 
 /// A set of addresses: address a is bit a % 64 of word a / 64.
-#[derive(Debug, Drop)]
+#[derive(Drop)]
 pub struct AddressSet {
     words: [u64; 4],
 }

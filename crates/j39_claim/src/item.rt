@@ -2,14 +2,14 @@
 use j39_id::Address;
 
 /// What a unit says of itself (SAE J1939-81, Address Claimed and Cannot Claim).
-#[derive(Clone, Copy, Debug, PartialEq, Eq)]
+#[derive(Clone, Copy, PartialEq, Eq)]
 pub enum Say {
     Claim(Address),
     Cannot,
 }
 
 /// What a unit tells the others: of itself, or that it asks them for their addresses.
-#[derive(Clone, Copy, Debug, PartialEq, Eq)]
+#[derive(Clone, Copy, PartialEq, Eq)]
 pub enum Item {
     Told(Say),
     Request,

@@ -20,7 +20,7 @@ use Rattle.j39_findings.specs.declared.checking.finding.Finding.TheVariants.{Pri
 use Rattle.j39_findings.specs.declared.checking.finding.Finding.TheVariants.{RequestUnheard, AnswerAstray, WhenOutside, RequestRepeated, SilentAddress}
 use Rattle.j39_findings.specs.declared.checking.finding.Finding.TheVariants.{SilentInPool, FlowContested}
 use Rattle.j39_network.specs.Kinds.{MayBeOne}
-use Rattle.j39_rules.specs.ListPlaces.{ValueAt, PairAt}
+use Rattle.j39_search.specs.ListPlaces.{ValueAt, PairAt}
 use Rattle.j39_findings.specs.Findings.{EndsOutside, IsProprietary, HasBadPgn, IsOutside, Clean, GoesUnanswered, GoesUnheard, IsAnsweredAstray, AskTheSame}
 use Rattle.j39_findings.specs.Findings.{IsFlowContested, IsSilentInPool}
 use Rattle.j39_network.specs.PlannedGroups.{IsSelectorInside}

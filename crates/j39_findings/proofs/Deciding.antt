@@ -18,7 +18,7 @@ use Rattle.j39_id.specs.Services.{service_groups}
 use Rattle.j39_signal.specs.Parts.{SignalParts}
 use Rattle.j39_signal.specs.Places.{WidthFits, IsInside, SharesBit, shares_bit}
 use Rattle.j39_signal.proofs.Sharing.{shared_by_test}
-use Rattle.j39_rules.specs.ListPlaces.{SomeMeets, SoManyMeet, ValueAt}
+use Rattle.j39_search.specs.ListPlaces.{SomeMeets, SoManyMeet, ValueAt}
 use Rattle.j39_network.specs.declared.plan.unit_plan.UnitPlan.{UnitPlan}
 use Rattle.j39_network.specs.declared.plan.group_plan.GroupPlan.{GroupPlan}
 use Rattle.j39_network.specs.declared.plan.flow_plan.FlowPlan.{FlowPlan}
@@ -28,13 +28,16 @@ use Rattle.j39_network.specs.declared.plan.text_plan.TextPlan.{TextPlan}
 use Rattle.j39_network.specs.TextPlaces.{last_byte}
 use Rattle.j39_network.specs.declared.plan.to.To.{To}
 use Rattle.j39_network.specs.declared.plan.to.To.TheVariants.{All, One}
+use Rattle.j39_search.proofs.Deciding.{Decides-leb}
 use Rattle.j39_findings.specs.Findings.{HaveSilentAddress, IsSilentInPool, HaveSameFixedAddress, PrefersKept, IsProprietary, IsForNoPlan, IsWronglyPrivate}
-use Rattle.j39_findings.specs.Findings.{HasBadPgn, DoReceiversMeet, AreSentTogether, HaveSamePgn, IsPrivateUnsent, CannotGoToOne, GoesToItsSender, AreOneFlow}
+use Rattle.j39_findings.specs.Findings.{HasBadPgn, DoReceiversMeet, AreSentTogether, HaveSamePgn, IsPrivateUnsent, CannotGoToOne, GoesToItsSender}
+use Rattle.j39_network.specs.PlannedFlows.{AreOneFlow}
 use Rattle.j39_findings.specs.Findings.{IsOutside, IsUnmet, GoesUnanswered, GoesUnheard, IsAnsweredAstray, AskForOneNumber, AskTheSame}
 use Rattle.j39_findings.specs.Found.{have_silent_address, is_silent_in_pool, have_same_fixed_address, needs_pool_address, prefers_kept, is_for_no_plan}
 use Rattle.j39_findings.specs.Found.{is_wrongly_private, is_selector_outside, has_bad_pgn, sends, do_receivers_meet, sends_beside, are_sent_together}
 use Rattle.j39_findings.specs.Found.{have_same_pgn, is_private_unsent, has_other_width, ends_outside, is_one_frame_to_all, may_be_one_frame_to_all, is_group_of}
-use Rattle.j39_findings.specs.Found.{have_same_receiver, cannot_go_to_one, goes_to_its_sender, are_one_flow, lies_outside, is_unmet, is_served_to_one}
+use Rattle.j39_findings.specs.Found.{cannot_go_to_one, goes_to_its_sender, are_one_flow, lies_outside, is_unmet, is_served_to_one}
+use Rattle.j39_network.specs.Serving.{have_same_receiver}
 use Rattle.j39_findings.specs.Found.{is_served_to_all, goes_unanswered, goes_unheard, may_name_receiver, is_one_astray, is_all_astray, is_answered_astray}
 use Rattle.j39_findings.specs.Found.{ask_for_one_number, ask_the_same}
 use Rattle.j39_network.specs.UnitAddresses.{NeedsPoolAddress}
@@ -47,9 +50,6 @@ use Rattle.std.specs.Option.{ForSome, option_map_or}
 use Rattle.j39_network.specs.PlannedGroups.{IsSelectorInside}
 use Rattle.j39_network.proofs.Served.{not_is, Decides-is_to_one, Decides-is_to, some_decides, to_all_decides, Decides-serves, Decides-is_served}
 use Rattle.j39_network.proofs.Served.{Decides-some_meets}
-
-pub Decides-leb : (a b : ℕ) → Decides (nat_le a b) (a ≤ b)
-Decides-leb a b = (leb-true a b, le-leb a b)
 
 -- ---- units
 
@@ -78,34 +78,6 @@ pub Decides-needs_pool_address : (kept : FinSet nat_cmp) (u : UnitPlan) → Deci
 Decides-needs_pool_address kept u =
     Decides-or _ _ (λ e. e, λ e. e)
     (Decides-like _ (λ h. record { pool = h.0; free = h.1 }) (λ f. (f.pool, f.free)) (Decides-and _ _ (λ e. e, λ e. e) (not_is (contains kept u.address))))
-
--- the number of those that pass is that of those that meet the statement, and no other number is
-pub passing_meet : {A : Type 0} {test : A → Bool} {P : A → Type 0} → ((x : A) → Decides (test x) (P x)) → (xs : List A)
-    → SoManyMeet P xs (count_by test xs)
-passing_meet by [] = refl
-passing_meet {test = test} by (x ∷ xs) =
-    let rest = passing_meet by xs in
-    let more = sum_by-cons (λ y. cond (test y) 1 0) x xs in
-    elim (cases_Bool (test x)) [
-      | inl passes ↦ inl ((by x).0 passes, (count_by test xs, rw (more, passes) (omega arith), rest))
-      | inr fails ↦
-          let same : count_by test (x ∷ xs) ≡ count_by test xs = rw (more, fails) (omega arith) in
-          inr (λ h. absurd (false≢true (sym fails ∙ (by x).1 h)), rw same rest)
-    ]
-
-pub meeting_pass : {A : Type 0} {test : A → Bool} {P : A → Type 0} → ((x : A) → Decides (test x) (P x)) → (xs : List A) (n : ℕ)
-    → SoManyMeet P xs n → n ≡ count_by test xs
-meeting_pass by [] n are = are
-meeting_pass {test = test} by (x ∷ xs) n (inl (meets, (m, is, are))) =
-    let rest = meeting_pass by xs m are in
-    let passes = (by x).1 meets in
-    rw (sum_by-cons (λ y. cond (test y) 1 0) x xs, passes) (omega (arith, is, rest))
-meeting_pass {test = test} by (x ∷ xs) n (inr (fails, are)) =
-    let rest = meeting_pass by xs n are in
-    elim (cases_Bool (test x)) [
-      | inl passes ↦ absurd (fails ((by x).0 passes))
-      | inr not ↦ rw (sum_by-cons (λ y. cond (test y) 1 0) x xs, not) (omega (arith, rest))
-    ]
 
 pub Decides-prefers_kept : (kept : FinSet nat_cmp) (u : UnitPlan) → Decides (prefers_kept kept u) (PrefersKept kept u)
 Decides-prefers_kept kept u = Decides-and _ _ (λ e. e, λ e. e) (λ e. e, λ e. e)
@@ -173,11 +145,6 @@ pub Decides-lies_outside : (g : GroupPlan) (t : TextPlan) → Decides (lies_outs
 Decides-lies_outside g t = Decides-or _ _ (Decides-ltb (g.length + 1) t.byte) (Decides-ltb g.most (last_byte t))
 
 -- ---- flows
-
-pub Decides-have_same_receiver : (to other : To) → Decides (have_same_receiver to other) (to ≡ other)
-Decides-have_same_receiver All All = (λ e. refl, λ e. refl)
-Decides-have_same_receiver All (One receiver) = (λ e. absurd (false≢true e), λ e. cc)
-Decides-have_same_receiver (One receiver) other = Decides-like _ (λ e. sym e) (λ e. sym e) (Decides-is_to other receiver)
 
 one_frame_decides : (g : GroupPlan) → Decides (is_one_frame_to_all g) (IsOneFrameToAll g)
 one_frame_decides g = Decides-and _ _ (Decides-leb pdu2_first (pf_of g.pgn)) (Decides-leb g.most frame_bytes)

@@ -15,10 +15,11 @@ use Rattle.j39_findings.specs.declared.checking.finding.Finding.TheVariants.{Sig
 use Rattle.j39_findings.specs.declared.checking.finding.Finding.TheVariants.{PrivateUnsent, RecordOverlap, TextOutside, NeedUnmet, RequestUnanswered}
 use Rattle.j39_findings.specs.declared.checking.finding.Finding.TheVariants.{RequestUnheard, AnswerAstray, WhenOutside, RequestRepeated, SilentAddress}
 use Rattle.j39_findings.specs.declared.checking.finding.Finding.TheVariants.{SilentInPool, FlowContested}
-use Rattle.j39_rules.specs.ListPlaces.{found_if, in_each, each, pairs, ValueAt, PairAt}
+use Rattle.j39_search.specs.ListPlaces.{found_if, in_each, each, pairs, ValueAt, PairAt}
 use Rattle.j39_claim.specs.AddressSets.{free_count}
 use Rattle.j39_network.specs.Kinds.{MayBeOne}
-use Rattle.j39_findings.specs.Findings.{HaveSameFixedAddress, HasBadPgn, HaveSamePgn, CannotGoToOne, EndsOutside, GoesToItsSender, AreOneFlow, Holds}
+use Rattle.j39_findings.specs.Findings.{HaveSameFixedAddress, HasBadPgn, HaveSamePgn, CannotGoToOne, EndsOutside, GoesToItsSender, Holds}
+use Rattle.j39_network.specs.PlannedFlows.{AreOneFlow}
 use Rattle.j39_findings.specs.Findings.{PrefersKept, IsPrivateUnsent, IsOutside, IsUnmet, IsBefore, finding_number, places_of, GoesUnanswered, GoesUnheard}
 use Rattle.j39_findings.specs.Findings.{IsAnsweredAstray, AskTheSame, HaveSilentAddress, IsSilentInPool, IsFlowContested}
 use Rattle.j39_network.specs.PlannedGroups.{IsSelectorInside}
@@ -28,12 +29,13 @@ use Rattle.j39_findings.specs.Found.{group_findings, has_other_width, ends_outsi
 use Rattle.j39_findings.specs.Found.{kept_findings, unsent_findings, overlaps_of, group_overlaps, do_records_meet, record_findings, text_findings}
 use Rattle.j39_findings.specs.Found.{need_findings, request_findings}
 use Rattle.j39_findings.proofs.Meeting.{of_signal_made, of_group_overlaps}
-use Rattle.j39_rules.proofs.Families.{Covers as CoversPart, Covers-append, Names, Order, before, each_family, each_inside, family, inside_family, made}
-use Rattle.j39_rules.proofs.Families.{of_first, pairs_family}
-use Rattle.j39_rules.proofs.Members.{of_in_each, of_found_if, of_each, of_pairs}
-use Rattle.j39_rules.proofs.Rising.{Rises, Rises-append, Rises-found_if, Rises-in_each, Rises-each, Rises-pairs}
+use Rattle.j39_search.proofs.Families.{Covers as CoversPart, Covers-append, Names, Order, before, each_family, each_inside, family, inside_family, made}
+use Rattle.j39_search.proofs.Families.{of_first, pairs_family}
+use Rattle.j39_search.proofs.Members.{of_in_each, of_found_if, of_each, of_pairs}
+use Rattle.j39_search.proofs.Rising.{Rises, Rises-append, Rises-found_if, Rises-in_each, Rises-each, Rises-pairs}
 use Rattle.j39_network.proofs.Served.{Decides-may_be_one}
-use Rattle.j39_findings.proofs.Deciding.{Decides-have_same_fixed_address, Decides-needs_pool_address, Decides-has_bad_pgn, passing_meet}
+use Rattle.j39_findings.proofs.Deciding.{Decides-have_same_fixed_address, Decides-needs_pool_address, Decides-has_bad_pgn}
+use Rattle.j39_search.proofs.Deciding.{passing_meet}
 use Rattle.j39_findings.proofs.Deciding.{Decides-have_silent_address, Decides-is_silent_in_pool, Decides-have_same_pgn, Decides-has_other_width}
 use Rattle.j39_findings.proofs.Deciding.{Decides-ends_outside, Decides-shares_bit, Decides-cannot_go_to_one, Decides-goes_to_its_sender, Decides-are_one_flow}
 use Rattle.j39_findings.proofs.Deciding.{Decides-prefers_kept, Decides-is_private_unsent, Decides-lies_outside, Decides-is_unmet, Decides-goes_unanswered}

@@ -3,7 +3,7 @@ use Rattle.std.proofs.Common.{◌≡◌, ℕ, ◌+◌, ◌<◌, ◌≤◌, ◌�
 use Rattle.std.specs.List.{slice_get}
 use Rattle.j39_id.specs.Limits.{frame_bytes}
 use Rattle.j39_id.specs.Pgn.{pdu2_first, pf_of}
-use Rattle.j39_rules.specs.ListPlaces.{ValueAt}
+use Rattle.j39_search.specs.ListPlaces.{ValueAt}
 use Rattle.j39_network.specs.PlannedFlows.{IsOneFrameToAll}
 use Rattle.j39_findings.specs.Findings.{IsOutside}
 use Rattle.j39_network.specs.Lengths.{HasOneLengthEach}
@@ -12,7 +12,7 @@ use Rattle.j39_network.specs.TextPlaces.{last_byte}
 use Rattle.j39_network.specs.declared.plan.Plan.{Plan}
 use Rattle.j39_network.specs.declared.plan.group_plan.GroupPlan.{GroupPlan}
 use Rattle.j39_network.specs.declared.plan.text_plan.TextPlan.{TextPlan}
-use Rattle.j39_rules.proofs.Members.{all_at}
+use Rattle.j39_search.proofs.Members.{all_at}
 
 -- of a value that meets one statement, another one that follows from it there
 at_value : {A : Type 0} (P Q : A → Type 0) (xs : List A) (i : ℕ) → (v : ValueAt P xs i) → (P v.value → Q v.value) → ValueAt Q xs i

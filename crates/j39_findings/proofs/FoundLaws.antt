@@ -12,10 +12,11 @@ use Rattle.j39_findings.specs.declared.checking.finding.Finding.TheVariants.{Sig
 use Rattle.j39_findings.specs.declared.checking.finding.Finding.TheVariants.{PrivateUnsent, RecordOverlap, TextOutside, NeedUnmet, RequestUnanswered}
 use Rattle.j39_findings.specs.declared.checking.finding.Finding.TheVariants.{RequestUnheard, AnswerAstray, WhenOutside, RequestRepeated, SilentAddress}
 use Rattle.j39_findings.specs.declared.checking.finding.Finding.TheVariants.{SilentInPool, FlowContested}
-use Rattle.j39_rules.specs.ListPlaces.{in_each, each, pairs}
+use Rattle.j39_search.specs.ListPlaces.{in_each, each, pairs}
 use Rattle.j39_claim.specs.AddressSets.{free_count}
 use Rattle.j39_network.specs.Kinds.{MayBeOne, may_be_one}
-use Rattle.j39_findings.specs.Findings.{HaveSameFixedAddress, HasBadPgn, HaveSamePgn, CannotGoToOne, EndsOutside, GoesToItsSender, AreOneFlow, PrefersKept}
+use Rattle.j39_findings.specs.Findings.{HaveSameFixedAddress, HasBadPgn, HaveSamePgn, CannotGoToOne, EndsOutside, GoesToItsSender, PrefersKept}
+use Rattle.j39_network.specs.PlannedFlows.{AreOneFlow}
 use Rattle.j39_findings.specs.Findings.{IsPrivateUnsent, IsOutside, IsUnmet, Holds, IsBefore, AreFindings, Clean, GoesUnanswered, GoesUnheard, IsAnsweredAstray}
 use Rattle.j39_findings.specs.Findings.{AskTheSame, HaveSilentAddress, IsSilentInPool, IsFlowContested}
 use Rattle.j39_findings.specs.Found.{goes_unanswered, goes_unheard, is_answered_astray, is_selector_outside, ask_the_same, request_findings}
@@ -26,15 +27,16 @@ use Rattle.j39_findings.specs.Found.{outside_text_findings, text_findings, is_un
 use Rattle.j39_findings.specs.Found.{silent_findings, contested_findings, is_unit_alone, is_contested}
 use Rattle.j39_network.specs.PlannedGroups.{IsSelectorInside}
 use Rattle.j39_findings.proofs.Meeting.{group_overlaps_of}
-use Rattle.j39_rules.proofs.Members.{in_each_of, found_if_of, each_of, pairs_of}
-use Rattle.j39_rules.proofs.Rising.{AllPairs-from_Rises}
+use Rattle.j39_search.proofs.Members.{in_each_of, found_if_of, each_of, pairs_of}
+use Rattle.j39_search.proofs.Rising.{AllPairs-from_Rises}
 use Rattle.j39_network.proofs.Served.{Decides-may_be_one}
-use Rattle.j39_findings.proofs.Deciding.{Decides-have_same_fixed_address, Decides-needs_pool_address, Decides-has_bad_pgn, meeting_pass}
+use Rattle.j39_findings.proofs.Deciding.{Decides-have_same_fixed_address, Decides-needs_pool_address, Decides-has_bad_pgn}
+use Rattle.j39_search.proofs.Deciding.{meeting_pass}
 use Rattle.j39_findings.proofs.Deciding.{Decides-have_silent_address, Decides-is_silent_in_pool, Decides-have_same_pgn, Decides-has_other_width}
 use Rattle.j39_findings.proofs.Deciding.{Decides-ends_outside, Decides-shares_bit, Decides-cannot_go_to_one, Decides-goes_to_its_sender, Decides-are_one_flow}
 use Rattle.j39_findings.proofs.Deciding.{Decides-prefers_kept, Decides-is_private_unsent, Decides-lies_outside, Decides-is_unmet, Decides-goes_unanswered}
 use Rattle.j39_findings.proofs.Deciding.{Decides-goes_unheard, Decides-is_answered_astray, Decides-ask_the_same, Decides-is_selector_outside}
-use Rattle.j39_rules.proofs.Families.{Covers-append}
+use Rattle.j39_search.proofs.Families.{Covers-append}
 use Rattle.j39_findings.proofs.Families.{Covers, in_order, units_covered, groups_covered, signals_covered, flows_covered, kept_covered, unsent_covered}
 use Rattle.j39_findings.proofs.Families.{records_covered, texts_covered, needs_covered, requests_covered, silent_covered, contested_covered}
 use Rattle.j39_findings.proofs.WhoIsAlone.{alone_by_list, Decides-contested}

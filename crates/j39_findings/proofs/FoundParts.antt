@@ -1,17 +1,14 @@
 -- Where a part of the list of findings has some, the whole list has; and the parts together are the list.
 use Rattle.std.proofs.Common.{◌≡◌, ◌≢◌, List, [], ◌++◌, Result, Ok, Err, IsErrAnd, OnErr, IsOk, append_assoc, refl}
 use Rattle.std.specs.declared.alloc.AllocError.{AllocError}
-use Rattle.j39_rules.proofs.AddingLemmas.{some_left, some_right}
+use Rattle.j39_search.proofs.AddingLemmas.{some_left, some_right}
+use Rattle.j39_search.proofs.WantedMemory.{on_err}
 use Rattle.j39_findings.specs.Found.{unit_findings, group_findings, signal_findings, flow_findings, kept_findings, unsent_findings, record_findings}
 use Rattle.j39_findings.specs.Found.{text_findings, need_findings, request_findings, found, silent_findings, contested_findings}
 use Rattle.j39_findings.specs.Findings.{Clean}
 use Rattle.j39_findings.specs.declared.checking.finding.Finding.{Finding}
 use Rattle.j39_network.specs.declared.plan.Plan.{Plan}
 use Rattle.j39_findings.proofs.FoundLaws.{none_from_clean, rest}
-
-pub on_err : {A : Type 0} (P : Type 0) (Q : AllocError → Type 0) (r : Result A AllocError) → IsErrAnd r Q → P → OnErr r P
-on_err P Q (Ok done) is holds = absurd is
-on_err P Q (Err e) is holds = holds
 
 -- want of memory tells that something is wrong
 answers_clean : {A : Type 0} (plan : Plan) (r : Result A AllocError) → OnErr r (found plan ≢ []) → Clean plan → IsOk r

@@ -11,12 +11,12 @@ use Rattle.j39_signal.specs.Places.{Covers, SharesBit, end_of, further}
 use Rattle.j39_network.specs.declared.plan.group_plan.GroupPlan.{GroupPlan}
 use Rattle.j39_findings.specs.declared.checking.finding.Finding.{Finding}
 use Rattle.j39_findings.specs.declared.checking.finding.Finding.TheVariants.{RecordOverlap}
-use Rattle.j39_rules.specs.ListPlaces.{found_if, in_each}
+use Rattle.j39_search.specs.ListPlaces.{found_if, in_each}
 use Rattle.j39_findings.specs.Findings.{ComesOnto, HasRecordsOver}
 use Rattle.j39_network.specs.Records.{record_count}
 use Rattle.j39_findings.specs.Found.{first_near, comes_onto, do_records_meet, overlaps_of, group_overlaps}
 use Rattle.j39_findings.proofs.Deciding.{Decides-shares_bit}
-use Rattle.j39_rules.proofs.Members.{of_in_each, in_each_of, of_found_if, found_if_of}
+use Rattle.j39_search.proofs.Members.{of_in_each, in_each_of, of_found_if, found_if_of}
 
 -- ---- one later record, and the first near one
 

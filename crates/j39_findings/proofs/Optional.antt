@@ -9,11 +9,11 @@ use Rattle.j39_network.specs.declared.plan.Plan.{Plan}
 use Rattle.j39_network.specs.declared.plan.group_plan.GroupPlan.{GroupPlan}
 use Rattle.j39_findings.specs.declared.checking.finding.Finding.TheVariants.{SignalOutside}
 use Rattle.j39_findings.specs.Findings.{Holds}
-use Rattle.j39_rules.specs.ListPlaces.{ValueAt}
+use Rattle.j39_search.specs.ListPlaces.{ValueAt}
 use Rattle.j39_network.specs.Records.{single_signals}
 use Rattle.j39_network.specs.SignalPlaces.{HasNoOptional, room_of_signal}
 use Rattle.j39_findings.specs.WithoutOptional.{IsWithoutOptional}
-use Rattle.j39_rules.proofs.Members.{all_at}
+use Rattle.j39_search.proofs.Members.{all_at}
 
 there_with : (b o t : Bool) (s : SignalParts) (xs ys : List SignalParts) → o ≡ false → xs ≡ ys
     → (if not b && (not o || t) then s ∷ xs else xs) ≡ (if not b then s ∷ ys else ys)

@@ -5,7 +5,7 @@ use Rattle.j39_signal.specs.Bits.{number_at}
 use Rattle.j39_signal.specs.Selectors.{DifferInValue, is_selected}
 use Rattle.j39_signal.specs.declared.selector.Selector.{Selector}
 use Rattle.std.proofs.lemmas.Bool.{false≢true, and_parts, cases_lt, eqb-true}
-use Rattle.j39_rules.specs.ListPlaces.{ValueAt, SomeMeets}
+use Rattle.j39_search.specs.ListPlaces.{ValueAt, SomeMeets}
 use Rattle.j39_findings.specs.Findings.{IsForNoPlan, IsProprietary, HasBadPgn, AreSentTogether, DoReceiversMeet, Clean}
 use Rattle.j39_network.specs.PrivateGroups.{Fits, CanBe, OneGroupFits, HasNoPrivate}
 use Rattle.j39_findings.specs.WithoutPrivate.{IsFoundAsBefore}
@@ -15,7 +15,7 @@ use Rattle.j39_network.specs.declared.plan.flow_plan.FlowPlan.{FlowPlan}
 use Rattle.j39_network.specs.declared.plan.to.To.{To}
 use Rattle.j39_findings.specs.declared.checking.finding.Finding.TheVariants.{SamePgn}
 use Rattle.j39_findings.proofs.Pairs.{pair_with}
-use Rattle.j39_rules.proofs.Members.{all_at}
+use Rattle.j39_search.proofs.Members.{all_at}
 
 -- ---- one group fits
 

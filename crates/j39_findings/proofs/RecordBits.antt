@@ -17,11 +17,11 @@ use Rattle.j39_network.specs.declared.plan.group_plan.GroupPlan.{GroupPlan}
 use Rattle.j39_findings.specs.CleanParts.{HasBit, HasBitsOnce}
 use Rattle.j39_findings.specs.Findings.{ComesOnto, HasRecordsOver}
 use Rattle.j39_network.specs.Lengths.{IsLengthOf}
-use Rattle.j39_rules.specs.ListPlaces.{PairAt}
+use Rattle.j39_search.specs.ListPlaces.{PairAt}
 use Rattle.j39_network.specs.Records.{single_signals, stands_once, repeated_signals, record_signals, records_signals, record_count, signals_in}
-use Rattle.j39_rules.proofs.Members.{all_at}
+use Rattle.j39_search.proofs.Members.{all_at}
 use Rattle.j39_network.proofs.RecordCounts.{longer_has, records_counted, singles_alone}
-use Rattle.j39_rules.proofs.Rising.{Rises, Rises-append, AllPairs-from_Rises, all_by_contains}
+use Rattle.j39_search.proofs.Rising.{Rises, Rises-append, AllPairs-from_Rises, all_by_contains}
 
 -- ---- each bit is one signal's
 

@@ -6,7 +6,7 @@ use Rattle.j39_network.specs.PlannedGroups.{HasNoSelectors}
 use Rattle.j39_findings.specs.WithoutSelectors.{IsWithoutSelectors}
 use Rattle.j39_findings.proofs.Pairs.{pair_with}
 use Rattle.j39_network.specs.declared.plan.Plan.{Plan}
-use Rattle.j39_rules.proofs.Members.{all_at}
+use Rattle.j39_search.proofs.Members.{all_at}
 
 pub without_selectors : (plan : Plan) → HasNoSelectors plan → IsWithoutSelectors plan
 without_selectors plan none = record {

@@ -10,7 +10,7 @@ use Rattle.std.specs.Bool.{MatchBool}
 use Rattle.std.specs.List.{count_by, slice_get}
 use Rattle.j39_network.specs.declared.plan.unit_plan.UnitPlan.{UnitPlan}
 use Rattle.j39_findings.specs.Found.{is_shared}
-use Rattle.j39_rules.specs.ListPlaces.{SomeMeets}
+use Rattle.j39_search.specs.ListPlaces.{SomeMeets}
 use Rattle.j39_findings.specs.Standing.{DecidesAtEach, AreTwoThere, IsPlannedThere}
 use Rattle.j39_findings.proofs.WhoStays.{told_by}
 

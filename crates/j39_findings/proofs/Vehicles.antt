@@ -16,7 +16,7 @@ use Rattle.j39_findings.specs.declared.checking.finding.Finding.TheVariants.{Sig
 use Rattle.j39_findings.specs.declared.checking.finding.Finding.TheVariants.{TextOutside, NeedUnmet, RequestUnanswered, RequestUnheard, AnswerAstray}
 use Rattle.j39_findings.specs.declared.checking.finding.Finding.TheVariants.{WhenOutside, RequestRepeated}
 use Rattle.j39_network.specs.declared.steps.Step.{Step}
-use Rattle.j39_rules.specs.ListPlaces.{pairs, PairAt}
+use Rattle.j39_search.specs.ListPlaces.{pairs, PairAt}
 use Rattle.j39_network.specs.Kinds.{MayBeOne, AreDistinctUnits, may_be_one}
 use Rattle.j39_findings.specs.Findings.{Clean, IsAloneInPlan, IsFlowContested}
 use Rattle.j39_network.specs.PlannedUnits.{units_of}
@@ -29,10 +29,10 @@ use Rattle.j39_findings.specs.FoundInVehicles.{AreFoundAlike}
 use Rattle.j39_network.proofs.Boxes.{apart_at}
 use Rattle.j39_network.proofs.Served.{Decides-may_be_one}
 use Rattle.j39_findings.proofs.FoundLaws.{clean_from_none, none_from_clean}
-use Rattle.j39_rules.proofs.Members.{of_pairs}
+use Rattle.j39_search.proofs.Members.{of_pairs}
 use Rattle.j39_network.proofs.VehicleUnits.{AreBoth, both_at, boxes_apart, count_alike, each_alike, ordered, pairs_alike}
 use Rattle.j39_findings.proofs.BoxRules.{boxes_fixed, boxes_silent, box_needs, box_prefers, box_silent}
-use Rattle.j39_rules.proofs.PlaceLemmas.{each_same}
+use Rattle.j39_search.proofs.PlaceLemmas.{each_same}
 use Rattle.j39_network.proofs.StayingBoxes.{outside_alike, outside_back, stay_alike}
 use Rattle.j39_findings.proofs.WhoIsAlone.{alone_by_list, Decides-both, Decides-contested}
 

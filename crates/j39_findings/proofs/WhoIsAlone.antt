@@ -20,12 +20,12 @@ use Rattle.j39_network.specs.declared.plan.unit_plan.UnitPlan.{UnitPlan}
 use Rattle.j39_findings.specs.Findings.{IsAloneInPlan, IsFlowContested}
 use Rattle.j39_findings.specs.declared.checking.finding.Finding.TheVariants.{FlowContested}
 use Rattle.j39_findings.specs.Found.{contested_findings, has_to_move, is_unit_alone, is_contested, is_end_contested, is_receiver_contested, is_shared}
-use Rattle.j39_rules.specs.ListPlaces.{each, SomeMeets}
+use Rattle.j39_search.specs.ListPlaces.{each, SomeMeets}
 use Rattle.j39_network.specs.PlannedUnits.{units_of, unit_at}
 use Rattle.j39_network.specs.Staying.{EachOther, IsFirstThere, Stays}
 use Rattle.j39_findings.specs.Standing.{AreFirsts, DecidesAtEach, AreTwoThere, IsMover, DecidesWhoIsAlone, is_alone_by, is_first_by, is_mover_by}
 use Rattle.j39_network.proofs.Served.{some_decides}
-use Rattle.j39_rules.proofs.PlaceLemmas.{each_same}
+use Rattle.j39_search.proofs.PlaceLemmas.{each_same}
 use Rattle.j39_findings.proofs.WhoStays.{first_told, not_first_told, placed, planned_at, some_come, told_by}
 use Rattle.j39_findings.proofs.SharedAddresses.{shared_told}
 

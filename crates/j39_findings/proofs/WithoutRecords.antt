@@ -4,7 +4,7 @@ use Rattle.std.proofs.lemmas.Option.{none-some}
 use Rattle.j39_network.specs.declared.plan.Plan.{Plan}
 use Rattle.j39_network.specs.Records.{HasNoRecords}
 use Rattle.j39_findings.specs.WithoutRecords.{IsWithoutRecords}
-use Rattle.j39_rules.proofs.Members.{all_at}
+use Rattle.j39_search.proofs.Members.{all_at}
 use Rattle.j39_network.proofs.RecordCounts.{signals_alone}
 
 -- ---- plans without records

@@ -9,12 +9,13 @@ use Rattle.j39_id.specs.Services.{service_groups}
 use Rattle.j39_signal.specs.Places.{Covers, LaysOutFrom, further}
 use Rattle.j39_signal.specs.Selectors.{DifferInValue}
 use Rattle.j39_network.specs.Kinds.{MayBeOne}
-use Rattle.j39_rules.specs.ListPlaces.{ValueAt, SomeMeets}
+use Rattle.j39_search.specs.ListPlaces.{ValueAt, SomeMeets}
 use Rattle.j39_network.specs.Records.{record_count}
 use Rattle.j39_network.specs.TextPlaces.{last_byte}
 use Rattle.j39_network.specs.UnitAddresses.{IsFixed}
 use Rattle.j39_network.specs.PlannedGroups.{IsSelectorInside}
-use Rattle.j39_findings.specs.Findings.{AreNeeded, IsProprietary, AreOneFlow, AreSentTogether, IsAloneInPlan, AskTheSame}
+use Rattle.j39_findings.specs.Findings.{AreNeeded, IsProprietary, AreSentTogether, IsAloneInPlan, AskTheSame}
+use Rattle.j39_network.specs.PlannedFlows.{AreOneFlow}
 use Rattle.j39_network.specs.PlannedFlows.{IsToOne, IsOneFrameToAll, Sends}
 use Rattle.j39_network.specs.Serving.{Meets, IsServed}
 use Rattle.j39_network.specs.declared.plan.Plan.{Plan}

@@ -9,7 +9,7 @@ use Rattle.j39_findings.specs.declared.checking.finding.Finding.TheVariants.{Sam
 use Rattle.j39_network.specs.declared.steps.Step.{Step}
 use Rattle.j39_network.specs.declared.steps.Step.TheVariants.{Up, Give}
 use Rattle.j39_network.specs.Kinds.{MayBeOne, may_be_one}
-use Rattle.j39_rules.specs.ListPlaces.{PairAt}
+use Rattle.j39_search.specs.ListPlaces.{PairAt}
 use Rattle.j39_findings.specs.Findings.{HaveSameFixedAddress}
 use Rattle.j39_findings.specs.Found.{have_same_fixed_address}
 

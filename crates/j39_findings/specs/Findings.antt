@@ -16,8 +16,8 @@ use Rattle.j39_signal.specs.Places.{Covers, WidthFits, IsInside, SharesBit, furt
 use Rattle.j39_network.specs.Kinds.{MayBeOne}
 use Rattle.j39_network.specs.PlannedUnits.{units_of}
 use Rattle.j39_network.specs.Staying.{IsAloneBeside}
-use Rattle.j39_rules.specs.ListPlaces.{ValueAt, PairAt, SomeMeets, SoManyMeet}
-use Rattle.j39_rules.specs.Order.{ComesBefore}
+use Rattle.j39_search.specs.ListPlaces.{ValueAt, PairAt, SomeMeets, SoManyMeet}
+use Rattle.j39_search.specs.Order.{ComesBefore}
 use Rattle.j39_network.specs.Records.{record_count}
 use Rattle.j39_network.specs.SignalPlaces.{room_of_signal}
 use Rattle.j39_network.specs.TextPlaces.{last_byte}
@@ -36,7 +36,7 @@ use Rattle.j39_findings.specs.declared.checking.finding.Finding.TheVariants.{Pri
 use Rattle.j39_findings.specs.declared.checking.finding.Finding.TheVariants.{RequestUnheard, AnswerAstray, WhenOutside, RequestRepeated, SilentAddress}
 use Rattle.j39_findings.specs.declared.checking.finding.Finding.TheVariants.{SilentInPool, FlowContested}
 use Rattle.j39_network.specs.UnitAddresses.{IsFixed, NeedsPoolAddress}
-use Rattle.j39_network.specs.PlannedFlows.{IsOneFrameToAll, MayBeOneFrameToAll, Sends, IsToOne}
+use Rattle.j39_network.specs.PlannedFlows.{IsOneFrameToAll, MayBeOneFrameToAll, Sends, IsToOne, AreOneFlow}
 use Rattle.j39_network.specs.PlannedGroups.{IsSelectorInside}
 use Rattle.j39_network.specs.Serving.{IsServed, IsServedToOne, IsServedToAll, AsksOne, AsksAll, MayNameReceiver, Meets}
 
@@ -109,9 +109,6 @@ CannotGoToOne groups flow = IsToOne flow × ValueAt IsOneFrameToAll groups flow.
 
 abbrev pub GoesToItsSender : FlowPlan → Type 0
 GoesToItsSender flow = flow.to ≡ One flow.sender
-
-abbrev pub AreOneFlow : FlowPlan → FlowPlan → Type 0
-AreOneFlow f h = (f.group ≡ h.group) × (f.sender ≡ h.sender) × (f.to ≡ h.to)
 
 -- ---- signals
 

@@ -17,7 +17,7 @@ use Rattle.j39_signal.specs.Selectors.{differ_in_value, selector_end}
 use Rattle.j39_signal.specs.Parts.{SignalParts}
 use Rattle.j39_signal.specs.Places.{width_fits, is_inside, shares_bit, end_of, further}
 use Rattle.j39_network.specs.Kinds.{may_be_one}
-use Rattle.j39_rules.specs.ListPlaces.{found_if, each, pairs, in_each}
+use Rattle.j39_search.specs.ListPlaces.{found_if, each, pairs, in_each}
 use Rattle.j39_network.specs.Records.{record_count}
 use Rattle.j39_network.specs.SignalPlaces.{room_of_signal}
 use Rattle.j39_network.specs.TextPlaces.{last_byte}
@@ -36,7 +36,7 @@ use Rattle.j39_findings.specs.declared.checking.finding.Finding.TheVariants.{Sig
 use Rattle.j39_findings.specs.declared.checking.finding.Finding.TheVariants.{PrivateUnsent, RecordOverlap, TextOutside, NeedUnmet, RequestUnanswered}
 use Rattle.j39_findings.specs.declared.checking.finding.Finding.TheVariants.{RequestUnheard, AnswerAstray, WhenOutside, RequestRepeated, SilentAddress}
 use Rattle.j39_findings.specs.declared.checking.finding.Finding.TheVariants.{SilentInPool, FlowContested}
-use Rattle.j39_network.specs.Serving.{is_to_one, is_to, serves, is_served, meets}
+use Rattle.j39_network.specs.Serving.{is_to_one, is_to, have_same_receiver, serves, is_served, meets}
 
 -- ---- units
 
@@ -91,10 +91,6 @@ may_be_one_frame_to_all group = is_pdu2 group.pgn && nat_le group.length frame_b
 abbrev pub is_group_of : (GroupPlan → Bool) → Option GroupPlan → Bool
 is_group_of test None = false
 is_group_of test (Some group) = test group
-
-abbrev pub have_same_receiver : To → To → Bool
-have_same_receiver All to = not (is_to_one to)
-have_same_receiver (One receiver) to = is_to to receiver
 
 abbrev pub sends : List GroupPlan → GroupPlan → FlowPlan → Bool
 sends groups group flow = is_group_of (λ sent. bytes_eq sent.label.bytes group.label.bytes) (slice_get groups flow.group)

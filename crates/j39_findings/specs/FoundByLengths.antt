@@ -2,7 +2,7 @@
 use Rattle.std.specs.Prelude.{◌↔◌, ◌⊎◌, ℕ, ◌+◌, ◌<◌, ◌≤◌}
 use Rattle.j39_id.specs.Limits.{frame_bytes}
 use Rattle.j39_id.specs.Pgn.{pdu2_first, pf_of}
-use Rattle.j39_rules.specs.ListPlaces.{ValueAt}
+use Rattle.j39_search.specs.ListPlaces.{ValueAt}
 use Rattle.j39_network.specs.PlannedFlows.{IsToOne}
 use Rattle.j39_findings.specs.Findings.{Holds}
 use Rattle.j39_network.specs.TextPlaces.{last_byte}

@@ -2,7 +2,7 @@
 use Rattle.std.specs.Prelude.{◌≡◌, ◌↔◌, ℕ, not, All}
 use Rattle.std.specs.List.{filter}
 use Rattle.j39_signal.specs.Places.{IsInside}
-use Rattle.j39_rules.specs.ListPlaces.{ValueAt}
+use Rattle.j39_search.specs.ListPlaces.{ValueAt}
 use Rattle.j39_findings.specs.Findings.{Holds}
 use Rattle.j39_network.specs.Records.{single_signals}
 use Rattle.j39_network.specs.declared.plan.Plan.{Plan}

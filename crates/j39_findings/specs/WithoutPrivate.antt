@@ -1,7 +1,7 @@
 -- Plans without private groups are found as if there were none.
 use Rattle.std.specs.Prelude.{◌≡◌, ◌↔◌, ◌⊎◌, ℕ}
 use Rattle.j39_signal.specs.Selectors.{DifferInValue}
-use Rattle.j39_rules.specs.ListPlaces.{ValueAt, PairAt}
+use Rattle.j39_search.specs.ListPlaces.{ValueAt, PairAt}
 use Rattle.j39_findings.specs.Findings.{IsForNoPlan, IsProprietary, Holds}
 use Rattle.j39_network.specs.declared.plan.Plan.{Plan}
 use Rattle.j39_findings.specs.declared.checking.finding.Finding.TheVariants.{BadPgn, SamePgn, PrivateUnsent}

@@ -1,6 +1,6 @@
 -- What is found in plans without groups that are told by their data.
 use Rattle.std.specs.Prelude.{◌≡◌, ◌↔◌, ◌⊎◌, ℕ, false}
-use Rattle.j39_rules.specs.ListPlaces.{PairAt}
+use Rattle.j39_search.specs.ListPlaces.{PairAt}
 use Rattle.j39_findings.specs.Findings.{AreSentTogether, Holds}
 use Rattle.j39_network.specs.declared.plan.Plan.{Plan}
 use Rattle.j39_findings.specs.declared.checking.finding.Finding.TheVariants.{SamePgn, WhenOutside}

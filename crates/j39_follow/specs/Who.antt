@@ -8,7 +8,7 @@ use Rattle.j39_id.specs.declared.frame.Frame.{Frame}
 use Rattle.j39_network.specs.declared.plan.Plan.{Plan}
 use Rattle.j39_network.specs.declared.plan.unit_plan.UnitPlan.{UnitPlan}
 use Rattle.j39_network.specs.Kinds.{kind_of_name}
-use Rattle.j39_rules.specs.ListPlaces.{ValueAt}
+use Rattle.j39_search.specs.ListPlaces.{ValueAt}
 use Rattle.j39_text.specs.Labels.{unit_label}
 use Rattle.j39_text.specs.Texts.{field}
 use Rattle.j39_follow.specs.Holders.{HoldsByFrames, IsHolder, IsNameHeard}

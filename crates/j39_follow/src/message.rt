@@ -28,7 +28,7 @@ pub(crate) fn in_frame(frame: &Frame) -> Arrival<'_>
 }
 
 /// What a message counts as.
-#[derive(Clone, Copy, Debug, PartialEq, Eq)]
+#[derive(Clone, Copy, PartialEq, Eq)]
 pub enum Sort {
     /// Of the group at this place, with the place of its flow.
     Grouped(usize, Option<usize>),

@@ -3,6 +3,7 @@ pub mod FirstFault
 pub mod FrameLine
 pub mod FrameMeaning
 pub mod Ident
+pub mod LabelForm
 pub mod Limits
 pub mod Lines
 pub mod Name

@@ -6,7 +6,7 @@ use crate::addresses::NULL_ADDRESS;
 use std::marker::Model;
 
 /// An address that a unit can hold (SAE J1939-81): 0 to 253. 254 is the null address, 255 the global one.
-#[derive(Clone, Copy, Debug, Default, PartialEq, Eq, PartialOrd, Ord)]
+#[derive(Clone, Copy, Default, PartialEq, Eq, PartialOrd, Ord)]
 pub struct Address {
     number: u8,
 }

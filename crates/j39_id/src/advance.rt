@@ -2,7 +2,7 @@
 use crate::Cut;
 
 /// How far a cutter came in a piece: the first answer that is not More, or More behind a part of it that has none.
-#[derive(Clone, Copy, Debug)]
+#[derive(Clone, Copy)]
 pub struct Advance<'p> {
     pub cut: Cut,
     /// How many bytes of the piece were looked at.

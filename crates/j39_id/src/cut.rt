@@ -1,7 +1,7 @@
 //! What a cutter answers.
 
 /// What a cutter answers to a byte or to the end.
-#[derive(Clone, Copy, Debug, PartialEq, Eq)]
+#[derive(Clone, Copy, PartialEq, Eq)]
 pub enum Cut {
     /// No line ends here.
     More,

@@ -17,7 +17,7 @@ pub const LINE_LIMIT: usize = 8192;
 const LINE_FEED: u8 = b'\n';
 
 // What the bytes of a cutter are.
-#[derive(Clone, Copy, Debug, PartialEq, Eq)]
+#[derive(Clone, Copy, PartialEq, Eq)]
 pub(crate) enum CutterPhase {
     // Those of the line so far.
     Inside,

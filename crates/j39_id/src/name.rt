@@ -8,7 +8,7 @@ use std::marker::Model;
 /// A NAME (SAE J1939-81): 64 bits that tell one unit from every other, ordered by their number.
 ///
 /// The unit with the smaller NAME keeps an address that two of them claim. Every 64-bit number is a NAME.
-#[derive(Clone, Copy, Debug, Default, PartialEq, Eq, PartialOrd, Ord)]
+#[derive(Clone, Copy, Default, PartialEq, Eq, PartialOrd, Ord)]
 pub struct Name {
     number: u64,
 }

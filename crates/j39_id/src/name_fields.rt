@@ -8,7 +8,7 @@ use thiserror::Error;
 ///
 /// `identity` has 21 bits, `manufacturer` 11, `ecu` 3, `function_instance` 5, `function` 8, `reserved` 1, `system` 7,
 /// `system_instance` 4, `industry` 3 and `arbitrary` 1. A value above that range makes no NAME.
-#[derive(Clone, Copy, Debug, PartialEq, Eq)]
+#[derive(Clone, Copy, PartialEq, Eq)]
 pub struct NameFields {
     pub identity: u32,
     pub manufacturer: u16,
@@ -23,7 +23,7 @@ pub struct NameFields {
 }
 
 /// A field of a NAME.
-#[derive(Clone, Copy, Debug, PartialEq, Eq)]
+#[derive(Clone, Copy, PartialEq, Eq)]
 pub enum NameField {
     Identity,
     Manufacturer,

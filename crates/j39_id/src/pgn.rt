@@ -17,7 +17,7 @@ const PGN_END: u32 = 1 << 18;
 ///
 /// A number of 18 bits. In PDU1, where the PF is below `PDU2_FIRST`, the frame names its destination in place of a
 /// group extension, and the low byte is 0.
-#[derive(Clone, Copy, Debug, PartialEq, Eq, PartialOrd, Ord)]
+#[derive(Clone, Copy, PartialEq, Eq, PartialOrd, Ord)]
 pub struct Pgn {
     pub(crate) number: u32,
 }

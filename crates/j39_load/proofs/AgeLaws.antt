@@ -34,7 +34,7 @@ use Rattle.j39_load.proofs.LeastKnown.{least_of_both}
 use Rattle.j39_load.proofs.StreamsBefore.{none_of_two, told_nothing}
 use Rattle.j39_timing.proofs.Ages.{fresh}
 use Rattle.j39_timing.specs.FreshFrames.{IsFresh}
-use Rattle.j39_rules.specs.ListPlaces.{SomeMeets}
+use Rattle.j39_search.specs.ListPlaces.{SomeMeets}
 
 -- ---- the least of some numbers
 

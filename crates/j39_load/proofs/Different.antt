@@ -9,7 +9,7 @@ use Rattle.j39_id.specs.Ident.{identifier_of}
 use Rattle.j39_id.specs.Pgn.{is_pdu2, pf_of}
 use Rattle.j39_findings.specs.CleanParts.{CanBePlanned}
 use Rattle.j39_findings.specs.Findings.{Clean}
-use Rattle.j39_rules.specs.ListPlaces.{SomeMeets}
+use Rattle.j39_search.specs.ListPlaces.{SomeMeets}
 use Rattle.j39_network.specs.PrivateGroups.{Fits}
 use Rattle.j39_signal.specs.Selectors.{DifferInValue}
 use Rattle.j39_signal.specs.declared.selector.Selector.{Selector}

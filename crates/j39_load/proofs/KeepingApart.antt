@@ -24,7 +24,7 @@ use Rattle.j39_network.specs.declared.plan.timing.Timing.{Timing}
 use Rattle.j39_network.specs.declared.plan.to.To.{To}
 use Rattle.j39_network.specs.declared.plan.to.To.TheVariants.{All, One}
 use Rattle.j39_network.specs.declared.plan.unit_plan.UnitPlan.{UnitPlan}
-use Rattle.j39_rules.proofs.Members.{all_at}
+use Rattle.j39_search.proofs.Members.{all_at}
 use Rattle.j39_load.specs.KeepsErrors.{KeepsErrors, KeepsErrorsInAnyOrder, begins_within, planned_with}
 use Rattle.j39_load.specs.KeepsPlan.{CanBeKept, KeepsQueues, KeepsToPlan}
 use Rattle.j39_load.specs.KeptTogether.{CanBeKeptTogether}

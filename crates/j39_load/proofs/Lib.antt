@@ -42,7 +42,6 @@ pub mod ToldBytes
 pub mod TurnTimes
 pub mod ValuesInTime
 pub mod Vehicles
-pub mod WantedMemory
 pub mod WantedPlaces
 pub mod WholeMessages
 pub mod WithoutFlows

@@ -19,7 +19,7 @@ use Rattle.j39_network.specs.declared.plan.to.To.{To}
 use Rattle.j39_network.specs.declared.plan.to.To.TheVariants.{All as ToAll, One}
 use Rattle.j39_network.specs.declared.plan.unit_plan.UnitPlan.{UnitPlan}
 use Rattle.j39_load.specs.Loads.{destination_at, greatest_address, least_address, may_move, of_unit}
-use Rattle.j39_rules.proofs.Members.{all_at}
+use Rattle.j39_search.proofs.Members.{all_at}
 use Rattle.j39_load.specs.Ranks.{AreHeldByPlan, AreUnitsPlanned, LieBetween, RequestLiesBetween}
 use Rattle.j39_findings.specs.Standing.{DecidesWhoStays}
 use Rattle.j39_findings.proofs.WhoStays.{placed}

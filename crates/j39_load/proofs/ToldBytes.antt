@@ -10,7 +10,7 @@ use Rattle.j39_signal.specs.Places.{Covers}
 use Rattle.j39_signal.specs.Selectors.{is_selected, selector_end}
 use Rattle.j39_signal.specs.declared.selector.Selector.{Selector}
 use Rattle.j39_findings.specs.Findings.{Clean}
-use Rattle.j39_rules.specs.ListPlaces.{ValueAt}
+use Rattle.j39_search.specs.ListPlaces.{ValueAt}
 use Rattle.j39_network.specs.PrivateGroups.{CanBe}
 use Rattle.j39_network.specs.Records.{signals_in}
 use Rattle.j39_network.specs.declared.plan.Plan.{Plan}

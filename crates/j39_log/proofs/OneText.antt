@@ -9,7 +9,7 @@ use Rattle.j39_id.specs.Services.{connection_management, data_transfer}
 use Rattle.j39_id.specs.declared.frame.Frame.{Frame}
 use Rattle.j39_id.specs.declared.ident.Ident.{Ident}
 use Rattle.j39_id.specs.declared.line_error.LineError.{LineError}
-use Rattle.j39_rules.specs.ListPlaces.{ValueAt}
+use Rattle.j39_search.specs.ListPlaces.{ValueAt}
 use Rattle.j39_signal.proofs.LaidOut.{no_fault}
 use Rattle.j39_network.specs.PlannedGroups.{IsSendable, IsRefusedGroup, IsFirstRefused}
 use Rattle.j39_network.specs.declared.plan.Plan.{Plan}

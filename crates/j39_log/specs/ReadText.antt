@@ -6,7 +6,7 @@ use Rattle.j39_id.specs.declared.frame.Frame.{Frame}
 use Rattle.j39_id.specs.declared.ident.Ident.{Ident}
 use Rattle.j39_id.specs.declared.line_error.LineError.{LineError}
 use Rattle.j39_id.specs.declared.line_error.LineError.TheVariants.{Empty, ShortIdent}
-use Rattle.j39_rules.specs.ListPlaces.{ValueAt}
+use Rattle.j39_search.specs.ListPlaces.{ValueAt}
 use Rattle.j39_network.specs.PlannedGroups.{IsSendable, IsFirstRefused}
 use Rattle.j39_network.specs.declared.plan.Plan.{Plan}
 use Rattle.j39_tp.specs.Carried.{Carried}

@@ -7,7 +7,7 @@ use j39_text::TextBuffer;
 use std::alloc::AllocError;
 
 /// How many lines of a log there are of each sort. A line without a word is of none.
-#[derive(Clone, Copy, Debug, PartialEq, Eq)]
+#[derive(Clone, Copy, PartialEq, Eq)]
 pub struct LineCounts {
     /// Those that are read as frames.
     pub frames: u64,

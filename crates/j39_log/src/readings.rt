@@ -1,6 +1,6 @@
 //! What a group of a plan reads in bytes.
 ghost use Rattle.std.specs.Prelude.{◌≡◌, ◌≤◌, ◌++◌, length, OnOk};
-ghost use Rattle.j39_rules.specs.ListPlaces.{ValueAt};
+ghost use Rattle.j39_search.specs.ListPlaces.{ValueAt};
 ghost use Rattle.j39_network.specs.declared.plan.group_plan.GroupPlan.{GroupPlan as APlannedGroup};
 ghost use Rattle.j39_log.specs.NamedReports.{named_reading_lines};
 

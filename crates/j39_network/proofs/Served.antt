@@ -4,7 +4,7 @@ use Rattle.std.specs.List.{list_any}
 use Rattle.std.proofs.lemmas.Bool.{false≢true}
 use Rattle.std.proofs.lemmas.Bool.Decides.{Decides-eqb, Decides-and, Decides-or, Decides-not, Decides-like}
 use Rattle.std.proofs.lemmas.Option.{none-some, same_Some}
-use Rattle.j39_rules.specs.ListPlaces.{SomeMeets}
+use Rattle.j39_search.specs.ListPlaces.{SomeMeets}
 use Rattle.j39_network.specs.declared.plan.unit_plan.UnitPlan.{UnitPlan}
 use Rattle.j39_network.specs.declared.plan.flow_plan.FlowPlan.{FlowPlan}
 use Rattle.j39_network.specs.declared.plan.need_plan.NeedPlan.{NeedPlan}
@@ -12,7 +12,7 @@ use Rattle.j39_network.specs.declared.plan.request_plan.RequestPlan.{RequestPlan
 use Rattle.j39_network.specs.declared.plan.to.To.{To}
 use Rattle.j39_network.specs.declared.plan.to.To.TheVariants.{All, One}
 use Rattle.j39_network.specs.Kinds.{kind_of_name, MayBeOne, may_be_one}
-use Rattle.j39_network.specs.Serving.{Meets, Serves, IsServed, IsAskedFor, is_to_one, is_to, is_from, is_reached, meets, serves, is_served, is_asked_for}
+use Rattle.j39_network.specs.Serving.{Meets, Serves, IsServed, IsAskedFor, is_to_one, is_to, have_same_receiver, is_from, is_reached, meets, serves, is_served, is_asked_for}
 
 -- ---- units
 
@@ -34,6 +34,11 @@ Decides-is_to_one (One receiver) = (λ e. (receiver, refl), λ h. refl)
 pub Decides-is_to : (to : To) (unit : ℕ) → Decides (is_to to unit) (to ≡ One unit)
 Decides-is_to All unit = (λ e. absurd (false≢true e), λ e. cc)
 Decides-is_to (One receiver) unit = Decides-like _ (λ e. cc) (λ e. cc) (Decides-eqb receiver unit)
+
+pub Decides-have_same_receiver : (to other : To) → Decides (have_same_receiver to other) (to ≡ other)
+Decides-have_same_receiver All All = (λ e. refl, λ e. refl)
+Decides-have_same_receiver All (One receiver) = (λ e. absurd (false≢true e), λ e. cc)
+Decides-have_same_receiver (One receiver) other = Decides-like _ (λ e. sym e) (λ e. sym e) (Decides-is_to other receiver)
 
 -- the first value meets P, or one behind it
 some_from : {A : Type 0} (P : A → Type 0) (x : A) (xs : List A) → P x ⊎ SomeMeets P xs → SomeMeets P (x ∷ xs)

@@ -8,7 +8,7 @@ use Rattle.std.proofs.lemmas.List.Sums.{sum_by-cons}
 use Rattle.j39_id.specs.Name.{is_arbitrary}
 use Rattle.j39_network.specs.declared.plan.Plan.{Plan}
 use Rattle.j39_network.specs.declared.plan.unit_plan.UnitPlan.{UnitPlan}
-use Rattle.j39_rules.specs.ListPlaces.{found_if, in_each, each, pairs}
+use Rattle.j39_search.specs.ListPlaces.{found_if, in_each, each, pairs}
 use Rattle.j39_network.specs.Kinds.{AreDistinctUnits}
 use Rattle.j39_network.specs.VehiclePlans.{IsBoxOf, IsVehicleOf}
 use Rattle.j39_network.proofs.Boxes.{AreOrderedAlike, apart_at, same_choice, same_order}

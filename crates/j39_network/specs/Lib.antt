@@ -1,5 +1,4 @@
 pub mod Kinds
-pub mod LabelForm
 pub mod Lengths
 pub mod NeedPlaces
 pub mod Needs

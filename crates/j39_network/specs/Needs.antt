@@ -1,6 +1,6 @@
 -- What the needs of a plan have.
 use Rattle.std.specs.Prelude.{All}
-use Rattle.j39_rules.specs.ListPlaces.{SomeMeets}
+use Rattle.j39_search.specs.ListPlaces.{SomeMeets}
 use Rattle.j39_network.specs.Serving.{Meets}
 use Rattle.j39_network.specs.declared.plan.Plan.{Plan}
 

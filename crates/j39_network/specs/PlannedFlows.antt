@@ -2,7 +2,7 @@
 use Rattle.std.specs.Prelude.{◌≡◌, ℕ, ◌≤◌, List}
 use Rattle.j39_id.specs.Limits.{frame_bytes}
 use Rattle.j39_id.specs.Pgn.{pdu2_first, pf_of}
-use Rattle.j39_rules.specs.ListPlaces.{ValueAt}
+use Rattle.j39_search.specs.ListPlaces.{ValueAt}
 use Rattle.j39_network.specs.declared.plan.group_plan.GroupPlan.{GroupPlan}
 use Rattle.j39_network.specs.declared.plan.flow_plan.FlowPlan.{FlowPlan}
 use Rattle.j39_network.specs.declared.plan.to.To.TheVariants.{One}
@@ -25,3 +25,7 @@ Sends groups group flow = ValueAt (λ sent. sent.label.bytes ≡ group.label.byt
 
 abbrev pub IsToOne : FlowPlan → Type 0
 IsToOne flow = (receiver : ℕ) × (flow.to ≡ One receiver)
+
+-- they send one group from one unit to the same receivers
+abbrev pub AreOneFlow : FlowPlan → FlowPlan → Type 0
+AreOneFlow f h = (f.group ≡ h.group) × (f.sender ≡ h.sender) × (f.to ≡ h.to)

@@ -6,7 +6,7 @@ use Rattle.j39_signal.specs.Places.{IsAlwaysInside, LaysOutFrom}
 use Rattle.j39_signal.specs.Refusals.{HasLayoutFault}
 use Rattle.j39_signal.specs.declared.layout_error.LayoutError.{LayoutError}
 use Rattle.j39_signal.specs.declared.layout_error.LayoutError.TheVariants.{Memory as NoMemory}
-use Rattle.j39_rules.specs.ListPlaces.{ValueAt}
+use Rattle.j39_search.specs.ListPlaces.{ValueAt}
 use Rattle.j39_network.specs.declared.plan.group_plan.GroupPlan.{GroupPlan}
 use Rattle.j39_network.specs.declared.planned_groups.GroupFault.{GroupFault}
 use Rattle.j39_network.specs.declared.planned_groups.GroupFault.TheVariants.{Refused, Memory}

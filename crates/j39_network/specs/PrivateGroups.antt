@@ -1,7 +1,7 @@
 -- Private groups: whose a message is.
 use Rattle.std.specs.Prelude.{◌≡◌, ◌⊎◌, ℕ, true, false, List, All as AllOf}
 use Rattle.j39_signal.specs.Selectors.{is_selected}
-use Rattle.j39_rules.specs.ListPlaces.{ValueAt, SomeMeets}
+use Rattle.j39_search.specs.ListPlaces.{ValueAt, SomeMeets}
 use Rattle.j39_network.specs.PlannedFlows.{MayBeOneFrameToAll, IsToOne, Sends}
 use Rattle.j39_network.specs.declared.plan.Plan.{Plan}
 use Rattle.j39_network.specs.declared.plan.group_plan.GroupPlan.{GroupPlan}

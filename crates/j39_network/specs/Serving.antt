@@ -1,6 +1,6 @@
 -- Which flows answer a request, and which bring a unit what it needs (SAE J1939-21, requests).
 use Rattle.std.specs.Prelude.{◌≡◌, ◌≢◌, ℕ, ◌⊎◌, List, Some, true, Bool, false, not, ◌&&◌, ◌||◌, ◌==◌, Option, None}
-use Rattle.j39_rules.specs.ListPlaces.{ValueAt, SomeMeets}
+use Rattle.j39_search.specs.ListPlaces.{ValueAt, SomeMeets}
 use Rattle.j39_network.specs.declared.plan.group_plan.GroupPlan.{GroupPlan}
 use Rattle.j39_network.specs.declared.plan.flow_plan.FlowPlan.{FlowPlan}
 use Rattle.j39_network.specs.declared.plan.need_plan.NeedPlan.{NeedPlan}
@@ -64,6 +64,10 @@ is_to_one (One receiver) = true
 abbrev pub is_to : To → ℕ → Bool
 is_to All unit = false
 is_to (One receiver) unit = receiver == unit
+
+abbrev pub have_same_receiver : To → To → Bool
+have_same_receiver All to = not (is_to_one to)
+have_same_receiver (One receiver) to = is_to to receiver
 
 abbrev pub is_reached : To → ℕ → Bool
 is_reached to unit = not (is_to_one to) || is_to to unit

@@ -39,7 +39,7 @@ pub use way::Way;
 /// from
 /// 0.
 /// No two units have one label, and no two groups.
-#[derive(Debug, Drop)]
+#[derive(Drop)]
 pub struct Plan {
     /// Addresses of 128 to 247 that no arbitrary unit may hold.
     pub keep_free: AddressSet,

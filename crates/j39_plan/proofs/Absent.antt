@@ -11,9 +11,9 @@ use Rattle.j39_plan.specs.declared.reading.key.Key.{Key}
 use Rattle.j39_plan.specs.PlanErrors.{PlanFault}
 use Rattle.j39_plan.specs.declared.reading.place.Table.{Table}
 use Rattle.j39_plan.specs.Words.{word_of}
-use Rattle.j39_tables.specs.Outcome.{first}
-use Rattle.j39_tables.specs.TableFaults.{is_key_word, has_only, unknown_faults}
-use Rattle.j39_tables.specs.InOrder.{inside, each_faults, Each}
+use Rattle.j39_toml.specs.Outcome.{first}
+use Rattle.j39_toml.specs.TableFaults.{is_key_word, has_only, unknown_faults}
+use Rattle.j39_toml.specs.InOrder.{inside, each_faults, Each}
 use Rattle.j39_plan.specs.Schema.{has_key}
 use Rattle.j39_plan.specs.Versions.{Lacks, EachTable}
 

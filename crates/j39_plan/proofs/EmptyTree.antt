@@ -1,8 +1,8 @@
 -- No room is asked for of an empty tree: the version is missing in it.
 use Rattle.std.proofs.Common.{◌≢◌, []}
 use Rattle.toml.specs.Data.{no_members}
-use Rattle.j39_tables.specs.Rules.{number_of}
-use Rattle.j39_tables.specs.TableFaults.{unknown_faults, key_faults}
+use Rattle.j39_toml.specs.Rules.{number_of}
+use Rattle.j39_toml.specs.TableFaults.{unknown_faults, key_faults}
 use Rattle.j39_plan.specs.PlanFaults.{top_faults, version_of}
 use Rattle.j39_plan.specs.Growing.{PlanGrows}
 

@@ -10,11 +10,11 @@ use Rattle.j39_plan.specs.declared.reading.place.Table.{Table}
 use Rattle.j39_plan.specs.declared.reading.place.Table.TheVariants as at
 use Rattle.j39_plan.specs.Words.{word_of}
 use Rattle.j39_plan.specs.Schema.{has_key, given_number}
-use Rattle.j39_tables.specs.Rules.{natural, standing, number_of, flag_of, table_found, number_found, integer_in, truth}
+use Rattle.j39_toml.specs.Rules.{natural, standing, number_of, flag_of, table_found, number_found, integer_in, truth}
 use Rattle.j39_plan.specs.ValueCauses.{is_bitrate, bitrate_of_bus}
-use Rattle.j39_tables.specs.TableFaults.{standing_cause, key_faults, is_key_word}
+use Rattle.j39_toml.specs.TableFaults.{standing_cause, key_faults, is_key_word}
 use Rattle.j39_plan.specs.Since.{versioned_faults}
-use Rattle.j39_tables.specs.InOrder.{inside}
+use Rattle.j39_toml.specs.InOrder.{inside}
 use Rattle.j39_plan.specs.FlowTables.{period_rule, given_period, jitter_rule, jitter_most, jitter_of, pause_rule, on_request_rule, on_request_of, flow_rules}
 use Rattle.j39_plan.specs.FlowTables.{flow_table_faults, flow_faults}
 use Rattle.j39_plan.specs.TimingTables.{bitrate_of, bitrate_rule, unplanned_priority_rule, transport_priority_rule, gap_rule, gap_most_rule, errors_rule}

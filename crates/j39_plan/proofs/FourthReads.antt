@@ -8,11 +8,11 @@ use Rattle.j39_plan.specs.declared.reading.key.Key.{Key}
 use Rattle.j39_plan.specs.declared.reading.key.Key.TheVariants as key
 use Rattle.j39_plan.specs.declared.reading.place.Table.TheVariants as at
 use Rattle.j39_plan.specs.Words.{word_of}
-use Rattle.j39_tables.specs.Rules.{number_of, flag_of, array_found, integer_in, truth, array_up_to}
+use Rattle.j39_toml.specs.Rules.{number_of, flag_of, array_found, integer_in, truth, array_up_to}
 use Rattle.j39_plan.specs.Schema.{table_of, tables_of}
-use Rattle.j39_tables.specs.TableFaults.{key_faults, is_key_word, has_only}
+use Rattle.j39_toml.specs.TableFaults.{key_faults, is_key_word, has_only}
 use Rattle.j39_plan.specs.Since.{known_faults}
-use Rattle.j39_tables.specs.InOrder.{each_faults, inside}
+use Rattle.j39_toml.specs.InOrder.{each_faults, inside}
 use Rattle.j39_plan.specs.LabelsSeen.{label_in}
 use Rattle.j39_plan.specs.UnitTables.{IsUnitOf, unit_faults, unit_label_in}
 use Rattle.j39_plan.specs.GroupTables.{IsGroupOf, group_faults}

@@ -12,11 +12,11 @@ use Rattle.j39_plan.specs.declared.reading.place.Table.{Table}
 use Rattle.j39_plan.specs.declared.reading.place.Table.TheVariants as at
 use Rattle.j39_plan.specs.declared.reading.text_kind.TextKind.TheVariants as texts
 use Rattle.j39_plan.specs.Words.{word_of}
-use Rattle.j39_tables.specs.Rules.{flag_of, number_of, text_of, truth, text_where}
+use Rattle.j39_toml.specs.Rules.{flag_of, number_of, text_of, truth, text_where}
 use Rattle.j39_plan.specs.Schema.{has_key, table_of}
-use Rattle.j39_tables.specs.TableFaults.{key_faults, table_only_faults, is_key_word}
+use Rattle.j39_toml.specs.TableFaults.{key_faults, table_only_faults, is_key_word}
 use Rattle.j39_plan.specs.Since.{versioned_faults}
-use Rattle.j39_tables.specs.InOrder.{inside}
+use Rattle.j39_toml.specs.InOrder.{inside}
 use Rattle.j39_plan.specs.LabelsSeen.{repeated_faults}
 use Rattle.j39_plan.specs.UnitTables.{any_identity_of, lacks_identity, name_faults, name_fields_of, name_of, name_rule}
 use Rattle.j39_plan.specs.UnitTables.{claims_rule, claims_of, queue_rule, queue_of, unit_rules, unit_label_in, unit_table_faults, unit_faults}

@@ -9,7 +9,7 @@ use Rattle.std.specs.Option.{option_or}
 use Rattle.std.specs.Ordering.{nat_cmp}
 use Rattle.toml.specs.Data.{Data, Items, no_items, item}
 use Rattle.j39_id.specs.Addresses.{in_pool}
-use Rattle.j39_tables.specs.declared.cause.Cause.{Cause}
+use Rattle.j39_toml.specs.declared.cause.Cause.{Cause}
 use Rattle.j39_plan.specs.ValueCauses.{number_in, numbers_in, address_cause, addresses_cause}
 
 -- addresses of the pool alone

@@ -7,9 +7,9 @@ use Rattle.j39_plan.specs.declared.reading.key.Key.TheVariants as key
 use Rattle.j39_plan.specs.declared.reading.place.Table.TheVariants as at
 use Rattle.j39_plan.specs.declared.reading.version.Version.TheVariants.{Second, Third, Fourth}
 use Rattle.j39_plan.specs.Words.{word_of}
-use Rattle.j39_tables.specs.Rules.{natural, number_of, integer_in}
-use Rattle.j39_tables.specs.TableFaults.{standing_cause, key_faults}
-use Rattle.j39_tables.specs.InOrder.{Each}
+use Rattle.j39_toml.specs.Rules.{natural, number_of, integer_in}
+use Rattle.j39_toml.specs.TableFaults.{standing_cause, key_faults}
+use Rattle.j39_toml.specs.InOrder.{Each}
 use Rattle.j39_plan.specs.PlanFaults.{version_rule, version_of}
 use Rattle.j39_plan.proofs.NoFaults.{Each-weaken}
 

@@ -1,6 +1,6 @@
 -- What follows where a list of faults is empty.
 use Rattle.std.proofs.Common.{is_some, Some, None}
-use Rattle.j39_tables.specs.declared.cause.Cause.TheVariants.{TooMany}
+use Rattle.j39_toml.specs.declared.cause.Cause.TheVariants.{TooMany}
 use Rattle.std.proofs.Common.{◌≡◌, ◌≢◌, ℕ, ◌≤◌, Bool, true, false, ◌&&◌, if◌then◌else◌, List, []}
 use Rattle.std.proofs.Common.{◌∷◌, ◌++◌, length, map, All, AllPairs, refl, ap, append_assoc, arith, suc, nat_le}
 use Rattle.std.proofs.lemmas.Bool.{leb-true, or_parts}
@@ -17,8 +17,8 @@ use Rattle.j39_plan.specs.declared.reading.place.Table.{Table}
 use Rattle.j39_plan.specs.declared.reading.text_kind.TextKind.{TextKind}
 use Rattle.j39_plan.specs.TextKinds.{takes}
 use Rattle.j39_plan.specs.Schema.{tables, tables_of}
-use Rattle.j39_tables.specs.Rules.{items_count, array_up_to}
-use Rattle.j39_tables.specs.InOrder.{each_faults, Each, labels_of}
+use Rattle.j39_toml.specs.Rules.{items_count, array_up_to}
+use Rattle.j39_toml.specs.InOrder.{each_faults, Each, labels_of}
 use Rattle.j39_plan.specs.LabelsSeen.{is_label_among, repeated_faults}
 
 pub none_left : (xs ys : List PlanFault) → xs ++ ys ≡ [] → xs ≡ []

@@ -12,13 +12,13 @@ use Rattle.std.proofs.lemmas.Str.Parse.{IsNumeralModel, numerals_by_value, parse
 use Rattle.toml.specs.Data.{Data, Members, member, as_str}
 use Rattle.toml.specs.declared.value.Value.{Value}
 use Rattle.toml.specs.View.{members_view, view}
-use Rattle.j39_network.specs.LabelForm.{is_label}
+use Rattle.j39_id.specs.LabelForm.{is_label}
 use Rattle.j39_plan.specs.ValueCauses.{members_count, has_labels, has_numbers, has_texts, is_decimal, is_number_below, names_cause}
 use Rattle.j39_network.specs.PlanLimits.{value_limit}
 use Rattle.j39_network.specs.declared.plan.meaning.ValueName.{ValueName}
 use Rattle.j39_plan.specs.MeaningTables.{AreValueNames}
-use Rattle.j39_tables.specs.declared.cause.Cause.{Cause}
-use Rattle.j39_tables.specs.declared.cause.Cause.TheVariants.{TooMany}
+use Rattle.j39_toml.specs.declared.cause.Cause.{Cause}
+use Rattle.j39_toml.specs.declared.cause.Cause.TheVariants.{TooMany}
 
 pub are_digits_view : (bytes : List ℕ) → all_ascii_digits bytes ≡ list_all is_ascii_digit bytes
 are_digits_view [] = refl

@@ -18,9 +18,9 @@ use Rattle.j39_network.specs.declared.plan.timing.ErrorRate.{ErrorRate}
 use Rattle.j39_network.specs.declared.plan.timing.Timing.{Timing}
 use Rattle.j39_plan.specs.declared.reading.version.Version.{Version}
 use Rattle.j39_plan.specs.PlanErrors.{PlanFault, PlanError}
-use Rattle.j39_tables.specs.declared.file_error.FileError.TheVariants as errors
-use Rattle.j39_tables.specs.InOrder.{Each, inside}
-use Rattle.j39_tables.specs.Outcome.{first}
+use Rattle.j39_toml.specs.declared.file_error.FileError.TheVariants as errors
+use Rattle.j39_toml.specs.InOrder.{Each, inside}
+use Rattle.j39_toml.specs.Outcome.{first}
 use Rattle.j39_plan.specs.UnitTables.{IsUnitOf}
 use Rattle.j39_signal.specs.declared.selector.Selector.{Selector}
 use Rattle.j39_plan.specs.SelectorTables.{DescribesWhen, when_table}

@@ -10,7 +10,7 @@ use Rattle.j39_plan.specs.declared.reading.version.Version.TheVariants.{First, S
 use Rattle.j39_plan.specs.declared.reading.key.Key.TheVariants as key
 use Rattle.j39_plan.specs.Words.{word_of}
 use Rattle.j39_plan.specs.Schema.{has_key}
-use Rattle.j39_tables.specs.Rules.{number_of}
+use Rattle.j39_toml.specs.Rules.{number_of}
 use Rattle.j39_plan.specs.UnitTables.{identity_rule, lacks_identity, name_fields_of}
 
 none_there : (o : Option Data) → not (is_some o) ≡ true → o ≡ None

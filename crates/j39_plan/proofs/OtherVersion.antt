@@ -13,8 +13,8 @@ use Rattle.j39_plan.specs.declared.reading.key.Key.TheVariants as key
 use Rattle.j39_plan.specs.declared.reading.place.Table.{Table}
 use Rattle.j39_plan.specs.Words.{word_of}
 use Rattle.j39_plan.specs.Schema.{PlanRule, table_of, tables_of, addresses_of}
-use Rattle.j39_tables.specs.Rules.{natural, standing, number_of, table_found, array_found}
-use Rattle.j39_tables.specs.TableFaults.{has_only, key_faults}
+use Rattle.j39_toml.specs.Rules.{natural, standing, number_of, table_found, array_found}
+use Rattle.j39_toml.specs.TableFaults.{has_only, key_faults}
 use Rattle.j39_plan.specs.PlanFaults.{version_rule}
 use Rattle.j39_plan.specs.Versions.{with_version}
 

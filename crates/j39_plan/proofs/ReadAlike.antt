@@ -4,8 +4,8 @@ use Rattle.std.proofs.lemmas.Option.{same_Some, none-some}
 use Rattle.toml.specs.Data.{Members}
 use Rattle.j39_network.specs.declared.plan.Plan.{Plan}
 use Rattle.j39_plan.specs.PlanErrors.{PlanError}
-use Rattle.j39_tables.specs.declared.file_error.FileError.TheVariants as errors
-use Rattle.j39_tables.specs.Outcome.{first}
+use Rattle.j39_toml.specs.declared.file_error.FileError.TheVariants as errors
+use Rattle.j39_toml.specs.Outcome.{first}
 use Rattle.j39_plan.specs.PlanFaults.{faults}
 use Rattle.j39_plan.specs.Described.{DescribesPlan, Described, Reads}
 use Rattle.j39_plan.specs.Versions.{ReadAlike}

@@ -12,8 +12,8 @@ use Rattle.j39_plan.specs.declared.reading.version.Version.TheVariants.{First, S
 use Rattle.j39_plan.specs.declared.reading.place.Table.TheVariants as at
 use Rattle.j39_plan.specs.declared.reading.text_kind.TextKind.TheVariants as texts
 use Rattle.j39_plan.specs.declared.reading.key.Key.TheVariants as key
-use Rattle.j39_tables.specs.Rules.{items_count}
-use Rattle.j39_tables.specs.InOrder.{each_faults, Each, labels_of, EachGrows}
+use Rattle.j39_toml.specs.Rules.{items_count}
+use Rattle.j39_toml.specs.InOrder.{each_faults, Each, labels_of, EachGrows}
 use Rattle.j39_plan.specs.LabelsSeen.{is_label_among, label_in}
 use Rattle.j39_plan.specs.SignalTables.{IsMeaningOf, IsSignalOf, IsFit, signal_faults}
 use Rattle.j39_plan.specs.Growing.{SignalGrows}

@@ -12,10 +12,10 @@ use Rattle.j39_network.specs.declared.plan.group_plan.GroupPlan.{GroupPlan}
 use Rattle.j39_network.specs.declared.plan.need_plan.NeedPlan.{NeedPlan}
 use Rattle.j39_plan.specs.declared.reading.version.Version.{Version}
 use Rattle.j39_plan.specs.declared.reading.version.Version.TheVariants.{First, Second, Third, Fourth}
-use Rattle.j39_tables.specs.InOrder.{Each, inside}
+use Rattle.j39_toml.specs.InOrder.{Each, inside}
 use Rattle.j39_plan.specs.LabelsSeen.{label_in}
 use Rattle.j39_plan.specs.Schema.{tables_of}
-use Rattle.j39_tables.specs.Rules.{items_count}
+use Rattle.j39_toml.specs.Rules.{items_count}
 use Rattle.j39_plan.specs.SignalTables.{IsSignalOf}
 use Rattle.j39_plan.specs.GroupTables.{IsGroupOf, signal_rule}
 use Rattle.j39_plan.specs.declared.reading.key.Key.TheVariants as key

@@ -13,7 +13,7 @@ use Rattle.j39_network.specs.declared.plan.group_plan.GroupPlan.{GroupPlan}
 use Rattle.j39_plan.specs.declared.reading.version.Version.{Version}
 use Rattle.j39_plan.specs.declared.reading.place.Table.TheVariants as at
 use Rattle.j39_plan.specs.declared.reading.text_kind.TextKind.TheVariants as texts
-use Rattle.j39_tables.specs.InOrder.{each_faults, Each, labels_of}
+use Rattle.j39_toml.specs.InOrder.{each_faults, Each, labels_of}
 use Rattle.j39_plan.specs.LabelsSeen.{is_label_among, label_in}
 use Rattle.j39_plan.specs.UnitTables.{IsUnitOf, unit_label_in, unit_faults}
 use Rattle.j39_plan.specs.GroupTables.{IsGroupOf, group_faults}

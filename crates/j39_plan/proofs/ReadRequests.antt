@@ -9,8 +9,8 @@ use Rattle.j39_network.specs.declared.plan.group_plan.GroupPlan.{GroupPlan}
 use Rattle.j39_network.specs.declared.plan.request_plan.RequestPlan.{RequestPlan}
 use Rattle.j39_plan.specs.declared.reading.version.Version.{Version}
 use Rattle.j39_plan.specs.declared.reading.version.Version.TheVariants.{First, Second, Third, Fourth}
-use Rattle.j39_tables.specs.InOrder.{Each}
-use Rattle.j39_tables.specs.Rules.{items_count}
+use Rattle.j39_toml.specs.InOrder.{Each}
+use Rattle.j39_toml.specs.Rules.{items_count}
 use Rattle.j39_plan.specs.declared.reading.key.Key.TheVariants as key
 use Rattle.j39_plan.specs.PlanFaults.{request_tables_of}
 use Rattle.j39_plan.specs.RequestTables.{IsRequestOf}

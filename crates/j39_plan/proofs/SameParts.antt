@@ -8,8 +8,8 @@ use Rattle.j39_network.specs.declared.plan.group_plan.GroupPlan.{GroupPlan}
 use Rattle.j39_network.specs.declared.plan.flow_plan.FlowPlan.{FlowPlan}
 use Rattle.j39_network.specs.declared.plan.meaning.Meaning.{Meaning}
 use Rattle.j39_network.specs.declared.plan.timing.Timing.{Timing}
-use Rattle.j39_tables.specs.Rules.{number_of, text_of}
-use Rattle.j39_tables.specs.InOrder.{inside, Each}
+use Rattle.j39_toml.specs.Rules.{number_of, text_of}
+use Rattle.j39_toml.specs.InOrder.{inside, Each}
 use Rattle.j39_plan.specs.declared.reading.version.Version.{Version}
 use Rattle.j39_plan.specs.Schema.{tables_of}
 use Rattle.j39_plan.specs.UnitTables.{name_of, any_identity_of, queue_of, claims_of, IsUnitOf}

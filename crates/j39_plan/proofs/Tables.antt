@@ -9,7 +9,7 @@ use Rattle.j39_plan.specs.declared.reading.key.Key.{Key}
 use Rattle.j39_plan.specs.declared.reading.version.Version.{Version}
 use Rattle.j39_plan.specs.Since.{is_known, is_known_word, known_keys}
 use Rattle.j39_plan.specs.Words.{word_of}
-use Rattle.j39_tables.specs.TableFaults.{is_key_word, has_only}
+use Rattle.j39_toml.specs.TableFaults.{is_key_word, has_only}
 
 -- a key that a version knows, looked for among all keys of the table
 known_word : (version : Version) (keys : List (Key × Version)) (name : List ℕ)

@@ -9,16 +9,16 @@ use Rattle.j39_network.specs.declared.plan.group_plan.GroupPlan.{GroupPlan}
 use Rattle.j39_plan.specs.declared.reading.version.Version.TheVariants.{Second, Third}
 use Rattle.j39_plan.specs.declared.reading.key.Key.{Key}
 use Rattle.j39_plan.specs.declared.reading.key.Key.TheVariants as key
-use Rattle.j39_tables.specs.declared.cause.Cause.TheVariants.{Range}
+use Rattle.j39_toml.specs.declared.cause.Cause.TheVariants.{Range}
 use Rattle.j39_plan.specs.declared.reading.place.Table.{Table}
 use Rattle.j39_plan.specs.declared.reading.place.Table.TheVariants as at
 use Rattle.j39_plan.specs.declared.reading.text_kind.TextKind.TheVariants as texts
 use Rattle.j39_plan.specs.Words.{word_of}
 use Rattle.j39_plan.specs.Schema.{number, has_key, tables_of}
-use Rattle.j39_tables.specs.Rules.{natural, standing, number_of, flag_of, number_found, array_found, truth, integer_in, array_up_to}
-use Rattle.j39_tables.specs.TableFaults.{fault, standing_cause, key_faults, table_only_faults, is_key_word}
+use Rattle.j39_toml.specs.Rules.{natural, standing, number_of, flag_of, number_found, array_found, truth, integer_in, array_up_to}
+use Rattle.j39_toml.specs.TableFaults.{fault, standing_cause, key_faults, table_only_faults, is_key_word}
 use Rattle.j39_plan.specs.Since.{known_faults, versioned_faults}
-use Rattle.j39_tables.specs.InOrder.{inside}
+use Rattle.j39_toml.specs.InOrder.{inside}
 use Rattle.j39_plan.specs.LabelsSeen.{label_in, label_rule, repeated_faults}
 use Rattle.j39_plan.specs.SignalTables.{signal_faults, IsMeaningOf, IsSignalOf}
 use Rattle.j39_plan.specs.GroupTables.{pgn_rule, priority_rule, length_rule, private_rule, private_of, most_rule, most_of, every_rule, every_of, signal_rule}

@@ -8,12 +8,12 @@ use Rattle.j39_plan.specs.declared.reading.key.Key.{Key}
 use Rattle.j39_plan.specs.declared.reading.key.Key.TheVariants as key
 use Rattle.j39_plan.specs.declared.reading.place.Table.TheVariants as at
 use Rattle.j39_plan.specs.Words.{word_of}
-use Rattle.j39_tables.specs.Outcome.{first}
-use Rattle.j39_tables.specs.Rules.{number_of, table_found}
+use Rattle.j39_toml.specs.Outcome.{first}
+use Rattle.j39_toml.specs.Rules.{number_of, table_found}
 use Rattle.j39_plan.specs.Schema.{table_of, tables_of}
-use Rattle.j39_tables.specs.TableFaults.{key_faults, is_key_word, has_only}
+use Rattle.j39_toml.specs.TableFaults.{key_faults, is_key_word, has_only}
 use Rattle.j39_plan.specs.Since.{known_faults}
-use Rattle.j39_tables.specs.InOrder.{each_faults, inside}
+use Rattle.j39_toml.specs.InOrder.{each_faults, inside}
 use Rattle.j39_plan.specs.LabelsSeen.{label_in}
 use Rattle.j39_plan.specs.UnitTables.{IsUnitOf, name_faults, name_fields_of, name_of, unit_faults, unit_label_in, unit_table_faults}
 use Rattle.j39_plan.specs.GroupTables.{IsGroupOf, group_faults}

@@ -13,10 +13,10 @@ use Rattle.j39_plan.specs.declared.reading.place.Table.TheVariants as at
 use Rattle.j39_plan.specs.declared.reading.text_kind.TextKind.TheVariants as texts
 use Rattle.j39_plan.specs.TextKinds.{is_first_kind}
 use Rattle.j39_plan.specs.Words.{word_of}
-use Rattle.j39_tables.specs.Rules.{standing, number_of, flag_of, text_of, text_where}
-use Rattle.j39_tables.specs.TableFaults.{standing_cause, key_faults, table_only_faults, is_key_word}
+use Rattle.j39_toml.specs.Rules.{standing, number_of, flag_of, text_of, text_where}
+use Rattle.j39_toml.specs.TableFaults.{standing_cause, key_faults, table_only_faults, is_key_word}
 use Rattle.j39_plan.specs.Since.{versioned_faults}
-use Rattle.j39_tables.specs.InOrder.{inside}
+use Rattle.j39_toml.specs.InOrder.{inside}
 use Rattle.j39_plan.specs.LabelsSeen.{label_in, repeated_faults}
 use Rattle.j39_plan.specs.SignalTables.{kind_of, is_dtc, kind_rule, is_code, per_rule, per_of, repeated_rule, repeated_of, signal_rules, signal_table_faults}
 use Rattle.j39_plan.specs.SignalTables.{signal_faults}

@@ -8,8 +8,8 @@ use Rattle.j39_plan.specs.declared.reading.top_table.TopTable.{TopTable}
 use Rattle.j39_network.specs.declared.plan.Plan.{Plan}
 use Rattle.j39_plan.specs.PlanErrors.{PlanError}
 use Rattle.j39_plan.specs.Schema.{addresses_of, tables_of}
-use Rattle.j39_tables.specs.InOrder.{Each}
-use Rattle.j39_tables.specs.FileTrees.{ReadsTree}
+use Rattle.j39_toml.specs.InOrder.{Each}
+use Rattle.j39_toml.specs.FileTrees.{ReadsTree}
 use Rattle.j39_plan.specs.Since.{is_known}
 use Rattle.j39_plan.specs.declared.reading.version.Version.{Version}
 use Rattle.j39_plan.specs.declared.reading.version.Version.TheVariants.{Second}

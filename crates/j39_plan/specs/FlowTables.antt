@@ -9,7 +9,7 @@ use Rattle.j39_network.specs.declared.plan.to.To.{To}
 use Rattle.j39_network.specs.declared.plan.to.To.TheVariants.{All, One}
 use Rattle.j39_network.specs.declared.plan.flow_plan.FlowPlan.{FlowPlan}
 use Rattle.j39_network.specs.declared.plan.pace.Pace.{Pace}
-use Rattle.j39_tables.specs.declared.cause.Cause.TheVariants.{UnknownLabel}
+use Rattle.j39_toml.specs.declared.cause.Cause.TheVariants.{UnknownLabel}
 use Rattle.j39_plan.specs.declared.reading.key.Key.{Key}
 use Rattle.j39_plan.specs.declared.reading.key.Key.TheVariants as key
 use Rattle.j39_plan.specs.declared.reading.place.Table.{Table}
@@ -17,13 +17,13 @@ use Rattle.j39_plan.specs.declared.reading.place.Table.TheVariants as at
 use Rattle.j39_plan.specs.PlanErrors.{PlanFault}
 use Rattle.j39_plan.specs.declared.reading.text_kind.TextKind.TheVariants as texts
 use Rattle.j39_plan.specs.Schema.{PlanRule, has_key, text, number, optional, flag, found_text, given_number}
-use Rattle.j39_tables.specs.Rules.{rule_of, natural_in, number_of, flag_of}
+use Rattle.j39_toml.specs.Rules.{rule_of, natural_in, number_of, flag_of}
 use Rattle.j39_plan.specs.Words.{word_of}
-use Rattle.j39_tables.specs.TableFaults.{table_only_faults, fault}
+use Rattle.j39_toml.specs.TableFaults.{table_only_faults, fault}
 use Rattle.j39_plan.specs.Since.{Since, since, is_known, known, rules_of, versioned_faults}
 use Rattle.j39_plan.specs.declared.reading.version.Version.{Version}
 use Rattle.j39_plan.specs.declared.reading.version.Version.TheVariants.{First, Third, Fourth}
-use Rattle.j39_tables.specs.InOrder.{inside}
+use Rattle.j39_toml.specs.InOrder.{inside}
 
 abbrev pub group_rule : PlanRule
 group_rule = text key.Group texts.Any None

@@ -12,9 +12,9 @@ use Rattle.j39_plan.specs.declared.reading.place.Table.TheVariants as at
 use Rattle.j39_plan.specs.PlanErrors.{PlanFault}
 use Rattle.j39_plan.specs.declared.reading.text_kind.TextKind.TheVariants as texts
 use Rattle.j39_plan.specs.Schema.{PlanRule, number, optional, flag, tables, given_number, tables_of}
-use Rattle.j39_tables.specs.Rules.{number_of, flag_of, text_of}
-use Rattle.j39_tables.specs.TableFaults.{table_only_faults, unknown_faults}
-use Rattle.j39_tables.specs.InOrder.{inside, each_faults, labels_of, Each}
+use Rattle.j39_toml.specs.Rules.{number_of, flag_of, text_of}
+use Rattle.j39_toml.specs.TableFaults.{table_only_faults, unknown_faults}
+use Rattle.j39_toml.specs.InOrder.{inside, each_faults, labels_of, Each}
 use Rattle.j39_plan.specs.LabelsSeen.{repeated_faults, label_in, label_rule}
 use Rattle.j39_plan.specs.Since.{Since, since, is_known, known, rules_of, keys_of, known_keys, known_faults}
 use Rattle.j39_plan.specs.declared.reading.version.Version.{Version}

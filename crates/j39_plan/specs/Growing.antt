@@ -4,7 +4,7 @@ use Rattle.toml.specs.Data.{Data, Members}
 use Rattle.j39_plan.specs.declared.reading.version.Version.{Version}
 use Rattle.j39_plan.specs.declared.reading.place.Table.TheVariants as at
 use Rattle.j39_plan.specs.Schema.{tables_of}
-use Rattle.j39_tables.specs.InOrder.{inside, EachGrows, NeverGrows}
+use Rattle.j39_toml.specs.InOrder.{inside, EachGrows, NeverGrows}
 use Rattle.j39_plan.specs.SignalTables.{signal_faults, signal_table_faults}
 use Rattle.j39_plan.specs.UnitTables.{unit_faults}
 use Rattle.j39_plan.specs.GroupTables.{group_keys_faults, has_records, signal_rule, signal_labels, signals_faults, text_tables_of, group_faults}

@@ -3,17 +3,17 @@ use Rattle.std.specs.Prelude.{ℕ, List, [], ◌∷◌, Bool, ◌&&◌, if◌the
 use Rattle.std.specs.List.{list_any}
 use Rattle.std.specs.Str.{bytes_eq}
 use Rattle.toml.specs.Data.{Data}
-use Rattle.j39_tables.specs.declared.cause.Cause.TheVariants.{Repeated}
+use Rattle.j39_toml.specs.declared.cause.Cause.TheVariants.{Repeated}
 use Rattle.j39_plan.specs.declared.reading.key.Key.TheVariants as key
 use Rattle.j39_plan.specs.declared.reading.place.Table.{Table}
 use Rattle.j39_plan.specs.PlanErrors.{PlanFault}
 use Rattle.j39_plan.specs.declared.reading.text_kind.TextKind.{TextKind}
 use Rattle.j39_plan.specs.declared.reading.text_kind.TextKind.TheVariants as texts
 use Rattle.j39_plan.specs.Schema.{PlanRule, text}
-use Rattle.j39_tables.specs.Rules.{text_of}
-use Rattle.j39_tables.specs.InOrder.{inside}
+use Rattle.j39_toml.specs.Rules.{text_of}
+use Rattle.j39_toml.specs.InOrder.{inside}
 use Rattle.j39_plan.specs.TextKinds.{takes}
-use Rattle.j39_tables.specs.TableFaults.{fault}
+use Rattle.j39_toml.specs.TableFaults.{fault}
 
 -- the label of a group, a signal or a text
 abbrev pub label_rule : PlanRule

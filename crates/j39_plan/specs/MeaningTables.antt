@@ -13,7 +13,7 @@ use Rattle.j39_plan.specs.declared.reading.version.Version.{Version}
 use Rattle.j39_plan.specs.declared.reading.version.Version.TheVariants.{Fourth}
 use Rattle.j39_plan.specs.Since.{Since, since, is_known}
 use Rattle.j39_plan.specs.Schema.{PlanRule, names, flag_if, optional, given_number, table_of}
-use Rattle.j39_tables.specs.Rules.{flag_of}
+use Rattle.j39_toml.specs.Rules.{flag_of}
 
 -- one that is repeated can't be optional
 abbrev pub optional_rule : Bool → PlanRule

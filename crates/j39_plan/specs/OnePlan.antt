@@ -16,10 +16,10 @@ use Rattle.j39_network.specs.declared.plan.pace.Pace.{Pace}
 use Rattle.j39_network.specs.declared.plan.timing.ErrorRate.{ErrorRate}
 use Rattle.j39_network.specs.declared.plan.timing.Timing.{Timing}
 use Rattle.j39_plan.specs.PlanErrors.{PlanError}
-use Rattle.j39_tables.specs.declared.file_error.FileError.TheVariants.{Memory}
-use Rattle.j39_findings.specs.Findings.{AreOneFlow}
+use Rattle.j39_toml.specs.declared.file_error.FileError.TheVariants.{Memory}
+use Rattle.j39_network.specs.PlannedFlows.{AreOneFlow}
 use Rattle.j39_plan.specs.Described.{Reads}
-use Rattle.j39_tables.specs.FileTrees.{tree_of}
+use Rattle.j39_toml.specs.FileTrees.{tree_of}
 
 -- ---- when two plans are one: of a label the bytes count, and not what stands in its array behind them
 

@@ -9,13 +9,13 @@ use Rattle.j39_plan.specs.declared.reading.key.Key.TheVariants as key
 use Rattle.j39_plan.specs.declared.reading.place.Table.TheVariants as at
 use Rattle.j39_plan.specs.PlanErrors.{PlanFault}
 use Rattle.j39_plan.specs.Schema.{PlanRule, number, flag, addresses, tables, optional_table, table_of, tables_of}
-use Rattle.j39_tables.specs.Rules.{number_of, flag_of}
-use Rattle.j39_tables.specs.TableFaults.{unknown_faults}
+use Rattle.j39_toml.specs.Rules.{number_of, flag_of}
+use Rattle.j39_toml.specs.TableFaults.{unknown_faults}
 use Rattle.j39_plan.specs.Words.{word_of}
 use Rattle.j39_plan.specs.Since.{Since, since, is_known, known, rules_of, keys_of, known_keys, known_faults, since_faults}
 use Rattle.j39_plan.specs.declared.reading.version.Version.{Version}
 use Rattle.j39_plan.specs.declared.reading.version.Version.TheVariants.{First, Second, Third, Fourth}
-use Rattle.j39_tables.specs.InOrder.{each_faults, labels_of}
+use Rattle.j39_toml.specs.InOrder.{each_faults, labels_of}
 use Rattle.j39_plan.specs.LabelsSeen.{label_in}
 use Rattle.j39_plan.specs.UnitTables.{unit_faults, unit_label_in}
 use Rattle.j39_plan.specs.GroupTables.{group_faults}

@@ -9,8 +9,8 @@ use Rattle.j39_plan.specs.declared.reading.place.Table.TheVariants as at
 use Rattle.j39_plan.specs.PlanErrors.{PlanFault}
 use Rattle.j39_plan.specs.declared.reading.text_kind.TextKind.TheVariants as texts
 use Rattle.j39_plan.specs.Schema.{PlanRule, text, optional, found_text, given_number}
-use Rattle.j39_tables.specs.TableFaults.{table_faults, table_only_faults}
-use Rattle.j39_tables.specs.InOrder.{inside}
+use Rattle.j39_toml.specs.TableFaults.{table_faults, table_only_faults}
+use Rattle.j39_toml.specs.InOrder.{inside}
 use Rattle.j39_plan.specs.FlowTables.{place_of, receivers, place_faults, receiver_faults}
 
 -- the group that is asked for

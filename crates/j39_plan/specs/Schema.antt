@@ -3,8 +3,8 @@ use Rattle.std.specs.Prelude.{ℕ, ℤ, pos, List, Bool, true, false, if◌then�
 use Rattle.std.specs.FinSet.{FinSet, from_list}
 use Rattle.std.specs.Ordering.{nat_cmp}
 use Rattle.toml.specs.Data.{string, integer, boolean, array, Items, no_items, Members, get_member, as_array}
-use Rattle.j39_tables.specs.Rules.{Rule, rule_of, rule_or, integer_in, natural_in, truth, text_where, one_table, array_up_to, standing, number_found}
-use Rattle.j39_tables.specs.Rules.{text_found, table_found, elements_found}
+use Rattle.j39_toml.specs.Rules.{Rule, rule_of, rule_or, integer_in, natural_in, truth, text_where, one_table, array_up_to, standing, number_found}
+use Rattle.j39_toml.specs.Rules.{text_found, table_found, elements_found}
 use Rattle.j39_plan.specs.declared.reading.key.Key.{Key}
 use Rattle.j39_plan.specs.declared.reading.text_kind.TextKind.{TextKind}
 use Rattle.j39_plan.specs.declared.reading.text_kind.TextKind.TheVariants as texts

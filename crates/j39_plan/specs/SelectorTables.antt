@@ -11,8 +11,8 @@ use Rattle.j39_plan.specs.declared.reading.version.Version.{Version}
 use Rattle.j39_plan.specs.declared.reading.version.Version.TheVariants.{Fourth}
 use Rattle.j39_plan.specs.Since.{is_known}
 use Rattle.j39_plan.specs.Schema.{PlanRule, number, optional_table, table_of}
-use Rattle.j39_tables.specs.Rules.{number_of}
-use Rattle.j39_tables.specs.TableFaults.{table_faults}
+use Rattle.j39_toml.specs.Rules.{number_of}
+use Rattle.j39_toml.specs.TableFaults.{table_faults}
 use Rattle.j39_plan.specs.SignalTables.{byte_rule, bit_rule, start_of}
 
 abbrev pub selector_bits_rule : PlanRule

@@ -8,7 +8,7 @@ use Rattle.j39_id.specs.Limits.{message_bytes}
 use Rattle.j39_signal.specs.declared.kind.Kind.{Kind}
 use Rattle.j39_signal.specs.declared.kind.Kind.TheVariants.{Measured, Discrete, Raw, States, Signed, Dtc}
 use Rattle.j39_signal.specs.Parts.{SignalParts, IsDivisor, IsSignal}
-use Rattle.j39_network.specs.LabelForm.{is_label}
+use Rattle.j39_id.specs.LabelForm.{is_label}
 use Rattle.j39_network.specs.declared.plan.meaning.Meaning.{Meaning}
 use Rattle.j39_plan.specs.declared.reading.key.Key.TheVariants as key
 use Rattle.j39_plan.specs.declared.reading.place.Table.{Table}
@@ -16,14 +16,14 @@ use Rattle.j39_plan.specs.declared.reading.place.Table.TheVariants as at
 use Rattle.j39_plan.specs.PlanErrors.{PlanFault}
 use Rattle.j39_plan.specs.declared.reading.text_kind.TextKind.TheVariants as texts
 use Rattle.j39_plan.specs.Schema.{PlanRule, number, signed, divisor, flag_if, text}
-use Rattle.j39_tables.specs.Rules.{number_of, integer_of, flag_of, text_of}
-use Rattle.j39_tables.specs.TableFaults.{table_only_faults}
+use Rattle.j39_toml.specs.Rules.{number_of, integer_of, flag_of, text_of}
+use Rattle.j39_toml.specs.TableFaults.{table_only_faults}
 use Rattle.j39_plan.specs.Since.{Since, since, is_known, known, rules_of, versioned_faults}
 use Rattle.j39_plan.specs.declared.reading.version.Version.{Version}
 use Rattle.j39_plan.specs.declared.reading.version.Version.TheVariants.{First, Third}
 use Rattle.j39_plan.specs.declared.reading.text_kind.TextKind.{TextKind}
 use Rattle.j39_plan.specs.MeaningTables.{DescribesMeaning, meaning_rules, optional_of}
-use Rattle.j39_tables.specs.InOrder.{inside}
+use Rattle.j39_toml.specs.InOrder.{inside}
 use Rattle.j39_plan.specs.LabelsSeen.{label_in, label_rule, repeated_faults}
 
 abbrev pub byte_rule : PlanRule

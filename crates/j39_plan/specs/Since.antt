@@ -10,7 +10,7 @@ use Rattle.j39_plan.specs.declared.reading.version.Version.{Version}
 use Rattle.j39_plan.specs.declared.reading.version.Version.TheVariants.{First, Second, Third, Fourth}
 use Rattle.j39_plan.specs.Words.{word_of}
 use Rattle.j39_plan.specs.Schema.{PlanRule}
-use Rattle.j39_tables.specs.TableFaults.{key_faults, unknown_faults}
+use Rattle.j39_toml.specs.TableFaults.{key_faults, unknown_faults}
 
 -- what is known since the first version is known to the second: to itself and to each later one
 abbrev pub is_known : Version → Version → Bool

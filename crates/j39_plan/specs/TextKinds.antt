@@ -2,8 +2,8 @@
 use Rattle.std.specs.Prelude.{ℕ, List, length, Bool, true, ◌&&◌, ◌||◌, ◌==◌, nat_le, codes}
 use Rattle.std.specs.List.{list_all}
 use Rattle.std.specs.Str.{bytes_eq}
-use Rattle.j39_network.specs.LabelForm.{is_label, is_unit_label}
-use Rattle.j39_tables.specs.Printable.{is_printable}
+use Rattle.j39_id.specs.LabelForm.{is_label, is_unit_label}
+use Rattle.j39_toml.specs.Printable.{is_printable}
 use Rattle.j39_plan.specs.declared.reading.text_kind.TextKind.{TextKind}
 use Rattle.j39_plan.specs.declared.reading.text_kind.TextKind.TheVariants.{Label, UnitLabel, Chooser, Queue, SignalKind, AnySignalKind, SignalUnit, Empty, Any}
 

@@ -11,9 +11,9 @@ use Rattle.j39_plan.specs.declared.reading.place.Table.TheVariants as at
 use Rattle.j39_plan.specs.PlanErrors.{PlanFault}
 use Rattle.j39_plan.specs.declared.reading.text_kind.TextKind.TheVariants as texts
 use Rattle.j39_plan.specs.Schema.{PlanRule, optional, given_number}
-use Rattle.j39_tables.specs.Rules.{number_of, text_of}
-use Rattle.j39_tables.specs.TableFaults.{table_faults, table_only_faults}
-use Rattle.j39_tables.specs.InOrder.{inside}
+use Rattle.j39_toml.specs.Rules.{number_of, text_of}
+use Rattle.j39_toml.specs.TableFaults.{table_faults, table_only_faults}
+use Rattle.j39_toml.specs.InOrder.{inside}
 use Rattle.j39_plan.specs.LabelsSeen.{label_in, label_rule, repeated_faults}
 use Rattle.j39_plan.specs.SignalTables.{byte_rule}
 

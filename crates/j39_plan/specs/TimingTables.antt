@@ -11,8 +11,8 @@ use Rattle.j39_plan.specs.declared.reading.key.Key.TheVariants as key
 use Rattle.j39_plan.specs.declared.reading.place.Table.TheVariants as at
 use Rattle.j39_plan.specs.PlanErrors.{PlanFault}
 use Rattle.j39_plan.specs.Schema.{PlanRule, number, bitrate, optional_table, table_of}
-use Rattle.j39_tables.specs.Rules.{number_of}
-use Rattle.j39_tables.specs.TableFaults.{table_faults}
+use Rattle.j39_toml.specs.Rules.{number_of}
+use Rattle.j39_toml.specs.TableFaults.{table_faults}
 use Rattle.j39_plan.specs.Since.{Since, since, is_known, known, rules_of, versioned_faults}
 use Rattle.j39_plan.specs.declared.reading.version.Version.{Version}
 use Rattle.j39_plan.specs.declared.reading.version.Version.TheVariants.{Third, Fourth}

@@ -11,15 +11,15 @@ use Rattle.j39_network.specs.declared.plan.queue.Queue.TheVariants.{Any, Priorit
 use Rattle.j39_network.specs.declared.plan.way.Way.{Way}
 use Rattle.j39_network.specs.declared.plan.way.Way.TheVariants.{Lowest, Upward}
 use Rattle.j39_network.specs.declared.plan.unit_plan.UnitPlan.{UnitPlan}
-use Rattle.j39_tables.specs.declared.cause.Cause.TheVariants.{Range}
+use Rattle.j39_toml.specs.declared.cause.Cause.TheVariants.{Range}
 use Rattle.j39_plan.specs.declared.reading.key.Key.TheVariants as key
 use Rattle.j39_plan.specs.declared.reading.place.Table.TheVariants as at
 use Rattle.j39_plan.specs.PlanErrors.{PlanFault}
 use Rattle.j39_plan.specs.declared.reading.text_kind.TextKind.TheVariants as texts
 use Rattle.j39_plan.specs.Schema.{PlanRule, has_key, number, flag, text, inner_table, table_of}
-use Rattle.j39_tables.specs.Rules.{number_of, flag_of, text_of}
-use Rattle.j39_tables.specs.TableFaults.{table_faults, table_only_faults, fault}
-use Rattle.j39_tables.specs.InOrder.{inside}
+use Rattle.j39_toml.specs.Rules.{number_of, flag_of, text_of}
+use Rattle.j39_toml.specs.TableFaults.{table_faults, table_only_faults, fault}
+use Rattle.j39_toml.specs.InOrder.{inside}
 use Rattle.j39_plan.specs.LabelsSeen.{repeated_faults}
 use Rattle.j39_plan.specs.Words.{word_of}
 use Rattle.j39_plan.specs.Since.{Since, since, is_known, known, rules_of, versioned_faults}

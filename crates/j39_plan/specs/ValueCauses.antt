@@ -9,12 +9,12 @@ use Rattle.std.specs.Option.{option_or, option_map_or}
 use Rattle.std.specs.Ordering.{nat_cmp}
 use Rattle.j39_id.specs.Addresses.{in_pool}
 use Rattle.toml.specs.Data.{Data, integer, boolean, array, table, Items, no_items, item, Members, no_members, member, as_integer, as_str}
-use Rattle.j39_tables.specs.declared.cause.Cause.{Cause}
-use Rattle.j39_tables.specs.declared.cause.Cause.TheVariants.{WrongType, Range, TooMany, Repeated}
+use Rattle.j39_toml.specs.declared.cause.Cause.{Cause}
+use Rattle.j39_toml.specs.declared.cause.Cause.TheVariants.{WrongType, Range, TooMany, Repeated}
 use Rattle.j39_signal.specs.Parts.{divides_decimally}
-use Rattle.j39_network.specs.LabelForm.{is_label}
+use Rattle.j39_id.specs.LabelForm.{is_label}
 use Rattle.j39_network.specs.PlanLimits.{value_limit}
-use Rattle.j39_tables.specs.Rules.{natural, items_count}
+use Rattle.j39_toml.specs.Rules.{natural, items_count}
 
 -- ---- truth values
 

@@ -9,8 +9,8 @@ use Rattle.j39_plan.specs.declared.reading.key.Key.TheVariants as key
 use Rattle.j39_plan.specs.declared.reading.version.Version.TheVariants.{Third, Fourth}
 use Rattle.j39_plan.specs.Words.{word_of}
 use Rattle.j39_plan.specs.Schema.{has_key, table_of, tables_of}
-use Rattle.j39_tables.specs.Rules.{number_of, text_of}
-use Rattle.j39_tables.specs.InOrder.{inside}
+use Rattle.j39_toml.specs.Rules.{number_of, text_of}
+use Rattle.j39_toml.specs.InOrder.{inside}
 use Rattle.j39_plan.specs.SignalTables.{kind_rule}
 use Rattle.j39_plan.specs.GroupTables.{signal_rule}
 use Rattle.j39_plan.specs.TimingTables.{bitrate_rule}

@@ -1,13 +1,9 @@
-//! How plan files are read. The crate hands out the plans that they describe and what is found wrong with these, too.
+//! How plan files are read. The crate hands out the plans that they describe, too.
 #![tactic(auto)]
 
 mod laws;
 mod reading;
 
-pub use j39_findings::{
-    CheckedPlan, Finding, Findings, Refused, RefusedCause, bad_run, check, checked, clean_parts,
-    clean_where_none, conflict_runs_are_exact, found_exactly, signals_are_sound,
-};
 pub use j39_network::{
     Bitrate, ErrorRate, FlowPlan, GroupFault, GroupPlan, NeedPlan, Pace, Plan, Queue, RequestPlan,
     Step, TextPlan, Timing, To, UnitPlan, Way, layout_of,

@@ -1,12 +1,12 @@
 //! Reading a plan file.
 ghost use Rattle.std.specs.Prelude.{IsErrOf};
 ghost use Rattle.toml.specs.View.{table_view};
-ghost use Rattle.j39_tables.specs.Outcome.{GivesGrowing};
-ghost use Rattle.j39_tables.specs.declared.file_error.FileError.TheVariants as errors;
+ghost use Rattle.j39_toml.specs.Outcome.{GivesGrowing};
+ghost use Rattle.j39_toml.specs.declared.file_error.FileError.TheVariants as errors;
 ghost use Rattle.j39_plan.specs.Growing.{PlanGrows};
 ghost use Rattle.j39_plan.specs.PlanFaults.{faults};
 ghost use Rattle.j39_plan.specs.Described.{DescribesPlan, Reads};
-ghost use Rattle.j39_tables.specs.FileTrees.{tree_of, MayAskForRoom};
+ghost use Rattle.j39_toml.specs.FileTrees.{tree_of, MayAskForRoom};
 
 mod flows;
 mod groups;
@@ -35,8 +35,8 @@ use flows::FlowReader;
 use groups::GroupReader;
 use heads::version_of;
 use j39_network::Plan;
-pub use j39_tables::{Cause, FileError};
-use j39_tables::{read_each, read_tree};
+pub use j39_toml::{Cause, FileError};
+use j39_toml::{read_each, read_tree};
 pub use key::Key;
 use needs::NeedReader;
 pub use place::Table;
@@ -47,7 +47,7 @@ use top_table::top;
 use units::UnitReader;
 pub use version::Version;
 
-#[tactic(auto, using(j39_tables::proofs::FirstFaults::faults_after))]
+#[tactic(auto, using(j39_toml::proofs::FirstFaults::faults_after))]
 fn read_top(alloc: Global, members: &toml::Table) -> Result<Plan, PlanError>
     ensures { GivesGrowing (PlanGrows (table_view members.now)) result (faults (table_view members.now)) (DescribesPlan (table_view members.now)) }
 {

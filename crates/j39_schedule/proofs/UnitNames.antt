@@ -9,7 +9,7 @@ use Rattle.std.specs.List.{position_or_len, slice_get}
 use Rattle.std.specs.Str.{bytes_eq}
 use Rattle.j39_network.specs.declared.plan.Plan.{Plan}
 use Rattle.j39_network.specs.declared.plan.unit_plan.UnitPlan.{UnitPlan}
-use Rattle.j39_network.specs.LabelForm.{is_label_byte, is_unit_label}
+use Rattle.j39_id.specs.LabelForm.{is_label_byte, is_unit_label}
 use Rattle.j39_text.specs.Labels.{unit_label}
 use Rattle.j39_schedule.specs.Schedule.{unit_named}
 use Rattle.j39_schedule.specs.StepLines.{IsUnit}

@@ -10,7 +10,7 @@ use std::marker::Model;
 const DECIMAL_MULTIPLE: u64 = 81_920_000_000_000;
 
 /// A signal of a parameter group: its label, its place in the payload, and how its raw number is scaled.
-#[derive(Clone, Copy, Debug)]
+#[derive(Clone, Copy)]
 pub struct Signal {
     label: Label,
     start: u16,

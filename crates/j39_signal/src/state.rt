@@ -1,7 +1,7 @@
 //! What a signal shows.
 
 /// The meaning of a raw number (SAE J1939-71, transmitted signal ranges).
-#[derive(Clone, Copy, Debug, PartialEq, Eq)]
+#[derive(Clone, Copy, PartialEq, Eq)]
 pub enum State {
     /// The scaled value, in the signal's unit: offset plus step times the raw number.
     Value(i64),

@@ -1,5 +1,5 @@
 //! Calls of sources and sinks that fail.
 
 /// A call of a source or a sink failed.
-#[derive(Clone, Copy, Debug, PartialEq, Eq)]
+#[derive(Clone, Copy, PartialEq, Eq)]
 pub struct Failed;

@@ -28,7 +28,7 @@ pub(crate) const UNUSED: u8 = 255;
 pub type Chunk = [u8; PACKET_BYTES];
 
 /// A packet of the transport protocol (SAE J1939-21): five of connection management, and data.
-#[derive(Clone, Copy, Debug, PartialEq, Eq)]
+#[derive(Clone, Copy, PartialEq, Eq)]
 pub enum Packet {
     /// Request to send a message to one: at most `limit` packets for each CTS, or any number where it is 255.
     Rts { size: Size, limit: u8, pgn: Pgn },

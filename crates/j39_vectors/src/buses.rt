@@ -56,20 +56,20 @@ fn ends(
     counts: (usize, usize),
 ) -> Result<(), Fail> {
     let plan = read_plan(alloc, CHECK_OF_A_PLAN.plan.as_bytes())?;
-    assert_eq!(rt; plan.units.len(), 2);
+    assert!(rt; plan.units.len() == 2);
     let choosers = choosers_of(alloc, &plan)?;
     let mut bus = Bus::new(alloc, &plan, choosers)?;
     let start = [Step::Up(0), Step::Up(1), Step::Give(1, 0)];
-    assert_eq!(rt; bus.run(&start), Ok(()));
+    assert!(rt; bus.run(&start) == Ok(()));
     let mut steps = Vec::new(alloc);
     for step in moves {
         steps.push(step_of(alloc, *step)?)?;
     }
-    assert_eq!(rt; bus.run(steps.as_slice()), answer);
-    assert_eq!(rt; bus.outcome_of(0), outcome);
-    assert_eq!(rt; (bus.reports().len(), bus.frames().len()), counts);
+    assert!(rt; bus.run(steps.as_slice()) == answer);
+    assert!(rt; bus.outcome_of(0) == outcome);
+    assert!(rt; (bus.reports().len(), bus.frames().len()) == counts);
     assert!(rt; bus.is_settled() && bus.is_started(1));
-    assert_eq!(rt; bus.address_of(1).map(|address| address.number()), Some(3));
+    assert!(rt; bus.address_of(1).map(|address| address.number()) == Some(3));
     Ok(())
 }
 
@@ -198,10 +198,10 @@ fn one_unit_sends_to_127(rt: HostRuntime) -> Result<(), Fail> {
     let plan = read_plan(alloc, large_plan(alloc, 128)?.as_bytes())?;
     let choosers = choosers_of(alloc, &plan)?;
     let mut bus = Bus::new(alloc, &plan, choosers)?;
-    assert_eq!(rt; bus.run(claims(alloc)?.as_slice()), Ok(()));
-    assert_eq!(rt; bus.run(packets(alloc)?.as_slice()), Ok(()));
-    assert_eq!(rt; bus.step(&Step::Rest(0)), Ok(()));
-    assert_eq!(rt; (bus.reports().len(), bus.frames().len()), (127, 128 + 256));
+    assert!(rt; bus.run(claims(alloc)?.as_slice()) == Ok(()));
+    assert!(rt; bus.run(packets(alloc)?.as_slice()) == Ok(()));
+    assert!(rt; bus.step(&Step::Rest(0)) == Ok(()));
+    assert!(rt; (bus.reports().len(), bus.frames().len()) == (127, 128 + 256));
     for (place, report) in bus.reports().iter().enumerate() {
         let is_whole = report.bytes.len() == 1785 && report.bytes.iter().all(|byte| *byte == 9);
         assert!(rt; is_whole && place.checked_add(1) == Some(report.receiver));

@@ -75,17 +75,17 @@ fn a_unit_moves_by_any_lawful_chooser(rt: HostRuntime) -> Result<(), Fail> {
     choosers.push(Box::new(alloc, Greatest)?)?;
     choosers.push(Box::new(alloc, Lowest)?)?;
     let (verdict, bytes) = ran(alloc, choosers, "up A\nup C\ngive C A\ngive A C\n")?;
-    assert_eq!(rt; verdict, Verdict::Done);
+    assert!(rt; verdict == Verdict::Done);
     let text =
         "18EEFF82#0100000000000080\n18EEFF82#0300000000000000\n18EEFFF7#0100000000000080\nunit A address 247\nunit C address 130\nsettled\n";
-    assert_eq!(rt; bytes.as_slice(), text.as_bytes());
+    assert!(rt; bytes.as_slice() == text.as_bytes());
     Ok(())
 }
 
 #[test]
 fn each_unit_needs_a_chooser(rt: HostRuntime) -> Result<(), Fail> {
     let (verdict, bytes) = ran(rt.alloc(), Vec::new(rt.alloc()), "up A\n")?;
-    assert_eq!(rt; verdict, Verdict::Refused);
-    assert_eq!(rt; bytes.as_slice(), "refused plan ChooserCount\n".as_bytes());
+    assert!(rt; verdict == Verdict::Refused);
+    assert!(rt; bytes.as_slice() == "refused plan ChooserCount\n".as_bytes());
     Ok(())
 }

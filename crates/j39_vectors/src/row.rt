@@ -2,7 +2,7 @@
 use j39_app::Verdict;
 
 /// What reads the row's plan and input.
-#[derive(Clone, Copy, Debug, PartialEq, Eq)]
+#[derive(Clone, Copy, PartialEq, Eq)]
 pub enum Command {
     /// The frame line of the input.
     Frame,
@@ -27,7 +27,7 @@ pub enum Command {
 }
 
 /// A command with what it reads, the text that it writes then, and its verdict.
-#[derive(Clone, Copy, Debug)]
+#[derive(Clone, Copy)]
 pub struct Row {
     pub name: &'static str,
     pub command: Command,

@@ -4,9 +4,9 @@ use Rattle.std.proofs.Common.{Some, inl, inr, refl, subst, ap, ◌∙◌, append
 use Rattle.std.proofs.lemmas.List.{append-nil, length_push}
 use Rattle.std.specs.List.{AllZip}
 use Rattle.j39_vehicle.specs.VehicleErrors.{VehicleFault}
-use Rattle.j39_tables.specs.Outcome.{first}
+use Rattle.j39_toml.specs.Outcome.{first}
 use Rattle.j39_vehicle.specs.Resolved.{each_found, FoundGrows}
-use Rattle.j39_tables.proofs.FirstFaults.{first-append}
+use Rattle.j39_toml.proofs.FirstFaults.{first-append}
 
 -- How a table is resolved: the faults of the i-th, where room is asked for, and what it stands for.
 pub record Resolving (S T : Type 0) : Type 1 where

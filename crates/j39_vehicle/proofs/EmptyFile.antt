@@ -1,7 +1,7 @@
 -- No room is asked for of an empty tree: the version is missing in it.
 use Rattle.std.proofs.Common.{◌≢◌, []}
 use Rattle.toml.specs.Data.{no_members}
-use Rattle.j39_tables.specs.TableFaults.{unknown_faults, key_faults}
+use Rattle.j39_toml.specs.TableFaults.{unknown_faults, key_faults}
 use Rattle.j39_vehicle.specs.VehicleFaults.{top_faults}
 use Rattle.j39_vehicle.specs.Growing.{FileGrows}
 

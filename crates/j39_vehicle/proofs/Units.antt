@@ -4,7 +4,7 @@ use Rattle.std.proofs.Common.{refl, sym, ap, ◌∙◌, append_assoc, string_byt
 use Rattle.std.proofs.lemmas.List.{append-nil, map_more}
 use Rattle.std.specs.Option.{option_or}
 use Rattle.toml.proofs.Views.{items_view-drop}
-use Rattle.j39_tables.specs.declared.cause.Cause.{Cause}
+use Rattle.j39_toml.specs.declared.cause.Cause.{Cause}
 use Rattle.std.proofs.Math.Bool.{or_assoc}
 use Rattle.std.specs.List.{list_any, list_all}
 use Rattle.std.specs.Str.{bytes_eq}

@@ -2,7 +2,7 @@
 use Rattle.std.specs.Prelude.{◌≡◌, ℕ, List, [], ◌∷◌, ◌++◌, unwrap_or, Some, string_bytes}
 use Rattle.std.specs.Option.{option_map_or}
 use Rattle.toml.specs.Data.{Data, Members, as_table}
-use Rattle.j39_tables.specs.InOrder.{inside}
+use Rattle.j39_toml.specs.InOrder.{inside}
 use Rattle.j39_vehicle.specs.Words.{word_of}
 use Rattle.j39_vehicle.specs.declared.reading.key.Key.TheVariants as key
 use Rattle.j39_vehicle.specs.declared.reading.place.Table.TheVariants as at
@@ -10,7 +10,7 @@ use Rattle.j39_vehicle.specs.VehicleErrors.{VehicleFault}
 use Rattle.j39_vehicle.specs.declared.reading.text_kind.TextKind.TheVariants as texts
 use Rattle.j39_vehicle.specs.declared.file.bus_table.BusTable.{BusTable}
 use Rattle.j39_vehicle.specs.Schema.{VehicleRule, needed, text_as, text_at}
-use Rattle.j39_tables.specs.TableFaults.{table_faults, table_only_faults}
+use Rattle.j39_toml.specs.TableFaults.{table_faults, table_only_faults}
 use Rattle.j39_vehicle.specs.LabelsSeen.{Named, labelled, repeated_faults}
 
 -- the label of a bus or a gateway

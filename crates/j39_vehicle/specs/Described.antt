@@ -1,12 +1,12 @@
 -- Which vehicle file some bytes are, and what reading them answers.
 use Rattle.std.specs.Prelude.{◌≡◌, [], Option, Result}
 use Rattle.toml.specs.Data.{Members}
-use Rattle.j39_tables.specs.InOrder.{Each}
+use Rattle.j39_toml.specs.InOrder.{Each}
 use Rattle.j39_vehicle.specs.declared.reading.key.Key.TheVariants as key
 use Rattle.j39_vehicle.specs.VehicleErrors.{VehicleError}
 use Rattle.j39_vehicle.specs.declared.file.VehicleFile.{VehicleFile}
 use Rattle.j39_vehicle.specs.Schema.{elements_at}
-use Rattle.j39_tables.specs.FileTrees.{ReadsTree}
+use Rattle.j39_toml.specs.FileTrees.{ReadsTree}
 use Rattle.j39_vehicle.specs.BusTables.{IsBusOf}
 use Rattle.j39_vehicle.specs.GatewayTables.{IsGatewayOf}
 use Rattle.j39_vehicle.specs.ForwardTables.{IsForwardOf}

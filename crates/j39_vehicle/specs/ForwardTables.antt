@@ -6,7 +6,7 @@ use Rattle.std.specs.Str.{bytes_eq}
 use Rattle.std.specs.Option.{option_map_or}
 use Rattle.toml.specs.Data.{Data, Items, no_items, Members, as_table}
 use Rattle.j39_network.specs.PlanLimits.{signal_limit}
-use Rattle.j39_tables.specs.InOrder.{inside, Each, each_faults}
+use Rattle.j39_toml.specs.InOrder.{inside, Each, each_faults}
 use Rattle.j39_vehicle.specs.Words.{word_of}
 use Rattle.j39_vehicle.specs.declared.reading.key.Key.TheVariants as key
 use Rattle.j39_vehicle.specs.declared.reading.place.Table.{Table}
@@ -19,8 +19,8 @@ use Rattle.j39_vehicle.specs.declared.file.forward_table.ForwardTable.{ForwardTa
 use Rattle.j39_vehicle.specs.declared.file.signal_table.SignalTable.{SignalTable}
 use Rattle.j39_vehicle.specs.TextKinds.{name_of}
 use Rattle.j39_vehicle.specs.Schema.{VehicleRule, needed, optional, text_as, text_at, number_under, array_at, elements_at}
-use Rattle.j39_tables.specs.Rules.{natural_in, array_up_to}
-use Rattle.j39_tables.specs.TableFaults.{table_faults, table_only_faults}
+use Rattle.j39_toml.specs.Rules.{natural_in, array_up_to}
+use Rattle.j39_toml.specs.TableFaults.{table_faults, table_only_faults}
 use Rattle.j39_vehicle.specs.LabelsSeen.{label_faults, Named, is_label_among}
 use Rattle.j39_vehicle.specs.SignalTables.{IsSignalOf, forwarded_name, signal_faults}
 

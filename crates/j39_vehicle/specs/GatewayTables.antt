@@ -4,9 +4,9 @@ use Rattle.std.specs.List.{list_any, list_all}
 use Rattle.std.specs.Str.{bytes_eq}
 use Rattle.std.specs.Option.{option_or, option_map_or}
 use Rattle.toml.specs.Data.{Data, string, Items, no_items, item, Members, as_table, as_str}
-use Rattle.j39_tables.specs.declared.cause.Cause.{Cause}
-use Rattle.j39_tables.specs.declared.cause.Cause.TheVariants.{WrongType, Range, Repeated}
-use Rattle.j39_tables.specs.InOrder.{inside}
+use Rattle.j39_toml.specs.declared.cause.Cause.{Cause}
+use Rattle.j39_toml.specs.declared.cause.Cause.TheVariants.{WrongType, Range, Repeated}
+use Rattle.j39_toml.specs.InOrder.{inside}
 use Rattle.j39_vehicle.specs.Words.{word_of}
 use Rattle.j39_vehicle.specs.declared.reading.key.Key.TheVariants as key
 use Rattle.j39_vehicle.specs.declared.reading.place.Table.TheVariants as at
@@ -15,8 +15,8 @@ use Rattle.j39_vehicle.specs.declared.file.gateway_table.GatewayTable.{GatewayTa
 use Rattle.j39_vehicle.specs.TextKinds.{name_of, is_name}
 use Rattle.j39_vehicle.specs.VehicleLimits.{gateway_unit_limit}
 use Rattle.j39_vehicle.specs.Schema.{VehicleRule, needed, text_at, elements_at}
-use Rattle.j39_tables.specs.Rules.{array_up_to}
-use Rattle.j39_tables.specs.TableFaults.{fault, table_faults, table_only_faults}
+use Rattle.j39_toml.specs.Rules.{array_up_to}
+use Rattle.j39_toml.specs.TableFaults.{fault, table_faults, table_only_faults}
 use Rattle.j39_vehicle.specs.LabelsSeen.{label_faults, Named, is_label_among, repeated_faults}
 use Rattle.j39_vehicle.specs.BusTables.{label_rule, label_in}
 

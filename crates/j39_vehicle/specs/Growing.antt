@@ -1,7 +1,7 @@
 -- Where reading a vehicle file asks for room: behind what was read without a fault. Want of memory is answered nowhere else.
 use Rattle.std.specs.Prelude.{◌≡◌, ◌⊎◌, ℕ, List, []}
 use Rattle.toml.specs.Data.{Data, Members}
-use Rattle.j39_tables.specs.InOrder.{inside, EachGrows}
+use Rattle.j39_toml.specs.InOrder.{inside, EachGrows}
 use Rattle.j39_vehicle.specs.declared.reading.key.Key.TheVariants as key
 use Rattle.j39_vehicle.specs.Schema.{elements_at}
 use Rattle.j39_vehicle.specs.LabelsSeen.{Named}

@@ -2,11 +2,11 @@
 use Rattle.std.specs.Prelude.{ℕ, List, [], ◌∷◌, Bool, if◌then◌else◌, Some}
 use Rattle.std.specs.List.{list_any}
 use Rattle.std.specs.Str.{bytes_eq}
-use Rattle.j39_tables.specs.declared.cause.Cause.TheVariants.{Repeated, UnknownLabel}
+use Rattle.j39_toml.specs.declared.cause.Cause.TheVariants.{Repeated, UnknownLabel}
 use Rattle.j39_vehicle.specs.declared.reading.key.Key.{Key}
 use Rattle.j39_vehicle.specs.declared.reading.place.Table.{Table}
 use Rattle.j39_vehicle.specs.VehicleErrors.{VehicleFault}
-use Rattle.j39_tables.specs.TableFaults.{fault}
+use Rattle.j39_toml.specs.TableFaults.{fault}
 
 -- what an element has that a later one may not repeat, or may name: a label, and of a gateway its units, as their texts
 pub record Named : Type 0 where

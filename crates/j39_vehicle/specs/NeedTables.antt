@@ -2,7 +2,7 @@
 use Rattle.std.specs.Prelude.{◌≡◌, ℕ, List, [], ◌∷◌, ◌++◌, Bool, false, Some, option_map, string_bytes}
 use Rattle.std.specs.Option.{option_map_or}
 use Rattle.toml.specs.Data.{Data, Members, as_table}
-use Rattle.j39_tables.specs.InOrder.{inside}
+use Rattle.j39_toml.specs.InOrder.{inside}
 use Rattle.j39_vehicle.specs.Words.{word_of}
 use Rattle.j39_vehicle.specs.declared.reading.key.Key.{Key}
 use Rattle.j39_vehicle.specs.declared.reading.key.Key.TheVariants as key
@@ -12,8 +12,8 @@ use Rattle.j39_vehicle.specs.declared.reading.text_kind.TextKind.TheVariants as 
 use Rattle.j39_vehicle.specs.declared.file.need_table.NeedTable.{NeedTable}
 use Rattle.j39_vehicle.specs.TextKinds.{name_of}
 use Rattle.j39_vehicle.specs.Schema.{VehicleRule, needed, optional, text_as, text_at, number_under}
-use Rattle.j39_tables.specs.Rules.{natural_in}
-use Rattle.j39_tables.specs.TableFaults.{table_faults, table_only_faults}
+use Rattle.j39_toml.specs.Rules.{natural_in}
+use Rattle.j39_toml.specs.TableFaults.{table_faults, table_only_faults}
 use Rattle.j39_vehicle.specs.LabelsSeen.{label_faults, Named, is_label_among}
 
 abbrev pub need_rules : List VehicleRule

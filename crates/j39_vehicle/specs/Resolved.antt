@@ -2,7 +2,7 @@
 use Rattle.std.specs.Prelude.{◌≡◌, ℕ, suc, List, [], ◌∷◌, ◌++◌, ◌⊎◌, Option, Some, None, is_some}
 use Rattle.std.specs.Prelude.{option_map, option_and_then, string_bytes}
 use Rattle.std.specs.List.{AllZip}
-use Rattle.j39_tables.specs.declared.cause.Cause.TheVariants.{UnknownLabel}
+use Rattle.j39_toml.specs.declared.cause.Cause.TheVariants.{UnknownLabel}
 use Rattle.j39_vehicle.specs.declared.reading.key.Key.{Key}
 use Rattle.j39_vehicle.specs.declared.reading.key.Key.TheVariants as key
 use Rattle.j39_vehicle.specs.declared.reading.place.Table.{Table}
@@ -22,7 +22,7 @@ use Rattle.j39_vehicle.specs.declared.vehicle.gateway.Gateway.{Gateway}
 use Rattle.j39_vehicle.specs.declared.vehicle.forward.Forward.{Forward}
 use Rattle.j39_vehicle.specs.declared.vehicle.forward.ForwardedSignal.{ForwardedSignal}
 use Rattle.j39_vehicle.specs.declared.vehicle.vehicle_need.VehicleNeed.{VehicleNeed}
-use Rattle.j39_tables.specs.TableFaults.{fault}
+use Rattle.j39_toml.specs.TableFaults.{fault}
 use Rattle.j39_vehicle.specs.LabelsSeen.{label_faults}
 use Rattle.j39_vehicle.specs.LabelsFound.{unit_labelled, unit_place, group_named, group_place, signal_place, receivers_on, gateway_labelled, units_by, own_unit}
 use Rattle.j39_vehicle.specs.LabelsFound.{is_given_found}

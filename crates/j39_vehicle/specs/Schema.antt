@@ -1,8 +1,8 @@
 -- What the tables of a vehicle file ask of their keys, and what stands at these.
 use Rattle.std.specs.Prelude.{ℕ, List, Bool, true, false, Option}
 use Rattle.toml.specs.Data.{Data, Items, Members}
-use Rattle.j39_tables.specs.declared.cause.Cause.{Cause}
-use Rattle.j39_tables.specs.Rules.{Rule, rule_of, text_where, number_found, truth_found, text_found, array_found, elements_found}
+use Rattle.j39_toml.specs.declared.cause.Cause.{Cause}
+use Rattle.j39_toml.specs.Rules.{Rule, rule_of, text_where, number_found, truth_found, text_found, array_found, elements_found}
 use Rattle.j39_vehicle.specs.declared.reading.key.Key.{Key}
 use Rattle.j39_vehicle.specs.declared.reading.text_kind.TextKind.{TextKind}
 use Rattle.j39_vehicle.specs.TextKinds.{takes}

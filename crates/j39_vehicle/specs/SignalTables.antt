@@ -2,7 +2,7 @@
 use Rattle.std.specs.Prelude.{◌≡◌, ℕ, List, [], ◌∷◌, ◌++◌, true, unwrap_or, Some, string_bytes}
 use Rattle.std.specs.Option.{option_or, option_map_or}
 use Rattle.toml.specs.Data.{Data, Members, as_table}
-use Rattle.j39_tables.specs.InOrder.{inside}
+use Rattle.j39_toml.specs.InOrder.{inside}
 use Rattle.j39_vehicle.specs.Words.{word_of}
 use Rattle.j39_vehicle.specs.declared.reading.key.Key.TheVariants as key
 use Rattle.j39_vehicle.specs.declared.reading.place.Table.TheVariants as at
@@ -10,8 +10,8 @@ use Rattle.j39_vehicle.specs.VehicleErrors.{VehicleFault}
 use Rattle.j39_vehicle.specs.declared.reading.text_kind.TextKind.TheVariants as texts
 use Rattle.j39_vehicle.specs.declared.file.signal_table.SignalTable.{SignalTable}
 use Rattle.j39_vehicle.specs.Schema.{VehicleRule, needed, optional, text_as, text_at, truth_at}
-use Rattle.j39_tables.specs.Rules.{truth}
-use Rattle.j39_tables.specs.TableFaults.{table_faults, table_only_faults}
+use Rattle.j39_toml.specs.Rules.{truth}
+use Rattle.j39_toml.specs.TableFaults.{table_faults, table_only_faults}
 use Rattle.j39_vehicle.specs.LabelsSeen.{Named, labelled, repeated_faults}
 
 -- the signal that is heard, that into which its values go, and whether each value has to arrive as it is

@@ -2,8 +2,8 @@
 use Rattle.std.specs.Prelude.{ℕ, List, length, Bool, true, ◌&&◌, ◌||◌, ◌==◌, nat_le, codes}
 use Rattle.std.specs.List.{list_all, before_first, after_first}
 use Rattle.std.specs.Str.{bytes_eq}
-use Rattle.j39_network.specs.LabelForm.{is_label}
-use Rattle.j39_tables.specs.Printable.{is_printable}
+use Rattle.j39_id.specs.LabelForm.{is_label}
+use Rattle.j39_toml.specs.Printable.{is_printable}
 use Rattle.j39_vehicle.specs.declared.reading.text_kind.TextKind.{TextKind}
 use Rattle.j39_vehicle.specs.declared.reading.text_kind.TextKind.TheVariants.{Label, OnBus, FileName, ModeWord, Any}
 

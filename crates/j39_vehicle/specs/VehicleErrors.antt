@@ -1,6 +1,6 @@
 -- The faults of vehicle files, and why one could not be read.
-use Rattle.j39_tables.specs.declared.fault.TableFault.{TableFault}
-use Rattle.j39_tables.specs.declared.file_error.FileError.{FileError}
+use Rattle.j39_toml.specs.declared.fault.TableFault.{TableFault}
+use Rattle.j39_toml.specs.declared.file_error.FileError.{FileError}
 use Rattle.j39_vehicle.specs.declared.reading.key.Key.{Key}
 use Rattle.j39_vehicle.specs.declared.reading.place.Table.{Table}
 

@@ -8,10 +8,10 @@ use Rattle.j39_vehicle.specs.declared.reading.place.Table.TheVariants as at
 use Rattle.j39_vehicle.specs.VehicleErrors.{VehicleFault}
 use Rattle.j39_vehicle.specs.VehicleLimits.{bus_limit, gateway_limit, forward_limit}
 use Rattle.j39_vehicle.specs.Schema.{VehicleRule, needed, optional, elements_at}
-use Rattle.j39_tables.specs.Rules.{natural_in, array_up_to}
-use Rattle.j39_tables.specs.TableFaults.{table_faults}
+use Rattle.j39_toml.specs.Rules.{natural_in, array_up_to}
+use Rattle.j39_toml.specs.TableFaults.{table_faults}
 use Rattle.j39_vehicle.specs.LabelsSeen.{Named, nameless}
-use Rattle.j39_tables.specs.InOrder.{each_faults, labels_of}
+use Rattle.j39_toml.specs.InOrder.{each_faults, labels_of}
 use Rattle.j39_vehicle.specs.BusTables.{bus_faults, bus_name}
 use Rattle.j39_vehicle.specs.GatewayTables.{gateway_faults, gateway_name}
 use Rattle.j39_vehicle.specs.ForwardTables.{forward_faults}

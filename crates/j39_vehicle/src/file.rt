@@ -18,7 +18,7 @@ pub use need_table::NeedTable;
 pub use signal_table::SignalTable;
 
 /// A vehicle file: the tables of its buses, gateways, forwards and needs, in their order.
-#[derive(Debug, Drop)]
+#[derive(Drop)]
 pub struct VehicleFile {
     pub buses: Vec<BusTable>,
     pub gateways: Vec<GatewayTable>,

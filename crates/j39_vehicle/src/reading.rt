@@ -2,11 +2,11 @@
 ghost use Rattle.std.specs.Prelude.{◌≡◌, ◌≤◌, length, IsErrOf};
 ghost use Rattle.toml.specs.View.{items_view, table_view};
 ghost use Rattle.j39_network.specs.PlanLimits.{need_limit};
-ghost use Rattle.j39_tables.specs.FileTrees.{tree_of, MayAskForRoom};
-ghost use Rattle.j39_tables.specs.Outcome.{Gives, GivesGrowing};
+ghost use Rattle.j39_toml.specs.FileTrees.{tree_of, MayAskForRoom};
+ghost use Rattle.j39_toml.specs.Outcome.{Gives, GivesGrowing};
 ghost use Rattle.j39_vehicle.specs.VehicleLimits.{bus_limit, forward_limit, gateway_limit};
 ghost use Rattle.j39_vehicle.specs.Schema.{elements_at};
-ghost use Rattle.j39_tables.specs.declared.file_error.FileError.TheVariants as errors;
+ghost use Rattle.j39_toml.specs.declared.file_error.FileError.TheVariants as errors;
 ghost use Rattle.j39_vehicle.specs.Growing.{FileGrows};
 ghost use Rattle.j39_vehicle.specs.VehicleFaults.{faults, top_faults};
 ghost use Rattle.j39_vehicle.specs.Described.{Reads, DescribesFile};
@@ -31,8 +31,8 @@ use crate::limits::{BUS_LIMIT, FORWARD_LIMIT, GATEWAY_LIMIT, VEHICLE_NEED_LIMIT}
 use buses::BusReader;
 use forwards::ForwardReader;
 use gateways::GatewayReader;
-pub use j39_tables::FileError;
-use j39_tables::{elements, only, read_each, read_tree};
+pub use j39_toml::FileError;
+use j39_toml::{elements, only, read_each, read_tree};
 pub use key::Key;
 use needs::NeedReader;
 pub use place::Table;
@@ -62,7 +62,7 @@ struct Arrays<'a> {
     ghost need_count: { length needs.now ≤ need_limit },
 }
 
-#[tactic(auto, using(j39_tables::proofs::FirstFaults::faults_after))]
+#[tactic(auto, using(j39_toml::proofs::FirstFaults::faults_after))]
 fn top_arrays(members: &toml::Table) -> Result<Arrays<'_>, VehicleError>
     ensures { Gives result (top_faults (table_view members.now)) (λ a. let ms = table_view members.now in
         (items_view a.buses.now ≡ elements_at Key.Bus ms) × (items_view a.gateways.now ≡ elements_at Key.Gateway ms)
@@ -83,7 +83,7 @@ fn top_arrays(members: &toml::Table) -> Result<Arrays<'_>, VehicleError>
     })
 }
 
-#[tactic(auto, using(j39_tables::proofs::FirstFaults::faults_after))]
+#[tactic(auto, using(j39_toml::proofs::FirstFaults::faults_after))]
 fn read_top(alloc: Global, members: &toml::Table) -> Result<VehicleFile, VehicleError>
     ensures { GivesGrowing (FileGrows (table_view members.now)) result (faults (table_view members.now)) (DescribesFile (table_view members.now)) }
 {

@@ -1,7 +1,7 @@
 //! Finding what a vehicle file names in the plans of its buses.
 ghost use Rattle.std.specs.Prelude.{◌≤◌, length};
 ghost use Rattle.j39_vehicle.specs.VehicleLimits.{bus_limit};
-ghost use Rattle.j39_tables.specs.Outcome.{GivesGrowing};
+ghost use Rattle.j39_toml.specs.Outcome.{GivesGrowing};
 ghost use Rattle.j39_vehicle.specs.Resolved.{found_faults, StandsForFile, VehicleGrows};
 
 mod each;
@@ -25,7 +25,7 @@ use std::alloc::Global;
 ///
 /// Refuses the first label that names nothing in these: a unit of a gateway; of a forward a group, a unit, or a signal;
 /// of a need a unit, a group, or a signal. A repeated signal is none that can be named.
-#[tactic(auto, using(j39_tables::proofs::FirstFaults::faults_after))]
+#[tactic(auto, using(j39_toml::proofs::FirstFaults::faults_after))]
 pub fn resolve(
     alloc: Global,
     file: &VehicleFile,

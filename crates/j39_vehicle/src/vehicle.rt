@@ -19,7 +19,7 @@ pub use vehicle_need::VehicleNeed;
 
 /// A vehicle of at most 16 buses, 64 gateways of 128 units each, 512 forwards and 4096 needs. Buses and gateways are
 /// named by their places from 0; units, groups and signals by their places in the plan of their bus.
-#[derive(Debug, Drop)]
+#[derive(Drop)]
 pub struct Vehicle {
     pub buses: Vec<BusPlan>,
     pub gateways: Vec<Gateway>,

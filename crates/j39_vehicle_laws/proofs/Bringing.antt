@@ -19,14 +19,14 @@ use Rattle.j39_vehicle.specs.declared.vehicle.Vehicle.{Vehicle}
 use Rattle.j39_vehicle.specs.declared.vehicle.bus_plan.BusPlan.{BusPlan}
 use Rattle.j39_vehicle.specs.declared.vehicle.forward.Forward.{Forward}
 use Rattle.j39_vehicle.specs.declared.vehicle.places.UnitAt.{UnitAt}
-use Rattle.j39_paths.specs.Buses.{flows_on, group_at}
-use Rattle.j39_paths.specs.ForwardEnds.{Copies, Feeds}
-use Rattle.j39_paths.specs.Traces.{behind_forward, goes_on, is_sent_by, next_forward, origin, point_on, trace_end}
-use Rattle.j39_paths.specs.VehicleFindings.{AreFindings}
-use Rattle.j39_paths.specs.declared.point.FlowAt.{FlowAt}
-use Rattle.j39_paths.specs.declared.point.Point.{Point}
-use Rattle.j39_forwards.specs.Forwards.{AreOneValue}
-use Rattle.j39_forwards.proofs.Forwards.{among_whole}
+use Rattle.j39_vehicle_findings.specs.Buses.{flows_on, group_at}
+use Rattle.j39_vehicle_findings.specs.ForwardEnds.{Copies, Feeds}
+use Rattle.j39_vehicle_findings.specs.Traces.{behind_forward, goes_on, is_sent_by, next_forward, origin, point_on, trace_end}
+use Rattle.j39_vehicle_findings.specs.VehicleFindings.{AreFindings}
+use Rattle.j39_vehicle_findings.specs.declared.point.FlowAt.{FlowAt}
+use Rattle.j39_vehicle_findings.specs.declared.point.Point.{Point}
+use Rattle.j39_vehicle_laws.specs.Gateways.{AreOneValue}
+use Rattle.j39_vehicle_laws.proofs.Gateways.{among_whole}
 use Rattle.j39_vehicle_laws.specs.Carrying.{AreAllCopies, AreAllExact, Brings, BringsAnother, EachForward, GoesBy, another, group_of_point, is_exact, itself}
 use Rattle.j39_vehicle_laws.specs.Carrying.{more, none, nothing, signal_at}
 use Rattle.j39_vehicle_laws.specs.Faithful.{KeepsContents, signal_of}

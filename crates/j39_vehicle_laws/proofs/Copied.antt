@@ -10,8 +10,8 @@ use Rattle.j39_signal.specs.declared.selector.Selector.{Selector}
 use Rattle.j39_signal.specs.declared.state.State.TheVariants.{Absent}
 use Rattle.j39_network.specs.declared.plan.group_plan.GroupPlan.{GroupPlan}
 use Rattle.j39_vehicle.specs.declared.vehicle.Vehicle.{Vehicle}
-use Rattle.j39_paths.specs.VehicleFindings.{AreFindings, HaveOtherLayouts, IsSelector}
-use Rattle.j39_paths.specs.declared.finding.VehicleFinding.TheVariants.{LayoutDiffers}
+use Rattle.j39_vehicle_findings.specs.VehicleFindings.{AreFindings, HaveOtherLayouts, IsSelector}
+use Rattle.j39_vehicle_findings.specs.declared.finding.VehicleFinding.TheVariants.{LayoutDiffers}
 use Rattle.j39_vehicle_laws.specs.Copied.{CopiesCanBeSent, ReadingsAreStates}
 use Rattle.j39_vehicle_laws.proofs.Forwarding.{nothing_holds}
 use Rattle.j39_vehicle_laws.proofs.Values.{within}

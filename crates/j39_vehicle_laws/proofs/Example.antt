@@ -14,7 +14,7 @@ use Rattle.std.specs.Prelude.{IsTrue, pos}
 use Rattle.std.proofs.lemmas.Int.{ints}
 use Rattle.j39_signal.specs.Parts.{IsDivisor, IsSignal, SignalParts}
 use Rattle.j39_signal.specs.declared.kind.Kind.TheVariants.{Measured}
-use Rattle.j39_network.specs.LabelForm.{is_label}
+use Rattle.j39_id.specs.LabelForm.{is_label}
 use Rattle.j39_network.specs.declared.plan.meaning.Meaning.{Meaning}
 use Rattle.j39_network.specs.declared.plan.Plan.{Plan}
 use Rattle.j39_network.specs.declared.plan.flow_plan.FlowPlan.{FlowPlan}

@@ -7,18 +7,18 @@ use Rattle.std.proofs.lemmas.Bool.{false≢true}
 use Rattle.std.proofs.lemmas.Option.{none-some, same_Some}
 use Rattle.j39_signal.specs.Bits.{number_at}
 use Rattle.j39_signal.specs.declared.state.State.TheVariants.{Value}
-use Rattle.j39_rules.specs.ListPlaces.{each, in_each, pairs}
+use Rattle.j39_search.specs.ListPlaces.{each, in_each, pairs}
 use Rattle.j39_world.specs.Run.{Run}
 use Rattle.j39_world.specs.Transfers.{Begun}
 use Rattle.j39_world.specs.World.{all_off}
 use Rattle.j39_vehicle.specs.declared.vehicle.bus_plan.BusPlan.{BusPlan}
 use Rattle.j39_vehicle.specs.declared.vehicle.forward.Forward.{Forward}
-use Rattle.j39_paths.specs.FoundPaths.{content_findings, end_findings, loop_findings, need_findings, path_findings, queue_findings, some_at, vehicle_findings}
-use Rattle.j39_paths.specs.ForwardEnds.{ComesAfter, FollowsAt, IsAmong, IsInput, at_once, later, units_of_gateway}
-use Rattle.j39_paths.specs.Traces.{IsNeedFlow, is_from_origin, point_on, trace_end}
-use Rattle.j39_paths.specs.VehicleFindings.{AreFindings}
-use Rattle.j39_paths.proofs.PathLaws.{are_findings}
-use Rattle.j39_forwards.specs.Forwards.{HasMessage}
+use Rattle.j39_vehicle_findings.specs.FoundPaths.{content_findings, end_findings, loop_findings, need_findings, path_findings, queue_findings, some_at, vehicle_findings}
+use Rattle.j39_vehicle_findings.specs.ForwardEnds.{ComesAfter, FollowsAt, IsAmong, IsInput, at_once, later, units_of_gateway}
+use Rattle.j39_vehicle_findings.specs.Traces.{IsNeedFlow, is_from_origin, point_on, trace_end}
+use Rattle.j39_vehicle_findings.specs.VehicleFindings.{AreFindings}
+use Rattle.j39_vehicle_findings.proofs.PathLaws.{are_findings}
+use Rattle.j39_vehicle_laws.specs.Gateways.{HasMessage}
 use Rattle.j39_vehicle_laws.specs.Carrying.{AreAllExact, more, none}
 use Rattle.j39_vehicle_laws.specs.Reading.{reading}
 use Rattle.j39_vehicle_laws.specs.Forwarding.{ForwardedMessage, needed_message}

@@ -6,25 +6,25 @@ use Rattle.std.proofs.lemmas.Bool.{and_parts, cases_Bool, false≢true}
 use Rattle.std.proofs.lemmas.Bool.Decides.{Decides-eqb}
 use Rattle.std.proofs.lemmas.Option.{same_Some}
 use Rattle.j39_signal.specs.Parts.{SignalParts}
-use Rattle.j39_rules.specs.ListPlaces.{SomeMeets}
+use Rattle.j39_search.specs.ListPlaces.{SomeMeets}
 use Rattle.j39_network.specs.declared.plan.flow_plan.FlowPlan.{FlowPlan}
 use Rattle.j39_network.specs.declared.plan.group_plan.GroupPlan.{GroupPlan}
-use Rattle.j39_findings.proofs.Deciding.{passing_meet}
+use Rattle.j39_search.proofs.Deciding.{passing_meet}
 use Rattle.j39_vehicle.specs.declared.vehicle.Vehicle.{Vehicle}
 use Rattle.j39_vehicle.specs.declared.vehicle.forward.Forward.{Forward}
 use Rattle.j39_vehicle.specs.declared.vehicle.forward.ForwardedSignal.{ForwardedSignal}
-use Rattle.j39_paths.specs.Buses.{group_at}
-use Rattle.j39_paths.specs.ForwardEnds.{Feeds, IsInput, input_flows, listed, output_flows}
-use Rattle.j39_paths.specs.ForwardTests.{copies, feeds, is_input, is_output}
-use Rattle.j39_paths.specs.Matching.{Agree, CanStandFor}
-use Rattle.j39_paths.specs.MatchTests.{agree, has}
-use Rattle.j39_paths.specs.Traces.{agreeing_in, carries, copied_into, first_agreeing, first_input, goes_into, next_forward, put_into}
-use Rattle.j39_paths.specs.VehicleFindings.{AreFindings, DiffersFrom, Holds}
-use Rattle.j39_paths.specs.declared.finding.VehicleFinding.{VehicleFinding}
-use Rattle.j39_paths.specs.declared.finding.VehicleFinding.TheVariants.{ManyInputs, SignalDiffers}
-use Rattle.j39_paths.specs.declared.point.FlowAt.{FlowAt}
-use Rattle.j39_paths.specs.declared.point.Point.{Point}
-use Rattle.j39_paths.proofs.Deciding.{Decides-agree, Decides-has, Decides-is_input, Decides-is_output}
+use Rattle.j39_vehicle_findings.specs.Buses.{group_at}
+use Rattle.j39_vehicle_findings.specs.ForwardEnds.{Feeds, IsInput, input_flows, listed, output_flows}
+use Rattle.j39_vehicle_findings.specs.ForwardTests.{copies, feeds, is_input, is_output}
+use Rattle.j39_vehicle_findings.specs.Matching.{Agree, CanStandFor}
+use Rattle.j39_vehicle_findings.specs.MatchTests.{agree, has}
+use Rattle.j39_vehicle_findings.specs.Traces.{agreeing_in, carries, copied_into, first_agreeing, first_input, goes_into, next_forward, put_into}
+use Rattle.j39_vehicle_findings.specs.VehicleFindings.{AreFindings, DiffersFrom, Holds}
+use Rattle.j39_vehicle_findings.specs.declared.finding.VehicleFinding.{VehicleFinding}
+use Rattle.j39_vehicle_findings.specs.declared.finding.VehicleFinding.TheVariants.{ManyInputs, SignalDiffers}
+use Rattle.j39_vehicle_findings.specs.declared.point.FlowAt.{FlowAt}
+use Rattle.j39_vehicle_findings.specs.declared.point.Point.{Point}
+use Rattle.j39_vehicle_findings.proofs.Deciding.{Decides-agree, Decides-has, Decides-is_input, Decides-is_output}
 use Rattle.j39_vehicle_laws.specs.Carrying.{listed_for}
 use Rattle.j39_vehicle_laws.specs.Faithful.{signal_of}
 use Rattle.j39_vehicle_laws.proofs.Places.{mapped_of, one_passes, parts_of, passed_of, position_at}

@@ -14,14 +14,14 @@ use Rattle.j39_vehicle.specs.declared.vehicle.Vehicle.{Vehicle}
 use Rattle.j39_vehicle.specs.declared.vehicle.forward.Forward.{Forward}
 use Rattle.j39_vehicle.specs.declared.vehicle.forward.ForwardedSignal.{ForwardedSignal}
 use Rattle.j39_vehicle.specs.declared.vehicle.places.GroupAt.{GroupAt}
-use Rattle.j39_paths.specs.ForwardEnds.{Copies, Feeds, listed}
-use Rattle.j39_paths.specs.ForwardTests.{copies}
-use Rattle.j39_paths.specs.Matching.{Agree}
-use Rattle.j39_paths.specs.Traces.{behind_forward, first_input, goes_into, point_on}
-use Rattle.j39_paths.specs.VehicleFindings.{AreFindings}
-use Rattle.j39_paths.specs.declared.point.FlowAt.{FlowAt}
-use Rattle.j39_paths.specs.declared.point.Point.{Point}
-use Rattle.j39_paths.proofs.Deciding.{Decides-copies}
+use Rattle.j39_vehicle_findings.specs.ForwardEnds.{Copies, Feeds, listed}
+use Rattle.j39_vehicle_findings.specs.ForwardTests.{copies}
+use Rattle.j39_vehicle_findings.specs.Matching.{Agree}
+use Rattle.j39_vehicle_findings.specs.Traces.{behind_forward, first_input, goes_into, point_on}
+use Rattle.j39_vehicle_findings.specs.VehicleFindings.{AreFindings}
+use Rattle.j39_vehicle_findings.specs.declared.point.FlowAt.{FlowAt}
+use Rattle.j39_vehicle_findings.specs.declared.point.Point.{Point}
+use Rattle.j39_vehicle_findings.proofs.Deciding.{Decides-copies}
 use Rattle.j39_vehicle_laws.specs.Carrying.{IsTakenOver, group_of_point, is_exact, listed_for, signal_at}
 use Rattle.j39_vehicle_laws.specs.Faithful.{KeepsContents, signal_of}
 use Rattle.j39_vehicle_laws.specs.Reading.{HasNoValue, IsUnset, ReadsOver, ReadsValueOf, reading}

@@ -15,10 +15,10 @@ use Rattle.j39_world.specs.Sound.{reported, reported_alone}
 use Rattle.j39_world.specs.Transfers.{Begun, is_among}
 use Rattle.j39_world.specs.TransferSteps.{outgoing}
 use Rattle.j39_world.specs.World.{World, all_off}
-use Rattle.j39_laws.proofs.Reports.SenderSteps.{among_one}
+use Rattle.j39_run_laws.proofs.Reports.SenderSteps.{among_one}
 use Rattle.j39_vehicle.specs.declared.vehicle.Vehicle.{Vehicle}
 use Rattle.j39_vehicle.specs.declared.vehicle.bus_plan.BusPlan.{BusPlan}
-use Rattle.j39_forwards.specs.Forwards.{HasMessage}
+use Rattle.j39_vehicle_laws.specs.Gateways.{HasMessage}
 use Rattle.j39_vehicle_laws.specs.Passing.{CrossesBus, IsPassedOn, WasReportedIn, IsSpared, IsSparedAlone, IsSparedAnswered, at_first, by_gateway}
 use Rattle.j39_vehicle_laws.specs.BusRuns.{WasHeard, BusMessage, flow_on_bus}
 

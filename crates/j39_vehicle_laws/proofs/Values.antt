@@ -15,7 +15,7 @@ use Rattle.j39_signal.specs.declared.kind.Kind.TheVariants.{Measured, Discrete, 
 use Rattle.j39_signal.specs.declared.state.State.{State}
 use Rattle.j39_signal.specs.declared.state.State.TheVariants.{Value, Specific, Reserved, Fault, Absent}
 use Rattle.j39_signal.proofs.Steps.{value_down, value_up}
-use Rattle.j39_paths.specs.Matching.{first_value, has_value, last_value, steps_above, steps_below}
+use Rattle.j39_vehicle_findings.specs.Matching.{first_value, has_value, last_value, steps_above, steps_below}
 use Rattle.j39_vehicle_laws.specs.Values.{HavingIsOfValues, OneValueIsPassedOn}
 use Rattle.j39_vehicle_laws.proofs.Multiples.{one_factor, plus_times, times_times}
 use Rattle.j39_vehicle_laws.proofs.Indexes.{at_most, index_between, index_of, whole}

@@ -9,11 +9,11 @@ use Rattle.j39_world.specs.World.{World, all_off}
 use Rattle.j39_vehicle.specs.declared.vehicle.Vehicle.{Vehicle}
 use Rattle.j39_vehicle.specs.declared.vehicle.bus_plan.BusPlan.{BusPlan}
 use Rattle.j39_vehicle.specs.declared.vehicle.forward.Forward.{Forward}
-use Rattle.j39_paths.specs.Buses.{flows_on}
-use Rattle.j39_paths.specs.ForwardEnds.{Feeds, IsInput, input_flows}
-use Rattle.j39_paths.specs.declared.point.FlowAt.{FlowAt}
-use Rattle.j39_paths.specs.declared.point.Point.{Point}
-use Rattle.j39_forwards.specs.Forwards.{HasMessage}
+use Rattle.j39_vehicle_findings.specs.Buses.{flows_on}
+use Rattle.j39_vehicle_findings.specs.ForwardEnds.{Feeds, IsInput, input_flows}
+use Rattle.j39_vehicle_findings.specs.declared.point.FlowAt.{FlowAt}
+use Rattle.j39_vehicle_findings.specs.declared.point.Point.{Point}
+use Rattle.j39_vehicle_laws.specs.Gateways.{HasMessage}
 use Rattle.j39_vehicle_laws.specs.Faithful.{KeepsContents}
 
 -- ---- messages

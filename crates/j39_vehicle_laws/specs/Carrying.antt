@@ -9,9 +9,9 @@ use Rattle.j39_vehicle.specs.declared.vehicle.Vehicle.{Vehicle}
 use Rattle.j39_vehicle.specs.declared.vehicle.forward.Forward.{Forward}
 use Rattle.j39_vehicle.specs.declared.vehicle.forward.ForwardedSignal.{ForwardedSignal}
 use Rattle.j39_vehicle.specs.declared.vehicle.places.GroupAt.{GroupAt}
-use Rattle.j39_paths.specs.ForwardEnds.{Copies, listed}
-use Rattle.j39_paths.specs.Traces.{behind_forward, next_forward}
-use Rattle.j39_paths.specs.declared.point.Point.{Point}
+use Rattle.j39_vehicle_findings.specs.ForwardEnds.{Copies, listed}
+use Rattle.j39_vehicle_findings.specs.Traces.{behind_forward, next_forward}
+use Rattle.j39_vehicle_findings.specs.declared.point.Point.{Point}
 use Rattle.j39_vehicle_laws.specs.Faithful.{KeepsContents, signal_of}
 use Rattle.j39_vehicle_laws.specs.Reading.{IsUnset, ReadsOver, reading}
 use Rattle.j39_vehicle_laws.specs.BusRuns.{BusMessage, WasBegun, WasReported, flow_on_bus}

@@ -9,8 +9,8 @@ use Rattle.j39_network.specs.Lengths.{IsLengthOf}
 use Rattle.j39_network.specs.declared.plan.group_plan.GroupPlan.{GroupPlan}
 use Rattle.j39_vehicle.specs.declared.vehicle.Vehicle.{Vehicle}
 use Rattle.j39_vehicle.specs.declared.vehicle.forward.Forward.{Forward}
-use Rattle.j39_paths.specs.Buses.{group_at}
-use Rattle.j39_paths.specs.ForwardEnds.{Copies}
+use Rattle.j39_vehicle_findings.specs.Buses.{group_at}
+use Rattle.j39_vehicle_findings.specs.ForwardEnds.{Copies}
 use Rattle.j39_vehicle_laws.specs.Reading.{reading}
 
 -- the bytes can be a message of the group: it has messages of their length, and its selector takes them

@@ -9,8 +9,8 @@ use Rattle.j39_vehicle.specs.declared.vehicle.Vehicle.{Vehicle}
 use Rattle.j39_vehicle.specs.declared.vehicle.forward.Forward.{Forward}
 use Rattle.j39_vehicle.specs.declared.vehicle.forward.ForwardedSignal.{ForwardedSignal}
 use Rattle.j39_vehicle.specs.declared.vehicle.places.GroupAt.{GroupAt}
-use Rattle.j39_paths.specs.Buses.{group_at}
-use Rattle.j39_paths.specs.ForwardEnds.{Copies, listed}
+use Rattle.j39_vehicle_findings.specs.Buses.{group_at}
+use Rattle.j39_vehicle_findings.specs.ForwardEnds.{Copies, listed}
 use Rattle.j39_vehicle_laws.specs.Reading.{HasNoValue, IsUnset, ReadsValueOf, reading}
 
 -- the signal at a place of a group

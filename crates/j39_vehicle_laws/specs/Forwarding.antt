@@ -6,8 +6,8 @@ use Rattle.j39_signal.specs.declared.state.State.TheVariants.{Value}
 use Rattle.j39_network.specs.declared.plan.flow_plan.FlowPlan.{FlowPlan}
 use Rattle.j39_vehicle.specs.declared.vehicle.Vehicle.{Vehicle}
 use Rattle.j39_vehicle.specs.declared.vehicle.vehicle_need.VehicleNeed.{VehicleNeed}
-use Rattle.j39_paths.specs.Traces.{IsNeedFlow, flows_of_need, next_forward, point_on}
-use Rattle.j39_paths.specs.VehicleFindings.{AreFindings}
+use Rattle.j39_vehicle_findings.specs.Traces.{IsNeedFlow, flows_of_need, next_forward, point_on}
+use Rattle.j39_vehicle_findings.specs.VehicleFindings.{AreFindings}
 use Rattle.j39_vehicle_laws.specs.Carrying.{AreAllExact, signal_at}
 use Rattle.j39_vehicle_laws.specs.Reading.{reading}
 use Rattle.j39_vehicle_laws.specs.BusRuns.{WasReported, BusMessage, VehicleRun}

@@ -1,9 +1,10 @@
-pub mod Reading
-pub mod Values
-pub mod Faithful
 pub mod BusRuns
 pub mod Carrying
 pub mod Copied
-pub mod Unaltered
-pub mod Passing
+pub mod Faithful
 pub mod Forwarding
+pub mod Gateways
+pub mod Passing
+pub mod Reading
+pub mod Unaltered
+pub mod Values

@@ -15,7 +15,7 @@ use Rattle.j39_world.specs.declared.flow.Flow.{Flow}
 use Rattle.j39_vehicle.specs.declared.vehicle.Vehicle.{Vehicle}
 use Rattle.j39_vehicle.specs.declared.vehicle.bus_plan.BusPlan.{BusPlan}
 use Rattle.j39_vehicle.specs.declared.vehicle.forward.Forward.{Forward}
-use Rattle.j39_paths.specs.Traces.{behind_forward, next_forward}
+use Rattle.j39_vehicle_findings.specs.Traces.{behind_forward, next_forward}
 use Rattle.j39_vehicle_laws.specs.BusRuns.{WasReported, BusMessage}
 
 -- ---- on one bus

@@ -1,17 +1,20 @@
 //! Laws of vehicles: what gateways send on from bus to bus arrives unaltered.
 #![tactic(auto)]
 
+mod gateways;
+
 ghost use Rattle.std.specs.Prelude.{[]};
 ghost use Rattle.std.specs.Global.{Global};
 ghost use Rattle.j39_vehicle.specs.declared.vehicle.Vehicle.{Vehicle};
-ghost use Rattle.j39_paths.specs.VehicleFindings.{AreFindings};
+ghost use Rattle.j39_vehicle_findings.specs.VehicleFindings.{AreFindings};
 ghost use Rattle.j39_vehicle_laws.specs.Copied.{CopiesCanBeSent, ReadingsAreStates};
 ghost use Rattle.j39_vehicle_laws.specs.Forwarding.{ForwardedMessage};
 ghost use Rattle.j39_vehicle_laws.specs.Passing.{PassedMessagesArrive};
 ghost use Rattle.j39_vehicle_laws.specs.Unaltered.{IsUnaltered};
 ghost use Rattle.j39_vehicle_laws.specs.Values.{HavingIsOfValues, OneValueIsPassedOn};
 
-use j39_laws::{
+pub use gateways::what_is_read_was_written;
+use j39_run_laws::{
     answered_messages_arrive, reports_are_sound, sent_frames_are_sound, sent_frames_arrive,
     unanswered_messages_arrive,
 };

@@ -6,7 +6,7 @@ use Rattle.j39_id.specs.Addresses.{in_pool}
 use Rattle.j39_id.specs.Name.{is_arbitrary}
 use Rattle.j39_network.specs.UnitAddresses.{NeedsPoolAddress}
 use Rattle.j39_network.specs.Kinds.{AreDistinctUnits}
-use Rattle.j39_rules.specs.ListPlaces.{SoManyMeet}
+use Rattle.j39_search.specs.ListPlaces.{SoManyMeet}
 use Rattle.j39_network.specs.declared.plan.Plan.{Plan}
 use Rattle.j39_network.specs.declared.plan.flow_plan.FlowPlan.{FlowPlan}
 use Rattle.j39_network.specs.declared.plan.to.To.TheVariants.{One}

@@ -101,7 +101,7 @@ fn kinds_have_widths(rt: HostRuntime) -> Result<(), Fail> {
         (16, 31, Kind::Dtc, false),
     ];
     for (start, bits, kind, fits) in rows {
-        assert_eq!(rt; signal(start, bits, kind)?.width_fits(), fits);
+        assert!(rt; signal(start, bits, kind)?.width_fits() == fits);
     }
     Ok(())
 }
@@ -111,12 +111,12 @@ fn divisors_are_products_of_2_and_5(rt: HostRuntime) -> Result<(), Fail> {
     for per in [1, 2, 8, 10, 1000, 8_388_608, 9_765_625, 10_000_000] {
         assert!(rt; divides_decimally(per));
         let divided = signal(0, 8, Kind::Raw)?.divided_by(per);
-        assert_eq!(rt; divided.map(|signal| signal.per()), Some(per));
+        assert!(rt; divided.map(|signal| signal.per()) == Some(per));
     }
     for per in [0, 3, 12, 9_999_999, 10_000_001, 16_777_216, u32::MAX] {
         assert!(rt; !divides_decimally(per));
         assert!(rt; signal(0, 8, Kind::Raw)?.divided_by(per).is_none());
     }
-    assert_eq!(rt; signal(0, 8, Kind::Raw)?.per(), 1);
+    assert!(rt; signal(0, 8, Kind::Raw)?.per() == 1);
     Ok(())
 }

@@ -1,7 +1,8 @@
 //! Plans as they are read and checked.
+use j39_findings::{Finding, Refused, RefusedCause, bad_run, checked};
 use j39_plan::{
-    Bitrate, Cause, ErrorRate, Finding, FlowPlan, GroupPlan, Key, NeedPlan, Pace, Queue, Refused,
-    RefusedCause, RequestPlan, Step, Timing, To, UnitPlan, Way, bad_run, checked, read_plan,
+    Bitrate, Cause, ErrorRate, FlowPlan, GroupPlan, Key, NeedPlan, Pace, Queue, RequestPlan, Step,
+    Timing, To, UnitPlan, Way, read_plan,
 };
 use j39_signal::{Kind, Signal};
 use std::process::Abort;
@@ -82,10 +83,10 @@ fn is_unit(
     window: u8,
     name: u64,
 ) {
-    assert_eq!(rt; unit.label.as_str(), label);
-    assert_eq!(rt; (unit.address.number(), unit.window), (address, window));
-    assert_eq!(rt; unit.way, way);
-    assert_eq!(rt; unit.name.to_bits(), name);
+    assert!(rt; unit.label.as_str() == label);
+    assert!(rt; (unit.address.number(), unit.window) == (address, window));
+    assert!(rt; unit.way == way);
+    assert!(rt; unit.name.to_bits() == name);
 }
 
 fn is_signal(
@@ -97,16 +98,16 @@ fn is_signal(
     scale: (i64, i64),
     unit: &str,
 ) {
-    assert_eq!(rt; signal.label().as_str(), label);
-    assert_eq!(rt; (signal.start(), signal.bits()), place);
-    assert_eq!(rt; signal.kind(), kind);
-    assert_eq!(rt; (signal.step(), signal.offset()), scale);
-    assert_eq!(rt; signal.unit().as_str(), unit);
+    assert!(rt; signal.label().as_str() == label);
+    assert!(rt; (signal.start(), signal.bits()) == place);
+    assert!(rt; signal.kind() == kind);
+    assert!(rt; (signal.step(), signal.offset()) == scale);
+    assert!(rt; signal.unit().as_str() == unit);
 }
 
 fn is_temperature(rt: &impl Abort, group: &GroupPlan) -> Result<(), Fail> {
-    assert_eq!(rt; group.label.as_str(), "ET1");
-    assert_eq!(rt; (group.pgn, group.priority, group.length), (65262, 6, 8));
+    assert!(rt; group.label.as_str() == "ET1");
+    assert!(rt; (group.pgn, group.priority, group.length) == (65262, 6, 8));
     let [first, second] = group.signals.as_slice() else {
         return Err("not two signals").map_err(Fail::from);
     };
@@ -148,7 +149,7 @@ fn records_that_end_inside_a_message_are_counted(rt: HostRuntime) -> Result<(), 
     let [group] = plan.groups.as_slice() else {
         return Err("not one group").map_err(Fail::from);
     };
-    assert_eq!(rt; group.every, Some(4));
+    assert!(rt; group.every == Some(4));
     for (bytes, count) in [
         (5, 0),
         (6, 1),
@@ -158,7 +159,7 @@ fn records_that_end_inside_a_message_are_counted(rt: HostRuntime) -> Result<(), 
         (22, 5),
         (1730, 432),
     ] {
-        assert_eq!(rt; group.record_count(bytes), count);
+        assert!(rt; group.record_count(bytes) == count);
     }
     Ok(())
 }
@@ -348,7 +349,7 @@ fn what_version_4_knows_is_read_whole(rt: HostRuntime) -> Result<(), Fail> {
             .map(|unit| unit.queue)
             .eq([Queue::Any, Queue::Priority])
     );
-    assert_eq!(rt; plan.strangers, 3);
+    assert!(rt; plan.strangers == 3);
     are_requests(&rt, &plan.requests);
     Ok(())
 }
@@ -357,7 +358,7 @@ fn what_version_4_knows_is_read_whole(rt: HostRuntime) -> Result<(), Fail> {
 fn a_clean_plan_is_checked(rt: HostRuntime) -> Result<(), Fail> {
     let file = b"version = 1\n[[unit]]\nlabel = \"A\"\naddress = 0\nname = { identity = 1 }\n";
     match checked(rt.alloc(), read_plan(rt.alloc(), file)?) {
-        Ok(checked) => assert_eq!(rt; checked.plan().units.len(), 1),
+        Ok(checked) => assert!(rt; checked.plan().units.len() == 1),
         Err(_) => Err("it is refused")?,
     }
     Ok(())
@@ -367,7 +368,7 @@ fn a_clean_plan_is_checked(rt: HostRuntime) -> Result<(), Fail> {
 fn a_plan_with_findings_is_handed_back(rt: HostRuntime) -> Result<(), Fail> {
     let refused = checked(rt.alloc(), read_plan(rt.alloc(), SHARED)?).err();
     let Refused { plan, cause } = refused.ok_or("it is not refused")?;
-    assert_eq!(rt; plan.units.len(), 3);
+    assert!(rt; plan.units.len() == 3);
     let RefusedCause::Findings(findings) = cause else {
         return Err("no memory").map_err(Fail::from);
     };
@@ -377,7 +378,7 @@ fn a_plan_with_findings_is_handed_back(rt: HostRuntime) -> Result<(), Fail> {
         Finding::SameFixedAddress(0, 2),
         Finding::SameFixedAddress(1, 2),
     ];
-    assert_eq!(rt; findings.as_slice(), expected.as_slice());
+    assert!(rt; findings.as_slice() == expected.as_slice());
     Ok(())
 }
 
@@ -401,6 +402,6 @@ fn a_conflict_is_shown_by_four_steps(rt: HostRuntime) -> Result<(), Fail> {
 
 #[test]
 fn causes_and_keys_have_words(rt: HostRuntime) {
-    assert_eq!(rt; Cause::UnknownLabel.word(), "UnknownLabel");
-    assert_eq!(rt; Key::FunctionInstance.word(), "function_instance");
+    assert!(rt; Cause::UnknownLabel.word() == "UnknownLabel");
+    assert!(rt; Key::FunctionInstance.word() == "function_instance");
 }

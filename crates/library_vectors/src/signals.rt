@@ -17,11 +17,11 @@ pub fn writes(
 ) -> Result<(), Fail> {
     let mut group = Laid::blank(alloc, rows)?;
     for (label, value, answer) in values {
-        assert_eq!(rt; group.write(label, *value)?, *answer);
+        assert!(rt; group.write(label, *value)? == *answer);
     }
-    assert_eq!(rt; group.text(alloc)?.as_str(), text);
+    assert!(rt; group.text(alloc)?.as_str() == text);
     for (label, state) in states {
-        assert_eq!(rt; group.read(label)?, *state);
+        assert!(rt; group.read(label)? == *state);
     }
     Ok(())
 }
@@ -37,7 +37,7 @@ pub fn shows(
     let mut group = Laid::blank(alloc, rows)?;
     for (digits, state) in payloads {
         group.load(alloc, digits)?;
-        assert_eq!(rt; group.read(label)?, *state);
+        assert!(rt; group.read(label)? == *state);
     }
     Ok(())
 }
@@ -167,18 +167,12 @@ fn refusal(alloc: Global, length: u16, rows: &[SignalRow]) -> Result<Option<Layo
 #[test]
 fn a_layout_is_refused_for_its_first_fault(rt: HostRuntime) -> Result<(), Fail> {
     let wide = [raw(64, 1, 1)];
-    assert_eq!(rt; refusal(rt.alloc(), 8, &wide)?, Some(LayoutError::Width(0)));
-    assert_eq!(rt; refusal(rt.alloc(), 0, &wide)?, Some(LayoutError::Length));
+    assert!(rt; refusal(rt.alloc(), 8, &wide)? == Some(LayoutError::Width(0)));
+    assert!(rt; refusal(rt.alloc(), 0, &wide)? == Some(LayoutError::Length));
     let late = [raw(8, 8, 1), raw(8, 8, 2)];
-    assert_eq!(rt;
-        refusal(rt.alloc(), 8, &late)?,
-        Some(LayoutError::Outside(1))
-    );
+    assert!(rt; refusal(rt.alloc(), 8, &late)? == Some(LayoutError::Outside(1)));
     let shared = [raw(4, 2, 1), raw(4, 1, 1), raw(2, 1, 4)];
-    assert_eq!(rt;
-        refusal(rt.alloc(), 8, &shared)?,
-        Some(LayoutError::Overlap(1, 2))
-    );
+    assert!(rt; refusal(rt.alloc(), 8, &shared)? == Some(LayoutError::Overlap(1, 2)));
     Ok(())
 }
 
@@ -192,10 +186,10 @@ fn wide(start: u16, bits: u8, kind: Kind) -> Result<Signal, Fail> {
 fn parts_are_read_as_given(rt: HostRuntime) -> Result<(), Fail> {
     let signal = wide(8, 16, Kind::Measured)?;
     let texts = (signal.label().as_str(), signal.unit().as_str());
-    assert_eq!(rt; texts, ("SPN110", "degC"));
-    assert_eq!(rt; (signal.start(), signal.bits()), (8, 16));
-    assert_eq!(rt; (signal.step(), signal.offset()), (2, -40));
-    assert_eq!(rt; signal.kind(), Kind::Measured);
+    assert!(rt; texts == ("SPN110", "degC"));
+    assert!(rt; (signal.start(), signal.bits()) == (8, 16));
+    assert!(rt; (signal.step(), signal.offset()) == (2, -40));
+    assert!(rt; signal.kind() == Kind::Measured);
     assert!(rt; signal.width_fits() && signal.is_inside(3) && !signal.is_inside(2));
     Ok(())
 }
@@ -209,7 +203,7 @@ fn signals_share_a_bit_where_they_overlap(rt: HostRuntime) -> Result<(), Fail> {
         low.shares_bit(&middle),
         middle.shares_bit(&high),
     );
-    assert_eq!(rt; shared, (false, true, true));
+    assert!(rt; shared == (false, true, true));
     Ok(())
 }
 
@@ -221,7 +215,7 @@ fn the_longest_payload_is_laid_out(rt: HostRuntime) -> Result<(), Fail> {
         (1786, Some(LayoutError::Length)),
         (1784, Some(LayoutError::Outside(0))),
     ] {
-        assert_eq!(rt; Layout::new(rt.alloc(), length, &last).err(), refusal);
+        assert!(rt; Layout::new(rt.alloc(), length, &last).err() == refusal);
     }
     Ok(())
 }
@@ -229,11 +223,11 @@ fn the_longest_payload_is_laid_out(rt: HostRuntime) -> Result<(), Fail> {
 #[test]
 fn a_signal_is_given_up(rt: HostRuntime) -> Result<(), Fail> {
     let layout = Layout::new(rt.alloc(), 1, &[wide(0, 8, Kind::Measured)?])?;
-    assert_eq!(rt; (layout.length(), layout.count()), (1, 1));
+    assert!(rt; (layout.length(), layout.count()) == (1, 1));
     let mut payload = layout.blank(rt.alloc())?;
-    assert_eq!(rt; layout.write(&mut payload, 0, 10), Ok(()));
+    assert!(rt; layout.write(&mut payload, 0, 10) == Ok(()));
     layout.write_absent(&mut payload, 0);
-    assert_eq!(rt; layout.read(&payload, 0), State::Absent);
+    assert!(rt; layout.read(&payload, 0) == State::Absent);
     Ok(())
 }
 
@@ -241,18 +235,12 @@ fn a_signal_is_given_up(rt: HostRuntime) -> Result<(), Fail> {
 fn a_record_is_read_further_on(rt: HostRuntime) -> Result<(), Fail> {
     let once = wide(8, 16, Kind::Raw)?;
     let repeated = once.with_repeated(true);
-    assert_eq!(rt; (once.is_repeated(), once.end()), (false, 24));
-    assert_eq!(rt; (repeated.is_repeated(), repeated.end()), (true, 24));
+    assert!(rt; (once.is_repeated(), once.end()) == (false, 24));
+    assert!(rt; (repeated.is_repeated(), repeated.end()) == (true, 24));
     let layout = Layout::new(rt.alloc(), 3, &[repeated])?;
     let payload = [0, 1, 2, 3, 4, 5];
-    assert_eq!(rt;
-        layout.read_further(&payload, 0, 0),
-        State::Value(2 * 0x0201 - 40)
-    );
-    assert_eq!(rt;
-        layout.read_further(&payload, 0, 3),
-        State::Value(2 * 0x0504 - 40)
-    );
+    assert!(rt; layout.read_further(&payload, 0, 0) == State::Value(2 * 0x0201 - 40));
+    assert!(rt; layout.read_further(&payload, 0, 3) == State::Value(2 * 0x0504 - 40));
     Ok(())
 }
 
@@ -260,24 +248,21 @@ fn a_record_is_read_further_on(rt: HostRuntime) -> Result<(), Fail> {
 fn an_optional_signal_is_read_where_it_is_there(rt: HostRuntime) -> Result<(), Fail> {
     let always = wide(0, 8, Kind::Raw)?;
     let optional = wide(8, 12, Kind::Raw)?.with_optional(true);
-    assert_eq!(rt;
-        (always.is_optional(), optional.is_optional()),
-        (false, true)
-    );
-    assert_eq!(rt; (optional.is_there(2), optional.is_there(3)), (false, true));
+    assert!(rt; (always.is_optional(), optional.is_optional()) == (false, true));
+    assert!(rt; (optional.is_there(2), optional.is_there(3)) == (false, true));
     assert!(rt; always.is_there(0));
     let layout = Layout::new(rt.alloc(), 3, &[always, optional])?;
-    assert_eq!(rt; (layout.length(), layout.most()), (3, 3));
+    assert!(rt; (layout.length(), layout.most()) == (3, 3));
     let Some(layout) = layout.from_length(1) else {
         return Err("no shorter layout").map_err(Fail::from);
     };
-    assert_eq!(rt; (layout.length(), layout.most()), (1, 3));
+    assert!(rt; (layout.length(), layout.most()) == (1, 3));
     let short = [10, 5];
-    assert_eq!(rt; layout.read(&short, 0), State::Value(2 * 10 - 40));
-    assert_eq!(rt; layout.read(&short, 1), State::Absent);
+    assert!(rt; layout.read(&short, 0) == State::Value(2 * 10 - 40));
+    assert!(rt; layout.read(&short, 1) == State::Absent);
     let long = [10, 5, 0xF1];
-    assert_eq!(rt; layout.read(&long, 1), State::Value(2 * 0x105 - 40));
-    assert_eq!(rt; layout.read_there(&long, 1), State::Value(2 * 0x105 - 40));
+    assert!(rt; layout.read(&long, 1) == State::Value(2 * 0x105 - 40));
+    assert!(rt; layout.read_there(&long, 1) == State::Value(2 * 0x105 - 40));
     Ok(())
 }
 
@@ -288,11 +273,11 @@ fn an_optional_signal_is_written_where_it_is_there(rt: HostRuntime) -> Result<()
         return Err("no shorter layout").map_err(Fail::from);
     };
     let mut short = [0, 0];
-    assert_eq!(rt; layout.write(&mut short, 0, 0), Err(WriteError::NotThere));
+    assert!(rt; layout.write(&mut short, 0, 0) == Err(WriteError::NotThere));
     layout.write_absent(&mut short, 0);
-    assert_eq!(rt; short, [0, 0]);
+    assert!(rt; short == [0, 0]);
     let mut long = layout.blank_of(rt.alloc(), 3)?;
-    assert_eq!(rt; layout.write(&mut long, 0, 0), Ok(()));
+    assert!(rt; layout.write(&mut long, 0, 0) == Ok(()));
     assert!(rt; long.as_slice() == [0xFF, 20, 0xF0].as_slice());
     layout.write_absent(&mut long, 0);
     assert!(rt; long.as_slice() == [0xFF, 0xFF, 0xFF].as_slice());
@@ -303,7 +288,7 @@ fn an_optional_signal_is_written_where_it_is_there(rt: HostRuntime) -> Result<()
 fn a_layout_begins_where_its_signals_end(rt: HostRuntime) -> Result<(), Fail> {
     for (length, begins) in [(0, false), (1, false), (2, true), (3, true), (4, false)] {
         let layout = Layout::new(rt.alloc(), 3, &[wide(8, 8, Kind::Raw)?])?;
-        assert_eq!(rt; layout.from_length(length).is_some(), begins);
+        assert!(rt; layout.from_length(length).is_some() == begins);
     }
     Ok(())
 }
@@ -312,21 +297,21 @@ fn a_layout_begins_where_its_signals_end(rt: HostRuntime) -> Result<(), Fail> {
 fn a_signal_is_shown_with_its_raw_number(rt: HostRuntime) -> Result<(), Fail> {
     let layout = Layout::new(rt.alloc(), 2, &[wide(8, 8, Kind::Measured)?])?;
     let shown = layout.show(&[0, 0xFB], 0);
-    assert_eq!(rt; (shown.raw, shown.value), (0xFB, 2 * 0xFB - 40));
-    assert_eq!(rt; shown.state, State::Specific(0xFB));
+    assert!(rt; (shown.raw, shown.value) == (0xFB, 2 * 0xFB - 40));
+    assert!(rt; shown.state == State::Specific(0xFB));
     let further = layout.show_further(&[0, 0xFB, 3], 0, 1);
-    assert_eq!(rt; (further.raw, further.value), (3, 2 * 3 - 40));
-    assert_eq!(rt; further.state, State::Value(2 * 3 - 40));
+    assert!(rt; (further.raw, further.value) == (3, 2 * 3 - 40));
+    assert!(rt; further.state == State::Value(2 * 3 - 40));
     Ok(())
 }
 
 #[test]
 fn faults_have_texts(rt: HostRuntime) -> Result<(), Fail> {
     let overlap = format!(in rt.alloc(); "{}", LayoutError::Overlap(1, 2))?;
-    assert_eq!(rt; overlap.as_str(), "signals 1 and 2 share a bit");
+    assert!(rt; overlap.as_str() == "signals 1 and 2 share a bit");
     let step = format!(in rt.alloc(); "{}", WriteError::NotOnStep)?;
-    assert_eq!(rt; step.as_str(), "the value is not on a step");
+    assert!(rt; step.as_str() == "the value is not on a step");
     let there = format!(in rt.alloc(); "{}", WriteError::NotThere)?;
-    assert_eq!(rt; there.as_str(), "the signal is not there");
+    assert!(rt; there.as_str() == "the signal is not there");
     Ok(())
 }

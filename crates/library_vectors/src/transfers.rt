@@ -51,7 +51,7 @@ fn packets_are_refused_by_their_first_fault(rt: HostRuntime) {
         ([0x11, 3, 0, 0xFF, 0xFF, 0xEC, 0xFE, 0], PacketError::Number),
         ([0x20, 0x11, 0, 3, 0xFF, 1, 0xEE, 0], PacketError::Group),
     ] {
-        assert_eq!(rt; from_cm(&bytes), Err(error), "at {bytes:?}");
+        assert!(rt; from_cm(&bytes) == Err(error), "at {bytes:?}");
     }
 }
 
@@ -64,7 +64,7 @@ fn packets_are_read_and_sent_again(rt: HostRuntime) -> Result<(), Fail> {
         (SECOND, SECOND),
         ([0x11, 3, 1, 0, 0, 0xEC, 0xFE, 0], cts(3, 1)),
     ] {
-        assert_eq!(rt; to_data(&packet_of(&bytes)?), sent);
+        assert!(rt; to_data(&packet_of(&bytes)?) == sent);
     }
     Ok(())
 }
@@ -79,19 +79,16 @@ fn sizes_and_their_packets(rt: HostRuntime) {
         (1785, Some(255)),
         (1786, None),
     ] {
-        assert_eq!(rt; Size::new(bytes).map(|size| size.packets()), packets);
+        assert!(rt; Size::new(bytes).map(|size| size.packets()) == packets);
     }
 }
 
 #[test]
 fn a_message_is_told_as_it_was_given(rt: HostRuntime) -> Result<(), Fail> {
     let message = message()?;
-    assert_eq!(rt;
-        (message.pgn().number(), message.size().bytes()),
-        (65260, 17)
-    );
-    assert_eq!(rt; message.bytes(), TEXT.as_slice());
-    assert_eq!(rt; message.chunk(3), [14, 15, 16, 255, 255, 255, 255]);
+    assert!(rt; (message.pgn().number(), message.size().bytes()) == (65260, 17));
+    assert!(rt; message.bytes() == TEXT.as_slice());
+    assert!(rt; message.chunk(3) == [14, 15, 16, 255, 255, 255, 255]);
     Ok(())
 }
 
@@ -104,7 +101,7 @@ enum Met {
 }
 
 // What it answers.
-#[derive(Clone, Copy, Debug, PartialEq, Eq)]
+#[derive(Clone, Copy, PartialEq, Eq)]
 enum Answer {
     Nothing,
     Packet([u8; 8]),
@@ -148,11 +145,11 @@ fn sends(
     let Ok(packet) = sender.begin(message()?, dest) else {
         return Err("busy").map_err(Fail::from);
     };
-    assert_eq!(rt; to_data(&packet), announcement);
+    assert!(rt; to_data(&packet) == announcement);
     for (met, answer) in turns {
-        assert_eq!(rt; said(&mut sender, *met)?, *answer);
+        assert!(rt; said(&mut sender, *met)? == *answer);
     }
-    assert_eq!(rt; sender.outcome(), outcome);
+    assert!(rt; sender.outcome() == outcome);
     Ok(sender)
 }
 
@@ -166,7 +163,7 @@ fn a_message_to_all_is_sent_without_answers(rt: HostRuntime) -> Result<(), Fail>
         (Met::Heard(abort(9)), Answer::Nothing),
     ];
     let mut sender = sends(&rt, Dest::All, BAM, &turns, Some(Outcome::Sent))?;
-    assert_eq!(rt; sender.phase(), Phase::Resting);
+    assert!(rt; sender.phase() == Phase::Resting);
     assert!(rt; sender.rest());
     assert!(rt; !sender.rest());
     Ok(())
@@ -202,7 +199,7 @@ fn a_resting_sender_hands_a_message_back(rt: HostRuntime) -> Result<(), Fail> {
     let mut sender = sends(&rt, Dest::One, RTS, &turns, Some(Outcome::Aborted(9)))?;
     match sender.begin(message()?, Dest::One) {
         Ok(_) => Err("not busy")?,
-        Err(busy) => assert_eq!(rt; busy.message.bytes(), TEXT.as_slice()),
+        Err(busy) => assert!(rt; busy.message.bytes() == TEXT.as_slice()),
     }
     Ok(())
 }
@@ -241,16 +238,13 @@ fn receives(
 ) -> Result<(), Fail> {
     for (met, answer) in turns {
         let is_whole = matches!(answer, Answer::Complete | Answer::CompletePacket(_));
-        assert_eq!(rt;
-            completed(&receiver, *met)?,
-            if is_whole { Some(17) } else { None }
-        );
-        assert_eq!(rt; answered(&mut receiver, *met)?, *answer);
+        assert!(rt; completed(&receiver, *met)? == if is_whole { Some(17) } else { None });
+        assert!(rt; answered(&mut receiver, *met)? == *answer);
     }
     assert!(rt; !receiver.is_open());
     let pgn = receiver.group().map(|pgn| pgn.number());
-    assert_eq!(rt; pgn, if bytes.is_empty() { None } else { Some(65260) });
-    assert_eq!(rt; receiver.bytes(), bytes);
+    assert!(rt; pgn == if bytes.is_empty() { None } else { Some(65260) });
+    assert!(rt; receiver.bytes() == bytes);
     Ok(())
 }
 

@@ -1,7 +1,8 @@
 //! Plans that are checked.
 
 use j39_app::Verdict;
-use j39_plan::{FileError, Plan, RefusedCause, checked, read_plan};
+use j39_findings::{RefusedCause, checked};
+use j39_plan::{FileError, Plan, read_plan};
 use j39_vectors::Row;
 use std::alloc::{AllocError, Global};
 

@@ -37,8 +37,7 @@ class Outcome(NamedTuple):
 
 def command() -> list[str]:
     """The command that checks a plan."""
-    built = program.BUILT if os.access(program.BUILT, os.X_OK) else "j39plan"
-    return os.environ.get("CHECK", "").split() or [os.environ.get("J39PLAN") or built, "check"]
+    return os.environ.get("CHECK", "").split() or [os.environ.get("J39PLAN") or program.repository_program() or "j39plan", "check"]
 
 
 def answer_of(plan: str) -> tuple[int, bytes]:

@@ -1,7 +1,7 @@
 //! Which flows of a live plan have an end that isn't alone at its address.
 ghost use Rattle.std.specs.Prelude.{◌≡◌};
-ghost use Rattle.j39_rules.specs.Adding.{Adds};
-ghost use Rattle.j39_rules.specs.ListPlaces.{found_if};
+ghost use Rattle.j39_search.specs.Adding.{Adds};
+ghost use Rattle.j39_search.specs.ListPlaces.{found_if};
 ghost use Rattle.j39_findings.specs.Found.{contested_findings, is_contested, is_end_contested, is_receiver_contested};
 ghost use Rattle.j39_findings.specs.Standing.{alone_of};
 
@@ -9,7 +9,7 @@ use crate::checking::finding::Finding;
 use crate::standing::Standing;
 use j39_claim::AddressSet;
 use j39_network::{FlowPlan, Plan, To, UnitPlan};
-use j39_rules::{Rule, find_each, push_if};
+use j39_search::{Rule, find_each, push_if};
 use std::alloc::AllocError;
 
 #[derive(Clone, Copy)]

@@ -3,7 +3,7 @@ ghost use Rattle.std.specs.Prelude.{◌≡◌};
 
 /// One thing that is wrong with a plan, named by places from 0. Findings are in order by their number, then by their
 /// places.
-#[derive(Clone, Copy, Debug, PartialEq, Eq)]
+#[derive(Clone, Copy, PartialEq, Eq)]
 pub enum Finding {
     /// F1: two units may be one: they have one NAME, or nothing but serial numbers tells them apart, and not both are
     /// given.

@@ -1,7 +1,7 @@
 //! What is wrong with the flows of a plan.
 ghost use Rattle.std.specs.Prelude.{◌≡◌};
-ghost use Rattle.j39_rules.specs.Adding.{Adds};
-ghost use Rattle.j39_rules.specs.ListPlaces.{found_if};
+ghost use Rattle.j39_search.specs.Adding.{Adds};
+ghost use Rattle.j39_search.specs.ListPlaces.{found_if};
 ghost use Rattle.j39_findings.specs.Found.{is_one_frame_to_all, may_be_one_frame_to_all, cannot_go_to_one};
 ghost use Rattle.j39_findings.specs.Found.{goes_to_its_sender, are_one_flow, flow_findings};
 
@@ -9,7 +9,7 @@ use crate::checking::finding::Finding;
 use j39_id::limits::FRAME_BYTES;
 use j39_id::{PDU2_FIRST, pf_of};
 use j39_network::{FlowPlan, GroupPlan, To};
-use j39_rules::{PairRule, Rule, find_each, find_pairs, push_if};
+use j39_search::{PairRule, Rule, find_each, find_pairs, push_if};
 use std::alloc::AllocError;
 
 /// Whether each message of the group is sent in one frame, which has no destination.

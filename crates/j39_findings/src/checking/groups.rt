@@ -1,8 +1,8 @@
 //! What is wrong with the groups of a plan.
 ghost use Rattle.std.specs.Prelude.{◌≡◌};
 ghost use Rattle.j39_signal.specs.Selectors.{differ_in_value};
-ghost use Rattle.j39_rules.specs.Adding.{Adds};
-ghost use Rattle.j39_rules.specs.ListPlaces.{found_if};
+ghost use Rattle.j39_search.specs.Adding.{Adds};
+ghost use Rattle.j39_search.specs.ListPlaces.{found_if};
 ghost use Rattle.j39_findings.specs.Found.{is_for_no_plan, is_wrongly_private, has_bad_pgn, have_same_pgn};
 ghost use Rattle.j39_findings.specs.Found.{is_selector_outside, group_findings};
 
@@ -12,7 +12,7 @@ use j39_id::proprietary::is_proprietary;
 use j39_id::services::is_service;
 use j39_id::{EXTENDED_PAGE, Pgn};
 use j39_network::{FlowPlan, GroupPlan};
-use j39_rules::{PairRule, Rule, find_each, find_pairs, push_if};
+use j39_search::{PairRule, Rule, find_each, find_pairs, push_if};
 use j39_signal::Selector;
 use std::alloc::AllocError;
 

@@ -1,13 +1,13 @@
 //! Which units prefer an address that is kept free.
 ghost use Rattle.std.specs.Prelude.{◌≡◌};
-ghost use Rattle.j39_rules.specs.Adding.{Adds};
-ghost use Rattle.j39_rules.specs.ListPlaces.{found_if};
+ghost use Rattle.j39_search.specs.Adding.{Adds};
+ghost use Rattle.j39_search.specs.ListPlaces.{found_if};
 ghost use Rattle.j39_findings.specs.Found.{prefers_kept, kept_findings};
 
 use crate::checking::finding::Finding;
 use j39_claim::AddressSet;
 use j39_network::UnitPlan;
-use j39_rules::{Rule, find_each, push_if};
+use j39_search::{Rule, find_each, push_if};
 use std::alloc::AllocError;
 
 fn prefers_kept(kept: &AddressSet, unit: &UnitPlan) -> bool
@@ -40,7 +40,7 @@ impl Rule<UnitPlan, Finding> for KeptAddress<'_> {
     }
 }
 
-#[tactic(auto, unfolding(crate::specs::Found::kept_findings, j39_rules::specs::ListPlaces::each))]
+#[tactic(auto, unfolding(crate::specs::Found::kept_findings, j39_search::specs::ListPlaces::each))]
 pub fn find_kept(
     findings: &mut Vec<Finding>,
     kept: &AddressSet,

@@ -1,12 +1,12 @@
 //! Which needs no flow meets.
-ghost use Rattle.j39_rules.specs.Adding.{Adds};
-ghost use Rattle.j39_rules.specs.ListPlaces.{found_if};
+ghost use Rattle.j39_search.specs.Adding.{Adds};
+ghost use Rattle.j39_search.specs.ListPlaces.{found_if};
 ghost use Rattle.j39_findings.specs.Found.{is_unmet, need_findings};
 ghost use Rattle.j39_network.specs.Serving.{meets};
 
 use crate::checking::finding::Finding;
 use j39_network::{FlowPlan, NeedPlan, RequestPlan, is_met};
-use j39_rules::{Rule, find_each, push_if};
+use j39_search::{Rule, find_each, push_if};
 use std::alloc::AllocError;
 
 #[derive(Clone, Copy)]
@@ -36,7 +36,7 @@ impl Rule<NeedPlan, Finding> for NeedUnmet<'_> {
 
 /// Adds the needs that no flow meets. Of each need the flows are looked at up to the first that meets it, and one
 /// number tells most of them apart from it. Requests are looked at only for flows that are sent as answers.
-#[tactic(auto, unfolding(crate::specs::Found::need_findings, j39_rules::specs::ListPlaces::each))]
+#[tactic(auto, unfolding(crate::specs::Found::need_findings, j39_search::specs::ListPlaces::each))]
 pub fn find_in_needs(
     findings: &mut Vec<Finding>,
     requests: &[RequestPlan],

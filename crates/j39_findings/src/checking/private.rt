@@ -1,14 +1,14 @@
 //! Which flows send private groups.
 ghost use Rattle.std.specs.Prelude.{◌≡◌};
-ghost use Rattle.j39_rules.specs.Adding.{Adds};
-ghost use Rattle.j39_rules.specs.ListPlaces.{found_if};
+ghost use Rattle.j39_search.specs.Adding.{Adds};
+ghost use Rattle.j39_search.specs.ListPlaces.{found_if};
 ghost use Rattle.j39_findings.specs.Found.{sends, do_receivers_meet, sends_beside, is_sent_beside, sends_first};
 ghost use Rattle.j39_findings.specs.Found.{are_sent_together, is_sent, is_private_unsent, unsent_findings};
 
 use crate::checking::finding::Finding;
 use crate::checking::flows::may_be_one_frame_to_all;
 use j39_network::{FlowPlan, GroupPlan, To};
-use j39_rules::{Rule, find_each, push_if};
+use j39_search::{Rule, find_each, push_if};
 use std::alloc::AllocError;
 
 // Whether the flow sends the group, which its label names.
@@ -129,7 +129,7 @@ impl Rule<GroupPlan, Finding> for PrivateUnsent<'_> {
 }
 
 /// Adds the private groups that no flow sends.
-#[tactic(auto, unfolding(crate::specs::Found::unsent_findings, j39_rules::specs::ListPlaces::each))]
+#[tactic(auto, unfolding(crate::specs::Found::unsent_findings, j39_search::specs::ListPlaces::each))]
 pub fn find_unsent(
     findings: &mut Vec<Finding>,
     groups: &[GroupPlan],

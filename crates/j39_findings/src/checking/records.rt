@@ -1,12 +1,12 @@
 //! Which signals of groups are met by others in later records.
 ghost use Rattle.std.specs.Prelude.{◌≡◌, ◌≤◌, ◌+◌, ◌*◌, ◌/◌};
-ghost use Rattle.j39_rules.specs.Adding.{Adds};
-ghost use Rattle.j39_rules.specs.ListPlaces.{found_if};
+ghost use Rattle.j39_search.specs.Adding.{Adds};
+ghost use Rattle.j39_search.specs.ListPlaces.{found_if};
 ghost use Rattle.j39_findings.specs.Found.{comes_onto, do_records_meet, group_overlaps, overlaps_of, record_findings};
 
 use crate::checking::finding::Finding;
 use j39_network::GroupPlan;
-use j39_rules::{Rule, find_each, push_if};
+use j39_search::{Rule, find_each, push_if};
 use j39_signal::Signal;
 use std::alloc::AllocError;
 

@@ -1,7 +1,7 @@
 //! Which requests are answered, and how.
 ghost use Rattle.std.specs.Prelude.{◌≡◌};
-ghost use Rattle.j39_rules.specs.Adding.{Adds};
-ghost use Rattle.j39_rules.specs.ListPlaces.{found_if};
+ghost use Rattle.j39_search.specs.Adding.{Adds};
+ghost use Rattle.j39_search.specs.ListPlaces.{found_if};
 ghost use Rattle.j39_findings.specs.Found.{ask_the_same, ask_for_one_number, is_all_astray, is_answered_astray};
 ghost use Rattle.j39_findings.specs.Found.{is_one_astray, is_served_to_all};
 ghost use Rattle.j39_findings.specs.Found.{is_served_to_one, goes_unanswered, goes_unheard, may_name_receiver};
@@ -12,7 +12,7 @@ use crate::checking::finding::Finding;
 use crate::checking::flows::is_one_frame_to_all;
 use crate::checking::groups::WhenOutside;
 use j39_network::{FlowPlan, GroupPlan, RequestPlan, To, is_served, serves};
-use j39_rules::{PairRule, Rule, find_each, find_pairs, push_if};
+use j39_search::{PairRule, Rule, find_each, find_pairs, push_if};
 use std::alloc::AllocError;
 
 fn serves_one(request: &RequestPlan, flow: &FlowPlan) -> bool

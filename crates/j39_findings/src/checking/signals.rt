@@ -1,14 +1,14 @@
 //! What is wrong with the signals of each group of a plan.
-ghost use Rattle.j39_rules.specs.Adding.{Adds};
+ghost use Rattle.j39_search.specs.Adding.{Adds};
 ghost use Rattle.j39_signal.specs.Places.{shares_bit};
-ghost use Rattle.j39_rules.specs.ListPlaces.{found_if, each};
+ghost use Rattle.j39_search.specs.ListPlaces.{found_if, each};
 ghost use Rattle.j39_network.specs.SignalPlaces.{room_of_signal};
 ghost use Rattle.j39_findings.specs.Found.{has_other_width, ends_outside, width_findings, outside_findings};
 ghost use Rattle.j39_findings.specs.Found.{overlap_findings, signal_findings};
 
 use crate::checking::finding::Finding;
 use j39_network::GroupPlan;
-use j39_rules::{PairRule, Rule, find_each, find_pairs, push_if};
+use j39_search::{PairRule, Rule, find_each, find_pairs, push_if};
 use j39_signal::Signal;
 use std::alloc::AllocError;
 
@@ -104,7 +104,7 @@ struct Widths;
 impl Rule<GroupPlan, Finding> for Widths {
     ghost gives = { λ _ g group. width_findings g group };
 
-    #[tactic(auto, unfolding(j39_rules::specs::ListPlaces::each))]
+    #[tactic(auto, unfolding(j39_search::specs::ListPlaces::each))]
     fn find(
         &self,
         findings: &mut Vec<Finding>,
@@ -121,7 +121,7 @@ struct Outsides;
 impl Rule<GroupPlan, Finding> for Outsides {
     ghost gives = { λ _ g group. outside_findings g group };
 
-    #[tactic(auto, unfolding(j39_rules::specs::ListPlaces::each))]
+    #[tactic(auto, unfolding(j39_search::specs::ListPlaces::each))]
     fn find(
         &self,
         findings: &mut Vec<Finding>,

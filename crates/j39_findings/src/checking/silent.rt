@@ -1,14 +1,14 @@
 //! Which units that never claim have an address that another one may hold.
 ghost use Rattle.std.specs.Prelude.{◌≡◌};
-ghost use Rattle.j39_rules.specs.Adding.{Adds};
-ghost use Rattle.j39_rules.specs.ListPlaces.{found_if};
+ghost use Rattle.j39_search.specs.Adding.{Adds};
+ghost use Rattle.j39_search.specs.ListPlaces.{found_if};
 ghost use Rattle.j39_findings.specs.Found.{have_silent_address, is_silent_in_pool, silent_findings};
 
 use crate::checking::finding::Finding;
 use j39_claim::AddressSet;
 use j39_id::addresses::is_in_pool;
 use j39_network::UnitPlan;
-use j39_rules::{PairRule, Rule, find_each, find_pairs, push_if};
+use j39_search::{PairRule, Rule, find_each, find_pairs, push_if};
 use std::alloc::AllocError;
 
 #[derive(Clone, Copy)]

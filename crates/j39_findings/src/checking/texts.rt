@@ -1,12 +1,12 @@
 //! Which texts of groups lie outside of the bytes of their messages.
 ghost use Rattle.std.specs.Prelude.{◌≡◌};
-ghost use Rattle.j39_rules.specs.Adding.{Adds};
-ghost use Rattle.j39_rules.specs.ListPlaces.{found_if};
+ghost use Rattle.j39_search.specs.Adding.{Adds};
+ghost use Rattle.j39_search.specs.ListPlaces.{found_if};
 ghost use Rattle.j39_findings.specs.Found.{lies_outside, outside_text_findings, text_findings};
 
 use crate::checking::finding::Finding;
 use j39_network::{GroupPlan, TextPlan};
-use j39_rules::{Rule, find_each, push_if};
+use j39_search::{Rule, find_each, push_if};
 use std::alloc::AllocError;
 
 fn lies_outside(group: &GroupPlan, text: &TextPlan) -> bool
@@ -46,7 +46,7 @@ struct OutsideTexts;
 impl Rule<GroupPlan, Finding> for OutsideTexts {
     ghost gives = { λ _ g group. outside_text_findings g group };
 
-    #[tactic(auto, unfolding(j39_rules::specs::ListPlaces::each))]
+    #[tactic(auto, unfolding(j39_search::specs::ListPlaces::each))]
     fn find(
         &self,
         findings: &mut Vec<Finding>,

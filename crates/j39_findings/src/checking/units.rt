@@ -1,7 +1,7 @@
 //! What is wrong with the units of a plan.
 ghost use Rattle.std.specs.Prelude.{◌≡◌, ◌≤◌, length};
 ghost use Rattle.j39_id.specs.Limits.{unit_limit};
-ghost use Rattle.j39_rules.specs.Adding.{Adds};
+ghost use Rattle.j39_search.specs.Adding.{Adds};
 ghost use Rattle.j39_network.specs.Kinds.{may_be_one};
 ghost use Rattle.j39_findings.specs.Found.{have_same_fixed_address, is_fixed, needed_addresses, needs_pool_address};
 ghost use Rattle.j39_findings.specs.Found.{unit_findings};
@@ -10,7 +10,7 @@ use crate::checking::finding::Finding;
 use j39_claim::AddressSet;
 use j39_id::addresses::is_in_pool;
 use j39_network::{UnitPlan, may_be_one};
-use j39_rules::{PairRule, find_pairs, push_if};
+use j39_search::{PairRule, find_pairs, push_if};
 use std::alloc::AllocError;
 
 #[derive(Clone, Copy)]

@@ -12,7 +12,7 @@ use j39_network::{FlowPlan, GroupPlan, To};
 use j39_signal::is_selected;
 
 /// Whom a message went to. Units are given by their places, from 0.
-#[derive(Clone, Copy, Debug, PartialEq, Eq)]
+#[derive(Clone, Copy, PartialEq, Eq)]
 pub enum Aim {
     /// All other units.
     All,
@@ -23,7 +23,7 @@ pub enum Aim {
 }
 
 /// Who sent a message, to whom.
-#[derive(Clone, Copy, Debug, PartialEq, Eq)]
+#[derive(Clone, Copy, PartialEq, Eq)]
 pub struct Sending {
     /// The unit behind the source, if it is one of the plan.
     pub sender: Option<usize>,

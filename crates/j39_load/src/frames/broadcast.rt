@@ -8,7 +8,7 @@ pub(crate) enum BroadcastPart {
 }
 
 /// The long messages of a flow to all. Their unit sends one such message at a time.
-#[derive(Clone, Copy, Debug, PartialEq, Eq)]
+#[derive(Clone, Copy, PartialEq, Eq)]
 pub struct Broadcast {
     /// The unit that sends them, by its place.
     pub sender: usize,

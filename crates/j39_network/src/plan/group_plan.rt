@@ -3,7 +3,7 @@ ghost use Rattle.std.specs.Prelude.{◌≡◌, ◌≢◌, ◌≤◌, false, None
 ghost use Rattle.std.specs.Option.{ForSome};
 ghost use Rattle.j39_id.specs.Limits.{message_bytes};
 ghost use Rattle.j39_signal.specs.Parts.{IsDivisor, IsSignal};
-ghost use Rattle.j39_network.specs.LabelForm.{is_label};
+ghost use Rattle.j39_id.specs.LabelForm.{is_label};
 ghost use Rattle.j39_network.specs.PlanLimits.{signal_limit, text_limit};
 
 use super::{Meaning, TextPlan};
@@ -12,7 +12,7 @@ use j39_signal::{Selector, Signal};
 
 /// A parameter group, as it is planned, with at most 64 signals and at most 64 texts, no two of all of
 /// these of one label.
-#[derive(Debug, Drop)]
+#[derive(Drop)]
 pub struct GroupPlan {
     /// 1 to 32 ASCII letters, digits and `_`.
     pub label: Label,

@@ -1,13 +1,13 @@
 //! What a plan says of a signal beside its place and its scale.
 ghost use Rattle.std.specs.Prelude.{◌≤◌, IsTrue, length as count};
 ghost use Rattle.std.specs.Option.{ForSome};
-ghost use Rattle.j39_network.specs.LabelForm.{is_label};
+ghost use Rattle.j39_id.specs.LabelForm.{is_label};
 ghost use Rattle.j39_network.specs.PlanLimits.{spn_most, value_limit};
 
 use j39_id::Label;
 
 /// The name of a raw number of a signal.
-#[derive(Clone, Copy, Debug)]
+#[derive(Clone, Copy)]
 pub struct ValueName {
     /// The number as the bits have it, also of a signed signal.
     pub raw: u32,
@@ -17,7 +17,7 @@ pub struct ValueName {
 }
 
 /// The number of a signal, and the names of its raw numbers, of which it has at most 256.
-#[derive(Debug, Drop)]
+#[derive(Drop)]
 pub struct Meaning {
     /// Its number of SAE J1939 (SPN), 0 to 524287.
     pub spn: Option<u32>,

@@ -2,12 +2,12 @@
 ghost use Rattle.std.specs.Prelude.{◌≤◌, IsTrue};
 ghost use Rattle.std.specs.Option.{ForSome};
 ghost use Rattle.j39_id.specs.Limits.{message_bytes};
-ghost use Rattle.j39_network.specs.LabelForm.{is_label};
+ghost use Rattle.j39_id.specs.LabelForm.{is_label};
 
 use j39_id::Label;
 
 /// A text among the bytes of a parameter group, a byte for each of its characters.
-#[derive(Clone, Copy, Debug)]
+#[derive(Clone, Copy)]
 pub struct TextPlan {
     /// 1 to 32 ASCII letters, digits and `_`.
     pub label: Label,

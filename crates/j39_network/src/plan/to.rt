@@ -1,7 +1,7 @@
 //! The receivers of a flow.
 
 /// Who receives a flow.
-#[derive(Clone, Copy, Debug, PartialEq, Eq)]
+#[derive(Clone, Copy, PartialEq, Eq)]
 pub enum To {
     /// All other units.
     All,

@@ -2,13 +2,13 @@
 ghost use Rattle.std.specs.Prelude.{◌≡◌, ◌^◌, ◌%◌, ◌<◌, ◌≤◌, true, false, IsTrue};
 ghost use Rattle.j39_id.specs.Addresses.{null_address};
 ghost use Rattle.j39_id.specs.Name.{is_arbitrary};
-ghost use Rattle.j39_network.specs.LabelForm.{is_unit_label};
+ghost use Rattle.j39_id.specs.LabelForm.{is_unit_label};
 
 use super::{Queue, Way};
 use j39_id::{Address, Label, Name};
 
 /// An electronic unit.
-#[derive(Clone, Copy, Debug)]
+#[derive(Clone, Copy)]
 pub struct UnitPlan {
     /// 1 to 32 ASCII letters, digits and `_`, and not `all`.
     pub label: Label,

@@ -2,7 +2,7 @@
 ghost use Rattle.std.specs.Prelude.{◌≡◌, ◌≤◌, ◌++◌, [], map, Some, IfOk, IfSome};
 ghost use Rattle.std.specs.Option.{ForSome};
 ghost use Rattle.toml.specs.View.{table_view};
-ghost use Rattle.j39_tables.specs.Outcome.{Gives};
+ghost use Rattle.j39_toml.specs.Outcome.{Gives};
 ghost use Rattle.j39_plan.specs.Since.{since, since_faults, known_faults};
 ghost use Rattle.j39_plan.specs.declared.reading.version.Version.TheVariants.{Third};
 ghost use Rattle.j39_plan.specs.FlowTables as spec;
@@ -13,7 +13,7 @@ use super::text_kind::TextKind;
 use super::values::{flag, has_key, number};
 use super::{Cause, Key, PlanError, PlanFault, Table, Version};
 use j39_network::{FlowPlan, GroupPlan, Pace, To, UnitPlan};
-use j39_tables::{ReadElement, given_number, refused, required_text, table_of};
+use j39_toml::{ReadElement, given_number, refused, required_text, table_of};
 use std::alloc::Global;
 use toml::Value;
 
@@ -91,7 +91,7 @@ struct LaterPace {
 }
 
 // The same, by the period, where the version knows it.
-#[tactic(auto, using(j39_tables::proofs::FirstFaults::faults_after))]
+#[tactic(auto, using(j39_toml::proofs::FirstFaults::faults_after))]
 fn later_pace(
     members: &toml::Table,
     table: Table,
@@ -179,7 +179,7 @@ fn known_deadline(
     }
 }
 
-#[tactic(auto, using(j39_tables::proofs::FirstFaults::faults_after))]
+#[tactic(auto, using(j39_toml::proofs::FirstFaults::faults_after))]
 fn known_rhythm(members: &toml::Table, table: Table, version: Version) -> Result<Rhythm, PlanError>
     ensures { Gives result (known_faults table version (table_view members.now) (spec.pace_rules version (table_view members.now)))
         (λ rhythm. spec.DescribesPace version (table_view members.now) rhythm.pace
@@ -214,7 +214,7 @@ struct FlowEnds {
 }
 
 // What the texts of a flow name.
-#[tactic(auto, using(j39_tables::proofs::FirstFaults::faults_after))]
+#[tactic(auto, using(j39_toml::proofs::FirstFaults::faults_after))]
 fn ends(
     groups: &[GroupPlan],
     units: &[UnitPlan],
@@ -246,7 +246,7 @@ pub struct FlowReader<'a> {
     pub units: &'a [UnitPlan],
 }
 
-#[tactic(auto, using(j39_tables::proofs::FirstFaults::faults_after), unfolding(crate::specs::FlowTables::flow_table_faults))]
+#[tactic(auto, using(j39_toml::proofs::FirstFaults::faults_after), unfolding(crate::specs::FlowTables::flow_table_faults))]
 fn flow(
     version: Version,
     groups: &[GroupPlan],
@@ -278,7 +278,7 @@ fn flow(
 
 impl ReadElement<FlowPlan, PlanFault> for FlowReader<'_> {
     ghost use Rattle.std.specs.Prelude.{ℕ, List};
-    ghost use Rattle.j39_tables.specs.InOrder.{NeverGrows};
+    ghost use Rattle.j39_toml.specs.InOrder.{NeverGrows};
     ghost use Rattle.j39_plan.specs.PlanFaults.{no_label};
     ghost use Rattle.j39_plan.specs.FlowTables.{flow_faults, IsFlowOf};
 
@@ -294,7 +294,7 @@ impl ReadElement<FlowPlan, PlanFault> for FlowReader<'_> {
 
     ghost Describes = { λ r. IsFlowOf r.version (map (λ g. g.label.bytes) r.groups.now) (map (λ u. u.label.bytes) r.units.now) };
 
-    #[tactic(auto, using(j39_tables::proofs::FirstFaults::faults_after), unfolding(crate::specs::FlowTables::flow_faults))]
+    #[tactic(auto, using(j39_toml::proofs::FirstFaults::faults_after), unfolding(crate::specs::FlowTables::flow_faults))]
     fn read(
         &self,
         _alloc: Global,

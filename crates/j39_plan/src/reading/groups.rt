@@ -5,7 +5,7 @@ ghost use Rattle.j39_id.specs.Limits.{message_bytes};
 ghost use Rattle.j39_plan.specs.Schema.{tables_of};
 ghost use Rattle.j39_plan.specs.Since.{since, since_faults, known_faults};
 ghost use Rattle.j39_plan.specs.declared.reading.version.Version.TheVariants.{Third, Fourth};
-ghost use Rattle.j39_tables.specs.Outcome.{Gives, GivesGrowing};
+ghost use Rattle.j39_toml.specs.Outcome.{Gives, GivesGrowing};
 ghost use Rattle.j39_plan.specs.Growing.{GroupGrows};
 ghost use Rattle.j39_plan.specs.SelectorTables.{when_rule, when_table};
 ghost use Rattle.j39_plan.specs.GroupTables.{every_of, every_rule, group_table_faults, inner_rules, later_rules};
@@ -24,7 +24,7 @@ use j39_id::limits::MESSAGE_BYTES;
 use j39_network::limits::{SIGNAL_LIMIT, TEXT_LIMIT};
 use j39_network::{GroupPlan, Meaning};
 use j39_signal::Signal;
-use j39_tables::{ReadElement, given_number, read_each, table_of};
+use j39_toml::{ReadElement, given_number, read_each, table_of};
 use std::alloc::{AllocError, Global};
 use toml::Value;
 
@@ -114,7 +114,7 @@ fn when_key(
     }
 }
 
-#[tactic(auto, using(j39_tables::proofs::FirstFaults::faults_after))]
+#[tactic(auto, using(j39_toml::proofs::FirstFaults::faults_after))]
 fn later_keys(
     version: Version,
     length: u32,
@@ -162,7 +162,7 @@ struct Inside<'a> {
     texts: &'a [Value],
 }
 
-#[tactic(auto, using(j39_tables::proofs::FirstFaults::faults_after))]
+#[tactic(auto, using(j39_toml::proofs::FirstFaults::faults_after))]
 fn arrays(version: Version, members: &toml::Table, table: Table) -> Result<Inside, PlanError>
     ensures { Gives result (known_faults table version (table_view members.now) inner_rules)
         (λ arrays. (items_view arrays.signals.now ≡ tables_of signal_rule (table_view members.now))
@@ -202,7 +202,7 @@ fn parted(
     Ok((signals, meanings))
 }
 
-#[tactic(auto, using(j39_tables::proofs::FirstFaults::faults_after), unfolding(crate::specs::GroupTables::group_table_faults))]
+#[tactic(auto, using(j39_toml::proofs::FirstFaults::faults_after), unfolding(crate::specs::GroupTables::group_table_faults))]
 fn group(
     alloc: Global,
     version: Version,
@@ -277,7 +277,7 @@ impl ReadElement<GroupPlan, PlanFault> for GroupReader {
 
     ghost Describes = { λ r. IsGroupOf r.version };
 
-    #[tactic(auto, using(j39_tables::proofs::FirstFaults::faults_after), unfolding(crate::specs::GroupTables::group_faults))]
+    #[tactic(auto, using(j39_toml::proofs::FirstFaults::faults_after), unfolding(crate::specs::GroupTables::group_faults))]
     fn read(
         &self,
         alloc: Global,

@@ -6,15 +6,15 @@ ghost use Rattle.toml.specs.View.{view, table_view, items_view};
 ghost use Rattle.j39_id.specs.Addresses.{in_pool, pool_size};
 ghost use Rattle.j39_plan.specs.declared.reading.place.Table.TheVariants as at;
 ghost use Rattle.j39_plan.specs.Schema.{addresses_of};
-ghost use Rattle.j39_tables.specs.Rules.{natural};
+ghost use Rattle.j39_toml.specs.Rules.{natural};
 ghost use Rattle.j39_plan.specs.ValueCauses.{number_in, numbers_in, address_cause, addresses_cause};
-ghost use Rattle.j39_tables.specs.TableFaults.{key_faults};
+ghost use Rattle.j39_toml.specs.TableFaults.{key_faults};
 ghost use Rattle.j39_plan.specs.Since.{since, since_faults};
 ghost use Rattle.j39_plan.specs.declared.reading.version.Version.TheVariants.{Second, Fourth};
 ghost use Rattle.j39_plan.specs.PlanFaults.{version_of, version_numbered, keep_free_rule, strangers_rule, strangers_of};
 ghost use Rattle.j39_plan.specs.PlanFaults.{live_rule, live_of, head_faults};
 ghost use Rattle.j39_plan.specs.Described.{keep_free_of, kept_of};
-ghost use Rattle.j39_tables.specs.Outcome.{Gives};
+ghost use Rattle.j39_toml.specs.Outcome.{Gives};
 
 use super::tables::only_known;
 use super::values::{flag, number};
@@ -22,7 +22,7 @@ use super::{Cause, Key, PlanError, Table, Version};
 use j39_claim::AddressSet;
 use j39_id::Address;
 use j39_id::addresses::{POOL_FIRST, POOL_LAST, POOL_SIZE};
-use j39_tables::{refused, value_at};
+use j39_toml::{refused, value_at};
 use toml::Value;
 
 const KEYS: [(Key, Version); 10] = [
@@ -82,7 +82,7 @@ fn addresses(values: &[Value]) -> Result<AddressSet, Cause>
 }
 
 /// The addresses at the key, and none where it is absent.
-#[tactic(auto, using(j39_tables::proofs::TableViews::items_count_view), unfolding(j39_tables::specs::TableFaults::key_faults, crate::specs::Schema::addresses_of, crate::specs::ValueCauses::addresses_up_to))]
+#[tactic(auto, using(j39_toml::proofs::TableViews::items_count_view), unfolding(j39_toml::specs::TableFaults::key_faults, crate::specs::Schema::addresses_of, crate::specs::ValueCauses::addresses_up_to))]
 fn keep_free(members: &toml::Table) -> Result<AddressSet, PlanError>
     ensures gives { Gives result (key_faults at.Top (table_view members.now) keep_free_rule)
         (λ s. s ≡ addresses_of keep_free_rule (table_view members.now)) }
@@ -118,7 +118,7 @@ fn version_numbered(number: i64) -> Version
 }
 
 /// The version of a plan: the first where it tells none.
-#[tactic(auto, unfolding(crate::specs::PlanFaults::version_of, j39_tables::specs::Rules::number_of))]
+#[tactic(auto, unfolding(crate::specs::PlanFaults::version_of, j39_toml::specs::Rules::number_of))]
 pub fn version_of(members: &toml::Table) -> Version
     ensures { result ≡ version_of (table_view members.now) }
 {
@@ -145,7 +145,7 @@ fn known_keep_free(members: &toml::Table, version: Version) -> Result<AddressSet
 }
 
 /// The addresses that a plan keeps free, where its head has no fault.
-#[tactic(auto, using(j39_tables::proofs::FirstFaults::faults_after))]
+#[tactic(auto, using(j39_toml::proofs::FirstFaults::faults_after))]
 pub fn head(members: &toml::Table, version: Version) -> Result<AddressSet, PlanError>
     requires { version ≡ version_of (table_view members.now) }
     ensures gives { Gives result (head_faults (table_view members.now)) (λ s. s ≡ keep_free_of (table_view members.now)) }

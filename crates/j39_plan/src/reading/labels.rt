@@ -4,7 +4,7 @@ ghost use Rattle.std.specs.List.{list_any};
 ghost use Rattle.std.specs.Str.{bytes_eq};
 ghost use Rattle.j39_plan.specs.TextKinds.{takes};
 ghost use Rattle.j39_plan.specs.LabelsSeen.{repeated_faults};
-ghost use Rattle.j39_tables.specs.Outcome.{Gives};
+ghost use Rattle.j39_toml.specs.Outcome.{Gives};
 ghost use Rattle.j39_plan.specs.FlowTables.{place_of};
 
 use super::signals::PlannedSignal;
@@ -12,7 +12,7 @@ use super::text_kind::TextKind;
 use super::{Cause, Key, PlanError, Table};
 use j39_network::{GroupPlan, TextPlan, UnitPlan};
 use j39_signal::Signal;
-use j39_tables::refused;
+use j39_toml::refused;
 
 /// What has a label.
 pub trait Labelled {

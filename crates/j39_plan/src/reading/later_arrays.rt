@@ -3,7 +3,7 @@ ghost use Rattle.std.specs.Prelude.{◌≡◌};
 ghost use Rattle.toml.specs.View.{items_view, table_view};
 ghost use Rattle.j39_plan.specs.declared.reading.place.Table.TheVariants as at;
 ghost use Rattle.j39_plan.specs.Since.{known_faults};
-ghost use Rattle.j39_tables.specs.Outcome.{Gives};
+ghost use Rattle.j39_toml.specs.Outcome.{Gives};
 ghost use Rattle.j39_plan.specs.PlanFaults.{later_array_rules, need_tables_of, request_tables_of};
 
 use super::tables::array;
@@ -19,7 +19,7 @@ pub struct LaterArrays<'a> {
 }
 
 /// Those of a plan: none where its version doesn't know them.
-#[tactic(auto, using(j39_tables::proofs::FirstFaults::faults_after))]
+#[tactic(auto, using(j39_toml::proofs::FirstFaults::faults_after))]
 pub fn later_arrays(members: &toml::Table, version: Version) -> Result<LaterArrays<'_>, PlanError>
     ensures { Gives result (known_faults at.Top version (table_view members.now) later_array_rules)
         (λ later. (items_view later.needs.now ≡ need_tables_of version (table_view members.now))

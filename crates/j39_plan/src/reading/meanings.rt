@@ -9,16 +9,16 @@ ghost use Rattle.std.specs.Char.{is_ascii_digit};
 ghost use Rattle.std.specs.Str.Parse.{digits_value};
 ghost use Rattle.toml.specs.Data.{as_str, no_members};
 ghost use Rattle.toml.specs.View.{view, table_view};
-ghost use Rattle.j39_network.specs.LabelForm.{is_label};
+ghost use Rattle.j39_id.specs.LabelForm.{is_label};
 ghost use Rattle.j39_network.specs.PlanLimits.{spn_most, value_limit};
 ghost use Rattle.j39_plan.specs.Schema as schema;
-ghost use Rattle.j39_tables.specs.Rules.{flag_of};
+ghost use Rattle.j39_toml.specs.Rules.{flag_of};
 ghost use Rattle.j39_plan.specs.ValueCauses.{has_labels, has_numbers, has_texts, is_decimal, is_number_below};
 ghost use Rattle.j39_plan.specs.ValueCauses.{names_cause};
-ghost use Rattle.j39_tables.specs.TableFaults.{key_faults};
+ghost use Rattle.j39_toml.specs.TableFaults.{key_faults};
 ghost use Rattle.j39_plan.specs.MeaningTables.{AreValueNames, DescribesKeys, meaning_rules, optional_rule, raw_limit};
 ghost use Rattle.j39_plan.specs.Since.{known_faults};
-ghost use Rattle.j39_tables.specs.Outcome.{Gives};
+ghost use Rattle.j39_toml.specs.Outcome.{Gives};
 
 use super::text_kind::TextKind;
 use super::values::flag_if;
@@ -27,7 +27,7 @@ use arrayvec::ArrayString;
 use j39_id::Label;
 use j39_network::limits::{SPN_MOST, VALUE_LIMIT};
 use j39_network::{Meaning, ValueName};
-use j39_tables::{given_number, refused, value_at};
+use j39_toml::{given_number, refused, value_at};
 use std::alloc::{AllocError, Global};
 use toml::Value;
 
@@ -172,7 +172,7 @@ fn names_cause(limit: u64, names: &toml::Table) -> Option<Cause>
 }
 
 // The table of names at the key, which may stand only where this says so.
-#[tactic(auto, unfolding(j39_tables::specs::TableFaults::key_faults, j39_tables::specs::Rules::table_found, crate::specs::ValueCauses::names_below))]
+#[tactic(auto, unfolding(j39_toml::specs::TableFaults::key_faults, j39_toml::specs::Rules::table_found, crate::specs::ValueCauses::names_below))]
 fn names<'a>(
     members: &'a toml::Table,
     table: Table,
@@ -209,7 +209,7 @@ pub struct MeaningKeys<'a> {
 }
 
 // Whether the signal is optional, which it can't be where it is repeated.
-#[tactic(auto, unfolding(j39_tables::specs::Rules::flag_of))]
+#[tactic(auto, unfolding(j39_toml::specs::Rules::flag_of))]
 fn optional(members: &toml::Table, table: Table, repeated: bool) -> Result<bool, PlanError>
     ensures { Gives result (key_faults table (table_view members.now) (optional_rule repeated))
         (λ b. b ≡ flag_of (optional_rule false) (table_view members.now)) }
@@ -226,7 +226,7 @@ fn raw_limit(bits: u32) -> u64
 
 /// The same of a signal of so many bits, which is repeated or isn't, and a trouble code or none, where the version
 /// knows it.
-#[tactic(auto, using(j39_tables::proofs::FirstFaults::faults_after))]
+#[tactic(auto, using(j39_toml::proofs::FirstFaults::faults_after))]
 pub fn meaning_keys<'a>(
     members: &'a toml::Table,
     table: Table,

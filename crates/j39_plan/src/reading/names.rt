@@ -2,15 +2,15 @@
 ghost use Rattle.std.specs.Prelude.{◌≡◌, ◌<◌, ◌^◌, ◌%◌, true, IfOk};
 ghost use Rattle.toml.specs.View.{table_view};
 ghost use Rattle.j39_id.specs.Name.{name_number, first_out};
-ghost use Rattle.j39_tables.specs.Outcome.{Gives};
+ghost use Rattle.j39_toml.specs.Outcome.{Gives};
 ghost use Rattle.j39_plan.specs.UnitTables.{identity_rule, lacks_identity, name_faults, name_fields_of};
-ghost use Rattle.j39_tables.specs.Rules.{number_of};
-ghost use Rattle.j39_tables.specs.TableFaults.{key_faults};
+ghost use Rattle.j39_toml.specs.Rules.{number_of};
+ghost use Rattle.j39_toml.specs.TableFaults.{key_faults};
 
 use super::values::{flag, has_key, number};
 use super::{Key, PlanError, Table, Version};
 use j39_id::{Name, NameFields};
-use j39_tables::only;
+use j39_toml::only;
 
 const NAME_KEYS: [Key; 9] = [
     Key::Identity,
@@ -44,7 +44,7 @@ fn lacks_identity(version: Version, members: &toml::Table) -> bool
     version.knows(Version::Fourth) && !has_key(members, Key::Identity)
 }
 
-#[tactic(auto, using(j39_tables::proofs::FirstFaults::faults_after), unfolding(crate::specs::UnitTables::name_faults, crate::specs::UnitTables::name_fields_of))]
+#[tactic(auto, using(j39_toml::proofs::FirstFaults::faults_after), unfolding(crate::specs::UnitTables::name_faults, crate::specs::UnitTables::name_fields_of))]
 fn name_fields(
     version: Version,
     index: usize,

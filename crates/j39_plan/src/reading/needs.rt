@@ -2,7 +2,7 @@
 ghost use Rattle.std.specs.Prelude.{◌≡◌, [], ◌∷◌, map, option_map, option_and_then, Some};
 ghost use Rattle.std.specs.List.{slice_get};
 ghost use Rattle.toml.specs.View.{table_view};
-ghost use Rattle.j39_tables.specs.Outcome.{Gives};
+ghost use Rattle.j39_toml.specs.Outcome.{Gives};
 ghost use Rattle.j39_plan.specs.FlowTables.{place_of, place_faults};
 ghost use Rattle.j39_plan.specs.NeedTables as spec;
 
@@ -12,7 +12,7 @@ use super::text_kind::TextKind;
 use super::{Key, PlanError, PlanFault, Table};
 use j39_network::{GroupPlan, NeedPlan, UnitPlan};
 use j39_signal::Signal;
-use j39_tables::{ReadElement, given_number, given_text, only, required_text, table_of};
+use j39_toml::{ReadElement, given_number, given_text, only, required_text, table_of};
 use std::alloc::Global;
 use toml::Value;
 
@@ -69,7 +69,7 @@ pub struct NeedReader<'a> {
     pub units: &'a [UnitPlan],
 }
 
-#[tactic(auto, using(j39_tables::proofs::FirstFaults::faults_after), unfolding(crate::specs::NeedTables::need_table_faults))]
+#[tactic(auto, using(j39_toml::proofs::FirstFaults::faults_after), unfolding(crate::specs::NeedTables::need_table_faults))]
 fn need(
     groups: &[GroupPlan],
     units: &[UnitPlan],
@@ -107,7 +107,7 @@ fn need(
 
 impl ReadElement<NeedPlan, PlanFault> for NeedReader<'_> {
     ghost use Rattle.std.specs.Prelude.{ℕ, List};
-    ghost use Rattle.j39_tables.specs.InOrder.{NeverGrows};
+    ghost use Rattle.j39_toml.specs.InOrder.{NeverGrows};
     ghost use Rattle.j39_plan.specs.PlanFaults.{no_label};
     ghost use Rattle.j39_plan.specs.NeedTables.{need_faults, IsNeedOf};
 
@@ -125,7 +125,7 @@ impl ReadElement<NeedPlan, PlanFault> for NeedReader<'_> {
     ghost Describes = { λ r. IsNeedOf (map (λ g. g.label.bytes) r.groups.now)
         (map (λ g. map (λ s. s.label.bytes) g.signals.items) r.groups.now) (map (λ u. u.label.bytes) r.units.now) };
 
-    #[tactic(auto, using(j39_tables::proofs::FirstFaults::faults_after), unfolding(crate::specs::NeedTables::need_faults))]
+    #[tactic(auto, using(j39_toml::proofs::FirstFaults::faults_after), unfolding(crate::specs::NeedTables::need_faults))]
     fn read(
         &self,
         _alloc: Global,

@@ -1,6 +1,6 @@
 //! Why a plan could not be read.
 use super::{Key, Table};
-use j39_tables::{FileError, TableFault};
+use j39_toml::{FileError, TableFault};
 
 /// What is wrong with a plan file, and where.
 pub type PlanFault = TableFault<Table, Key>;

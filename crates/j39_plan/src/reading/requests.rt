@@ -1,14 +1,14 @@
 //! The requests of a plan.
 ghost use Rattle.std.specs.Prelude.{◌≡◌, [], ◌∷◌, map};
 ghost use Rattle.toml.specs.View.{table_view};
-ghost use Rattle.j39_tables.specs.Outcome.{Gives};
+ghost use Rattle.j39_toml.specs.Outcome.{Gives};
 ghost use Rattle.j39_plan.specs.RequestTables as spec;
 
 use super::flows::{milliseconds, place, to};
 use super::text_kind::TextKind;
 use super::{Key, PlanError, PlanFault, Table};
 use j39_network::{GroupPlan, RequestPlan, UnitPlan};
-use j39_tables::{ReadElement, given_number, only, required_text, table_of};
+use j39_toml::{ReadElement, given_number, only, required_text, table_of};
 use std::alloc::Global;
 use toml::Value;
 
@@ -21,7 +21,7 @@ pub struct RequestReader<'a> {
     pub units: &'a [UnitPlan],
 }
 
-#[tactic(auto, using(j39_tables::proofs::FirstFaults::faults_after), unfolding(crate::specs::RequestTables::request_table_faults))]
+#[tactic(auto, using(j39_toml::proofs::FirstFaults::faults_after), unfolding(crate::specs::RequestTables::request_table_faults))]
 fn request(
     groups: &[GroupPlan],
     units: &[UnitPlan],
@@ -52,7 +52,7 @@ fn request(
 
 impl ReadElement<RequestPlan, PlanFault> for RequestReader<'_> {
     ghost use Rattle.std.specs.Prelude.{ℕ, List};
-    ghost use Rattle.j39_tables.specs.InOrder.{NeverGrows};
+    ghost use Rattle.j39_toml.specs.InOrder.{NeverGrows};
     ghost use Rattle.j39_plan.specs.PlanFaults.{no_label};
     ghost use Rattle.j39_plan.specs.RequestTables.{request_faults, IsRequestOf};
 
@@ -68,7 +68,7 @@ impl ReadElement<RequestPlan, PlanFault> for RequestReader<'_> {
 
     ghost Describes = { λ r. IsRequestOf (map (λ g. g.label.bytes) r.groups.now) (map (λ u. u.label.bytes) r.units.now) };
 
-    #[tactic(auto, using(j39_tables::proofs::FirstFaults::faults_after), unfolding(crate::specs::RequestTables::request_faults))]
+    #[tactic(auto, using(j39_toml::proofs::FirstFaults::faults_after), unfolding(crate::specs::RequestTables::request_faults))]
     fn read(
         &self,
         _alloc: Global,

@@ -2,7 +2,7 @@
 ghost use Rattle.std.specs.Prelude.{◌≡◌, ◌≤◌, ◌-◌, ◌^◌, [], option_map};
 ghost use Rattle.std.specs.Option.{option_map_or};
 ghost use Rattle.toml.specs.View.{table_view};
-ghost use Rattle.j39_tables.specs.Outcome.{Gives};
+ghost use Rattle.j39_toml.specs.Outcome.{Gives};
 ghost use Rattle.j39_plan.specs.SelectorTables.{DescribesSelector, DescribesWhen, selector_table_faults};
 
 use super::signals::start_of;
@@ -10,7 +10,7 @@ use super::values::number;
 use super::{Key, PlanError, Table};
 use j39_id::limits::MESSAGE_BYTES;
 use j39_signal::Selector;
-use j39_tables::only;
+use j39_toml::only;
 
 const KEYS: [Key; 4] = [Key::Byte, Key::Bit, Key::Bits, Key::Value];
 
@@ -23,7 +23,7 @@ fn greatest(bits: u32) -> u32
     most as u32
 }
 
-#[tactic(auto, using(j39_tables::proofs::FirstFaults::faults_after), unfolding(crate::specs::SelectorTables::selector_table_faults))]
+#[tactic(auto, using(j39_toml::proofs::FirstFaults::faults_after), unfolding(crate::specs::SelectorTables::selector_table_faults))]
 fn selector(members: &toml::Table, group: usize) -> Result<Selector, PlanError>
     ensures { Gives result (selector_table_faults group (table_view members.now)) (DescribesSelector (table_view members.now)) }
 {

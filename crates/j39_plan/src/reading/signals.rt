@@ -2,15 +2,15 @@
 ghost use Rattle.std.specs.Prelude.{◌≡◌, ◌≤◌, ◌≤ℤ◌, true, false, None, pos, negsuc, IsTrue, IfOk, IfSome};
 ghost use Rattle.toml.specs.View.{table_view};
 ghost use Rattle.j39_signal.specs.Parts.{IsSignal, IsDivisor};
-ghost use Rattle.j39_network.specs.LabelForm.{is_label};
-ghost use Rattle.j39_tables.specs.Rules.{flag_of, integer_of, number_of, text_of};
-ghost use Rattle.j39_tables.specs.TableFaults.{key_faults};
+ghost use Rattle.j39_id.specs.LabelForm.{is_label};
+ghost use Rattle.j39_toml.specs.Rules.{flag_of, integer_of, number_of, text_of};
+ghost use Rattle.j39_toml.specs.TableFaults.{key_faults};
 ghost use Rattle.j39_plan.specs.ValueCauses.{names_cause};
 ghost use Rattle.j39_plan.specs.Since.{since, since_faults};
 ghost use Rattle.j39_plan.specs.declared.reading.version.Version.TheVariants.{Third};
 ghost use Rattle.j39_plan.specs.MeaningTables.{DescribesKeys, raw_limit};
 ghost use Rattle.j39_network.specs.PlanLimits.{spn_most};
-ghost use Rattle.j39_tables.specs.Outcome.{Gives};
+ghost use Rattle.j39_toml.specs.Outcome.{Gives};
 ghost use Rattle.j39_id.specs.Limits.{message_bytes};
 ghost use Rattle.j39_plan.specs.SignalTables.{is_code, is_dtc, kind_of, kind_rule, kinds, offset_rule, per_of};
 ghost use Rattle.j39_plan.specs.SignalTables.{per_rule, repeated_of, repeated_rule, signal_table_faults, start_of};
@@ -26,7 +26,7 @@ use j39_id::Label;
 use j39_id::limits::MESSAGE_BYTES;
 use j39_network::Meaning;
 use j39_signal::{Kind, Signal};
-use j39_tables::{ReadElement, table_of};
+use j39_toml::{ReadElement, table_of};
 use std::alloc::Global;
 use toml::Value;
 
@@ -100,7 +100,7 @@ fn kind(version: Version, members: &toml::Table, table: Table) -> Result<(Kind, 
     Ok((kind, version.knows(Version::Third) && is_dtc(kind)))
 }
 
-#[tactic(auto, unfolding(j39_tables::specs::Rules::number_of))]
+#[tactic(auto, unfolding(j39_toml::specs::Rules::number_of))]
 fn step(members: &toml::Table, table: Table, code: bool) -> Result<u32, PlanError>
     ensures gives { Gives result (key_faults table (table_view members.now) (step_rule code))
         (λ n. n ≡ number_of (step_rule false) (table_view members.now)) }
@@ -114,7 +114,7 @@ fn step(members: &toml::Table, table: Table, code: bool) -> Result<u32, PlanErro
     }
 }
 
-#[tactic(auto, unfolding(j39_tables::specs::Rules::number_of))]
+#[tactic(auto, unfolding(j39_toml::specs::Rules::number_of))]
 fn per(members: &toml::Table, table: Table, code: bool) -> Result<u32, PlanError>
     ensures gives { Gives result (key_faults table (table_view members.now) (per_rule code))
         (λ n. n ≡ number_of (per_rule false) (table_view members.now)) }
@@ -127,7 +127,7 @@ fn per(members: &toml::Table, table: Table, code: bool) -> Result<u32, PlanError
     }
 }
 
-#[tactic(auto, unfolding(j39_tables::specs::Rules::integer_of))]
+#[tactic(auto, unfolding(j39_toml::specs::Rules::integer_of))]
 fn offset(members: &toml::Table, table: Table, code: bool) -> Result<i64, PlanError>
     ensures gives { Gives result (key_faults table (table_view members.now) (offset_rule code))
         (λ n. n ≡ integer_of (offset_rule false) (table_view members.now)) }
@@ -142,7 +142,7 @@ fn offset(members: &toml::Table, table: Table, code: bool) -> Result<i64, PlanEr
     }
 }
 
-#[tactic(auto, unfolding(j39_tables::specs::Rules::text_of))]
+#[tactic(auto, unfolding(j39_toml::specs::Rules::text_of))]
 fn unit(members: &toml::Table, table: Table, code: bool) -> Result<Label, PlanError>
     ensures { Gives result (key_faults table (table_view members.now) (unit_rule code))
         (λ t. t.bytes ≡ text_of (unit_rule false) (table_view members.now)) }
@@ -155,7 +155,7 @@ fn unit(members: &toml::Table, table: Table, code: bool) -> Result<Label, PlanEr
 }
 
 // Whether the signal is repeated, which it can't be in a group without records.
-#[tactic(auto, unfolding(j39_tables::specs::Rules::flag_of))]
+#[tactic(auto, unfolding(j39_toml::specs::Rules::flag_of))]
 fn repeated(members: &toml::Table, table: Table, records: bool) -> Result<bool, PlanError>
     ensures gives { Gives result (key_faults table (table_view members.now) (repeated_rule records))
         (λ b. b ≡ flag_of (repeated_rule true) (table_view members.now)) }
@@ -247,7 +247,7 @@ fn known_repeated(
     }
 }
 
-#[tactic(auto, using(j39_tables::proofs::FirstFaults::faults_after), unfolding(crate::specs::SignalTables::signal_table_faults))]
+#[tactic(auto, using(j39_toml::proofs::FirstFaults::faults_after), unfolding(crate::specs::SignalTables::signal_table_faults))]
 fn signal<'a>(
     reader: &SignalReader,
     table: Table,
@@ -319,7 +319,7 @@ impl ReadElement<PlannedSignal, PlanFault> for SignalReader {
     ghost Describes = { λ r d x. (IsSignalOf r.version d x.signal × IsFit r.records x.signal)
         × IsMeaningOf r.version d x.meaning };
 
-    #[tactic(auto, using(j39_tables::proofs::FirstFaults::faults_after), unfolding(crate::specs::SignalTables::signal_faults))]
+    #[tactic(auto, using(j39_toml::proofs::FirstFaults::faults_after), unfolding(crate::specs::SignalTables::signal_faults))]
     fn read(
         &self,
         alloc: Global,

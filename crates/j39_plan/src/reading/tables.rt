@@ -6,16 +6,16 @@ ghost use Rattle.toml.specs.Data.{as_table};
 ghost use Rattle.toml.specs.View.{table_view, items_view};
 ghost use Rattle.j39_plan.specs.Words.{word_of};
 ghost use Rattle.j39_plan.specs.Schema as schema;
-ghost use Rattle.j39_tables.specs.TableFaults.{key_faults, unknown_faults};
+ghost use Rattle.j39_toml.specs.TableFaults.{key_faults, unknown_faults};
 ghost use Rattle.j39_plan.specs.Since.{is_known_word, known_keys};
-ghost use Rattle.j39_tables.specs.Outcome.{Gives};
+ghost use Rattle.j39_toml.specs.Outcome.{Gives};
 
 use super::{Cause, Key, PlanError, Table, Version};
-use j39_tables::{elements, refused, unknown_key, value_at};
+use j39_toml::{elements, refused, unknown_key, value_at};
 use toml::Value;
 
 /// The table at a key.
-#[tactic(auto, unfolding(j39_tables::specs::TableFaults::key_faults, j39_tables::specs::Rules::table_found, j39_tables::specs::Rules::one_table))]
+#[tactic(auto, unfolding(j39_toml::specs::TableFaults::key_faults, j39_toml::specs::Rules::table_found, j39_toml::specs::Rules::one_table))]
 pub fn inner<'a>(
     members: &'a toml::Table,
     table: Table,
@@ -35,7 +35,7 @@ pub fn inner<'a>(
 }
 
 /// The table at a key, or none where the key is absent.
-#[tactic(auto, unfolding(j39_tables::specs::TableFaults::key_faults, j39_tables::specs::Rules::table_found, j39_tables::specs::Rules::one_table))]
+#[tactic(auto, unfolding(j39_toml::specs::TableFaults::key_faults, j39_toml::specs::Rules::table_found, j39_toml::specs::Rules::one_table))]
 pub fn optional_inner<'a>(
     members: &'a toml::Table,
     table: Table,
@@ -55,7 +55,7 @@ pub fn optional_inner<'a>(
 }
 
 /// The array at a key, of at most so many elements, and an empty one where the key is absent.
-#[tactic(auto, using(j39_tables::proofs::TableViews::items_count_view), unfolding(crate::specs::Schema::tables_of, j39_tables::specs::Rules::array_up_to))]
+#[tactic(auto, using(j39_toml::proofs::TableViews::items_count_view), unfolding(crate::specs::Schema::tables_of, j39_toml::specs::Rules::array_up_to))]
 pub fn array<'a>(
     members: &'a toml::Table,
     table: Table,
@@ -87,7 +87,7 @@ fn has_known(members: &toml::Table, version: Version, keys: &[(Key, Version)]) -
 }
 
 /// Refuses a table with a key that the version doesn't know, of these, each with the version since which it is known.
-#[tactic(auto, using(crate::proofs::Tables::has_known_view), unfolding(j39_tables::specs::TableFaults::unknown_faults))]
+#[tactic(auto, using(crate::proofs::Tables::has_known_view), unfolding(j39_toml::specs::TableFaults::unknown_faults))]
 pub fn only_known(
     members: &toml::Table,
     table: Table,

@@ -2,7 +2,7 @@
 ghost use Rattle.std.specs.Prelude.{◌≡◌};
 ghost use Rattle.j39_plan.specs.TextKinds.{is_first_kind};
 
-use j39_tables::{TextForm, are_printable, is_label};
+use j39_toml::{TextForm, are_printable, is_label};
 
 /// Which texts a key takes.
 #[derive(Clone, Copy)]

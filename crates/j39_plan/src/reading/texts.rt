@@ -1,6 +1,6 @@
 //! The texts of a group.
 ghost use Rattle.toml.specs.View.{table_view};
-ghost use Rattle.j39_tables.specs.Outcome.{Gives};
+ghost use Rattle.j39_toml.specs.Outcome.{Gives};
 ghost use Rattle.j39_plan.specs.TextTables.{text_table_faults, DescribesText};
 
 use super::labels::untaken_beside;
@@ -10,13 +10,13 @@ use super::{Key, PlanError, PlanFault, Table};
 use j39_id::limits::MESSAGE_BYTES;
 use j39_network::TextPlan;
 use j39_signal::Signal;
-use j39_tables::{ReadElement, given_number, only, table_of};
+use j39_toml::{ReadElement, given_number, only, table_of};
 use std::alloc::Global;
 use toml::Value;
 
 const TEXT_KEYS: [Key; 3] = [Key::Label, Key::Byte, Key::Bytes];
 
-#[tactic(auto, using(j39_tables::proofs::FirstFaults::faults_after), unfolding(crate::specs::TextTables::text_table_faults))]
+#[tactic(auto, using(j39_toml::proofs::FirstFaults::faults_after), unfolding(crate::specs::TextTables::text_table_faults))]
 fn text(table: Table, members: &toml::Table) -> Result<TextPlan, PlanError>
     ensures { Gives result (text_table_faults table (table_view members.now)) (DescribesText (table_view members.now)) }
 {
@@ -43,7 +43,7 @@ pub struct TextReader<'a> {
 
 impl ReadElement<TextPlan, PlanFault> for TextReader<'_> {
     ghost use Rattle.std.specs.Prelude.{ℕ, List, map};
-    ghost use Rattle.j39_tables.specs.InOrder.{NeverGrows};
+    ghost use Rattle.j39_toml.specs.InOrder.{NeverGrows};
     ghost use Rattle.j39_plan.specs.TextTables.{text_faults, IsTextOf};
     ghost use Rattle.j39_plan.specs.LabelsSeen.{label_in};
 
@@ -59,7 +59,7 @@ impl ReadElement<TextPlan, PlanFault> for TextReader<'_> {
 
     ghost Describes = { λ _. IsTextOf };
 
-    #[tactic(auto, using(j39_tables::proofs::FirstFaults::faults_after), unfolding(crate::specs::TextTables::text_faults))]
+    #[tactic(auto, using(j39_toml::proofs::FirstFaults::faults_after), unfolding(crate::specs::TextTables::text_faults))]
     fn read(
         &self,
         _alloc: Global,

@@ -2,20 +2,20 @@
 ghost use Rattle.std.specs.Prelude.{◌≡◌, ◌≤◌, [], true, option_map, IfOk};
 ghost use Rattle.std.specs.Option.{option_map_or};
 ghost use Rattle.toml.specs.View.{table_view};
-ghost use Rattle.j39_tables.specs.Rules.{number_of};
+ghost use Rattle.j39_toml.specs.Rules.{number_of};
 ghost use Rattle.j39_plan.specs.declared.reading.place.Table.TheVariants as at;
-ghost use Rattle.j39_tables.specs.TableFaults.{key_faults};
+ghost use Rattle.j39_toml.specs.TableFaults.{key_faults};
 ghost use Rattle.j39_plan.specs.Since.{is_known, known_faults};
 ghost use Rattle.j39_plan.specs.declared.reading.version.Version.TheVariants.{Third};
 ghost use Rattle.j39_plan.specs.TimingTables as spec;
 ghost use Rattle.j39_plan.specs.PlanFaults.{version_of, timing_faults, timing_table};
-ghost use Rattle.j39_tables.specs.Outcome.{Gives};
+ghost use Rattle.j39_toml.specs.Outcome.{Gives};
 
 use super::tables::{only_known, optional_inner};
 use super::values::{bitrate_number, number};
 use super::{Key, PlanError, Table, Version};
 use j39_network::{Bitrate, ErrorRate, Timing};
-use j39_tables::only;
+use j39_toml::only;
 
 const KEYS: [(Key, Version); 7] = [
     (Key::Bitrate, Version::Third),
@@ -54,7 +54,7 @@ struct LaterKeys<'a> {
     errors: Option<&'a toml::Table>,
 }
 
-#[tactic(auto, using(j39_tables::proofs::FirstFaults::faults_after))]
+#[tactic(auto, using(j39_toml::proofs::FirstFaults::faults_after))]
 fn later_keys(members: &toml::Table, version: Version) -> Result<LaterKeys, PlanError>
     ensures gives { Gives result (known_faults at.Timing version (table_view members.now) (spec.later_timing_rules (table_view members.now)))
         (λ later. (later.unplanned_priority ≡ spec.unplanned_priority_of version (table_view members.now))
@@ -93,7 +93,7 @@ fn later_keys(members: &toml::Table, version: Version) -> Result<LaterKeys, Plan
     })
 }
 
-#[tactic(auto, using(j39_tables::proofs::FirstFaults::faults_after), unfolding(crate::specs::TimingTables::error_table_faults))]
+#[tactic(auto, using(j39_toml::proofs::FirstFaults::faults_after), unfolding(crate::specs::TimingTables::error_table_faults))]
 fn error_rate(members: &toml::Table) -> Result<ErrorRate, PlanError>
     ensures { Gives result (spec.error_table_faults (table_view members.now)) (spec.DescribesErrorRate (table_view members.now)) }
 {
@@ -118,7 +118,7 @@ fn errors(inner: Option<&toml::Table>) -> Result<Option<ErrorRate>, PlanError>
     }
 }
 
-#[tactic(auto, using(j39_tables::proofs::FirstFaults::faults_after), unfolding(crate::specs::TimingTables::timing_table_faults))]
+#[tactic(auto, using(j39_toml::proofs::FirstFaults::faults_after), unfolding(crate::specs::TimingTables::timing_table_faults))]
 fn bus(members: &toml::Table, version: Version) -> Result<Timing, PlanError>
     requires { is_known Third version ≡ true }
     ensures { Gives result (spec.timing_table_faults version (table_view members.now)) (spec.DescribesBus version (table_view members.now)) }
@@ -140,7 +140,7 @@ fn bus(members: &toml::Table, version: Version) -> Result<Timing, PlanError>
 }
 
 /// What is known of the bus, where the version knows its table and there is one.
-#[tactic(auto, using(j39_tables::proofs::FirstFaults::faults_after))]
+#[tactic(auto, using(j39_toml::proofs::FirstFaults::faults_after))]
 pub fn timing(members: &toml::Table, version: Version) -> Result<Option<Timing>, PlanError>
     requires { version ≡ version_of (table_view members.now) }
     ensures { Gives result (timing_faults (table_view members.now))

@@ -3,7 +3,7 @@ ghost use Rattle.std.specs.Prelude.{◌≡◌, ◌≤◌, ℕ, true, IfOk};
 ghost use Rattle.std.specs.FinSet.{contains};
 ghost use Rattle.toml.specs.View.{table_view};
 ghost use Rattle.j39_id.specs.Addresses.{in_pool, pool_size};
-ghost use Rattle.j39_tables.specs.Outcome.{Gives};
+ghost use Rattle.j39_toml.specs.Outcome.{Gives};
 ghost use Rattle.j39_plan.specs.PlanFaults.{top_faults};
 ghost use Rattle.j39_plan.specs.Described.{DescribesTop};
 
@@ -31,7 +31,7 @@ pub struct TopTable<'a> {
 }
 
 /// What the top table of a plan tells.
-#[tactic(auto, using(j39_tables::proofs::FirstFaults::faults_after))]
+#[tactic(auto, using(j39_toml::proofs::FirstFaults::faults_after))]
 pub fn top(members: &toml::Table) -> Result<TopTable<'_>, PlanError>
     ensures gives { Gives result (top_faults (table_view members.now)) (DescribesTop (table_view members.now)) }
     ensures range { IfOk result (λ t. (a : ℕ) → contains t.keep_free a ≡ true → in_pool a ≡ true) }

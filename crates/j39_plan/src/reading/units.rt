@@ -3,11 +3,11 @@ ghost use Rattle.std.specs.Prelude.{◌≡◌, ◌<◌, false, IfOk};
 ghost use Rattle.j39_id.specs.Addresses.{null_address};
 ghost use Rattle.j39_id.specs.Name.{is_arbitrary};
 ghost use Rattle.toml.specs.View.{table_view};
-ghost use Rattle.j39_tables.specs.Rules.{text_of, number_of};
-ghost use Rattle.j39_tables.specs.TableFaults.{key_faults};
+ghost use Rattle.j39_toml.specs.Rules.{text_of, number_of};
+ghost use Rattle.j39_toml.specs.TableFaults.{key_faults};
 ghost use Rattle.j39_plan.specs.Since.{since, since_faults};
 ghost use Rattle.j39_plan.specs.declared.reading.version.Version.TheVariants.{Fourth};
-ghost use Rattle.j39_tables.specs.Outcome.{Gives};
+ghost use Rattle.j39_toml.specs.Outcome.{Gives};
 ghost use Rattle.j39_plan.specs.UnitTables.{way_of, address_rule, chooser_rule, claims_of, claims_rule, queue_in};
 ghost use Rattle.j39_plan.specs.UnitTables.{queue_of, queue_rule, silent_faults, unit_table_faults, DescribesUnit};
 
@@ -19,7 +19,7 @@ use super::values::{flag, number, short_text, text};
 use super::{Cause, Key, PlanError, PlanFault, Table, Version};
 use j39_id::{Address, Name};
 use j39_network::{Queue, UnitPlan, Way};
-use j39_tables::{ReadElement, refused, table_of};
+use j39_toml::{ReadElement, refused, table_of};
 use std::alloc::Global;
 use toml::Value;
 
@@ -131,7 +131,7 @@ fn silent_stays(index: usize, claims: bool, name: Name) -> Result<(), PlanError>
     }
 }
 
-#[tactic(auto, using(j39_tables::proofs::FirstFaults::faults_after), unfolding(crate::specs::UnitTables::unit_table_faults))]
+#[tactic(auto, using(j39_toml::proofs::FirstFaults::faults_after), unfolding(crate::specs::UnitTables::unit_table_faults))]
 fn unit(version: Version, index: usize, members: &toml::Table) -> Result<UnitPlan, PlanError>
     ensures { Gives result (unit_table_faults version index (table_view members.now)) (DescribesUnit version (table_view members.now)) }
 {
@@ -166,7 +166,7 @@ pub struct UnitReader {
 
 impl ReadElement<UnitPlan, PlanFault> for UnitReader {
     ghost use Rattle.std.specs.Prelude.{ℕ, List};
-    ghost use Rattle.j39_tables.specs.InOrder.{NeverGrows};
+    ghost use Rattle.j39_toml.specs.InOrder.{NeverGrows};
     ghost use Rattle.j39_plan.specs.UnitTables.{unit_faults, unit_label_in, IsUnitOf};
 
     ghost Label = { List ℕ };
@@ -181,7 +181,7 @@ impl ReadElement<UnitPlan, PlanFault> for UnitReader {
 
     ghost Describes = { λ r. IsUnitOf r.version };
 
-    #[tactic(auto, using(j39_tables::proofs::FirstFaults::faults_after), unfolding(crate::specs::UnitTables::unit_faults))]
+    #[tactic(auto, using(j39_toml::proofs::FirstFaults::faults_after), unfolding(crate::specs::UnitTables::unit_faults))]
     fn read(
         &self,
         _alloc: Global,

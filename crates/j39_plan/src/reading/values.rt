@@ -3,20 +3,20 @@ ghost use Rattle.std.specs.Prelude.{◌≡◌, ℕ, true, false, if◌then◌els
 ghost use Rattle.std.specs.Prelude.{length};
 ghost use Rattle.std.specs.Option.{option_copied};
 ghost use Rattle.toml.specs.View.{table_view};
-ghost use Rattle.j39_tables.specs.Rules.{flag_of, integer_of, natural, number_of, text_of};
+ghost use Rattle.j39_toml.specs.Rules.{flag_of, integer_of, natural, number_of, text_of};
 ghost use Rattle.j39_signal.specs.Parts.{IsDivisor};
 ghost use Rattle.j39_plan.specs.TextKinds.{takes};
 ghost use Rattle.j39_plan.specs.Schema as schema;
-ghost use Rattle.j39_tables.specs.TableFaults.{key_faults};
+ghost use Rattle.j39_toml.specs.TableFaults.{key_faults};
 ghost use Rattle.j39_plan.specs.ValueCauses.{is_bitrate};
-ghost use Rattle.j39_tables.specs.Outcome.{Gives};
+ghost use Rattle.j39_toml.specs.Outcome.{Gives};
 
 use super::text_kind::TextKind;
 use super::{Cause, Key, PlanError, Table};
 use arrayvec::ArrayString;
 use j39_id::Label;
 use j39_signal::divides_decimally;
-use j39_tables::{refused, value_at};
+use j39_toml::{refused, value_at};
 use toml::Value;
 
 /// Whether something stands at a key.
@@ -28,7 +28,7 @@ pub fn has_key(members: &toml::Table, key: Key) -> bool
 }
 
 /// The integer at a key, within a range, or the default where there is one.
-#[tactic(auto, unfolding(j39_tables::specs::TableFaults::key_faults, j39_tables::specs::Rules::integer_of, j39_tables::specs::Rules::integer_in))]
+#[tactic(auto, unfolding(j39_toml::specs::TableFaults::key_faults, j39_toml::specs::Rules::integer_of, j39_toml::specs::Rules::integer_in))]
 pub fn integer(
     members: &toml::Table,
     table: Table,
@@ -63,7 +63,7 @@ pub fn integer(
 }
 
 /// The number at a key, within a range, or the default where there is one.
-#[tactic(auto, unfolding(j39_tables::specs::TableFaults::key_faults, j39_tables::specs::Rules::number_of, j39_tables::specs::Rules::integer_in))]
+#[tactic(auto, unfolding(j39_toml::specs::TableFaults::key_faults, j39_toml::specs::Rules::number_of, j39_toml::specs::Rules::integer_in))]
 pub fn number(
     members: &toml::Table,
     table: Table,
@@ -105,7 +105,7 @@ fn is_bitrate(number: i64, more: bool) -> bool
 }
 
 /// The bitrate at a key, of those that the third version knows or of more.
-#[tactic(auto, unfolding(j39_tables::specs::TableFaults::key_faults, j39_tables::specs::Rules::number_of, crate::specs::ValueCauses::bitrate_of_bus))]
+#[tactic(auto, unfolding(j39_toml::specs::TableFaults::key_faults, j39_toml::specs::Rules::number_of, crate::specs::ValueCauses::bitrate_of_bus))]
 pub fn bitrate_number(
     members: &toml::Table,
     table: Table,
@@ -132,7 +132,7 @@ pub fn bitrate_number(
 }
 
 /// The number at a key that values are divided by, a product of 2s and 5s up to a limit, or 1.
-#[tactic(auto, unfolding(j39_tables::specs::TableFaults::key_faults, j39_tables::specs::Rules::number_of, crate::specs::ValueCauses::divisor_up_to))]
+#[tactic(auto, unfolding(j39_toml::specs::TableFaults::key_faults, j39_toml::specs::Rules::number_of, crate::specs::ValueCauses::divisor_up_to))]
 pub fn divisor(members: &toml::Table, table: Table, key: Key, limit: u32) -> Result<u32, PlanError>
     requires { 1 ≤ limit }
     ensures gives { let rule = schema.divisor key limit in
@@ -156,7 +156,7 @@ pub fn divisor(members: &toml::Table, table: Table, key: Key, limit: u32) -> Res
 }
 
 /// The truth value at a key, or the default.
-#[tactic(auto, unfolding(j39_tables::specs::TableFaults::key_faults, j39_tables::specs::Rules::flag_of, j39_tables::specs::Rules::truth))]
+#[tactic(auto, unfolding(j39_toml::specs::TableFaults::key_faults, j39_toml::specs::Rules::flag_of, j39_toml::specs::Rules::truth))]
 pub fn flag(members: &toml::Table, table: Table, key: Key, default: bool) -> Result<bool, PlanError>
     ensures { let rule = schema.flag key default in
         Gives result (key_faults table (table_view members.now) rule)
@@ -172,7 +172,7 @@ pub fn flag(members: &toml::Table, table: Table, key: Key, default: bool) -> Res
 }
 
 /// The truth value at a key, which may be true only where this is so, and false where the key is absent.
-#[tactic(auto, unfolding(j39_tables::specs::TableFaults::key_faults, j39_tables::specs::Rules::flag_of, crate::specs::ValueCauses::truth_where))]
+#[tactic(auto, unfolding(j39_toml::specs::TableFaults::key_faults, j39_toml::specs::Rules::flag_of, crate::specs::ValueCauses::truth_where))]
 pub fn flag_if(members: &toml::Table, table: Table, key: Key, may: bool) -> Result<bool, PlanError>
     ensures gives { let rule = schema.flag_if key may in
         Gives result (key_faults table (table_view members.now) rule)
@@ -195,7 +195,7 @@ pub fn flag_if(members: &toml::Table, table: Table, key: Key, may: bool) -> Resu
 }
 
 /// The text at a key, or the default where there is one.
-#[tactic(auto, unfolding(j39_tables::specs::TableFaults::key_faults, j39_tables::specs::Rules::text_of, j39_tables::specs::Rules::text_where))]
+#[tactic(auto, unfolding(j39_toml::specs::TableFaults::key_faults, j39_toml::specs::Rules::text_of, j39_toml::specs::Rules::text_where))]
 pub fn text<'a>(
     members: &'a toml::Table,
     table: Table,
@@ -228,7 +228,7 @@ pub fn text<'a>(
 }
 
 /// The short text at a key, or the default where there is one.
-#[tactic(auto, unfolding(j39_tables::specs::TableFaults::key_faults, j39_tables::specs::Rules::text_of, j39_tables::specs::Rules::text_where))]
+#[tactic(auto, unfolding(j39_toml::specs::TableFaults::key_faults, j39_toml::specs::Rules::text_of, j39_toml::specs::Rules::text_where))]
 pub fn short_text(
     members: &toml::Table,
     table: Table,

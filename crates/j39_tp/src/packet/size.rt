@@ -6,7 +6,7 @@ use j39_id::limits::{FRAME_BYTES, MESSAGE_BYTES, PACKET_BYTES};
 use std::marker::Model;
 
 /// The size of a message that the transport protocol of SAE J1939-21 carries: 9 to 1785 bytes.
-#[derive(Clone, Copy, Debug, PartialEq, Eq, PartialOrd, Ord)]
+#[derive(Clone, Copy, PartialEq, Eq, PartialOrd, Ord)]
 pub struct Size {
     bytes: u16,
 }

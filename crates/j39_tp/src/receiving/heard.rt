@@ -2,7 +2,7 @@
 use crate::Packet;
 
 /// What a receiver does with what it hears.
-#[derive(Clone, Copy, Debug, PartialEq, Eq)]
+#[derive(Clone, Copy, PartialEq, Eq)]
 pub enum Heard {
     /// Nothing is sent, and no message is complete.
     Nothing,

@@ -1,7 +1,7 @@
 //! How a session of a sender ended.
 
 /// How a session of a sender ended.
-#[derive(Clone, Copy, Debug, PartialEq, Eq)]
+#[derive(Clone, Copy, PartialEq, Eq)]
 pub enum Outcome {
     /// All packets of a message to all were sent.
     Sent,

@@ -1,7 +1,7 @@
 //! The phases of a sender.
 
 /// What a sender is doing.
-#[derive(Clone, Copy, Debug, PartialEq, Eq)]
+#[derive(Clone, Copy, PartialEq, Eq)]
 pub enum Phase {
     /// It has no message.
     Idle,

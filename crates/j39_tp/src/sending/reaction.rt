@@ -2,7 +2,7 @@
 use crate::Packet;
 
 /// What a sender does with what it hears.
-#[derive(Clone, Copy, Debug, PartialEq, Eq)]
+#[derive(Clone, Copy, PartialEq, Eq)]
 pub enum Reaction {
     /// The packet changes nothing.
     Nothing,

@@ -2,7 +2,7 @@
 use j39_id::Label;
 
 /// A bus: its label, and the name of the file that has its plan.
-#[derive(Debug, Drop)]
+#[derive(Drop)]
 pub struct BusTable {
     /// 1 to 32 ASCII letters, digits and `_`.
     pub label: Label,

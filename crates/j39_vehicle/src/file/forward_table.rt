@@ -7,7 +7,7 @@ use super::{NameOnBus, SignalTable};
 use crate::vehicle::Mode;
 
 /// A forward, by labels: which gateway sends which group on as which, and how.
-#[derive(Debug, Drop)]
+#[derive(Drop)]
 pub struct ForwardTable {
     pub gateway: String,
     /// The group that is heard: `group`.

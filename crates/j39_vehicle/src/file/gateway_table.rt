@@ -6,7 +6,7 @@ use super::NameOnBus;
 use j39_id::Label;
 
 /// A gateway: its label, and its units on the buses.
-#[derive(Debug, Drop)]
+#[derive(Drop)]
 pub struct GatewayTable {
     /// 1 to 32 ASCII letters, digits and `_`.
     pub label: Label,

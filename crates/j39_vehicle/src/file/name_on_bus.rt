@@ -23,7 +23,7 @@ pub fn behind_point(text: &str) -> &str
 }
 
 /// A name on a bus, `X.Y`: the label of the bus, and that of a unit or a group of its plan.
-#[derive(Debug, Drop)]
+#[derive(Drop)]
 pub struct NameOnBus {
     pub text: String,
 }

@@ -5,7 +5,7 @@ ghost use Rattle.std.specs.Option.{ForSome};
 use super::NameOnBus;
 
 /// A need, by labels: which unit needs which group of its bus, or which signal of it, from which unit.
-#[derive(Debug, Drop)]
+#[derive(Drop)]
 pub struct NeedTable {
     pub unit: NameOnBus,
     pub group: String,

@@ -1,7 +1,7 @@
 //! The buses of a vehicle file.
 ghost use Rattle.std.specs.Prelude.{◌≡◌, [], map};
 ghost use Rattle.toml.specs.View.{table_view};
-ghost use Rattle.j39_tables.specs.Outcome.{GivesGrowing};
+ghost use Rattle.j39_toml.specs.Outcome.{GivesGrowing};
 ghost use Rattle.j39_vehicle.specs.BusTables.{bus_table_faults, named_bus, DescribesBus};
 
 use super::named::untaken;
@@ -10,13 +10,13 @@ use super::text_kind::TextKind;
 use super::values::label;
 use super::{Key, Table, VehicleError, VehicleFault};
 use crate::file::BusTable;
-use j39_tables::{ReadElement, only, required_text, table_of};
+use j39_toml::{ReadElement, only, required_text, table_of};
 use std::alloc::Global;
 use toml::Value;
 
 const BUS_KEYS: [Key; 2] = [Key::Label, Key::Plan];
 
-#[tactic(auto, using(j39_tables::proofs::FirstFaults::faults_after), unfolding(crate::specs::BusTables::bus_table_faults))]
+#[tactic(auto, using(j39_toml::proofs::FirstFaults::faults_after), unfolding(crate::specs::BusTables::bus_table_faults))]
 fn bus(
     alloc: Global,
     index: usize,
@@ -56,7 +56,7 @@ impl ReadElement<BusTable, VehicleFault> for BusReader {
 
     ghost Describes = { λ _. IsBusOf };
 
-    #[tactic(auto, using(j39_tables::proofs::FirstFaults::faults_after), unfolding(crate::specs::BusTables::bus_faults))]
+    #[tactic(auto, using(j39_toml::proofs::FirstFaults::faults_after), unfolding(crate::specs::BusTables::bus_faults))]
     fn read(
         &self,
         alloc: Global,

@@ -3,7 +3,7 @@ ghost use Rattle.std.specs.Prelude.{◌≡◌, ◌&&◌, map, option_and_then, o
 ghost use Rattle.std.specs.List.{list_any, slice_get};
 ghost use Rattle.std.specs.Str.{bytes_eq};
 ghost use Rattle.j39_vehicle.specs.TextKinds.{name_of};
-ghost use Rattle.j39_tables.specs.Outcome.{Gives};
+ghost use Rattle.j39_toml.specs.Outcome.{Gives};
 ghost use Rattle.j39_vehicle.specs.GatewayTables.{named_gateway};
 ghost use Rattle.j39_vehicle.specs.ForwardTables as spec;
 
@@ -78,7 +78,7 @@ fn is_unit_beside(units: &[NameOnBus], group: &str, label: Option<&str>) -> bool
 
 /// Refuses the first label that names nothing: a gateway that isn't there, a group on a bus where it has no unit, a
 /// unit that it doesn't have there.
-#[tactic(auto, using(j39_tables::proofs::FirstFaults::faults_after), unfolding(crate::specs::ForwardTables::known_faults))]
+#[tactic(auto, using(j39_toml::proofs::FirstFaults::faults_after), unfolding(crate::specs::ForwardTables::known_faults))]
 pub fn known_labels(
     gateways: &[GatewayTable],
     table: Table,

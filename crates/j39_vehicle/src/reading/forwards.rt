@@ -3,12 +3,12 @@ ghost use Rattle.std.specs.Prelude.{◌≡◌, ◌≤◌, [], map, length, optio
 ghost use Rattle.std.specs.Option.{ForSome};
 ghost use Rattle.toml.specs.View.{items_view, table_view};
 ghost use Rattle.j39_network.specs.PlanLimits.{signal_limit};
-ghost use Rattle.j39_tables.specs.declared.file_error.FileError.TheVariants.{Memory};
+ghost use Rattle.j39_toml.specs.declared.file_error.FileError.TheVariants.{Memory};
 ghost use Rattle.j39_vehicle.specs.Words.{word_of};
 ghost use Rattle.j39_vehicle.specs.Schema.{array_at, number_under, text_at};
-ghost use Rattle.j39_tables.specs.Outcome.{Gives, GivesGrowing};
-ghost use Rattle.j39_tables.specs.TableFaults.{keys_faults, table_faults};
-ghost use Rattle.j39_tables.specs.InOrder.{each_faults, EachGrows};
+ghost use Rattle.j39_toml.specs.Outcome.{Gives, GivesGrowing};
+ghost use Rattle.j39_toml.specs.TableFaults.{keys_faults, table_faults};
+ghost use Rattle.j39_toml.specs.InOrder.{each_faults, EachGrows};
 ghost use Rattle.j39_vehicle.specs.Growing.{ForwardTableGrows, SignalGrows};
 ghost use Rattle.j39_vehicle.specs.GatewayTables.{named_gateway};
 ghost use Rattle.j39_vehicle.specs.SignalTables.{signal_faults, forwarded_name};
@@ -23,7 +23,7 @@ use super::{Key, Table, VehicleError, VehicleFault};
 use crate::file::{ForwardTable, GatewayTable, SignalTable};
 use crate::limits::FORWARD_SIGNAL_LIMIT;
 use crate::vehicle::Mode;
-use j39_tables::{ReadElement, given_array, given_text, only, read_each, required_text, table_of};
+use j39_toml::{ReadElement, given_array, given_text, only, read_each, required_text, table_of};
 use std::alloc::Global;
 use toml::Value;
 
@@ -78,7 +78,7 @@ fn mode(word: Option<&str>) -> Mode
     }
 }
 
-#[tactic(auto, using(j39_tables::proofs::FirstFaults::faults_after))]
+#[tactic(auto, using(j39_toml::proofs::FirstFaults::faults_after))]
 fn sent_keys(members: &toml::Table, table: Table) -> Result<SentKeys<'_>, VehicleError>
     ensures { Gives result (keys_faults table (table_view members.now) spec.sent_rules) (λ k. let ms = table_view members.now in
         (text_at Key.As ms ≡ Some k.output.now) × (text_at Key.By ms ≡ option_map (λ t. t.now) k.by)
@@ -102,7 +102,7 @@ fn sent_keys(members: &toml::Table, table: Table) -> Result<SentKeys<'_>, Vehicl
     })
 }
 
-#[tactic(auto, using(j39_tables::proofs::FirstFaults::faults_after))]
+#[tactic(auto, using(j39_toml::proofs::FirstFaults::faults_after))]
 fn keys(members: &toml::Table, table: Table) -> Result<ForwardKeys<'_>, VehicleError>
     ensures { let ms = table_view members.now in
         Gives result (table_faults word_of table spec.forward_rules ms) (λ k.
@@ -129,7 +129,7 @@ fn keys(members: &toml::Table, table: Table) -> Result<ForwardKeys<'_>, VehicleE
 }
 
 // The signals that an array tells, where there is one.
-#[tactic(auto, unfolding(j39_tables::specs::InOrder::each_faults))]
+#[tactic(auto, unfolding(j39_toml::specs::InOrder::each_faults))]
 fn signals(
     alloc: Global,
     forward: usize,
@@ -179,7 +179,7 @@ fn told(
     })
 }
 
-#[tactic(auto, using(j39_tables::proofs::FirstFaults::faults_after), unfolding(crate::specs::ForwardTables::forward_table_faults))]
+#[tactic(auto, using(j39_toml::proofs::FirstFaults::faults_after), unfolding(crate::specs::ForwardTables::forward_table_faults))]
 fn forward(
     alloc: Global,
     gateways: &[GatewayTable],
@@ -229,7 +229,7 @@ impl ReadElement<ForwardTable, VehicleFault> for ForwardReader<'_> {
 
     ghost Describes = { λ _. IsForwardOf };
 
-    #[tactic(auto, using(j39_tables::proofs::FirstFaults::faults_after), unfolding(crate::specs::ForwardTables::forward_faults))]
+    #[tactic(auto, using(j39_toml::proofs::FirstFaults::faults_after), unfolding(crate::specs::ForwardTables::forward_faults))]
     fn read(
         &self,
         alloc: Global,

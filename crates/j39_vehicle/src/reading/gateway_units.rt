@@ -3,7 +3,7 @@ ghost use Rattle.std.specs.Prelude.{◌≡◌, ◌++◌, IfOk, IfErr, length, ma
 ghost use Rattle.std.specs.List.{list_all, list_any};
 ghost use Rattle.std.specs.Str.{bytes_eq};
 ghost use Rattle.toml.specs.View.{view, items_view};
-ghost use Rattle.j39_tables.specs.declared.file_error.FileError.TheVariants.{Memory};
+ghost use Rattle.j39_toml.specs.declared.file_error.FileError.TheVariants.{Memory};
 ghost use Rattle.j39_vehicle.specs.TextKinds.{name_of};
 ghost use Rattle.j39_vehicle.specs.LabelsSeen.{is_label_among};
 ghost use Rattle.j39_vehicle.specs.BusTables.{named_bus};
@@ -15,7 +15,7 @@ use super::named::has_label;
 use super::owned::name;
 use super::text_kind::TextKind;
 use crate::file::{BusTable, GatewayTable, NameOnBus, before_point};
-use j39_tables::Cause;
+use j39_toml::Cause;
 use std::alloc::Global;
 use toml::Value;
 

@@ -1,7 +1,7 @@
 //! The gateways of a vehicle file.
 ghost use Rattle.std.specs.Prelude.{◌≡◌, [], map};
 ghost use Rattle.toml.specs.View.{items_view, table_view};
-ghost use Rattle.j39_tables.specs.Outcome.{Gives, GivesGrowing};
+ghost use Rattle.j39_toml.specs.Outcome.{Gives, GivesGrowing};
 ghost use Rattle.j39_vehicle.specs.BusTables.{named_bus};
 ghost use Rattle.j39_vehicle.specs.GatewayTables.{gateway_table_faults, named_gateway, units_faults, DescribesGateway};
 
@@ -11,7 +11,7 @@ use super::values::label;
 use super::{Key, Table, VehicleError, VehicleFault};
 use crate::file::{BusTable, GatewayTable};
 use crate::limits::GATEWAY_UNIT_LIMIT;
-use j39_tables::{ReadElement, elements, only, refused, table_of};
+use j39_toml::{ReadElement, elements, only, refused, table_of};
 use std::alloc::Global;
 use toml::Value;
 
@@ -27,7 +27,7 @@ fn may_stand(index: usize, seen: &[GatewayTable], values: &[Value]) -> Result<()
     }
 }
 
-#[tactic(auto, using(j39_tables::proofs::FirstFaults::faults_after), unfolding(crate::specs::GatewayTables::gateway_table_faults))]
+#[tactic(auto, using(j39_toml::proofs::FirstFaults::faults_after), unfolding(crate::specs::GatewayTables::gateway_table_faults))]
 fn gateway(
     alloc: Global,
     buses: &[BusTable],
@@ -72,7 +72,7 @@ impl ReadElement<GatewayTable, VehicleFault> for GatewayReader<'_> {
 
     ghost Describes = { λ _. IsGatewayOf };
 
-    #[tactic(auto, using(j39_tables::proofs::FirstFaults::faults_after), unfolding(crate::specs::GatewayTables::gateway_faults))]
+    #[tactic(auto, using(j39_toml::proofs::FirstFaults::faults_after), unfolding(crate::specs::GatewayTables::gateway_faults))]
     fn read(
         &self,
         alloc: Global,

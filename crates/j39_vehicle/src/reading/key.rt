@@ -1,10 +1,10 @@
 //! Keys of a vehicle file.
 ghost use Rattle.std.specs.Prelude.{◌≡◌};
 
-use j39_tables::FileKey;
+use j39_toml::FileKey;
 
 /// A key of a table.
-#[derive(Clone, Copy, Debug, PartialEq, Eq)]
+#[derive(Clone, Copy, PartialEq, Eq)]
 pub enum Key {
     Version,
     Bus,

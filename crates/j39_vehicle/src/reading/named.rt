@@ -3,11 +3,11 @@ ghost use Rattle.std.specs.Prelude.{◌≡◌, map, position};
 ghost use Rattle.std.specs.List.{list_any};
 ghost use Rattle.std.specs.Str.{bytes_eq};
 ghost use Rattle.j39_vehicle.specs.LabelsSeen.{label_faults, is_label_among, repeated_faults};
-ghost use Rattle.j39_tables.specs.Outcome.{Gives};
+ghost use Rattle.j39_toml.specs.Outcome.{Gives};
 
 use super::{Key, Table, VehicleError};
 use crate::file::{BusTable, GatewayTable, SignalTable};
-use j39_tables::{Cause, refused};
+use j39_toml::{Cause, refused};
 
 /// What has a label that no other one has.
 pub trait HasName {

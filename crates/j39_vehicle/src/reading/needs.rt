@@ -2,13 +2,13 @@
 ghost use Rattle.std.specs.Prelude.{◌≡◌, ◌≤◌, [], map, option_map, Some, string_bytes, IfOk, IfErr};
 ghost use Rattle.std.specs.Option.{ForSome};
 ghost use Rattle.toml.specs.View.{table_view};
-ghost use Rattle.j39_tables.specs.declared.file_error.FileError.TheVariants.{Memory};
+ghost use Rattle.j39_toml.specs.declared.file_error.FileError.TheVariants.{Memory};
 ghost use Rattle.j39_vehicle.specs.Words.{word_of};
 ghost use Rattle.j39_vehicle.specs.TextKinds.{name_of};
 ghost use Rattle.j39_vehicle.specs.Schema.{number_under, text_at};
 ghost use Rattle.j39_vehicle.specs.LabelsSeen.{is_label_among};
-ghost use Rattle.j39_tables.specs.Outcome.{Gives, GivesGrowing};
-ghost use Rattle.j39_tables.specs.TableFaults.{table_faults};
+ghost use Rattle.j39_toml.specs.Outcome.{Gives, GivesGrowing};
+ghost use Rattle.j39_toml.specs.TableFaults.{table_faults};
 ghost use Rattle.j39_vehicle.specs.BusTables.{named_bus};
 ghost use Rattle.j39_vehicle.specs.NeedTables as spec;
 
@@ -18,7 +18,7 @@ use super::text_kind::TextKind;
 use super::values::number;
 use super::{Key, Table, VehicleError, VehicleFault};
 use crate::file::{BusTable, NeedTable, before_point};
-use j39_tables::{ReadElement, given_text, only, required_text, table_of};
+use j39_toml::{ReadElement, given_text, only, required_text, table_of};
 use std::alloc::Global;
 use toml::Value;
 
@@ -35,7 +35,7 @@ struct NeedKeys<'a> {
     ghost within_positive: { ForSome within (λ n. 1 ≤ n) },
 }
 
-#[tactic(auto, using(j39_tables::proofs::FirstFaults::faults_after))]
+#[tactic(auto, using(j39_toml::proofs::FirstFaults::faults_after))]
 fn keys(members: &toml::Table, table: Table) -> Result<NeedKeys<'_>, VehicleError>
     ensures { let ms = table_view members.now in
         Gives result (table_faults word_of table spec.need_rules ms) (λ k.
@@ -82,7 +82,7 @@ fn is_on_bus(buses: &[BusTable], unit: &str) -> bool
     has_label(buses, before_point(unit))
 }
 
-#[tactic(auto, using(j39_tables::proofs::FirstFaults::faults_after), unfolding(crate::specs::NeedTables::need_table_faults))]
+#[tactic(auto, using(j39_toml::proofs::FirstFaults::faults_after), unfolding(crate::specs::NeedTables::need_table_faults))]
 fn need(
     alloc: Global,
     buses: &[BusTable],
@@ -123,7 +123,7 @@ impl ReadElement<NeedTable, VehicleFault> for NeedReader<'_> {
 
     ghost Describes = { λ _. IsNeedOf };
 
-    #[tactic(auto, using(j39_tables::proofs::FirstFaults::faults_after), unfolding(crate::specs::NeedTables::need_faults))]
+    #[tactic(auto, using(j39_toml::proofs::FirstFaults::faults_after), unfolding(crate::specs::NeedTables::need_faults))]
     fn read(
         &self,
         alloc: Global,

@@ -1,6 +1,6 @@
 //! Texts that outlive the file that they stand in.
 ghost use Rattle.std.specs.Prelude.{◌≡◌, IfOk, IfErr, option_map, string_bytes};
-ghost use Rattle.j39_tables.specs.declared.file_error.FileError.TheVariants.{Memory};
+ghost use Rattle.j39_toml.specs.declared.file_error.FileError.TheVariants.{Memory};
 
 use super::VehicleError;
 use crate::file::NameOnBus;

@@ -1,7 +1,7 @@
 //! The signals of a forward.
 ghost use Rattle.std.specs.Prelude.{◌≡◌, [], map, unwrap_or, true};
 ghost use Rattle.toml.specs.View.{table_view};
-ghost use Rattle.j39_tables.specs.Outcome.{GivesGrowing};
+ghost use Rattle.j39_toml.specs.Outcome.{GivesGrowing};
 ghost use Rattle.j39_vehicle.specs.SignalTables.{named_signal, signal_table_faults, DescribesSignal};
 
 use super::named::untaken;
@@ -10,13 +10,13 @@ use super::text_kind::TextKind;
 use super::values::optional_truth;
 use super::{Key, Table, VehicleError, VehicleFault};
 use crate::file::SignalTable;
-use j39_tables::{ReadElement, given_text, only, required_text, table_of};
+use j39_toml::{ReadElement, given_text, only, required_text, table_of};
 use std::alloc::Global;
 use toml::Value;
 
 const SIGNAL_KEYS: [Key; 3] = [Key::Label, Key::As, Key::Exact];
 
-#[tactic(auto, using(j39_tables::proofs::FirstFaults::faults_after), unfolding(crate::specs::SignalTables::signal_table_faults))]
+#[tactic(auto, using(j39_toml::proofs::FirstFaults::faults_after), unfolding(crate::specs::SignalTables::signal_table_faults))]
 fn signal(
     alloc: Global,
     forward: usize,
@@ -64,7 +64,7 @@ impl ReadElement<SignalTable, VehicleFault> for SignalReader {
 
     ghost Describes = { λ _. IsSignalOf };
 
-    #[tactic(auto, using(j39_tables::proofs::FirstFaults::faults_after), unfolding(crate::specs::SignalTables::signal_faults))]
+    #[tactic(auto, using(j39_toml::proofs::FirstFaults::faults_after), unfolding(crate::specs::SignalTables::signal_faults))]
     fn read(
         &self,
         alloc: Global,

@@ -3,7 +3,7 @@ ghost use Rattle.std.specs.Prelude.{◌≡◌};
 ghost use Rattle.j39_vehicle.specs.TextKinds.{is_file_name, is_mode, is_name, takes};
 
 use crate::file::{before_point, behind_point};
-use j39_tables::{TextForm, are_printable, is_label};
+use j39_toml::{TextForm, are_printable, is_label};
 
 /// Which texts a key takes.
 #[derive(Clone, Copy)]

@@ -3,15 +3,15 @@ ghost use Rattle.std.specs.Prelude.{◌≡◌, ◌≤◌, Some, IfSome, IfOk};
 ghost use Rattle.toml.specs.View.{table_view};
 ghost use Rattle.j39_vehicle.specs.declared.reading.text_kind.TextKind.TheVariants as texts;
 ghost use Rattle.j39_vehicle.specs.Schema as schema;
-ghost use Rattle.j39_tables.specs.Rules.{natural_in, truth};
-ghost use Rattle.j39_tables.specs.TableFaults.{key_faults};
-ghost use Rattle.j39_tables.specs.Outcome.{Gives};
+ghost use Rattle.j39_toml.specs.Rules.{natural_in, truth};
+ghost use Rattle.j39_toml.specs.TableFaults.{key_faults};
+ghost use Rattle.j39_toml.specs.Outcome.{Gives};
 
 use super::text_kind::TextKind;
 use super::{Key, Table, VehicleError};
 use arrayvec::ArrayString;
 use j39_id::Label;
-use j39_tables::{Cause, given_number, refused, required_text, value_at};
+use j39_toml::{Cause, given_number, refused, required_text, value_at};
 
 /// The number at a key, within a range, or none where the key is absent, unless it is needed.
 pub fn number(
@@ -41,7 +41,7 @@ pub fn number(
 }
 
 /// The truth value at a key, or none where the key is absent.
-#[tactic(auto, unfolding(j39_tables::specs::TableFaults::key_faults, j39_tables::specs::Rules::truth_found, j39_tables::specs::Rules::truth))]
+#[tactic(auto, unfolding(j39_toml::specs::TableFaults::key_faults, j39_toml::specs::Rules::truth_found, j39_toml::specs::Rules::truth))]
 pub fn optional_truth(
     members: &toml::Table,
     table: Table,

@@ -1,7 +1,7 @@
 //! The tables of a kind, one after another.
 ghost use Rattle.std.specs.Prelude.{◌≡◌, IfOk, length};
 ghost use Rattle.std.specs.List.{AllZip};
-ghost use Rattle.j39_tables.specs.Outcome.{GivesGrowing};
+ghost use Rattle.j39_toml.specs.Outcome.{GivesGrowing};
 ghost use Rattle.j39_vehicle.specs.Resolved.{each_found, FoundGrows};
 
 use crate::reading::VehicleError;

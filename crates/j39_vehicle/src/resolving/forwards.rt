@@ -1,7 +1,7 @@
 //! What forwards name.
 ghost use Rattle.std.specs.Prelude.{◌≡◌, ◌≤◌, length, option_and_then, option_map, Some, string_bytes, IfOk, IfSome};
 ghost use Rattle.j39_network.specs.PlanLimits.{signal_limit};
-ghost use Rattle.j39_tables.specs.Outcome.{Gives, GivesGrowing};
+ghost use Rattle.j39_toml.specs.Outcome.{Gives, GivesGrowing};
 ghost use Rattle.j39_vehicle.specs.LabelsFound as found;
 ghost use Rattle.j39_vehicle.specs.Resolved as spec;
 
@@ -13,7 +13,7 @@ use crate::file::{ForwardTable, GatewayTable, NameOnBus, SignalTable};
 use crate::reading::{Key, Table, VehicleError};
 use crate::vehicle::{BusPlan, Forward, ForwardedSignal, GroupAt};
 use j39_network::To;
-use j39_tables::{Cause, refused};
+use j39_toml::{Cause, refused};
 use std::alloc::Global;
 
 // The group that is heard, the unit that has to send it, and the gateway's that hears it.
@@ -32,7 +32,7 @@ struct SentGroup {
     to: Option<To>,
 }
 
-#[tactic(auto, using(j39_tables::proofs::FirstFaults::faults_after), unfolding(crate::specs::Resolved::heard_found, crate::specs::LabelsSeen::label_faults))]
+#[tactic(auto, using(j39_toml::proofs::FirstFaults::faults_after), unfolding(crate::specs::Resolved::heard_found, crate::specs::LabelsSeen::label_faults))]
 fn hearing(
     buses: &[BusPlan],
     units: &[NameOnBus],
@@ -60,7 +60,7 @@ fn hearing(
     }
 }
 
-#[tactic(auto, using(j39_tables::proofs::FirstFaults::faults_after), unfolding(crate::specs::Resolved::sent_found, crate::specs::LabelsSeen::label_faults))]
+#[tactic(auto, using(j39_toml::proofs::FirstFaults::faults_after), unfolding(crate::specs::Resolved::sent_found, crate::specs::LabelsSeen::label_faults))]
 fn sending(
     buses: &[BusPlan],
     units: &[NameOnBus],
@@ -119,7 +119,7 @@ impl Resolve<ForwardTable, Forward> for ForwardResolver<'_> {
 
     ghost StandsFor = { λ r. spec.StandsForForward r.buses.now r.gateways.now };
 
-    #[tactic(auto, using(j39_tables::proofs::FirstFaults::faults_after), unfolding(crate::specs::Resolved::forward_found, crate::specs::LabelsSeen::label_faults))]
+    #[tactic(auto, using(j39_toml::proofs::FirstFaults::faults_after), unfolding(crate::specs::Resolved::forward_found, crate::specs::LabelsSeen::label_faults))]
     fn resolve(
         &self,
         alloc: Global,

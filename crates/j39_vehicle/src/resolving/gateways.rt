@@ -6,7 +6,7 @@ use super::found::unit_named;
 use crate::file::{GatewayTable, NameOnBus};
 use crate::reading::{Key, Table, VehicleError};
 use crate::vehicle::{BusPlan, Gateway, UnitAt};
-use j39_tables::{Cause, refused};
+use j39_toml::{Cause, refused};
 use std::alloc::Global;
 
 /// What the names of the units of the gateway at a place stand for.

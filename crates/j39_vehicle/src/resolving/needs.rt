@@ -7,7 +7,7 @@ use super::own::given_signal;
 use crate::file::NeedTable;
 use crate::reading::{Key, Table, VehicleError};
 use crate::vehicle::{BusPlan, GroupAt, VehicleNeed};
-use j39_tables::{Cause, refused};
+use j39_toml::{Cause, refused};
 use std::alloc::Global;
 
 /// What the tables of needs stand for.
@@ -23,7 +23,7 @@ impl Resolve<NeedTable, VehicleNeed> for NeedResolver<'_> {
 
     ghost StandsFor = { λ r. spec.StandsForNeed r.buses.now };
 
-    #[tactic(auto, using(j39_tables::proofs::FirstFaults::faults_after), unfolding(crate::specs::Resolved::need_found, crate::specs::LabelsSeen::label_faults))]
+    #[tactic(auto, using(j39_toml::proofs::FirstFaults::faults_after), unfolding(crate::specs::Resolved::need_found, crate::specs::LabelsSeen::label_faults))]
     fn resolve(
         &self,
         _alloc: Global,

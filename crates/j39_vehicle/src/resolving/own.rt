@@ -3,7 +3,7 @@ ghost use Rattle.std.specs.Prelude.{◌≡◌, option_and_then, option_map, posi
 ghost use Rattle.std.specs.Str.{bytes_eq};
 ghost use Rattle.j39_vehicle.specs.TextKinds.{name_of};
 ghost use Rattle.j39_vehicle.specs.LabelsSeen.{label_faults};
-ghost use Rattle.j39_tables.specs.Outcome.{Gives};
+ghost use Rattle.j39_toml.specs.Outcome.{Gives};
 ghost use Rattle.j39_vehicle.specs.LabelsFound as spec;
 
 use super::found::{receivers_on, signal_place, unit_place};
@@ -11,7 +11,7 @@ use crate::file::{GatewayTable, NameOnBus};
 use crate::reading::{Key, Table, VehicleError};
 use crate::vehicle::{BusPlan, GroupAt};
 use j39_network::To;
-use j39_tables::{Cause, refused};
+use j39_toml::{Cause, refused};
 
 /// The place of the gateway of a label.
 pub fn gateway_labelled(gateways: &[GatewayTable], label: &str) -> Option<usize>

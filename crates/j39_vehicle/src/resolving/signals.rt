@@ -6,7 +6,7 @@ use super::found::signal_place;
 use crate::file::SignalTable;
 use crate::reading::{Key, Table, VehicleError};
 use crate::vehicle::{BusPlan, ForwardedSignal, GroupAt};
-use j39_tables::{Cause, refused};
+use j39_toml::{Cause, refused};
 use std::alloc::Global;
 
 /// What the signals of the forward at a place stand for, between the groups that are heard and sent.

@@ -7,7 +7,7 @@ use super::GroupAt;
 use j39_network::To;
 
 /// When a gateway sends what it heard.
-#[derive(Clone, Copy, Debug, PartialEq, Eq)]
+#[derive(Clone, Copy, PartialEq, Eq)]
 pub enum Mode {
     /// For each message that ended, one.
     Direct,
@@ -16,7 +16,7 @@ pub enum Mode {
 }
 
 /// A signal whose values go into another one.
-#[derive(Clone, Copy, Debug, PartialEq, Eq)]
+#[derive(Clone, Copy, PartialEq, Eq)]
 pub struct ForwardedSignal {
     /// The place of the signal in the group that is heard.
     pub read: usize,
@@ -28,7 +28,7 @@ pub struct ForwardedSignal {
 
 /// A forward: a gateway hears a group on one bus and sends it, or signals of it in another group, on the same or
 /// another bus.
-#[derive(Debug, Drop)]
+#[derive(Drop)]
 pub struct Forward {
     /// The place of the gateway.
     pub gateway: usize,

@@ -7,7 +7,7 @@ use j39_id::Label;
 
 /// A gateway: its label, and its units on its buses. The first on a bus is the one by which it hears and sends there
 /// where nothing else is said; others stand there for units of other buses.
-#[derive(Debug, Drop)]
+#[derive(Drop)]
 pub struct Gateway {
     /// 1 to 32 ASCII letters, digits and `_`.
     pub label: Label,

@@ -1,6 +1,6 @@
 use Rattle.std.proofs.Common.{rules, ◌≡◌, ℕ, List, None, inl, inr, refl}
 use Rattle.j39_stream.specs.declared.verdict.Verdict.TheVariants.{Unreadable}
-use Rattle.j39_vehicle_check.specs.VehicleText.{IsVehicleText}
+use Rattle.j39_vehicle_text.specs.VehicleText.{IsVehicleText}
 use Rattle.j39_app.specs.Answers.{IsOfSome}
 use Rattle.j39_app.proofs.Ending.{put_ends}
 use Rattle.j39_app.proofs.VehicleEnds.{answers_too, continues, ends_too, fails_too}

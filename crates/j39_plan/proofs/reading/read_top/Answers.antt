@@ -4,13 +4,13 @@ use Rattle.toml.specs.View.{items_view}
 use Rattle.j39_id.specs.Limits.{unit_limit}
 use Rattle.j39_network.specs.PlanLimits.{flow_limit, group_limit}
 use Rattle.j39_plan.specs.declared.reading.key.Key.TheVariants as key
-use Rattle.j39_tables.specs.InOrder.{each_faults, Each, NeverGrows, EachGrows}
-use Rattle.j39_tables.specs.Outcome.{FailsGrowing}
+use Rattle.j39_toml.specs.InOrder.{each_faults, Each, NeverGrows, EachGrows}
+use Rattle.j39_toml.specs.Outcome.{FailsGrowing}
 use Rattle.j39_plan.specs.FlowTables.{flow_faults, IsFlowOf}
 use Rattle.j39_plan.specs.NeedTables.{need_faults, IsNeedOf}
 use Rattle.j39_plan.specs.RequestTables.{request_faults, IsRequestOf}
 use Rattle.j39_plan.specs.PlanFaults.{no_label}
-use Rattle.j39_tables.proofs.FirstFaults.{fails_on, first-append}
+use Rattle.j39_toml.proofs.FirstFaults.{fails_on, first-append}
 use Rattle.j39_plan.proofs.NoFaults.{tables_count, length-Each}
 use Rattle.j39_plan.proofs.ReadPlans.{units_apart, groups_apart, unit_texts_told, group_texts_told, unit_texts, group_texts}
 use Rattle.j39_plan.proofs.ReadPlans.{flow_groups, flow_senders, flow_receivers}

@@ -1,15 +1,15 @@
 use Rattle.std.proofs.Common.{◌≡◌, [], map, refl, inl, inr}
 use Rattle.std.proofs.lemmas.Result.{err_from_is_err_and}
 use Rattle.toml.specs.View.{items_view}
-use Rattle.j39_tables.specs.InOrder.{each_faults, EachGrows}
+use Rattle.j39_toml.specs.InOrder.{each_faults, EachGrows}
 use Rattle.j39_vehicle.specs.Growing.{GatewayGrows, ForwardGrows, NeedGrows}
-use Rattle.j39_tables.specs.Outcome.{FailsGrowing}
+use Rattle.j39_toml.specs.Outcome.{FailsGrowing}
 use Rattle.j39_vehicle.specs.BusTables.{named_bus}
 use Rattle.j39_vehicle.specs.GatewayTables.{gateway_faults, gateway_name, named_gateway}
 use Rattle.j39_vehicle.specs.ForwardTables.{forward_faults}
 use Rattle.j39_vehicle.specs.NeedTables.{need_faults}
 use Rattle.j39_vehicle.specs.VehicleFaults.{no_name}
-use Rattle.j39_tables.proofs.FirstFaults.{fails_on, first-append}
+use Rattle.j39_toml.proofs.FirstFaults.{fails_on, first-append}
 use Rattle.j39_vehicle.proofs.reading.read_top.Goals as goal
 
 pub returns-in_err-gateways : goal.returns-in_err-gateways

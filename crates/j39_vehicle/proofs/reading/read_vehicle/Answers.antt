@@ -1,5 +1,5 @@
 use Rattle.toml.specs.View.{table_view}
-use Rattle.j39_tables.proofs.TreesRead.{reads_tree, reads_none, room_asked, room_for_tree}
+use Rattle.j39_toml.proofs.TreesRead.{reads_tree, reads_none, room_asked, room_for_tree}
 use Rattle.j39_vehicle.specs.VehicleFaults.{faults}
 use Rattle.j39_vehicle.specs.Growing.{FileGrows}
 use Rattle.j39_vehicle.specs.Described.{DescribesFile}

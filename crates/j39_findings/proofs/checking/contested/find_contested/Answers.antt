@@ -1,9 +1,9 @@
 use Rattle.std.proofs.Common.{◌++◌, sym, ap, ◌∙◌, subst}
 use Rattle.std.proofs.lemmas.List.{append-nil}
 use Rattle.j39_findings.specs.declared.checking.finding.Finding.TheVariants.{FlowContested}
-use Rattle.j39_rules.specs.Adding.{Adds}
+use Rattle.j39_search.specs.Adding.{Adds}
 use Rattle.j39_findings.specs.Found.{is_contested}
-use Rattle.j39_rules.specs.ListPlaces.{each}
+use Rattle.j39_search.specs.ListPlaces.{each}
 use Rattle.j39_findings.specs.Standing.{alone_of}
 use Rattle.j39_findings.proofs.WhoIsAlone.{contested_by, not_live}
 use Rattle.j39_findings.proofs.checking.contested.find_contested.Goals as goal

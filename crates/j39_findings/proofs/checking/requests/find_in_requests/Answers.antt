@@ -1,8 +1,8 @@
 use Rattle.std.proofs.Common.{◌++◌}
-use Rattle.j39_rules.specs.ListPlaces.{each, pairs}
+use Rattle.j39_search.specs.ListPlaces.{each, pairs}
 use Rattle.j39_findings.specs.Found.{ask_the_same, goes_unanswered, goes_unheard, is_answered_astray, is_selector_outside, request_findings}
 use Rattle.j39_findings.specs.declared.checking.finding.Finding.TheVariants.{RequestUnanswered, RequestUnheard, AnswerAstray, WhenOutside, RequestRepeated}
-use Rattle.j39_rules.proofs.AddingLemmas.{refuses, adds_behind, some_left, some_right}
+use Rattle.j39_search.proofs.AddingLemmas.{refuses, adds_behind, some_left, some_right}
 use Rattle.j39_findings.proofs.checking.requests.find_in_requests.Goals as goal
 
 pub returns-in_err-find_each : goal.returns-in_err-find_each

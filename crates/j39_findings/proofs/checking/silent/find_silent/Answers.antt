@@ -1,6 +1,6 @@
-use Rattle.j39_rules.specs.ListPlaces.{each}
+use Rattle.j39_search.specs.ListPlaces.{each}
 use Rattle.j39_findings.specs.Found.{silent_findings}
-use Rattle.j39_rules.proofs.AddingLemmas.{refuses, adds_behind, some_left}
+use Rattle.j39_search.proofs.AddingLemmas.{refuses, adds_behind, some_left}
 use Rattle.j39_findings.proofs.checking.silent.find_silent.Goals as goal
 
 pub returns-in_err-find_pairs : goal.returns-in_err-find_pairs

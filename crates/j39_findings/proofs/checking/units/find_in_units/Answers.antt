@@ -1,5 +1,5 @@
 use Rattle.j39_findings.specs.Found.{unit_findings}
-use Rattle.j39_rules.proofs.AddingLemmas.{refuses, adds_behind, some_left, some_right}
+use Rattle.j39_search.proofs.AddingLemmas.{refuses, adds_behind, some_left, some_right}
 use Rattle.j39_findings.proofs.checking.units.find_in_units.Goals as goal
 
 pub returns-in_err-find_pairs : goal.returns-in_err-find_pairs

@@ -5,7 +5,7 @@ use Rattle.j39_network.specs.declared.plan.Plan.{Plan}
 use Rattle.j39_findings.specs.declared.checking.finding.Finding.TheVariants.{TextOutside}
 use Rattle.j39_findings.specs.Findings.{Holds}
 use Rattle.j39_network.specs.TextPlaces.{HasNoTexts}
-use Rattle.j39_rules.proofs.Members.{all_at}
+use Rattle.j39_search.proofs.Members.{all_at}
 use Rattle.j39_findings.proofs.laws.texts.plans_without_texts.Goals as goal
 
 none_outside : (plan : Plan) → HasNoTexts plan → (g t : ℕ) → ¬ Holds plan (TextOutside g t)

@@ -1,5 +1,5 @@
 use Rattle.j39_load.proofs.Before.{some_left, some_right}
-use Rattle.j39_load.proofs.WantedMemory.{on_err}
+use Rattle.j39_search.proofs.WantedMemory.{on_err}
 use Rattle.j39_load.proofs.findings.faults.all_findings.Goals as goal
 
 pub returns-in_err-findings-clause-memory : goal.returns-in_err-findings-clause-memory

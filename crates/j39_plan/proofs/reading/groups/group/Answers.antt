@@ -2,17 +2,17 @@ use Rattle.std.proofs.Common.{◌≡◌, [], IsTrue, false, is_some, refl, inl, 
 use Rattle.std.proofs.lemmas.List.{length-map}
 use Rattle.std.proofs.lemmas.Result.{err_from_is_err_and}
 use Rattle.toml.specs.View.{items_view}
-use Rattle.j39_network.specs.LabelForm.{is_label}
+use Rattle.j39_id.specs.LabelForm.{is_label}
 use Rattle.j39_network.specs.PlanLimits.{signal_limit}
 use Rattle.j39_signal.specs.Parts.{IsDivisor, IsSignal}
 use Rattle.j39_plan.specs.declared.reading.key.Key.TheVariants as key
-use Rattle.j39_tables.specs.InOrder.{each_faults, Each, NeverGrows, EachGrows}
+use Rattle.j39_toml.specs.InOrder.{each_faults, Each, NeverGrows, EachGrows}
 use Rattle.j39_plan.specs.LabelsSeen.{label_in}
-use Rattle.j39_tables.specs.Outcome.{FailsGrowing}
+use Rattle.j39_toml.specs.Outcome.{FailsGrowing}
 use Rattle.j39_plan.specs.SignalTables.{IsSignalOf}
 use Rattle.j39_plan.specs.TextTables.{IsTextOf, text_faults}
 use Rattle.j39_plan.specs.GroupTables.{group_table_faults}
-use Rattle.j39_tables.proofs.FirstFaults.{fails_on, first-append}
+use Rattle.j39_toml.proofs.FirstFaults.{fails_on, first-append}
 use Rattle.j39_plan.proofs.NoFaults.{tables_count, length-Each, All-from_Each, Each-weaken}
 use Rattle.j39_plan.proofs.ReadGroups.{IsRead, grows_among, meanings_read, signals_read, signals_apart, signal_texts, signal_texts_told, texts_apart}
 use Rattle.j39_plan.proofs.ReadGroups.{texts_beside, texts_count}

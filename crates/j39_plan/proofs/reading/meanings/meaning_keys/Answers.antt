@@ -1,7 +1,7 @@
 use Rattle.std.proofs.Common.{◌≡◌, true, Option, refl, sym, ap, ◌∙◌}
 use Rattle.std.specs.Prelude.{unwrap_or}
 use Rattle.toml.specs.Data.{Members, no_members}
-use Rattle.j39_tables.specs.Rules.{table_found}
+use Rattle.j39_toml.specs.Rules.{table_found}
 use Rattle.j39_plan.specs.declared.reading.version.Version.TheVariants.{Fourth}
 use Rattle.j39_plan.specs.Since.{is_known}
 use Rattle.j39_plan.proofs.reading.meanings.meaning_keys.Goals as goal

@@ -6,7 +6,7 @@ use Rattle.std.specs.Option.{option_map_or}
 use Rattle.std.specs.Map.Iter.{deref_pair}
 use Rattle.toml.specs.Data.{as_str}
 use Rattle.toml.specs.View.{members_view, table_view, view}
-use Rattle.j39_network.specs.LabelForm.{is_label}
+use Rattle.j39_id.specs.LabelForm.{is_label}
 use Rattle.j39_plan.specs.MeaningTables.{AreValueNames}
 use Rattle.j39_plan.specs.ValueCauses.{has_labels, has_numbers, is_number_below}
 use Rattle.j39_plan.proofs.Numbers.{few_names, one_more_name}

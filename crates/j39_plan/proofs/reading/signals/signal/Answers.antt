@@ -1,6 +1,6 @@
 use Rattle.std.proofs.lemmas.Result.{err_from_is_err_and}
 use Rattle.j39_plan.specs.SignalTables.{signal_table_faults}
-use Rattle.j39_tables.proofs.FirstFaults.{fails_on, first-append}
+use Rattle.j39_toml.proofs.FirstFaults.{fails_on, first-append}
 use Rattle.j39_plan.proofs.reading.signals.signal.Goals as goal
 
 pub returns-in_err-per-clause-gives : goal.returns-in_err-per-clause-gives

@@ -1,9 +1,9 @@
 use Rattle.std.proofs.Common.{rules, ◌≡◌}
 use Rattle.toml.specs.View.{table_view}
-use Rattle.j39_tables.specs.Rules.{text_of}
-use Rattle.j39_tables.specs.TableFaults.{key_faults}
+use Rattle.j39_toml.specs.Rules.{text_of}
+use Rattle.j39_toml.specs.TableFaults.{key_faults}
 use Rattle.j39_plan.specs.UnitTables.{queue_in, queue_rule}
-use Rattle.j39_tables.proofs.FirstFaults.{refused_alike}
+use Rattle.j39_toml.proofs.FirstFaults.{refused_alike}
 use Rattle.j39_plan.proofs.reading.units.queue.Goals as goal
 
 pub returns-in_err-word : goal.returns-in_err-word

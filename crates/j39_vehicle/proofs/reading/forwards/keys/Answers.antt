@@ -1,5 +1,5 @@
 use Rattle.std.proofs.lemmas.Result.{err_from_is_err_and}
-use Rattle.j39_tables.proofs.FirstFaults.{fails_behind, fails_before}
+use Rattle.j39_toml.proofs.FirstFaults.{fails_behind, fails_before}
 use Rattle.j39_vehicle.proofs.reading.forwards.keys.Goals as goal
 
 pub returns-in_err-from : goal.returns-in_err-from

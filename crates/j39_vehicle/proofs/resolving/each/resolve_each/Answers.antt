@@ -1,7 +1,7 @@
 use Rattle.std.proofs.Common.{◌≡◌, [], drop, arith}
 use Rattle.std.proofs.lemmas.Result.{err_from_is_err_and}
 use Rattle.std.proofs.lemmas.List.{drop_all, drop_more}
-use Rattle.j39_tables.proofs.FirstFaults.{fails_on}
+use Rattle.j39_toml.proofs.FirstFaults.{fails_on}
 use Rattle.j39_vehicle.proofs.EachFound.{grows_inside, goes_on, stops_at, ends}
 use Rattle.j39_vehicle.proofs.resolving.each.resolve_each.Goals as goal
 

@@ -6,7 +6,7 @@ use Rattle.j39_load.specs.Asked.{asked_of, total_load}
 use Rattle.j39_load.specs.AskedLoads.{asked_in}
 use Rattle.j39_load.specs.LoadFindings.{IsFullOfDamage, load_findings}
 use Rattle.j39_load.proofs.LoadAnswers.{answered}
-use Rattle.j39_load.proofs.WantedMemory.{on_err}
+use Rattle.j39_search.proofs.WantedMemory.{on_err}
 use Rattle.j39_load.proofs.WithoutFlows.{full_of_damage}
 use Rattle.j39_load.proofs.findings.load_answer.LoadAnswer.new.Goals as goal
 

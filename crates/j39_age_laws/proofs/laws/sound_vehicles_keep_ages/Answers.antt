@@ -1,5 +1,0 @@
-use Rattle.j39_age_laws.proofs.Whole.{ages_kept, needs_kept, pauses_kept}
-use Rattle.j39_age_laws.proofs.laws.sound_vehicles_keep_ages.Goals as goal
-
-pub returns : goal.returns
-returns c = record { ages = ages_kept; needs = needs_kept; pauses = pauses_kept }

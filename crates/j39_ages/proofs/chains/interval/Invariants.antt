@@ -1,7 +1,0 @@
-use Rattle.std.proofs.Common.{◌≡◌, ◌-◌, length}
-use Rattle.j39_ages.specs.Times.{interval_by}
-use Rattle.j39_ages.proofs.chains.interval.Given as goal
-
-abbrev pub invariant-chain : goal.invariant-chain
-invariant-chain l = interval_by l.routes.vehicle.now (length l.routes.vehicle.now.forwards.items - l._step) l.at
-    ≡ interval_by l.routes.vehicle.now (length l.routes.vehicle.now.forwards.items) l.fn.start

@@ -1,5 +1,0 @@
-use Rattle.j39_check.proofs.OneText.{one_addresses_report}
-use Rattle.j39_check.proofs.laws.addresses_have_one_text.Goals as goal
-
-pub returns : goal.returns
-returns c = one_addresses_report

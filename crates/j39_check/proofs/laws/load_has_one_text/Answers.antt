@@ -1,5 +1,0 @@
-use Rattle.j39_check.proofs.OneText.{one_load_report}
-use Rattle.j39_check.proofs.laws.load_has_one_text.Goals as goal
-
-pub returns : goal.returns
-returns c = one_load_report

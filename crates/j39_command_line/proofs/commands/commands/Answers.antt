@@ -1,0 +1,28 @@
+use Rattle.std.proofs.Common.{codes}
+use Rattle.clap.specs.Words.{App, with_subcommand}
+use Rattle.j39_command_line.specs.Commands.{commands, one_value, program, two_values, two_values_and_flag}
+use Rattle.j39_command_line.proofs.CommandLaws.{added, known}
+use Rattle.j39_command_line.proofs.commands.commands.Goals as goal
+
+pub returns : goal.returns
+unfolding commands
+returns c =
+    let frames_is = known c.program-no_commands.result c.with_one-frames.result program (one_value (codes "frame") (codes "LINE")) c.program-no_commands.ensures c.with_one-frames.ensures in
+    let with_frames : App = with_subcommand program (one_value (codes "frame") (codes "LINE")).top in
+    let shows_is = known c.with_one-frames.result c.with_one-shows.result with_frames (one_value (codes "show") (codes "PLAN")) frames_is c.with_one-shows.ensures in
+    let with_shows : App = with_subcommand with_frames (one_value (codes "show") (codes "PLAN")).top in
+    let checks_is = known c.with_one-shows.result c.with_one-checks.result with_shows (one_value (codes "check") (codes "PLAN")) shows_is c.with_one-checks.ensures in
+    let with_checks : App = with_subcommand with_shows (one_value (codes "check") (codes "PLAN")).top in
+    let addresses_is = known c.with_one-checks.result c.with_one-addresses.result with_checks (one_value (codes "addresses") (codes "PLAN")) checks_is c.with_one-addresses.ensures in
+    let with_addresses : App = with_subcommand with_checks (one_value (codes "addresses") (codes "PLAN")).top in
+    let loads_is = known c.with_one-addresses.result c.with_one-loads.result with_addresses (one_value (codes "load") (codes "PLAN")) addresses_is c.with_one-loads.ensures in
+    let with_loads : App = with_subcommand with_addresses (one_value (codes "load") (codes "PLAN")).top in
+    let runs_is = known c.with_one-loads.result c.with_two-runs.result with_loads (two_values (codes "run") (codes "PLAN") (codes "SCHEDULE")) loads_is c.with_two-runs.ensures in
+    let with_runs : App = with_subcommand with_loads (two_values (codes "run") (codes "PLAN") (codes "SCHEDULE")).top in
+    let reads_is = known c.with_two-runs.result c.with_two-reads.result with_runs (two_values (codes "read") (codes "PLAN") (codes "LOG")) runs_is c.with_two-reads.ensures in
+    let with_reads : App = with_subcommand with_runs (two_values (codes "read") (codes "PLAN") (codes "LOG")).top in
+    let follows : App = two_values_and_flag (codes "follow") (codes "PLAN") (codes "LOG") (codes "all") in
+    let follows_is = known c.with_two-reads.result c.with-follows.result with_reads follows reads_is
+    (added c.with_two-reads.result c.with-follows.result c.follow.result follows c.follow.ensures.app c.with-follows.ensures) in
+    let with_follows : App = with_subcommand with_reads follows.top in
+    known c.with-follows.result c.with_one.result with_follows (one_value (codes "vehicle") (codes "VEHICLE")) follows_is c.with_one.ensures

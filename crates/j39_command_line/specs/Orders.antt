@@ -1,0 +1,76 @@
+-- What a command line orders.
+use Rattle.std.specs.Prelude.{◌≡◌, ◌⊎◌, Bool, true, false, List, None, Option, Some, codes, string_bytes, [], ◌∷◌}
+use Rattle.clap.specs.Words.{IsAmong, Kinds, Row, Text, fault_of, first_of, one_of, subcommand_of}
+use Rattle.j39_command_line.specs.Commands.{commands}
+use Rattle.clap.specs.declared.error.kind.ErrorKind.{ErrorKind}
+use Rattle.clap.specs.declared.error.kind.ErrorKind.TheVariants as kind
+use Rattle.j39_command_line.specs.declared.orders.Order.{Order}
+use Rattle.j39_command_line.specs.declared.orders.Order.TheVariants.{Input, Frame, Show, Check, Addresses, Load, Run, Read, Follow, Vehicle, Help}
+
+-- the subcommand that was met has this name, and the value by this name is the text
+abbrev pub HasValue : Option (Text × List Row) → Text → Text → Text → Type 0
+HasValue met name value text = (rows : List Row) × (met ≡ Some (name, rows)) × (first_of value rows ≡ Some text)
+
+-- the subcommand that was met has this name, and of the flag by this name it says whether it is given
+abbrev pub HasFlag : Option (Text × List Row) → Text → Text → Bool → Type 0
+HasFlag met name flag given =
+    (rows : List Row) × (met ≡ Some (name, rows)) × (one_of flag rows ≡ Some (codes "true") → given ≡ true)
+    × (one_of flag rows ≡ Some (codes "false") → given ≡ false) × (one_of flag rows ≡ None → given ≡ false)
+
+-- the order is the subcommand that was met, with its values, or the words ask for a text of help
+abbrev pub Orders : Option (Text × List Row) → Order → Type 0
+Orders met (Frame line) = HasValue met (codes "frame") (codes "LINE") (string_bytes line)
+Orders met (Show plan) = HasValue met (codes "show") (codes "PLAN") (string_bytes plan)
+Orders met (Check plan) = HasValue met (codes "check") (codes "PLAN") (string_bytes plan)
+Orders met (Addresses plan) = HasValue met (codes "addresses") (codes "PLAN") (string_bytes plan)
+Orders met (Load plan) = HasValue met (codes "load") (codes "PLAN") (string_bytes plan)
+Orders met (Run plan schedule) =
+    HasValue met (codes "run") (codes "PLAN") (string_bytes plan) × HasValue met (codes "run") (codes "SCHEDULE") (string_bytes schedule)
+Orders met (Read plan log) =
+    HasValue met (codes "read") (codes "PLAN") (string_bytes plan) × HasValue met (codes "read") (codes "LOG") (string_bytes log)
+Orders met (Follow plan log all_frames) =
+    HasValue met (codes "follow") (codes "PLAN") (string_bytes plan) × HasValue met (codes "follow") (codes "LOG") (string_bytes log)
+    × HasFlag met (codes "follow") (codes "all") all_frames
+Orders met (Vehicle vehicle) = HasValue met (codes "vehicle") (codes "VEHICLE") (string_bytes vehicle)
+Orders met Input = ⊥
+Orders met (Help text) = Unit {0}
+
+abbrev pub IsHelp : Order → Type 0
+IsHelp (Help text) = Unit {0}
+IsHelp Input = ⊥
+IsHelp (Frame line) = ⊥
+IsHelp (Show plan) = ⊥
+IsHelp (Check plan) = ⊥
+IsHelp (Addresses plan) = ⊥
+IsHelp (Load plan) = ⊥
+IsHelp (Run plan schedule) = ⊥
+IsHelp (Read plan log) = ⊥
+IsHelp (Follow plan log all_frames) = ⊥
+IsHelp (Vehicle vehicle) = ⊥
+
+-- what the words order: the input where there are none, and else what they name
+abbrev pub IsOrdered : List Text → Order → Type 0
+IsOrdered [] order = order ≡ Input
+IsOrdered (word ∷ words) order = Orders (subcommand_of commands (word ∷ words)) order
+
+-- nothing is ordered, but a text of help may be asked for
+abbrev pub OrdersNothing : Option (Text × List Row) → Type 0
+OrdersNothing met = (order : Order) → Orders met order → IsHelp order
+
+-- a call for the help or the version, which clap tells as it tells a fault
+abbrev pub asks_for_text : ErrorKind → Bool
+asks_for_text kind.DisplayHelp = true
+asks_for_text kind.DisplayVersion = true
+asks_for_text _ = false
+
+-- the faults of the words, of which one is told
+unfoldable pub faults_of_words : List Text → Kinds
+faults_of_words words = fault_of commands words
+
+-- the words ask for a text of help
+abbrev pub AsksHelp : List Text → Type 0
+AsksHelp words = (k : ErrorKind) × IsAmong k (faults_of_words words) × (asks_for_text k ≡ true)
+
+-- the words are no command with its values: they have a fault, or nothing is ordered by them
+abbrev pub AreRefused : List Text → Type 0
+AreRefused words = ((k : ErrorKind) × IsAmong k (faults_of_words words) × (asks_for_text k ≡ false)) ⊎ OrdersNothing (subcommand_of commands words)

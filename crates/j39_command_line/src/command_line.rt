@@ -1,0 +1,120 @@
+//! The words of the command line, read.
+ghost use Rattle.std.specs.Prelude.{◌≡◌, ◌≢◌, Err, None, true, false, [], IfOk, Some, codes, map, string_bytes};
+ghost use Rattle.clap.specs.Words.{first_of, found_of, kind_of, one_of, rows_of, subcommand_of, subcommand_rows_of};
+ghost use Rattle.j39_command_line.specs.Commands.{commands};
+ghost use Rattle.j39_command_line.specs.Orders.{IsOrdered, AreRefused, AsksHelp, IsHelp, Orders, OrdersNothing, asks_for_text};
+ghost use Rattle.j39_command_line.specs.declared.orders.WordsFault.TheVariants.{Bad, Memory};
+ghost use Rattle.clap.specs.declared.error.kind.ErrorKind.TheVariants.{OutOfMemory};
+
+use crate::commands::commands;
+use crate::orders::{Order, WordsFault};
+use clap::error::ErrorKind;
+use clap::{ArgMatches, Error};
+use std::alloc::Global;
+
+// The value that a command asks for by this name.
+fn value(alloc: Global, values: &ArgMatches, name: &str) -> Result<String, WordsFault>
+    ensures given { IfOk result (λ s. first_of name.now (rows_of (found_of values.now)) ≡ Some (string_bytes s)) }
+    ensures missing { result ≡ Err Bad → first_of name.now (rows_of (found_of values.now)) ≡ None }
+{
+    match values.get_str(name) {
+        Some(text) => Ok(String::from_str(alloc, text)?),
+        None => Err(WordsFault::Bad),
+    }
+}
+
+// Whether a flag of a command is given.
+fn is_given(values: &ArgMatches, flag: &str) -> bool
+    ensures given { one_of flag.now (rows_of (found_of values.now)) ≡ Some (codes "true") → result ≡ true }
+    ensures not_given { one_of flag.now (rows_of (found_of values.now)) ≡ Some (codes "false") → result ≡ false }
+    ensures unsaid { one_of flag.now (rows_of (found_of values.now)) ≡ None → result ≡ false }
+{
+    values.get_flag(flag)
+}
+
+// What a command orders whose first value is a plan.
+fn of_plan(alloc: Global, name: &str, values: &ArgMatches) -> Result<Order, WordsFault>
+    requires line { name.now ≡ codes "frame" → ⊥ }
+    requires vehicle { name.now ≡ codes "vehicle" → ⊥ }
+    ensures ordered { IfOk result (Orders (Some (name.now, rows_of (found_of values.now)))) }
+    ensures named { IfOk result (λ o. IsHelp o → ⊥) }
+    ensures refused { result ≡ Err Bad → OrdersNothing (Some (name.now, rows_of (found_of values.now))) }
+{
+    let plan = value(alloc, values, "PLAN")?;
+    match name {
+        "show" => Ok(Order::Show(plan)),
+        "check" => Ok(Order::Check(plan)),
+        "addresses" => Ok(Order::Addresses(plan)),
+        "load" => Ok(Order::Load(plan)),
+        "run" => Ok(Order::Run(plan, value(alloc, values, "SCHEDULE")?)),
+        "read" => Ok(Order::Read(plan, value(alloc, values, "LOG")?)),
+        "follow" => Ok(Order::Follow(plan, value(alloc, values, "LOG")?, is_given(values, "all"))),
+        _ => Err(WordsFault::Bad),
+    }
+}
+
+fn command(alloc: Global, name: &str, values: &ArgMatches) -> Result<Order, WordsFault>
+    ensures ordered { IfOk result (Orders (Some (name.now, rows_of (found_of values.now)))) }
+    ensures named { IfOk result (λ o. IsHelp o → ⊥) }
+    ensures refused { result ≡ Err Bad → OrdersNothing (Some (name.now, rows_of (found_of values.now))) }
+{
+    match name {
+        "frame" => Ok(Order::Frame(value(alloc, values, "LINE")?)),
+        "vehicle" => Ok(Order::Vehicle(value(alloc, values, "VEHICLE")?)),
+        _ => of_plan(alloc, name, values),
+    }
+}
+
+// What the matches order.
+fn met(alloc: Global, matches: &ArgMatches) -> Result<Order, WordsFault>
+    ensures ordered { IfOk result (Orders (subcommand_rows_of matches.now)) }
+    ensures named { IfOk result (λ o. IsHelp o → ⊥) }
+    ensures refused { result ≡ Err Bad → OrdersNothing (subcommand_rows_of matches.now) }
+{
+    match matches.subcommand() {
+        Some((name, values)) => command(alloc, name, values),
+        None => Err(WordsFault::Bad),
+    }
+}
+
+// What is ordered by words that give no matches.
+fn unmet(alloc: Global, error: &Error) -> Result<Order, WordsFault>
+    ensures helped { IfOk result IsHelp }
+    ensures request { IfOk result (λ _. asks_for_text (kind_of error.now) ≡ true) }
+    ensures fault { result ≡ Err Bad → asks_for_text (kind_of error.now) ≡ false }
+    ensures memory { kind_of error.now ≡ OutOfMemory → result ≡ Err Bad → ⊥ }
+{
+    match error.kind() {
+        ErrorKind::OutOfMemory => Err(WordsFault::Memory),
+        ErrorKind::DisplayHelp | ErrorKind::DisplayVersion => {
+            Ok(Order::Help(error.to_string(alloc)?))
+        }
+        _ => Err(WordsFault::Bad),
+    }
+}
+
+fn parsed(alloc: Global, words: &[String]) -> Result<Order, WordsFault>
+    ensures ordered { IfOk result (Orders (subcommand_of commands (map string_bytes words.now))) }
+    ensures helped { IfOk result (λ o. IsHelp o → AsksHelp (map string_bytes words.now)) }
+    ensures refused { result ≡ Err Bad → AreRefused (map string_bytes words.now) }
+{
+    match commands(alloc)?.try_get_matches_from(words) {
+        Ok(matches) => met(alloc, &matches),
+        Err(error) => unmet(alloc, &error),
+    }
+}
+
+/// What the words after the program's name ask for.
+pub fn order(alloc: Global, words: Vec<String>) -> Result<Order, WordsFault>
+    ensures input { words.items ≡ [] → result ≡ Ok Order.Input }
+    ensures ordered { IfOk result (IsOrdered (map string_bytes words.items)) }
+    ensures helped { IfOk result (λ o. IsHelp o → AsksHelp (map string_bytes words.items)) }
+    ensures refused { result ≡ Err Bad → AreRefused (map string_bytes words.items) }
+    ensures memory { result ≡ Err Memory → words.items ≢ [] }
+{
+    if words.is_empty() {
+        Ok(Order::Input)
+    } else {
+        parsed(alloc, words.as_slice())
+    }
+}

@@ -1,5 +1,0 @@
-use Rattle.j39_forwards.proofs.Forwards.{from_first, from_origin, reads_as_before}
-use Rattle.j39_forwards.proofs.what_is_read_was_written.Goals as goal
-
-pub returns : goal.returns
-returns c = record { begun = from_origin; at_last = from_first; read = reads_as_before }

@@ -1,5 +1,0 @@
-use Rattle.j39_laws.proofs.Transfers.SoundRuns.{acknowledged_reported}
-use Rattle.j39_laws.proofs.laws.acknowledged_messages_were_reported.Goals as goal
-
-pub returns : goal.returns
-returns c = acknowledged_reported

@@ -1,5 +1,0 @@
-use Rattle.j39_laws.proofs.Conflicts.ConflictShown.{leaves_without_address}
-use Rattle.j39_laws.proofs.laws.conflict_runs_show_the_conflict.Goals as goal
-
-pub returns : goal.returns
-returns c = leaves_without_address

@@ -1,5 +1,0 @@
-use Rattle.j39_laws.proofs.Runs.Always.{through}
-use Rattle.j39_laws.proofs.laws.runs_through_are_runs.Goals as goal
-
-pub returns : goal.returns
-returns c = through

@@ -1,5 +1,0 @@
-use Rattle.j39_paths.proofs.PathLaws.{are_findings}
-use Rattle.j39_paths.proofs.laws.vehicle_findings_are_exact.Goals as goal
-
-pub returns : goal.returns
-returns c = are_findings

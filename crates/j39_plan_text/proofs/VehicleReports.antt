@@ -1,0 +1,207 @@
+-- What is written of the plan of each vehicle is what is written of the plan, where no two units may be one.
+use Rattle.std.proofs.Common.{◌≡◌, ◌++◌, ℕ, zero, suc, Bool, true, false, List, [], ◌∷◌, Option, Some, None, Contains, refl, sym, ap, ◌∙◌, subst, inl, inr}
+use Rattle.std.specs.Bool.{MatchBool}
+use Rattle.std.specs.List.{AllZip, slice_get}
+use Rattle.std.proofs.lemmas.Bool.{false≢true}
+use Rattle.j39_findings.specs.Findings.{Holds}
+use Rattle.j39_findings.specs.Found.{found}
+use Rattle.j39_network.specs.Kinds.{AreDistinctUnits, MayHaveName}
+use Rattle.j39_network.specs.VehiclePlans.{IsBoxOf, IsVehicleOf}
+use Rattle.j39_findings.specs.declared.checking.finding.Finding.{Finding}
+use Rattle.j39_network.specs.declared.plan.Plan.{Plan}
+use Rattle.j39_network.specs.declared.plan.timing.Timing.{Timing}
+use Rattle.j39_network.specs.declared.plan.unit_plan.UnitPlan.{UnitPlan}
+use Rattle.j39_findings.proofs.FoundLaws.{are_findings}
+use Rattle.j39_findings.proofs.Vehicles.{clean_vehicle, found_alike}
+use Rattle.j39_load.specs.declared.waits.delay.Delay.{Delay}
+use Rattle.j39_load.specs.declared.findings.load_finding.LoadFinding.{LoadFinding}
+use Rattle.j39_load.specs.Asked.{Asked, asked_of, total_load}
+use Rattle.j39_load.specs.LoadFindings.{all_findings}
+use Rattle.j39_load.proofs.Vehicles.{asks_alike, loads_alike, same_findings}
+use Rattle.j39_stream.specs.declared.verdict.Verdict.{Verdict}
+use Rattle.j39_stream.specs.declared.verdict.Verdict.TheVariants.{Done, Findings, Refused, Unreadable}
+use Rattle.j39_plan_text.specs.AddressesText.{IsAddressesReport, StayingHolds}
+use Rattle.j39_plan_text.specs.Certified.{IsCertified}
+use Rattle.j39_plan_text.specs.CheckText.{IsReport, findings_text}
+use Rattle.j39_plan_text.specs.LoadLines.{loads_text}
+use Rattle.j39_plan_text.specs.LoadText.{IsLoadReport, WritesLoads, load_verdict, shows_times, untold_text}
+use Rattle.j39_plan_text.specs.VehicleReports.{AreReportedAlike}
+use Rattle.j39_plan_text.proofs.StaysTexts.{StayAlike, stays_text_same}
+use Rattle.j39_plan_text.proofs.VehicleTexts.{findings_text_same, loads_text_same, ok_line_same, untold_text_same}
+
+-- ---- a vehicle of a vehicle is one of its type
+
+box_of_box : (unit box other : UnitPlan) → IsBoxOf unit box → IsBoxOf box other → IsBoxOf unit other
+box_of_box unit box other first second = record {
+  name = elim second.name.1 [
+    | inl same ↦ subst (MayHaveName unit) same first.name
+    | inr any ↦ absurd (false≢true (sym first.number ∙ any))
+  ];
+  number = second.number;
+  label = second.label ∙ first.label;
+  address = second.address ∙ first.address;
+  way = second.way ∙ first.way;
+  window = second.window ∙ first.window;
+  queue = second.queue ∙ first.queue;
+  claims = second.claims ∙ first.claims;
+}
+
+boxes_of_boxes : (units boxes others : List UnitPlan) → AllZip IsBoxOf units boxes → AllZip IsBoxOf boxes others → AllZip IsBoxOf units others
+boxes_of_boxes [] [] [] first second = tt
+boxes_of_boxes [] [] (other ∷ others) first second = absurd second
+boxes_of_boxes [] (box ∷ boxes) others first second = absurd first
+boxes_of_boxes (unit ∷ units) [] others first second = absurd first
+boxes_of_boxes (unit ∷ units) (box ∷ boxes) [] first second = absurd second
+boxes_of_boxes (unit ∷ units) (box ∷ boxes) (other ∷ others) first second =
+    (box_of_box unit box other first.0 second.0, boxes_of_boxes units boxes others first.1 second.1)
+
+vehicle_of_vehicle : (plan vehicle other : Plan) → IsVehicleOf plan vehicle → IsVehicleOf vehicle other → IsVehicleOf plan other
+vehicle_of_vehicle plan vehicle other first second = record {
+  boxes = boxes_of_boxes plan.units.items vehicle.units.items other.units.items first.boxes second.boxes;
+  keep_free = second.keep_free ∙ first.keep_free;
+  strangers = second.strangers ∙ first.strangers;
+  live = second.live ∙ first.live;
+  timing = second.timing ∙ first.timing;
+  groups = second.groups ∙ first.groups;
+  flows = second.flows ∙ first.flows;
+  needs = second.needs ∙ first.needs;
+  requests = second.requests ∙ first.requests;
+}
+
+-- ---- reports
+
+-- of each box the same is told as of its unit
+told_alike_each : (stays told : UnitPlan → Bool) (units boxes : List UnitPlan) → AllZip IsBoxOf units boxes
+    → ((u : ℕ) (unit box : UnitPlan) → slice_get units u ≡ Some unit → slice_get boxes u ≡ Some box → told box ≡ stays unit)
+    → AllZip (StayAlike stays told) units boxes
+told_alike_each stays told [] [] all same = tt
+told_alike_each stays told [] (box ∷ boxes) all same = absurd all
+told_alike_each stays told (unit ∷ units) [] all same = absurd all
+told_alike_each stays told (unit ∷ units) (box ∷ boxes) all same = (
+  record { label = all.0.label; address = all.0.address; standing = same zero unit box refl refl },
+  told_alike_each stays told units boxes all.1 (λ u. same (suc u)),
+)
+
+module _ (plan vehicle : Plan) (is : IsVehicleOf plan vehicle) (apart : AreDistinctUnits plan) where
+  found_is : found vehicle ≡ found plan
+  found_is = (found_alike plan vehicle is apart).findings
+
+  holds_there : (finding : Finding) → Holds plan finding → Holds vehicle finding
+  holds_there finding holds =
+      (are_findings vehicle).sound finding
+      (subst (λ (all : List Finding). Contains all finding) (sym found_is) ((are_findings plan).complete finding holds))
+
+  holds_here : (finding : Finding) → Holds vehicle finding → Holds plan finding
+  holds_here finding holds =
+      (are_findings plan).sound finding
+      (subst (λ (all : List Finding). Contains all finding) found_is ((are_findings vehicle).complete finding holds))
+
+  certified : IsCertified plan → IsCertified vehicle
+  certified holds = record {
+    plan_holds = holds.vehicles_hold vehicle is;
+    vehicles_hold = λ other another. holds.vehicles_hold other (vehicle_of_vehicle plan vehicle other is another);
+  }
+
+  findings_written : (others : List LoadFinding) → findings_text plan (found plan) others ≡ findings_text vehicle (found vehicle) others
+  findings_written others =
+      sym (ap (λ (all : List Finding). findings_text vehicle all others) found_is
+      ∙ findings_text_same plan vehicle is (found_alike plan vehicle is apart).runs (found plan) others)
+
+  check_alike : (text : List ℕ) (verdict : Verdict) → IsReport plan text verdict → IsReport vehicle text verdict
+  check_alike text Done (clean, none, holds, line) = (
+    clean_vehicle plan vehicle is clean,
+    (loads_alike plan vehicle is apart).findings [] none,
+    certified holds,
+    line ∙ sym (ok_line_same plan vehicle is),
+  )
+  check_alike text Findings (others, are, some, lines) = (
+    others,
+    (loads_alike plan vehicle is apart).findings others are,
+    λ none. some (sym found_is ∙ none.0, none.1),
+    lines ∙ findings_written others,
+  )
+  check_alike text Refused report = absurd report
+  check_alike text Unreadable report = absurd report
+
+  addresses_alike : StayingHolds vehicle → (text : List ℕ) (verdict : Verdict) → IsAddressesReport plan text verdict → IsAddressesReport vehicle text verdict
+  addresses_alike holds text Done (none, held, stays, tells, lines) =
+      let there = (loads_alike plan vehicle is apart).standing stays tells in (
+        λ finding of there_holds. none finding of (holds_here finding there_holds),
+        holds,
+        there.told,
+        there.tells,
+        lines ∙ sym (stays_text_same stays there.told plan.units.items vehicle.units.items
+            (told_alike_each stays there.told plan.units.items vehicle.units.items is.boxes there.same)),
+      )
+  addresses_alike holds text Findings ((finding, of, there), report) = ((finding, of, holds_there finding there), check_alike text Findings report)
+  addresses_alike holds text Refused report = absurd report
+  addresses_alike holds text Unreadable report = absurd report
+
+  module _ (timing : Timing) (stays told : UnitPlan → Bool) (delays : List (Option Delay)) (same : asked_of timing plan stays ≡ asked_of timing vehicle told)
+      (text : List ℕ) (verdict : Verdict) where
+    abbrev others_by : Plan → Asked → List LoadFinding
+    others_by p asked = all_findings p timing (total_load timing asked) delays
+
+    others_same : others_by plan (asked_of timing plan stays) ≡ others_by vehicle (asked_of timing vehicle told)
+    others_same =
+        same_findings plan vehicle is apart timing (total_load timing (asked_of timing plan stays)) delays
+        ∙ ap (others_by vehicle) same
+
+    text_same : (loads_text plan timing (asked_of timing plan stays) delays
+        ++ untold_text plan (found plan) (others_by plan (asked_of timing plan stays)))
+        ≡ (loads_text vehicle timing (asked_of timing vehicle told) delays
+        ++ untold_text vehicle (found vehicle) (others_by vehicle (asked_of timing vehicle told)))
+    text_same =
+        let lines = sym (loads_text_same plan vehicle is timing (asked_of timing plan stays) delays)
+        ∙ ap (λ (asked : Asked). loads_text vehicle timing asked delays) same in
+        let behind = sym (untold_text_same plan vehicle is (found_alike plan vehicle is apart).runs (found plan) (others_by plan (asked_of timing plan stays)))
+        ∙ ap (λ (all : List Finding). untold_text vehicle all (others_by plan (asked_of timing plan stays))) (sym found_is)
+        ∙ ap (untold_text vehicle (found vehicle)) others_same in
+        ap (λ first. first ++ untold_text plan (found plan) (others_by plan (asked_of timing plan stays))) lines
+        ∙ ap (λ second. loads_text vehicle timing (asked_of timing vehicle told) delays ++ second) behind
+
+    verdict_same : load_verdict (found plan) (others_by plan (asked_of timing plan stays))
+        ≡ load_verdict (found vehicle) (others_by vehicle (asked_of timing vehicle told))
+    verdict_same =
+        ap (λ (all : List Finding). load_verdict all (others_by plan (asked_of timing plan stays))) (sym found_is)
+        ∙ ap (load_verdict (found vehicle)) others_same
+
+    -- what load tells of the vehicle, where times are told, and where they aren't
+    abbrev Told : Bool → Type 0
+    Told shown = MatchBool shown
+        ((text ≡ loads_text vehicle timing (asked_of timing vehicle told) delays
+        ++ untold_text vehicle (found vehicle) (others_by vehicle (asked_of timing vehicle told)))
+        × (verdict ≡ load_verdict (found vehicle) (others_by vehicle (asked_of timing vehicle told))))
+        (IsReport vehicle text verdict)
+
+    told_alike : WritesLoads plan timing stays delays text verdict → WritesLoads vehicle timing told delays text verdict
+    told_alike tells = subst (λ (all : List Finding). Told (shows_times all)) (sym found_is) (over (shows_times (found plan)) tells)
+      where
+        over : (shown : Bool)
+            → MatchBool shown
+            ((text ≡ loads_text plan timing (asked_of timing plan stays) delays ++ untold_text plan (found plan) (others_by plan (asked_of timing plan stays)))
+            × (verdict ≡ load_verdict (found plan) (others_by plan (asked_of timing plan stays))))
+            (IsReport plan text verdict)
+            → Told shown
+        over true (lines, ends) = (lines ∙ text_same, ends ∙ verdict_same)
+        over false report = check_alike text verdict report
+
+  load_of_timing : (timing : Option Timing) (text : List ℕ) (verdict : Verdict) → IsLoadReport plan timing text verdict
+      → IsLoadReport vehicle timing text verdict
+  load_of_timing None text verdict report = report
+  load_of_timing (Some timing) text verdict (stays, delays, asks, tells) =
+      let there = (loads_alike plan vehicle is apart).standing stays asks.standing in
+      let same = (loads_alike plan vehicle is apart).asked timing stays there.told asks.standing there.tells in (
+        there.told,
+        delays,
+        asks_alike plan vehicle is apart timing stays delays asks there.told there.tells,
+        told_alike timing stays there.told delays same text verdict tells,
+      )
+
+  pub reported_alike : StayingHolds vehicle → AreReportedAlike plan vehicle
+  reported_alike holds = record {
+    check = check_alike;
+    addresses = addresses_alike holds;
+    load = λ text verdict report.
+        subst (λ (timing : Option Timing). IsLoadReport vehicle timing text verdict) (sym is.timing) (load_of_timing plan.timing text verdict report);
+  }

@@ -1,0 +1,19 @@
+use Rattle.std.proofs.Common.{◌++◌, ℕ, List, take, append_assoc, sym, ap, ◌∙◌}
+use Rattle.j39_network.specs.declared.plan.need_plan.NeedPlan.{NeedPlan}
+use Rattle.j39_plan_text.specs.LoadLines.{need_line}
+use Rattle.j39_load.proofs.Before.{more}
+use Rattle.j39_load.specs.LineLists.{lines_of_each}
+use Rattle.j39_plan_text.proofs.load_lines.write_needs.Goals as goal
+
+pub loop-place-preserved : goal.loop-place-preserved
+loop-place-preserved c =
+    let line = need_line c.args.plan.now c.args.timing c.args.delays.now in
+    let k = c.loop-place.place in
+    let need = c.need-item.result in
+    let step = more line k c.deref-need-items.result.now need c.loop-place-test.true in
+    let before : List ℕ = lines_of_each line 0 (take k c.deref-need-items.result.now) in
+    c.in_ok-write_need_line.ensures
+    ∙ ap (λ (t : List ℕ). t ++ line k need) c.loop-place.invariant
+    ∙ append_assoc c.args.text.now before (line k need)
+    ∙ ap (λ (d : NeedPlan). c.args.text.now ++ (before ++ line k d)) c.need-item.is
+    ∙ ap (λ (t : List ℕ). c.args.text.now ++ t) (sym step)

@@ -1,0 +1,124 @@
+-- The lines of findings on what a plan asks of its bus, and those of the times of its flows and of the ages of what its units need.
+use Rattle.std.specs.Prelude.{ℕ, ◌*◌, nat_le, if◌then◌else◌, List, [], ◌∷◌, ◌++◌, codes, slice_index_or, Option, Some, None}
+use Rattle.std.specs.Option.{option_map_or}
+use Rattle.j39_findings.specs.Found.{is_unmet}
+use Rattle.j39_network.specs.declared.plan.Plan.{Plan}
+use Rattle.j39_network.specs.declared.plan.flow_plan.FlowPlan.{FlowPlan}
+use Rattle.j39_network.specs.declared.plan.need_plan.NeedPlan.{NeedPlan}
+use Rattle.j39_network.specs.declared.plan.timing.Bitrate.{Bitrate}
+use Rattle.j39_network.specs.declared.plan.timing.Timing.{Timing}
+use Rattle.j39_network.specs.declared.plan.to.To.{To}
+use Rattle.j39_network.specs.declared.plan.to.To.TheVariants.{All, One}
+use Rattle.j39_load.specs.declared.waits.delay.Delay.{Delay}
+use Rattle.j39_load.specs.declared.waits.delay.Delay.TheVariants.{Within, Late, Long, Whole}
+use Rattle.j39_load.specs.declared.loads.flow_load.FlowLoad.{FlowLoad}
+use Rattle.j39_load.specs.declared.findings.load_finding.LoadFinding.{LoadFinding}
+use Rattle.j39_load.specs.declared.findings.load_finding.LoadFinding.TheVariants.{NoPeriod, Overload, LateFlow, NeedTooOld}
+use Rattle.j39_load.specs.Ages.{least_age}
+use Rattle.j39_load.specs.Asked.{Asked, total_load}
+use Rattle.j39_load.specs.LoadFindings.{load_finding_number}
+use Rattle.j39_load.specs.Loads.{bits_of_ms, bits_of_second}
+use Rattle.j39_load.specs.SentFrames.{bit_time}
+use Rattle.j39_load.specs.LineLists.{lines_of_each}
+use Rattle.j39_plan_text.specs.FindingLines.{is_between}
+use Rattle.j39_text.specs.Labels.{group_label, need_text, unit_label}
+use Rattle.j39_text.specs.Texts.{field, place_field}
+
+-- ---- findings
+
+unfoldable pub load_finding_text : LoadFinding → List ℕ
+load_finding_text (NoPeriod f) = place_field (codes "F16 NoPeriod ") f
+load_finding_text (Overload bits) = field (codes "F17 Overload ") bits
+load_finding_text (LateFlow f) = place_field (codes "F18 LateFlow ") f
+load_finding_text (NeedTooOld n) = place_field (codes "F20 NeedTooOld ") n
+
+unfoldable pub load_finding_line : LoadFinding → List ℕ
+load_finding_line finding = load_finding_text finding ++ 10 ∷ []
+
+-- one whose number is between these
+unfoldable pub load_finding_part : ℕ → ℕ → LoadFinding → List ℕ
+load_finding_part from below finding = if is_between from below (load_finding_number finding) then load_finding_line finding else []
+
+-- those of the findings whose numbers are between these
+abbrev pub load_finding_lines : ℕ → ℕ → List LoadFinding → List ℕ
+load_finding_lines from below = lines_of_each (λ _. load_finding_part from below) 0
+
+-- ---- delays
+
+-- so many bits, in microseconds
+unfoldable pub microseconds_field : List ℕ → Bitrate → ℕ → List ℕ
+microseconds_field word bitrate bits = field word (bits * bit_time bitrate)
+
+-- with their unit
+unfoldable pub time_text : List ℕ → Bitrate → ℕ → List ℕ
+time_text word bitrate bits = microseconds_field word bitrate bits ++ codes " us"
+
+-- so many bits, of a limit in bits
+unfoldable pub within_text : List ℕ → Bitrate → ℕ → ℕ → List ℕ
+within_text word bitrate limit bits = microseconds_field word bitrate bits ++ time_text (codes " of ") bitrate limit
+
+-- the same of bits that are known and within their limit; else another word and the limit alone
+unfoldable pub limited_text : List ℕ → List ℕ → Bitrate → ℕ → Option ℕ → List ℕ
+limited_text within beyond bitrate limit None = time_text beyond bitrate limit
+limited_text within beyond bitrate limit (Some bits) =
+    if nat_le bits limit then within_text within bitrate limit bits else time_text beyond bitrate limit
+
+-- when long messages are whole, where a limit is written, and where this is known
+unfoldable pub whole_text : Bitrate → Option ℕ → Option ℕ → List ℕ
+whole_text bitrate (Some limit) bits = limited_text (codes " whole within ") (codes " late of ") bitrate limit bits
+whole_text bitrate None (Some bits) = time_text (codes " whole within ") bitrate bits
+whole_text bitrate None None = []
+
+-- a delay, of a limit in bits
+unfoldable pub delay_text : Bitrate → ℕ → Delay → List ℕ
+delay_text bitrate limit (Within bits) = within_text (codes " within ") bitrate limit bits
+delay_text bitrate limit Late = time_text (codes " late of ") bitrate limit
+delay_text bitrate limit (Long frames) = field (codes " frames ") frames
+delay_text bitrate limit (Whole whole) = field (codes " frames ") whole.frames ++ whole_text bitrate whole.limit whole.bits
+
+-- that of a flow, where it is known how often it is sent
+unfoldable pub known_delay_text : Bitrate → Option FlowLoad → Option Delay → List ℕ
+known_delay_text bitrate (Some load) (Some delay) = delay_text bitrate load.limit delay
+known_delay_text bitrate _ _ = codes " no period"
+
+unfoldable pub receiver_text : Plan → To → List ℕ
+receiver_text plan All = codes "all"
+receiver_text plan (One v) = unit_label plan v
+
+-- a flow: its place, its group, its sender and its receiver
+unfoldable pub flow_text : Plan → ℕ → FlowPlan → List ℕ
+flow_text plan place flow = place_field (codes "flow ") place ++ (codes " " ++ (group_label plan flow.group
+    ++ (codes " " ++ (unit_label plan flow.sender ++ (codes " " ++ receiver_text plan flow.to)))))
+
+-- a flow and its delay
+unfoldable pub flow_line : Plan → Bitrate → List (Option FlowLoad) → List (Option Delay) → ℕ → FlowPlan → List ℕ
+flow_line plan bitrate loads delays place flow = flow_text plan place flow
+    ++ (known_delay_text bitrate (slice_index_or loads place None) (slice_index_or delays place None) ++ 10 ∷ [])
+
+-- ---- needs
+
+-- how old what is needed is at most, of a limit in bits; or that it isn't shown to be within it
+unfoldable pub age_text : Bitrate → ℕ → Option ℕ → List ℕ
+age_text bitrate limit age = limited_text (codes " age ") (codes " old of ") bitrate limit age
+
+-- the age of what is needed, or that no flow meets the need
+unfoldable pub known_age_text : Plan → Timing → List (Option Delay) → NeedPlan → ℕ → List ℕ
+known_age_text plan timing delays need limit =
+    if is_unmet plan.requests.items plan.flows.items need then time_text (codes " unmet of ") timing.bitrate limit
+    else age_text timing.bitrate limit (least_age timing plan.requests.items plan.flows.items delays need)
+
+-- a need and its age, where it asks for one
+unfoldable pub need_line : Plan → Timing → List (Option Delay) → ℕ → NeedPlan → List ℕ
+need_line plan timing delays place need = option_map_or
+    (λ within. need_text plan place need ++ (known_age_text plan timing delays need (bits_of_ms timing within) ++ 10 ∷ [])) need.within []
+
+-- ---- all of it
+
+-- how many bits of those that the bus carries in a second all of it takes
+unfoldable pub load_line : Timing → Asked → List ℕ
+load_line timing asked = field (codes "load ") (total_load timing asked) ++ (field (codes " of ") (bits_of_second timing.bitrate) ++ 10 ∷ [])
+
+-- each flow with its delay, each need that asks for an age with it, and the load
+unfoldable pub loads_text : Plan → Timing → Asked → List (Option Delay) → List ℕ
+loads_text plan timing asked delays = lines_of_each (flow_line plan timing.bitrate asked.flows delays) 0 plan.flows.items
+    ++ (lines_of_each (need_line plan timing delays) 0 plan.needs.items ++ load_line timing asked)

@@ -1,0 +1,36 @@
+//! What the addresses command writes.
+ghost use Rattle.j39_plan_text.specs.AddressesText.{IsAddressesText};
+ghost use Rattle.j39_stream.specs.CommandEnds.{AnswersWhole, IsOfAny};
+ghost use Rattle.j39_stream.specs.Streams.{plan_limits};
+
+use crate::report_text::{PlanReport, report_text};
+use crate::stays_report::stays_report;
+use j39_network::Plan;
+use j39_stream::{Fault, Sink, Source, Verdict};
+use j39_text::TextBuffer;
+use std::alloc::{AllocError, Global};
+
+// What is reported of the addresses of a plan.
+struct AddressesReport;
+
+impl PlanReport for AddressesReport {
+    ghost use Rattle.j39_plan_text.specs.AddressesText.{IsAddressesReport};
+
+    ghost says = { IsAddressesReport };
+
+    fn report(&self, alloc: Global, plan: Plan) -> Result<(TextBuffer, Verdict), AllocError> {
+        stays_report(alloc, &plan)
+    }
+}
+
+/// Writes which units of the plan that a file describes hold their planned addresses whatever happens, and which may
+/// move; of a plan whose NAMEs or addresses have findings, what `check_text` writes; or why the file describes no plan.
+pub fn addresses_text<S: Source, W: Sink>(
+    alloc: Global,
+    source: &mut S,
+    sink: &mut W,
+) -> Result<Verdict, Fault>
+    ensures { AnswersWhole IsAddressesText (IsOfAny IsAddressesText) plan_limits (S.state source.old) (S.state source.new) W.state sink.old sink.new result }
+{
+    report_text(alloc, &AddressesReport, source, sink)
+}

@@ -1,0 +1,355 @@
+//! The lines of what a plan asks of its bus.
+ghost use Rattle.std.specs.Prelude.{◌≡◌, ◌+◌, ◌*◌, ◌++◌, ◌<◌, ◌^◌, length, OnOk};
+ghost use Rattle.j39_plan_text.specs.LoadLines.{age_text, delay_text, flow_line, flow_text};
+ghost use Rattle.j39_plan_text.specs.LoadLines.{known_age_text, known_delay_text, limited_text};
+ghost use Rattle.j39_plan_text.specs.LoadLines.{load_finding_line, load_finding_lines, load_finding_part};
+ghost use Rattle.j39_plan_text.specs.LoadLines.{load_finding_text, load_line, loads_text};
+ghost use Rattle.j39_plan_text.specs.LoadLines.{microseconds_field, need_line, receiver_text, time_text, whole_text};
+ghost use Rattle.j39_plan_text.specs.LoadLines.{within_text};
+ghost use Rattle.j39_load.specs.AskedLoads.{asked_in};
+ghost use Rattle.j39_load.specs.LineLists.{lines_of_each};
+ghost use Rattle.j39_load.specs.SentFrames.{bit_time};
+
+use crate::finding_lines::is_between;
+use j39_load::{
+    Delay, FlowLoad, LoadFinding, Loads, WholeTime, bits_of_ms, bits_of_second, least_age,
+};
+use j39_network::{Bitrate, FlowPlan, NeedPlan, Plan, Timing, To, is_met};
+use j39_text::{TextBuffer, group_label, unit_label, write_need};
+use std::alloc::AllocError;
+
+#[tactic(auto, unfolding(crate::specs::LoadLines::load_finding_text))]
+fn write_load_finding(text: &mut TextBuffer, finding: LoadFinding) -> Result<(), AllocError>
+    ensures { OnOk result (text.new ≡ text.old ++ load_finding_text finding) }
+{
+    match finding {
+        LoadFinding::NoPeriod(flow) => text.place("F16 NoPeriod ", flow),
+        LoadFinding::Overload(bits) => text.field("F17 Overload ", bits),
+        LoadFinding::LateFlow(flow) => text.place("F18 LateFlow ", flow),
+        LoadFinding::NeedTooOld(need) => text.place("F20 NeedTooOld ", need),
+    }
+}
+
+#[tactic(auto, unfolding(crate::specs::LoadLines::load_finding_line))]
+fn write_load_finding_line(text: &mut TextBuffer, finding: LoadFinding) -> Result<(), AllocError>
+    ensures { OnOk result (text.new ≡ text.old ++ load_finding_line finding) }
+{
+    write_load_finding(text, finding)?;
+    text.end_line()
+}
+
+// The same, where its number is between these.
+#[tactic(auto, unfolding(crate::specs::LoadLines::load_finding_part))]
+fn write_load_finding_part(
+    text: &mut TextBuffer,
+    finding: LoadFinding,
+    from: u8,
+    below: u8,
+) -> Result<(), AllocError>
+    ensures { OnOk result (text.new ≡ text.old ++ load_finding_part from below finding) }
+{
+    if is_between(from, below, finding.number()) {
+        write_load_finding_line(text, finding)
+    } else {
+        Ok(())
+    }
+}
+
+/// Writes a line for each finding whose number is between these.
+#[tactic(auto, unfolding(j39_load::specs::LineLists::lines_of_each))]
+pub(super) fn write_load_findings(
+    text: &mut TextBuffer,
+    findings: &[LoadFinding],
+    from: u8,
+    below: u8,
+) -> Result<(), AllocError>
+    ensures { OnOk result (text.new ≡ text.old ++ load_finding_lines from below findings.now) }
+{
+    for finding in findings {
+        write_load_finding_part(text, *finding, from, below)?;
+    }
+    Ok(())
+}
+
+fn bit_time(bitrate: Bitrate) -> u64
+    ensures { result ≡ bit_time bitrate }
+{
+    match bitrate {
+        Bitrate::Kbit125 => 8,
+        Bitrate::Kbit250 => 4,
+        Bitrate::Kbit500 => 2,
+        Bitrate::Mbit1 => 1,
+    }
+}
+
+#[tactic(auto, unfolding(crate::specs::LoadLines::microseconds_field))]
+fn write_microseconds(
+    text: &mut TextBuffer,
+    word: &str,
+    bitrate: Bitrate,
+    bits: u64,
+) -> Result<(), AllocError>
+    ensures { OnOk result (text.new ≡ text.old ++ microseconds_field word.now bitrate bits) }
+{
+    text.field(word, u128::from(bits) * u128::from(bit_time(bitrate)))
+}
+
+#[tactic(auto, unfolding(crate::specs::LoadLines::time_text))]
+fn write_time(
+    text: &mut TextBuffer,
+    word: &str,
+    bitrate: Bitrate,
+    bits: u64,
+) -> Result<(), AllocError>
+    ensures { OnOk result (text.new ≡ text.old ++ time_text word.now bitrate bits) }
+{
+    write_microseconds(text, word, bitrate, bits)?;
+    text.word(" us")
+}
+
+#[tactic(auto, unfolding(crate::specs::LoadLines::within_text))]
+fn write_within(
+    text: &mut TextBuffer,
+    word: &str,
+    bitrate: Bitrate,
+    limit: u32,
+    bits: u64,
+) -> Result<(), AllocError>
+    ensures { OnOk result (text.new ≡ text.old ++ within_text word.now bitrate limit bits) }
+{
+    write_microseconds(text, word, bitrate, bits)?;
+    write_time(text, " of ", bitrate, u64::from(limit))
+}
+
+#[tactic(auto, unfolding(crate::specs::LoadLines::limited_text))]
+fn write_limited(
+    text: &mut TextBuffer,
+    within: &str,
+    beyond: &str,
+    bitrate: Bitrate,
+    limit: u32,
+    bits: Option<u64>,
+) -> Result<(), AllocError>
+    ensures { OnOk result (text.new ≡ text.old ++ limited_text within.now beyond.now bitrate limit bits) }
+{
+    match bits {
+        Some(bits) if bits <= u64::from(limit) => write_within(text, within, bitrate, limit, bits),
+        _ => write_time(text, beyond, bitrate, u64::from(limit)),
+    }
+}
+
+#[tactic(auto, unfolding(crate::specs::LoadLines::whole_text))]
+fn write_whole(text: &mut TextBuffer, bitrate: Bitrate, whole: WholeTime) -> Result<(), AllocError>
+    ensures { OnOk result (text.new ≡ text.old ++ whole_text bitrate whole.limit whole.bits) }
+{
+    match (whole.limit, whole.bits) {
+        (Some(limit), bits) => {
+            write_limited(text, " whole within ", " late of ", bitrate, limit, bits)
+        }
+        (None, Some(bits)) => write_time(text, " whole within ", bitrate, bits),
+        (None, None) => Ok(()),
+    }
+}
+
+#[tactic(auto, unfolding(crate::specs::LoadLines::delay_text))]
+fn write_delay(
+    text: &mut TextBuffer,
+    bitrate: Bitrate,
+    limit: u32,
+    delay: Delay,
+) -> Result<(), AllocError>
+    ensures { OnOk result (text.new ≡ text.old ++ delay_text bitrate limit delay) }
+{
+    match delay {
+        Delay::Within(bits) => write_within(text, " within ", bitrate, limit, u64::from(bits)),
+        Delay::Late => write_time(text, " late of ", bitrate, u64::from(limit)),
+        Delay::Long(frames) => text.field(" frames ", frames),
+        Delay::Whole(whole) => {
+            text.field(" frames ", whole.frames)?;
+            write_whole(text, bitrate, whole)
+        }
+    }
+}
+
+#[tactic(auto, unfolding(crate::specs::LoadLines::known_delay_text))]
+fn write_known_delay(
+    text: &mut TextBuffer,
+    bitrate: Bitrate,
+    load: &Option<FlowLoad>,
+    delay: &Option<Delay>,
+) -> Result<(), AllocError>
+    ensures { OnOk result (text.new ≡ text.old ++ known_delay_text bitrate load.now delay.now) }
+{
+    match (load, delay) {
+        (Some(load), Some(delay)) => write_delay(text, bitrate, load.limit, *delay),
+        _ => text.word(" no period"),
+    }
+}
+
+#[tactic(auto, unfolding(crate::specs::LoadLines::receiver_text))]
+fn receiver_text(plan: &Plan, to: To) -> &str
+    ensures { result.now ≡ receiver_text plan.now to }
+{
+    match to {
+        To::All => "all",
+        To::One(unit) => unit_label(plan, unit),
+    }
+}
+
+#[tactic(auto, unfolding(crate::specs::LoadLines::flow_text))]
+fn write_flow(
+    text: &mut TextBuffer,
+    plan: &Plan,
+    place: usize,
+    flow: &FlowPlan,
+) -> Result<(), AllocError>
+    ensures { OnOk result (text.new ≡ text.old ++ flow_text plan.now place flow.now) }
+{
+    text.place("flow ", place)?;
+    text.word(" ")?;
+    text.word(group_label(plan, flow.group))?;
+    text.word(" ")?;
+    text.word(unit_label(plan, flow.sender))?;
+    text.word(" ")?;
+    text.word(receiver_text(plan, flow.to))
+}
+
+#[tactic(auto, unfolding(crate::specs::LoadLines::flow_line))]
+fn write_flow_line(
+    text: &mut TextBuffer,
+    plan: &Plan,
+    loads: &Loads,
+    delays: &[Option<Delay>],
+    place: usize,
+    flow: &FlowPlan,
+) -> Result<(), AllocError>
+    requires loads { place < length loads.now.flows.items }
+    requires delays { place < length delays.now }
+    ensures { OnOk result (text.new ≡ text.old
+        ++ flow_line plan.now loads.now.timing.bitrate loads.now.flows.items delays.now place flow.now) }
+{
+    write_flow(text, plan, place, flow)?;
+    write_known_delay(
+        text,
+        loads.timing.bitrate,
+        &loads.flows[place],
+        &delays[place],
+    )?;
+    text.end_line()
+}
+
+#[tactic(auto, unfolding(j39_load::specs::LineLists::lines_of_each))]
+fn write_flows(
+    text: &mut TextBuffer,
+    plan: &Plan,
+    loads: &Loads,
+    delays: &[Option<Delay>],
+) -> Result<(), AllocError>
+    requires loads { length loads.now.flows.items ≡ length plan.now.flows.items }
+    requires delays { length delays.now ≡ length plan.now.flows.items }
+    ensures { OnOk result (text.new ≡ text.old
+        ++ lines_of_each (flow_line plan.now loads.now.timing.bitrate loads.now.flows.items delays.now) 0 plan.now.flows.items) }
+{
+    for (place, flow) in plan.flows.iter().enumerate() {
+        write_flow_line(text, plan, loads, delays, place, flow)?;
+    }
+    Ok(())
+}
+
+#[tactic(auto, unfolding(crate::specs::LoadLines::age_text))]
+fn write_age(
+    text: &mut TextBuffer,
+    bitrate: Bitrate,
+    limit: u32,
+    age: Option<u64>,
+) -> Result<(), AllocError>
+    ensures { OnOk result (text.new ≡ text.old ++ age_text bitrate limit age) }
+{
+    write_limited(text, " age ", " old of ", bitrate, limit, age)
+}
+
+// The age of what is needed, or that no flow meets the need.
+#[tactic(auto, unfolding(crate::specs::LoadLines::known_age_text))]
+fn write_known_age(
+    text: &mut TextBuffer,
+    plan: &Plan,
+    timing: Timing,
+    delays: &[Option<Delay>],
+    need: &NeedPlan,
+    limit: u32,
+) -> Result<(), AllocError>
+    requires { length delays.now ≡ length plan.now.flows.items }
+    ensures { OnOk result (text.new ≡ text.old ++ known_age_text plan.now timing delays.now need.now limit) }
+{
+    if !is_met(&plan.requests, &plan.flows, need) {
+        return write_time(text, " unmet of ", timing.bitrate, u64::from(limit));
+    }
+    let age = least_age(timing, &plan.requests, &plan.flows, delays, need);
+    write_age(text, timing.bitrate, limit, age)
+}
+
+// A need and its age, where it asks for one.
+#[tactic(auto, unfolding(crate::specs::LoadLines::need_line))]
+fn write_need_line(
+    text: &mut TextBuffer,
+    plan: &Plan,
+    timing: Timing,
+    delays: &[Option<Delay>],
+    place: usize,
+    need: &NeedPlan,
+) -> Result<(), AllocError>
+    requires { length delays.now ≡ length plan.now.flows.items }
+    ensures { OnOk result (text.new ≡ text.old ++ need_line plan.now timing delays.now place need.now) }
+{
+    let Some(within) = need.within else {
+        return Ok(());
+    };
+    write_need(text, plan, place, need)?;
+    write_known_age(text, plan, timing, delays, need, bits_of_ms(timing, within))?;
+    text.end_line()
+}
+
+#[tactic(auto, unfolding(j39_load::specs::LineLists::lines_of_each))]
+fn write_needs(
+    text: &mut TextBuffer,
+    plan: &Plan,
+    timing: Timing,
+    delays: &[Option<Delay>],
+) -> Result<(), AllocError>
+    requires { length delays.now ≡ length plan.now.flows.items }
+    ensures { OnOk result (text.new ≡ text.old
+        ++ lines_of_each (need_line plan.now timing delays.now) 0 plan.now.needs.items) }
+{
+    for (place, need) in plan.needs.iter().enumerate() {
+        write_need_line(text, plan, timing, delays, place, need)?;
+    }
+    Ok(())
+}
+
+/// Writes how much of the bus all flows take.
+#[tactic(auto, unfolding(crate::specs::LoadLines::load_line))]
+pub fn write_load(text: &mut TextBuffer, loads: &Loads) -> Result<(), AllocError>
+    ensures { OnOk result (text.new ≡ text.old ++ load_line loads.now.timing (asked_in loads.now)) }
+{
+    text.field("load ", loads.total())?;
+    text.field(" of ", bits_of_second(loads.timing.bitrate))?;
+    text.end_line()
+}
+
+/// Writes each flow with its delay, each need that asks for an age with it, and the load of all.
+#[tactic(auto, unfolding(crate::specs::LoadLines::loads_text))]
+pub(super) fn write_loads(
+    text: &mut TextBuffer,
+    plan: &Plan,
+    loads: &Loads,
+    delays: &[Option<Delay>],
+) -> Result<(), AllocError>
+    requires loads { length loads.now.flows.items ≡ length plan.now.flows.items }
+    requires delays { length delays.now ≡ length plan.now.flows.items }
+    ensures { OnOk result (text.new ≡ text.old
+        ++ loads_text plan.now loads.now.timing (asked_in loads.now) delays.now) }
+{
+    write_flows(text, plan, loads, delays)?;
+    write_needs(text, plan, loads.timing, delays)?;
+    write_load(text, loads)
+}

@@ -1,0 +1,121 @@
+//! What is written of what a plan asks of its bus.
+ghost use Rattle.std.specs.Prelude.{◌≡◌, ◌+◌, ◌++◌, ◌≤◌, IfOk, OnOk, count_by, length};
+ghost use Rattle.j39_plan_text.specs.LoadText.{IsLoadReport, hides_times, is_untold, load_verdict, shows_times};
+ghost use Rattle.j39_plan_text.specs.LoadText.{untold_count, untold_lines, untold_text};
+
+use crate::finding_lines::{is_between, write_lines};
+use crate::load_lines::{write_load_findings, write_loads};
+use crate::plan_report::write_findings;
+use j39_findings::{Finding, check};
+use j39_load::{LoadAnswer, LoadFinding};
+use j39_network::Plan;
+use j39_stream::Verdict;
+use j39_text::TextBuffer;
+use std::alloc::{AllocError, Global};
+
+// Where a finding of this number is, no times are told.
+fn hides_times(number: u8) -> bool
+    ensures { result ≡ hides_times number }
+{
+    is_between(1, 6, number) || is_between(9, 13, number) || is_between(26, 29, number)
+}
+
+// Whether there is none of these.
+fn shows_times(findings: &[Finding]) -> bool
+    ensures { result ≡ shows_times findings.now }
+{
+    findings
+        .iter()
+        .all(|finding| !hides_times(finding.number()))
+}
+
+// Whether the lines of the load don't tell of it.
+fn is_untold(finding: LoadFinding) -> bool
+    ensures { result ≡ is_untold finding }
+{
+    is_between(16, 17, finding.number())
+}
+
+// How many of these there are.
+fn count_untold(others: &[LoadFinding]) -> usize
+    ensures count { result ≡ count_by is_untold others.now }
+    ensures few { result ≤ length others.now }
+{
+    let mut count = 0;
+    for finding in others {
+        if is_untold(*finding) {
+            count += 1;
+        }
+    }
+    count
+}
+
+// Writes so many findings, as check writes them: those of which the lines of the load don't tell.
+#[tactic(auto, unfolding(crate::specs::LoadText::untold_lines))]
+fn write_untold_lines(
+    alloc: Global,
+    text: &mut TextBuffer,
+    plan: &Plan,
+    findings: &[Finding],
+    others: &[LoadFinding],
+    count: usize,
+) -> Result<(), AllocError>
+    requires { count ≡ untold_count findings.now others.now }
+    ensures { OnOk result (text.new ≡ text.old ++ untold_lines plan.now findings.now others.now) }
+{
+    write_lines(alloc, text, plan, findings, 1, 16)?;
+    write_load_findings(text, others, 16, 17)?;
+    write_lines(alloc, text, plan, findings, 19, 20)?;
+    write_lines(alloc, text, plan, findings, 21, 29)?;
+    text.field("findings ", count)?;
+    text.end_line()
+}
+
+// The same, where there are any.
+#[tactic(auto, unfolding(crate::specs::LoadText::untold_text))]
+fn write_untold(
+    alloc: Global,
+    text: &mut TextBuffer,
+    plan: &Plan,
+    findings: &[Finding],
+    others: &[LoadFinding],
+) -> Result<(), AllocError>
+    ensures { OnOk result (text.new ≡ text.old ++ untold_text plan.now findings.now others.now) }
+{
+    let count = findings.len() + count_untold(others);
+    if count == 0 {
+        return Ok(());
+    }
+    write_untold_lines(alloc, text, plan, findings, others, count)
+}
+
+fn verdict_of(findings: &[Finding], others: &[LoadFinding]) -> Verdict
+    ensures { result ≡ load_verdict findings.now others.now }
+{
+    if findings.is_empty() && others.is_empty() {
+        Verdict::Done
+    } else {
+        Verdict::Findings
+    }
+}
+
+/// What is written of what a plan asks of its bus, with the verdict.
+pub(super) fn load_report(alloc: Global, plan: &Plan) -> Result<(TextBuffer, Verdict), AllocError>
+    ensures { IfOk result (λ report. IsLoadReport plan.now plan.now.timing report.0 report.1) }
+{
+    let mut text = TextBuffer::new(alloc);
+    let Some(timing) = plan.timing else {
+        text.word("refused plan NoTiming\n")?;
+        return Ok((text, Verdict::Refused));
+    };
+    let answer = LoadAnswer::new(alloc, timing, plan)?;
+    let others = answer.findings.as_slice();
+    let findings = check(alloc, plan)?;
+    if shows_times(&findings) {
+        write_loads(&mut text, plan, &answer.loads, answer.delays.as_slice())?;
+        write_untold(alloc, &mut text, plan, &findings, others)?;
+        return Ok((text, verdict_of(&findings, others)));
+    }
+    write_findings(alloc, &mut text, plan, &findings, others)?;
+    Ok((text, Verdict::Findings))
+}

@@ -1,0 +1,85 @@
+//! Why a plan file is refused.
+ghost use Rattle.std.specs.Prelude.{◌≡◌, ◌++◌, ℕ, List, OnOk, IfOk};
+ghost use Rattle.j39_plan_text.specs.PlanText.{IsRefusalLine, fault_line, key_text, table_text};
+
+use j39_plan::{FileError, Key, PlanError, PlanFault, Table};
+use j39_text::TextBuffer;
+use std::alloc::{AllocError, Global};
+
+/// Writes the name of a table.
+#[tactic(auto, unfolding(crate::specs::PlanText::table_text))]
+pub(crate) fn write_table(text: &mut TextBuffer, table: Table) -> Result<(), AllocError>
+    ensures { OnOk result (text.new ≡ text.old ++ table_text table) }
+{
+    match table {
+        Table::Top => text.word("top"),
+        Table::Timing => text.word("timing"),
+        Table::TimingErrors => text.word("timing errors"),
+        Table::Unit(unit) => text.place("unit ", unit),
+        Table::UnitName(unit) => {
+            text.place("unit ", unit)?;
+            text.word(" name")
+        }
+        Table::Group(group) => text.place("group ", group),
+        Table::GroupWhen(group) => {
+            text.place("group ", group)?;
+            text.word(" when")
+        }
+        Table::Signal(group, signal) => {
+            text.place("group ", group)?;
+            text.place(" signal ", signal)
+        }
+        Table::Text(group, place) => {
+            text.place("group ", group)?;
+            text.place(" text ", place)
+        }
+        Table::Flow(flow) => text.place("flow ", flow),
+        Table::Need(need) => text.place("need ", need),
+        Table::Request(request) => text.place("request ", request),
+    }
+}
+
+#[tactic(auto, unfolding(crate::specs::PlanText::key_text))]
+fn write_key(text: &mut TextBuffer, key: Option<Key>) -> Result<(), AllocError>
+    ensures { OnOk result (text.new ≡ text.old ++ key_text key) }
+{
+    match key {
+        Some(key) => {
+            text.word(" key ")?;
+            text.word(key.word())
+        }
+        None => Ok(()),
+    }
+}
+
+#[tactic(auto, unfolding(crate::specs::PlanText::fault_line))]
+fn write_fault(text: &mut TextBuffer, fault: &PlanFault) -> Result<(), AllocError>
+    ensures { OnOk result (text.new ≡ text.old ++ fault_line fault.now) }
+{
+    text.word("refused ")?;
+    text.word(fault.cause.word())?;
+    text.word(" ")?;
+    write_table(text, fault.place.table)?;
+    write_key(text, fault.place.key)?;
+    text.end_line()
+}
+
+/// Writes the line of a refusal. Where the plan could not be read for want of memory there is none.
+pub fn write_refusal(text: &mut TextBuffer, error: &PlanError) -> Result<(), AllocError>
+    ensures { OnOk result ((line : List ℕ) × IsRefusalLine error.now line × (text.new ≡ text.old ++ line)) }
+{
+    match error {
+        FileError::Text => text.word("refused Text\n"),
+        FileError::Fault(fault) => write_fault(text, fault),
+        FileError::Memory => Err(AllocError),
+    }
+}
+
+/// The line of a refusal.
+pub(super) fn refusal(alloc: Global, error: &PlanError) -> Result<TextBuffer, AllocError>
+    ensures { IfOk result (IsRefusalLine error.now) }
+{
+    let mut text = TextBuffer::new(alloc);
+    write_refusal(&mut text, error)?;
+    Ok(text)
+}

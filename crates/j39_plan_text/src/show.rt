@@ -1,0 +1,38 @@
+//! What the show command writes.
+ghost use Rattle.j39_plan_text.specs.ShowText.{IsShowText};
+ghost use Rattle.j39_stream.specs.CommandEnds.{AnswersWhole, IsOfAny};
+ghost use Rattle.j39_stream.specs.Streams.{plan_limits};
+
+use crate::report_text::{PlanReport, report_text};
+use crate::show_lines::write_plan;
+use j39_network::Plan;
+use j39_stream::{Fault, Sink, Source, Verdict};
+use j39_text::TextBuffer;
+use std::alloc::{AllocError, Global};
+
+// What is shown of a plan.
+struct ShowReport;
+
+impl PlanReport for ShowReport {
+    ghost use Rattle.j39_plan_text.specs.ShowText.{IsShowReport};
+
+    ghost says = { IsShowReport };
+
+    fn report(&self, alloc: Global, plan: Plan) -> Result<(TextBuffer, Verdict), AllocError> {
+        let mut text = TextBuffer::new(alloc);
+        write_plan(&mut text, &plan)?;
+        Ok((text, Verdict::Done))
+    }
+}
+
+/// Writes each value of the plan that a file describes, those too that the file leaves to their defaults, one a line,
+/// whatever is wrong with the plan; or why the file describes none.
+pub fn show_text<S: Source, W: Sink>(
+    alloc: Global,
+    source: &mut S,
+    sink: &mut W,
+) -> Result<Verdict, Fault>
+    ensures { AnswersWhole IsShowText (IsOfAny IsShowText) plan_limits (S.state source.old) (S.state source.new) W.state sink.old sink.new result }
+{
+    report_text(alloc, &ShowReport, source, sink)
+}

@@ -1,0 +1,114 @@
+//! Which copies go into other layouts.
+ghost use Rattle.std.specs.Prelude.{◌≡◌};
+ghost use Rattle.std.specs.List.{list_any};
+ghost use Rattle.j39_search.specs.Adding.{Adds};
+ghost use Rattle.j39_search.specs.ListPlaces.{found_if};
+ghost use Rattle.j39_vehicle_findings.specs.FoundPaths.{copies_other_layout, has_other_records, has_other_selector};
+ghost use Rattle.j39_vehicle_findings.specs.FoundPaths.{have_other_layouts, is_selector, same_byte};
+
+use crate::buses::group_at;
+use crate::finding::VehicleFinding;
+use crate::forwards::copies;
+use j39_network::GroupPlan;
+use j39_search::{Rule, push_if};
+use j39_signal::Selector;
+use j39_vehicle::{Forward, Vehicle};
+use std::alloc::AllocError;
+
+fn same_byte(one: Option<u8>, other: Option<u8>) -> bool
+    ensures { result ≡ same_byte one other }
+{
+    match (one, other) {
+        (None, None) => true,
+        (Some(one), Some(other)) => one == other,
+        (Some(_), None) => false,
+        (None, Some(_)) => false,
+    }
+}
+
+fn is_selector(selector: Selector, other: Option<Selector>) -> bool
+    ensures { result ≡ is_selector selector other }
+{
+    match other {
+        None => false,
+        Some(other) => {
+            selector.start == other.start
+                && selector.bits == other.bits
+                && selector.value == other.value
+        }
+    }
+}
+
+// Whether the second group has a selector that isn't the first one's.
+fn has_other_selector(heard: &GroupPlan, sent: &GroupPlan) -> bool
+    ensures { result ≡ has_other_selector heard.now sent.now }
+{
+    match sent.when {
+        None => false,
+        Some(selector) => !is_selector(selector, heard.when),
+    }
+}
+
+// Whether the group has records.
+fn has_records(group: &GroupPlan) -> bool
+    ensures { result ≡ list_any (λ t. t.repeated) group.now.signals.items }
+{
+    group.signals.iter().any(|signal| signal.is_repeated())
+}
+
+// Whether the second group has records, and they stand otherwise.
+fn has_other_records(heard: &GroupPlan, sent: &GroupPlan) -> bool
+    ensures { result ≡ has_other_records heard.now sent.now }
+{
+    has_records(sent) && !same_byte(sent.every, heard.every)
+}
+
+fn have_other_layouts(heard: &GroupPlan, sent: &GroupPlan) -> bool
+    ensures { result ≡ have_other_layouts heard.now sent.now }
+{
+    heard.length < sent.length
+        || sent.most < heard.most
+        || has_other_selector(heard, sent)
+        || has_other_records(heard, sent)
+}
+
+// Whether the forward copies, and a message of the one group needn't be one of the other.
+fn copies_other_layout(vehicle: &Vehicle, forward: &Forward) -> bool
+    ensures { result ≡ copies_other_layout vehicle.now forward.now }
+{
+    if !copies(forward) {
+        return false;
+    }
+    let Some(heard) = group_at(&vehicle.buses, forward.input) else {
+        return false;
+    };
+    match group_at(&vehicle.buses, forward.output) {
+        Some(sent) => have_other_layouts(heard, sent),
+        None => false,
+    }
+}
+
+/// Finds the forwards that copy into another layout.
+#[derive(Clone, Copy)]
+pub struct LayoutDiffers<'a> {
+    pub vehicle: &'a Vehicle,
+}
+
+impl Rule<Forward, VehicleFinding> for LayoutDiffers<'_> {
+    ghost use Rattle.j39_vehicle_findings.specs.declared.finding.VehicleFinding.TheVariants.{LayoutDiffers as LayoutsDiffer};
+
+    ghost gives = { λ rule n forward. found_if (copies_other_layout rule.vehicle.now forward) (LayoutsDiffer n) };
+
+    fn find(
+        &self,
+        findings: &mut Vec<VehicleFinding>,
+        place: usize,
+        forward: &Forward,
+    ) -> Result<(), AllocError> {
+        push_if(
+            findings,
+            copies_other_layout(self.vehicle, forward),
+            VehicleFinding::LayoutDiffers(place),
+        )
+    }
+}

@@ -1,0 +1,66 @@
+//! What is written of the plan file of a bus.
+ghost use Rattle.std.specs.Prelude.{◌≡◌, ◌++◌, IfOk, OnOk, OnSome};
+ghost use Rattle.j39_stream.specs.CommandEnds.{AnswersWhole, PutsText};
+ghost use Rattle.j39_stream.specs.Streams.{plan_limits};
+ghost use Rattle.j39_vehicle_text.specs.VehicleFileText.{IsBusPlanText, IsBusRefusal, IsRefusedBus, RefusesBus};
+ghost use Rattle.j39_vehicle_text.specs.VehicleFileText.{bus_line};
+
+use j39_id::Label;
+use j39_network::Plan;
+use j39_plan::{PlanError, read_plan};
+use j39_plan_text::write_refusal;
+use j39_stream::{Fault, Sink, Source, put_all, read_whole};
+use j39_text::TextBuffer;
+use std::alloc::{AllocError, Global};
+
+/// Writes the line that names a bus.
+#[tactic(auto, unfolding(crate::specs::VehicleFileText::bus_line))]
+pub(super) fn write_bus(text: &mut TextBuffer, label: &Label) -> Result<(), AllocError>
+    ensures { OnOk result (text.new ≡ text.old ++ bus_line label.now.bytes) }
+{
+    text.word("bus ")?;
+    text.word(label.as_str())?;
+    text.end_line()
+}
+
+// Which bus it is whose plan is refused, and why.
+fn refusal(alloc: Global, label: &Label, error: &PlanError) -> Result<TextBuffer, AllocError>
+    ensures { IfOk result (IsBusRefusal label.now.bytes error.now) }
+{
+    let mut text = TextBuffer::new(alloc);
+    write_bus(&mut text, label)?;
+    write_refusal(&mut text, error)?;
+    Ok(text)
+}
+
+fn refuse<W: Sink>(
+    alloc: Global,
+    label: &Label,
+    error: &PlanError,
+    sink: &mut W,
+) -> Result<Option<Plan>, Fault>
+    ensures { PutsText (RefusesBus label.now.bytes error.now) W.state sink.old sink.new result }
+{
+    let text = refusal(alloc, label, error)?;
+    put_all(sink, text.as_slice())?;
+    Ok(None)
+}
+
+/// The plan that the file of a bus describes. Where it describes none, writes the bus and the line that says why, and
+/// gives none.
+pub fn bus_plan<S: Source, W: Sink>(
+    alloc: Global,
+    label: &Label,
+    source: &mut S,
+    sink: &mut W,
+) -> Result<Option<Plan>, Fault>
+    ensures answers { AnswersWhole (IsBusPlanText label.now.bytes) (IsRefusedBus label.now.bytes) plan_limits (S.state source.old) (S.state source.new)
+        W.state sink.old sink.new result }
+    ensures writes_nothing { IfOk result (λ plan. OnSome plan (sink.new ≡ sink.old)) }
+{
+    let input = read_whole(alloc, source)?;
+    match read_plan(alloc, input.as_slice()) {
+        Ok(plan) => Ok(Some(plan)),
+        Err(error) => refuse(alloc, label, &error, sink),
+    }
+}

@@ -1,0 +1,151 @@
+//! The lines of findings.
+ghost use Rattle.std.specs.Prelude.{◌≡◌, ◌++◌, OnOk};
+ghost use Rattle.j39_load.specs.LineLists.{lines_of_each};
+ghost use Rattle.j39_vehicle_findings.specs.declared.finding.VehicleFinding.TheVariants.{SharedQueue, SignalDiffers, TwoForwards};
+ghost use Rattle.j39_vehicle_text.specs.VehicleFindingLines.{sent_signal_label, time_finding_line, time_finding_lines};
+ghost use Rattle.j39_vehicle_text.specs.VehicleFindingLines.{time_finding_text};
+ghost use Rattle.j39_vehicle_text.specs.VehicleFindingLines.{vehicle_finding_line, vehicle_finding_lines};
+ghost use Rattle.j39_vehicle_text.specs.VehicleFindingLines.{vehicle_finding_text};
+
+use crate::labels::{bus_label, gateway_label, signal_label_at};
+use j39_text::TextBuffer;
+use j39_vehicle::Vehicle;
+use j39_vehicle_findings::VehicleFinding;
+use j39_vehicle_times::TimeFinding;
+use std::alloc::AllocError;
+
+// The label of a signal of the group that the forward at a place sends.
+#[tactic(auto, unfolding(crate::specs::VehicleFindingLines::sent_signal_label))]
+fn sent_signal_label(vehicle: &Vehicle, forward: usize, signal: usize) -> &str
+    ensures { result.now ≡ sent_signal_label vehicle.now forward signal }
+{
+    match vehicle.forwards.get(forward) {
+        Some(forward) => signal_label_at(vehicle, forward.output, signal),
+        None => "",
+    }
+}
+
+#[tactic(auto, unfolding(crate::specs::VehicleFindingLines::vehicle_finding_text))]
+fn write_signal_differs(
+    text: &mut TextBuffer,
+    vehicle: &Vehicle,
+    forward: usize,
+    signal: usize,
+) -> Result<(), AllocError>
+    ensures { OnOk result (text.new ≡ text.old ++ vehicle_finding_text vehicle.now (SignalDiffers forward signal)) }
+{
+    text.place("G6 SignalDiffers ", forward)?;
+    text.word(" ")?;
+    text.word(sent_signal_label(vehicle, forward, signal))
+}
+
+#[tactic(auto, unfolding(crate::specs::VehicleFindingLines::vehicle_finding_text))]
+fn write_two_forwards(
+    text: &mut TextBuffer,
+    vehicle: &Vehicle,
+    first: usize,
+    second: usize,
+) -> Result<(), AllocError>
+    ensures { OnOk result (text.new ≡ text.old ++ vehicle_finding_text vehicle.now (TwoForwards first second)) }
+{
+    text.place("G7 TwoForwards ", first)?;
+    text.place(" ", second)
+}
+
+#[tactic(auto, unfolding(crate::specs::VehicleFindingLines::vehicle_finding_text))]
+fn write_shared_queue(
+    text: &mut TextBuffer,
+    vehicle: &Vehicle,
+    gateway: usize,
+    bus: usize,
+) -> Result<(), AllocError>
+    ensures { OnOk result (text.new ≡ text.old ++ vehicle_finding_text vehicle.now (SharedQueue gateway bus)) }
+{
+    text.word("G14 SharedQueue ")?;
+    text.word(gateway_label(vehicle, gateway))?;
+    text.word(" ")?;
+    text.word(bus_label(vehicle, bus))
+}
+
+#[tactic(auto, unfolding(crate::specs::VehicleFindingLines::vehicle_finding_text))]
+fn write_finding(
+    text: &mut TextBuffer,
+    vehicle: &Vehicle,
+    finding: VehicleFinding,
+) -> Result<(), AllocError>
+    ensures { OnOk result (text.new ≡ text.old ++ vehicle_finding_text vehicle.now finding) }
+{
+    match finding {
+        VehicleFinding::NoInput(n) => text.place("G1 NoInput ", n),
+        VehicleFinding::ManyInputs(n) => text.place("G2 ManyInputs ", n),
+        VehicleFinding::NoOutput(n) => text.place("G3 NoOutput ", n),
+        VehicleFinding::ManyOutputs(n) => text.place("G4 ManyOutputs ", n),
+        VehicleFinding::LayoutDiffers(n) => text.place("G5 LayoutDiffers ", n),
+        VehicleFinding::SignalDiffers(n, t) => write_signal_differs(text, vehicle, n, t),
+        VehicleFinding::TwoForwards(n, m) => write_two_forwards(text, vehicle, n, m),
+        VehicleFinding::ForwardLoop(n) => text.place("G8 ForwardLoop ", n),
+        VehicleFinding::NeedUnmet(d) => text.place("G9 NeedUnmet ", d),
+        VehicleFinding::SharedQueue(k, b) => write_shared_queue(text, vehicle, k, b),
+    }
+}
+
+#[tactic(auto, unfolding(crate::specs::VehicleFindingLines::time_finding_text))]
+fn write_time_finding(text: &mut TextBuffer, finding: TimeFinding) -> Result<(), AllocError>
+    ensures { OnOk result (text.new ≡ text.old ++ time_finding_text finding) }
+{
+    match finding {
+        TimeFinding::TooOften(n) => text.place("G10 TooOften ", n),
+        TimeFinding::TooLate(n) => text.place("G11 TooLate ", n),
+        TimeFinding::TooRare(n) => text.place("G12 TooRare ", n),
+        TimeFinding::NeedTooOld(d) => text.place("G13 NeedTooOld ", d),
+    }
+}
+
+#[tactic(auto, unfolding(crate::specs::VehicleFindingLines::vehicle_finding_line))]
+fn write_line(
+    text: &mut TextBuffer,
+    vehicle: &Vehicle,
+    finding: VehicleFinding,
+) -> Result<(), AllocError>
+    ensures { OnOk result (text.new ≡ text.old ++ vehicle_finding_line vehicle.now finding) }
+{
+    write_finding(text, vehicle, finding)?;
+    text.end_line()
+}
+
+#[tactic(auto, unfolding(crate::specs::VehicleFindingLines::time_finding_line))]
+fn write_time_line(text: &mut TextBuffer, finding: TimeFinding) -> Result<(), AllocError>
+    ensures { OnOk result (text.new ≡ text.old ++ time_finding_line finding) }
+{
+    write_time_finding(text, finding)?;
+    text.end_line()
+}
+
+/// Writes a line for each of these findings.
+#[tactic(auto, unfolding(j39_load::specs::LineLists::lines_of_each))]
+pub(super) fn write_findings(
+    text: &mut TextBuffer,
+    vehicle: &Vehicle,
+    findings: &[VehicleFinding],
+) -> Result<(), AllocError>
+    ensures { OnOk result (text.new ≡ text.old ++ vehicle_finding_lines vehicle.now findings.now) }
+{
+    for finding in findings {
+        write_line(text, vehicle, *finding)?;
+    }
+    Ok(())
+}
+
+/// Writes a line for each finding of times.
+#[tactic(auto, unfolding(j39_load::specs::LineLists::lines_of_each))]
+pub(super) fn write_time_findings(
+    text: &mut TextBuffer,
+    findings: &[TimeFinding],
+) -> Result<(), AllocError>
+    ensures { OnOk result (text.new ≡ text.old ++ time_finding_lines findings.now) }
+{
+    for finding in findings {
+        write_time_line(text, *finding)?;
+    }
+    Ok(())
+}

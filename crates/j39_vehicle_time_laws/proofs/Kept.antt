@@ -1,0 +1,418 @@
+-- Where gateways are prompt, what they send on directly keeps to the streams that are planned for it, on buses that keep to their plans otherwise.
+use Rattle.std.proofs.Common.{◌≡◌, ◌≢◌, ℕ, zero, suc, ◌+◌, ◌*◌, ◌<◌, ◌≤◌, ◌⊎◌, Bool, true, false, length, is_some, unwrap_or, Option, Some, None, refl, sym, ap}
+use Rattle.std.proofs.Common.{◌∙◌, subst, inl, inr, arith}
+use Rattle.std.proofs.lemmas.Bool.{cases_Bool, false≢true}
+use Rattle.std.proofs.lemmas.Option.{same_Some}
+use Rattle.std.specs.Option.{option_and_then, option_map_or}
+use Rattle.j39_network.specs.declared.plan.flow_plan.FlowPlan.{FlowPlan}
+use Rattle.j39_network.specs.declared.plan.timing.Timing.{Timing}
+use Rattle.j39_load.specs.Asked.{Asked, asked_of, frames_asked}
+use Rattle.j39_load.specs.LoadFindings.{AsksOfBus}
+use Rattle.j39_load.proofs.OneLoad.{one_asked}
+use Rattle.j39_timing.specs.FrameStreams.{AreOfStreams, KeepsStream}
+use Rattle.j39_timing.specs.Gateways.{Carrier, IsHandedOn}
+use Rattle.j39_timing.specs.Prefixes.{AreBegunUntil}
+use Rattle.j39_timing.specs.Traffic.{IsSingle, Traffic, delay_of}
+use Rattle.j39_timing.specs.Vehicles.{Bus, IsKnown, IsPlannedOn, KeepsItsStreams, KeepsItsStreamsUntil}
+use Rattle.j39_timing.proofs.Prefixes.{then_is_planned}
+use Rattle.j39_timing.proofs.Vehicles.{keep_their_streams}
+use Rattle.j39_vehicle.specs.declared.vehicle.Vehicle.{Vehicle}
+use Rattle.j39_vehicle.specs.declared.vehicle.bus_plan.BusPlan.{BusPlan}
+use Rattle.j39_vehicle.specs.declared.vehicle.forward.Forward.{Forward}
+use Rattle.j39_vehicle_findings.specs.declared.point.FlowAt.{FlowAt}
+use Rattle.j39_vehicle_times.specs.BusDelays.{AreDelays, delays_on}
+use Rattle.j39_vehicle_times.specs.declared.bus_delays.Delays.{Delays}
+use Rattle.j39_vehicle_times.specs.TimeFindings.{period_ms}
+use Rattle.j39_vehicle_times.specs.Times.{behind_at, behind_by, delay_at, direct_feeder, flow_at, first_input_at, jitter_ms, own, queued_of, sum_known, timed, timing_on}
+use Rattle.j39_vehicle_times.specs.Times.{us_of_ms, within_of}
+use Rattle.j39_vehicle_times.proofs.DecidingTimes.{and_then_some}
+use Rattle.j39_vehicle_time_laws.specs.ForwardedStreams.{AreForwardsTimely, AreOtherwiseKept, AreStreamsKept, IsOtherwiseKept, streams_of}
+use Rattle.j39_vehicle_time_laws.specs.KeptBuses.{AreKeptBuses, IsKnownBus, asked_on}
+use Rattle.j39_vehicle_time_laws.specs.Prompt.{ArePrompt, HaveOwnReleases, IsSentDirectly, sent_from}
+use Rattle.j39_vehicle_time_laws.specs.Seen.{SeenBuses, frames_at, unit_on}
+use Rattle.j39_vehicle_time_laws.proofs.Behind.{fed_never, fed_parts, unfed_release}
+use Rattle.j39_vehicle_time_laws.proofs.Circle.{IsTold, TimedBus, all_of, at_of, behind_value, behind_with, bounded_here, bus_with, direct_with, is_some_false}
+use Rattle.j39_vehicle_time_laws.proofs.Circle.{is_some_true, late_value, of_bus, owns, period_value, queued_value, single_here, stream_of, streamed, unit_positive}
+use Rattle.j39_vehicle_time_laws.proofs.Circle.{view, viewed, wait_is, wait_with, within_value}
+use Rattle.j39_vehicle_time_laws.proofs.Feeders.{feeder_is}
+use Rattle.j39_vehicle_time_laws.proofs.OneFlow.{delay_here, own_parts}
+use Rattle.j39_vehicle_time_laws.proofs.Parts.{some_cases, sum_some}
+use Rattle.j39_vehicle_time_laws.proofs.Starts.{starts_within}
+use Rattle.j39_vehicle_time_laws.proofs.Until.{frames_then, with_streams}
+
+-- what comes so long behind its release has a time of its own
+behind_own : (v : Vehicle) (delays : Delays) (steps : ℕ) (at : FlowAt) (total : ℕ) → behind_by v delays steps at ≡ Some total → (n : ℕ)
+    × (own v delays at ≡ Some n)
+behind_own v delays steps at total known = some_cases (direct_feeder v at) ((n : ℕ) × (own v delays at ≡ Some n))
+    (λ none.
+    let (n, late, owns, jitter, sum) = sum_some (own v delays at) (timed v at (λ timing flow. Some (us_of_ms (jitter_ms flow)))) total
+    (unfed_release v delays steps at total none known) in
+    (n, owns))
+    (λ n feeder. by_steps n feeder steps known)
+  where
+    by_steps : (n : Forward) → direct_feeder v at ≡ Some n → (k : ℕ) → behind_by v delays k at ≡ Some total → (m : ℕ) × (own v delays at ≡ Some m)
+    by_steps n feeder zero known = absurd (fed_never v delays at total n feeder known)
+    by_steps n feeder (suc k) known = let fed = fed_parts v delays k at total n feeder known in (fed.own_time, fed.own_is)
+
+-- whoever tells who stays, the streams are the same
+pub one_traffic : (v : Vehicle) (delays : Delays) (b : ℕ) (timing other : Timing) (one : IsKnownBus v delays b timing) (two : IsKnownBus v delays b other)
+    → streams_of timing (frames_asked (asked_on one)) ≡ streams_of other (frames_asked (asked_on two))
+one_traffic v delays b timing other one two =
+    let bus : one.bus ≡ two.bus = same_Some _ _ (sym one.its ∙ two.its) in
+    let time : timing ≡ other = same_Some _ _ (sym one.timed ∙ (ap (λ (x : BusPlan). x.plan.timing) bus ∙ two.timed)) in
+    let asks : AsksOfBus two.bus.plan other one.stays (delays_on delays b) =
+    subst (λ (x : BusPlan). AsksOfBus x.plan other one.stays (delays_on delays b)) bus (subst (λ (x : Timing). AsksOfBus one.bus.plan x one.stays
+    (delays_on delays b)) time one.asks) in
+    let asked : asked_of timing one.bus.plan one.stays ≡ asked_of other two.bus.plan two.stays =
+    ap (λ (x : Timing). asked_of x one.bus.plan one.stays) time ∙ (ap (λ (x : BusPlan). asked_of other x.plan one.stays) bus
+    ∙ (one_asked two.bus.plan other one.stays two.stays (delays_on delays b) (delays_on delays b) asks two.asks).0) in
+    ap (λ (x : Timing). streams_of x (frames_asked (asked_of timing one.bus.plan one.stays))) time ∙ ap (λ (x : Asked). streams_of other (frames_asked x)) asked
+
+case_view : (v : Vehicle) (b : ℕ) (P : Option (TimedBus v b) → Type 0) → P None → ((t : TimedBus v b) → P (Some t)) → (o : Option (TimedBus v b)) → P o
+case_view v b P none some None = none
+case_view v b P none some (Some t) = some t
+
+abbrev bus_value : Option FlowAt → ℕ
+bus_value from = option_map_or (λ (x : FlowAt). x.bus) from 0
+
+abbrev flow_value : Option FlowAt → ℕ
+flow_value from = option_map_or (λ (x : FlowAt). x.flow) from 0
+
+abbrev carrier_of : Bus → ℕ → Carrier
+carrier_of bus i =
+    record { schedule = bus.schedule; clock = bus.clock; planned = bus.planned; of = bus.of; source = i; release = bus.release; born = bus.release }
+
+module _ (v : Vehicle) (delays : Delays) (told : AreDelays v delays) (seen : SeenBuses) (kept : AreOtherwiseKept v delays seen)
+    (prompt : ArePrompt v delays seen) (own_releases : HaveOwnReleases v delays seen) (timely : AreForwardsTimely v delays) where
+  abbrev with_bus : (b : ℕ) → Option (TimedBus v b) → Bus
+  with_bus b o = bus_with v delays told seen b o
+
+  abbrev vehicle : Rattle.j39_timing.specs.Vehicles.Vehicle
+  vehicle = record {
+    bus = λ b. bus_with v delays told seen b (view v b);
+    direct = λ b i. direct_with v delays told seen b i (view v b);
+    from_bus = λ b i. bus_value (sent_from v delays (at_of b i));
+    from_stream = λ b i. flow_value (sent_from v delays (at_of b i));
+    within = λ b i. within_value v delays told seen b i;
+    wait = λ b i. wait_with v delays told seen b i (view v b);
+    behind = λ b i. behind_with v delays told seen b i (view v b);
+    apart = λ b i. unit_on v b * ((bus_with v delays told seen b (view v b)).traffic.stream i).period;
+  }
+
+  abbrev keeps : {b : ℕ} → (t : TimedBus v b) → IsOtherwiseKept v delays b t.timing (all_of v delays told seen t) (seen b)
+  keeps {b} t = kept b t.timing (of_bus v delays told seen t)
+
+  -- ---- one flow that is sent on directly
+
+  record Link (b i : ℕ) : Type 0 where
+    t : TimedBus v b
+    view_is : view v b ≡ Some t
+    here : IsTold v delays told seen b i t
+    x : FlowAt
+    from : sent_from v delays (at_of b i) ≡ Some x
+    n : Forward
+    feeder : direct_feeder v (at_of b i) ≡ Some n
+    input : first_input_at v n ≡ Some x
+    tx : TimedBus v x.bus
+    view_x : view v x.bus ≡ Some tx
+    there : IsTold v delays told seen x.bus x.flow tx
+    before : ℕ
+    before_is : behind_at v delays x ≡ Some before
+    within : ℕ
+    promised : within_of n ≡ Some within
+    in_jitter : before + within ≤ us_of_ms (jitter_ms here.flow)
+    no_nearer : (p : ℕ) → period_ms here.flow ≡ Some p → (q : ℕ) × (period_ms there.flow ≡ Some q) × (p ≤ q)
+
+  link_of : (b i : ℕ) (t : TimedBus v b) → view v b ≡ Some t → (x : FlowAt) → sent_from v delays (at_of b i) ≡ Some x → Link b i
+  link_of b i t view_is x from =
+      let (bits, delayed, rest) = and_then_some (λ (bits : ℕ). option_and_then (first_input_at v) (direct_feeder v (at_of b i))) (delay_at delays
+      (at_of b i)) x from in
+      let (n, feeder, input) = and_then_some (first_input_at v) (direct_feeder v (at_of b i)) x rest in
+      let tm = timely (at_of b i) bits n delayed feeder in
+      let (before, within, of_source, promised, sum) = sum_some (option_and_then (behind_at v delays) (first_input_at v n)) (within_of n) tm.queued tm.queued_is in
+      let (y, of_input, known) = and_then_some (behind_at v delays) (first_input_at v n) before of_source in
+      let same : y ≡ x = same_Some _ _ (sym of_input ∙ input) in
+      let same_input : tm.input ≡ x = same_Some _ _ (sym tm.input_is ∙ input) in
+      let known_x : behind_at v delays x ≡ Some before = subst (λ (f : FlowAt). behind_at v delays f ≡ Some before) same known in
+      let (own_x, owns_x) = behind_own v delays (length v.forwards.items) x before known_x in
+      let parts = own_parts v delays x own_x owns_x in
+      let (tx, view_x) = viewed v x.bus parts.timing parts.timed in
+      let other : tm.other ≡ parts.flow = same_Some _ _ (sym (subst (λ (f : FlowAt). flow_at v.buses.items f ≡ Some tm.other) same_input tm.other_is)
+      ∙ parts.its) in
+      record {
+        t = t;
+        view_is = view_is;
+        here = record { flow = tm.flow; its = tm.its; bits = bits; delayed = delayed };
+        x = x;
+        from = from;
+        n = n;
+        feeder = feeder;
+        input = input;
+        tx = tx;
+        view_x = view_x;
+        there = record { flow = parts.flow; its = parts.its; bits = parts.bits; delayed = parts.delayed };
+        before = before;
+        before_is = known_x;
+        within = within;
+        promised = promised;
+        in_jitter = let most = tm.in_jitter in omega (arith, most, sum);
+        no_nearer = λ p is. let (q, its, le) = tm.no_nearer p is in (q, subst (λ (f : FlowPlan). period_ms f ≡ Some q) other its, le);
+      }
+
+  link : (b i : ℕ) → direct_with v delays told seen b i (view v b) ≡ true → Link b i
+  link b i direct = some_cases (view v b) (Link b i)
+      (λ none. absurd (false≢true (subst (λ (o : Option (TimedBus v b)). direct_with v delays told seen b i o ≡ true) none direct)))
+      (λ t view_is.
+      let (x, from) = is_some_true (sent_from v delays (at_of b i)) (subst (λ (o : Option
+      (TimedBus v b)). direct_with v delays told seen b i o ≡ true) view_is direct) in
+      link_of b i t view_is x from)
+
+  module _ (b i : ℕ) (l : Link b i) where
+    -- a statement on the bus itself, and on the flow that is heard and its bus
+    at_bus : (P : Option (TimedBus v b) → Type 0) → P (Some l.t) → P (view v b)
+    at_bus P p = subst P (sym l.view_is) p
+
+    at_source : (P : ℕ → ℕ → Type 0) → P l.x.bus l.x.flow → P (bus_value (sent_from v delays (at_of b i))) (flow_value (sent_from v delays (at_of b i)))
+    at_source P p = subst (λ (o : Option FlowAt). P (bus_value o) (flow_value o)) (sym l.from) p
+
+    at_source_bus : (P : Option (TimedBus v l.x.bus) → Type 0) → P (Some l.tx) → P (view v l.x.bus)
+    at_source_bus P p = subst P (sym l.view_x) p
+
+    within_is : within_value v delays told seen b i ≡ l.within
+    within_is = ap (λ (o : Option Forward). option_map_or (λ n. unwrap_or (within_of n) 0) o 0) l.feeder ∙ ap (λ (o : Option ℕ). unwrap_or o 0) l.promised
+
+    queued_is : queued_value v delays told seen b i ≡ l.before + l.within
+    queued_is =
+        ap (λ (o : Option Forward). option_map_or (λ n. unwrap_or (queued_of v delays n) 0) o 0) l.feeder
+        ∙ ap (λ (o : Option ℕ). unwrap_or o 0) (ap (λ (o : Option ℕ). sum_known o (within_of l.n)) (ap (option_and_then (behind_at v delays)) l.input
+        ∙ l.before_is)
+        ∙ ap (λ (o : Option ℕ). sum_known (Some l.before) o) l.promised)
+
+    sent : (place : ℕ) × IsSentDirectly v seen place l.x (at_of b i) l.within
+    sent =
+        let (place, feeding) = feeder_is v (at_of b i) l.n l.feeder in (
+          place,
+          prompt.direct place l.n l.x (at_of b i) l.within (record
+              { its = feeding.its; output = feeding.feeding; input = l.input; promised = l.promised }) feeding.direct
+              (l.there.bits, l.there.delayed) (l.here.bits, l.here.delayed),
+        )
+
+    handed_on : IsHandedOn (carrier_of (with_bus (bus_value (sent_from v delays (at_of b i))) (view v (bus_value (sent_from v delays (at_of b i)))))
+        (flow_value (sent_from v delays (at_of b i)))) (carrier_of (with_bus b (view v b)) i) (within_value v delays told seen b i)
+    handed_on =
+        at_source (λ a k. IsHandedOn (carrier_of (with_bus a (view v a)) k) (carrier_of (with_bus b (view v b)) i) (within_value v delays told seen b i))
+        (at_source_bus (λ o. IsHandedOn (carrier_of (with_bus l.x.bus o) l.x.flow) (carrier_of (with_bus b (view v b)) i) (within_value v delays told seen b i))
+        (at_bus (λ o. IsHandedOn (carrier_of (with_bus l.x.bus (Some l.tx)) l.x.flow) (carrier_of (with_bus b o) i) (within_value v delays told seen b i))
+        (subst (λ (w : ℕ). IsHandedOn (frames_at v seen l.x) (frames_at v seen (at_of b i)) w) (sym within_is) sent.1.handed)))
+
+    its_single : IsSingle ((with_bus b (view v b)).traffic.stream i)
+    its_single = at_bus (λ o. IsSingle ((with_bus b o).traffic.stream i)) (single_here v delays told seen b i l.t l.here)
+
+    input_single : IsSingle ((with_bus (bus_value (sent_from v delays (at_of b i))) (view v (bus_value (sent_from v delays (at_of b i))))).traffic.stream
+        (flow_value (sent_from v delays (at_of b i))))
+    input_single = at_source (λ a k. IsSingle ((with_bus a (view v a)).traffic.stream k))
+        (at_source_bus (λ o. IsSingle ((with_bus l.x.bus o).traffic.stream l.x.flow)) (single_here v delays told seen l.x.bus l.x.flow l.tx l.there))
+
+    -- the law of delays of the bus on which it is heard
+    begun_there : (by : ℕ) → by ≤ (seen l.x.bus).schedule.now → KeepsItsStreamsUntil (with_bus l.x.bus (Some l.tx)) by
+        → AreBegunUntil (seen l.x.bus).schedule (seen l.x.bus).planned (seen l.x.bus).of l.x.flow (wait_with v delays told seen l.x.bus l.x.flow (Some l.tx)) by
+    begun_there by now streams p in_p is source early =
+        let ofb = of_bus v delays told seen l.tx in
+        let at_place = delay_here v delays told l.x _ (Rattle.j39_vehicle_time_laws.proofs.Circle.has v delays told seen l.x.bus l.x.flow l.tx l.there) in
+        let same : wait_with v delays told seen l.x.bus l.x.flow (Some l.tx) ≡ (bounded_here v delays told seen l.x.bus l.x.flow l.tx l.there).wait =
+        wait_is v delays told seen l.x.bus l.x.flow l.tx l.there in
+        let frames = frames_then l.tx.timing (all_of v delays told seen l.tx) (seen l.x.bus).schedule (seen l.x.bus).controllers (seen l.x.bus).planned
+        (seen l.x.bus).of l.x.flow
+        ((keeps l.tx).frames l.x.flow l.there.bits at_place) by now streams in
+        let legal = Rattle.j39_timing.proofs.AnyPrefixes.still_legal_in_any_order (seen l.x.bus).schedule (seen l.x.bus).controllers by
+        (Rattle.j39_load.specs.PlannedFrames.others_of l.tx.timing).least (keeps l.tx).legal now in
+        let started = starts_within ofb.bus.plan l.tx.timing ofb.stays (delays_on delays l.x.bus) ofb.asks l.x.flow l.there.bits at_place
+        (Rattle.j39_timing.specs.Prefixes.seen_until (seen l.x.bus).schedule by (Rattle.j39_load.specs.PlannedFrames.others_of l.tx.timing).least)
+        (seen l.x.bus).controllers
+        (Rattle.j39_timing.specs.Prefixes.planned_until (seen l.x.bus).schedule (seen l.x.bus).planned by) (seen l.x.bus).of legal frames in
+        let soon : (seen l.x.bus).schedule.queued p + (bounded_here v delays told seen l.x.bus l.x.flow l.tx l.there).wait < by = omega (arith, early, same) in
+        let start = started p in_p (then_is_planned (seen l.x.bus).schedule (seen l.x.bus).planned by p is (omega (arith, soon))) source soon in
+        omega (arith, start, same)
+
+    input_begun : (by : ℕ) → by ≤ (with_bus (bus_value (sent_from v delays (at_of b i))) (view v (bus_value (sent_from v delays (at_of b i))))).schedule.now
+        → KeepsItsStreamsUntil (with_bus (bus_value (sent_from v delays (at_of b i))) (view v (bus_value (sent_from v delays (at_of b i))))) by
+        → AreBegunUntil (with_bus (bus_value (sent_from v delays (at_of b i))) (view v (bus_value (sent_from v delays (at_of b i))))).schedule
+        (with_bus (bus_value (sent_from v delays (at_of b i))) (view v (bus_value (sent_from v delays (at_of b i))))).planned
+        (with_bus (bus_value (sent_from v delays (at_of b i))) (view v (bus_value (sent_from v delays (at_of b i))))).of
+        (flow_value (sent_from v delays (at_of b i)))
+        (wait_with v delays told seen (bus_value (sent_from v delays (at_of b i))) (flow_value (sent_from v delays (at_of b i)))
+        (view v (bus_value (sent_from v delays (at_of b i))))) by
+    input_begun by = at_source (λ a k. by ≤ (with_bus a (view v a)).schedule.now → KeepsItsStreamsUntil (with_bus a (view v a)) by
+        → AreBegunUntil (with_bus a (view v a)).schedule (with_bus a (view v a)).planned (with_bus a (view v a)).of k (wait_with v delays told seen a k
+        (view v a)) by)
+        (at_source_bus (λ o. by ≤ (with_bus l.x.bus o).schedule.now → KeepsItsStreamsUntil (with_bus l.x.bus o) by
+        → AreBegunUntil (with_bus l.x.bus o).schedule (with_bus l.x.bus o).planned (with_bus l.x.bus o).of l.x.flow
+        (wait_with v delays told seen l.x.bus l.x.flow o) by)
+        (begun_there by))
+
+    -- ---- numbers
+
+    before_value : behind_with v delays told seen l.x.bus l.x.flow (Some l.tx) ≡ l.before
+    before_value = behind_value v delays told seen l.x.bus l.x.flow l.tx l.there l.before l.before_is
+
+    source_behind : behind_with v delays told seen (bus_value (sent_from v delays (at_of b i))) (flow_value (sent_from v delays (at_of b i)))
+        (view v (bus_value (sent_from v delays (at_of b i)))) ≡ l.before
+    source_behind = at_source (λ a k. behind_with v delays told seen a k (view v a) ≡ l.before)
+        (at_source_bus (λ o. behind_with v delays told seen l.x.bus l.x.flow o ≡ l.before) before_value)
+
+    jitter_enough : behind_with v delays told seen (bus_value (sent_from v delays (at_of b i))) (flow_value (sent_from v delays (at_of b i)))
+        (view v (bus_value (sent_from v delays (at_of b i)))) + within_value v delays told seen b i
+        ≤ unit_on v b * ((with_bus b (view v b)).traffic.stream i).jitter
+    jitter_enough =
+        let one = source_behind in
+        let two = within_is in
+        let most = l.in_jitter in
+        let late : unit_on v b * ((with_bus b (view v b)).traffic.stream i).jitter ≡ us_of_ms (jitter_ms l.here.flow) =
+        at_bus (λ o. unit_on v b * ((with_bus b o).traffic.stream i).jitter ≡ us_of_ms (jitter_ms l.here.flow)) (late_value v delays told seen b i l.t l.here) in
+        omega (arith, one, two, most, late)
+
+    behind_is : behind_with v delays told seen b i (Some l.t)
+        ≡ queued_value v delays told seen b i + unit_on v b * (wait_with v delays told seen b i (Some l.t) + (stream_of v delays told seen l.t i).bits)
+    behind_is = ap (λ (o : Option FlowAt). Rattle.std.proofs.Common.cond (is_some o)
+        (queued_value v delays told seen b i + unit_on v b * (wait_with v delays told seen b i (Some l.t) + (stream_of v delays told seen l.t i).bits))
+        (unit_on v b * delay_of (stream_of v delays told seen l.t i) (wait_with v delays told seen b i (Some l.t)))) l.from
+
+    behind_enough : behind_with v delays told seen (bus_value (sent_from v delays (at_of b i))) (flow_value (sent_from v delays (at_of b i)))
+        (view v (bus_value (sent_from v delays (at_of b i)))) + within_value v delays told seen b i
+        + unit_on v b * (wait_with v delays told seen b i (view v b) + ((with_bus b (view v b)).traffic.stream i).bits) ≤ behind_with v delays told seen b i
+        (view v b)
+    behind_enough =
+        let one = source_behind in
+        let two = within_is in
+        let three = queued_is in
+        at_bus (λ o. behind_with v delays told seen (bus_value (sent_from v delays (at_of b i))) (flow_value (sent_from v delays (at_of b i)))
+        (view v (bus_value (sent_from v delays (at_of b i)))) + within_value v delays told seen b i
+        + unit_on v b * (wait_with v delays told seen b i o + ((with_bus b o).traffic.stream i).bits) ≤ behind_with v delays told seen b i o)
+        (let four = behind_is in omega (arith, one, two, three, four))
+
+    apart_there : unit_on v b * ((with_bus b (view v b)).traffic.stream i).period
+        ≤ unit_on v (bus_value (sent_from v delays (at_of b i)))
+        * ((with_bus (bus_value (sent_from v delays (at_of b i))) (view v (bus_value (sent_from v delays (at_of b i))))).traffic.stream
+        (flow_value (sent_from v delays (at_of b i)))).period
+    apart_there =
+        let own = streamed v delays told seen b i l.t l.here in
+        let other = streamed v delays told seen l.x.bus l.x.flow l.tx l.there in
+        let (q, its, far) = l.no_nearer own.period own.period_is in
+        let same : q ≡ other.period = same_Some _ _ (sym its ∙ other.period_is) in
+        let one : unit_on v b * ((with_bus b (view v b)).traffic.stream i).period ≡ us_of_ms own.period =
+        at_bus (λ o. unit_on v b * ((with_bus b o).traffic.stream i).period ≡ us_of_ms own.period) (period_value v delays told seen b i l.t l.here) in
+        at_source (λ a k. unit_on v b * ((with_bus b (view v b)).traffic.stream i).period ≤ unit_on v a * ((with_bus a (view v a)).traffic.stream k).period)
+        (at_source_bus (λ o. unit_on v b * ((with_bus b (view v b)).traffic.stream i).period ≤ unit_on v l.x.bus *
+        ((with_bus l.x.bus o).traffic.stream l.x.flow).period)
+        (let two = period_value v delays told seen l.x.bus l.x.flow l.tx l.there in omega (arith, one, two, far, same)))
+
+  -- ---- frames of a bus
+
+  -- of a flow that is sent on directly, and of any other
+  module _ (b : ℕ) (t : TimedBus v b) (p : ℕ) (in_p : p < (seen b).schedule.count) (is : (seen b).planned p ≡ true) where
+    own_frame : is_some (sent_from v delays (at_of b ((seen b).of.source p))) ≡ false
+        → KeepsStream (seen b).schedule (streams_of t.timing (all_of v delays told seen t)).count (streams_of t.timing (all_of v delays told seen t)).stream
+        (seen b).of p
+    own_frame own = (keeps t).own p in_p is (is_some_false (sent_from v delays (at_of b ((seen b).of.source p))) own)
+
+    any_frame : ((seen b).of.source p < (streams_of t.timing (all_of v delays told seen t)).count)
+        × ((seen b).schedule.bits p ≤ (stream_of v delays told seen t ((seen b).of.source p)).bits)
+        × ((seen b).of.turn p < (stream_of v delays told seen t ((seen b).of.source p)).frames)
+    any_frame = elim (cases_Bool (is_some (sent_from v delays (at_of b ((seen b).of.source p))))) [
+      | inl sent ↦ (keeps t).sent_on p in_p is (is_some_true (sent_from v delays (at_of b ((seen b).of.source p))) sent)
+      | inr own ↦ let one = own_frame own in (one.known, one.bits_at_most, one.turns)
+    ]
+
+  -- ---- all that the law of vehicles asks
+
+  known : IsKnown vehicle
+  known = record {
+    clocks = λ b. case_view v b (λ o. 0 < (with_bus b o).clock.unit) (unit_positive v b) (λ t. unit_positive v b) (view v b);
+    some_bits = λ b. case_view v b (λ o. (p : ℕ) → p < (with_bus b o).schedule.count → 1 ≤ (with_bus b o).schedule.bits p)
+        (λ p in_p. absurd (omega (arith, in_p))) (λ t. (keeps t).legal.positive) (view v b);
+    queued_first = λ b. case_view v b (λ o. (p : ℕ) → p < (with_bus b o).schedule.count → (with_bus b o).schedule.queued p ≤ (with_bus b o).schedule.start p)
+        (λ p in_p. absurd (omega (arith, in_p))) (λ t. (keeps t).legal.queued_first) (view v b);
+    known = λ b. case_view v b (λ o. (p : ℕ) → IsPlannedOn (with_bus b o) p → (with_bus b o).of.source p < (with_bus b o).traffic.count)
+        (λ p its. absurd (omega (arith, its.0))) (λ t p its. (any_frame b t p its.0 its.1).0) (view v b);
+    bits_at_most = λ b. case_view v b (λ o. (p : ℕ) → IsPlannedOn (with_bus b o) p
+        → (with_bus b o).schedule.bits p ≤ ((with_bus b o).traffic.stream ((with_bus b o).of.source p)).bits)
+        (λ p its. absurd (omega (arith, its.0))) (λ t p its. (any_frame b t p its.0 its.1).1) (view v b);
+    turns = λ b. case_view v b (λ o. (p : ℕ) → IsPlannedOn (with_bus b o) p
+        → (with_bus b o).of.turn p < ((with_bus b o).traffic.stream ((with_bus b o).of.source p)).frames)
+        (λ p its. absurd (omega (arith, its.0))) (λ t p its. (any_frame b t p its.0 its.1).2) (view v b);
+    own_first = λ b. case_view v b (λ o. (p : ℕ) → IsPlannedOn (with_bus b o) p → direct_with v delays told seen b ((with_bus b o).of.source p) o ≡ false
+        → (with_bus b o).of.since p ≤ (with_bus b o).schedule.queued p)
+        (λ p its. absurd (omega (arith, its.0))) (λ t p its own. (own_frame b t p its.0 its.1 own).release_first) (view v b);
+    own_jitter = λ b. case_view v b (λ o. (p : ℕ) → IsPlannedOn (with_bus b o) p → direct_with v delays told seen b ((with_bus b o).of.source p) o ≡ false
+        → (with_bus b o).schedule.queued p ≤ (with_bus b o).of.since p + ((with_bus b o).traffic.stream ((with_bus b o).of.source p)).jitter)
+        (λ p its. absurd (omega (arith, its.0))) (λ t p its own. (own_frame b t p its.0 its.1 own).jitter_at_most) (view v b);
+    own_release = λ b. case_view v b (λ o. (p : ℕ) → IsPlannedOn (with_bus b o) p → direct_with v delays told seen b ((with_bus b o).of.source p) o ≡ false
+        → (with_bus b o).release p ≡ Rattle.j39_timing.specs.Gateways.time_of (with_bus b o).clock ((with_bus b o).of.since p))
+        (λ p its. absurd (omega (arith, its.0)))
+        (λ t p its own. own_releases (at_of b ((seen b).of.source p)) (is_some_false (sent_from v delays (at_of b ((seen b).of.source p))) own) p
+        (its.0, its.1, refl)) (view v b);
+    own_spaced = λ b. case_view v b (λ o. (p q : ℕ) → IsPlannedOn (with_bus b o) p → IsPlannedOn (with_bus b o) q → p ≢ q
+        → direct_with v delays told seen b ((with_bus b o).of.source p) o ≡ false
+        → (with_bus b o).of.source p ≡ (with_bus b o).of.source q → (with_bus b o).of.turn p ≡ (with_bus b o).of.turn q
+        → ((with_bus b o).of.since p + ((with_bus b o).traffic.stream ((with_bus b o).of.source p)).period ≤ (with_bus b o).of.since q)
+        ⊎ ((with_bus b o).of.since q + ((with_bus b o).traffic.stream ((with_bus b o).of.source p)).period ≤ (with_bus b o).of.since p))
+        (λ p q its. absurd (omega (arith, its.0)))
+        (λ t p q its other differ own source turn. (keeps t).spaced p q its.0 other.0 differ its.1 other.1
+        (is_some_false (sent_from v delays (at_of b ((seen b).of.source p))) own) source turn) (view v b);
+    handed = λ b i direct. handed_on b i (link b i direct);
+    single = λ b i direct. its_single b i (link b i direct);
+    input_single = λ b i direct. input_single b i (link b i direct);
+    input_begun = λ b i by direct. input_begun b i (link b i direct) by;
+    jitter_enough = λ b i direct.
+        let enough = jitter_enough b i (link b i direct) in
+        case_view v b (λ o. Rattle.j39_timing.specs.Vehicles.queued_within vehicle b i ≤ unit_on v b * ((with_bus b o).traffic.stream i).jitter
+        → Rattle.j39_timing.specs.Vehicles.queued_within vehicle b i ≤ (with_bus b o).clock.unit * ((with_bus b o).traffic.stream i).jitter)
+        (λ le. le) (λ t le. le) (view v b) enough;
+    often_enough = λ b i direct. case_view v b (λ o. (with_bus b o).clock.unit * ((with_bus b o).traffic.stream i).period
+        ≤ unit_on v b * ((with_bus b o).traffic.stream i).period) (omega arith) (λ t. omega arith) (view v b);
+    behind_own = λ b i. case_view v b (λ o. direct_with v delays told seen b i o ≡ false
+        → (with_bus b o).clock.unit * delay_of ((with_bus b o).traffic.stream i) (wait_with v delays told seen b i o) ≤ behind_with v delays told seen b i o)
+        (λ own. omega arith) (λ t own. own_behind b i t own) (view v b);
+    behind_direct = λ b i direct.
+        let enough = behind_enough b i (link b i direct) in
+        case_view v b (λ o. Rattle.j39_timing.specs.Vehicles.queued_within vehicle b i
+        + unit_on v b * (wait_with v delays told seen b i o + ((with_bus b o).traffic.stream i).bits) ≤ behind_with v delays told seen b i o
+        → Rattle.j39_timing.specs.Vehicles.queued_within vehicle b i
+        + (with_bus b o).clock.unit * (wait_with v delays told seen b i o + ((with_bus b o).traffic.stream i).bits) ≤ behind_with v delays told seen b i o)
+        (λ le. le) (λ t le. le) (view v b) enough;
+    apart_own = λ b i. case_view v b (λ o. direct_with v delays told seen b i o ≡ false
+        → unit_on v b * ((with_bus b o).traffic.stream i).period ≤ (with_bus b o).clock.unit * ((with_bus b o).traffic.stream i).period)
+        (λ own. omega arith) (λ t own. omega arith) (view v b);
+    apart_direct = λ b i direct. apart_there b i (link b i direct);
+  }
+    where
+      own_behind : (b i : ℕ) (t : TimedBus v b) → is_some (sent_from v delays (at_of b i)) ≡ false
+          → unit_on v b * delay_of (stream_of v delays told seen t i) (wait_with v delays told seen b i (Some t)) ≤ behind_with v delays told seen b i (Some t)
+      own_behind b i t own =
+          let same : behind_with v delays told seen b i (Some t) ≡ unit_on v b * delay_of (stream_of v delays told seen t i) (wait_with v delays told seen b i
+          (Some t)) =
+          ap (λ (c : Bool). Rattle.std.proofs.Common.cond c
+          (queued_value v delays told seen b i + unit_on v b * (wait_with v delays told seen b i (Some t) + (stream_of v delays told seen t i).bits))
+          (unit_on v b * delay_of (stream_of v delays told seen t i) (wait_with v delays told seen b i (Some t)))) own in
+          omega (arith, same)
+
+  -- ---- so each bus keeps to its plan
+
+  streams_kept : (b : ℕ) → KeepsItsStreams (with_bus b (view v b))
+  streams_kept b = keep_their_streams vehicle known b
+
+  pub buses_kept : AreKeptBuses v delays seen
+  buses_kept b timing its =
+      let timed_here : timing_on v.buses.items b ≡ Some timing = ap (option_and_then (λ (bus : BusPlan). bus.plan.timing)) its.its ∙ its.timed in
+      let (t, view_is) = viewed v b timing timed_here in
+      let streams : KeepsItsStreams (with_bus b (Some t)) = subst (λ (o : Option (TimedBus v b)). KeepsItsStreams (with_bus b o)) view_is (streams_kept b) in
+      let same = one_traffic v delays b t.timing timing (of_bus v delays told seen t) its in
+      record {
+        legal = (kept b timing its).legal;
+        frames = λ flow bits at. with_streams timing (frames_asked (asked_on its)) (seen b).schedule (seen b).controllers (seen b).planned (seen b).of flow
+            ((kept b timing its).frames flow bits at)
+            (subst (λ (x : Traffic). AreOfStreams (seen b).schedule (λ p. (seen b).planned p ≡ true) x.count x.stream (seen b).of) same streams);
+      }
+
+pub streams_are_kept : (v : Vehicle) (delays : Delays) → AreStreamsKept v delays
+streams_are_kept v delays timely told seen kept prompt own_releases = buses_kept v delays told seen kept prompt own_releases timely

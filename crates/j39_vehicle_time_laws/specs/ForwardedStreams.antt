@@ -1,0 +1,96 @@
+-- What a bus has to keep of its plan where gateways send on to it directly: of what these send it isn't asked when it is queued.
+use Rattle.std.specs.Prelude.{◌≡◌, ◌≢◌, ℕ, ◌+◌, ◌<◌, ◌≤◌, ◌⊎◌, Bool, true, false, List, ◌++◌, Option, Some}
+use Rattle.std.specs.List.{slice_get}
+use Rattle.j39_network.specs.declared.plan.flow_plan.FlowPlan.{FlowPlan}
+use Rattle.j39_network.specs.declared.plan.timing.Timing.{Timing}
+use Rattle.j39_load.specs.declared.waits.delay.Delay.TheVariants.{Within}
+use Rattle.j39_load.specs.declared.frames.flow_frames.FlowFrames.{FlowFrames}
+use Rattle.j39_load.specs.AnyQueues.{IsQueueGroupLevel, are_of_unit, keep_order, leasts_of, with_unplanned}
+use Rattle.j39_load.specs.Asked.{frames_asked}
+use Rattle.j39_load.specs.Damage.{damage_frames}
+use Rattle.j39_load.specs.PlannedFrames.{KeepToQueueGroup, queue_group_of, others_of, planned_at, traffic_of}
+use Rattle.j39_timing.specs.AnyOrder.{Controllers, IsLegalInAnyOrder, IsUnordered}
+use Rattle.j39_timing.specs.FrameBits.{longest_frame}
+use Rattle.j39_timing.specs.FrameStreams.{KeepsStream, Origins}
+use Rattle.j39_timing.specs.TimedFrames.{Schedule, Waits}
+use Rattle.j39_timing.specs.Traffic.{AreAsWanted, IsQueuedAt, PlannedFramesWait, Traffic, may_share, others_queued}
+use Rattle.j39_vehicle.specs.declared.vehicle.Vehicle.{Vehicle}
+use Rattle.j39_vehicle.specs.declared.vehicle.forward.Forward.{Forward}
+use Rattle.j39_vehicle_findings.specs.declared.point.FlowAt.{FlowAt}
+use Rattle.j39_vehicle_times.specs.BusDelays.{AreDelays, delays_on}
+use Rattle.j39_vehicle_times.specs.TimeFindings.{period_ms}
+use Rattle.j39_vehicle_times.specs.Times.{delay_at, direct_feeder, flow_at, first_input_at, jitter_ms, queued_of, us_of_ms}
+use Rattle.j39_vehicle_times.specs.declared.bus_delays.Delays.{Delays}
+use Rattle.j39_vehicle_time_laws.specs.KeptBuses.{AreKeptBuses, IsKnownBus, asked_on}
+use Rattle.j39_vehicle_time_laws.specs.Prompt.{ArePrompt, HaveOwnReleases, IsSentOn}
+use Rattle.j39_vehicle_time_laws.specs.Seen.{SeenBus, SeenBuses}
+
+-- the streams of a plan's frames, and of what comes of damage
+abbrev pub streams_of : Timing → List (Option FlowFrames) → Traffic
+streams_of timing all = traffic_of (all ++ damage_frames timing)
+
+-- as `AreFramesInAnyOrder` of `j39_load`, but that frames needn't be known to keep to their streams
+pub record KeepsOtherwise (timing : Timing) (all : List (Option FlowFrames)) (s : Schedule) (controllers : Controllers)
+    (planned : ℕ → Bool) (of : Origins) (i : ℕ) : Type 0 where
+  pub longest_at_most : (p : ℕ) → p < s.count → s.bits p ≤ longest_frame 8
+  pub as_wanted : AreAsWanted s planned of (streams_of timing all).demands (streams_of timing all).stream
+  pub from_least : (p : ℕ) → p < s.count → planned p ≡ true → (streams_of timing all).least (of.source p) ≤ s.ident p
+  pub to_greatest : (p : ℕ) → p < s.count → planned p ≡ true → of.source p ≡ i → s.ident p ≤ (streams_of timing all).greatest i
+  pub own_identifier : (p q t : ℕ) → p < s.count → q < s.count → t < s.now → planned p ≡ true → may_share (streams_of timing all) i (of.source p) ≡ true
+      → IsQueuedAt s p t → IsQueuedAt s q t → s.ident p ≡ s.ident q → (planned q ≡ true) × (may_share (streams_of timing all) i (of.source q) ≡ true)
+  pub urgency_of_others : (p : ℕ) → p < s.count → planned p ≡ false → (others_of timing).least ≤ s.ident p
+  pub few_others : (p from to : ℕ) → p < s.count → planned p ≡ true → of.source p ≡ i → to < s.now → Waits s p to
+      → PlannedFramesWait s planned (s.ident p) from to → others_queued s planned (s.ident p) from to ≤ (others_of timing).count
+  pub of_unit : (p : ℕ) → p < s.count → planned p ≡ true → IsUnordered controllers p
+      → are_of_unit (planned_at all (of.source p)) (controllers.unit p) ≡ true
+  pub to_last : (p : ℕ) → p < s.count → planned p ≡ true → keep_order (planned_at all (of.source p)) ≡ false
+      → s.ident p ≤ (planned_at all (of.source p)).last_ident
+  pub queue_groups : (j level : ℕ) → (j ≡ i) ⊎ ((planned_at all j).least_ident < (planned_at all i).greatest_ident)
+      → keep_order (planned_at all j) ≡ false → IsQueueGroupLevel (leasts_of all) all (with_unplanned timing (planned_at all j)) level
+      → KeepToQueueGroup timing s planned of (queue_group_of timing all (planned_at all j) level)
+
+-- ---- flows that are sent on directly
+
+-- the bus keeps to its plan; but it isn't asked when messages are queued that are sent on directly, nor how far apart their releases are
+pub record IsOtherwiseKept (v : Vehicle) (delays : Delays) (b : ℕ) (timing : Timing) (all : List (Option FlowFrames)) (bus : SeenBus) : Type 0 where
+  pub legal : IsLegalInAnyOrder bus.schedule bus.controllers
+  pub own : (p : ℕ) → p < bus.schedule.count → bus.planned p ≡ true → ¬ IsSentOn v delays (record { bus = b; flow = bus.of.source p })
+      → KeepsStream bus.schedule (streams_of timing all).count (streams_of timing all).stream bus.of p
+  pub sent_on : (p : ℕ) → p < bus.schedule.count → bus.planned p ≡ true → IsSentOn v delays (record { bus = b; flow = bus.of.source p })
+      → (bus.of.source p < (streams_of timing all).count) × (bus.schedule.bits p ≤ ((streams_of timing all).stream (bus.of.source p)).bits)
+      × (bus.of.turn p < ((streams_of timing all).stream (bus.of.source p)).frames)
+  pub spaced : (p q : ℕ) → p < bus.schedule.count → q < bus.schedule.count → p ≢ q → bus.planned p ≡ true → bus.planned q ≡ true
+      → ¬ IsSentOn v delays (record { bus = b; flow = bus.of.source p }) → bus.of.source p ≡ bus.of.source q → bus.of.turn p ≡ bus.of.turn q
+      → (bus.of.since p + ((streams_of timing all).stream (bus.of.source p)).period ≤ bus.of.since q)
+      ⊎ (bus.of.since q + ((streams_of timing all).stream (bus.of.source p)).period ≤ bus.of.since p)
+  pub frames : (flow bits : ℕ) → slice_get (delays_on delays b) flow ≡ Some (Some (Within bits))
+      → KeepsOtherwise timing all bus.schedule bus.controllers bus.planned bus.of flow
+
+-- so it is of each bus that has timing
+abbrev pub AreOtherwiseKept : Vehicle → Delays → SeenBuses → Type 0
+AreOtherwiseKept v delays seen = (b : ℕ) (timing : Timing) (of_bus : IsKnownBus v delays b timing)
+    → IsOtherwiseKept v delays b timing (frames_asked (asked_on of_bus)) (seen b)
+
+-- ---- what follows
+
+-- the jitter of a flow that is sent on has room for the time before it is queued, and its messages needn't be further apart than those of the input are
+pub record IsForwardTimely (v : Vehicle) (delays : Delays) (at : FlowAt) (n : Forward) : Type 0 where
+  pub input : FlowAt
+  pub input_is : first_input_at v n ≡ Some input
+  pub flow : FlowPlan
+  pub its : flow_at v.buses.items at ≡ Some flow
+  pub queued : ℕ
+  pub queued_is : queued_of v delays n ≡ Some queued
+  pub in_jitter : queued ≤ us_of_ms (jitter_ms flow)
+  pub other : FlowPlan
+  pub other_is : flow_at v.buses.items input ≡ Some other
+  pub no_nearer : (p : ℕ) → period_ms flow ≡ Some p → (q : ℕ) × (period_ms other ≡ Some q) × (p ≤ q)
+
+abbrev pub AreForwardsTimely : Vehicle → Delays → Type 0
+AreForwardsTimely v delays = (at : FlowAt) (bits : ℕ) (n : Forward) → delay_at delays at ≡ Some bits → direct_feeder v at ≡ Some n
+    → IsForwardTimely v delays at n
+
+-- where gateways are prompt, each frame of a bus keeps to its stream, those that are sent on directly too
+abbrev pub AreStreamsKept : Vehicle → Delays → Type 0
+AreStreamsKept v delays = AreForwardsTimely v delays → AreDelays v delays → (seen : SeenBuses) → AreOtherwiseKept v delays seen → ArePrompt v delays seen
+    → HaveOwnReleases v delays seen → AreKeptBuses v delays seen

@@ -1,0 +1,68 @@
+-- Gateways that send on in time: directly, for each message that ends one of their own; or at their own releases, the newest that they have.
+use Rattle.std.specs.Prelude.{◌≡◌, ℕ, ◌+◌, ◌<◌, ◌≤◌, true, false, Option, Some, None}
+use Rattle.std.specs.Option.{option_and_then}
+use Rattle.j39_vehicle.specs.declared.vehicle.Vehicle.{Vehicle}
+use Rattle.j39_vehicle.specs.declared.vehicle.forward.Forward.{Forward}
+use Rattle.j39_vehicle_findings.specs.ForwardTests.{feeds, is_direct}
+use Rattle.j39_vehicle_findings.specs.Traces.{goes_on, next_forward}
+use Rattle.j39_vehicle_findings.specs.declared.point.FlowAt.{FlowAt}
+use Rattle.j39_vehicle_findings.specs.declared.point.Point.{Point}
+use Rattle.j39_timing.specs.Gateways.{HasBegun, HasOwnReleases, IsHandedOn, IsIts, end_time, queue_time}
+use Rattle.j39_vehicle_times.specs.declared.bus_delays.Delays.{Delays}
+use Rattle.j39_vehicle_times.specs.Times.{behind_at, delay_at, direct_feeder, forward_at, first_input_at, interval, within_of}
+use Rattle.j39_vehicle_time_laws.specs.Seen.{SeenBuses, frames_at}
+
+-- a delay is told of the flow: each of its messages goes in one frame
+abbrev pub IsDelayKnown : Delays → FlowAt → Type 0
+IsDelayKnown delays at = (bits : ℕ) × (delay_at delays at ≡ Some bits)
+
+-- what is said of signal t of flow y is what was said of signal s of flow x, by the forward at a place
+pub record LeadsTo (v : Vehicle) (n : ℕ) (x : FlowAt) (s : Option ℕ) (y : FlowAt) (t : Option ℕ) : Type 0 where
+  pub by : next_forward v (record { at = y; signal = t }) ≡ Some n
+  pub on : goes_on v (record { at = y; signal = t }) n ≡ Some (record { at = x; signal = s })
+
+-- the forward at a place sends flow y, of which its first input is flow x
+pub record SendsOn (v : Vehicle) (n : ℕ) (forward : Forward) (x y : FlowAt) (within : ℕ) : Type 0 where
+  pub its : forward_at v n ≡ Some forward
+  pub output : feeds v y forward ≡ true
+  pub input : first_input_at v forward ≡ Some x
+  pub promised : within_of forward ≡ Some within
+
+-- each message of the output is one of the input, sent on at most `within` behind its end; each of the input that ends is sent on; and what is
+-- said of a signal is what was said of the one that goes into it
+pub record IsSentDirectly (v : Vehicle) (seen : SeenBuses) (n : ℕ) (x y : FlowAt) (within : ℕ) : Type 0 where
+  pub handed : IsHandedOn (frames_at v seen x) (frames_at v seen y) within
+  pub each : (p : ℕ) → HasBegun (frames_at v seen x) p → (q : ℕ) × IsIts (frames_at v seen y) q × (handed.what q ≡ p)
+  pub says : (s t : Option ℕ) → LeadsTo v n x s y t → (q : ℕ) → IsIts (frames_at v seen y) q
+      → (seen y.bus).born q t ≡ (seen x.bus).born (handed.what q) s
+
+-- a message of the input that had ended `within` before the release of one of the output, and isn't too old by then, is what this carries, or else
+-- a later one that has ended by when it is queued
+pub record IsSentAtItsBeat (v : Vehicle) (seen : SeenBuses) (n : ℕ) (x y : FlowAt) (within patience : ℕ) : Type 0 where
+  pub newest : (s t : Option ℕ) → LeadsTo v n x s y t → (p q : ℕ) → HasBegun (frames_at v seen x) p → IsIts (frames_at v seen y) q
+      → end_time (frames_at v seen x) p + within ≤ (seen y.bus).release q → (seen y.bus).release q < end_time (frames_at v seen x) p + patience
+      → (r : ℕ) × HasBegun (frames_at v seen x) r × (end_time (frames_at v seen x) p ≤ end_time (frames_at v seen x) r)
+      × (end_time (frames_at v seen x) r ≤ queue_time (frames_at v seen y) q) × ((seen y.bus).born q t ≡ (seen x.bus).born r s)
+
+-- all gateways do so, of flows of which a delay is told; no message is too old for them before the next one has to be there
+pub record ArePrompt (v : Vehicle) (delays : Delays) (seen : SeenBuses) : Type 0 where
+  pub direct : (n : ℕ) (forward : Forward) (x y : FlowAt) (within : ℕ) → SendsOn v n forward x y within → is_direct forward ≡ true
+      → IsDelayKnown delays x → IsDelayKnown delays y → IsSentDirectly v seen n x y within
+  pub periodic : (n : ℕ) (forward : Forward) (x y : FlowAt) (within pause time : ℕ) → SendsOn v n forward x y within → is_direct forward ≡ false
+      → interval v x ≡ Some pause → behind_at v delays x ≡ Some time → IsSentAtItsBeat v seen n x y within (pause + (time + within))
+
+-- the flow that a direct forward takes for its input, for a flow of which a delay is told: each of its messages goes in one frame
+abbrev pub sent_from : Vehicle → Delays → FlowAt → Option FlowAt
+sent_from v delays at = option_and_then (λ (bits : ℕ). option_and_then (first_input_at v) (direct_feeder v at)) (delay_at delays at)
+
+abbrev pub IsSentOn : Vehicle → Delays → FlowAt → Type 0
+IsSentOn v delays at = (from : FlowAt) × (sent_from v delays at ≡ Some from)
+
+-- all others have releases of their own bus
+abbrev pub HaveOwnReleases : Vehicle → Delays → SeenBuses → Type 0
+HaveOwnReleases v delays seen = (at : FlowAt) → ¬ IsSentOn v delays at → HasOwnReleases (frames_at v seen at)
+
+-- at its origin a message says what is so at its release, or later, when it is queued at the latest
+abbrev pub SayWhatIsSo : Vehicle → SeenBuses → Type 0
+SayWhatIsSo v seen = (p : Point) → next_forward v p ≡ None → (q : ℕ) → IsIts (frames_at v seen p.at) q
+    → (time : ℕ) × ((seen p.at.bus).born q p.signal ≡ Some time) × ((seen p.at.bus).release q ≤ time) × (time ≤ queue_time (frames_at v seen p.at) q)

@@ -1,0 +1,48 @@
+-- What is seen of the buses of a vehicle: of each a schedule with a clock of its own, and what its frames bring.
+use Rattle.std.specs.Prelude.{ℕ, Bool, Option}
+use Rattle.std.specs.Option.{option_map_or}
+use Rattle.j39_network.specs.declared.plan.timing.Timing.{Timing}
+use Rattle.j39_vehicle.specs.declared.vehicle.Vehicle.{Vehicle}
+use Rattle.j39_vehicle_findings.specs.declared.point.FlowAt.{FlowAt}
+use Rattle.j39_timing.specs.AnyOrder.{Controllers}
+use Rattle.j39_timing.specs.FrameStreams.{Origins}
+use Rattle.j39_timing.specs.Gateways.{Carrier, Clock}
+use Rattle.j39_timing.specs.TimedFrames.{Schedule}
+use Rattle.j39_vehicle_times.specs.Times.{us_of_bit, timing_on}
+
+-- times that buses have in common are in microseconds
+pub record SeenBus : Type 0 where
+  pub schedule : Schedule
+  pub controllers : Controllers
+  -- when its first bit begins
+  pub phase : ℕ
+  pub planned : ℕ → Bool
+  pub of : Origins
+  -- the release of a frame's message: of one that a gateway sends on directly, that of the message which it sends on
+  pub release : ℕ → ℕ
+  -- when what a frame says of a signal of its group was so at its origin, or without a signal what its message says; none of what a gateway
+  -- gave up on the way
+  pub born : ℕ → Option ℕ → Option ℕ
+
+-- by the places of the buses
+abbrev pub SeenBuses : Type 0
+SeenBuses = ℕ → SeenBus
+
+-- the microseconds that a bit of the bus takes, where its plan has timing
+abbrev pub unit_on : Vehicle → ℕ → ℕ
+unit_on v b = option_map_or (λ (timing : Timing). us_of_bit timing.bitrate) (timing_on v.buses.items b) 1
+
+abbrev pub clock_on : Vehicle → SeenBuses → ℕ → Clock
+clock_on v seen b = record { phase = (seen b).phase; unit = unit_on v b }
+
+-- the frames of a flow
+abbrev pub frames_at : Vehicle → SeenBuses → FlowAt → Carrier
+frames_at v seen at = record {
+  schedule = (seen at.bus).schedule;
+  clock = clock_on v seen at.bus;
+  planned = (seen at.bus).planned;
+  of = (seen at.bus).of;
+  source = at.flow;
+  release = (seen at.bus).release;
+  born = (seen at.bus).release;
+}

@@ -1,0 +1,74 @@
+-- What a vehicle is good for of which nothing is found: how old what is brought to its units is at most, and that flows which gateways send on
+-- directly keep what the plans of their buses take for granted of them.
+use Rattle.std.specs.Prelude.{◌≡◌, ℕ, ◌+◌, ◌≤◌, [], Some, None}
+use Rattle.std.specs.List.{slice_get}
+use Rattle.j39_search.specs.ListPlaces.{ValueAt}
+use Rattle.j39_network.specs.declared.plan.flow_plan.FlowPlan.{FlowPlan}
+use Rattle.j39_network.specs.declared.plan.timing.Timing.{Timing}
+use Rattle.j39_load.specs.Loads.{bits_of_ms}
+use Rattle.j39_timing.specs.FreshFrames.{KeepsComing}
+use Rattle.j39_timing.specs.Gateways.{time_of}
+use Rattle.j39_vehicle.specs.declared.vehicle.Vehicle.{Vehicle}
+use Rattle.j39_vehicle.specs.declared.vehicle.vehicle_need.VehicleNeed.{VehicleNeed}
+use Rattle.j39_vehicle_findings.specs.Traces.{IsNeedFlow, flows_of_need, point_on}
+use Rattle.j39_vehicle_findings.specs.VehicleFindings.{AreFindings}
+use Rattle.j39_vehicle_findings.specs.declared.point.FlowAt.{FlowAt}
+use Rattle.j39_vehicle_findings.specs.declared.point.Point.{Point}
+use Rattle.j39_vehicle_times.specs.BusDelays.{AreDelays}
+use Rattle.j39_vehicle_times.specs.TimeFindings.{AreTimeFindings}
+use Rattle.j39_vehicle_times.specs.Times.{age, behind_at, flow_at, timing_on, us_of_ms}
+use Rattle.j39_vehicle_times.specs.declared.bus_delays.Delays.{Delays}
+use Rattle.j39_vehicle_time_laws.specs.ForwardedStreams.{AreOtherwiseKept}
+use Rattle.j39_vehicle_time_laws.specs.KeptBuses.{AreSeenUntil}
+use Rattle.j39_vehicle_time_laws.specs.Prompt.{ArePrompt, HaveOwnReleases, IsSentOn, SayWhatIsSo}
+use Rattle.j39_vehicle_time_laws.specs.Seen.{SeenBuses, clock_on}
+use Rattle.j39_vehicle_time_laws.specs.YoungValues.{IsBroughtYoung, KeepPauses}
+
+-- nothing is wrong with its paths, nor with its times
+pub record IsSoundVehicle (v : Vehicle) (delays : Delays) : Type 0 where
+  pub told : AreDelays v delays
+  pub paths : AreFindings v []
+  pub times : AreTimeFindings v delays []
+
+-- what is asked of what is seen of it up to a time: its buses keep to their plans, but for when messages are queued that are sent on directly;
+-- its gateways are prompt; and at its origin a message says what is so
+pub record IsPromptVehicle (v : Vehicle) (delays : Delays) (seen : SeenBuses) (by : ℕ) : Type 0 where
+  pub kept : AreOtherwiseKept v delays seen
+  pub until : AreSeenUntil v seen by
+  pub prompt : ArePrompt v delays seen
+  pub own_releases : HaveOwnReleases v delays seen
+  pub origins : SayWhatIsSo v seen
+
+-- ---- ages
+
+-- each age that is known is a bound
+abbrev pub AreAgesKept : Vehicle → Delays → Type 0
+AreAgesKept v delays = (seen : SeenBuses) (p : Point) (most from t : ℕ) → age v delays p ≡ Some most → from + most ≤ t
+    → IsPromptVehicle v delays seen t → KeepPauses v seen p from t → IsBroughtYoung v seen p most t
+
+-- some flow of the need brings what is never older than the need asks for
+pub record IsNeedKept (v : Vehicle) (delays : Delays) (d : VehicleNeed) (within : ℕ) : Type 0 where
+  pub flow : ℕ
+  pub its : ValueAt (IsNeedFlow v d flow) (flows_of_need v d) flow
+  pub most : ℕ
+  pub age_is : age v delays (point_on d.unit.bus flow d.signal) ≡ Some most
+  pub young : most ≤ us_of_ms within
+  pub brought : (seen : SeenBuses) (from t : ℕ) → from + most ≤ t → IsPromptVehicle v delays seen t
+      → KeepPauses v seen (point_on d.unit.bus flow d.signal) from t → IsBroughtYoung v seen (point_on d.unit.bus flow d.signal) (us_of_ms within) t
+
+-- so it is of each need that asks for an age
+abbrev pub AreVehicleNeedsKept : Vehicle → Delays → Type 0
+AreVehicleNeedsKept v delays = (d : ℕ) (need : VehicleNeed) (within : ℕ) → slice_get v.needs.items d ≡ Some need → need.within ≡ Some within
+    → IsNeedKept v delays need within
+
+-- ---- pauses
+
+-- a flow that is sent on directly has a release in each of the pauses that the plan of its bus has for it, from one bit to another, while what it
+-- comes from keeps its own
+abbrev pub AreForwardedPausesKept : Vehicle → Delays → Type 0
+AreForwardedPausesKept v delays = (seen : SeenBuses) (by : ℕ) (at : FlowAt) (timing : Timing) (flow : FlowPlan) (ms time first last : ℕ)
+    → IsSentOn v delays at → timing_on v.buses.items at.bus ≡ Some timing → flow_at v.buses.items at ≡ Some flow → flow.pause ≡ Some ms
+    → behind_at v delays at ≡ Some time → IsPromptVehicle v delays seen by → KeepPauses v seen (record { at = at; signal = None }) (time_of
+    (clock_on v seen at.bus) first) by
+    → time_of (clock_on v seen at.bus) (last + 1) + time ≤ by
+    → KeepsComing (seen at.bus).schedule (seen at.bus).planned (seen at.bus).of at.flow (bits_of_ms timing ms) first last

@@ -1,0 +1,76 @@
+//! How long the messages of each flow of each bus take.
+ghost use Rattle.std.specs.Prelude.{◌≡◌, ◌≢◌, [], IfOk, OnErr};
+ghost use Rattle.std.specs.Option.{option_copied};
+ghost use Rattle.j39_vehicle_times.specs.BusDelays.{AreDelays, AreDelaysOn, delays_on};
+ghost use Rattle.j39_vehicle_times.specs.Times.{bits_within, delay_at};
+
+use j39_load::{Delay, Loads};
+use j39_network::Plan;
+use j39_vehicle::Vehicle;
+use j39_vehicle_findings::FlowAt;
+use std::alloc::{AllocError, Global};
+
+/// Of each bus, by its place, the delay of each of its flows, and none of a bus of whose timing nothing is known.
+#[derive(Drop)]
+pub struct Delays {
+    pub of_buses: Vec<Vec<Option<Delay>>>,
+}
+
+// The bits of a delay that is told in bits.
+fn bits_within(delay: Option<Delay>) -> Option<u32>
+    ensures { result ≡ bits_within delay }
+{
+    match delay {
+        Some(Delay::Within(bits)) => Some(bits),
+        Some(Delay::Late) => None,
+        Some(Delay::Long(_)) => None,
+        Some(Delay::Whole(_)) => None,
+        None => None,
+    }
+}
+
+// Those of the flows of the bus at a place.
+fn delays_on(delays: &Delays, bus: usize) -> &[Option<Delay>]
+    ensures { result.now ≡ delays_on delays.now bus }
+{
+    match delays.of_buses.get(bus) {
+        Some(told) => told.as_slice(),
+        None => &[],
+    }
+}
+
+/// The delay of a flow in bits, where it is told so.
+pub fn delay_at(delays: &Delays, at: FlowAt) -> Option<u32>
+    ensures { result ≡ delay_at delays.now at }
+{
+    match delays_on(delays, at.bus).get(at.flow) {
+        Some(delay) => bits_within(*delay),
+        None => None,
+    }
+}
+
+// The delays of the flows of a bus with this plan.
+fn delays_by(alloc: Global, plan: &Plan) -> Result<Vec<Option<Delay>>, AllocError>
+    ensures { IfOk result (λ delays. AreDelaysOn plan.now plan.now.timing delays.items) }
+{
+    let Some(timing) = plan.timing else {
+        return Ok(Vec::new(alloc));
+    };
+    let loads = Loads::new(alloc, timing, plan)?;
+    let delays = loads.delays(alloc)?;
+    Ok(delays)
+}
+
+/// The delays of the flows of all buses, each as its plan asks of it.
+pub fn delays_of(alloc: Global, vehicle: &Vehicle) -> Result<Delays, AllocError>
+    ensures told { IfOk result (λ delays. AreDelays vehicle.now delays) }
+    ensures memory { OnErr result (vehicle.now.buses.items ≢ []) }
+{
+    let mut of_buses = Vec::new(alloc);
+    for place in 0..vehicle.buses.len() {
+        let bus = &vehicle.buses[place];
+        let told = delays_by(alloc, &bus.plan)?;
+        of_buses.push(told)?;
+    }
+    Ok(Delays { of_buses })
+}

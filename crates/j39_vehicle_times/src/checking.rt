@@ -1,0 +1,180 @@
+//! Everything that is wrong with the times of what the gateways of a vehicle send on.
+ghost use Rattle.std.specs.Prelude.{◌≡◌, ◌≢◌, [], IfOk, OnErr};
+ghost use Rattle.j39_search.specs.Adding.{Adds};
+ghost use Rattle.j39_vehicle_times.specs.FoundTimes.{forward_time_findings, is_need_too_old, is_too_late, is_too_often};
+ghost use Rattle.j39_vehicle_times.specs.FoundTimes.{is_too_rare, need_time_findings, time_findings};
+
+use crate::bus_delays::Delays;
+use crate::ends::{is_too_late, is_too_often, is_too_rare};
+use crate::finding::TimeFinding;
+use crate::needs::is_need_too_old;
+use j39_search::{TestRule, find_tested};
+use j39_vehicle::{Forward, Vehicle, VehicleNeed};
+use j39_vehicle_findings::Routes;
+use std::alloc::{AllocError, Global};
+
+/// What is wrong with the times of a vehicle, in order.
+pub type TimeFindings = Vec<TimeFinding>;
+
+#[derive(Clone, Copy)]
+struct TooOften<'a> {
+    vehicle: &'a Vehicle,
+}
+
+impl TestRule<Forward, TimeFinding> for TooOften<'_> {
+    ghost use Rattle.j39_vehicle_times.specs.declared.finding.TimeFinding.TheVariants.{TooOften as IsTooOften};
+
+    ghost test = { λ rule. is_too_often rule.vehicle.now };
+
+    ghost make = { λ _ n. IsTooOften n };
+
+    fn holds(&self, forward: &Forward) -> bool {
+        is_too_often(self.vehicle, forward)
+    }
+
+    fn finding(&self, place: usize) -> TimeFinding {
+        TimeFinding::TooOften(place)
+    }
+}
+
+#[derive(Clone, Copy)]
+struct TooLate<'a> {
+    routes: Routes<'a>,
+    delays: &'a Delays,
+}
+
+impl TestRule<Forward, TimeFinding> for TooLate<'_> {
+    ghost use Rattle.j39_vehicle_times.specs.declared.finding.TimeFinding.TheVariants.{TooLate as IsTooLate};
+
+    ghost test = { λ rule. is_too_late rule.routes.vehicle.now rule.delays.now };
+
+    ghost make = { λ _ n. IsTooLate n };
+
+    fn holds(&self, forward: &Forward) -> bool {
+        is_too_late(&self.routes, self.delays, forward)
+    }
+
+    fn finding(&self, place: usize) -> TimeFinding {
+        TimeFinding::TooLate(place)
+    }
+}
+
+#[derive(Clone, Copy)]
+struct TooRare<'a> {
+    routes: Routes<'a>,
+}
+
+impl TestRule<Forward, TimeFinding> for TooRare<'_> {
+    ghost use Rattle.j39_vehicle_times.specs.declared.finding.TimeFinding.TheVariants.{TooRare as IsTooRare};
+
+    ghost test = { λ rule. is_too_rare rule.routes.vehicle.now };
+
+    ghost make = { λ _ n. IsTooRare n };
+
+    fn holds(&self, forward: &Forward) -> bool {
+        is_too_rare(&self.routes, forward)
+    }
+
+    fn finding(&self, place: usize) -> TimeFinding {
+        TimeFinding::TooRare(place)
+    }
+}
+
+#[derive(Clone, Copy)]
+struct TooOld<'a> {
+    routes: Routes<'a>,
+    delays: &'a Delays,
+}
+
+impl TestRule<VehicleNeed, TimeFinding> for TooOld<'_> {
+    ghost use Rattle.j39_vehicle_times.specs.declared.finding.TimeFinding.TheVariants.{NeedTooOld as IsTooOld};
+
+    ghost test = { λ rule. is_need_too_old rule.routes.vehicle.now rule.delays.now };
+
+    ghost make = { λ _ d. IsTooOld d };
+
+    fn holds(&self, need: &VehicleNeed) -> bool {
+        is_need_too_old(&self.routes, self.delays, need)
+    }
+
+    fn finding(&self, place: usize) -> TimeFinding {
+        TimeFinding::NeedTooOld(place)
+    }
+}
+
+// Adds what is wrong with the times of the forwards.
+#[tactic(auto, unfolding(crate::specs::FoundTimes::forward_time_findings))]
+fn find_in_forwards(
+    findings: &mut TimeFindings,
+    routes: &Routes<'_>,
+    delays: &Delays,
+) -> Result<(), AllocError>
+    ensures { Adds result findings.old.items findings.new.items (forward_time_findings routes.now.vehicle.now delays.now) }
+{
+    find_tested(
+        findings,
+        &TooOften {
+            vehicle: routes.vehicle,
+        },
+        &routes.vehicle.forwards,
+    )?;
+    find_tested(
+        findings,
+        &TooLate {
+            routes: *routes,
+            delays,
+        },
+        &routes.vehicle.forwards,
+    )?;
+    find_tested(
+        findings,
+        &TooRare { routes: *routes },
+        &routes.vehicle.forwards,
+    )
+}
+
+// Adds the needs for what isn't shown to be young enough.
+#[tactic(auto, unfolding(crate::specs::FoundTimes::need_time_findings))]
+fn find_in_needs(
+    findings: &mut TimeFindings,
+    routes: &Routes<'_>,
+    delays: &Delays,
+) -> Result<(), AllocError>
+    ensures { Adds result findings.old.items findings.new.items (need_time_findings routes.now.vehicle.now delays.now) }
+{
+    find_tested(
+        findings,
+        &TooOld {
+            routes: *routes,
+            delays,
+        },
+        &routes.vehicle.needs,
+    )
+}
+
+#[tactic(auto, unfolding(crate::specs::FoundTimes::time_findings))]
+fn find_all(
+    findings: &mut TimeFindings,
+    routes: &Routes<'_>,
+    delays: &Delays,
+) -> Result<(), AllocError>
+    ensures { Adds result findings.old.items findings.new.items (time_findings routes.now.vehicle.now delays.now) }
+{
+    find_in_forwards(findings, routes, delays)?;
+    find_in_needs(findings, routes, delays)
+}
+
+/// What is wrong with the times of the forwards and of what is needed, where the buses have these delays: G10 to G13,
+/// by their numbers and then by their places in rising order.
+pub fn find_in_times(
+    alloc: Global,
+    routes: &Routes<'_>,
+    delays: &Delays,
+) -> Result<TimeFindings, AllocError>
+    ensures list { IfOk result (λ findings. findings.items ≡ time_findings routes.now.vehicle.now delays.now) }
+    ensures memory { OnErr result (time_findings routes.now.vehicle.now delays.now ≢ []) }
+{
+    let mut findings = Vec::new(alloc);
+    find_all(&mut findings, routes, delays)?;
+    Ok(findings)
+}

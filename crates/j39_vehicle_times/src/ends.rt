@@ -1,0 +1,241 @@
+//! What is asked of a direct forward, between its first input and its first output.
+ghost use Rattle.std.specs.Prelude.{◌≡◌};
+ghost use Rattle.std.specs.List.{position};
+ghost use Rattle.std.specs.Option.{option_copied};
+ghost use Rattle.j39_vehicle_findings.specs.Buses.{groups_on};
+ghost use Rattle.j39_vehicle_findings.specs.ForwardTests.{is_output};
+ghost use Rattle.j39_vehicle_findings.specs.ForwardEnds.{output_flows};
+ghost use Rattle.j39_vehicle_times.specs.TimeFindings.{first_output, period_ms};
+ghost use Rattle.j39_vehicle_times.specs.FoundTimes.{direct_ends, ends_of, has_deadline, has_such_a_period, is_asked};
+ghost use Rattle.j39_vehicle_times.specs.FoundTimes.{is_late_asked, is_late_asked_of, is_later, is_long, is_more_often};
+ghost use Rattle.j39_vehicle_times.specs.FoundTimes.{is_nearer, is_rarer, is_timed_bus, goes_to_all, is_too_late, is_too_often};
+ghost use Rattle.j39_vehicle_times.specs.FoundTimes.{is_too_rare, is_unlimited, is_known_within};
+
+use crate::bus_delays::Delays;
+use crate::chains::{interval, queued_of};
+use crate::flows::{flow_at, input_at, jitter_of, timing_on, us_of_ms};
+use j39_network::{FlowPlan, To};
+use j39_vehicle::{Forward, GroupAt, Vehicle};
+use j39_vehicle_findings::{FlowAt, Routes, group_at, is_direct, is_output, output_flows};
+
+/// Whether a number is known, and at most so large.
+pub fn is_within(most: u64, number: Option<u64>) -> bool
+    ensures { result ≡ is_known_within most number }
+{
+    match number {
+        Some(number) => number <= most,
+        None => false,
+    }
+}
+
+fn output_place(vehicle: &Vehicle, forward: &Forward) -> Option<usize>
+    ensures { result ≡ position (is_output forward.now) (output_flows vehicle.now forward.now) }
+{
+    output_flows(vehicle, forward)
+        .iter()
+        .position(|flow| is_output(forward, flow))
+}
+
+/// The first of the flows that the forward feeds.
+pub fn first_output<'a>(vehicle: &'a Vehicle, forward: &Forward) -> Option<&'a FlowPlan>
+    ensures { option_copied result ≡ first_output vehicle.now forward.now }
+{
+    match output_place(vehicle, forward) {
+        Some(place) => output_flows(vehicle, forward).get(place),
+        None => None,
+    }
+}
+
+fn is_timed_bus(vehicle: &Vehicle, bus: usize) -> bool
+    ensures { result ≡ is_timed_bus vehicle.now bus }
+{
+    timing_on(&vehicle.buses, bus).is_some()
+}
+
+/// Where a direct forward begins and ends: the place of its first input, and the plans of this and of its first output.
+#[derive(Clone, Copy, PartialEq, Eq)]
+pub struct Ends {
+    pub at: FlowAt,
+    pub input: FlowPlan,
+    pub output: FlowPlan,
+}
+
+fn ends_of(vehicle: &Vehicle, forward: &Forward) -> Option<Ends>
+    ensures { result ≡ ends_of vehicle.now forward.now }
+{
+    let Some(at) = input_at(vehicle, forward) else {
+        return None;
+    };
+    let Some(input) = flow_at(&vehicle.buses, at) else {
+        return None;
+    };
+    match first_output(vehicle, forward) {
+        Some(output) => Some(Ends {
+            at,
+            input: *input,
+            output: *output,
+        }),
+        None => None,
+    }
+}
+
+// Those of a direct forward, where something is known of the bus where it sends.
+fn direct_ends(vehicle: &Vehicle, forward: &Forward) -> Option<Ends>
+    ensures { result ≡ direct_ends vehicle.now forward.now }
+{
+    if is_direct(forward) && is_timed_bus(vehicle, forward.output.bus) {
+        ends_of(vehicle, forward)
+    } else {
+        None
+    }
+}
+
+fn period_of(flow: &FlowPlan) -> Option<u16>
+    ensures { result ≡ period_ms flow.now }
+{
+    match flow.pace {
+        Some(pace) => Some(pace.period),
+        None => None,
+    }
+}
+
+fn has_such_a_period(input: &FlowPlan, period: u16) -> bool
+    ensures { result ≡ has_such_a_period input.now period }
+{
+    match period_of(input) {
+        Some(own) => period <= own,
+        None => false,
+    }
+}
+
+// Whether the output has a period, and the input's messages may be nearer to each other.
+fn is_nearer(input: &FlowPlan, output: &FlowPlan) -> bool
+    ensures { result ≡ is_nearer input.now output.now }
+{
+    match period_of(output) {
+        Some(period) => !has_such_a_period(input, period),
+        None => false,
+    }
+}
+
+// Whether the input's messages may come more often than those of the output may be sent.
+fn is_more_often(input: &FlowPlan, output: &FlowPlan) -> bool
+    ensures { result ≡ is_more_often input.now output.now }
+{
+    is_nearer(input, output) || output.on_request && !input.on_request
+}
+
+/// Whether what the forward hears may come more often than its output may be sent.
+pub fn is_too_often(vehicle: &Vehicle, forward: &Forward) -> bool
+    ensures { result ≡ is_too_often vehicle.now forward.now }
+{
+    match direct_ends(vehicle, forward) {
+        Some(ends) => is_more_often(&ends.input, &ends.output),
+        None => false,
+    }
+}
+
+fn has_deadline(flow: &FlowPlan) -> bool
+    ensures { result ≡ has_deadline flow.now }
+{
+    match flow.pace {
+        Some(pace) => pace.deadline.is_some(),
+        None => false,
+    }
+}
+
+// Whether each message of the group is longer than a frame.
+fn is_long(vehicle: &Vehicle, place: GroupAt) -> bool
+    ensures { result ≡ is_long (groups_on vehicle.now.buses.items place.bus) place.group }
+{
+    match group_at(&vehicle.buses, place) {
+        Some(group) => 8 < group.length,
+        None => false,
+    }
+}
+
+fn is_to_all(to: To) -> bool
+    ensures { result ≡ goes_to_all to }
+{
+    match to {
+        To::All => true,
+        To::One(_) => false,
+    }
+}
+
+// Whether the flow, one of the bus where the forward sends, is a broadcast without a written deadline all of whose
+// messages go in packets.
+fn is_unlimited(vehicle: &Vehicle, forward: &Forward, output: &FlowPlan) -> bool
+    ensures { result ≡ is_unlimited vehicle.now forward.now output.now }
+{
+    if !is_to_all(output.to) || has_deadline(output) {
+        return false;
+    }
+    let bus = forward.output.bus;
+    let group = output.group;
+    is_long(vehicle, GroupAt { bus, group })
+}
+
+// Whether it is asked that its messages are queued within its jitter.
+fn is_asked(vehicle: &Vehicle, forward: &Forward, output: &FlowPlan) -> bool
+    ensures { result ≡ is_asked vehicle.now forward.now output.now }
+{
+    !is_unlimited(vehicle, forward, output)
+}
+
+fn is_late_asked_of(vehicle: &Vehicle, forward: &Forward) -> bool
+    ensures { result ≡ is_late_asked_of vehicle.now forward.now }
+{
+    match direct_ends(vehicle, forward) {
+        Some(ends) => is_asked(vehicle, forward, &ends.output),
+        None => false,
+    }
+}
+
+/// Whether it is asked that the forward at a place queues each message within the jitter of its output.
+pub fn is_late_asked(vehicle: &Vehicle, forward: usize) -> bool
+    ensures { result ≡ is_late_asked vehicle.now forward }
+{
+    match vehicle.forwards.get(forward) {
+        Some(forward) => is_late_asked_of(vehicle, forward),
+        None => false,
+    }
+}
+
+fn is_later(routes: &Routes<'_>, delays: &Delays, forward: &Forward, output: &FlowPlan) -> bool
+    ensures { result ≡ is_later routes.now.vehicle.now delays.now forward.now output.now }
+{
+    let jitter = us_of_ms(jitter_of(output));
+    is_asked(routes.vehicle, forward, output)
+        && !is_within(jitter, queued_of(routes, delays, forward))
+}
+
+/// Whether it is, and isn't shown that it does.
+pub fn is_too_late(routes: &Routes<'_>, delays: &Delays, forward: &Forward) -> bool
+    ensures { result ≡ is_too_late routes.now.vehicle.now delays.now forward.now }
+{
+    match direct_ends(routes.vehicle, forward) {
+        Some(ends) => is_later(routes, delays, forward, &ends.output),
+        None => false,
+    }
+}
+
+// Whether messages of the input may stay away for longer than those of the output.
+fn is_rarer(routes: &Routes<'_>, at: FlowAt, output: &FlowPlan) -> bool
+    ensures { result ≡ is_rarer routes.now.vehicle.now at output.now }
+{
+    match output.pause {
+        Some(ms) => !is_within(us_of_ms(ms), interval(routes, at)),
+        None => false,
+    }
+}
+
+/// Whether what the forward hears may stay away for longer than its output may.
+pub fn is_too_rare(routes: &Routes<'_>, forward: &Forward) -> bool
+    ensures { result ≡ is_too_rare routes.now.vehicle.now forward.now }
+{
+    match direct_ends(routes.vehicle, forward) {
+        Some(ends) => is_rarer(routes, ends.at, &ends.output),
+        None => false,
+    }
+}

@@ -1,5 +1,0 @@
-use Rattle.j39_words.proofs.CommandLaws.{added}
-use Rattle.j39_words.proofs.commands.with_one.Goals as goal
-
-pub returns : goal.returns
-returns c = added c.args.program c.with.result c.one_value.result _ c.one_value.ensures.app c.with.ensures

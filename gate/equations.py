@@ -1,0 +1,131 @@
+#!/usr/bin/env python3
+"""Looks at the form of contracts: a function all of whose clauses are equations, one of its result and one of each value that it may
+change, can't be proved with another value, whatever its body is; an edit of its body would show no more. gate/equations.txt lists the
+functions that have no edit for that reason, and each has to be of that form still. The last line is 'N passed, M failed'.
+
+usage: equations.py            looks at the functions of gate/equations.txt
+       equations.py list       prints all functions of that form, with their edits
+       equations.py write      writes into gate/equations.txt those that have edits, so that these can go, and prints the edits
+"""
+
+from __future__ import annotations
+
+import os
+import re
+import sys
+from collections.abc import Iterator
+
+sys.dont_write_bytecode = True
+import crates
+import edits
+from tally import Tally
+
+LIST = f"{crates.TOP}/gate/equations.txt"
+# A whole value: what a call returns, or what it leaves where a parameter points; of a list its elements.
+LEFT = r"(?:IsTrue )?(result)|(\w+)\.new(?:\.items)?"
+
+
+def clauses(contract: str) -> list[str]:
+    """Returns the texts in the braces of the clauses `ensures` of a function."""
+    found = []
+    for start in re.finditer(r"\bensures\b\*?\s*\w*\s*\{", contract):
+        deep, at = 1, start.end()
+        while at < len(contract) and deep:
+            deep += {"{": 1, "}": -1}.get(contract[at], 0)
+            at += 1
+        found.append(" ".join(contract[start.end():at - 1].split()))
+    return found
+
+
+def equated(clause: str) -> str:
+    """Returns what a clause equates with a term that doesn't name it: 'result' or a parameter; '' where it is no such equation."""
+    head = re.match(r"let .*? in (?=(?:IsTrue )?result\b|\w+\.new\b)", clause)
+    body = clause[head.end():] if head else clause
+    found = re.match(rf"(?:{LEFT}) (?:≡|↔) (.*)", body)
+    if not found:
+        return ""
+    name, right = found[1] or found[2], found[3]
+    # a further connective beside the equation would make it a part of another statement
+    is_whole = not re.search(r"\bresult\b|\.new\b|\.exit\b", right) and not split_beside(right)
+    return name if is_whole and not (head and re.search(r"\bresult\b|\.new\b", head[0])) else ""
+
+
+def split_beside(term: str) -> bool:
+    """Whether a term has a connective of statements outside of brackets."""
+    deep = 0
+    for letter in term:
+        deep += {"(": 1, ")": -1}.get(letter, 0)
+        if not deep and letter in "→∧∨≡↔×⊎":
+            return True
+    return False
+
+
+def is_fixed(contract: str) -> bool:
+    """Whether the clauses of a function fix its result and all that it may change."""
+    told = clauses(contract)
+    head = re.split(r"\b(?:requires|ensures|ghost)\b", contract)[0]
+    wanted = set(re.findall(r"(\w+): &(?:'\w+ )?mut\b", head)) | ({"self"} if re.search(r"&(?:'\w+ )?mut self\b", head) else set())
+    returned = re.search(r"->\s*(.*)", head, re.DOTALL)
+    if returned and returned[1].strip() not in ("()", ""):
+        if "&mut" in returned[1] or "&'a mut" in returned[1]:
+            return False
+        wanted.add("result")
+    return bool(told) and bool(wanted) and all(map(equated, told)) and wanted <= set(map(equated, told))
+
+
+def functions_of(name: str) -> Iterator[tuple[str, str, int, int, bool]]:
+    """The functions of a crate's code: the name, the file, the lines at which it begins and ends, and whether its clauses fix it."""
+    for path in sorted(it for it in crates.sources(name) if it.endswith(".rt")):
+        file = os.path.relpath(path, crates.folder(name))
+        with open(path, encoding="utf-8") as it:
+            lines = it.read().split("\n")
+        module = file.removeprefix("src/").removesuffix(".rt").replace("/", "::")
+        for start, line in enumerate(lines):
+            if head := edits.HEAD.match(line):
+                body = edits.body_of(lines, start)
+                block = edits.block_around(lines, start)
+                full = "::".join(it for it in (name, "" if module in ("lib", "main") else module, block, head[2]) if it)
+                yield full, file, start, edits.end_of(lines, start), is_fixed("\n".join(lines[start:body]))
+
+
+def edited(name: str) -> dict[tuple[str, int], list[str]]:
+    """Returns the edits of bodies of functions, by the file and the line."""
+    found: dict[tuple[str, int], list[str]] = {}
+    for edit in edits.edits_of(name, edits.FOLDERS):
+        for file, old, _ in edit.pairs:
+            with open(f"{crates.folder(name)}/{file}", encoding="utf-8") as it:
+                text = it.read()
+            if old in text:
+                found.setdefault((file, text[:text.index(old)].count("\n")), []).append(edit.name)
+    return found
+
+
+def main(words: list[str]) -> int:
+    fixed: dict[str, list[str]] = {}
+    count = all_edits = 0
+    for name in crates.below():
+        at = edited(name)
+        all_edits += len({it for names in at.values() for it in names})
+        for full, file, start, end, is_so in functions_of(name):
+            count += 1
+            if is_so:
+                own = {it for (path, line), names in at.items() if path == file and start <= line <= end for it in names}
+                fixed[full] = [f"{name}/{it}" for it in sorted(own)]
+    if words in (["list"], ["write"]):
+        shown = {it: own for it, own in fixed.items() if own or words == ["list"]}
+        if words == ["write"]:
+            with open(LIST, "w", encoding="utf-8") as file_of_list:
+                file_of_list.writelines(f"{it}\n" for it in sorted(shown))
+        for it, own in sorted(shown.items()):
+            print(it, *own)
+        print(f"{len(fixed)} of {count} functions; {sum(map(len, fixed.values()))} of {all_edits} edits are of these")
+        return 0
+    tally = Tally()
+    with open(LIST, encoding="utf-8") as lines:
+        for it in lines.read().split():
+            tally.count(it, it in fixed, "its clauses are no equations any more: it needs an edit that must fail")
+    return tally.end()
+
+
+if __name__ == "__main__":
+    sys.exit(main(sys.argv[1:]))
