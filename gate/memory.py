@@ -1,7 +1,7 @@
 #!/usr/bin/env python3
 """Refuses each allocation of the built programs in turn, counting upwards until a run asks for no allocation of that number.
 
-memory_check does again what wanted memory, so it must write the same in each run. A command of j39plan must want memory
+The part `memory` of examples_check does again what wanted memory, so it must write the same in each run. A command of j39plan must want memory
 (status 3) with nothing or a part of its text written, or answer as with enough memory. The last line is 'N passed, M failed'.
 """
 
@@ -16,6 +16,8 @@ sys.dont_write_bytecode = True
 import crates
 from tally import COMMANDS, MEMORY, PROGRAM, SECONDS, Tally, is_built
 
+# The program of the tests.
+CHECK = "examples_check"
 # More allocations than any of the runs asks for.
 MOST = 20_000
 
@@ -59,8 +61,8 @@ def answers(words: list[str], shim: str, is_allowed: Callable[[subprocess.Comple
 
 
 def main() -> int:
-    check = f"{crates.folder('memory_check')}/out/memory_check"
-    for program in (check, PROGRAM):
+    check = [f"{crates.folder(CHECK)}/out/{CHECK}", "memory"]
+    for program in (check[0], PROGRAM):
         if not is_built(program):
             print(f"memory: there is no program {program}\n0 passed, 1 failed")
             return 1
@@ -68,14 +70,16 @@ def main() -> int:
     if not cc:
         print("memory: skipped, since there is no C compiler\n0 passed, 0 failed")
         return 0
-    with open(f"{crates.folder('memory_check')}/stdout", "rb") as file:
-        shown = file.read()
+    with open(f"{crates.folder(CHECK)}/stdout", "rb") as file:
+        listed = file.read()
     tally = Tally()
     with tempfile.TemporaryDirectory() as folder:
         shim = made_shim(folder, cc)
-        count, found = answers([check], shim, lambda ran, _: (ran.returncode, ran.stdout, ran.stderr) == (0, shown, b""))
-        tally.count(f"memory_check, {count} refusals", not found, found)
-        print(f"memory: memory_check, {count} allocations refused in turn")
+        shown = run(check, shim, 0)[0].stdout
+        tally.count("the part memory writes the last lines of what is listed", bool(shown) and listed.endswith(shown), shown[-200:])
+        count, found = answers(check, shim, lambda ran, _: (ran.returncode, ran.stdout, ran.stderr) == (0, shown, b""))
+        tally.count(f"rows and calls, {count} refusals", not found, found)
+        print(f"memory: rows and calls, {count} allocations refused in turn")
         for words in COMMANDS:
             enough = run([PROGRAM, *words], shim, 0)[0]
 

@@ -27,14 +27,14 @@ def files() -> list[str]:
 
 
 def listed() -> list[str]:
-    """The lines that the program of the rows must print."""
+    """The lines that the program of the rows must print of rows and cases."""
     with open(f"{FOLDER}/stdout", encoding="utf-8") as lines:
-        return lines.read().splitlines()
+        return [line for line in lines.read().splitlines() if "as shown" in line]
 
 
 def main(words: list[str]) -> int:
     data = [word for name in files() for word in ("--data", f"{name}=data/{name}")]
-    call = ["rt", "try", "--seconds", words[0] if words else "300", *data]
+    call = ["rt", "try", "--seconds", words[0] if words else "300", *data, "--", "files"]
     ran = subprocess.run(call, cwd=FOLDER, stdin=subprocess.DEVNULL, capture_output=True, text=True, check=False)
     lines = ran.stdout.splitlines()
     others = [line for line in lines if "as shown" not in line]

@@ -1,52 +1,36 @@
-//! Runs the program on the examples and on the cases of its tests, and says whether it writes what stands beside each.
+//! Runs the program on the rows and cases of its tests (`files`), on devices that fail and on damaged inputs
+//! (`devices`), and does again what wanted memory, so that each allocation can be refused in turn (`memory`). Each line
+//! of its output says whether an answer is as it must be. Words name the parts to do; without a word it does them all.
 #![tactic(auto)]
 
-mod cases;
-mod outcome;
-mod pieces;
-mod rows;
-mod stage;
-mod vehicles;
+mod devices;
+mod files;
+mod memory;
+mod saying;
 
-use cases::run_case;
-use rows::run_rows;
-use std::fs;
-use std::rt::Files;
+use std::env;
 
-// The names of what lies in a folder, in order: its folders, each with a slash behind it, or its files.
-fn names<R: Files + AllocGlobal + Clone + Drop>(
-    rt: &R,
-    folder: &str,
-    is_folder: bool,
-) -> Result<Vec<String>, anyhow::Error> {
-    let mut names = Vec::new(rt.alloc());
-    let end = if is_folder { "/" } else { "" };
-    for entry in fs::read_dir(rt, folder)? {
-        let entry = entry?;
-        if entry.file_type()?.is_dir() == is_folder {
-            names.push(format!(in rt.alloc(); "{}{end}", entry.file_name())?)?;
+// The words, or the names of all parts where there is none.
+fn parts_of(rt: &HostRuntime) -> Result<Vec<String>, anyhow::Error> {
+    let mut parts = Vec::new(rt.alloc());
+    for word in env::args(rt)?.skip(1) {
+        parts.push(word)?;
+    }
+    if parts.is_empty() {
+        for part in ["files", "devices", "memory"] {
+            parts.push(String::from_str(rt.alloc(), part)?)?;
         }
     }
-    names.sort()?;
-    Ok(names)
-}
-
-// Runs what a folder has: one case, or rows.
-fn visit<R: Files + Print + AllocGlobal + Clone + Drop>(
-    rt: &R,
-    folder: &str,
-) -> Result<(), anyhow::Error> {
-    if !run_case(rt, folder)? {
-        run_rows(rt, folder, names(rt, folder, false)?.as_slice())?;
-    }
-    Ok(())
+    Ok(parts)
 }
 
 fn main(rt: HostRuntime) -> Result<(), anyhow::Error> {
-    for folder in names(&rt, "./", true)? {
-        visit(&rt, folder.as_str())?;
-        for inner in names(&rt, folder.as_str(), true)? {
-            visit(&rt, format!(in rt.alloc(); "{folder}{inner}")?.as_str())?;
+    for part in parts_of(&rt)? {
+        match part.as_str() {
+            "files" => files::run_all(&rt)?,
+            "devices" => devices::say_all(&rt, rt.alloc())?,
+            "memory" => memory::say_all(&rt, rt.alloc())?,
+            _ => println!(rt; "{part} is no part")?,
         }
     }
     Ok(())

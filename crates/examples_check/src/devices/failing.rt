@@ -1,7 +1,7 @@
 //! Devices that fail, call by call.
 ghost use Rattle.std.specs.Prelude.{◌<◌};
 
-use crate::attempt::{Attempt, Given, NEVER, Stops, attempted};
+use crate::devices::attempt::{Attempt, Given, NEVER, Stops, attempted};
 use j39_app::{Fault, Stop, Verdict, status};
 use j39_vectors::{Command, Row};
 use std::alloc::{AllocError, Global};

@@ -1,6 +1,6 @@
 //! How a run of the program ended.
 
-use crate::stage::ProgramStage;
+use crate::files::stage::ProgramStage;
 use j39_app::run_program;
 use std::process::ExitCode;
 use std::rt::Files;

@@ -1,22 +1,16 @@
 //! Does each row's command, reads its words, checks its plan and steps its bus, and does again what wanted memory: so
 //! that each growth can be refused in turn, as by `rt try --fail-alloc`, and the answers are still the row's.
-#![tactic(auto)]
 
 mod buses;
 mod commands;
 mod plans;
 mod words;
 
+use crate::saying::say;
 use j39_vectors::{
     CHECK_OF_A_FINDING, CHECK_OF_A_PLAN, ROWS, RUN_OF_A_BROADCAST, RUN_OF_A_MESSAGE,
 };
 use std::alloc::Global;
-
-fn say(rt: &impl Print, what: &str, is_right: bool) -> Result<(), anyhow::Error> {
-    let answer = if is_right { "right" } else { "wrong" };
-    println!(rt; "{what}: {answer}")?;
-    Ok(())
-}
 
 // Each call is made again where a growth of its own was refused.
 fn say_commands(rt: &impl Print, alloc: Global) -> Result<(), anyhow::Error> {
@@ -58,15 +52,11 @@ fn say_buses(rt: &impl Print, alloc: Global) -> Result<(), anyhow::Error> {
     Ok(())
 }
 
-fn main(rt: HostRuntime) -> Result<(), anyhow::Error> {
-    let alloc = rt.alloc();
-    say_commands(&rt, alloc)?;
-    say_plans(&rt, alloc)?;
-    say_buses(&rt, alloc)?;
+/// Says of each row, plan, bus and of words whether the answers are right.
+pub fn say_all(rt: &impl Print, alloc: Global) -> Result<(), anyhow::Error> {
+    say_commands(rt, alloc)?;
+    say_plans(rt, alloc)?;
+    say_buses(rt, alloc)?;
     let answer = words::are_answered(alloc);
-    say(
-        &rt,
-        "words",
-        answer.or_else(|_| words::are_answered(alloc))?,
-    )
+    say(rt, "words", answer.or_else(|_| words::are_answered(alloc))?)
 }

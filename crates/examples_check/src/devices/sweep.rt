@@ -1,7 +1,7 @@
 //! Commands on damaged plans and inputs.
 
-use crate::attempt::{Given, NEVER, attempted};
-use crate::named::is_named;
+use crate::devices::attempt::{Given, NEVER, attempted};
+use crate::devices::named::is_named;
 use j39_vectors::Row;
 use std::alloc::{AllocError, Global};
 

@@ -1,6 +1,6 @@
 //! Texts that a command can write.
 
-use crate::attempt::Attempt;
+use crate::devices::attempt::Attempt;
 use j39_app::Verdict;
 use j39_vectors::Command;
 

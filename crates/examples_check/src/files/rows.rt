@@ -7,10 +7,10 @@
 //! `NAME.vehicle` has the files of a vehicle, and what is written of them. Standard error stays empty, and the status
 //! is one of the program's output.
 
-use crate::outcome::perform;
-use crate::pieces::are_as_shown;
-use crate::stage::ProgramStage;
-use crate::vehicles::run_vehicle;
+use crate::files::outcome::perform;
+use crate::files::pieces::are_as_shown;
+use crate::files::stage::ProgramStage;
+use crate::files::vehicles::run_vehicle;
 use std::fs;
 use std::rt::Files;
 

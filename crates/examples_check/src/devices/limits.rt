@@ -1,7 +1,7 @@
 //! Limits of an input and of an output.
 ghost use Rattle.std.specs.Prelude.{◌<◌, ◌≤◌, length};
 
-use crate::attempt::{Given, NEVER, attempted};
+use crate::devices::attempt::{Given, NEVER, attempted};
 use j39_app::{Fault, Pieces, Stop, Verdict, frame_text, read_whole};
 use j39_vectors::{Command, RUN_OF_A_BROADCAST};
 use std::alloc::{AllocError, Global};

@@ -4,8 +4,8 @@
 //! `room`, how many bytes standard output takes; `stdout`, `stderr` and `status`, 0 where it is absent. The words' files
 //! lie in the folder too.
 
-use crate::outcome::perform;
-use crate::stage::ProgramStage;
+use crate::files::outcome::perform;
+use crate::files::stage::ProgramStage;
 use std::fs;
 use std::io::ErrorKind;
 use std::rt::Files;
