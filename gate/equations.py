@@ -18,6 +18,7 @@ from collections.abc import Iterator
 sys.dont_write_bytecode = True
 import crates
 import edits
+import places
 from tally import Tally
 
 LIST = f"{crates.TOP}/gate/equations.txt"
@@ -81,11 +82,11 @@ def functions_of(name: str) -> Iterator[tuple[str, str, int, int, bool]]:
             lines = it.read().split("\n")
         module = file.removeprefix("src/").removesuffix(".rt").replace("/", "::")
         for start, line in enumerate(lines):
-            if head := edits.HEAD.match(line):
-                body = edits.body_of(lines, start)
-                block = edits.block_around(lines, start)
+            if head := places.HEAD.match(line):
+                body = places.body_of(lines, start)
+                block = places.block_around(lines, start)
                 full = "::".join(it for it in (name, "" if module in ("lib", "main") else module, block, head[2]) if it)
-                yield full, file, start, edits.end_of(lines, start), is_fixed("\n".join(lines[start:body]))
+                yield full, file, start, places.end_of(lines, start), is_fixed("\n".join(lines[start:body]))
 
 
 def edited(name: str) -> dict[tuple[str, int], list[str]]:
@@ -109,8 +110,8 @@ def main(words: list[str]) -> int:
         for full, file, start, end, is_so in functions_of(name):
             count += 1
             if is_so:
-                own = {it for (path, line), names in at.items() if path == file and start <= line <= end for it in names}
-                fixed[full] = [f"{name}/{it}" for it in sorted(own)]
+                inside = {it for (path, line), names in at.items() if path == file and start <= line <= end for it in names}
+                fixed[full] = [f"{name}/{it}" for it in sorted(inside)]
     if words in (["list"], ["write"]):
         shown = {it: own for it, own in fixed.items() if own or words == ["list"]}
         if words == ["write"]:
