@@ -4,7 +4,6 @@
 
 usage: costs.py CRATE [COUNT]           proves the library, or builds the program; shows the dearest COUNT, else 20
        costs.py --test CRATE [COUNT]    the same of the crate with its tests, which are run
-       costs.py --edits CRATE           tries its edits that must fail; shows each
        costs.py --kept CRATE [COUNT]    checks nothing: shows how much earlier checks have written of each function, also of forms that it
                                         no longer has, and at the end what of all this stands in the library that was built last
 
@@ -35,7 +34,6 @@ COUNT = 20
 KEPT = "out/incremental"
 # A module of a crate, by its file: its path below the crate's definitions or proofs.
 FILE = re.compile(r"Rattle-\w+-(?:specs|proofs)\.(?:contracts\.)?(.+?)(?:\.decls)?\.oantt")
-LABEL = re.compile(r"must-fail \w+/(.*)\.edit: ")
 MODES = {"--test": ["rt", "test", "--jobs", "1"], "library": ["rt", "lib", "--jobs", "1"], "program": ["rt", "run", "--jobs", "1", "--", "--version"]}
 
 Costs = list[tuple[str, float]]
@@ -139,20 +137,8 @@ def of_functions(name: str, words: list[str], count: int) -> int:
     return 0
 
 
-def of_edits(name: str) -> int:
-    """Tries the edits of a crate, and shows what each takes; the first one has the check from nothing too."""
-    status, said, clock = clocked(["rt", "must-fail", name], crates.TOP)
-    before = 0.0
-    for moment, line in said:
-        if LABEL.search(line):
-            print(f"{clock.seconds(moment) - before:7.1f} s  {line}")
-            before = clock.seconds(moment)
-    print(f"{name}: {clock.taken[-1]:.0f} s of processor time")
-    return status
-
-
 def main(words: list[str]) -> int:
-    mode = words[0] if words and words[0] in ("--test", "--edits", "--kept") else ""
+    mode = words[0] if words and words[0] in ("--test", "--kept") else ""
     names = words[1:] if mode else words
     if not names or names[0] not in crates.below():
         print(__doc__, file=sys.stderr)
@@ -160,8 +146,6 @@ def main(words: list[str]) -> int:
     name, count = names[0], int(names[1]) if names[1:] else COUNT
     # what is stopped ends what it has started, and removes its copy
     signal.signal(signal.SIGTERM, lambda *_: sys.exit(1))
-    if mode == "--edits":
-        return of_edits(name)
     if mode == "--kept":
         return of_kept(name, count)
     return of_functions(name, MODES[mode or ("program" if crates.is_program(name) else "library")], count)

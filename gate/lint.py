@@ -1,11 +1,12 @@
 #!/usr/bin/env python3
-"""Looks at what needs no proof: the format of the crates' sources, scripts of the shell, names and types in Python. What a missing program
+"""Looks at what needs no proof: the format of the crates' sources, the libraries that they list, scripts of the shell, names and types in Python. What a missing program
 keeps from being looked at is skipped and said. The last line is 'N passed, M failed'.
 """
 
 from __future__ import annotations
 
 import os
+import re
 import shutil
 import subprocess
 import sys
@@ -15,7 +16,7 @@ sys.dont_write_bytecode = True
 import crates
 from tally import Tally
 
-PARTS = ("src", "specs", "proofs", "must-fail")
+PARTS = ("src", "specs", "proofs", "edits")
 
 
 def tracked() -> list[str]:
@@ -55,6 +56,16 @@ def bytes_of(name: str) -> bytes:
         return file.read()
 
 
+def unnamed(crate: str) -> list[str]:
+    """The libraries that a crate lists in crates.txt and that none of its files names."""
+    texts = []
+    for path in crates.sources(crate):
+        with open(path, encoding="utf-8") as file:
+            texts.append(re.sub(r"(?://|--).*", "", file.read()))
+    code = "\n".join(texts)
+    return [it for it in crates.listed()[crate] if not re.search(rf"\b{it}\b", code)]
+
+
 def look(tally: Tally, program: str, what: str, words: list[str]) -> None:
     """Counts what a command, which needs this program, says of files: its status 0 is right."""
     if not shutil.which(program):
@@ -72,6 +83,8 @@ def main() -> int:
         tally.count("format", not found, f"rt fmt changes {', '.join(found)}")
     else:
         print("format: skipped, since rt is missing")
+    lacking = [f"{crate}: {', '.join(names)}" for crate in crates.listed() if (names := unnamed(crate))]
+    tally.count("libraries", not lacking, f"listed in crates.txt and named nowhere: {'; '.join(lacking)}")
     look(tally, "shellcheck", "scripts", ["shellcheck", "--severity=warning", *scripts()])
     look(tally, "pyflakes3", "names in Python", ["pyflakes3", *python_files()])
     look(tally, "mypy", "types in Python", [sys.executable, "gate/python_types.py"])

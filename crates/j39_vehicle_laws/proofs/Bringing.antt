@@ -25,8 +25,8 @@ use Rattle.j39_vehicle_findings.specs.Traces.{behind_forward, goes_on, is_sent_b
 use Rattle.j39_vehicle_findings.specs.VehicleFindings.{AreFindings}
 use Rattle.j39_vehicle_findings.specs.declared.point.FlowAt.{FlowAt}
 use Rattle.j39_vehicle_findings.specs.declared.point.Point.{Point}
-use Rattle.j39_vehicle_laws.specs.Gateways.{AreOneValue}
-use Rattle.j39_vehicle_laws.proofs.Gateways.{among_whole}
+use Rattle.j39_vehicle_laws.specs.HandedOn.{AreOneValue}
+use Rattle.j39_vehicle_laws.proofs.HandedOn.{among_whole}
 use Rattle.j39_vehicle_laws.specs.Carrying.{AreAllCopies, AreAllExact, Brings, BringsAnother, EachForward, GoesBy, another, group_of_point, is_exact, itself}
 use Rattle.j39_vehicle_laws.specs.Carrying.{more, none, nothing, signal_at}
 use Rattle.j39_vehicle_laws.specs.Faithful.{KeepsContents, signal_of}

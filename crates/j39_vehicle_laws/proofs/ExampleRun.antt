@@ -18,7 +18,7 @@ use Rattle.j39_vehicle_findings.specs.ForwardEnds.{ComesAfter, FollowsAt, IsAmon
 use Rattle.j39_vehicle_findings.specs.Traces.{IsNeedFlow, is_from_origin, point_on, trace_end}
 use Rattle.j39_vehicle_findings.specs.VehicleFindings.{AreFindings}
 use Rattle.j39_vehicle_findings.proofs.PathLaws.{are_findings}
-use Rattle.j39_vehicle_laws.specs.Gateways.{HasMessage}
+use Rattle.j39_vehicle_laws.specs.HandedOn.{HasMessage}
 use Rattle.j39_vehicle_laws.specs.Carrying.{AreAllExact, more, none}
 use Rattle.j39_vehicle_laws.specs.Reading.{reading}
 use Rattle.j39_vehicle_laws.specs.Forwarding.{ForwardedMessage, needed_message}

@@ -3,7 +3,7 @@ pub mod Copied
 pub mod Example
 pub mod ExampleRun
 pub mod Forwarding
-pub mod Gateways
+pub mod HandedOn
 pub mod Hops
 pub mod Indexes
 pub mod Multiples

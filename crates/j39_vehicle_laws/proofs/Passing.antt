@@ -18,7 +18,7 @@ use Rattle.j39_world.specs.World.{World, all_off}
 use Rattle.j39_run_laws.proofs.Reports.SenderSteps.{among_one}
 use Rattle.j39_vehicle.specs.declared.vehicle.Vehicle.{Vehicle}
 use Rattle.j39_vehicle.specs.declared.vehicle.bus_plan.BusPlan.{BusPlan}
-use Rattle.j39_vehicle_laws.specs.Gateways.{HasMessage}
+use Rattle.j39_vehicle_laws.specs.HandedOn.{HasMessage}
 use Rattle.j39_vehicle_laws.specs.Passing.{CrossesBus, IsPassedOn, WasReportedIn, IsSpared, IsSparedAlone, IsSparedAnswered, at_first, by_gateway}
 use Rattle.j39_vehicle_laws.specs.BusRuns.{WasHeard, BusMessage, flow_on_bus}
 

@@ -13,7 +13,7 @@ use Rattle.j39_vehicle_findings.specs.Buses.{flows_on}
 use Rattle.j39_vehicle_findings.specs.ForwardEnds.{Feeds, IsInput, input_flows}
 use Rattle.j39_vehicle_findings.specs.declared.point.FlowAt.{FlowAt}
 use Rattle.j39_vehicle_findings.specs.declared.point.Point.{Point}
-use Rattle.j39_vehicle_laws.specs.Gateways.{HasMessage}
+use Rattle.j39_vehicle_laws.specs.HandedOn.{HasMessage}
 use Rattle.j39_vehicle_laws.specs.Faithful.{KeepsContents}
 
 -- ---- messages

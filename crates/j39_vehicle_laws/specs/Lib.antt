@@ -3,7 +3,7 @@ pub mod Carrying
 pub mod Copied
 pub mod Faithful
 pub mod Forwarding
-pub mod Gateways
+pub mod HandedOn
 pub mod Passing
 pub mod Reading
 pub mod Unaltered

@@ -8,7 +8,7 @@ use Rattle.j39_signal.specs.declared.state.State.{State}
 use Rattle.j39_signal.specs.declared.state.State.TheVariants.{Value, Absent}
 use Rattle.j39_network.specs.SoundSignals.{unset_state}
 use Rattle.j39_vehicle_findings.specs.Matching.{first_value, last_value}
-use Rattle.j39_vehicle_laws.specs.Gateways.{AreOneValue}
+use Rattle.j39_vehicle_laws.specs.HandedOn.{AreOneValue}
 
 -- what a signal reads in a message: one that doesn't end within the message is absent
 abbrev pub reading : SignalParts → List ℕ → State

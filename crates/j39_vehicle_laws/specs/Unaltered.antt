@@ -9,7 +9,7 @@ use Rattle.j39_vehicle.specs.declared.vehicle.Vehicle.{Vehicle}
 use Rattle.j39_vehicle.specs.declared.vehicle.places.UnitAt.{UnitAt}
 use Rattle.j39_vehicle.specs.declared.vehicle.vehicle_need.VehicleNeed.{VehicleNeed}
 use Rattle.j39_vehicle_findings.specs.Traces.{IsNeedFlow, flows_of_need, point_on}
-use Rattle.j39_vehicle_laws.specs.Gateways.{AreOneValue}
+use Rattle.j39_vehicle_laws.specs.HandedOn.{AreOneValue}
 use Rattle.j39_vehicle_laws.specs.Carrying.{AreAllCopies, AreAllExact, Brings, signal_at}
 use Rattle.j39_vehicle_laws.specs.Reading.{HasNoValue, reading}
 use Rattle.j39_vehicle_laws.specs.BusRuns.{WasBegun, WasReported, BusMessage, VehicleRun, flow_on_bus}

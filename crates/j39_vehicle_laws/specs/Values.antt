@@ -4,7 +4,7 @@ use Rattle.j39_signal.specs.Parts.{SignalParts}
 use Rattle.j39_signal.specs.State.{state_of}
 use Rattle.j39_signal.specs.declared.state.State.TheVariants.{Value}
 use Rattle.j39_vehicle_findings.specs.Matching.{CanStandFor}
-use Rattle.j39_vehicle_laws.specs.Gateways.{AreOneValue}
+use Rattle.j39_vehicle_laws.specs.HandedOn.{AreOneValue}
 use Rattle.j39_vehicle_laws.specs.Reading.{IsValueOf}
 
 -- each value of s is one of t's

@@ -8,8 +8,8 @@ ghost use Rattle.j39_network.specs.declared.plan.group_plan.GroupPlan.{GroupPlan
 ghost use Rattle.j39_signal.specs.Parts.{SignalParts};
 ghost use Rattle.j39_world.specs.Sound.{AreReportsSound};
 ghost use Rattle.j39_world.specs.World.{World};
-ghost use Rattle.j39_vehicle_laws.specs.Gateways.{Forwarded, Gateway, IsFaithful, IsFromOrigin, ReadsAsBefore};
-ghost use Rattle.j39_vehicle_laws.specs.Gateways.{forwarded_bytes, Link, AreLinks, IsFromFirst};
+ghost use Rattle.j39_vehicle_laws.specs.HandedOn.{Forwarded, Gateway, IsFaithful, IsFromOrigin, ReadsAsBefore};
+ghost use Rattle.j39_vehicle_laws.specs.HandedOn.{forwarded_bytes, Link, AreLinks, IsFromFirst};
 
 /// What a unit reports of what a gateway hands on carries what was begun on the other bus, where reports are sound on
 /// both (`begun`), and so behind however many gateways (`at_last`); and a signal that goes into another one reads there

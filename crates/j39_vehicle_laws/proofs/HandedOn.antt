@@ -11,8 +11,8 @@ use Rattle.j39_signal.specs.Parts.{SignalParts}
 use Rattle.j39_world.specs.Sound.{AreReportsSound, IsSubsequence, reported}
 use Rattle.j39_world.specs.Transfers.{Begun}
 use Rattle.j39_world.specs.World.{World}
-use Rattle.j39_vehicle_laws.specs.Gateways.{HasMessage, Among, Gateway, IsFaithful, IsFromOrigin, Forwarded, forwarded_bytes, ReadsAsBefore, Link, AreLinks}
-use Rattle.j39_vehicle_laws.specs.Gateways.{last_link, carried_over, IsFromFirst}
+use Rattle.j39_vehicle_laws.specs.HandedOn.{HasMessage, Among, Gateway, IsFaithful, IsFromOrigin, Forwarded, forwarded_bytes, ReadsAsBefore, Link, AreLinks}
+use Rattle.j39_vehicle_laws.specs.HandedOn.{last_link, carried_over, IsFromFirst}
 
 -- what is one of a part is one of the whole
 pub among_whole : (m : Begun) (xs ys : List Begun) → IsSubsequence xs ys → (earlier later : List Begun) → xs ≡ earlier ++ m ∷ later → Among ys m
