@@ -19,11 +19,12 @@ use j39_run_laws::{
     unanswered_messages_arrive,
 };
 
-/// Of a vehicle without findings, in each run of it in which gateways keep what they have to keep of the messages
-/// that they send on: a message of a flow of a need that the need's unit reports carries, forward by forward along
-/// its trace, one that was begun by the unit from which the need wants it, or none. Where only copies are on the
-/// way its bytes are the same. Where all that goes into signals on the way is copied or exact, the need's signal
-/// reads no value in it, or the one that the trace's last signal reads in the message of the origin.
+/// Of a vehicle without findings, in each run of it, whatever the serial numbers of its boxes are, in which gateways
+/// keep what they have to keep of the messages that they send on: a message of a flow of a need that the need's unit
+/// reports carries, forward by forward along its trace, one that was begun by the unit from which the need wants it, or
+/// none. Where only copies are on the way its bytes are the same. Where all that goes into signals on the way is copied
+/// or exact, the need's signal reads no value in it, or the one that the trace's last signal reads in the message of the
+/// origin.
 pub fn nothing_is_altered()
     ensures { (v : Vehicle) → AreFindings v [] → IsUnaltered v }
 {
@@ -51,8 +52,9 @@ pub fn readings_are_states()
     ensures { ReadingsAreStates }
 {}
 
-/// Where on each bus of its trace a message is begun and nothing of it is lost, and each gateway begins it once its
-/// unit has reported the message before, the unit that it is for reports it.
+/// Where on each bus of its trace, of the plan's boxes or of those of a vehicle of the type, a message is begun and
+/// nothing of it is lost, and each gateway begins it once its unit has reported the message before, the unit that it is
+/// for reports it.
 pub fn passed_messages_arrive()
     ensures { (v : Vehicle) → PassedMessagesArrive v }
 {

@@ -19,7 +19,7 @@ use Rattle.j39_vehicle_times.specs.TimeFindings.{AreTimeFindings}
 use Rattle.j39_vehicle_times.specs.Times.{age, behind_at, flow_at, timing_on, us_of_ms}
 use Rattle.j39_vehicle_times.specs.declared.bus_delays.Delays.{Delays}
 use Rattle.j39_vehicle_time_laws.specs.ForwardedStreams.{AreOtherwiseKept}
-use Rattle.j39_vehicle_time_laws.specs.KeptBuses.{AreSeenUntil}
+use Rattle.j39_vehicle_time_laws.specs.KeptBuses.{AreKeptBuses, AreSeenUntil}
 use Rattle.j39_vehicle_time_laws.specs.Prompt.{ArePrompt, HaveOwnReleases, IsSentOn, SayWhatIsSo}
 use Rattle.j39_vehicle_time_laws.specs.Seen.{SeenBuses, clock_on}
 use Rattle.j39_vehicle_time_laws.specs.YoungValues.{IsBroughtYoung, KeepPauses}
@@ -72,3 +72,9 @@ AreForwardedPausesKept v delays = (seen : SeenBuses) (by : ℕ) (at : FlowAt) (t
     (clock_on v seen at.bus) first) by
     → time_of (clock_on v seen at.bus) (last + 1) + time ≤ by
     → KeepsComing (seen at.bus).schedule (seen at.bus).planned (seen at.bus).of at.flow (bits_of_ms timing ms) first last
+
+-- ---- streams
+
+-- the planned frames of each of its buses keep to what the plan of this bus takes for granted of them, those that are sent on directly too
+abbrev pub AreVehicleStreamsKept : Vehicle → Delays → Type 0
+AreVehicleStreamsKept v delays = (seen : SeenBuses) (by : ℕ) → IsPromptVehicle v delays seen by → AreKeptBuses v delays seen
