@@ -1,9 +1,11 @@
 pub mod Between
+pub mod ContestTimes
 pub mod Ends
 pub mod FittingFlows
 pub mod Identifiers
 pub mod Logged
 pub mod Logs
+pub mod Makes
 pub mod NamesTold
 pub mod Replies
 pub mod SentFrames

@@ -3,3 +3,5 @@ pub mod KeepsEnds
 pub mod Telling
 pub mod ToldFlows
 pub mod VehicleRuns
+pub mod ContestTimes
+pub mod Makes

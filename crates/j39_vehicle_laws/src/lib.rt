@@ -10,6 +10,8 @@ ghost use Rattle.j39_vehicle_findings.specs.VehicleFindings.{AreFindings};
 ghost use Rattle.j39_vehicle_laws.specs.Copied.{CopiesCanBeSent, ReadingsAreStates};
 ghost use Rattle.j39_vehicle_laws.specs.Forwarding.{ForwardedMessage};
 ghost use Rattle.j39_vehicle_laws.specs.Passing.{PassedMessagesArrive};
+ghost use Rattle.j39_vehicle_laws.specs.PlainForwards.{CopiesHaveRecords, InputsAreNamed, SharedQueuesKeepOrder};
+ghost use Rattle.j39_vehicle_laws.specs.PlainForwards.{SignalsMeanTheSame, SourcesAreOne};
 ghost use Rattle.j39_vehicle_laws.specs.Unaltered.{IsUnaltered};
 ghost use Rattle.j39_vehicle_laws.specs.Values.{HavingIsOfValues, OneValueIsPassedOn};
 
@@ -44,6 +46,18 @@ pub fn values_are_passed_on()
 /// it sends: by its length, and by what tells groups of one PGN apart.
 pub fn copies_can_be_sent()
     ensures { (v : Vehicle) → AreFindings v [] → CopiesCanBeSent v }
+{}
+
+/// Of a vehicle without findings, in the words of its file. The first input of a forward is of the group and of the unit
+/// that it names, and none of the gateway's own (`inputs`; of each vehicle). What is sent has one source for each of its
+/// signals (`sources`), which has the same unit of measurement and the same number (`meanings`), and records as far apart
+/// (`records`). And of the gateway's units on one bus none has a queue without order where there are two (`queues`).
+pub fn forwards_are_as_named()
+    ensures inputs { (v : Vehicle) → InputsAreNamed v }
+    ensures records { (v : Vehicle) → AreFindings v [] → CopiesHaveRecords v }
+    ensures meanings { (v : Vehicle) → AreFindings v [] → SignalsMeanTheSame v }
+    ensures sources { (v : Vehicle) → AreFindings v [] → SourcesAreOne v }
+    ensures queues { (v : Vehicle) → AreFindings v [] → SharedQueuesKeepOrder v }
 {}
 
 /// What a signal reads in a message is its state there, where the message is as long as its group's are and the
