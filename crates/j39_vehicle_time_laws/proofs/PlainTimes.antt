@@ -26,7 +26,7 @@ use Rattle.j39_vehicle_time_laws.specs.PlainTimes.{AgesAreUnasked, AnswersStayAn
 nothing_timed : (v : Vehicle) (delays : Delays) → AreTimeFindings v delays [] → (finding : TimeFinding) → ¬ TimeHolds v delays finding
 nothing_timed v delays clean finding holds = let (n, less, is) = clean.complete finding holds in absurd (omega arith)
 
-ends_of : (v : Vehicle) (place : ℕ) (n : Forward) (input output : FlowPlan) → GoesDirectly v place n input output → Ends
+abbrev ends_of : (v : Vehicle) (place : ℕ) (n : Forward) (input output : FlowPlan) → GoesDirectly v place n input output → Ends
 ends_of v place n input output goes = record { at = goes.at; input = input; output = output }
 
 between : (v : Vehicle) (place : ℕ) (n : Forward) (input output : FlowPlan) (goes : GoesDirectly v place n input output) (R : Ends → Type 0)
@@ -52,7 +52,7 @@ answers_stay_answers v delays clean place n input output goes asked = elim (case
 ]
 
 known_or_not : (most : ℕ) (o : Option ℕ) → IsKnownWithin most o ⊎ (¬ IsKnownWithin most o)
-known_or_not most None = inr (λ known. none-some _ known.1.0)
+known_or_not most None = inr (λ known. none-some _ known.1)
 known_or_not most (Some q) = elim (cases_lt most q) [
   | inl above ↦ inr (λ known. let (m, is, few) = known in let same = same_Some _ _ is in absurd (omega (arith, above, same, few)))
   | inr below ↦ inl (q, refl, omega (arith, below))
@@ -86,7 +86,7 @@ comes_again v (suc steps) at pause is =
     and_then_some (λ flow. option_map_or (λ n. option_and_then (interval_by v steps) (first_input_at v n)) (direct_feeder v at) (pause_us flow))
     (unasked_at v at) pause is in (flow, its)
 
-unless_asked : FlowPlan → Option FlowPlan
+abbrev unless_asked : FlowPlan → Option FlowPlan
 unless_asked flow = if flow.on_request then None else Some flow
 
 by_itself : (flow other : FlowPlan) → unless_asked flow ≡ Some other → flow.on_request ≡ false
