@@ -10,11 +10,11 @@ from turned import Pair, Turn
 WAIT = "laws::contests_last_a_wait"
 KINDS = "laws::kinds_are_of_fields"
 PAIRS = (
-    Pair("a contest lasts 25 ms", "j39_follow", ("address::contest::is_running",), "j39_log_laws", WAIT, (
+    Pair("a contest lasts 25 ms", "j39_follow", ("address::contest::is_running",), "j39_follow", WAIT, (
         Turn("specs/Contests.antt", "claim_wait = 250000", "claim_wait = 25000"),
         Turn("src/address/contest.rt", "const CLAIM_WAIT: u64 = 250_000;", "const CLAIM_WAIT: u64 = 25_000;"),
     )),
-    Pair("nobody is silent in a contest", "j39_follow", ("address::contest::is_heard",), "j39_log_laws", WAIT, (
+    Pair("nobody is silent in a contest", "j39_follow", ("address::contest::is_heard",), "j39_follow", WAIT, (
         Turn("specs/Contests.antt", "IsHeard taken now = (since : ℕ) → taken ≡ Some since → since + claim_wait ≤ now",
              "IsHeard taken now = (since : ℕ) → taken ≡ Some since → since ≡ since"),
         Turn("specs/inside/Contesting.antt", "is_heard (Some since) now = nat_le (since + claim_wait) now", "is_heard (Some since) now = true"),

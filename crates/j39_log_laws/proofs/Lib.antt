@@ -1,5 +1,4 @@
 pub mod Between
-pub mod ContestTimes
 pub mod Ends
 pub mod FittingFlows
 pub mod Identifiers

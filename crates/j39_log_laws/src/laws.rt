@@ -11,7 +11,6 @@ ghost use Rattle.j39_world.specs.SoundPlan.{IsSending};
 ghost use Rattle.j39_network.specs.Staying.{IsAloneThere};
 ghost use Rattle.j39_world.specs.World.{World, all_off};
 ghost use Rattle.j39_log_laws.specs.Between.{EachGoesBetweenUnits, EndsKeepAddresses, MessagesGoBetweenHolders};
-ghost use Rattle.j39_log_laws.specs.ContestTimes.{ContestsLastAWait};
 ghost use Rattle.j39_log_laws.specs.Makes.{KindsAreOfFields};
 ghost use Rattle.j39_log_laws.specs.Telling.{EachIsTold, FramesTellHolders, HaveOwnNumbers, IsHolderTold};
 ghost use Rattle.j39_log_laws.specs.ToldFlows.{AreToldAsBegun, EachClaims};
@@ -93,13 +92,6 @@ pub fn types_tell_runs_of_vehicles()
     ensures begun { (plan vehicle : Plans) (steps : List Steps) (w : World) → IsVehicleOf plan vehicle → Clean plan
         → EachClaims plan
         → Run vehicle all_off steps w → AreVehiclesToldAsBegun plan vehicle w }
-{}
-
-/// Where an address of 128 to 247 is claimed that another unit held, this one is taken to be behind it for 250 ms by the
-/// log's time, unless it took the address by a claim less than 250 ms ago itself; before and behind that time it is
-/// whoever stands there.
-pub fn contests_last_a_wait()
-    ensures { ContestsLastAWait }
 {}
 
 /// Two NAMEs are of one kind exactly where all their fields are the same but the identity number.

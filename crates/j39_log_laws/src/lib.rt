@@ -4,7 +4,6 @@
 mod laws;
 
 pub use laws::{
-    contests_last_a_wait, ends_keep_addresses, frames_tell_holders, kinds_are_of_fields,
-    messages_go_between_holders, quiet_frames_tell_holders, single_frames_are_told_as_begun,
-    types_tell_runs_of_vehicles,
+    ends_keep_addresses, frames_tell_holders, kinds_are_of_fields, messages_go_between_holders,
+    quiet_frames_tell_holders, single_frames_are_told_as_begun, types_tell_runs_of_vehicles,
 };

@@ -8,7 +8,7 @@ use Rattle.j39_follow.specs.declared.address.contest.Contention.{Contention}
 use Rattle.j39_follow.specs.declared.address.contest.Contest.{Contest}
 use Rattle.j39_follow.specs.declared.address.who.Who.{Who}
 use Rattle.j39_follow.proofs.Addresses.Contending.{one_contention}
-use Rattle.j39_log_laws.specs.ContestTimes.{ContestsLastAWait, IsToldWithin, MaySendInContest}
+use Rattle.j39_follow.specs.ContestTimes.{ContestsLastAWait, IsToldWithin, MaySendInContest}
 
 -- the last line has one time
 one_time : (log : List Timed) (s t : Option ℕ) → IsNow log s → IsNow log t → s ≡ t
