@@ -52,16 +52,23 @@ def pairs() -> Any:
         sys.path.remove(f"{TOP}/gate")
 
 
+def words(text: str) -> set[str]:
+    """The words of a text, but for those of comments."""
+    return set(re.findall(r"[a-zA-Z_]\w*", re.sub(r"(//|--).*", "", text)))
+
+
 class Pairs(unittest.TestCase):
     def test_pairs_are_of_texts_and_names_that_stand_in_their_files(self) -> None:
+        """A name that a pair brings into a file is one that it imports there."""
         module = pairs()
-        self.assertGreaterEqual(len(module.PAIRS), 14)
+        self.assertGreaterEqual(len(module.PAIRS), 39)
+        self.assertEqual(len({pair.name for pair in module.PAIRS}), len(module.PAIRS))
         for pair in module.PAIRS:
             for turn in pair.turns:
-                code = text_of(f"{TOP}/crates/{module.CRATE}/{turn.file}")
+                code = text_of(f"{TOP}/crates/{pair.crate}/{turn.file}")
                 self.assertEqual(code.count(turn.old), 1, (pair.name, turn.file))
-                known = set(re.findall(r"\w+", re.sub(r"(//|--).*", "", code)))
-                self.assertEqual([word for word in re.findall(r"[a-zA-Z_]\w*", turn.new) if word not in known], [], (pair.name, turn.file))
+                brought = [other.new for other in pair.turns if other.file == turn.file and other.new.startswith("use ")]
+                self.assertEqual(sorted(words(turn.new) - words(code).union(*map(words, brought))), [], (pair.name, turn.file))
 
 
 if __name__ == "__main__":

@@ -49,6 +49,14 @@ class End(InFolder):
     def test_a_file_that_is_not_there(self) -> None:
         self.assertEqual(self.main("lambda: open('/none')"), (4, "tool: /none: No such file or directory\n"))
 
+    def test_a_run_sends_so_many_frames_at_most(self) -> None:
+        """Each `ask` sends a request and a claim: the 50,001st is the first behind 100,000 frames."""
+        schedule = self.write("long.schedule", "up A\n" + 50_010 * "ask A\n")
+        status, text = program.call(["run", example("address_contest.toml"), schedule])
+        lines = text.splitlines()
+        self.assertEqual((status, lines.count("18EEFF80#0100000000000080"), lines.count("18EAFF80#00EE00")), (1, 50_001, 50_000))
+        self.assertEqual(lines[100_001:], ["refused line 50002 TooManyFrames", "unit A address 128", "unit B off", "settled"])
+
     def test_a_closed_pipe(self) -> None:
         for words in CALLS:
             reader, writer = os.pipe()

@@ -4,6 +4,7 @@ pub mod ChangedHands
 pub mod Claimed
 pub mod Contending
 pub mod ContestOrigins
+pub mod ContestTimes
 pub mod Contested
 pub mod Heard
 pub mod HolderLaws

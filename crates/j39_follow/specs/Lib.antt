@@ -1,5 +1,6 @@
 pub mod Alike
 pub mod ContestOrigins
+pub mod ContestTimes
 pub mod Contests
 pub mod CountedOnce
 pub mod Fits

@@ -1,6 +1,7 @@
 //! Laws of what frames tell of addresses, and of the text of a log.
 ghost use Rattle.j39_follow.specs.Alike.{FollowAndReadSeeAlike};
 ghost use Rattle.j39_follow.specs.ContestOrigins.{ContestsAreShort};
+ghost use Rattle.j39_follow.specs.ContestTimes.{ContestsLastAWait};
 ghost use Rattle.j39_follow.specs.CountedOnce.{NeedsAreMetOnce, RequestsAreAnsweredOnce};
 ghost use Rattle.j39_follow.specs.FollowText.{LogHasOneFollowText};
 ghost use Rattle.j39_follow.specs.GroupLines.{GroupsAreToldAlike};
@@ -49,6 +50,13 @@ pub fn types_tell_vehicles()
 /// claim it first.
 pub fn contests_are_short()
     ensures { ContestsAreShort }
+{}
+
+/// Where an address of 128 to 247 is claimed that another unit held, this one is taken to be behind it for 250 ms by the
+/// log's time, unless it took the address by a claim less than 250 ms ago itself; before and behind that time it is
+/// whoever stands there.
+pub fn contests_last_a_wait()
+    ensures { ContestsLastAWait }
 {}
 
 /// No message counts twice at the end of a log. Each time that a request is asked counts one answer or one refusal at

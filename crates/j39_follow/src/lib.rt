@@ -17,7 +17,8 @@ mod unit_report;
 pub use address::who::Who;
 pub use flow::sending::{Aim, Sending, flow_of, group_of};
 pub use laws::{
-    a_followed_log_has_one_text, contests_are_short, follow_and_read_see_alike,
-    groups_are_told_alike, holders_are_one_to_one, messages_count_once, names_are_of_their_units,
+    a_followed_log_has_one_text, contests_are_short, contests_last_a_wait,
+    follow_and_read_see_alike, groups_are_told_alike, holders_are_one_to_one, messages_count_once,
+    names_are_of_their_units,
 };
 pub use log_text::follow_text;

@@ -222,9 +222,9 @@ pub fn plans_can_be_kept_whole()
         → CanSendAll plan timing f g r to_all.sender packets more }
 {}
 
-/// What `load` counts is what the bus carries: on each bus that keeps to a clean plan in the plan's own words no more
-/// bits are queued than `total_load` a second, and a number more that is the same however long the bus runs; so it is
-/// with the bits of damaged attempts and of the error frames behind them.
+/// What `load` counts bounds the planned frames of a bus: on each bus that keeps to a clean plan in the plan's own words
+/// no more bits of them are queued than `total_load` a second, and a number more that is the same however long the bus
+/// runs; so it is with the bits of damaged attempts and of the error frames behind them.
 pub fn loads_hold_in_the_long_run()
     ensures { (plan : Plans) (timing : Timings) (stays : PlannedUnits → Bool) → Clean plan
         → DecidesWhoStays plan stays
@@ -246,7 +246,8 @@ pub fn kept_plans_are_in_time()
 {}
 
 /// Of such a plan no receiver gives up a long message to all that has a deadline, on each bus that keeps to it in the
-/// plan's own words, whether units keep order or not: each packet has ended within 750 ms of the frame before.
+/// plan's own words, whether units keep order or not, where each packet is queued within `broadcast_gap_most` of the end
+/// of the frame before: it has ended within 750 ms of that end.
 pub fn kept_plans_lose_no_receiver()
     ensures { (plan : Plans) (timing : Timings) → Clean plan → AreLoadFindings plan (Some timing) []
         → AreNotGivenUp plan timing }

@@ -4,6 +4,7 @@ pub mod FittingFlows
 pub mod Identifiers
 pub mod Logged
 pub mod Logs
+pub mod Makes
 pub mod NamesTold
 pub mod Replies
 pub mod SentFrames

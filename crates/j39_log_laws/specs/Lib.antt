@@ -3,3 +3,4 @@ pub mod KeepsEnds
 pub mod Telling
 pub mod ToldFlows
 pub mod VehicleRuns
+pub mod Makes

@@ -11,6 +11,7 @@ ghost use Rattle.j39_world.specs.SoundPlan.{IsSending};
 ghost use Rattle.j39_network.specs.Staying.{IsAloneThere};
 ghost use Rattle.j39_world.specs.World.{World, all_off};
 ghost use Rattle.j39_log_laws.specs.Between.{EachGoesBetweenUnits, EndsKeepAddresses, MessagesGoBetweenHolders};
+ghost use Rattle.j39_log_laws.specs.Makes.{KindsAreOfFields};
 ghost use Rattle.j39_log_laws.specs.Telling.{EachIsTold, FramesTellHolders, HaveOwnNumbers, IsHolderTold};
 ghost use Rattle.j39_log_laws.specs.ToldFlows.{AreToldAsBegun, EachClaims};
 ghost use Rattle.j39_log_laws.specs.VehicleRuns.{AreVehiclesToldAsBegun, FramesTellOfVehicle};
@@ -91,4 +92,9 @@ pub fn types_tell_runs_of_vehicles()
     ensures begun { (plan vehicle : Plans) (steps : List Steps) (w : World) → IsVehicleOf plan vehicle → Clean plan
         → EachClaims plan
         → Run vehicle all_off steps w → AreVehiclesToldAsBegun plan vehicle w }
+{}
+
+/// Two NAMEs are of one kind exactly where all their fields are the same but the identity number.
+pub fn kinds_are_of_fields()
+    ensures { KindsAreOfFields }
 {}

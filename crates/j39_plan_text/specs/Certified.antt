@@ -18,7 +18,8 @@ pub record IsSoundInTime (plan : Plan) : Type 0 where
   -- what holds in every run of the plan, and of its signals
   pub sound : IsSound plan
   -- each flow whose messages go in one frame has a delay within its limit, which bounds its frames' time in every schedule of such flows,
-  -- whether units keep order or don't; and each with long messages to all and a written deadline has a time within it, which bounds theirs
+  -- whether units keep order or don't; and each with long messages to all and a written deadline has a time within it, which bounds that of each
+  -- message at whose release none of its flow waits or is under way
   pub in_time : (timing : Timing) → plan.timing ≡ Some timing → ArePlannedFramesInTime plan timing
   -- of each need that asks for an age some flow that meets it brings nothing older while it keeps its `pause`, in every schedule of such flows
   pub fresh : (timing : Timing) → plan.timing ≡ Some timing → AreNeedsFresh plan timing
@@ -26,11 +27,11 @@ pub record IsSoundInTime (plan : Plan) : Type 0 where
   -- were received last, which are no older than that
   pub read : (timing : Timing) → plan.timing ≡ Some timing → AreNeedsRead plan timing
   -- in the plan's own words: on every bus that keeps to it each frame that is a whole message is sent in time, also where frames are damaged, and
-  -- each value that is needed arrives within its age
+  -- each value that is needed arrives within its age, while the flow that brings it keeps its `pause`
   pub kept : (timing : Timing) → plan.timing ≡ Some timing → AreFramesInTime plan timing
   pub damaged : (timing : Timing) → plan.timing ≡ Some timing → AreInTimeWithErrors plan timing
   pub damaged_in_any_order : (timing : Timing) → plan.timing ≡ Some timing → AreInTimeWithErrorsInAnyOrder plan timing
-  -- nor does a receiver give up a long message to all that has a deadline
+  -- nor does a receiver give up a long message to all that has a deadline, where each packet is queued soon enough behind the frame before
   pub receivers : (timing : Timing) → plan.timing ≡ Some timing → AreNotGivenUp plan timing
   pub values : (timing : Timing) → plan.timing ≡ Some timing → AreValuesInTime plan timing
 

@@ -8,7 +8,7 @@ use Rattle.j39_id.specs.Lines.{at_start, is_line_feed, line_of, told}
 use Rattle.j39_run.specs.RunText.{EndsAt, IsWithin, IsSameForContinuations, IsSameOnceTold}
 use Rattle.j39_schedule.specs.Schedule.{Reading, line_order, read_as, readings_of}
 use Rattle.j39_run.specs.declared.halt.Halt.{Halt}
-use Rattle.j39_run.specs.declared.halt.Halt.TheVariants.{End, Step as AtStep, Line as AtLine}
+use Rattle.j39_run.specs.declared.halt.Halt.TheVariants.{End, Step as AtStep, Line as AtLine, Full}
 use Rattle.j39_schedule.proofs.Splits.{lines-append}
 use Rattle.j39_stream.proofs.LineReading.{lines_from}
 
@@ -44,12 +44,15 @@ module _ (plan : Plan) (alike xs ys some others : List Reading) (some_are : some
 
   same_end : (halt : Halt) (w : World) → IsWithin (length alike) halt → EndsAt plan some w halt → EndsAt plan others w halt
   same_end End w inside ends = absurd inside
-  same_end (AtStep place cause) w inside (orders, step, behind, is, count, ran, refused) =
+  same_end (AtStep place cause) w inside (orders, step, behind, is, count, ran, room, refused) =
       let (rest, same) = same_until (map read_as orders) (read_as (Some step)) behind is (omega (arith, length-map orders read_as)) in
-      (orders, step, rest, same, count, ran, refused)
+      (orders, step, rest, same, count, ran, room, refused)
   same_end (AtLine place fault) w inside (orders, behind, is, count, ran) =
       let (rest, same) = same_until (map read_as orders) (Err fault) behind is (omega (arith, length-map orders read_as)) in
       (orders, rest, same, count, ran)
+  same_end (Full place) w inside (orders, step, behind, is, count, ran, full) =
+      let (rest, same) = same_until (map read_as orders) (read_as (Some step)) behind is (omega (arith, length-map orders read_as)) in
+      (orders, step, rest, same, count, ran, full)
 
 pub same_for_continuations : IsSameForContinuations
 same_for_continuations plan choosers front more other halt text inside (opens, (w, view, ends, shows, is)) =

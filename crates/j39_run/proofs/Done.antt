@@ -1,5 +1,5 @@
 -- What was done of a schedule, line after line, and the text of it.
-use Rattle.std.proofs.Common.{◌≡◌, ◌↔◌, IsTrue, ℕ, ◌+◌, Bool, List, [], ◌∷◌, ◌++◌, length, map, drop, refl, sym, ap, ◌∙◌, subst, append_assoc, Option, Some}
+use Rattle.std.proofs.Common.{◌≡◌, ◌↔◌, IsTrue, ℕ, ◌+◌, ◌≤◌, Bool, List, [], ◌∷◌, ◌++◌, length, map, drop, refl, sym, ap, ◌∙◌, subst, append_assoc, Option, Some}
 use Rattle.std.proofs.Common.{None, Err}
 use Rattle.std.proofs.lemmas.List.{append-nil, length-append, length-map, map-append}
 use Rattle.std.specs.List.{range_with_len}
@@ -11,18 +11,18 @@ use Rattle.j39_world.specs.declared.step_error.StepError.{StepError}
 use Rattle.j39_bus.specs.BusState.{BusState, undelivered}
 use Rattle.j39_network.specs.PlannedUnits.{planned_unit}
 use Rattle.j39_bus.specs.Stations.{station_at}
-use Rattle.j39_world.specs.Run.{StepsTo, RunsThrough, refusal}
+use Rattle.j39_world.specs.Run.{StepsTo, refusal}
 use Rattle.j39_world.specs.Sent.{sent_of}
 use Rattle.j39_world.specs.Sound.{IsQuiet}
 use Rattle.j39_bus.specs.Stands.{Stands}
 use Rattle.j39_world.specs.World.{Stations, World, all_off}
 use Rattle.j39_schedule.specs.Schedule.{Reading, line_order, read_as, readings_of}
 use Rattle.j39_schedule.specs.declared.line_fault.LineFault.{LineFault}
-use Rattle.j39_run.specs.RunText.{EndsAt, IsBusText, closing_text, end_text, sent_lines, steps_of}
+use Rattle.j39_run.specs.RunText.{EndsAt, IsBusText, IsFull, RunsWithin, closing_text, end_text, most_frames, sent_lines, steps_of}
 use Rattle.j39_run.specs.Views.{Shows, View, unit_state}
 use Rattle.j39_run.specs.declared.halt.Halt.{Halt}
-use Rattle.j39_run.specs.declared.halt.Halt.TheVariants.{End, Step as AtStep, Line as AtLine}
-use Rattle.j39_run.specs.inside.Doing.{HasDone, HasShown}
+use Rattle.j39_run.specs.declared.halt.Halt.TheVariants.{End, Step as AtStep, Line as AtLine, Full}
+use Rattle.j39_run.specs.inside.Doing.{HasDone, HasSentAll, HasShown}
 use Rattle.j39_run.proofs.Frames.{lines_grow}
 use Rattle.j39_run.proofs.Quiet.{quiet_test}
 
@@ -33,10 +33,21 @@ steps-append [] ps = refl
 steps-append (None ∷ os) ps = steps-append os ps
 steps-append (Some step ∷ os) ps = ap (λ (l : List Step). step ∷ l) (steps-append os ps)
 
-runs-append : (plan : Plan) (w : World) (done : List Step) (mid : World) (more : List Step) (after : World) → RunsThrough plan w done mid
-    → RunsThrough plan mid more after → RunsThrough plan w (done ++ more) after
-runs-append plan w [] mid more after ran runs = subst (λ (v : World). RunsThrough plan v more after) ran runs
-runs-append plan w (s ∷ done) mid more after (next, may, goes, ran) runs = (next, may, goes, runs-append plan next done mid more after ran runs)
+runs-append : (plan : Plan) (w : World) (done : List Step) (mid : World) (more : List Step) (after : World) → RunsWithin plan w done mid
+    → RunsWithin plan mid more after → RunsWithin plan w (done ++ more) after
+runs-append plan w [] mid more after ran runs = subst (λ (v : World). RunsWithin plan v more after) ran runs
+runs-append plan w (s ∷ done) mid more after (next, room, may, goes, ran) runs = (next, room, may, goes, runs-append plan next done mid more after ran runs)
+
+-- the bus has sent what its world has
+sent_alike : (plan : Plan) (b : BusState) (w : World) → Stands b plan w → length w.frames ≡ length b.frames
+sent_alike plan b w s = ap (λ (v : World). length v.frames) s.world
+
+-- so there is room for a step in the one where there is in the other
+room_there : (plan : Plan) (b : BusState) (w : World) → Stands b plan w → ¬ HasSentAll b → ¬ IsFull w
+room_there plan b w s room full = room (subst (λ (n : ℕ). most_frames ≤ n) (sent_alike plan b w s) full)
+
+full_there : (plan : Plan) (b : BusState) (w : World) → Stands b plan w → HasSentAll b → IsFull w
+full_there plan b w s full = subst (λ (n : ℕ). most_frames ≤ n) (sym (sent_alike plan b w s)) full
 
 pub nothing_done : (plan : Plan) (b : BusState) → Stands b plan all_off → HasDone plan b [] 0 [] []
 unfolding sent_lines
@@ -52,7 +63,7 @@ nothing_done plan b s = record {
 
 -- one more line
 one_more : (plan : Plan) (old new : BusState) (ls : List Line) (l : Line) (order : Option Step) (place : ℕ) (written text more : List ℕ) (after : World)
-    → (h : HasDone plan old ls place written text) → line_order plan l ≡ read_as order → RunsThrough plan h.world (steps_of (order ∷ [])) after
+    → (h : HasDone plan old ls place written text) → line_order plan l ≡ read_as order → RunsWithin plan h.world (steps_of (order ∷ [])) after
     → Stands new plan after
     → written ++ more ≡ sent_lines new.frames → HasDone plan new (ls ++ l ∷ []) (place + 1) written more
 one_more plan old new ls l order place written text more after h is runs s shown = record {
@@ -62,7 +73,7 @@ one_more plan old new ls l order place written text more after h is runs s shown
       ∙ sym (map-append read_as h.orders (order ∷ []));
   count = length-append h.orders (order ∷ []) ∙ ap (λ (n : ℕ). n + 1) h.count;
   world = after;
-  ran = subst (λ (steps : List Step). RunsThrough plan all_off steps after) (sym (steps-append h.orders (order ∷ [])))
+  ran = subst (λ (steps : List Step). RunsWithin plan all_off steps after) (sym (steps-append h.orders (order ∷ [])))
       (runs-append plan all_off (steps_of h.orders) h.world (steps_of (order ∷ [])) after h.ran runs);
   stands = s;
   shown = shown;
@@ -73,11 +84,11 @@ pub blank_done : (plan : Plan) (b : BusState) (ls : List Line) (l : Line) (place
 blank_done plan b ls l place written text h is = one_more plan b b ls l None place written text text h.world h is refl h.stands h.shown
 
 pub step_done : (plan : Plan) (old new : BusState) (ls : List Line) (l : Line) (step : Step) (place : ℕ) (written text more : List ℕ)
-    → HasDone plan old ls place written text → line_order plan l ≡ read_as (Some step) → HasShown step old new text more
+    → HasDone plan old ls place written text → line_order plan l ≡ read_as (Some step) → ¬ HasSentAll old → HasShown step old new text more
     → HasDone plan new (ls ++ l ∷ []) (place + 1) written more
-step_done plan old new ls l step place written text more h is done =
+step_done plan old new ls l step place written text more h is room done =
     let (allowed, (after, leads, s)) = done.leads plan h.world h.stands in
-    one_more plan old new ls l (Some step) place written text more after h is (after, allowed, leads, refl) s
+    one_more plan old new ls l (Some step) place written text more after h is (after, room_there plan old h.world h.stands room, allowed, leads, refl) s
     (done.shown plan h.world h.stands written h.shown)
 
 -- the frames that a step sends are written behind those before them
@@ -172,10 +183,10 @@ module _ (plan : Plan) (b : BusState) (ls : List Line) (place : ℕ) (written te
 
   -- its step is refused
   pub step_refused : (input : List ℕ) (l : Line) (rest : List Line) (step : Step) (cause : StepError) → lines input ≡ (ls ++ l ∷ []) ++ rest
-      → line_order plan l ≡ read_as (Some step)
+      → line_order plan l ≡ read_as (Some step) → ¬ HasSentAll b
       → ((w : World) → Stands b plan w → refusal plan w step ≡ Some cause)
       → IsBusText plan input (AtStep place cause) (written ++ (text ++ closing_text plan view (AtStep place cause)))
-  step_refused input l rest step cause is good refuses =
+  step_refused input l rest step cause is good room refuses =
       text_at input (AtStep place cause) (
         h.orders,
         step,
@@ -184,5 +195,22 @@ module _ (plan : Plan) (b : BusState) (ls : List Line) (place : ℕ) (written te
             ∙ ap (λ (r : Reading). map read_as h.orders ++ r ∷ map (line_order plan) rest) good,
         h.count,
         h.ran,
+        room_there plan b h.world h.stands room,
         refuses h.world h.stands,
+      )
+
+  -- no more frames may be sent
+  pub step_too_many : (input : List ℕ) (l : Line) (rest : List Line) (step : Step) → lines input ≡ (ls ++ l ∷ []) ++ rest
+      → line_order plan l ≡ read_as (Some step) → HasSentAll b
+      → IsBusText plan input (Full place) (written ++ (text ++ closing_text plan view (Full place)))
+  step_too_many input l rest step is good full =
+      text_at input (Full place) (
+        h.orders,
+        step,
+        map (line_order plan) rest,
+        readings_at input l rest is
+            ∙ ap (λ (r : Reading). map read_as h.orders ++ r ∷ map (line_order plan) rest) good,
+        h.count,
+        h.ran,
+        full_there plan b h.world h.stands full,
       )

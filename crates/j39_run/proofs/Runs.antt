@@ -16,10 +16,10 @@ use Rattle.j39_stream.specs.declared.verdict.Verdict.TheVariants.{Done}
 use Rattle.j39_run.specs.RunText.{IsBusText, closing_text, is_running, verdict_of}
 use Rattle.j39_run.specs.Views.{Shows, View}
 use Rattle.j39_run.specs.declared.halt.Halt.{Halt}
-use Rattle.j39_run.specs.declared.halt.Halt.TheVariants.{End, Step as AtStep, Line as AtLine}
+use Rattle.j39_run.specs.declared.halt.Halt.TheVariants.{End, Step as AtStep, Line as AtLine, Full}
 use Rattle.j39_run.specs.declared.running.Running.{Running}
-use Rattle.j39_run.specs.inside.Doing.{HasDone, HasRun, HasRunTo, HasShown, HasStopped, IsRefusedStep, IsTextOfBus, RunsOn}
-use Rattle.j39_run.proofs.Done.{blank_done, end_done, line_refused, put_done, some_view, step_done, step_refused, unit_count}
+use Rattle.j39_run.specs.inside.Doing.{HasDone, HasRun, HasRunTo, HasSentAll, HasShown, HasStopped, IsRefusedStep, IsStepTooMany, IsTextOfBus, RunsOn}
+use Rattle.j39_run.proofs.Done.{blank_done, end_done, line_refused, put_done, some_view, step_done, step_refused, step_too_many, unit_count}
 
 -- ---- a line
 
@@ -28,6 +28,7 @@ runs_to_end : (halt : Halt) → is_running halt ≡ true → halt ≡ End
 runs_to_end End is = refl
 runs_to_end (AtStep place cause) is = cc is
 runs_to_end (AtLine place fault) is = cc is
+runs_to_end (Full place) is = cc is
 
 -- a run that goes on has done all lines that were read
 done_all : (plan : Plan) (b : BusState) (place : ℕ) (text : List ℕ) (halt : Halt) (told : List Line) (written : List ℕ) → halt ≡ End
@@ -81,27 +82,36 @@ module _ {X : Type 0} {P : X → Type 0} (plan : Plan) (old : Running X P) (goes
   }
 
   -- a line whose step was done
-  pub step_run : (line : Line) (step : Step) (bus : BusState) (text : List ℕ) → line_order plan line ≡ read_as (Some step)
+  pub step_run : (line : Line) (step : Step) (bus : BusState) (text : List ℕ) → line_order plan line ≡ read_as (Some step) → ¬ HasSentAll old.bus
       → HasShown step old.bus bus old.text text
       → RunsOn plan old (record old { bus = bus; text = text; place = old.place + 1 }) (line ∷ [])
-  step_run line step bus text reads shown = record {
+  step_run line step bus text reads room shown = record {
     run = λ told written run.
         subst (λ (h : Halt). HasRunTo plan bus (old.place + 1) text h (told ++ line ∷ []) written) (sym (runs_to_end old.halt goes))
-        (step_done plan old.bus bus told line step old.place written old.text text (done_of told written run) reads shown);
+        (step_done plan old.bus bus told line step old.place written old.text text (done_of told written run) reads room shown);
     count = omega arith;
   }
 
   -- a line whose step is refused
   pub refused_run : (line : Line) (step : Step) (bus : BusState) (halt : Halt) (cause : StepError) → line_order plan line ≡ read_as (Some step)
-      → bus ≡ old.bus → ((p : Plan) (w : World) → Stands old.bus p w → refusal p w step ≡ cause_of cause)
+      → ¬ HasSentAll old.bus → bus ≡ old.bus → ((p : Plan) (w : World) → Stands old.bus p w → refusal p w step ≡ cause_of cause)
       → (halt ≡ AtStep old.place cause) × (cause_of cause ≡ Some cause)
       → RunsOn plan old (record old { bus = bus; halt = halt }) (line ∷ [])
-  refused_run line step bus halt cause reads same refuses (at, told_so) = record {
+  refused_run line step bus halt cause reads room same refuses (at, told_so) = record {
     run = λ told written run.
         subst (λ (h : Halt). HasRunTo plan bus old.place old.text h (told ++ line ∷ []) written) (sym at)
         (subst (λ (b : BusState). HasStopped plan b (IsRefusedStep plan b cause) old.place old.text (told ++ line ∷ []) written) (sym same)
         (stops plan old.bus (IsRefusedStep plan old.bus cause) old.place old.text told line written (done_of told written run)
-        (step, reads, (λ w stands. refuses plan w stands ∙ told_so))));
+        (step, reads, room, (λ w stands. refuses plan w stands ∙ told_so))));
+    count = omega arith;
+  }
+
+  -- a line whose step would be one too many
+  pub full_run : (line : Line) (step : Step) → line_order plan line ≡ read_as (Some step) → HasSentAll old.bus
+      → RunsOn plan old (record old { halt = Full old.place }) (line ∷ [])
+  full_run line step reads full = record {
+    run = λ told written run.
+        stops plan old.bus (IsStepTooMany old.bus) old.place old.text told line written (done_of told written run) (step, reads, full);
     count = omega arith;
   }
 
@@ -118,6 +128,7 @@ stopped_on plan b place text End told more written stopped run = cc stopped
 stopped_on plan b place text (AtStep at cause) told more written stopped run = still_stopped plan b (IsRefusedStep plan b cause) at text told more written run
 stopped_on plan b place text (AtLine at fault) told more written stopped run =
     still_stopped plan b (λ reading. reading ≡ Err fault) at text told more written run
+stopped_on plan b place text (Full at) told more written stopped run = still_stopped plan b (IsStepTooMany b) at text told more written run
 
 -- a run that stopped reads no more lines
 pub stopped_run : {X : Type 0} {P : X → Type 0} (plan : Plan) (old : Running X P) (ls : List Line) → is_running old.halt ≡ false → RunsOn plan old old ls
@@ -147,6 +158,14 @@ put_to plan b place text rest (AtLine at fault) told written empty run = record 
   done = put_done plan b run.ls at written text rest empty run.done;
   refused = run.refused;
 }
+put_to plan b place text rest (Full at) told written empty run = record {
+  ls = run.ls;
+  line = run.line;
+  rest = run.rest;
+  parts = run.parts;
+  done = put_done plan b run.ls at written text rest empty run.done;
+  refused = run.refused;
+}
 
 -- what is to be written is written
 pub put_run : {X : Type 0} {P : X → Type 0} (plan : Plan) (run : Running X P) (rest : List ℕ) (told : List Line) (written : List ℕ)
@@ -162,6 +181,7 @@ pub units_counted : (plan : Plan) (b : BusState) (place : ℕ) (text : List ℕ)
 units_counted plan b place text End told written run = unit_count b plan run.world run.stands
 units_counted plan b place text (AtStep at cause) told written run = unit_count b plan run.done.world run.done.stands
 units_counted plan b place text (AtLine at fault) told written run = unit_count b plan run.done.world run.done.stands
+units_counted plan b place text (Full at) told written run = unit_count b plan run.done.world run.done.stands
 
 rest_told : (told front rest more all : List Line) → all ≡ told ++ more → told ≡ front ++ rest → all ≡ front ++ (rest ++ more)
 rest_told told front rest more all is parts = is ∙ ap (λ (t : List Line). t ++ more) parts ∙ append_assoc front rest more
@@ -172,12 +192,16 @@ module _ (plan : Plan) (b : BusState) (place : ℕ) (text : List ℕ) (view : Vi
       → HasLines (is_running halt) told input → IsBusText plan input halt (written ++ (text ++ closing_text plan view halt))
   closed End told written input run all = end_done plan b told place written text run view shows input (sym all)
   closed (AtStep at cause) told written input run (more, all) =
-      let (step, reads, refuses) = run.refused in
+      let (step, reads, room, refuses) = run.refused in
       step_refused plan b run.ls at written text run.done view shows input run.line (run.rest ++ more) step cause
-      (rest_told told (run.ls ++ run.line ∷ []) run.rest more (lines input) all run.parts) reads refuses
+      (rest_told told (run.ls ++ run.line ∷ []) run.rest more (lines input) all run.parts) reads room refuses
   closed (AtLine at fault) told written input run (more, all) =
       line_refused plan b run.ls at written text run.done view shows input run.line (run.rest ++ more) fault
       (rest_told told (run.ls ++ run.line ∷ []) run.rest more (lines input) all run.parts) run.refused
+  closed (Full at) told written input run (more, all) =
+      let (step, reads, full) = run.refused in
+      step_too_many plan b run.ls at written text run.done view shows input run.line (run.rest ++ more) step
+      (rest_told told (run.ls ++ run.line ∷ []) run.rest more (lines input) all run.parts) reads full
 
 -- a text begins with what is written of the lines
 pub so_far : {X : Type 0} {P : X → Type 0} (plan : Plan) (run : Running X P) (told : List Line) (written : List ℕ) → HasRun plan run told written
@@ -200,3 +224,4 @@ pub done_at_end : (halt : Halt) → verdict_of halt ≡ Done → is_running halt
 done_at_end End is = refl
 done_at_end (AtStep place cause) is = cc is
 done_at_end (AtLine place fault) is = cc is
+done_at_end (Full place) is = cc is

@@ -1,5 +1,5 @@
 -- The text that the run command writes for a plan and a schedule.
-use Rattle.std.specs.Prelude.{◌≡◌, ◌⊎◌, ℕ, ◌+◌, ◌<◌, Bool, true, false, if◌then◌else◌, List, [], ◌∷◌, ◌++◌, length, map, codes, Option, Some, None, Err}
+use Rattle.std.specs.Prelude.{◌≡◌, ◌⊎◌, ℕ, ◌+◌, ◌<◌, ◌≤◌, Bool, true, false, if◌then◌else◌, List, [], ◌∷◌, ◌++◌, length, map, codes, Option, Some, None, Err}
 use Rattle.std.specs.List.{slice_split}
 use Rattle.hex.specs.Hex.{encode_upper}
 use Rattle.j39_id.specs.FrameLine.{canon_text}
@@ -10,7 +10,7 @@ use Rattle.j39_world.specs.declared.bus_error.BusError.TheVariants.{ChooserCount
 use Rattle.j39_world.specs.declared.step_error.StepError.{StepError}
 use Rattle.j39_world.specs.declared.step_error.StepError.TheVariants as steps
 use Rattle.j39_world.specs.Opening.{CanOpen, IsNotOpened}
-use Rattle.j39_world.specs.Run.{refusal, RunsThrough}
+use Rattle.j39_world.specs.Run.{StepsTo, refusal}
 use Rattle.j39_world.specs.Sent.{Sent}
 use Rattle.j39_world.specs.Transfers.{Reported}
 use Rattle.j39_world.specs.World.{World, all_off}
@@ -24,7 +24,7 @@ use Rattle.j39_run.specs.Views.{View, Shows}
 use Rattle.j39_run.specs.declared.unit_state.UnitState.{UnitState}
 use Rattle.j39_run.specs.declared.unit_state.UnitState.TheVariants.{Off, NoAddress, At}
 use Rattle.j39_run.specs.declared.halt.Halt.{Halt}
-use Rattle.j39_run.specs.declared.halt.Halt.TheVariants.{End, Step as AtStep, Line as AtLine}
+use Rattle.j39_run.specs.declared.halt.Halt.TheVariants.{End, Step as AtStep, Line as AtLine, Full}
 use Rattle.j39_stream.specs.declared.verdict.Verdict.{Verdict}
 use Rattle.j39_stream.specs.declared.verdict.Verdict.TheVariants.{Done, Refused, Unreadable}
 
@@ -52,28 +52,46 @@ steps_of [] = []
 steps_of (None ∷ orders) = steps_of orders
 steps_of (Some step ∷ orders) = step ∷ steps_of orders
 
+-- a run does no step once so many frames were sent: what is sent is kept until all have heard it
+abbrev pub most_frames : ℕ
+most_frames = 100000
+
+abbrev pub IsFull : World → Type 0
+IsFull w = most_frames ≤ length w.frames
+
+-- a run through steps, none of which is refused, with fewer frames sent before each
+abbrev pub RunsWithin : Plan → World → List Step → World → Type 0
+RunsWithin plan w [] new = new ≡ w
+RunsWithin plan w (step ∷ steps) new =
+    (mid : World) × (¬ IsFull w) × (refusal plan w step ≡ None) × StepsTo plan w step mid × RunsWithin plan mid steps new
+
 -- a run through the orders of these readings, with some lawful choices, comes to this world, and ends there: after all of
--- them, at a step that is refused, or at a line that can't be read
+-- them, at a step that is refused, at a line that can't be read, or at a step behind that many frames
 abbrev pub EndsAt : Plan → List Reading → World → Halt → Type 0
 EndsAt plan readings w End =
-    (orders : List (Option Step)) × (readings ≡ map read_as orders) × RunsThrough plan all_off (steps_of orders) w
+    (orders : List (Option Step)) × (readings ≡ map read_as orders) × RunsWithin plan all_off (steps_of orders) w
 EndsAt plan readings w (AtStep place cause) =
     (orders : List (Option Step)) × (step : Step) × (more : List Reading) × (readings ≡ map read_as orders ++ read_as (Some step) ∷ more)
-    × (length orders ≡ place) × RunsThrough plan all_off (steps_of orders) w × (refusal plan w step ≡ Some cause)
+    × (length orders ≡ place) × RunsWithin plan all_off (steps_of orders) w × (¬ IsFull w) × (refusal plan w step ≡ Some cause)
 EndsAt plan readings w (AtLine place fault) =
     (orders : List (Option Step)) × (more : List Reading) × (readings ≡ map read_as orders ++ Err fault ∷ more)
-    × (length orders ≡ place) × RunsThrough plan all_off (steps_of orders) w
+    × (length orders ≡ place) × RunsWithin plan all_off (steps_of orders) w
+EndsAt plan readings w (Full place) =
+    (orders : List (Option Step)) × (step : Step) × (more : List Reading) × (readings ≡ map read_as orders ++ read_as (Some step) ∷ more)
+    × (length orders ≡ place) × RunsWithin plan all_off (steps_of orders) w × IsFull w
 
 abbrev pub verdict_of : Halt → Verdict
 verdict_of End = Done
 verdict_of (AtStep place cause) = Refused
 verdict_of (AtLine place fault) = Unreadable
+verdict_of (Full place) = Refused
 
 -- no line is refused
 abbrev pub is_running : Halt → Bool
 is_running End = true
 is_running (AtStep place cause) = false
 is_running (AtLine place fault) = false
+is_running (Full place) = false
 
 -- ---- what is written of it
 
@@ -118,6 +136,7 @@ abbrev pub halt_lines : Halt → List ℕ
 halt_lines End = []
 halt_lines (AtStep place cause) = refused_line place (step_cause cause)
 halt_lines (AtLine place fault) = refused_line place (line_cause fault)
+halt_lines (Full place) = refused_line place (codes "TooManyFrames")
 
 unfoldable pub state_text : UnitState → List ℕ
 state_text Off = codes " off"
@@ -180,6 +199,7 @@ abbrev pub IsWithin : ℕ → Halt → Type 0
 IsWithin n End = ⊥
 IsWithin n (AtStep place cause) = place < n
 IsWithin n (AtLine place fault) = place < n
+IsWithin n (Full place) = place < n
 
 -- where a line that has ended is refused, the text is the same for every continuation
 abbrev pub IsSameForContinuations : Type 0

@@ -15,6 +15,8 @@ pub enum Halt {
     Step(usize, StepError),
     /// At this line, which can't be read.
     Line(usize, LineFault),
+    /// At this line, before which as many frames were sent as a run may send.
+    Full(usize),
 }
 
 impl Halt {
@@ -32,6 +34,7 @@ impl Halt {
             Halt::End => Verdict::Done,
             Halt::Step(_, _) => Verdict::Refused,
             Halt::Line(_, _) => Verdict::Unreadable,
+            Halt::Full(_) => Verdict::Refused,
         }
     }
 }

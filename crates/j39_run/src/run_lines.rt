@@ -88,6 +88,7 @@ pub fn write_halt(text: &mut TextBuffer, halt: Halt) -> Result<(), AllocError>
         Halt::End => Ok(()),
         Halt::Step(place, cause) => write_refused(text, place, step_cause(cause)),
         Halt::Line(place, fault) => write_refused(text, place, line_cause(fault)),
+        Halt::Full(place) => write_refused(text, place, "TooManyFrames"),
     }
 }
 

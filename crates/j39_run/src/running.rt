@@ -18,6 +18,10 @@ use j39_schedule::{LineFault, Units, Unread, read_line};
 use j39_text::TextBuffer;
 use std::alloc::{AllocError, Global};
 
+/// How many frames a run may send before a step. What a frame says is kept for each unit that has still to hear it, in
+/// up to 4 KB for 127 of them.
+const MOST_FRAMES: usize = 100_000;
+
 /// A run of a schedule: its bus, how many lines were done, what is to be written of them, and where the run ends, so
 /// far as is known.
 #[derive(Drop)]
@@ -67,6 +71,10 @@ impl Running {
             → refusal plan w step.now ≡ None) }
     {
         let shown = self.bus.frames().len();
+        if shown >= MOST_FRAMES {
+            self.halt = Halt::Full(self.place);
+            return Ok(());
+        }
         match self.bus.step(step) {
             Ok(()) => {
                 write_frames(&mut self.text, self.bus.frames(), shown)?;

@@ -61,8 +61,8 @@ pub begun_if_reported : (v : Vehicle) → AreRunsSound → (run : VehicleRun v) 
 begun_if_reported v sound run m reported =
     let b = m.point.at.bus in
     let (bus, bus_is) = bus_of v.buses.items b m.point.at.flow (slice_get v.buses.items b) reported.flow refl reported.flow_is in
-    let (steps, runs) = run.runs b bus bus_is in
-    let (reports, frames) = sound bus.plan steps (run.worlds b) runs in
+    let (boxes, kind, (steps, runs)) = run.runs b bus bus_is in
+    let (reports, frames) = sound boxes steps (run.worlds b) runs in
     record {
       flow = reported.flow;
       flow_is = reported.flow_is;

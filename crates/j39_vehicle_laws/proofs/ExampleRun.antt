@@ -117,7 +117,7 @@ forwards alloc bytes are = inl (record {
 abbrev run : (alloc : Global) → VehicleRun (vehicle alloc)
 run alloc = record {
   worlds = λ b. taken alloc;
-  runs = λ b x is. (steps alloc, runs_on alloc b x is);
+  runs = λ b x is. (x.plan, inl refl, (steps alloc, runs_on alloc b x is));
   carries = λ place n m its feeds begun.
       subst (λ k. Carries (vehicle alloc) (λ b. taken alloc) k m.bytes) (sym (only_forward place n its))
       (forwards alloc m.bytes (sent_bytes alloc begun.flow.sender m.hearer m.point.at.flow m.bytes begun.so));

@@ -9,4 +9,5 @@ pub mod Indexes
 pub mod Multiples
 pub mod Passing
 pub mod Places
+pub mod PlainForwards
 pub mod Values

@@ -20,7 +20,7 @@ use Rattle.j39_vehicle.specs.declared.vehicle.Vehicle.{Vehicle}
 use Rattle.j39_vehicle.specs.declared.vehicle.bus_plan.BusPlan.{BusPlan}
 use Rattle.j39_vehicle_laws.specs.HandedOn.{HasMessage}
 use Rattle.j39_vehicle_laws.specs.Passing.{CrossesBus, IsPassedOn, WasReportedIn, IsSpared, IsSparedAlone, IsSparedAnswered, at_first, by_gateway}
-use Rattle.j39_vehicle_laws.specs.BusRuns.{WasHeard, BusMessage, flow_on_bus}
+use Rattle.j39_vehicle_laws.specs.BusRuns.{WasHeard, BusMessage, IsOfType, flow_on_bus}
 
 -- what holds in each world of each run of each plan of the messages of which nothing is lost
 pub record MessagesArrive : Type 0 where
@@ -89,16 +89,22 @@ heard_alone plan w after arrives f flow v bytes is s =
     inr (record { earlier = reported_alone w.reports m.receiver m.flow.sender ++ arrived.earlier; later = arrived.later; at = arrived.reports }) in
     moved m.after after m.flow.sender flow.sender m.receiver v m.place f m.bytes bytes s.after_is sender s.receiver_is s.place_is s.bytes_are heard
 
+-- the flows of the boxes are those of the plan
+same_flows : (plan boxes : Plan) → IsOfType plan boxes → boxes.flows.items ≡ plan.flows.items
+same_flows plan boxes (inl is) = ap (λ p. p.flows.items) is
+same_flows plan boxes (inr is) = is.flows
+
 delivered : (v : Vehicle) → MessagesArrive → (m : BusMessage) (after : World) → CrossesBus v m after → WasReportedIn v m after
 delivered v arrive m after d =
-    let plan = d.bus.plan in
+    let its : slice_get d.boxes.flows.items m.point.at.flow ≡ Some d.flow =
+    ap (λ fs. slice_get fs m.point.at.flow) (same_flows d.bus.plan d.boxes d.kind) ∙ d.flow_is in
     let there : flow_on_bus v m.point.at ≡ Some d.flow =
     ap (λ o. slice_get (option_map_or (λ (bus : BusPlan). bus.plan.flows.items) o []) m.point.at.flow) d.bus_is ∙ d.flow_is in
     let heard : WasHeard after d.flow.sender m.hearer m.point.at.flow m.bytes =
     elim d.spared [
-      | inl s ↦ heard_unanswered plan d.world after (arrive.unanswered plan d.steps d.world d.runs) m.point.at.flow d.flow m.hearer m.bytes d.flow_is s
-      | inr (inl s) ↦ heard_answered plan d.world after (arrive.answered plan d.steps d.world d.runs) m.point.at.flow d.flow m.hearer m.bytes d.flow_is s
-      | inr (inr s) ↦ heard_alone plan d.world after (arrive.alone plan d.steps d.world d.runs) m.point.at.flow d.flow m.hearer m.bytes d.flow_is s
+      | inl s ↦ heard_unanswered d.boxes d.world after (arrive.unanswered d.boxes d.steps d.world d.runs) m.point.at.flow d.flow m.hearer m.bytes its s
+      | inr (inl s) ↦ heard_answered d.boxes d.world after (arrive.answered d.boxes d.steps d.world d.runs) m.point.at.flow d.flow m.hearer m.bytes its s
+      | inr (inr s) ↦ heard_alone d.boxes d.world after (arrive.alone d.boxes d.steps d.world d.runs) m.point.at.flow d.flow m.hearer m.bytes its s
     ] in
     record { flow = d.flow; flow_is = there; so = heard }
 

@@ -1,6 +1,8 @@
 -- Runs of vehicles, without a clock: a run of the plan of each bus, and gateways that hand on between these.
 use Rattle.std.specs.Prelude.{◌≡◌, ℕ, ◌⊎◌, List, Option, Some, None}
 use Rattle.std.specs.List.{slice_get}
+use Rattle.j39_network.specs.VehiclePlans.{IsVehicleOf}
+use Rattle.j39_network.specs.declared.plan.Plan.{Plan}
 use Rattle.j39_network.specs.declared.plan.flow_plan.FlowPlan.{FlowPlan}
 use Rattle.j39_network.specs.declared.steps.Step.{Step}
 use Rattle.j39_world.specs.Run.{Run}
@@ -63,10 +65,15 @@ pub record CarriesOne (v : Vehicle) (worlds : ℕ → World) (n : Forward) (byte
 abbrev pub Carries : Vehicle → (ℕ → World) → Forward → List ℕ → Type 0
 Carries v worlds n bytes = CarriesOne v worlds n bytes ⊎ KeepsContents v n None bytes
 
--- a world of a run of the plan of each bus, in which each message that was begun of an output of a forward carries one of an input that was
--- reported, or none
+-- the plan of a bus, or that of its boxes, whatever their serial numbers are
+abbrev pub IsOfType : Plan → Plan → Type 0
+IsOfType plan boxes = (boxes ≡ plan) ⊎ IsVehicleOf plan boxes
+
+-- a world of a run of the plan of each bus, or of that of its boxes, in which each message that was begun of an output of a forward carries one of an
+-- input that was reported, or none
 pub record VehicleRun (v : Vehicle) : Type 0 where
   pub worlds : ℕ → World
-  pub runs : (b : ℕ) (bus : BusPlan) → slice_get v.buses.items b ≡ Some bus → (steps : List Step) × Run bus.plan all_off steps (worlds b)
+  pub runs : (b : ℕ) (bus : BusPlan) → slice_get v.buses.items b ≡ Some bus
+      → (boxes : Plan) × IsOfType bus.plan boxes × ((steps : List Step) × Run boxes all_off steps (worlds b))
   pub carries : (place : ℕ) (n : Forward) (m : BusMessage) → slice_get v.forwards.items place ≡ Some n → Feeds v n m.point.at
       → WasBegun v worlds m → Carries v worlds n m.bytes

@@ -8,3 +8,4 @@ pub mod Passing
 pub mod Reading
 pub mod Unaltered
 pub mod Values
+pub mod PlainForwards

@@ -16,7 +16,7 @@ use Rattle.j39_vehicle.specs.declared.vehicle.Vehicle.{Vehicle}
 use Rattle.j39_vehicle.specs.declared.vehicle.bus_plan.BusPlan.{BusPlan}
 use Rattle.j39_vehicle.specs.declared.vehicle.forward.Forward.{Forward}
 use Rattle.j39_vehicle_findings.specs.Traces.{behind_forward, next_forward}
-use Rattle.j39_vehicle_laws.specs.BusRuns.{WasReported, BusMessage}
+use Rattle.j39_vehicle_laws.specs.BusRuns.{BusMessage, IsOfType, WasReported}
 
 -- ---- on one bus
 
@@ -47,17 +47,20 @@ pub record IsSparedAlone (plan : Plan) (place v : ℕ) (bytes : List ℕ) (w aft
   pub receiver_is : frame.receiver ≡ v
   pub after_is : frame.after ≡ after
 
--- in a world of a run of its bus's plan the message is begun, and nothing of it is lost to its hearer up to this other world
+-- in a world of a run of its bus's plan, or of that of its boxes, the message is begun, and nothing of it is lost to its hearer up to this other
+-- world
 pub record CrossesBus (v : Vehicle) (m : BusMessage) (after : World) : Type 0 where
   pub bus : BusPlan
   pub bus_is : slice_get v.buses.items m.point.at.bus ≡ Some bus
   pub flow : FlowPlan
   pub flow_is : slice_get bus.plan.flows.items m.point.at.flow ≡ Some flow
+  pub boxes : Plan
+  pub kind : IsOfType bus.plan boxes
   pub steps : List Step
   pub world : World
-  pub runs : Run bus.plan all_off steps world
-  pub spared : IsSpared bus.plan m.point.at.flow (flow_of bus.plan.groups.items flow) m.hearer m.bytes world after
-      ⊎ (IsSparedAnswered bus.plan m.point.at.flow m.hearer m.bytes world after ⊎ IsSparedAlone bus.plan m.point.at.flow m.hearer m.bytes world after)
+  pub runs : Run boxes all_off steps world
+  pub spared : IsSpared boxes m.point.at.flow (flow_of boxes.groups.items flow) m.hearer m.bytes world after
+      ⊎ (IsSparedAnswered boxes m.point.at.flow m.hearer m.bytes world after ⊎ IsSparedAlone boxes m.point.at.flow m.hearer m.bytes world after)
 
 -- ---- along a trace
 

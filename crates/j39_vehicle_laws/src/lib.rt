@@ -10,6 +10,8 @@ ghost use Rattle.j39_vehicle_findings.specs.VehicleFindings.{AreFindings};
 ghost use Rattle.j39_vehicle_laws.specs.Copied.{CopiesCanBeSent, ReadingsAreStates};
 ghost use Rattle.j39_vehicle_laws.specs.Forwarding.{ForwardedMessage};
 ghost use Rattle.j39_vehicle_laws.specs.Passing.{PassedMessagesArrive};
+ghost use Rattle.j39_vehicle_laws.specs.PlainForwards.{CopiesHaveRecords, InputsAreNamed, SharedQueuesKeepOrder};
+ghost use Rattle.j39_vehicle_laws.specs.PlainForwards.{SignalsMeanTheSame, SourcesAreOne};
 ghost use Rattle.j39_vehicle_laws.specs.Unaltered.{IsUnaltered};
 ghost use Rattle.j39_vehicle_laws.specs.Values.{HavingIsOfValues, OneValueIsPassedOn};
 
@@ -19,11 +21,12 @@ use j39_run_laws::{
     unanswered_messages_arrive,
 };
 
-/// Of a vehicle without findings, in each run of it in which gateways keep what they have to keep of the messages
-/// that they send on: a message of a flow of a need that the need's unit reports carries, forward by forward along
-/// its trace, one that was begun by the unit from which the need wants it, or none. Where only copies are on the
-/// way its bytes are the same. Where all that goes into signals on the way is copied or exact, the need's signal
-/// reads no value in it, or the one that the trace's last signal reads in the message of the origin.
+/// Of a vehicle without findings, in each run of it, whatever the serial numbers of its boxes are, in which gateways
+/// keep what they have to keep of the messages that they send on: a message of a flow of a need that the need's unit
+/// reports carries, forward by forward along its trace, one that was begun by the unit from which the need wants it, or
+/// none. Where only copies are on the way its bytes are the same. Where all that goes into signals on the way is copied
+/// or exact, the need's signal reads no value in it, or the one that the trace's last signal reads in the message of the
+/// origin.
 pub fn nothing_is_altered()
     ensures { (v : Vehicle) → AreFindings v [] → IsUnaltered v }
 {
@@ -45,14 +48,27 @@ pub fn copies_can_be_sent()
     ensures { (v : Vehicle) → AreFindings v [] → CopiesCanBeSent v }
 {}
 
+/// Of a vehicle without findings, in the words of its file. The first input of a forward is of the group and of the unit
+/// that it names, and none of the gateway's own (`inputs`; of each vehicle). What is sent has one source for each of its
+/// signals (`sources`), which has the same unit of measurement and the same number (`meanings`), and records as far apart
+/// (`records`). And of the gateway's units on one bus none has a queue without order where there are two (`queues`).
+pub fn forwards_are_as_named()
+    ensures inputs { (v : Vehicle) → InputsAreNamed v }
+    ensures records { (v : Vehicle) → AreFindings v [] → CopiesHaveRecords v }
+    ensures meanings { (v : Vehicle) → AreFindings v [] → SignalsMeanTheSame v }
+    ensures sources { (v : Vehicle) → AreFindings v [] → SourcesAreOne v }
+    ensures queues { (v : Vehicle) → AreFindings v [] → SharedQueuesKeepOrder v }
+{}
+
 /// What a signal reads in a message is its state there, where the message is as long as its group's are and the
 /// signal ends inside the shortest of these or is optional.
 pub fn readings_are_states()
     ensures { ReadingsAreStates }
 {}
 
-/// Where on each bus of its trace a message is begun and nothing of it is lost, and each gateway begins it once its
-/// unit has reported the message before, the unit that it is for reports it.
+/// Where on each bus of its trace, of the plan's boxes or of those of a vehicle of the type, a message is begun and
+/// nothing of it is lost, and each gateway begins it once its unit has reported the message before, the unit that it is
+/// for reports it.
 pub fn passed_messages_arrive()
     ensures { (v : Vehicle) → PassedMessagesArrive v }
 {

@@ -13,8 +13,9 @@ use Rattle.j39_vehicle_times.specs.BusDelays.{AreDelays}
 use Rattle.j39_vehicle_times.specs.FoundTimes.{time_findings}
 use Rattle.j39_vehicle_times.specs.TimeFindings.{AreTimeFindings}
 use Rattle.j39_vehicle_times.specs.declared.bus_delays.Delays.{Delays}
+use Rattle.j39_vehicle_laws.specs.Passing.{PassedMessagesArrive}
 use Rattle.j39_vehicle_laws.specs.Unaltered.{IsUnaltered}
-use Rattle.j39_vehicle_time_laws.specs.VehicleAges.{AreAgesKept, AreForwardedPausesKept, AreVehicleNeedsKept}
+use Rattle.j39_vehicle_time_laws.specs.VehicleAges.{AreAgesKept, AreForwardedPausesKept, AreVehicleNeedsKept, AreVehicleStreamsKept}
 
 -- nothing is found in a plan and in what it asks of its bus
 abbrev pub HasCalmPlan : BusPlan → Type 0
@@ -40,10 +41,16 @@ pub record IsCertifiedVehicle (v : Vehicle) : Type 0 where
   pub delays : Delays
   pub delays_are : AreDelays v delays
   pub times : AreTimeFindings v delays []
-  -- what its units report of needs carries, gateway by gateway, what was begun at the origin, or nothing
+  -- what its units report of needs carries, gateway by gateway, what was begun at the origin, or nothing; in each vehicle of the type, whatever the
+  -- serial numbers of its boxes are
   pub unaltered : IsUnaltered v
+  -- and what isn't lost arrives, in each of them
+  pub arrive : PassedMessagesArrive v
   -- each age that is known bounds how old what is brought is, and so each need that asks for an age has a flow that keeps it
   pub ages : AreAgesKept v delays
   pub needs : AreVehicleNeedsKept v delays
   -- and a flow that is sent on directly keeps the pause that the plan of its bus has for it
   pub pauses : AreForwardedPausesKept v delays
+  -- and the planned frames of each bus keep to its streams, those that are sent on directly too: so what the plan's certificate promises of times
+  -- holds of it
+  pub streams : AreVehicleStreamsKept v delays

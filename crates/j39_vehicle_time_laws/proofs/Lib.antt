@@ -9,6 +9,7 @@ mod OneFlow
 mod Order
 mod Parts
 mod Interval
+mod PlainTimes
 mod Starts
 mod Timely
 mod Until

@@ -1,5 +1,5 @@
 -- What a bus has to keep of its plan where gateways send on to it directly: of what these send it isn't asked when it is queued.
-use Rattle.std.specs.Prelude.{◌≡◌, ◌≢◌, ℕ, ◌+◌, ◌<◌, ◌≤◌, ◌⊎◌, Bool, true, false, List, ◌++◌, Option, Some}
+use Rattle.std.specs.Prelude.{◌≡◌, ◌≢◌, ℕ, ◌+◌, ◌*◌, ◌<◌, ◌≤◌, ◌⊎◌, Bool, true, false, List, ◌++◌, Option, Some}
 use Rattle.std.specs.List.{slice_get}
 use Rattle.j39_network.specs.declared.plan.flow_plan.FlowPlan.{FlowPlan}
 use Rattle.j39_network.specs.declared.plan.timing.Timing.{Timing}
@@ -19,7 +19,7 @@ use Rattle.j39_vehicle.specs.declared.vehicle.forward.Forward.{Forward}
 use Rattle.j39_vehicle_findings.specs.declared.point.FlowAt.{FlowAt}
 use Rattle.j39_vehicle_times.specs.BusDelays.{AreDelays, delays_on}
 use Rattle.j39_vehicle_times.specs.TimeFindings.{period_ms}
-use Rattle.j39_vehicle_times.specs.Times.{delay_at, direct_feeder, flow_at, first_input_at, jitter_ms, queued_of, us_of_ms}
+use Rattle.j39_vehicle_times.specs.Times.{delay_at, direct_feeder, flow_at, first_input_at, jitter_ms, queued_of}
 use Rattle.j39_vehicle_times.specs.declared.bus_delays.Delays.{Delays}
 use Rattle.j39_vehicle_time_laws.specs.KeptBuses.{AreKeptBuses, IsKnownBus, asked_on}
 use Rattle.j39_vehicle_time_laws.specs.Prompt.{ArePrompt, HaveOwnReleases, IsSentOn}
@@ -81,7 +81,7 @@ pub record IsForwardTimely (v : Vehicle) (delays : Delays) (at : FlowAt) (n : Fo
   pub its : flow_at v.buses.items at ≡ Some flow
   pub queued : ℕ
   pub queued_is : queued_of v delays n ≡ Some queued
-  pub in_jitter : queued ≤ us_of_ms (jitter_ms flow)
+  pub in_jitter : queued ≤ 1000 * jitter_ms flow
   pub other : FlowPlan
   pub other_is : flow_at v.buses.items input ≡ Some other
   pub no_nearer : (p : ℕ) → period_ms flow ≡ Some p → (q : ℕ) × (period_ms other ≡ Some q) × (p ≤ q)

@@ -1,6 +1,6 @@
 -- Gateways that send on in time: directly, for each message that ends one of their own; or at their own releases, the newest that they have.
-use Rattle.std.specs.Prelude.{◌≡◌, ℕ, ◌+◌, ◌<◌, ◌≤◌, true, false, Option, Some, None}
-use Rattle.std.specs.Option.{option_and_then}
+use Rattle.std.specs.Prelude.{◌≡◌, ℕ, ◌+◌, ◌*◌, ◌<◌, ◌≤◌, true, false, Option, Some, None}
+use Rattle.std.specs.Option.{option_and_then, option_map}
 use Rattle.j39_vehicle.specs.declared.vehicle.Vehicle.{Vehicle}
 use Rattle.j39_vehicle.specs.declared.vehicle.forward.Forward.{Forward}
 use Rattle.j39_vehicle_findings.specs.ForwardTests.{feeds, is_direct}
@@ -9,7 +9,7 @@ use Rattle.j39_vehicle_findings.specs.declared.point.FlowAt.{FlowAt}
 use Rattle.j39_vehicle_findings.specs.declared.point.Point.{Point}
 use Rattle.j39_timing.specs.Gateways.{HasBegun, HasOwnReleases, IsHandedOn, IsIts, end_time, queue_time}
 use Rattle.j39_vehicle_times.specs.declared.bus_delays.Delays.{Delays}
-use Rattle.j39_vehicle_times.specs.Times.{behind_at, delay_at, direct_feeder, forward_at, first_input_at, interval, within_of}
+use Rattle.j39_vehicle_times.specs.Times.{behind_at, delay_at, direct_feeder, forward_at, first_input_at, interval}
 use Rattle.j39_vehicle_time_laws.specs.Seen.{SeenBuses, frames_at}
 
 -- a delay is told of the flow: each of its messages goes in one frame
@@ -26,7 +26,7 @@ pub record SendsOn (v : Vehicle) (n : ℕ) (forward : Forward) (x y : FlowAt) (w
   pub its : forward_at v n ≡ Some forward
   pub output : feeds v y forward ≡ true
   pub input : first_input_at v forward ≡ Some x
-  pub promised : within_of forward ≡ Some within
+  pub promised : option_map (λ (ms : ℕ). 1000 * ms) forward.within ≡ Some within
 
 -- each message of the output is one of the input, sent on at most `within` behind its end; each of the input that ends is sent on; and what is
 -- said of a signal is what was said of the one that goes into it

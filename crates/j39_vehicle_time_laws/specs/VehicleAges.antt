@@ -1,6 +1,6 @@
 -- What a vehicle is good for of which nothing is found: how old what is brought to its units is at most, and that flows which gateways send on
 -- directly keep what the plans of their buses take for granted of them.
-use Rattle.std.specs.Prelude.{◌≡◌, ℕ, ◌+◌, ◌≤◌, [], Some, None}
+use Rattle.std.specs.Prelude.{◌≡◌, ℕ, ◌+◌, ◌*◌, ◌≤◌, [], Some, None}
 use Rattle.std.specs.List.{slice_get}
 use Rattle.j39_search.specs.ListPlaces.{ValueAt}
 use Rattle.j39_network.specs.declared.plan.flow_plan.FlowPlan.{FlowPlan}
@@ -16,10 +16,10 @@ use Rattle.j39_vehicle_findings.specs.declared.point.FlowAt.{FlowAt}
 use Rattle.j39_vehicle_findings.specs.declared.point.Point.{Point}
 use Rattle.j39_vehicle_times.specs.BusDelays.{AreDelays}
 use Rattle.j39_vehicle_times.specs.TimeFindings.{AreTimeFindings}
-use Rattle.j39_vehicle_times.specs.Times.{age, behind_at, flow_at, timing_on, us_of_ms}
+use Rattle.j39_vehicle_times.specs.Times.{age, behind_at, flow_at, timing_on}
 use Rattle.j39_vehicle_times.specs.declared.bus_delays.Delays.{Delays}
 use Rattle.j39_vehicle_time_laws.specs.ForwardedStreams.{AreOtherwiseKept}
-use Rattle.j39_vehicle_time_laws.specs.KeptBuses.{AreSeenUntil}
+use Rattle.j39_vehicle_time_laws.specs.KeptBuses.{AreKeptBuses, AreSeenUntil}
 use Rattle.j39_vehicle_time_laws.specs.Prompt.{ArePrompt, HaveOwnReleases, IsSentOn, SayWhatIsSo}
 use Rattle.j39_vehicle_time_laws.specs.Seen.{SeenBuses, clock_on}
 use Rattle.j39_vehicle_time_laws.specs.YoungValues.{IsBroughtYoung, KeepPauses}
@@ -52,9 +52,9 @@ pub record IsNeedKept (v : Vehicle) (delays : Delays) (d : VehicleNeed) (within 
   pub its : ValueAt (IsNeedFlow v d flow) (flows_of_need v d) flow
   pub most : ℕ
   pub age_is : age v delays (point_on d.unit.bus flow d.signal) ≡ Some most
-  pub young : most ≤ us_of_ms within
+  pub young : most ≤ 1000 * within
   pub brought : (seen : SeenBuses) (from t : ℕ) → from + most ≤ t → IsPromptVehicle v delays seen t
-      → KeepPauses v seen (point_on d.unit.bus flow d.signal) from t → IsBroughtYoung v seen (point_on d.unit.bus flow d.signal) (us_of_ms within) t
+      → KeepPauses v seen (point_on d.unit.bus flow d.signal) from t → IsBroughtYoung v seen (point_on d.unit.bus flow d.signal) (1000 * within) t
 
 -- so it is of each need that asks for an age
 abbrev pub AreVehicleNeedsKept : Vehicle → Delays → Type 0
@@ -72,3 +72,9 @@ AreForwardedPausesKept v delays = (seen : SeenBuses) (by : ℕ) (at : FlowAt) (t
     (clock_on v seen at.bus) first) by
     → time_of (clock_on v seen at.bus) (last + 1) + time ≤ by
     → KeepsComing (seen at.bus).schedule (seen at.bus).planned (seen at.bus).of at.flow (bits_of_ms timing ms) first last
+
+-- ---- streams
+
+-- the planned frames of each of its buses keep to what the plan of this bus takes for granted of them, those that are sent on directly too
+abbrev pub AreVehicleStreamsKept : Vehicle → Delays → Type 0
+AreVehicleStreamsKept v delays = (seen : SeenBuses) (by : ℕ) → IsPromptVehicle v delays seen by → AreKeptBuses v delays seen

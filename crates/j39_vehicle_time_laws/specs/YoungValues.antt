@@ -1,6 +1,7 @@
 -- How old what is brought over gateways is at most.
-use Rattle.std.specs.Prelude.{◌≡◌, ℕ, ◌+◌, ◌<◌, ◌≤◌, [], Option, Some, None}
-use Rattle.std.specs.Option.{option_and_then}
+use Rattle.std.specs.Prelude.{◌≡◌, ℕ, ◌+◌, ◌*◌, ◌<◌, ◌≤◌, [], Option, Some, None}
+use Rattle.std.specs.Option.{option_and_then, option_map}
+use Rattle.j39_network.specs.declared.plan.flow_plan.FlowPlan.{FlowPlan}
 use Rattle.j39_vehicle.specs.declared.vehicle.Vehicle.{Vehicle}
 use Rattle.j39_vehicle.specs.declared.vehicle.forward.Forward.{Forward}
 use Rattle.j39_vehicle_findings.specs.Traces.{goes_on, next_forward}
@@ -10,7 +11,7 @@ use Rattle.j39_vehicle_findings.specs.declared.point.Point.{Point}
 use Rattle.j39_timing.specs.Gateways.{HasBegun, IsIts, end_time}
 use Rattle.j39_vehicle_times.specs.BusDelays.{AreDelays}
 use Rattle.j39_vehicle_times.specs.declared.bus_delays.Delays.{Delays}
-use Rattle.j39_vehicle_times.specs.Times.{age, direct_feeder, first_input_at, pause_us, unasked_at}
+use Rattle.j39_vehicle_times.specs.Times.{age, direct_feeder, first_input_at, unasked_at}
 use Rattle.j39_vehicle_time_laws.specs.KeptBuses.{AreKeptBuses, AreSeenUntil}
 use Rattle.j39_vehicle_time_laws.specs.Prompt.{ArePrompt, HaveOwnReleases, SayWhatIsSo}
 use Rattle.j39_vehicle_time_laws.specs.Seen.{SeenBuses, frames_at}
@@ -27,7 +28,7 @@ pub data ComesDirectly (v : Vehicle) (at : FlowAt) : FlowAt → Type 0 where
 
 -- the longest time between two releases of a flow, as its own plan has it
 abbrev pub pause_at : Vehicle → FlowAt → Option ℕ
-pause_at v at = option_and_then pause_us (unasked_at v at)
+pause_at v at = option_and_then (λ (flow : FlowPlan). option_map (λ (ms : ℕ). 1000 * ms) flow.pause) (unasked_at v at)
 
 -- from one time to another, a message of the flow has had its release less than its pause ago
 abbrev pub KeepsItsPause : Vehicle → SeenBuses → FlowAt → ℕ → ℕ → Type 0

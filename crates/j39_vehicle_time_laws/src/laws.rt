@@ -1,10 +1,13 @@
 //! Laws of times over gateways.
+ghost use Rattle.std.specs.Prelude.{[]};
 ghost use Rattle.j39_vehicle.specs.declared.vehicle.Vehicle.{Vehicle};
+ghost use Rattle.j39_vehicle_times.specs.TimeFindings.{AreTimeFindings};
 ghost use Rattle.j39_vehicle_times.specs.declared.bus_delays.Delays.{Delays};
-ghost use Rattle.j39_vehicle_time_laws.specs.ForwardedStreams.{AreStreamsKept};
+ghost use Rattle.j39_vehicle_time_laws.specs.ForwardedStreams.{AreForwardsTimely, AreStreamsKept};
 ghost use Rattle.j39_vehicle_time_laws.specs.OnceSentOn.{AreSentOnOnce};
+ghost use Rattle.j39_vehicle_time_laws.specs.PlainTimes.{AgesAreUnasked, AnswersStayAnswers, ClocksAreOfBitrates, DeadlinesHaveRoom};
 ghost use Rattle.j39_vehicle_time_laws.specs.VehicleAges.{AreAgesKept, AreForwardedPausesKept, AreVehicleNeedsKept};
-ghost use Rattle.j39_vehicle_time_laws.specs.VehicleAges.{IsSoundVehicle};
+ghost use Rattle.j39_vehicle_time_laws.specs.VehicleAges.{AreVehicleStreamsKept, IsSoundVehicle};
 ghost use Rattle.j39_vehicle_time_laws.specs.YoungValues.{AreAgesBounds};
 
 /// Each age that is known of what a flow brings over gateways bounds it, on buses whose frames keep to their
@@ -20,13 +23,28 @@ pub fn gateways_keep_to_plans()
 {}
 
 /// A vehicle of which nothing is found is good for this: each age that is known bounds how old what is brought is
-/// (`ages`), and so each need that asks for an age has a flow that keeps it (`needs`); and a flow that is sent on
-/// directly keeps the pause that the plan of its bus has for it (`pauses`). Nothing is asked of when messages are
-/// queued that are sent on directly, but that gateways are prompt.
+/// (`ages`), and so each need that asks for an age has a flow that keeps it (`needs`); a flow that is sent on
+/// directly keeps the pause that the plan of its bus has for it (`pauses`); and the planned frames of each bus keep to
+/// its streams, those that are sent on directly too (`streams`), since jitters and periods have room for them (`timely`).
+/// Nothing is asked of when messages are queued that are sent on directly, but that gateways are prompt.
 pub fn sound_vehicles_keep_ages()
     ensures ages { (v : Vehicle) (delays : Delays) → IsSoundVehicle v delays → AreAgesKept v delays }
     ensures needs { (v : Vehicle) (delays : Delays) → IsSoundVehicle v delays → AreVehicleNeedsKept v delays }
     ensures pauses { (v : Vehicle) (delays : Delays) → IsSoundVehicle v delays → AreForwardedPausesKept v delays }
+    ensures streams { (v : Vehicle) (delays : Delays) → IsSoundVehicle v delays → AreVehicleStreamsKept v delays }
+    ensures timely { (v : Vehicle) (delays : Delays) → IsSoundVehicle v delays → AreForwardsTimely v delays }
+{}
+
+/// Of a vehicle of whose times nothing is found, in the words of its plans: what goes on directly keeps what `load` of
+/// the next bus takes for granted of it, also where no age is told. A flow that is sent only where it is asked for comes
+/// of one that is (`answers`), and what has a deadline is queued within the jitter of its flow (`deadlines`). What
+/// has an age isn't sent only where it is asked for (`ages`), and the clock of each bus runs by its bitrate (`clocks`),
+/// in each vehicle.
+pub fn direct_forwards_have_room()
+    ensures answers { (v : Vehicle) (delays : Delays) → AreTimeFindings v delays [] → AnswersStayAnswers v }
+    ensures deadlines { (v : Vehicle) (delays : Delays) → AreTimeFindings v delays [] → DeadlinesHaveRoom v delays }
+    ensures ages { (v : Vehicle) (delays : Delays) → AgesAreUnasked v delays }
+    ensures clocks { (v : Vehicle) → ClocksAreOfBitrates v }
 {}
 
 /// What is asked of what is seen of a vehicle can be kept, where a direct forward sends a message on to another bus, of

@@ -4,15 +4,15 @@ use Rattle.j39_id.specs.Lines.{Line}
 use Rattle.j39_network.specs.declared.plan.Plan.{Plan}
 use Rattle.j39_network.specs.declared.steps.Step.{Step}
 use Rattle.j39_bus.specs.BusState.{BusState}
-use Rattle.j39_world.specs.Run.{RunsThrough, StepsTo, refusal}
+use Rattle.j39_world.specs.Run.{StepsTo, refusal}
 use Rattle.j39_bus.specs.Stands.{Stands}
 use Rattle.j39_world.specs.World.{World, all_off}
 use Rattle.j39_world.specs.declared.step_error.StepError.{StepError}
 use Rattle.j39_schedule.specs.Schedule.{Ordered, Reading, line_order, read_as}
 use Rattle.j39_stream.specs.declared.verdict.Verdict.{Verdict}
-use Rattle.j39_run.specs.RunText.{IsBusText, sent_lines, steps_of, verdict_of}
+use Rattle.j39_run.specs.RunText.{IsBusText, RunsWithin, most_frames, sent_lines, steps_of, verdict_of}
 use Rattle.j39_run.specs.declared.halt.Halt.{Halt}
-use Rattle.j39_run.specs.declared.halt.Halt.TheVariants.{End, Step as AtStep, Line as AtLine}
+use Rattle.j39_run.specs.declared.halt.Halt.TheVariants.{End, Step as AtStep, Line as AtLine, Full}
 use Rattle.j39_run.specs.declared.running.Running.{Running}
 
 -- what these lines order was done by the bus, none of it refused; of its frames this is written, and this is to be written
@@ -21,7 +21,7 @@ pub record HasDone (plan : Plan) (b : BusState) (ls : List Line) (place : ℕ) (
   pub read : map (line_order plan) ls ≡ map read_as orders
   pub count : length orders ≡ place
   pub world : World
-  pub ran : RunsThrough plan all_off (steps_of orders) world
+  pub ran : RunsWithin plan all_off (steps_of orders) world
   pub stands : Stands b plan world
   pub shown : written ++ text ≡ sent_lines b.frames
 
@@ -42,9 +42,18 @@ pub record HasStopped (plan : Plan) (b : BusState) (IsRefused : Reading → Type
   pub done : HasDone plan b ls place written text
   pub refused : IsRefused (line_order plan line)
 
+-- as many frames were sent as a run may send
+abbrev pub HasSentAll : BusState → Type 0
+HasSentAll b = most_frames ≤ length b.frames
+
 -- it orders a step that the bus refuses for this cause
 abbrev pub IsRefusedStep : Plan → BusState → StepError → Reading → Type 0
-IsRefusedStep plan b cause reading = (step : Step) × (reading ≡ read_as (Some step)) × ((w : World) → Stands b plan w → refusal plan w step ≡ Some cause)
+IsRefusedStep plan b cause reading =
+    (step : Step) × (reading ≡ read_as (Some step)) × (¬ HasSentAll b) × ((w : World) → Stands b plan w → refusal plan w step ≡ Some cause)
+
+-- it orders a step, where no more frames may be sent
+abbrev pub IsStepTooMany : BusState → Reading → Type 0
+IsStepTooMany b reading = (step : Step) × (reading ≡ read_as (Some step)) × HasSentAll b
 
 -- this is one line, and it orders a step
 abbrev pub OrdersStep : Plan → List Line → Type 0
@@ -55,6 +64,7 @@ abbrev pub HasRunTo : Plan → BusState → ℕ → List ℕ → Halt → List L
 HasRunTo plan b place text End told written = HasDone plan b told place written text
 HasRunTo plan b place text (AtStep at cause) told written = HasStopped plan b (IsRefusedStep plan b cause) at text told written
 HasRunTo plan b place text (AtLine at fault) told written = HasStopped plan b (λ reading. reading ≡ Err fault) at text told written
+HasRunTo plan b place text (Full at) told written = HasStopped plan b (IsStepTooMany b) at text told written
 
 abbrev pub HasRun : {X : Type 0} {P : X → Type 0} → Plan → Running X P → List Line → List ℕ → Type 0
 HasRun plan run told written = HasRunTo plan run.bus run.place run.text run.halt told written
