@@ -30,8 +30,9 @@ ROOM = "j39plan-build-"
 MISSING, FAILED = 69, 70
 # The most processors that a check of one crate makes use of, and what one gets that is waited for less.
 CRATE_JOBS, OTHER_JOBS = 4, 2
-# Up to which niceness a crate is waited for most.
-NEARLY = 4
+# The niceness of a crate that nothing waits for, so that on a busy machine it comes to no stand, and up to which a crate is waited
+# for most.
+NICEST, NEARLY = 5, 1
 # What a check takes for each processor, about, and the whole build: in the folders `out`, and the most that all of it takes.
 JOB_BYTES = 2_000_000_000
 DISK_BYTES = int(os.environ.get("J39PLAN_DISK_BYTES", "13000000000"))
@@ -181,7 +182,7 @@ class Build:
         above them come first; the shorter that chain is than the longest of what isn't built, the lower their priority."""
         longest = max(self.behind[it] for it in [*self.left, *(room.name for room in self.running)])
         for name in [it for it in self.left if self.done.issuperset(self.named[it])]:
-            nice = int(20 * (1 - self.behind[name] / longest))
+            nice = round(NICEST * (1 - self.behind[name] / longest))
             most = CRATE_JOBS if nice < NEARLY else OTHER_JOBS
             jobs = min(most, self.lanes, self.places - sum(room.jobs for room in self.running))
             if jobs > 0:
