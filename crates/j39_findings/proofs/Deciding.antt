@@ -49,7 +49,7 @@ use Rattle.j39_signal.specs.declared.selector.Selector.{Selector}
 use Rattle.std.specs.Option.{ForSome, option_map_or}
 use Rattle.j39_network.specs.PlannedGroups.{IsSelectorInside}
 use Rattle.j39_network.proofs.Served.{not_is, Decides-is_to_one, Decides-is_to, some_decides, to_all_decides, Decides-serves, Decides-is_served}
-use Rattle.j39_network.proofs.Served.{Decides-some_meets}
+use Rattle.j39_network.proofs.Served.{Decides-some_meets, Decides-have_same_receiver}
 
 -- ---- units
 
