@@ -13,7 +13,7 @@ from j39plan import program
 from j39plan.mend.attempts import Mend
 from j39plan.mend.judge import Judge
 from j39plan.mend.search import Mended, Tried, difference, mended
-from j39plan.mend.slack import Slack, slack_lines, slack_of
+from j39plan.mend.slack import Slack, slack_lines, slack_object, slack_of
 from j39plan.plan.files import text_of
 from j39plan.progress import Progress
 
@@ -60,7 +60,7 @@ def tried_object(tried: Tried) -> dict[str, Any]:
     """A finding with what was tried, as JSON has it."""
     found = {"text": tried.text, "line": tried.line, "hint": tried.hint, "mends": [mend_object(mend) for mend in tried.mends],
              "in_vain": tried.in_vain, "gone_with": tried.by}
-    return {key: value for key, value in found.items() if value not in ("",)}
+    return {key: value for key, value in found.items() if value != ""}
 
 
 def written(given: argparse.Namespace, before: str, found: Mended, slack: Slack | None) -> None:
@@ -68,8 +68,8 @@ def written(given: argparse.Namespace, before: str, found: Mended, slack: Slack 
     shown = difference(given.plan, before, found.text)
     if given.json:
         whole = {"plan": given.plan, "status": found.status, "findings": [tried_object(one) for one in found.tried], "difference": shown,
-                 "check": found.answer.splitlines(), **({"slack": slack._asdict()} if slack else {})}
-        json.dump(whole, sys.stdout, indent=1, default=lambda value: value._asdict())
+                 "check": found.answer.splitlines(), **({"slack": slack_object(slack)} if slack else {})}
+        json.dump(whole, sys.stdout, indent=1)
         print()
         return
     for one in found.tried:

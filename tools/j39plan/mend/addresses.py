@@ -182,7 +182,9 @@ def contested(draft: Draft, line: Line) -> Iterator[Attempt]:
         yield elsewhere(draft, units[0], outside=True)
         yield from (elsewhere(draft, other) for other in draft.tables.units if other is not units[0] and other.address == units[0].address)
     else:
-        places = [address for address in free(draft, units[0]) if address not in POOL]
+        places: list[int] = []
+        for unit in units:
+            places += [address for address in free(draft, unit) if address not in POOL and address not in places][:1]
         both = sum((setting(unit.place, address=address) for unit, address in zip(units, places)), Change())
         what = ", ".join(f"{unit.label} {address}" for unit, address in zip(units, places))
         yield Attempt("other addresses of both ends", [Mend("2 units", f"addresses outside 128..247: {what}", both)] if len(places) > 1 else [])

@@ -75,8 +75,12 @@ class Guest:
 
     def room(self, priority: int, every: int) -> tuple[int, bool]:
         """How many frames come in, and whether a plan has no room for more."""
-        most = len(self._places)
-        count = greatest(0, most, lambda count: self._draft.mends(self._change(count, priority, every))) or 0
+        def there(count: int) -> bool:
+            return self._draft.mends(self._change(count, priority, every))
+        most, high = len(self._places), 1
+        while high < most and there(high):  # the shorter plans are asked first
+            high *= 2
+        count = greatest(high // 2, min(high, most), there) or 0
         return count, count == most
 
     def _change(self, count: int, priority: int, every: int) -> Change:
@@ -123,6 +127,11 @@ def slack_lines(slack: Slack) -> Iterator[str]:
     yield from aligned(("priority", *(f"each {every} ms" for every in DISTANCES)), (
         (priority, *(f"{room.frames}{'+' * room.is_most}" for room in slack.further if room.priority == priority))
         for priority in dict.fromkeys(room.priority for room in slack.further)))
+
+
+def slack_object(slack: Slack) -> dict[str, list[dict[str, object]]]:
+    """What is left, as JSON has it."""
+    return {"flows": [left._asdict() for left in slack.flows], "further": [room._asdict() for room in slack.further]}
 
 
 def share_of(left: Left) -> str:

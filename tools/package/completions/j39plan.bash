@@ -52,4 +52,4 @@ _j39plan_tool() {
     _j39plan_files "$word" toml
   fi
 }
-complete -F _j39plan_tool j39plan-where j39plan-answer j39plan-startup j39plan-dbc2plan j39plan-plan2dbc j39plan-join j39plan-forwards j39plan-compare j39plan-against j39plan-fleet j39plan-report j39plan-signals j39plan-plot j39plan-tolog j39plan-check-plans
+complete -F _j39plan_tool j39plan-where j39plan-answer j39plan-startup j39plan-dbc2plan j39plan-plan2dbc j39plan-join j39plan-forwards j39plan-compare j39plan-mend j39plan-against j39plan-fleet j39plan-report j39plan-signals j39plan-plot j39plan-tolog j39plan-check-plans

@@ -18,7 +18,7 @@ complete -c j39plan -n '__fish_seen_subcommand_from follow' -l all -d 'show each
 complete -c j39plan -n '__fish_seen_subcommand_from help' -a 'show check addresses load run read follow frame vehicle'
 
 # The tools.
-for tool in where answer startup dbc2plan plan2dbc join forwards compare against fleet report signals plot tolog check-plans
+for tool in where answer startup dbc2plan plan2dbc join forwards compare mend against fleet report signals plot tolog check-plans
     complete -c j39plan-$tool -l help -s h -d 'print the help'
     complete -c j39plan-$tool -l version -d 'print the version'
 end
@@ -52,6 +52,9 @@ complete -c j39plan-forwards -l group -x -d 'only this group of the first bus'
 complete -c j39plan-forwards -l periodic -d 'sent at moments of the gateway\'s own'
 complete -c j39plan-forwards -l within -x -d 'within how many ms the gateway sends on'
 complete -c j39plan-compare -l json -d 'as a JSON object'
+complete -c j39plan-mend -l json -d 'as a JSON object'
+complete -c j39plan-mend -l slack -d 'what flows have left, and how many frames the bus takes'
+complete -c j39plan-mend -s o -l output -r -F -d 'the file of the mended plan'
 complete -c j39plan-report -l output -s o -r -F -d 'the name of the HTML file'
 complete -c j39plan-report -l watch -d 'serve the page, drawn anew as the plan is saved'
 complete -c j39plan-report -l address -x -d 'at which address of this machine the page is served'
