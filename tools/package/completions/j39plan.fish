@@ -18,7 +18,7 @@ complete -c j39plan -n '__fish_seen_subcommand_from follow' -l all -d 'show each
 complete -c j39plan -n '__fish_seen_subcommand_from help' -a 'show check addresses load run read follow frame vehicle'
 
 # The tools.
-for tool in where answer startup dbc2plan plan2dbc join forwards compare mend against fleet report signals plot tolog check-plans
+for tool in where answer startup dbc2plan plan2dbc join forwards compare mend against fleet report signals codes plot tolog check-plans
     complete -c j39plan-$tool -l help -s h -d 'print the help'
     complete -c j39plan-$tool -l version -d 'print the version'
 end
@@ -80,6 +80,11 @@ complete -c j39plan-signals -l interface -x -d 'the interface that is read, as c
 complete -c j39plan-signals -l csv -d 'a row a signal'
 complete -c j39plan-signals -l json -d 'a JSON object a signal'
 complete -c j39plan-signals -l wide -d 'a row a message, two columns a signal'
+complete -c j39plan-codes -l csv -d 'a row a code'
+complete -c j39plan-codes -l json -d 'a JSON object a code'
+complete -c j39plan-codes -l fleet -d 'each log is of a vehicle of its own'
+complete -c j39plan-codes -l interface -x -d 'the interface that is read, as can1'
+complete -c j39plan-codes -l output -s o -r -F -d 'the name of the picture'
 complete -c j39plan-plot -l output -s o -r -F -d 'the name of the picture'
 complete -c j39plan-plot -l interface -x -d 'the interface that is read, as can1'
 complete -c j39plan-plot -l addresses -d 'draw who held which address when, too'
