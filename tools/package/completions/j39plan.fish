@@ -26,6 +26,7 @@ complete -c j39plan-answer -n '__fish_is_first_arg' -x -a 'check addresses load 
 complete -c j39plan-startup -l traffic -d 'then each flow sends one message'
 complete -c j39plan-where -l json -d 'as a JSON object'
 complete -c j39plan-where -l lint -d 'with hints that are no findings'
+complete -c j39plan-where -l reference -r -F -d 'with hints at what a DBC of SAE J1939 has otherwise'
 complete -c j39plan-where -l github -d 'as annotations of GitHub\'s CI'
 complete -c j39plan-where -l gitlab -r -F -d 'write a code quality report of GitLab\'s CI, too'
 complete -c j39plan-dbc2plan -l sender -x -d 'only groups that this unit sends'
