@@ -4,7 +4,6 @@ What the frames say, and who sent them, is what `j39plan follow` reports of them
 """
 
 import argparse
-import datetime
 import importlib.util
 import os
 import sys
@@ -12,7 +11,7 @@ from collections import defaultdict
 from collections.abc import Iterable
 
 from j39plan import program
-from j39plan.log.clock import SECOND, ends_of
+from j39plan.log.clock import counted, ends_of
 from j39plan.log.curves import Curve, Timeline, curves_of
 from j39plan.log.files import Log, drive_words, interface_option
 from j39plan.log.readings import Choice, Column, Wanted, parted
@@ -29,10 +28,6 @@ ENDINGS = (".png", ".svg")
 MOST = 24
 
 
-# Times from this one on are those of a calendar, in seconds since 1970.
-CALENDAR = 10**8
-
-
 def drawn(log: Log, plan: str, tables: Tables, choice: Choice) -> tuple[dict[Column, list[Curve]], Timeline]:
     """The curves of each chosen signal, those of each sender apart, and what tells who held which address."""
     counts, timeline = Counts(), Timeline(tables.units)
@@ -45,17 +40,6 @@ def drawn(log: Log, plan: str, tables: Tables, choice: Choice) -> tuple[dict[Col
     for curve in curves:
         by_signal[curve.group, curve.signal].append(curve)
     return by_signal, timeline
-
-
-def counted(first: int | None) -> str:
-    """What the axis counts, where that is the first time of a log."""
-    if first is None:
-        return "lines of the log"
-    text, at = "time in s from the log's first frame, at ", f"{first // SECOND}.{first % SECOND // 1000:06}"
-    if first < CALENDAR * SECOND:
-        return text + at
-    day = datetime.datetime.fromtimestamp(first // SECOND, datetime.UTC)
-    return f"{text}{day:%Y-%m-%d %H:%M:%S} UTC ({at})"
 
 
 def names_of(tables: Tables, column: Column) -> dict[float, str]:

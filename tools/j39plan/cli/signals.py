@@ -18,7 +18,7 @@ from j39plan import program
 from j39plan.j1939 import GLOBAL_ADDRESS
 from j39plan.log.clock import Clock
 from j39plan.log.files import Log, drive_words, interface_option
-from j39plan.log.readings import Choice, Column, Made, Reading, Told, Wanted, parted
+from j39plan.log.readings import CODE, Choice, Column, Made, Reading, Told, Wanted, parted
 from j39plan.log.reports import FROM, GROUP, LINE, TIME, TO, Counts, Said, Who, said_of, tables_of, who_of
 from j39plan.log.serial_numbers import by_kind, say_numbers
 from j39plan.plan.cut import cut
@@ -33,8 +33,6 @@ WRITTEN = 1 << 14
 # A number as JSON spells it.
 NUMBER = re.compile(r"-?(?:0|[1-9]\d*)(?:\.\d+)?")
 
-# A trouble code, or how it is spelled in older ways, and what else is said of it.
-CODE = re.compile(r"(?:spn (\d+) fmi (\d+)|raw (\d+)) count (\d+)(?: (.*))?")
 CODE_KEYS = ("spn", "fmi", "raw", "count")
 
 

@@ -12,6 +12,7 @@ from j39plan.plan.answer_places import Placed, placed
 from j39plan.plan.further_faults import further_faults
 from j39plan.plan.hints.lint import Lint
 from j39plan.plan.parts import Source, source_in
+from j39plan.plan.reference import Reference
 from j39plan.vehicle.answer_objects import vehicle_object
 from j39plan.vehicle.answer_places import InFile
 from j39plan.vehicle.answers import answered, readable
@@ -56,9 +57,12 @@ def github_notice(file: str, line: int, text: str, _: list[str]) -> list[str]:
     return [f"::notice file={escaped(file, NAME_SIGNS)},line={line}::{escaped(text, TEXT_SIGNS)}"]
 
 
-def hints_of(plan: str, used: frozenset[str] = frozenset()) -> list[Placed]:
-    """The hints at a plan that can be read, and of whose units with these labels a vehicle makes use."""
-    return [Placed(line, f"hint {text}", "", []) for line, text in Lint(source_in(plan), used).hints()]
+def hints_of(given: argparse.Namespace, plan: str, used: frozenset[str] = frozenset()) -> list[Placed]:
+    """The hints at a plan that can be read, and of whose units with these labels a vehicle makes use, as far as they are asked for."""
+    source = source_in(plan)
+    hints = [Placed(line, f"hint {text}", "", []) for line, text in Lint(source, used).hints()] if given.lint else []
+    reference: Reference | None = given.reference
+    return hints + (reference.differences(source) if reference else [])
 
 
 def lines_of(name: str, hints: list[Placed], parts: list[Placed], github: bool) -> list[str]:
@@ -77,6 +81,8 @@ def words_of(words: list[str] | None) -> argparse.Namespace:
     forms.add_argument("--json", action="store_true", help="as a JSON object: status, findings with their parts, lines, hints and steps")
     parser.add_argument("--gitlab", metavar="FILE", help="write them into a file too, as a code quality report of GitLab's CI, in which "
                         "those of other plans stay")
+    parser.add_argument("--reference", metavar="FILE", type=Reference, help="with hints at signals that a DBC of SAE J1939, or a plan of its groups, has "
+                        "otherwise by their SPNs: place, width, scale, unit, PGN, priority, length")
     parser.add_argument("--lint", action="store_true", help="with hints that are no findings, as FILE:LINE: hint ANSWER, for example "
                         "of a group that no flow sends; they don't change the status")
     return parser.parse_args(words)
@@ -95,22 +101,22 @@ def report(given: argparse.Namespace, found: list[InFile]) -> None:
         code_quality.write(given.gitlab, file, issues)
 
 
-def hints_at_buses(name: str, data: bytes) -> Iterator[InFile]:
+def hints_at_buses(given: argparse.Namespace, name: str, data: bytes) -> Iterator[InFile]:
     """The hints at the plans of a vehicle that can be read, each once."""
     vehicle = Vehicle(Source(data.decode(errors="replace")), name)
     used: dict[str, set[str]] = {}
     for bus in vehicle.tables.buses:
         used.setdefault(vehicle.file_of(bus), set()).update(vehicle.tables.units_on(bus.label))
     for file, units in used.items():
-        yield from (InFile(file, "", hint) for hint in hints_of(file, frozenset(units)))
+        yield from (InFile(file, "", hint) for hint in hints_of(given, file, frozenset(units)))
 
 
 def of_vehicle(given: argparse.Namespace, name: str, data: bytes) -> int:
     """Runs `j39plan vehicle` on a file of this name and answers its exit status."""
     status, parts, further = answered(given.plan, name, data)
-    hints = list(hints_at_buses(name, data)) if status in (0, 1) and given.lint else []
+    hints = list(hints_at_buses(given, name, data)) if status in (0, 1) else []
     if given.json:
-        print(json.dumps(vehicle_object(given.plan, status, parts, hints if given.lint else None, further), indent=1))
+        print(json.dumps(vehicle_object(given.plan, status, parts, hints if given.lint or given.reference else None, further), indent=1))
     else:
         notice, form = (github_notice, github_annotation) if given.github else (compiler_message, compiler_message)
         sys.stdout.write("".join(f"{line}\n" for line in (*in_files(hints, notice), *in_files([*parts, *further], form))))
@@ -135,10 +141,10 @@ def main(words: list[str] | None = None) -> int:
         if answer:
             parts = list(placed(data, answer))
             further = further_faults(data, parts)
-        if status in (0, 1) and given.lint:
-            hints = hints_of(plan)
+        if status in (0, 1):
+            hints = hints_of(given, plan)
     if given.json:
-        print(json.dumps(check_object(given.plan, status, parts, hints if given.lint else None, further), indent=1))
+        print(json.dumps(check_object(given.plan, status, parts, hints if given.lint or given.reference else None, further), indent=1))
     else:
         sys.stdout.write("".join(f"{line}\n" for line in lines_of(given.plan, hints, [*parts, *further], given.github)))
     if given.gitlab and status in (0, 1, 2):

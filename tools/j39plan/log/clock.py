@@ -1,5 +1,6 @@
 """The times of a log: what they are, and where its clock was set."""
 
+import datetime
 import re
 
 from j39plan import program
@@ -13,6 +14,9 @@ SECOND, MILLISECOND = 10**9, 10**6
 # Times that go on by more, or back by more, are those of a clock that was set. What goes back by less is out of order; where that is a
 # millisecond or less, as where lines of several interfaces were joined, it isn't told.
 DAY, BACK, ORDER = 86_400 * SECOND, SECOND, MILLISECOND
+
+# Times from this one on are those of a calendar, in seconds since 1970.
+CALENDAR = 10**8
 
 
 def nanoseconds(time: str) -> int | None:
@@ -45,6 +49,17 @@ def spelled_time(at: int) -> str:
     """A time in nanoseconds as a log spells it: in microseconds, or in nanoseconds where it has these."""
     rest = at % SECOND
     return f"({at // SECOND}.{rest:09})" if rest % 1000 else f"({at // SECOND}.{rest // 1000:06})"
+
+
+def counted(first: int | None) -> str:
+    """What the axis counts, where that is the first time of a log."""
+    if first is None:
+        return "lines of the log"
+    text, at = "time in s from the log's first frame, at ", f"{first // SECOND}.{first % SECOND // 1000:06}"
+    if first < CALENDAR * SECOND:
+        return text + at
+    day = datetime.datetime.fromtimestamp(first // SECOND, datetime.UTC)
+    return f"{text}{day:%Y-%m-%d %H:%M:%S} UTC ({at})"
 
 
 def in_words(duration: int) -> str:

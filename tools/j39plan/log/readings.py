@@ -2,6 +2,7 @@
 
 import difflib
 import os
+import re
 from collections.abc import Callable, Iterable
 from decimal import Context, Decimal
 from typing import Generic, NamedTuple, TypeVar
@@ -11,6 +12,9 @@ from j39plan.plan.measures import Measure, measure_of
 from j39plan.plan.tables import Tables
 
 EXACT = Context(prec=80)
+
+# A trouble code, or how it is spelled in older ways, and what else is said of it.
+CODE = re.compile(r"(?:spn (\d+) fmi (\d+)|raw (\d+)) count (\d+)(?: (.*))?")
 
 # How many readings are kept of all scales.
 KEPT = 1 << 16

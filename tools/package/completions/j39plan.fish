@@ -18,7 +18,7 @@ complete -c j39plan -n '__fish_seen_subcommand_from follow' -l all -d 'show each
 complete -c j39plan -n '__fish_seen_subcommand_from help' -a 'show check addresses load run read follow frame vehicle'
 
 # The tools.
-for tool in where answer startup dbc2plan plan2dbc join forwards compare against fleet report signals plot tolog check-plans
+for tool in where answer startup dbc2plan plan2dbc join forwards compare mend against fleet report signals codes plot tolog check-plans
     complete -c j39plan-$tool -l help -s h -d 'print the help'
     complete -c j39plan-$tool -l version -d 'print the version'
 end
@@ -26,6 +26,7 @@ complete -c j39plan-answer -n '__fish_is_first_arg' -x -a 'check addresses load 
 complete -c j39plan-startup -l traffic -d 'then each flow sends one message'
 complete -c j39plan-where -l json -d 'as a JSON object'
 complete -c j39plan-where -l lint -d 'with hints that are no findings'
+complete -c j39plan-where -l reference -r -F -d 'with hints at what a DBC of SAE J1939 has otherwise'
 complete -c j39plan-where -l github -d 'as annotations of GitHub\'s CI'
 complete -c j39plan-where -l gitlab -r -F -d 'write a code quality report of GitLab\'s CI, too'
 complete -c j39plan-dbc2plan -l sender -x -d 'only groups that this unit sends'
@@ -52,6 +53,9 @@ complete -c j39plan-forwards -l group -x -d 'only this group of the first bus'
 complete -c j39plan-forwards -l periodic -d 'sent at moments of the gateway\'s own'
 complete -c j39plan-forwards -l within -x -d 'within how many ms the gateway sends on'
 complete -c j39plan-compare -l json -d 'as a JSON object'
+complete -c j39plan-mend -l json -d 'as a JSON object'
+complete -c j39plan-mend -l slack -d 'what flows have left, and how many frames the bus takes'
+complete -c j39plan-mend -s o -l output -r -F -d 'the file of the mended plan'
 complete -c j39plan-report -l output -s o -r -F -d 'the name of the HTML file'
 complete -c j39plan-report -l watch -d 'serve the page, drawn anew as the plan is saved'
 complete -c j39plan-report -l address -x -d 'at which address of this machine the page is served'
@@ -77,6 +81,11 @@ complete -c j39plan-signals -l interface -x -d 'the interface that is read, as c
 complete -c j39plan-signals -l csv -d 'a row a signal'
 complete -c j39plan-signals -l json -d 'a JSON object a signal'
 complete -c j39plan-signals -l wide -d 'a row a message, two columns a signal'
+complete -c j39plan-codes -l csv -d 'a row a code'
+complete -c j39plan-codes -l json -d 'a JSON object a code'
+complete -c j39plan-codes -l fleet -d 'each log is of a vehicle of its own'
+complete -c j39plan-codes -l interface -x -d 'the interface that is read, as can1'
+complete -c j39plan-codes -l output -s o -r -F -d 'the name of the picture'
 complete -c j39plan-plot -l output -s o -r -F -d 'the name of the picture'
 complete -c j39plan-plot -l interface -x -d 'the interface that is read, as can1'
 complete -c j39plan-plot -l addresses -d 'draw who held which address when, too'

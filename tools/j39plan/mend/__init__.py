@@ -1,0 +1,1 @@
+"""Changes of a plan that take findings away, tried by asking the program."""

@@ -1,0 +1,112 @@
+"""Mends a plan: for each finding what takes it away, one after another, until nothing is found or nothing more can be done."""
+
+from __future__ import annotations
+
+import difflib
+from collections.abc import Callable, Iterator
+from typing import NamedTuple
+
+from j39plan.mend import addresses, flows, layouts, times
+from j39plan.mend.attempts import Attempt, Mend
+from j39plan.mend.edits import Change
+from j39plan.mend.judge import Draft, Judge, key_of
+from j39plan.plan.answer_grammar import Line, line_of
+from j39plan.plan.answer_places import finding
+from j39plan.plan.schema import VERSIONS
+
+ATTEMPTS: dict[str, Callable[[Draft, Line], Iterator[Attempt]]] = {**addresses.ATTEMPTS, **layouts.ATTEMPTS, **flows.ATTEMPTS, **times.ATTEMPTS}
+
+# Findings whose mends may take tables away, after which the others have other numbers: they come last.
+LAST = ("F10", "F11", "F25")
+
+
+class Tried(NamedTuple):
+    """A finding with its line in the plan as it was and a hint, its mends, each of which takes it away alone, and what was tried in vain. `by` is the
+    finding with whose mend it went."""
+
+    text: str
+    line: int
+    hint: str
+    mends: list[Mend]
+    in_vain: list[str]
+    by: str = ""
+
+
+class Mended(NamedTuple):
+    """A plan with its first mends, what was tried of each finding, and what `check` answers now."""
+
+    text: str
+    tried: list[Tried]
+    answer: str
+    status: int
+
+
+def mends_of(draft: Draft, text: str) -> tuple[list[Mend], list[str]]:
+    """Of each attempt against a finding the first change that mends; and of what none does."""
+    mends, in_vain = [], []
+    for attempt in ATTEMPTS[text.split()[0]](draft, line_of(text)):
+        mend = next((mend for one in attempt.mends if (mend := as_mends(draft, one, text))), None)
+        if mend is not None:
+            mends.append(mend)
+        else:
+            in_vain.append(attempt.what)
+    return mends, in_vain
+
+
+def as_mends(draft: Draft, mend: Mend, text: str) -> Mend | None:
+    """A change that takes a finding away and brings none: as it is, or with the last version of the format, where the plan's doesn't know a key of
+    it; None of another."""
+    outcome = draft.outcome(mend.change, [text])
+    if outcome.new is None and draft.source.version < VERSIONS[-1]:
+        mend = mend._replace(what=f"{mend.what}, version = {VERSIONS[-1]}", change=mend.change + Change(((("version",), VERSIONS[-1]),)))
+        outcome = draft.outcome(mend.change, [text])
+    return mend if outcome.mends else None
+
+
+def next_of(draft: Draft, given_up: set[str]) -> str | None:
+    """The finding that is tried next: in their order, but those whose mends take tables away at the end, the last of them first."""
+    left = [text for text in draft.findings if text not in given_up]
+    first = [text for text in left if text.split()[0] not in LAST]
+    return first[0] if first else left[-1] if left else None
+
+
+def mended(plan: str, judge: Judge) -> Mended:
+    """A plan with the first mend of each finding that has one."""
+    draft = first = Draft(plan, judge)
+    given_up: set[str] = set()
+    tried: dict[str, Tried] = {}
+    while (text := next_of(draft, given_up)) is not None:
+        judge.about = f"; {text}"
+        mends, in_vain = mends_of(draft, text)
+        tried[text] = Tried(text, *_placed(first if text in first.findings else draft, text), mends, in_vain)
+        if not mends:
+            given_up.add(text)
+            continue
+        before, change = draft, mends[0].change
+        draft = Draft(draft.with_change(change), judge)
+        for other in _gone(before, draft, change):
+            if other in first.findings:
+                tried.setdefault(other, Tried(other, *_placed(first, other), [], [], text))
+        if change.removed:
+            given_up.update(other for other in draft.findings if other.split()[0] not in LAST)
+    status, answer = judge.answer("check", draft.text)
+    order = {text: number for number, text in enumerate(first.findings)}
+    return Mended(draft.text, sorted(tried.values(), key=lambda one: order.get(one.text, len(order))), answer, status)
+
+
+def _gone(before: Draft, after: Draft, change: Change) -> Iterator[str]:
+    """The findings that a change has taken away."""
+    still = {key_of(text) for text in after.findings}
+    return (text for text in before.findings if before.renumbered(line_of(text), change) not in still)
+
+
+def _placed(draft: Draft, text: str) -> tuple[int, str]:
+    """Line and hint of a finding."""
+    line, hint = finding(draft.source, text)
+    return line, hint or ""
+
+
+def difference(name: str, before: str, after: str) -> str:
+    """What is otherwise in a plan's file, as `patch` takes it."""
+    lines = difflib.unified_diff(before.splitlines(keepends=True), after.splitlines(keepends=True), name, name)
+    return "".join(line if line.endswith("\n") else f"{line}\n\\ No newline at end of file\n" for line in lines)

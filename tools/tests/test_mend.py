@@ -1,0 +1,268 @@
+"""Mends of a plan: each takes its finding away by what `check` says of the plan that is written, and changes nothing else of the file."""
+
+import os
+import re
+import subprocess
+import unittest
+
+from j39plan import program
+from j39plan.mend.edits import Change, Editor, setting
+from j39plan.mend.judge import Draft, Judge, greatest, least
+from j39plan.mend.priorities import Assignment
+from j39plan.mend.search import difference, mended
+from j39plan.mend.slack import Guest, Room, Slack, left_of, slack_lines, slack_object
+from j39plan.plan.answers import Delay
+from j39plan.plan.text import Table
+from j39plan.progress import Progress
+from tests.support import InFolder, example, examples, run, text_of
+
+# An urgent group behind three that go before everything: neither its priority nor that of another one alone is enough.
+URGENT = """version = 4
+
+[timing] # of a bus
+bitrate = 250000
+unplanned = 0
+
+[[unit]]
+label = "A" # sends all
+address = 0
+name = { function = 0 }
+""" + "".join(f"""
+[[group]]
+label = "{label}" # group {number}
+pgn = {65000 + number}
+priority = {priority} # as it was
+length = 8
+
+[[flow]]
+group = "{label}"
+from = "A"
+to = "all"
+period = 100
+deadline = {deadline}
+""" for number, (label, priority, deadline) in enumerate((("X", 0, 50), ("Y", 0, 50), ("Z", 0, 50), ("P", 0, 2), ("Q", 0, 50))))
+
+EDITED = """version = 4 # the last one
+keep_free = [ 240, 241 ]
+
+# The engine.
+[[unit]]
+  label = "E"   # engine
+  address   =   0
+  name = { function = 0, # its function
+           ecu = 1 }
+
+[[unit]]
+label = "T"
+address = 3
+name.function = 3
+
+[[unit]]
+label = "N"
+address = 4
+[unit.name]
+function = 9
+
+# The flow.
+[[flow]]
+group = "G"
+from = "E"
+to = "T"
+"""
+
+
+class Edits(unittest.TestCase):
+    def changed(self, *parts: tuple[Change, str, str]) -> None:
+        """Each change makes of a part of the text another one, and of nothing else."""
+        for change, before, after in parts:
+            self.assertIn(before, EDITED)
+            self.assertEqual(Editor(EDITED).changed(change), EDITED.replace(before, after, 1))
+
+    def test_keys(self) -> None:
+        """Values are written in the place of others, with the comments and blanks around them; new keys behind the last one of their table."""
+        self.changed(
+            (setting(("unit", 1), address=9), "address   =   0", "address   =   9"),
+            (setting((), keep_free=[240]), "[ 240, 241 ]", "[240]"),
+            (setting(("unit", 1), queue="any"), "           ecu = 1 }\n", '           ecu = 1 }\n  queue = "any"\n'),
+            (setting(("unit", 1, "name"), arbitrary=True), "ecu = 1 }", "ecu = 1, arbitrary = true }"),
+            (setting(("unit", 2, "name"), ecu=1), "name.function = 3\n", "name.function = 3\nname.ecu = 1\n"),
+            (setting(("unit", 3, "name"), ecu=1), "function = 9\n", "function = 9\necu = 1\n"),
+            (setting(("unit", 3), window=16), "address = 4\n", "address = 4\nwindow = 16\n"),
+            (setting(("flow", 1), from_="N", to="all"), 'from = "E"\nto = "T"', 'from = "N"\nto = "all"'),
+        )
+
+    def test_tables(self) -> None:
+        """A table goes with the comments right above it; a new one comes at the end."""
+        flow = EDITED[EDITED.index("# The flow."):]
+        self.changed((Change(removed=(("flow", 1),)), flow, ""))
+        unit = EDITED[EDITED.index("[[unit]]\nlabel = \"T\""):EDITED.index("[[unit]]\nlabel = \"N\"")]
+        self.changed((Change(removed=(("unit", 2),)), unit, ""))
+        new = Change(added=(Table("flow", {"group": "G", "from": "T", "to": "all", "on_request": False}),))
+        self.assertEqual(Editor(EDITED + "\n\n").changed(new), EDITED + '\n[[flow]]\ngroup = "G"\nfrom = "T"\nto = "all"\n')
+
+    def test_bounds(self) -> None:
+        for of in (1, 37, 100):
+            self.assertEqual((least(1, 100, of.__le__), greatest(1, 100, of.__ge__)), (of, of))
+        self.assertEqual((least(1, 100, (101).__le__), greatest(1, 100, (0).__ge__)), (None, None))
+        self.assertEqual((least(2, 1, (1).__le__), greatest(2, 1, (1).__le__)), (None, None))
+
+
+class InPlans(InFolder):
+    def mend(self, text: str, *words: str) -> tuple[int, str]:
+        """What is said of a plan, without the folder."""
+        status, answer, said = run("mend.py", *words, self.write("plan.toml", text))
+        self.assertEqual([line for line in said.splitlines() if not re.match(r"\d+ plans were asked about", line)], [])
+        return status, answer.replace(self.folder + "/", "")
+
+    def mends(self, text: str) -> list[str]:
+        """The mends of a plan's findings, without what is to be known of them."""
+        lines = self.mend(text)[1].splitlines()
+        return [line.split("  (")[0].strip() for line in lines if re.match("  (mend|or): ", line)]
+
+
+class Mended(InPlans):
+    def test_each_example(self) -> None:
+        """Of each finding of the examples the first mends are written as `check` says that they are, and `patch` takes the difference; what isn't
+        mended is found as before."""
+        unmended = {"f05_same_pgn": {"F5"}, "f13_private_unsent": {"F13"}, "f04_bad_pgn": {"F4"}, "several": {"F4", "F5"}}
+        plans = [name for name in examples(".toml") if f"{os.sep}findings{os.sep}" in name]
+        self.assertGreaterEqual(len(plans), 28)
+        for name in plans:
+            text, what = text_of(name), os.path.splitext(os.path.basename(name))[0]
+            if what in ("f03_too_few_addresses", "f17_overload"):
+                continue  # they take long, and are tried below
+            with self.subTest(what):
+                found = mended(text, Judge(Progress()))
+                status, check = program.call(["check", self.write("new.toml", found.text)])
+                self.assertEqual((found.status, found.answer), (status, check))
+                self.assertEqual({line.split()[0] for line in check.splitlines() if line.startswith("F")}, unmended.get(what, set()))
+                for one in found.tried:
+                    self.assertEqual(bool(one.mends or one.by), one.text.split()[0] not in unmended.get(what, ()), one)
+                self.assertEqual(self.patched(text, difference("plan.toml", text, found.text)), found.text)
+
+    def patched(self, text: str, difference: str) -> str:
+        """A text to which `patch` applied a difference."""
+        self.write("plan.toml", text)
+        if difference:
+            subprocess.run(["patch", "-s", "-p0"], input=difference, text=True, check=True, cwd=self.folder)
+        return text_of(self.path("plan.toml"))
+
+    def test_a_plan_without_findings(self) -> None:
+        text = text_of(example("axle.toml"))
+        self.assertEqual(self.mend(text), (0, "ok 2 units 3 groups 3 flows\n"))
+
+    def test_addresses(self) -> None:
+        """A retarder at the engine's address goes to 15, that of its function by SAE J1939; 1 is the second engine's."""
+        self.assertEqual(self.mends(text_of(example("findings/f02_same_fixed_address.toml"))), [
+            "mend: unit RETARDER: address = 15", "or: unit ENGINE: address = 1", "or: unit RETARDER: name.arbitrary = true",
+            "or: unit ENGINE: name.arbitrary = true"])
+
+    def test_a_unit_that_never_claims_stays(self) -> None:
+        """It is set to its address at the factory: the other one gives way, and nothing is said of what it could choose."""
+        found = self.mends(text_of(example("findings/f26_silent_address.toml")))
+        self.assertEqual([line.split(": ")[1] for line in found], ["unit DISPLAY", "unit LIGHT_SENSOR"])
+
+    def test_both_ends_of_a_flow(self) -> None:
+        """On a live bus neither end may be where others move: one change mends both."""
+        text = 'version = 4\nlive = true\n' + "".join(
+            f'\n[[unit]]\nlabel = "{label}"\naddress = {address}\nname = {{ function = {number}, arbitrary = {choose} }}\n' for number, (label, address, choose)
+            in enumerate((("A", 140, "false"), ("B", 141, "false"), ("C", 150, "true"), ("D", 150, "true")), 10)) + (
+            '\n[[group]]\nlabel = "G"\npgn = 0xAA00\npriority = 6\nlength = 8\n\n[[flow]]\ngroup = "G"\nfrom = "A"\nto = "B"\n')
+        self.assertEqual(self.mends(text), ["mend: plan: keep_free = [140, 141]", "or: 2 units: addresses outside 128..247: A 12, B 13"])
+
+    def test_too_few_addresses(self) -> None:
+        """121 units that may choose, with 5 addresses kept free and 2 strangers, are 8 too many for 120: no single kind of change but one is enough."""
+        units = "".join(f'\n[[unit]]\nlabel = "U{number}"\naddress = {number}\nname = {{ function = 140, function_instance = {number % 32}, '
+                        f'system_instance = {number // 32}, arbitrary = true }}\n' for number in range(121))
+        text = f"version = 4\nkeep_free = [240, 241, 242, 243, 244]\nstrangers = 2\n{units}"
+        status, answer = self.mend(text)
+        self.assertIn("of 8 of the units: fixed addresses outside 128..247: U113 121, U114 122, ", answer)
+        self.assertEqual((status, "in vain: fixed units at addresses outside 128..247; fewer strangers" in answer), (0, True))
+
+    def test_an_older_version(self) -> None:
+        """Where the version doesn't know a key that mends, the plan gets the last one."""
+        text = ('version = 2\n\n[[unit]]\nlabel = "A"\naddress = 0\nname = { identity = 1 }\n\n[[group]]\nlabel = "G"\npgn = 65300\npriority = 6\nlength = 8\n'
+                '\n[[flow]]\ngroup = "G"\nfrom = "A"\nto = "all"\n')
+        status, answer = self.mend(text)
+        self.assertIn("mend: group G: private = true, version = 4", answer)
+        self.assertEqual((status, "+version = 4\n" in answer, "+private = true\n" in answer), (0, True, True))
+
+    def test_a_need_without_a_sender(self) -> None:
+        """Nobody knows who of two units has it: the flow is said, and isn't written."""
+        text = text_of(example("findings/f19_need_unmet.toml"))
+        third = '[[unit]]\nlabel = "THIRD"\naddress = 40\nname = { function = 29 }\n\n'
+        status, answer = self.mend(text.replace("[[group]]", f"{third}[[group]]", 1))
+        self.assertEqual((status, "no mend was found" in answer), (1, True))
+        self.assertIn('a flow with group = "ET1" and to = "all", from who has the value', answer)
+
+
+class Times(InPlans):
+    def test_a_late_flow(self) -> None:
+        """By the page on response times ET1 waits 2,560 us with itself, or without the unplanned frame 1,920 us, which priorities below 6 don't
+        wait for: 5 is the nearest that serves, and 3 ms the least deadline."""
+        self.assertEqual(self.mends(text_of(example("findings/f18_late_flow.toml"))), [
+            "mend: group ET1: priority = 5, it was 6", "or: group EEC1: priority = 7, it was 3", "or: flow 2 (ET1 from ENGINE to all): deadline = 3"])
+
+    def test_priorities_of_several(self) -> None:
+        """A frame of 640 us that waits for the one that has begun and for one more is within 1,920 us: P has 2 ms, so two of the three groups before it
+        have to come after it, and the first keeps its priority."""
+        status, answer = self.mend(URGENT, "-o", self.path("new.toml"))
+        self.assertIn("\n  mend: 2 groups: priority: Y 1 (it was 0), Z 1 (it was 0)  (none of them can keep its own)\n", answer)
+        mended_text = text_of(self.path("new.toml"))
+        self.assertEqual((status, mended_text.count("priority = 1 # as it was")), (0, 2))
+        self.assertEqual(mended_text.replace("priority = 1", "priority = 0"), URGENT)
+        self.assertEqual(program.call(["check", self.path("new.toml")]), (0, "ok 1 units 5 groups 5 flows\n"))
+
+    def test_no_assignment(self) -> None:
+        """A frame that waits for the one that has begun takes 1,280 us: with a deadline of 1 ms no priority serves."""
+        draft = Draft(URGENT.replace("deadline = 2", "deadline = 1"), Judge(Progress()))
+        self.assertIsNone(Assignment(draft).found("F18 LateFlow 4"))
+
+    def test_jitter_and_queue(self) -> None:
+        """A frame of 640 us behind one that has begun is within 1,280 us: of a deadline of 3 ms 1 ms is left for jitter. A FIFO queue costs more."""
+        text = URGENT[:URGENT.index('\n[[group]]\nlabel = "Y"')].replace("deadline = 50", "deadline = 3\njitter = 2")
+        self.assertIn("or: flow 1 (X from A to all): jitter = 1, it was 2", self.mends(text))
+        queued = text.replace("address = 0", 'address = 0\nqueue = "any"').replace("jitter = 2", "jitter = 1").replace("unplanned = 0", "unplanned = 3")
+        self.assertIn('or: unit A: queue = "priority"', self.mends(queued))
+
+    def test_too_full(self) -> None:
+        """16 frames of 160 bits each 10 ms are 256,000 bits a second: without 6,000 of them 250,000 are left, of 16 ms, since one each 16 ms is 10,000."""
+        text = text_of(example("findings/f17_overload.toml"))
+        draft = Draft(text, Judge(Progress()))
+        change = setting(("flow", 1), period=16)
+        self.assertEqual((draft.outcome(change, ["F17 Overload 256000"]).is_gone, draft.outcome(setting(("flow", 1), period=15), ["F17 Overload 256000"]).is_gone),
+                         (True, False))
+
+    def test_data_that_is_too_old(self) -> None:
+        """19 ms and 1,280 us are 20.28 ms, within 21; 20 ms and 1,280 us are 21.28, within 22."""
+        self.assertEqual(self.mends(text_of(example("findings/f20_need_too_old.toml"))), [
+            "mend: flow 1 (EEC1 from ENGINE to all): pause = 19, it was 20", "or: need 1: within = 22, it was 21"])
+
+    def test_a_flow_with_its_times(self) -> None:
+        """A need of data of at most 300 ms: a flow each 100 ms whose pause leaves room for its 1,280 us."""
+        text = URGENT[:URGENT.index('\n[[flow]]')] + '\n[[unit]]\nlabel = "B"\naddress = 1\nname = { function = 3 }\n\n[[need]]\nunit = "B"\ngroup = "X"\nwithin = 300\n'
+        self.assertEqual(self.mends(text), ['mend: a new flow: group = "X", from = "A", to = "all", period = 100, pause = 298'])
+
+    def test_slack(self) -> None:
+        """A bus of 250,000 bits carries 15 frames of 160 bits each 10 ms beside X's 1,600 a second; one more is an overload. All 15 and the one that
+        has begun leave X time, and the last of the 15 waits for the one that has begun and 14 others: 16 times 640 us are 10.24 ms, too many."""
+        draft = Draft(URGENT[:URGENT.index('\n[[group]]\nlabel = "Y"')], Judge(Progress()))
+        self.assertEqual(Guest(draft).room(0, 10), (14, False))
+
+    def test_what_is_left(self) -> None:
+        """X is alone: 1,280 of 100,000 us."""
+        slack = Slack([left_of(draft_flow, Delay(1, 1280, 100000, 1)) for draft_flow in Draft(URGENT, Judge(Progress())).tables.flows[:1]],
+                      [Room(3, every, 14, every == 1000) for every in (10, 100, 1000)])
+        self.assertEqual(slack_object(slack)["flows"], [{"flow": 1, "what": "X from A to all", "within": 1280, "limit": 100000, "left": 98720}])
+        lines = list(slack_lines(slack))
+        self.assertIn("   1  X from A to all       1280  100000    98720  98 %", lines)
+        self.assertIn("       3          14           14  14+", lines)
+
+    def test_no_slack(self) -> None:
+        """Of a plan without timing it is said why there is none."""
+        status, answer, said = run("mend.py", "--slack", example("first_plan.toml"))
+        self.assertEqual((status, answer, said), (0, "ok 2 units 1 groups 1 flows\n", "mend: no slack is known: the plan has no timing\n"))
+
+
+if __name__ == "__main__":
+    unittest.main()
