@@ -57,6 +57,7 @@ def broken_words(found: Break, who: str) -> str:
     return {
         "wrong": f"{who} read{'' if plural else 's'} {what} wrongly", "lost": f"{who} miss{'' if plural else 'es'} {what}",
         "old": f"{who} need{'' if plural else 's'} {what} younger", "sender": f"{found.sender} isn't found by {who}",
+        "bus": f"{who} stop{'' if plural else 's'} the bus", "address": f"{who} may take an address that is kept free",
     }[found.kind]
 
 
