@@ -183,7 +183,9 @@ class Lint(InFolder):
         self.assertEqual(hinted(first, signal("T", 3, 16, "measured", "spn = 190\n")), ["20: hint signal G.T: spn 190 is that of S at line 12 too"])
         self.assertEqual(hinted(first, other=signal("T", 3, 16, "measured", 'spn = 190\nper = 4\nunit = "rpm"\n')), [
             "25: hint signal H.T: spn 190 is 1/4 * raw rpm, and 1/8 * raw rpm in G.S at line 12"])
-        self.assertEqual(hinted(first, other=signal("T", 3, 16, "measured", 'spn = 190\nunit = "1/8 rpm"\n')), [])
+        self.assertEqual(hinted(first, other=signal("T", 3, 16, "measured", 'spn = 190\nunit = "1/8 rpm"\n')),
+                         ["25: hint signal H.T: spn 190 is that of G.S at line 12 too"])
+        self.assertEqual(hinted(first, other=signal("S", 3, 16, "measured", 'spn = 190\nunit = "1/8 rpm"\n')), [])
         self.assertEqual(hinted(first, signal("T", 3, 16, "measured", "spn = 191\n")), [])
 
     def test_many_flows_that_no_need_takes(self) -> None:

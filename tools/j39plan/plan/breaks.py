@@ -197,8 +197,8 @@ class Breaks:
         rates = [plan.inner("timing").get("bitrate") for plan in (old, new)]
         if None not in rates and rates[0] != rates[1]:
             why = f"its bitrate is {rates[1]}, and not {rates[0]}"
-            lines = (plan.source.line(("timing", "bitrate")) for plan in (old, new))
-            yield Break("bus", tuple(before.label for before, _ in there), "", "", "", why, *lines)
+            lines = [plan.source.line(("timing", "bitrate")) for plan in (old, new)]
+            yield Break("bus", tuple(before.label for before, _ in there), "", "", "", why, lines[0], lines[1])
         kept = [str(address) for address in new.values("keep_free") if address not in old.values("keep_free")]
         movable = tuple(before.label for before, now in there if may_choose(before))
         if kept and movable:

@@ -96,7 +96,7 @@ class Lint:
                 yield self.of_unit(unit, "address", f"it prefers {unit.address}, and {text}")
 
     def spns(self) -> Iterator[Hint]:
-        """Signals of a number that another one of their group has, or that has another scale in another group."""
+        """Signals of a number that another one of their group has, or that has another label or another scale in another group."""
         first: dict[int, tuple[Part, Part]] = {}
         for group in self.source["group"]:
             here: dict[int, Part] = {}
@@ -108,9 +108,12 @@ class Lint:
                 what = f"signal {group.label}.{signal.label}: spn {spn}"
                 if other is not signal:
                     yield signal.line("spn"), f"{what} is that of {other.label} at line {other.line('spn')} too"
-                elif above is not group and not scales.is_close(scales.scale(known), scales.scale(signal)):
+                elif above is not group:
                     there = f"{above.label}.{known.label} at line {known.line('spn')}"
-                    yield signal.line("spn"), f"{what} is {scales.scale(signal).shown}, and {scales.scale(known).shown} in {there}"
+                    if not scales.is_close(scales.scale(known), scales.scale(signal)):
+                        yield signal.line("spn"), f"{what} is {scales.scale(signal).shown}, and {scales.scale(known).shown} in {there}"
+                    elif known.label != signal.label and signal.text("kind") != "dtc":
+                        yield signal.line("spn"), f"{what} is that of {there} too"
 
     def short(self) -> Iterator[Hint]:
         """Groups whose messages of one frame don't fill it."""
