@@ -166,8 +166,12 @@ class Lint(InFolder):
             return [line for line in self.lines("version = 1\n" + "".join(lines))[1] if "prefers" in line]
 
         self.assertEqual(hinted(("A", 130, True), ("B", 130, True), ("C", 131, True)), [
-            "8: hint unit B: it prefers 130, and A at line 4 prefers it, so one of them moves whenever both are there"])
-        moves = "{}: hint unit A: it prefers 130, and B at line {} is fixed there, so it moves whenever both are there"
+            "8: hint unit B: it prefers 130, as A at line 4 does: one of them moves whenever both are there"])
+        self.assertEqual(hinted(("A", 130, True), ("B", 130, True), ("C", 130, True)), [
+            "8: hint unit B: it and 1 more prefer 130, as A at line 4 does: all but one move whenever all are there"])
+        self.assertEqual(hinted(("A", 130, True), ("B", 130, False), ("C", 130, True)), [
+            "4: hint unit A: it and 1 more prefer 130, where B at line 8 is fixed: they move whenever all are there"])
+        moves = "{}: hint unit A: it prefers 130, where B at line {} is fixed: it moves whenever both are there"
         self.assertEqual(hinted(("A", 130, True), ("B", 130, False)), [moves.format(4, 8)])
         self.assertEqual(hinted(("B", 130, False), ("A", 130, True)), [moves.format(8, 4)])
         self.assertEqual(hinted(("A", 130, False), ("B", 130, False)), [])

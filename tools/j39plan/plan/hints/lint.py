@@ -85,15 +85,20 @@ class Lint:
                 yield self.of_unit(unit, "address", f"it may not choose, and its address {unit.address} is one of 128..247, which others may choose")
 
     def preferred(self) -> Iterator[Hint]:
-        """Units that prefer the address of another one: of these two one has to move whenever both are there."""
-        at: dict[int, Unit] = {}
+        """Units that prefer the address of another one, one hint for each address: all but one of them have to move whenever they are there."""
+        at: dict[int, list[Unit]] = {}
         for unit in sorted(self.tables.units, key=lambda unit: unit.may_choose):
-            other = at.setdefault(unit.address, unit)
-            if other is not unit and unit.may_choose:
-                who = "one of them moves" if other.may_choose else "it moves"
-                first = "prefers it" if other.may_choose else "is fixed there"
-                text = f"{other.label} at line {self.source.line((*other.place, 'address'))} {first}, so {who} whenever both are there"
-                yield self.of_unit(unit, "address", f"it prefers {unit.address}, and {text}")
+            at.setdefault(unit.address, []).append(unit)
+        for first, *others in at.values():
+            movers = [unit for unit in others if unit.may_choose]
+            if not movers:
+                continue
+            several, there = len(movers) > 1, f"{first.label} at line {self.source.line((*first.place, 'address'))}"
+            who = f"it and {len(movers) - 1} more prefer" if several else "it prefers"
+            other = f"as {there} does" if first.may_choose else f"where {there} is fixed"
+            moved = ("all but one move" if several else "one of them moves") if first.may_choose else "they move" if several else "it moves"
+            text = f"{who} {first.address}, {other}: {moved} whenever {'all' if several else 'both'} are there"
+            yield self.of_unit(movers[0], "address", text)
 
     def spns(self) -> Iterator[Hint]:
         """Signals of a number that another one of their group has, or that has another label or another scale in another group."""
