@@ -163,7 +163,7 @@ class Lint(InFolder):
         def hinted(*units: tuple[str, int, bool]) -> list[str]:
             lines = [UNIT.format(label, address, 1 + number).replace(" }", ", arbitrary = true }" if chooses else " }")
                      for number, (label, address, chooses) in enumerate(units)]
-            return [line for line in self.lines("version = 1\n" + "".join(lines))[1] if "prefers" in line]
+            return [line for line in self.lines("version = 1\n" + "".join(lines))[1] if "prefer" in line]
 
         self.assertEqual(hinted(("A", 130, True), ("B", 130, True), ("C", 131, True)), [
             "8: hint unit B: it prefers 130, as A at line 4 does: one of them moves whenever both are there"])
