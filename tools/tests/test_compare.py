@@ -151,7 +151,7 @@ class Changes(Compared):
         first = text_of(example("first_plan.toml"))
         moving = first.replace("address = 23\nname = { ", "address = 130\nname = { arbitrary = true, ")
         fixed = first.replace("address = 23", "address = 130")
-        self.assertIn("new.toml:9: unit CLUSTER: stands may move from 130, it was stays 130 (old.toml:9)", self.compare(
+        self.assertIn("new.toml:9: unit CLUSTER: it may move from 130, where it stayed (old.toml:9)", self.compare(
             fixed, moving + '[[unit]]\nlabel = "X"\naddress = 130\nname = { identity = 1 }\n')[1])
 
     def test_needs(self) -> None:

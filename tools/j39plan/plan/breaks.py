@@ -214,7 +214,8 @@ class Breaks:
             was, age = old.delays.get(before.line()), new.delays.get(now.line())
             most = 1000 * before.number("within")
             if was and age and most and not is_too_old(was, most) and is_too_old(age, most):
-                why = f"its age is {shown_age(age.said)}, it was {shown_age(was.said)}"
+                now_is = "no flow meets it" if age.said.startswith("unmet") else f"its age is {shown_age(age.said)}"
+                why = f"{now_is}, it was {shown_age(was.said)}"
                 yield Break("old", (before.text("unit"),), before.text("from"), before.text("group"), before.text("signal"), why,
                             before.line(), now.line())
 
