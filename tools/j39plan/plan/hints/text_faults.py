@@ -225,6 +225,7 @@ def said_by_reader(statement: Statement, line: int, said: str) -> Told:
 def missing_comma(statement: Statement) -> Told | None:
     """A line of an inline table over several lines that lacks a comma at its end."""
     first, above = statement.line(statement.start), ""
+    at = first
     for number, line in enumerate(statement.text[statement.start:statement.end].split("\n"), first):
         code = ON_ONE_LINE.sub("''", line).partition("#")[0].strip()
         if above and PAIR.match(code) and not above.endswith((",", "{", "[")):
