@@ -55,7 +55,8 @@ def path() -> str:
         return named
     found = repository_program() or shutil.which("j39plan")
     if found is None:
-        print("j39plan isn't there: build it by ./j39plan, put it on the PATH, or name it by J39PLAN", file=sys.stderr)
+        print("j39plan isn't there: build it by ./j39plan, put it on the PATH, or name it by J39PLAN (the one without proofs: "
+              "export J39PLAN=$PWD/unproved/j39plan)", file=sys.stderr)
         sys.exit(MISSING)
     return found
 
@@ -144,9 +145,14 @@ def parser(description: str, own_version: bool = False) -> argparse.ArgumentPars
     return words
 
 
+def input_name(text: str) -> str:
+    """The name of a file that is read: that of standard input by `-`."""
+    return "/dev/stdin" if text == "-" else text
+
+
 def plan_word(words: argparse.ArgumentParser) -> None:
     """The word of a plan, of a tool that takes one."""
-    words.add_argument("plan", metavar="PLAN", help="the name of a plan file")
+    words.add_argument("plan", metavar="PLAN", type=input_name, help="the name of a plan file, - for standard input")
 
 
 def same(text: str) -> tuple[str, str]:

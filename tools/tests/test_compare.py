@@ -151,7 +151,7 @@ class Changes(Compared):
         first = text_of(example("first_plan.toml"))
         moving = first.replace("address = 23\nname = { ", "address = 130\nname = { arbitrary = true, ")
         fixed = first.replace("address = 23", "address = 130")
-        self.assertIn("new.toml:9: unit CLUSTER: stands may move from 130, it was stays 130 (old.toml:9)", self.compare(
+        self.assertIn("new.toml:9: unit CLUSTER: it may move from 130, where it stayed (old.toml:9)", self.compare(
             fixed, moving + '[[unit]]\nlabel = "X"\naddress = 130\nname = { identity = 1 }\n')[1])
 
     def test_needs(self) -> None:
@@ -248,6 +248,25 @@ class Broken(Compared):
             "all miss EEC1 of ENGINE: it is selected by 8 bits from 1.1 on, which are 2, and not by 8 bits from 1.1 on, which are 1 (old.toml:47)"])
         self.assertEqual(self.breaks(("byte = 1, bits", "byte = 2, bits"), old=told),
                          ["all miss EEC1 of ENGINE: only messages are read that are selected by 8 bits from 1.1 on, which are 1 (old.toml:18)"])
+
+    def test_another_bitrate(self) -> None:
+        """It stops the bus; a plan that says nothing of it breaks nothing."""
+        old = OLD.replace("version = 3\n", "version = 3\n\n[timing]\nbitrate = 250000\nunplanned = 1\n").replace("period = 10", "period = 10", 1)
+        new = old.replace("250000", "500000")
+        self.assertEqual(self.breaks(("bitrate = 250000", "bitrate = 500000"), old=old), ["all stop the bus: its bitrate is 500000, and not 250000 (old.toml:4)"])
+        (told,) = json.loads("\n".join(self.compare(old, new, "--json")[1]))["breaks"]
+        self.assertEqual((told["kind"], told["receivers"], told["new_line"]), ("bus", ["ENGINE", "CLUSTER", "BRAKES"], 4))
+        self.assertEqual(self.compare(OLD, old)[0], 0)
+
+    def test_an_address_that_is_kept_free(self) -> None:
+        """One that may choose takes it by the old plan; where nobody chooses, or it is no longer kept free, nothing breaks."""
+        old = OLD.replace("function = 19", "function = 19, arbitrary = true").replace("version = 3\n", "version = 3\nkeep_free = [240]\n")
+        self.assertEqual(self.breaks(("[240]", "[240, 241]"), old=old),
+                         ["CLUSTER may take an address that is kept free: 241 is kept free only now (old.toml:2)"])
+        self.assertEqual(self.breaks(("[240]", "[130, 131, 240]"), old=old),
+                         ["CLUSTER may take an address that is kept free: 130 and 131 are kept free only now (old.toml:2)"])
+        self.assertEqual(self.breaks(("keep_free = [240]\n", ""), old=old), [])
+        self.assertEqual(self.breaks(("version = 3\n", "version = 3\nkeep_free = [240]\n")), [])
 
     def test_flows(self) -> None:
         self.assertEqual(self.breaks(('to = "all"', 'to = "CLUSTER"')), ["BRAKES misses EEC1 of ENGINE: no flow sends it any more"])

@@ -2,6 +2,7 @@
 
 import contextlib
 import io
+import itertools
 import os
 import random
 import resource
@@ -236,7 +237,7 @@ class Groups(WithDbc):
                 private = [group["label"] for group in plan["group"] if group.get("private")]
                 self.assertEqual(private, groups)
                 self.assertLessEqual(set(private), {flow["group"] for flow in plan["flow"]})
-                self.assertEqual(any(line.startswith("group TWO: ") for line in said), number in (1, 3, 6, 7))
+                self.assertEqual(any(line.startswith("group TWO: ") for line in said), number in (1, 2, 3, 6, 7))
                 status, answer = program.call(["check", self.path("plan.toml")])
                 self.assertEqual(status, 0, answer)
 
@@ -521,6 +522,8 @@ class Signals(WithDbc):
 class Periods(InFolder):
     """Cycle times of frames as canmatrix hands them out, as periods of flows."""
 
+    identifiers = itertools.count()
+
     def plan(self, *frames: Any, version: int = 3) -> tuple[list[Any], list[str], list[str]]:
         """The flows with their periods, the remarks of the flows and what is said, of frames of one PGN from one node."""
         ecu = SimpleNamespace(name="A", attributes={"NmStationAddress": "5", "NmJ1939IdentityNumber": "7"}, comment=None)
@@ -538,7 +541,7 @@ class Periods(InFolder):
 
     def frame(self, cycle_time: int, *signals: Any) -> SimpleNamespace:
         """A frame of this cycle time, 0 for none, and of signals with theirs."""
-        ident = SimpleNamespace(extended=True, pgn=61444, j1939_priority=3, j1939_pdu_format=2, j1939_ps=4, j1939_source=5)
+        ident = SimpleNamespace(id=next(self.identifiers), extended=True, pgn=61444, j1939_priority=3, j1939_pdu_format=2, j1939_ps=4, j1939_source=5)
         parts = [field(f"S{number}", 8 * number, 8, False) for number in range(len(signals))]
         for part, cycle in zip(parts, signals):
             part.cycle_time = cycle
@@ -648,7 +651,7 @@ class Remarks(WithDbc):
             f'BA_ "SystemSignalLongSymbol" SG_ {number} SPEED "Actual speed";\n'))
         for line in ('"ENGINE"  # The engine', '"Controller_1"  # Controller 1', '"Actual_speed"  # Actual speed'):
             self.assertIn(f"label = {line}", text.splitlines())
-        self.assertEqual(said[-1], "2 units 1 groups 1 flows 1 needs, notes 0")
+        self.assertEqual(said[-1], "2 units 1 groups 1 flows 1 needs, notes 1")
 
     def test_a_plan_that_is_too_long(self) -> None:
         """The program takes a file of at most 16 MiB."""

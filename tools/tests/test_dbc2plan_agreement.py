@@ -78,7 +78,7 @@ class Agreement(WithDbc):
                              + message(0x18FF1000, "STATE", "EMS") + message(0x18FF1003, "STATE", "TCU", length=7))
         self.assertEqual([group["label"] for group in plan["group"]], ["CCVS", "STATE", "STATE_2"])
         self.assertEqual([signal["label"] for signal in plan["group"][0]["signal"]], [long, f"{long[:30]}_2"])
-        self.assertEqual(said[:-1], [f"signal {long}y of CCVS: it is called {long[:30]}_2: {long} is another signal of the group",
+        self.assertEqual(said[1:-1], [f"signal {long}y of CCVS: it is called {long[:30]}_2: {long} is another signal of the group",
                                      "group STATE: its PGN is 65296, that of STATE is 65296: it is called STATE_2"])
 
     def test_a_file_without_a_table_contradicts_nothing(self) -> None:
@@ -108,6 +108,50 @@ class Agreement(WithDbc):
             'b.dbc: signal Mode of CCVS: it has another table of values; the plan has that of CCVS in a.dbc: 1 is "open", there "on"',
             "b.dbc: signal State of CCVS: it has another table of values, by which it is raw; the plan has that of CCVS in a.dbc"])
 
+    def test_a_signal_that_one_file_can_not_give(self) -> None:
+        """In each order the plan has that of the other file, and the note says so."""
+        muxed = "BU_: EMS\n" + message(CCVS, "CCVS", "EMS", MODE.replace("Mode :", "Mode M :"), SPEED.format(8).replace("Speed :", "Speed m1 :"))
+        plain = "BU_: EMS\n" + message(CCVS, "CCVS", "EMS", MODE, SPEED.format(8))
+        for files, told in (((muxed, plain), "this"), ((plain, muxed), "that")):
+            plan, said = self.of(*files)
+            self.assertEqual([signal["label"] for signal in plan["group"][0]["signal"]], ["Mode", "Speed"])
+            self.assertIn(f"b.dbc: signal Speed of CCVS: Speed of CCVS in a.dbc has another way of coding; only {told} one is in the plan", said)
+
+    def test_two_lengths_and_one_identifier_twice(self) -> None:
+        first, short = ("BU_: EMS\n" + message(CCVS, "CCVS", "EMS", MODE, length=length) for length in (8, 6))
+        self.assertEqual(self.of(first, short)[1][:-1], ["b.dbc: group CCVS: its length is 6, that of CCVS in a.dbc is 8: the plan has both"])
+        twice = first + message(CCVS, "CCVS_2", "EMS", STATE)
+        plan, said = self.of(twice)
+        self.assertEqual(said[:-1], ["group CCVS_2: CCVS has its identifier: both are one group"])
+        self.assertEqual([signal["label"] for signal in plan["group"][0]["signal"]], ["Mode", "State"])
+
+    def test_nodes_without_names(self) -> None:
+        """One note for all; --identity numbers those that nothing else distinguishes."""
+        nodes = [f"N{number}" for number in range(7)]
+        data = f"BU_: {' '.join(nodes)}\n" + "".join(message(CCVS + number, "CCVS", node) for number, node in enumerate(nodes))
+        plan, said = self.of(data)
+        self.assertEqual(said[:-1], ["units N0, N1, N2, N3, N4 and 2 more: no NAME is given, so nothing tells them apart (F1): give each its function, "
+                                     "or number them by --identity"])
+        plan, said = self.of(data, words=("--identity",))
+        self.assertEqual([unit["name"] for unit in plan["unit"]], [{"identity": number} for number in range(1, 8)])
+        self.assertEqual(said[0], "unit N0: no identity number is given: 1 stands in its place")
+
+    def test_names_above_the_values_and_whole_ranges(self) -> None:
+        """States in 251 to 253 keep their names, errors and 'not available' have none; a range up to all ones is told."""
+        level = 'Level : 16|16@1+ (1,0) [0|65535] "" Vector__XXX'
+        plan, said = self.of("BU_: EMS\n" + message(CCVS, "CCVS", "EMS", MODE, level) + named(CCVS, "Mode", '251 "Park" 253 "Out" 254 "Fault" 255 "None"')
+                             + named(CCVS, "Level", '64256 "Low" 65024 "Fault"'))
+        self.assertEqual([signal["values"] for signal in plan["group"][0]["signal"]], [{"251": "Park", "253": "Out"}, {"64256": "Low"}])
+        self.assertEqual(said[:-1], [])
+        plan, said = self.of("BU_: EMS\n" + message(CCVS, "CCVS", "EMS", MODE, level))
+        self.assertEqual((plan["group"][0]["signal"][1]["kind"], len(said)), ("measured", 2))
+        self.assertTrue(said[0].startswith("signal Level of CCVS: the range goes to all ones, but by SAE J1939-71 251 and above "), said)
+
+    def test_an_absurd_width_ends_at_once(self) -> None:
+        plan, said = self.of("BU_: EMS\n" + message(CCVS, "CCVS", "EMS", MODE, 'S : 0|99999999999@1+ (1,0) [0|0] "" Vector__XXX'))
+        self.assertEqual([signal["label"] for signal in plan["group"][0]["signal"]], ["Mode"])
+        self.assertEqual(said[:-1], ["signal S of CCVS: it has 99999999999 bits, more than 32"])
+
     def test_another_name_at_the_same_bits(self) -> None:
         plan, said = self.of("BU_: EMS\n" + message(CCVS, "CCVS", "EMS", SPEED.format(8)),
                              "BU_: EMS\n" + message(CCVS, "CCVS", "EMS", SPEED.format(8).replace("Speed", "WheelBasedVehicleSpeed")))
@@ -122,9 +166,9 @@ class Agreement(WithDbc):
         plan, said = self.of(own + end[0], heard + end[1])
         self.assertEqual([(flow["group"], flow["from"], flow["to"]) for flow in plan["flow"]], [("EEC1", "EMS", "all"), ("CCVS", "EMS", "all")])
         self.assertEqual(plan["need"], [{"unit": "ICL", "group": "CCVS"}])
-        self.assertEqual(said[:-1], ["b.dbc: group CCVS: it names no sender: EMS has its source address 0"])
+        self.assertEqual(said[:-2], ["b.dbc: group CCVS: it names no sender: EMS has its source address 0"])
         _, said = self.of(own + message(CCVS, "CCVS", "EMS") + end[0], heard + end[1])
-        self.assertEqual(said[:-1], [])
+        self.assertEqual(said[:-1], ["units EMS, ICL: no NAME is given, so nothing tells them apart (F1): give each its function, or number them by --identity"])
 
     def test_frames_of_other_protocols(self) -> None:
         """Extended frames that the file says to be none of J1939; where it calls none so, nothing is known of them."""
@@ -212,7 +256,7 @@ class Orders(WithDbc):
             ("EEC1", "EMS", "all"), ("TSC1", "TCU", "EMS"), ("TSC1", "ABS", "EMS"), ("EBC1", "ABS", "all"), ("CCVS", "BCM", "all")})
         self.assertEqual({(need["unit"], need["group"]) for need in whole["need"]}, {
             ("TCU", "EEC1"), ("ICL", "EEC1"), ("EMS", "TSC1"), ("EMS", "EBC1"), ("ICL", "EBC1"), ("ICL", "CCVS")})
-        self.assertEqual([note["what"] for note in notes], ["group UDS"])
+        self.assertEqual([note["what"] for note in notes], ["group UDS", "units ABS, BCM, EMS, ICL, TCU"])
         for files in self.orders(SUPPLIERS):
             plan, told = self.made_of(files)
             self.assertEqual(self.tables(plan), self.tables(whole), list(files))

@@ -217,6 +217,28 @@ class Agreement(Joined):
         status, _, said = self.join(one, other)
         self.assertEqual((status, said[0]), (0, 'b.toml:12: note: signal A.S: unit = "deg c", taken is "degC" of a.toml:12'))
 
+    def test_a_unit_of_measurement_that_one_file_lacks(self) -> None:
+        """It is that of the other one, whichever comes first, and is noted; a third file has to agree with it."""
+        units = ('unit = "rpm"\nper = 8\n', "per = 8\n", 'unit = "1/8 km/h"\n')
+        known, without, other = (f"version = 3\n{group('A', 65262, signal('S', 1, 16, 'measured', unit), False)}".replace("private = false\n", "")
+                                 for unit in units)
+        self.assertEqual(self.joined(known, without, notes=1)["group"][0]["signal"][0]["unit"], "rpm")
+        self.assertEqual(self.joined(without, known, notes=1)["group"][0]["signal"][0], {
+            "label": "S", "byte": 1, "bits": 16, "kind": "measured", "per": 8, "unit": "rpm"})
+        self.assertIn('b.toml:12: note: signal A.S: unit = "rpm" is taken, and at a.toml:7 there is none', self.join(without, known)[2])
+        found, _ = self.contradicted(without, known, other)
+        self.assertEqual(found, ["c.toml:7: signal A.S: per = 1 by default, and 8 at b.toml:13",
+                                 'c.toml:12: signal A.S: unit = "1/8 km/h", and "rpm" at b.toml:12'])
+
+    def test_names_of_a_state_that_only_one_file_has(self) -> None:
+        """All of them are there, in the order of their numbers, whichever file comes first."""
+        few, more = (f"version = 4\n{group('A', 65262, signal('S', 1, 2, 'states', names), False)}".replace("private = false\n", "")
+                     for names in ('values = { 1 = "on" }\n', 'values = { 0 = "off", 1 = "on" }\n'))
+        for plans in ((few, more), (more, few)):
+            text = self.join(*plans)[1]
+            self.assertIn('values = { 0 = "off", 1 = "on" }\n', text)
+        self.assertEqual(self.contradicted(few, more.replace('"on"', '"open"'))[0], ['b.toml:12: signal A.S: values.1 = "open", and "on" at a.toml:12'])
+
     def test_makers_own_groups_are_told_by_their_senders(self) -> None:
         """Of one number and label, but of other makers, they stay two; of the same unit they are one."""
         one = "version = 3\n" + unit("A", 1, 1) + group("STATE", 65300, signal("S", 1, 8, "raw")) + flow("STATE", "A")
@@ -244,6 +266,21 @@ class Contradictions(Joined):
     def test_defaults_contradict_too(self) -> None:
         other = BRAKES.replace('label = "ENGINE"\n', 'label = "ENGINE"\nwindow = 16\n')
         self.assertEqual(self.contradicted(ENGINE, other)[0], ["b.toml:17: unit ENGINE: window = 16, and 255 by default at a.toml:5"])
+
+    def test_units_of_measurement(self) -> None:
+        """Of one scale, and one that is a part of the other: each in one line."""
+        for unit in ("km/h", "1/2 rpm", "1/min"):
+            first, other = (f"version = 3\n{group('A', 65262, signal('S', 1, 16, 'measured', measured), False)}".replace("private = false\n", "")
+                            for measured in ('per = 8\nunit = "rpm"\n', f'per = 8\nunit = "{unit}"\n'))
+            self.assertEqual(self.contradicted(first, other)[0], [f'b.toml:13: signal A.S: unit = "{unit}", and "rpm" at a.toml:13'])
+
+    def test_one_spn_at_two_places(self) -> None:
+        """A signal of another label and place is that of its number; of one file twice it is for `where --lint`."""
+        first, other = (f"version = 4\n{group('A', 65262, signal(label, byte, 8, 'measured', 'spn = 190' + chr(10)), False)}".replace("private = false\n", "")
+                        for label, byte in (("Speed", 1), ("Rev", 3)))
+        self.assertEqual(self.contradicted(first, other)[0], ["b.toml:9: signal A.Rev (spn 190, as Speed): byte = 3, and 1 at a.toml:9"])
+        both = first + signal("Rev", 3, 8, "measured", "spn = 190\n")
+        self.assertEqual(len(self.joined(both)["group"][0]["signal"]), 2)
 
     def test_examples_that_contradict(self) -> None:
         """Two examples of one truck: another length of DM1, and another code where its codes lie."""

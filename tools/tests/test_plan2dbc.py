@@ -231,6 +231,18 @@ class Multiplexed(WithPlans):
         for value, names in ((1, {"AXLE", "PRESSURE"}), (2, {"AXLE", "DOOR"}), (3, {"AXLE", "DOOR"})):
             self.assertEqual(set(frame.decode(bytes((value << 4, 7, 1, 0, 0, 0, 0, 0)))), names)
 
+    def test_a_signal_of_all_groups_has_their_values(self) -> None:
+        """In messages with another value it isn't there; one that its comment calls so is, and one of groups with all values."""
+        text = TOLD + '[[group.signal]]\nlabel = "PRESSURE"\nbyte = 2\nbits = 8\nkind = "measured"\n' + FLOWS
+        dbc, _, is_back = self.dbc(text, "TIRE_m1", "TIRE_m2")
+        self.assertTrue(is_back)
+        self.assertEqual(re.findall(r"SG_ (\w+) (\S+) :", dbc), [("AXLE", "M"), ("PRESSURE", "m1")])
+        self.assertIn("SG_MUL_VAL_ 2566845491 PRESSURE AXLE 1-1, 2-2;\n", dbc)
+        dbc, _, is_back = self.dbc(text.replace('"PRESSURE"', '"PRESSURE"  # in each message'), "TIRE_m1", "TIRE_m2")
+        self.assertEqual((is_back, re.findall(r"SG_ PRESSURE.*?:", dbc)), (True, ["SG_ PRESSURE :"]))
+        whole = text.replace("bits = 4, value = 1", "bits = 1, value = 1").replace("bits = 4, value = 2", "bits = 1, value = 0").replace("bits = 4\n", "bits = 1\n")
+        self.assertEqual(re.findall(r"SG_ PRESSURE.*?:", self.dbc(whole, "TIRE_m1", "TIRE_m0")[0]), ["SG_ PRESSURE :"])
+
     def test_several_lengths(self) -> None:
         text = (TOLD + FLOWS).replace("length = 8", "length = 7", 1)
         dbc, told, _ = self.dbc(text, "TIRE_m1", "TIRE_m2")
@@ -579,7 +591,10 @@ to = "DISPLAY"
                      f'VAL_ {number} MODE 0 "idle" 14 "not \'so\'" ;'):
             self.assertIn(line, dbc)
         self.assertIn('BA_DEF_ BO_ "GenMsgSendType" ENUM "cyclic","OnChange";', dbc)
-        self.assertEqual(said(self.back(self.path("plan.toml"))), said(tomllib.loads(plan)))
+        there = tomllib.loads(plan)
+        for number, unit in enumerate(there["unit"], 1):  # the file has no NAMEs, and --identity gives each a number
+            unit["name"]["identity"] = number
+        self.assertEqual(said(self.back(self.path("plan.toml"))), said(there))
 
     def test_units_of_any_serial_number(self) -> None:
         """A DBC says nothing of their numbers."""

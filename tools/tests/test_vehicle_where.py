@@ -52,6 +52,20 @@ class Passed(OfVehicles):
         self.assertEqual(run("where.py", "/dev/stdin", text=swapped(text, ("within = 5\n", "within = 0\n")))[:2],
                          (2, "/dev/stdin:15: refused Range forward 1 key within  (within = 0: integer 1..65535)\n"))
 
+    def test_a_plan_that_is_not_there(self) -> None:
+        """It is told by its line, whichever tool looks for it."""
+        self.vehicle()
+        name = self.write("v.toml", swapped(V, ('"b.toml"', '"missing.toml"')))
+        for words in (("where.py", name), ("answer.py", "vehicle", name), ("report.py", name)):
+            status, answer, said = run(*words)
+            self.assertEqual((status, answer), (4, ""))
+            self.assertIn(f'{name}:7: plan = "missing.toml": No such file or directory\n', said)
+
+    def test_a_plan_in_a_vehicles_place(self) -> None:
+        self.vehicle()
+        answer = json.loads(run("answer.py", "vehicle", self.path("p.toml"))[1])
+        self.assertEqual((answer["refused"]["line"], answer["refused"]["hint"]), (2, "this is the plan of a bus: j39plan check takes it"))
+
     def test_a_plan_stays_as_it_is(self) -> None:
         """A plan with a table too many is one, and refused as such."""
         name = self.write("p.toml", P + "[[bus]]\n")
@@ -166,6 +180,12 @@ class Forwards(OfVehicles):
         self.assertIn(f"v.toml:14: G8 ForwardLoop 1  {FORWARD}what it sends comes back to it over forwards 1 and 2)", told)
         self.assertIn("v.toml:28: G8 ForwardLoop 2  (B.EEC1 to P.EEC1: what it sends comes back to it over forwards 2 and 1)", told)
 
+    def test_too_rare_since_no_bound_is_known(self) -> None:
+        """Of a pause that is long enough it is said why it isn't shown to be kept."""
+        b = swapped(B, ("jitter = 7", "jitter = 7\npause = 40"))
+        why = f"{FORWARD}{SENT} isn't shown to keep its pause of 40 ms: the plan of bus P has no timing)"
+        self.says(14, f"G12 TooRare 1  {why}", p=swapped(P, (TIMING, "")), b=b)
+
     def test_too_often(self) -> None:
         asked = swapped(B, ("period = 10", "period = 10\non_request = true")) + '[[request]]\ngroup = "EEC1"\nfrom = "C"\nto = "G"\n'
         for said, b in (
@@ -254,6 +274,10 @@ class Refusals(OfVehicles):
             (16, "UnknownLabel forward 1 key from  (key from: no unit of bus P is called X)", more('from = "X"\n'), B),
             (16, "UnknownLabel forward 1 key at  (key at: CGW has no unit E on bus P)", more('at = "E"\n'), B),
             (16, "UnknownLabel forward 1 key by  (key by: CGW has no unit E on bus B)", more('by = "E"\n'), B),
+            (10, "UnknownLabel forward 1 key by  (key unit: no unit of bus B is called GW)", swapped(more('by = "G"\n'), ('"B.G"', '"B.GW"')), B),
+            (13, "Range forward 1 key group  (group = \"EEC1\": a text, BUS.GROUP: the group that is heard, and on which bus; did you mean P.EEC1 or B.EEC1?)",
+             swapped(V, ('group = "P.EEC1"', 'group = "EEC1"')), B),
+            (18, "UnknownLabel need 1 key group  (key group: B.EEC1 is EEC1 here: the unit names the bus)", swapped(V, ('group = "EEC1"', 'group = "B.EEC1"')), B),
             (16, "UnknownLabel forward 1 key to  (key to: no unit of bus B is called al; did you mean all?)", more('to = "al"\n'), B),
             (10, "UnknownLabel gateway 1 key unit  (key unit: no unit of bus B is called H)", swapped(V, ('"B.G"', '"B.H"')), B),
             (10, "UnknownLabel gateway 1 key unit  (key unit: no bus is called Q)", swapped(V, ('"B.G"', '"Q.H"')), B),

@@ -12,7 +12,7 @@ from j39plan import program
 from j39plan.cli import where
 from j39plan.plan import answer_places
 from j39plan.plan.parts import Source
-from tests.support import InFolder, MARKED, NEWER, TOOLS, TOP, example, plans, run, shown_refusals, text_of, there
+from tests.support import InFolder, MARKED, NEWER, TOOLS, TOP, example, plans, run, shown_refusals, signal, text_of, there
 
 CASES = os.path.join(TOP, "crates", "examples_check", "data")
 
@@ -157,6 +157,50 @@ class Lint(InFolder):
             self.assertEqual("hint unplanned" in "".join(lines), told, lines)
         said = "4: hint unplanned = 7: on a live bus units claim at any time: 8 frames, of 2 units, 5 strangers and a request for claims"
         self.assertIn(said, hinted(7, "live = true\nstrangers = 5\n"))
+
+    def test_units_that_prefer_one_address(self) -> None:
+        """Of two that may choose one moves; beside a fixed one the other does, in whichever order they stand."""
+        def hinted(*units: tuple[str, int, bool]) -> list[str]:
+            lines = [UNIT.format(label, address, 1 + number).replace(" }", ", arbitrary = true }" if chooses else " }")
+                     for number, (label, address, chooses) in enumerate(units)]
+            return [line for line in self.lines("version = 1\n" + "".join(lines))[1] if "prefer" in line]
+
+        self.assertEqual(hinted(("A", 130, True), ("B", 130, True), ("C", 131, True)), [
+            "8: hint unit B: it prefers 130, as A at line 4 does: one of them moves whenever both are there"])
+        self.assertEqual(hinted(("A", 130, True), ("B", 130, True), ("C", 130, True)), [
+            "8: hint unit B: it and 1 more prefer 130, as A at line 4 does: all but one move whenever all are there"])
+        self.assertEqual(hinted(("A", 130, True), ("B", 130, False), ("C", 130, True)), [
+            "4: hint unit A: it and 1 more prefer 130, where B at line 8 is fixed: they move whenever all are there"])
+        moves = "{}: hint unit A: it prefers 130, where B at line {} is fixed: it moves whenever both are there"
+        self.assertEqual(hinted(("A", 130, True), ("B", 130, False)), [moves.format(4, 8)])
+        self.assertEqual(hinted(("B", 130, False), ("A", 130, True)), [moves.format(8, 4)])
+        self.assertEqual(hinted(("A", 130, False), ("B", 130, False)), [])
+
+    def test_one_spn_twice(self) -> None:
+        """In one group, and with two scales in two groups; with one scale, however it is written, it is as it should be."""
+        def hinted(*signals: str, other: str = "") -> list[str]:
+            groups = "".join(f'[[group]]\nlabel = "{label}"\npgn = {pgn}\npriority = 6\nlength = 8\n{"".join(inside)}'
+                             for label, pgn, inside in (("G", 65262, signals), ("H", 65263, [other])))
+            return [line for line in self.lines("version = 4\n" + groups)[1] if ": spn " in line]
+
+        first = signal("S", 1, 16, "measured", 'spn = 190\nper = 8\nunit = "rpm"\n')
+        self.assertEqual(hinted(first, signal("T", 3, 16, "measured", "spn = 190\n")), ["20: hint signal G.T: spn 190 is that of S at line 12 too"])
+        self.assertEqual(hinted(first, other=signal("T", 3, 16, "measured", 'spn = 190\nper = 4\nunit = "rpm"\n')), [
+            "25: hint signal H.T: spn 190 is 1/4 * raw rpm, and 1/8 * raw rpm in G.S at line 12"])
+        self.assertEqual(hinted(first, other=signal("T", 3, 16, "measured", 'spn = 190\nunit = "1/8 rpm"\n')),
+                         ["25: hint signal H.T: spn 190 is that of G.S at line 12 too"])
+        self.assertEqual(hinted(first, other=signal("S", 3, 16, "measured", 'spn = 190\nunit = "1/8 rpm"\n')), [])
+        self.assertEqual(hinted(first, signal("T", 3, 16, "measured", "spn = 191\n")), [])
+
+    def test_many_flows_that_no_need_takes(self) -> None:
+        """More than three are told in one hint."""
+        groups = "".join(f'[[group]]\nlabel = "G{number}"\npgn = {256 * number}\npriority = 6\nlength = 8\n[[flow]]\ngroup = "G{number}"\nfrom = "A"\nto = "B"\n'
+                         for number in range(1, 6))
+        plan = "version = 4\n" + UNIT.format("A", 0, 1) + UNIT.format("B", 1, 2) + groups + '[[need]]\nunit = "B"\ngroup = "G1"\n'
+        told = [line for line in self.lines(plan)[1] if "need" in line]
+        self.assertEqual(told, ["27: hint 4 flows go to one unit each, and no need takes them: flows 2, 3, 4, 5"])
+        plan += '[[need]]\nunit = "B"\ngroup = "G2"\n'
+        self.assertEqual([line for line in self.lines(plan)[1] if "need" in line][0], "36: hint flow 3, G3 from A to B: no need of B takes it")
 
     def test_hints_at_queues(self) -> None:
         """A unit whose controller keeps no order, and that sends groups of two priorities; of one priority there is no hint."""

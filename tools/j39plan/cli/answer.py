@@ -27,7 +27,7 @@ def main(words: list[str] | None = None) -> int:
     parser = program.parser(__doc__)
     parser.epilog = "example: %(prog)s load plan.toml"
     parser.add_argument("command", metavar="COMMAND", choices=COMMANDS, help=f"which answer: {', '.join(COMMANDS)}")
-    parser.add_argument("plan", metavar="PLAN", help="the name of a plan file, of vehicle that of a vehicle file")
+    parser.add_argument("plan", metavar="PLAN", type=program.input_name, help="the name of a plan file, of vehicle that of a vehicle file")
     given = parser.parse_args(words)
     if given.command == "vehicle":
         return of_vehicle(given.plan)

@@ -114,7 +114,7 @@ def run(words: list[str] | None) -> int:
         status, answer = program.call(["--version"])
         print("check-plans ({}) {}".format(*answer.split()[:2]))
         return status
-    outcomes = [(plan, checked(plan)) for plan in plans_of(rest)]
+    outcomes = [(plan, checked(plan)) for plan in map(program.input_name, plans_of(rest))]
     if report is not None:
         write_junit(report, outcomes)
     return max((outcome.status for _, outcome in outcomes), default=0)

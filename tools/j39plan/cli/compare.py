@@ -31,6 +31,9 @@ def change_line(change: Change, old: Source, new: Source) -> str:
     was = f" ({old.name}:{old_line})" if old_line and new_line else ""
     if key == "label":
         return f"{place}: {what}: it was called {before}{was}"
+    if key == "stands" and now:
+        address = now.rpartition(" ")[2]
+        return f"{place}: {what}: " + (f"it stays at {address} now" if now.startswith("stays") else f"it may move from {address}, where it stayed") + was
     return f"{place}: {what}: {key} {now or 'none'}, it was {before or 'none'}{was}"
 
 
@@ -57,6 +60,7 @@ def broken_words(found: Break, who: str) -> str:
     return {
         "wrong": f"{who} read{'' if plural else 's'} {what} wrongly", "lost": f"{who} miss{'' if plural else 'es'} {what}",
         "old": f"{who} need{'' if plural else 's'} {what} younger", "sender": f"{found.sender} isn't found by {who}",
+        "bus": f"{who} stop{'' if plural else 's'} the bus", "address": f"{who} may take an address that is kept free",
     }[found.kind]
 
 
@@ -76,8 +80,8 @@ def main(words: list[str] | None = None) -> int:
     """Writes what is otherwise; 1 where something breaks."""
     parser = program.parser(__doc__)
     parser.epilog = "example: %(prog)s truck_2025.toml truck_2026.toml"
-    parser.add_argument("old", metavar="OLD", help="the name of a plan file")
-    parser.add_argument("new", metavar="NEW", help="the name of the plan file that takes its place")
+    parser.add_argument("old", metavar="OLD", type=program.input_name, help="the name of a plan file")
+    parser.add_argument("new", metavar="NEW", type=program.input_name, help="the name of the plan file that takes its place")
     parser.add_argument("--json", action="store_true", help="as a JSON object with the arrays changes and breaks")
     given = parser.parse_args(words)
     old, new = sources_of([given.old, given.new])

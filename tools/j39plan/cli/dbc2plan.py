@@ -98,7 +98,7 @@ def options(words: list[str] | None) -> argparse.Namespace:
     parser.epilog = "example: %(prog)s network.dbc > plan.toml"
     parser.add_argument("--version", action=PlanVersion, nargs="?", type=int, choices=WRITTEN, default=WRITTEN[-1],
                         help=f"the version of the plan, {WRITTEN[-1]} where none is chosen; without a number: print the version and exit")
-    parser.add_argument("files", metavar="FILE", nargs="+", help="a file with one of the endings .dbc, .arxml, .kcd, .sym; several are one "
+    parser.add_argument("files", metavar="FILE", nargs="+", type=program.input_name, help="a file with one of the endings .dbc, .arxml, .kcd, .sym; several are one "
                         "network, as each supplier has a part of it")
     parser.add_argument("--sender", action="append", default=[], metavar="UNIT", help="only groups that this unit sends")
     parser.add_argument("--group", action="append", default=[], metavar="GROUP", help="only this group, by name or PGN")

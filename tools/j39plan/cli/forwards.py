@@ -26,7 +26,7 @@ def plan_of(text: str) -> tuple[str, str]:
     if found is None:
         raise argparse.ArgumentTypeError("a plan file, as P=powertrain.toml or powertrain.toml")
     bus, file = found.groups()
-    return bus or as_label(os.path.splitext(os.path.basename(file))[0]), file
+    return bus or as_label(os.path.splitext(os.path.basename(file))[0]), program.input_name(file)
 
 
 def label_of(text: str) -> str:

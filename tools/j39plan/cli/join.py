@@ -43,7 +43,7 @@ def main(words: list[str] | None = None) -> int:
     """Writes the joined plan; 0 where nothing contradicts."""
     parser = program.parser(__doc__)
     parser.epilog = "example: %(prog)s engine.toml brakes.toml > truck.toml"
-    parser.add_argument("plans", metavar="PLAN", nargs="+", help="the name of a plan file")
+    parser.add_argument("plans", metavar="PLAN", nargs="+", type=program.input_name, help="the name of a plan file")
     parser.add_argument("--first", action="store_true", help="write the plan although files contradict one another, with what the "
                         "earliest of them says; the others stand in comments")
     parser.add_argument("--same", action="append", default=[], type=program.same, metavar="LABEL=OTHER", help="the units of these labels are one")

@@ -113,7 +113,7 @@ def main(words: list[str] | None = None) -> int:
     """Writes the page, whatever findings the plan has."""
     parser = program.parser(__doc__)
     parser.epilog = "example: %(prog)s plan.toml -o plan.html"
-    parser.add_argument("plan", metavar="PLAN", help="the name of a plan file, or of a vehicle file")
+    parser.add_argument("plan", metavar="PLAN", type=program.input_name, help="the name of a plan file, or of a vehicle file")
     forms = parser.add_mutually_exclusive_group()
     forms.add_argument("-o", "--output", metavar="FILE", help="the name of the HTML file; standard output, if none is named")
     forms.add_argument("--watch", action="store_true", help="serve the page, drawn anew as the plan is saved, and print where it is")

@@ -119,7 +119,7 @@ def main(words: list[str] | None = None) -> int:
     """Writes the log."""
     parser = program.parser(__doc__)
     parser.epilog = "example: %(prog)s drive.blf --channel can1 > drive.log"
-    parser.add_argument("file", metavar="FILE", help="the name of a file, whose ending says its format")
+    parser.add_argument("file", metavar="FILE", type=program.input_name, help="the name of a file, whose ending says its format")
     parser.add_argument("--channel", metavar="CHANNEL", dest="channels", action="append", default=[], type=channel_of,
                         help="only this channel, by its interface in the log, as can1, or by its number; may stand several times")
     given = parser.parse_args(words)

@@ -75,7 +75,7 @@ def words_of(words: list[str] | None) -> argparse.Namespace:
     """The words of the command line."""
     parser = program.parser(__doc__)
     parser.epilog = "example: %(prog)s --lint plan.toml"
-    parser.add_argument("plan", metavar="PLAN", help="the name of a plan file, or of a vehicle file")
+    parser.add_argument("plan", metavar="PLAN", type=program.input_name, help="the name of a plan file, or of a vehicle file")
     forms = parser.add_mutually_exclusive_group()
     forms.add_argument("--github", action="store_true", help="as annotations of GitHub's CI")
     forms.add_argument("--json", action="store_true", help="as a JSON object: status, findings with their parts, lines, hints and steps")

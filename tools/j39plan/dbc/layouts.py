@@ -8,7 +8,7 @@ from collections import defaultdict
 from collections.abc import Iterable, Iterator
 from typing import TYPE_CHECKING, NamedTuple
 
-from j39plan.dbc.names import GROUPS_ATTRIBUTE, KIND_ATTRIBUTE, SELECTOR_KIND
+from j39plan.dbc.names import ALWAYS_ATTRIBUTE, GROUPS_ATTRIBUTE, KIND_ATTRIBUTE, SELECTOR_KIND
 from j39plan.dbc.signals import is_selector, place_of
 from j39plan.dbc.times import times_of
 from j39plan.j1939 import PROPRIETARY
@@ -175,10 +175,11 @@ def plainly(signals: list[canmatrix.Signal], value: int) -> Iterator[canmatrix.S
     """The signals of a message with this value of the multiplexor, as ones that each message has."""
     for signal in signals:
         if has(signal, value):
-            if not is_multiplexed(signal):
-                yield signal
-                continue
             same = copy.copy(signal)
+            if not is_multiplexed(signal):
+                same.attributes = {**signal.attributes, **({} if is_selector(signal) else {ALWAYS_ATTRIBUTE: "1"})}
+                yield same
+                continue
             same.multiplex, same.mux_val, same.mux_val_grp, same.is_multiplexer, same.muxer_for_signal = None, None, [], False, None
             yield same
 

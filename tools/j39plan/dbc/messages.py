@@ -243,12 +243,15 @@ class Messages:
         return found
 
     def _multiplexed(self, groups: list[Group]) -> list[Part]:
-        """The signals and texts of a multiplexed message: what each of its groups has is so once, and is no multiplexed one; among it is what
-        tells the groups, which has a signal of its own where no group has one."""
+        """The signals and texts of a multiplexed message: what each of its groups has is so once, and is no multiplexed one where the groups have all
+        values of the multiplexor, or its comment says so; beside it is what tells the groups, which has a signal of its own where no group has one."""
         several = [{(part.of.label, self._meaning(part)): part for part in self._part_list(group)} for group in groups]
-        shared = [key for key in several[0] if all(key in parts for parts in several)]
-        plain, first = [several[0][key] for key in shared], groups[0].when
+        first = groups[0].when
         assert first is not None
+        is_whole = len(groups) == 1 << first.bits
+        shared = [key for key, part in several[0].items() if all(key in parts for parts in several)
+                  and (is_whole or part.told.is_always or isinstance(part.of, Signal) and part.of.span == first.span)]
+        plain = [several[0][key] for key in shared]
         selector = next((part for part in plain if isinstance(part.of, Signal) and part.of.span == first.span), None)
         if selector is None:
             selector = selector_of(groups[0], first)

@@ -45,6 +45,9 @@ MOST_ATTRIBUTE, EVERY_ATTRIBUTE, REPEATED_ATTRIBUTE, BYTES_ATTRIBUTE = "PlanMost
 # What the groups are called that a multiplexed message becomes, where it isn't as the message with the value: `1 PRESSURE, 2 HEAT`.
 GROUPS_ATTRIBUTE = "PlanGroups"
 
+# What no file has: of a signal of a multiplexed message that it is in each one, whatever the multiplexor is.
+ALWAYS_ATTRIBUTE = "in each message"
+
 # Of what format the frames of a message are, and what those of J1939 are called there.
 FORMAT_ATTRIBUTE, J1939_FORMAT = "VFrameFormat", "J1939PG"
 

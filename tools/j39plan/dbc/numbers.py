@@ -2,6 +2,7 @@
 
 from __future__ import annotations
 
+from collections import Counter
 from itertools import count
 from typing import Any, NamedTuple
 
@@ -26,7 +27,7 @@ def numbers_of(boxes: list[Box], keeps: bool, version: int, notes: Notes) -> dic
     if not knows(version, (ABSENT, "name", "identity")):
         return with_free_ones(boxes, given, notes)
     if keeps:
-        return given
+        return {**given, **of_those_alike(boxes, notes)}
     kept: dict[str, int] = {}
     for box in boxes:
         alike = [other for other in boxes if other.name == box.name and None not in (other.number, box.number) and other.number != box.number]
@@ -37,6 +38,13 @@ def numbers_of(boxes: list[Box], keeps: bool, version: int, notes: Notes) -> dic
         elif box.number:
             notes.say(f"unit {box.unit}, {IDENTITY_ATTRIBUTE[0]}", f"{box.number} is left away: each box has a number of its own")
     return kept
+
+
+def of_those_alike(boxes: list[Box], notes: Notes) -> dict[str, int]:
+    """Free numbers of the units that have none and whose NAME another unit has too."""
+    names = Counter(repr(sorted(box.name.items())) for box in boxes)
+    alike = [box for box in boxes if box.number is None and names[repr(sorted(box.name.items()))] > 1]
+    return with_free_ones(alike, {box.unit: box.number for box in boxes if box.number is not None}, notes)
 
 
 def with_free_ones(boxes: list[Box], given: dict[str, int], notes: Notes) -> dict[str, int]:

@@ -15,9 +15,12 @@ from j39plan.plan.text import Labels
 QUOTED = r'"((?:[^"\\]|\\.)*)"'
 ITEM = re.compile(
     r"SPN (?P<spn>\d+)|(?P<ms>\d+) ms|(?P<bytes>\d+) bytes|sent (?P<sent>[^,;\"\s]+)|range (?P<least>[^\s,;]+?)\.\.(?P<greatest>[^\s,;]+)"
-    r"|for (?P<receivers>\w+(?: \w+)*)|message (?P<message>[^,;\"\s]+)|to address (?P<address>\d+)"
+    r"|(?P<always>in each message)|for (?P<receivers>\w+(?: \w+)*)|message (?P<message>[^,;\"\s]+)|to address (?P<address>\d+)"
     rf"|named {QUOTED.replace('(', '(?P<named>', 1)}|(?P<raw>-?\d+) = {QUOTED.replace('(', '(?P<value>', 1)}|{QUOTED.replace('(', '(?P<comment>', 1)}|(?P<name>[^,;\"]+)")
 SEPARATOR = re.compile(r"\s*[,;]\s*")
+
+# What stands beside a signal that is in each message, whatever its multiplexor is.
+ALWAYS = "in each message"
 
 # Who receives what nobody in the plan does.
 NONE = "nobody"
@@ -26,7 +29,7 @@ NONE = "nobody"
 @dataclass
 class Remark:
     """What a comment says: names, the number of the parameter, by what and how often it is sent, in ms, how many bytes its messages have,
-    its range, the labels of those that receive it, names of messages, the destination that no unit has, names of raw numbers, and comments."""
+    its range, whether it is in each multiplexed message, the labels of those that receive it, names of messages, the destination that no unit has, names of raw numbers, and comments."""
 
     names: list[str] = field(default_factory=list)
     spn: str = ""
@@ -34,6 +37,7 @@ class Remark:
     cycle: str = ""
     bytes: int | None = None
     range: tuple[str, str] | None = None
+    is_always: bool = False
     receivers: list[str] | None = None
     messages: list[str] = field(default_factory=list)
     address: int | None = None
@@ -97,6 +101,7 @@ def _take(found: re.Match[str], told: Remark) -> None:
         told.bytes = max(int(part["bytes"]), told.bytes or 0)
     if part["least"]:
         told.range = part["least"], part["greatest"]
+    told.is_always = told.is_always or bool(part["always"])
     if part["receivers"]:
         told.receivers = part["receivers"].split() if part["receivers"] != NONE else []
     if part["address"]:

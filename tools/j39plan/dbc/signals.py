@@ -4,6 +4,7 @@ from __future__ import annotations
 
 import re
 from collections.abc import Callable, Iterable
+from dataclasses import dataclass
 from decimal import Decimal
 from fractions import Fraction
 from functools import lru_cache
@@ -11,9 +12,9 @@ from math import lcm
 from typing import TYPE_CHECKING, Any, NamedTuple
 
 from j39plan.dbc.names import (
-    BYTES_ATTRIBUTE, CODE_CONTENT, CONTENT_ATTRIBUTE, KIND_ATTRIBUTE, REPEATED_ATTRIBUTE, SIGNAL_ATTRIBUTE, SPN_ATTRIBUTE, TEXT_CONTENT,
+    ALWAYS_ATTRIBUTE, BYTES_ATTRIBUTE, CODE_CONTENT, CONTENT_ATTRIBUTE, KIND_ATTRIBUTE, REPEATED_ATTRIBUTE, SIGNAL_ATTRIBUTE, SPN_ATTRIBUTE, TEXT_CONTENT,
 )
-from j39plan.dbc.remarks import milliseconds, named_values, quoted, received_by, remark
+from j39plan.dbc.remarks import ALWAYS, milliseconds, named_values, quoted, received_by, remark
 from j39plan.left_out import LeftOut, Notes, plain
 from j39plan.plan.schema import knows, most_of
 from j39plan.plan.text import Labels, Table, as_label
@@ -121,8 +122,10 @@ def is_selector(signal: canmatrix.Signal) -> bool:
 
 def are_states(signal: canmatrix.Signal) -> bool:
     """Whether its table of values calls all ones 'not available' and the number below 'error'."""
+    if not 3 <= signal.size <= 8:
+        return False
     named, most = signal.values or {}, 2**signal.size - 1
-    return 3 <= signal.size <= 8 and bool(FAULTY.search(str(named.get(most - 1, ""))) and ABSENT.search(str(named.get(most, ""))))
+    return bool(FAULTY.search(str(named.get(most - 1, ""))) and ABSENT.search(str(named.get(most, ""))))
 
 
 def told_kind(signal: canmatrix.Signal) -> str:
@@ -225,7 +228,7 @@ def remarks_of(signal: canmatrix.Signal, keys: dict[str, Any], receivers: str, n
     number, label, kind = signal.attributes.get(SPN_ATTRIBUTE), keys["label"], keys.get("kind", "")
     named = [(raw, name) for raw, name in (signal.values or {}).items() if keys.get("values", {}).get(raw) != str(name)]
     return remark(long_name(signal), label, "" if number is None or "spn" in keys else f"SPN {plain(number)}",
-                  milliseconds(signal.cycle_time), range_of(signal, kind), receivers, quoted(signal.comment), *map(quoted, names), *named_values(named))
+                  milliseconds(signal.cycle_time), range_of(signal, kind), ALWAYS if ALWAYS_ATTRIBUTE in signal.attributes else "", receivers, quoted(signal.comment), *map(quoted, names), *named_values(named))
 
 
 def number_of_signal(signal: canmatrix.Signal) -> dict[str, int]:
@@ -235,10 +238,11 @@ def number_of_signal(signal: canmatrix.Signal) -> dict[str, int]:
 
 
 def names_of_values(signal: canmatrix.Signal, kind: str) -> tuple[dict[int, str], list[str]]:
-    """The names of a signal's raw numbers as the bits have them, and why others have none. Numbers that are no value by the signal's kind
+    """The names of a signal's raw numbers as the bits have them, and why others have none. Errors and 'not available' by the signal's kind
     have none: `read` and `follow` call them by their state."""
     named, whys = {}, []
     least, greatest = values_of(kind, signal.size)
+    greatest += 3 << signal.size - 8 if kind == "measured" else 0
     for raw, name in sorted((signal.values or {}).items()):
         if not -(1 << signal.size - 1 if signal.is_signed else 0) <= raw < 1 << signal.size:
             whys.append(f"{raw} of its table of values is no number of its {signal.size} bits")
@@ -266,7 +270,7 @@ class Said(NamedTuple):
         start = signal.get_startbit(bit_numbering=1, start_little=True)
         is_in_one_byte = start % 8 + signal.size <= 8
         return cls((start, signal.size, signal.is_little_endian or is_in_one_byte), (signal.factor, signal.offset), signal.is_signed,
-                   (signal.is_float, is_text(signal), f"{signal.multiplex} {signal.mux_val_grp}"), unit, kind)
+                   (signal.is_float, is_text(signal), f"{None if is_selector(signal) else signal.multiplex} {signal.mux_val_grp}"), unit, kind)
 
     def other(self, another: Said) -> str:
         """What isn't the same of two."""
@@ -284,13 +288,15 @@ def bits_of(signal: canmatrix.Signal) -> int:
     return sum(1 << (bit ^ 7) for bit in range(start, start + size))
 
 
-class Known(NamedTuple):
-    """A signal that a message of a group has, in the plan or not."""
+@dataclass(eq=False)
+class Known:
+    """A signal that a message of a group has, and whether the plan lacks it."""
 
     signal: canmatrix.Signal
     said: Said
     bits: int
     message: str
+    is_left_out: bool = False
 
 
 def number_in(signal: canmatrix.Signal) -> str:
@@ -299,14 +305,14 @@ def number_in(signal: canmatrix.Signal) -> str:
     return "" if number == "0" else number
 
 
-def same_signal(signal: canmatrix.Signal, said: Said, bits: int, earlier: Iterable[Known]) -> Known | None:
+def same_signal(new: Known, earlier: Iterable[Known]) -> Known | None:
     """The signal of an earlier message that a signal is, or that it contradicts: that of its name, else of its number, else the one that lies
     and means the same, else one that shares a bit with it."""
     ways: tuple[Callable[[Known], object], ...] = (
-        lambda known: known.signal.name == signal.name,
-        lambda known: number_in(known.signal) == number_in(signal) != "",
-        lambda known: known.said == said,
-        lambda known: known.bits & bits,
+        lambda known: known.signal.name == new.signal.name,
+        lambda known: number_in(known.signal) == number_in(new.signal) != "",
+        lambda known: known.said == new.said,
+        lambda known: known.bits & new.bits,
     )
     return next((known for is_same in ways for known in earlier if is_same(known)), None)
 
@@ -317,16 +323,16 @@ def shown_place(signal: canmatrix.Signal) -> str:
     return f"{start // 8 + 1}.{start % 8 + 1}, {signal.size} bits"
 
 
-def difference(signal: canmatrix.Signal, said: Said, other: Known) -> str:
-    """How a signal contradicts that of an earlier message, which is in the plan."""
-    name = f"{plain(other.signal.name)} of {other.message}"
+def difference(known: Known, other: Known) -> str:
+    """How a signal contradicts that of an earlier message."""
+    signal, said, name = known.signal, known.said, f"{plain(other.signal.name)} of {other.message}"
     if other.said.place[:2] == said.place[:2] and other.said.place != said.place:
-        return f"{name} has another byte order; only that one is in the plan"
+        return f"{name} has another byte order"
     if other.said.place == said.place:
-        return f"{name} has another {said.other(other.said)}; only that one is in the plan"
+        return f"{name} has another {said.other(other.said)}"
     if signal.name != other.signal.name and number_in(signal) != number_in(other.signal):
-        return f"{name} lies over it; only that one is in the plan"
-    return f"it is at {shown_place(signal)}, and {name} at {shown_place(other.signal)}; only that one is in the plan"
+        return f"{name} lies over it"
+    return f"it is at {shown_place(signal)}, and {name} at {shown_place(other.signal)}"
 
 
 class Kept(NamedTuple):
@@ -386,16 +392,36 @@ class Signals:
 
     def contradicts(self, signal: canmatrix.Signal, frame: canmatrix.Frame, earlier: list[Known], message: str) -> bool:
         """Takes a signal, unless one of an earlier message contradicts it, and says whether one does."""
-        said, bits = self.said_of(signal), bits_of(signal)
-        other = same_signal(signal, said, bits, earlier)
+        known = Known(signal, self.said_of(signal), bits_of(signal), message)
+        other = same_signal(known, earlier)
+        if other is not None and other.is_left_out:
+            return self.contradicts_a_lost_one(known, frame, earlier, other)
         if other is None:
-            self.known.append(Known(signal, said, bits, message))
-            self.add(signal, frame, said)
+            self.add(known, frame)
             return False
-        if other.said != said:
-            self.say(signal, frame, difference(signal, said, other))
+        return self.is_otherwise(known, frame, other)
+
+    def is_otherwise(self, known: Known, frame: canmatrix.Frame, other: Known) -> bool:
+        """Whether a signal contradicts one of the plan, which is said; else the plan takes what is new of it."""
+        if other.said != known.said:
+            self.say(known.signal, frame, f"{difference(known, other)}; only that one is in the plan")
             return True
-        self.agree(signal, frame, other)
+        self.agree(known.signal, frame, other)
+        return False
+
+    def contradicts_a_lost_one(self, known: Known, frame: canmatrix.Frame, earlier: list[Known], lost: Known) -> bool:
+        """The same of a signal whose earlier one isn't in the plan: it may be there in its place."""
+        kept = same_signal(known, [one for one in earlier if not one.is_left_out])
+        if kept is not None:
+            return self.is_otherwise(known, frame, kept)
+        try:
+            self.add(known, frame)
+        except LeftOut:
+            if known.said != lost.said:
+                raise
+            return False
+        if known.said != lost.said:
+            self.say(known.signal, frame, f"{difference(known, lost)}; only this one is in the plan")
         return False
 
     def agree(self, signal: canmatrix.Signal, frame: canmatrix.Frame, other: Known) -> None:
@@ -435,13 +461,16 @@ class Signals:
             self.say(signal, frame, f"it is called {label}: {as_label(wanted)} is another signal of the group")
         return label
 
-    def add(self, signal: canmatrix.Signal, frame: canmatrix.Frame, said: Said) -> None:
+    def add(self, known: Known, frame: canmatrix.Frame) -> None:
         """Adds a signal or a text, as far as a plan has it."""
-        receivers = dict.fromkeys(signal.receivers)
+        signal, receivers = known.signal, dict.fromkeys(known.signal.receivers)
+        self.known.append(known)
+        known.is_left_out = True
         if is_text(signal) and knows(self.version, ("group", "text")):
-            self.texts.append(Kept(signal, said, self.text(signal, frame), receivers, {}))
+            self.texts.append(Kept(signal, known.said, self.text(signal, frame), receivers, {}))
         else:
-            self.signals.append(Kept(signal, said, self.number(signal, frame), receivers, {}))
+            self.signals.append(Kept(signal, known.said, self.number(signal, frame), receivers, {}))
+        known.is_left_out = False
 
     def text(self, signal: canmatrix.Signal, frame: canmatrix.Frame) -> Table:
         """The table of a text. It may lie over signals."""

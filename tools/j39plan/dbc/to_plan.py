@@ -18,11 +18,11 @@ from j39plan.dbc.names import (
 )
 from j39plan.dbc.numbers import Box, numbers_of
 from j39plan.dbc.remarks import long, milliseconds, quoted, received_by, remark
-from j39plan.dbc.signals import BYTES, Signals
+from j39plan.dbc.signals import BYTES, Signals, goes_to_all_ones
 from j39plan.dbc.times import Times, number_of, times_of
 from j39plan.j1939 import GLOBAL_ADDRESS, NULL_ADDRESS, PROPRIETARY, SERVICES
 from j39plan.left_out import LeftOut, Notes, plain
-from j39plan.plan.schema import knows, most_of
+from j39plan.plan.schema import ABSENT, knows, most_of
 from j39plan.plan.text import WRITTEN, Labels, Table, as_label
 
 if TYPE_CHECKING:
@@ -31,8 +31,16 @@ if TYPE_CHECKING:
 # The most of each that a plan has.
 UNITS, GROUPS, FLOWS, NEEDS = (most_of("", array) for array in ("unit", "group", "flow", "need"))
 
+# So many names stand in one note.
+SHOWN = 5
+
 # What the period of a flow and the distance of records may be, in ms and in bytes.
 PERIODS, DISTANCES = range(1, most_of("flow", "period") + 1), range(1, most_of("group", "every") + 1)
+
+
+def some_of(names: list[str]) -> str:
+    """The first of several names, and how many more there are."""
+    return ", ".join(names[:SHOWN]) + (f" and {len(names) - SHOWN} more" if len(names) > SHOWN else "")
 
 
 def number_in(node: Node, attribute: str, most: int, value: object, notes: Notes) -> int | None:
@@ -160,6 +168,7 @@ class Group:
     signals: Signals
     made_by: Sent
     comment: str
+    by_identifier: dict[int, Sent] = field(default_factory=dict)
 
     @property
     def label(self) -> str:
@@ -220,10 +229,27 @@ class Conversion:
             self.notes.say(f"unit {name}", f"a plan has at most {UNITS} units")
         nodes = [(self.network.nodes[name], address) for name, address in list(addresses.items())[:UNITS]]
         boxes = [Box(node.name, address, name_of(node, self.notes), own(node, *IDENTITY_ATTRIBUTE, self.notes)) for node, address in nodes]
+        self.say_nameless(boxes)
         numbers = numbers_of(boxes, self.keeps_numbers, self.version, self.notes)
         for (node, address), box in zip(nodes, boxes, strict=True):
             number = numbers.get(node.name)
             self.add_unit(node, address, box.name if number is None else {"identity": number, **box.name})
+
+    def say_nameless(self, boxes: list[Box]) -> None:
+        """Says of which units the files give no NAME, where by that they aren't told apart."""
+        units = sorted(box.unit for box in boxes if not box.name and box.number is None)
+        if len(units) > 1 and not self.keeps_numbers and knows(self.version, (ABSENT, "name", "identity")):
+            why = "no NAME is given, so nothing tells them apart (F1): give each its function, or number them by --identity"
+            self.notes.say(f"units {some_of(units)}", why)
+
+    def say_whole_ranges(self) -> None:
+        """Says which signals have ranges that go to all ones, though by the standard the greatest numbers are no values."""
+        names = [f"{kept.table.keys['label']} of {group.label}" for group in self.groups for kept in group.signals.signals
+                 if kept.table.keys["kind"] == "measured" and goes_to_all_ones(kept.signal)]
+        if names:
+            why = ('the range goes to all ones, but by SAE J1939-71 251 and above (from FB hex on in the highest byte) are no values: they are '
+                   'read as specific, fault or absent; kind = "raw" has them as values')
+            self.notes.say(f"signal{'s' * (len(names) > 1)} {some_of(names)}", why)
 
     def add_unit(self, node: Node, address: int, name: dict[str, Any]) -> None:
         """A unit of this NAME."""
@@ -254,7 +280,7 @@ class Conversion:
             others = self.private_ones(sent, others)
         group = others[0] if others else self.new_group(sent)
         if others:
-            self.compare(frame, group)
+            self.compare(sent, group)
         return group, group.signals.take(frame, self.message_of(sent))
 
     def new_group(self, sent: Sent) -> Group:
@@ -276,7 +302,7 @@ class Conversion:
             **({"when": sent.when} if sent.when else {}),
         }, remark(name, label, comment))
         signals = Signals(lengths, self.notes, self.strict, self.version, is_private, "every" in told)
-        group = Group(called(sent), table, signals, sent, comment)
+        group = Group(called(sent), table, signals, sent, comment, {frame.arbitration_id.id: sent})
         self.groups.append(group)
         return group
 
@@ -324,9 +350,15 @@ class Conversion:
             (label, unit) == (group.label, sender) and (receiver == to or "all" in (receiver, to)) for label, unit, to in self.flows
         )
 
-    def compare(self, frame: canmatrix.Frame, group: Group) -> None:
-        """Says what a frame has otherwise than the message that has made its group."""
+    def compare(self, sent: Sent, group: Group) -> None:
+        """Says what a frame has otherwise than the message that has made its group, or than another one of its identifier."""
+        frame = sent.frame
         what, made = f"group {frame.name}", self.message_of(group.made_by)
+        same = group.by_identifier.setdefault(frame.arbitration_id.id, sent)
+        if same is not sent and same.file == sent.file:
+            self.notes.say(what, f"{self.message_of(same)} has its identifier: both are one group")
+        if frame.size != same.frame.size and frame.size in group.signals.lengths:
+            self.notes.say(what, f"its length is {frame.size}, that of {self.message_of(same)} is {same.frame.size}: the plan has both")
         priority, planned = frame.arbitration_id.j1939_priority, group.table.keys["priority"]
         if priority != planned:
             self.notes.say(what, f"its priority is {priority}, that of {made} is {planned}")
@@ -474,4 +506,5 @@ class Conversion:
             except LeftOut as why:
                 self.notes.say(f"group {one.name or one.frame.name}", why)
         self.notes.file, self.notes.are_new = "", False
+        self.say_whole_ranges()
         self.say_unmet()

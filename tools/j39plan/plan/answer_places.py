@@ -10,6 +10,7 @@ from j39plan.plan.hints import ends, groups, needs, requests
 from j39plan.plan.hints.refusals import refusal
 from j39plan.plan.hints.text_faults import Told
 from j39plan.plan.parts import Source
+from j39plan.plan.tables import Flow
 from j39plan.plan.toml_places import Place
 
 # The key to look at, of each finding that names two units or two groups.
@@ -18,12 +19,14 @@ PAIR_KEYS = {"F1": ("unit", "name"), "F2": ("unit", "address"), "F5": ("group", 
 # What units need that differ by their serial numbers alone, or not by them (SAE J1939-81).
 ALIKE = "give them different function_instance or ecu; or both their numbers: then the plan fits one vehicle"
 
+# So many units of one NAME are named.
+SHOWN = 5
+
 # The key to look at of each finding that names one flow, and what is to be known of it.
 FLOW_KEYS = {
     "F9": ("to", "a frame of this group goes to all"),
     "F10": ("to", "the sender itself"),
     "F16": ("period", "it isn't there, and a plan with timing asks for it"),
-    "F18": ("period", "within the deadline, or the period, there isn't room for all that may go before it: load shows the delays"),
 }
 
 # The key to look at of each finding that names one unit, group, signal or text, and what is to be known of it.
@@ -60,10 +63,21 @@ def of_one(plan: Source, line: Line) -> Told:
 
 def of_flow(plan: Source, line: Line) -> Told:
     """Line and hint of a finding about one flow."""
-    flow, (key, hint) = plan.tables.flows[line.number("flow") - 1], FLOW_KEYS[line.word("finding")]
-    if line.word("finding") == "F18" and plan.tables.longest(flow.group) > FRAME_BYTES:
-        key, hint = "deadline", "its long messages aren't shown to be whole within it"
+    flow = plan.tables.flows[line.number("flow") - 1]
+    key, hint = late(plan, flow) if line.word("finding") == "F18" else FLOW_KEYS[line.word("finding")]
     return plan.line(flow.place + (key,)), f"{flow.what}: key {key}: {hint}"
+
+
+def late(plan: Source, flow: Flow) -> tuple[str, str]:
+    """The key of a late flow by which its time is short, and what that is."""
+    if plan.tables.longest(flow.group) > FRAME_BYTES:
+        return "deadline", "its long messages aren't shown to be whole within it"
+    what = "there isn't room for all that may go before it"
+    if flow.deadline is not None:
+        return "deadline", f"within {flow.deadline} ms {what}"
+    if flow.jitter:
+        return "jitter", f"it takes {flow.jitter} ms of the period of {flow.period} ms, and within the rest {what}: a smaller one, or a deadline above the period"
+    return "period", f"within {flow.period} ms {what}; a deadline may be longer"
 
 
 def of_ends(plan: Source, line: Line) -> Told:
@@ -106,9 +120,21 @@ def of_two(plan: Source, line: Line) -> Told:
     first, second = (plan.labelled((kind,), line.word(part)) for part in (kind, "other"))
     at, there = plan.line(second + (key,)), f"{line.word(kind)} at line {plan.line(first + (key,))}"
     if line.word("finding") == "F1" and any((*place, "name", "identity") not in plan.places.lines for place in (first, second)):
-        return at, f"only serial numbers distinguish {there} from {line.word('other')}: {ALIKE}"
+        return at, alike(plan, line.word(kind), line.word("other"), there)
     told = told_apart(plan, first, second) if kind == "group" else ""
     return at, f"key {key}: the same as of {there}{told}"
+
+
+def alike(plan: Source, first: str, second: str, there: str) -> str:
+    """What is to be said of two units of one NAME but for the serial number: of more than two it is said once, of the first two of them."""
+    named = {unit.label: {key: number for key, number in unit.fields.items() if key != "identity"} for unit in plan.tables.units}
+    same = [label for label, name in named.items() if name == named[first]]
+    if len(same) <= 2:
+        return f"only serial numbers distinguish {there} from {second}: {ALIKE}"
+    if same[:2] != [first, second]:
+        return ""
+    what = "a NAME of zeros, as if none were given" if not any(named[first].values()) else "this NAME but for serial numbers"
+    return f"{len(same)} units have {what}: {', '.join(same[:SHOWN])}{' ..' if len(same) > SHOWN else ''}: {ALIKE}"
 
 
 def of_flows(plan: Source, line: Line) -> Told:
@@ -136,7 +162,7 @@ def of_plan(plan: Source, line: Line) -> Told:
 
 # What is to be said of a finding by its number.
 HINTS = {
-    **dict.fromkeys(PAIR_KEYS, of_two), **dict.fromkeys(FLOW_KEYS, of_flow), **dict.fromkeys(KEYS, of_one), **dict.fromkeys(("F3", "F17"), of_plan),
+    **dict.fromkeys(PAIR_KEYS, of_two), **dict.fromkeys((*FLOW_KEYS, "F18"), of_flow), **dict.fromkeys(KEYS, of_one), **dict.fromkeys(("F3", "F17"), of_plan),
     **dict.fromkeys(("F4", "F6"), of_group), **dict.fromkeys(("F8", "F14"), of_signals), "F11": of_flows, "F28": of_ends, **dict.fromkeys(("F19", "F20"), of_need),
     **dict.fromkeys(("F21", "F22", "F23", "F25"), of_request),
 }

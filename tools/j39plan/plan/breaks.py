@@ -11,6 +11,7 @@ from typing import NamedTuple
 
 from j39plan.plan import scales
 from j39plan.plan.differences import Answers, Matched, inside_pairs, is_too_old, shown_age
+from j39plan.plan.joining import may_choose
 from j39plan.plan.parts import Part, spelled
 
 # The fields of a NAME by which one unit isn't told from another of its kind.
@@ -22,8 +23,8 @@ WITH_ABSENT = frozenset(("measured", "discrete", "states", "dtc"))
 
 class Break(NamedTuple):
     """What a receiver that keeps the old plan gets wrong: of which unit's messages, which group and which signal, empty where all of
-    them are meant; whether it is `wrong`, `lost`, too `old` or a `sender` that isn't found; why; the lines, None where one has none; and which of
-    the receivers need it by the old plan."""
+    them are meant; whether it is `wrong`, `lost`, too `old`, a `sender` that isn't found, the whole `bus` that stops, or an `address` that a unit
+    may take though it is kept free; why; the lines, None where one has none; and which of the receivers need it by the old plan."""
 
     kind: str
     receivers: tuple[str, ...]
@@ -171,7 +172,7 @@ class Breaks:
     def found(self) -> list[Break]:
         """All that breaks; what is the same of several receivers once."""
         together: dict[Break, list[str]] = {}
-        for one in [*self._of_flows(), *self._of_units(), *self._of_needs()]:
+        for one in [*self._of_plan(), *self._of_flows(), *self._of_units(), *self._of_needs()]:
             receivers = together.setdefault(one._replace(receivers=()), [])
             receivers.extend(label for label in one.receivers if label not in receivers)
         return [self._with_needs(one._replace(receivers=tuple(receivers))) for one, receivers in together.items()]
@@ -189,6 +190,21 @@ class Breaks:
                    and need.text("from") in ("", found.sender) and (not found.signal or need.text("signal") in ("", found.signal))
                    for need in self._matched.old["need"])
 
+    def _of_plan(self) -> Iterator[Break]:
+        """Another bitrate, at which nobody hears the other; and units that may take an address which is kept free only now."""
+        old, new = self._matched.old.top, self._matched.new.top
+        there = [(before, now) for before, now in self._matched.units if before is not None and now is not None]
+        rates = [plan.inner("timing").get("bitrate") for plan in (old, new)]
+        if None not in rates and rates[0] != rates[1]:
+            why = f"its bitrate is {rates[1]}, and not {rates[0]}"
+            lines = [plan.source.line(("timing", "bitrate")) for plan in (old, new)]
+            yield Break("bus", tuple(before.label for before, _ in there), "", "", "", why, lines[0], lines[1])
+        kept = [str(address) for address in new.values("keep_free") if address not in old.values("keep_free")]
+        movable = tuple(before.label for before, now in there if may_choose(before))
+        if kept and movable:
+            why = f"{' and '.join(kept)} {'is' if len(kept) == 1 else 'are'} kept free only now"
+            yield Break("address", movable, "", "", "", why, old.line("keep_free"), new.line("keep_free"))
+
     def _of_needs(self) -> Iterator[Break]:
         """Units whose needs become too old."""
         old, new = self._answers
@@ -198,7 +214,8 @@ class Breaks:
             was, age = old.delays.get(before.line()), new.delays.get(now.line())
             most = 1000 * before.number("within")
             if was and age and most and not is_too_old(was, most) and is_too_old(age, most):
-                why = f"its age is {shown_age(age.said)}, it was {shown_age(was.said)}"
+                now_is = "no flow meets it" if age.said.startswith("unmet") else f"its age is {shown_age(age.said)}"
+                why = f"{now_is}, it was {shown_age(was.said)}"
                 yield Break("old", (before.text("unit"),), before.text("from"), before.text("group"), before.text("signal"), why,
                             before.line(), now.line())
 

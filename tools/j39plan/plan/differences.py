@@ -183,7 +183,9 @@ def is_too_old(told: Line, most: int) -> bool:
 
 def shown_age(said: str) -> str:
     """What `load` says of a need, in words."""
-    if said.startswith(("age ", "unmet ")):
+    if said.startswith("unmet"):
+        return "unmet"
+    if said.startswith("age "):
         return said.removeprefix("age ")
     return f"not shown young enough, {said.removeprefix('old ')}"
 

@@ -16,7 +16,7 @@ from j39plan.plan.text import Labels
 # plan says something too: its default, or that there is one length alone.
 OPEN = frozenset(("period", "deadline", "pause", "within", "spn", "values"))
 
-# The keys by which tables of these arrays are told apart, each with the array that its label is of.
+# The keys by which flows and other tables without labels are told apart, each with the array that its label is of.
 TOLD_BY = {"group": "group", "from": "unit", "to": "unit", "unit": "unit", "signal": ""}
 
 
@@ -58,6 +58,13 @@ class Merged:
         """What a key is, by its default where it isn't said, and the part that says it."""
         part = self.keys.get(key, self.first)
         return part[key], part
+
+    def take(self, part: Part, keys: Iterable[str]) -> None:
+        """Takes keys as a part has them: those that it doesn't say aren't there any more."""
+        for key in keys:
+            self.values.pop(key, None)
+            if key in part.said:
+                self.values[key], self.keys[key] = part.said[key], part
 
     def remark(self, key: str, text: str) -> None:
         """Puts a remark behind a key."""
@@ -117,10 +124,13 @@ class Join:
     def _keys(self, merged: Merged, part: Part, what: str, skipped: Iterable[str] = ()) -> None:
         """Joins the keys of a part with those that are there."""
         for key in dict.fromkeys([*keys_of(part.table), *merged.values, *part.said]):
-            if key in skipped or key in ("label", *TOLD_BY) or key in part.inside or key in merged.inside:
+            if key in skipped or key == "label" or key in told_by(part) or key in part.inside or key in merged.inside:
                 continue
             here, by = merged.of(key)
             there = part[key]
+            if key == "values":
+                there = self._values(merged, part)
+                here = merged.values.get(key)
             if here == there:
                 if key in part.said and key not in merged.values:
                     merged.values[key], merged.keys[key] = there, part
@@ -132,6 +142,15 @@ class Join:
                     said = [f"{spelled(value)}{'' if value is None or key in them.said else ' by default'}"
                             for value, them in ((other, part), (one, by))]
                     self._contradict(merged, part, key, f"{what}: {inner} = {said[0]}, and {said[1]} at {by.at(key)}")
+
+    @staticmethod
+    def _values(merged: Merged, part: Part) -> Value:
+        """What a part calls raw numbers, with the names of those that it doesn't name; the joined table takes the names that it lacks."""
+        here, there = merged.values.get("values"), part["values"]
+        if not isinstance(here, dict) or not isinstance(there, dict):
+            return there
+        merged.values["values"] = in_order({**there, **here})
+        return in_order({**here, **there})
 
     def _joined(self, merged: Merged, part: Part, what: str, skipped: Iterable[str] = ()) -> None:
         """Joins a part with the table that it is of."""
@@ -256,12 +275,15 @@ class Join:
         return self._called.get((source, array, label), label)
 
     def _inside(self, group: Merged, key: str, part: Part) -> None:
-        """Joins a signal or a text of a group: that of its label, else one that lies and means the same."""
+        """Joins a signal or a text of a group: that of its label, else one that lies and means the same, else that of its number."""
         there = group.inside.setdefault(key, [])
         here = next((merged for merged in there if merged.label == part.label), None)
+        what = f"{key} {group.label}.{part.label}"
         if here is None and key == "signal":
             here = next((merged for merged in there if scales.meaning(merged.first) == scales.meaning(part)), None)
-        what = f"{key} {group.label}.{part.label}"
+            if here is None and part["spn"] is not None:
+                here = next((merged for merged in there if self._is_new(merged, part) and merged.of("spn")[0] == part["spn"]), None)
+                what += f" (spn {part['spn']}, as {here.label})" if here else ""
         if here is not None:
             if key == "signal":
                 self._signal(here, part, what)
@@ -285,16 +307,17 @@ class Join:
         there.append(Merged(part))
 
     def _signal(self, here: Merged, part: Part, what: str) -> None:
-        """Joins a signal with that of the same label; its scale counts, and not how it is written down."""
-        one, other = scales.scale(here.first), scales.scale(part)
-        skipped: tuple[str, ...] = ()
-        if one == other:
-            skipped = scales.SCALE_KEYS
-        elif scales.is_close(one, other):
-            skipped = scales.SCALE_KEYS
-            text = f"{what}: unit = {spelled(part['unit'])}, taken is {spelled(here.first['unit'])} of {here.first.at('unit')}"
-            self._note(part, text, "unit")
-        self._joined(here, part, what, skipped)
+        """Joins a signal with that of the same label; its scale counts, and not how it is written down. A unit of measurement that one file lacks
+        is that of the other one."""
+        unit, by = here.of("unit")
+        one, other = scales.scale(by), scales.scale(part)
+        is_same = one[:2] == other[:2] and ("" in (one.unit, other.unit) or scales.is_close(one, other))
+        if is_same and one.unit and one.unit != other.unit:
+            self._note(part, f"{what}: unit = {spelled(part['unit'])}, taken is {spelled(unit)} of {by.at('unit')}", "unit")
+        elif is_same and one.unit != other.unit:
+            self._note(part, f"{what}: unit = {spelled(part['unit'])} is taken, and at {by.at()} there is none", "unit")
+            here.take(part, scales.SCALE_KEYS)
+        self._joined(here, part, what, scales.SCALE_KEYS if is_same else ())
 
     def _other(self, array: str, part: Part) -> None:
         """Joins a flow, a need or another table that is told by what it names."""
@@ -320,6 +343,16 @@ class Join:
             if other is not None and flow.values["to"] != "all" and self._is_new(other, flow.first):
                 text = f"{flow.values['group']} from {flow.values['from']} goes to {flow.values['to']}, and to all at {other.first.at()}"
                 self._note(flow.first, f"{text}: the plan has both flows")
+
+
+def told_by(part: Part) -> Iterable[str]:
+    """The keys by which a table is told from others of its array, where it has no label."""
+    return TOLD_BY if "label" not in keys_of(part.table) else ()
+
+
+def in_order(names: dict[str, Value]) -> dict[str, Value]:
+    """Names of raw numbers, in the order of these."""
+    return dict(sorted(names.items(), key=lambda named: int(named[0])))
 
 
 def names_no_receiver(group: Part) -> bool:

@@ -152,6 +152,11 @@ class Part:
         value = self[key]
         return value if isinstance(value, list) else []
 
+    def inner(self, key: str) -> dict[str, Value]:
+        """The table that a key is, an empty one where it isn't there."""
+        value = self[key]
+        return value if isinstance(value, dict) else {}
+
     @property
     def label(self) -> str:
         """Its label."""

@@ -181,8 +181,8 @@ class Group:
 @dataclass(frozen=True)
 class Flow:
     """Who sends which group to whom, and at least how far apart, in ms; None where that isn't said. Where the plan says it, also by how
-    much a message may be late, how far apart messages come at most, and that they only answer requests; and whether some request of the plan
-    is for it."""
+    much a message may be late, how far apart messages come at most, that they only answer requests, and within which time they have to be on
+    the bus; and whether some request of the plan is for it."""
 
     group: str
     sender: str
@@ -192,6 +192,7 @@ class Flow:
     pause: int | None = None
     on_request: bool = False
     is_asked: bool = False
+    deadline: int | None = None
     place: Place = field(default=(), compare=False, repr=False)
 
     @property
@@ -399,10 +400,10 @@ class Tables:
     def _flow(self, words: str) -> Flow:
         flow = self._shown[words]
         group, sender, to = (flow.text(key) for key in ("group", "from", "to"))
-        period, jitter, pause = (flow.number_if_any(key) for key in ("period", "jitter", "pause"))
+        period, jitter, pause, deadline = (flow.number_if_any(key) for key in ("period", "jitter", "pause", "deadline"))
         is_asked = any(serves(group, sender, to, request) for request in self.requests)
         # Without a period there is none of which a message could be late.
-        return Flow(group, sender, to, period, jitter or 0, pause, flow.is_true("on_request"), is_asked, place_of(words))
+        return Flow(group, sender, to, period, jitter or 0, pause, flow.is_true("on_request"), is_asked, deadline, place_of(words))
 
     def _request(self, words: str) -> Request:
         request = self._shown[words]

@@ -1,8 +1,9 @@
 """Vehicle files, and those of the plans of their buses."""
 
+from j39plan.plan.hints.refusals import OF_VEHICLES
 from j39plan.plan.parts import Source
 from j39plan.plan.tables import Tables
-from j39plan.vehicle.format import OF_PLANS, OF_VEHICLES
+from j39plan.vehicle.format import OF_PLANS
 from j39plan.vehicle.tables import Bus, Forward, Gateway, VehicleTables
 
 

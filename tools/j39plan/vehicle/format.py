@@ -9,8 +9,8 @@ from j39plan.program import PACKAGE
 
 SCHEMA = os.path.join(PACKAGE, "vehicle.schema.json")
 
-# The keys of the top by which a file is one of a vehicle, and those of a plan that a vehicle doesn't have.
-OF_VEHICLES, OF_PLANS = ("bus", "gateway", "forward"), ("unit", "group", "flow", "request", "timing", "keep_free", "strangers", "live")
+# The keys of the top that a plan has and a vehicle doesn't.
+OF_PLANS = ("unit", "group", "flow", "request", "timing", "keep_free", "strangers", "live")
 
 
 @functools.cache

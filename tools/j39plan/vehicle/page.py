@@ -47,7 +47,7 @@ class Page:
         if not rows and last.kind == "ok":
             return section("findings", "Findings", ["<p><strong>ok</strong>: <code>vehicle</code> found nothing.</p>"])
         others = last.number("findings") - len(rows)
-        told = [f"<p>The plans of the buses have {others} findings.</p>"] if others else []
+        told = [f"<p>The plans of the buses have {others} finding{'s' * (others != 1)}.</p>"] if others else []
         heads = ("No.", "File and line", "Finding", "What to look at")
         return section("findings", "Findings", [*told, *([table(f"Findings: {len(rows)}", heads, rows)] if rows else [])])
 

@@ -142,10 +142,14 @@ class Ways:
             points.append(following)
         return Way(points, forwards, True)
 
+    def feeding(self, bus: str, flow: Flow) -> list[Forward]:
+        """The forwards that feed a flow."""
+        return self._feeding.get((bus, flow.number), [])
+
     def handed_on(self, bus: str, flow: Flow) -> tuple[str, Flow]:
         """The flow, with its bus, whose messages one has that is sent on directly, by as many forwards as there are; else the flow itself."""
         for _ in self.vehicle.tables.forwards:
-            direct = next((forward for forward in self._feeding.get((bus, flow.number), []) if forward.is_direct), None)
+            direct = next((forward for forward in self.feeding(bus, flow) if forward.is_direct), None)
             if direct is None or not self.inputs(direct):
                 break
             bus, flow = direct.heard.bus, self.inputs(direct)[0]

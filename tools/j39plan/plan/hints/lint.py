@@ -6,8 +6,9 @@ from collections.abc import Iterator
 from typing import NamedTuple
 
 from j39plan.j1939 import FRAME_BYTES, PACKET_BYTES, POOL
+from j39plan.plan import scales
 from j39plan.plan.hints import ends, needs
-from j39plan.plan.parts import Source
+from j39plan.plan.parts import Part, Source
 from j39plan.plan.tables import Flow, Unit
 from j39plan.plan.toml_places import Place
 
@@ -16,6 +17,9 @@ Hint = tuple[int, str]
 
 # The priorities above that of control, which is 3 by default; that of information is 6 (SAE J1939-21).
 HIGH_PRIORITY = range(3)
+
+# So many flows that no need takes are told each.
+UNTAKEN_MOST = 3
 
 # The ms of a second, and the most bits of a frame of eight bytes.
 SECOND, FRAME_BITS = 1000, 160
@@ -41,7 +45,7 @@ class Lint:
 
     def hints(self) -> list[Hint]:
         """All hints, in the order of the file."""
-        found = (self.unsent, self.idle, self.fixed_in_pool, self.short, self.urgent, self.equal_identities,
+        found = (self.unsent, self.idle, self.fixed_in_pool, self.preferred, self.spns, self.short, self.urgent, self.equal_identities,
                  self.unsendable, self.passed, self.single, self.unordered, self.untaken, self.met_twice, self.unasked,
                  self.not_live, self.few_claims)
         return sorted({hint for part in found for hint in part()})
@@ -79,6 +83,42 @@ class Lint:
         for unit in self.tables.units:
             if unit.address in POOL and unit.address not in kept and not unit.may_choose:
                 yield self.of_unit(unit, "address", f"it may not choose, and its address {unit.address} is one of 128..247, which others may choose")
+
+    def preferred(self) -> Iterator[Hint]:
+        """Units that prefer the address of another one, one hint for each address: all but one of them have to move whenever they are there."""
+        at: dict[int, list[Unit]] = {}
+        for unit in sorted(self.tables.units, key=lambda unit: unit.may_choose):
+            at.setdefault(unit.address, []).append(unit)
+        for first, *others in at.values():
+            movers = [unit for unit in others if unit.may_choose]
+            if not movers:
+                continue
+            several, there = len(movers) > 1, f"{first.label} at line {self.source.line((*first.place, 'address'))}"
+            who = f"it and {len(movers) - 1} more prefer" if several else "it prefers"
+            other = f"as {there} does" if first.may_choose else f"where {there} is fixed"
+            moved = ("all but one move" if several else "one of them moves") if first.may_choose else "they move" if several else "it moves"
+            text = f"{who} {first.address}, {other}: {moved} whenever {'all' if several else 'both'} are there"
+            yield self.of_unit(movers[0], "address", text)
+
+    def spns(self) -> Iterator[Hint]:
+        """Signals of a number that another one of their group has, or that has another label or another scale in another group."""
+        first: dict[int, tuple[Part, Part]] = {}
+        for group in self.source["group"]:
+            here: dict[int, Part] = {}
+            for signal in group.inside.get("signal", []):
+                spn = signal.number_if_any("spn")
+                if spn is None:
+                    continue
+                other, (above, known) = here.setdefault(spn, signal), first.setdefault(spn, (group, signal))
+                what = f"signal {group.label}.{signal.label}: spn {spn}"
+                if other is not signal:
+                    yield signal.line("spn"), f"{what} is that of {other.label} at line {other.line('spn')} too"
+                elif above is not group:
+                    there = f"{above.label}.{known.label} at line {known.line('spn')}"
+                    if not scales.is_close(scales.scale(known), scales.scale(signal)):
+                        yield signal.line("spn"), f"{what} is {scales.scale(signal).shown}, and {scales.scale(known).shown} in {there}"
+                    elif known.label != signal.label and signal.text("kind") != "dtc":
+                        yield signal.line("spn"), f"{what} is that of {there} too"
 
     def short(self) -> Iterator[Hint]:
         """Groups whose messages of one frame don't fill it."""
@@ -151,10 +191,15 @@ class Lint:
                     yield self.of_unit(unit, "queue", f"its controller keeps no order, so {text}")
 
     def untaken(self) -> Iterator[Hint]:
-        """Flows to one unit that it doesn't need, in a plan with needs."""
-        for flow in self.tables.flows if self.tables.needs else ():
-            if flow.to not in self.used | {"all"} and not any(need.is_met_by(flow) for need in self.tables.needs):
-                yield self.of_flow(flow, "to", f"no need of {flow.to} takes it")
+        """Flows to one unit that it doesn't need, in a plan with needs; of many all in one hint."""
+        flows = [flow for flow in self.tables.flows if self.tables.needs and flow.to not in self.used | {"all"}
+                 and not any(need.is_met_by(flow) for need in self.tables.needs)]
+        if len(flows) > UNTAKEN_MOST:
+            numbers = ", ".join(str(flow.number) for flow in flows)
+            yield self.at(flows[0].place, "to", f"{len(flows)} flows go to one unit each, and no need takes them: flows {numbers}")
+            return
+        for flow in flows:
+            yield self.of_flow(flow, "to", f"no need of {flow.to} takes it")
 
     def met_twice(self) -> Iterator[Hint]:
         """Needs that two senders meet."""

@@ -45,5 +45,5 @@ def why_old(flow: Flow, within: int) -> str:
         lost = [key for key, number in (("period", flow.period), ("pause", flow.pause)) if number is None]
         return f"has no {' and no '.join(lost)}"
     if flow.pause >= within:
-        return f"has a pause of {flow.pause} ms alone"
+        return f"has a pause of {flow.pause} ms, already as long as that"
     return f"has a pause of {flow.pause} ms and its delay, which load shows"

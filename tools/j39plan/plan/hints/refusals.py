@@ -7,16 +7,19 @@ from decimal import Decimal
 from fractions import Fraction
 from math import lcm
 
-from j39plan.plan.hints.groups import of_identifier
+from j39plan.plan.hints.groups import BITS_MOST, of_identifier
 from j39plan.plan.hints.text_faults import Told, text_fault
 from j39plan.plan.hints.wanted import is_known, listed, rule_of, tables_with, wanted
 from j39plan.plan.parts import Source
-from j39plan.plan.schema import ABSENT, VERSIONS, most_of, schema, since
+from j39plan.plan.schema import ABSENT, VERSIONS, arrays, most_of, schema, since
 from j39plan.plan.text import as_label
 from j39plan.plan.toml_places import Place, place_of, table_of
 
 # How TOML spells numbers with a point or a power of ten that aren't too long to be meant.
 DECIMAL = re.compile(r"[+-]?[0-9_]{1,20}(?:\.[0-9_]{1,20})?(?:[eE][+-]?[0-9]{1,2})?")
+
+# The tables by which a file is one of a vehicle, and not of a plan.
+OF_VEHICLES = ("bus", "gateway", "forward")
 
 # The keys that a trouble code can't have but with their defaults.
 SCALE = ("step", "per", "offset", "unit")
@@ -34,7 +37,17 @@ MEANT = {
     "request": {"sender": "from", "receiver": "to"},
     "group": {"id": "pgn", "name": "label", "size": "length", "dlc": "length", "bytes": "length"},
     "unit": {"sa": "address", "source": "address", "source_address": "address"},
+    "name": {**dict.fromkeys(("serial", "serial_number", "identity_number"), "identity"), "manufacturer_code": "manufacturer", "ecu_instance": "ecu",
+             **dict.fromkeys(("aac", "arbitrary_address", "arbitrary_address_capable"), "arbitrary"), "vehicle_system": "system",
+             "vehicle_system_instance": "system_instance", "industry_group": "industry"},
+    "timing": dict.fromkeys(("baudrate", "baud", "speed"), "bitrate"),
 }
+
+# The keys that are times in ms.
+TIMES = ("period", "deadline", "jitter", "pause", "within", "every")
+
+# Words that are taken for all units.
+EVERYBODY = ("", "*", "255", "global", "broadcast", "any", "everybody")
 
 
 def likely(word: str, words: Iterable[str]) -> str:
@@ -79,6 +92,8 @@ def key_meant(plan: Source, place: Place, key: str) -> str:
     if hint := header_meant(plan, place, key) or likely(key, listed(plan, place)):
         return hint
     tables = tables_with(key)
+    if place and not tables and key in listed(plan, ()):
+        return " belongs to the top: write it above the first ["
     return f" belongs to {' or '.join(tables)}" if tables else " isn't listed"
 
 
@@ -91,6 +106,8 @@ def unknown_key(plan: Source, place: Place) -> Told:
 
 def unlisted_key(plan: Source, place: Place, key: str) -> Told:
     """Line and hint of a key that isn't listed, or not by the plan's version."""
+    if not place and key in OF_VEHICLES and not any((array,) in plan.places.lines for array in arrays()):
+        return plan.line((key,)), "this is the file of a vehicle: j39plan vehicle takes it, and of the tools where, report and against"
     if first := since().get((table_of(place) or None, key)):
         if plan.places.number(("version",)) not in VERSIONS:
             return version_fault(plan)
@@ -155,18 +172,78 @@ def wrong_name(plan: Source, values: Place) -> str:
     return ""
 
 
+def wrong_number(plan: Source, signal: Place) -> str:
+    """A hint at the first raw number with a name that is none, or that the bits don't hold."""
+    values = signal + ("values",)
+    for number in plan.places.keys(values):
+        if not number.isdecimal():
+            raw = plan.places.spelled.get(values + (number,), "")
+            return f'; the number stands in front: {raw} = "{number}"' if raw.isdecimal() else f"; {number} is no decimal number"
+        if number != str(int(number)):
+            return f"; a number has no 0 in front: {int(number)}"
+        bits = plan.places.number(signal + ("bits",)) or BITS_MOST
+        if int(number) >= 1 << min(bits, BITS_MOST):
+            return f"; {number} isn't held by {bits} bits"
+    return ""
+
+
+def in_ascii(text: str, key: str) -> str:
+    """A hint at a label or a unit of measurement with other characters than these have."""
+    meant = as_label(text) if key == "label" else text.replace("°", "deg").replace("µ", "u").replace("²", "2")
+    return f'; "{meant}" is one' if meant != text and meant.isascii() and text else ""
+
+
+def other_type(plan: Source, place: Place, key: str) -> str:
+    """A hint at a number that is written as a text or with a point, and at a label that is written as a number or as several."""
+    spelled, text = plan.places.spelled.get(place + (key,), ""), plan.places.texts.get(place + (key,))
+    if rule_of(plan, place, key).get("type") == "integer" and text is not None:
+        is_hex = not text.isdecimal() and re.fullmatch(r"(?:0[xX])?[0-9A-Fa-f]{1,8}[hH]?", text)
+        meant = text if text.isdecimal() else f"0x{text.removeprefix('0x').removeprefix('0X').rstrip('hH').upper()}" if is_hex else ""
+        return f"; without quotation marks: {meant}" if meant else ""
+    number = number_at(plan, place + (key,), 0)
+    if number is not None and not text and "." in spelled:
+        in_ms = f"; in whole ms, as {int(1000 * number)} for {spelled} s" if key in TIMES and (1000 * number).denominator == 1 else ""
+        return f"; without a point: {number}" if number.denominator == 1 else in_ms
+    if key in ("from", "to", "unit") and spelled.startswith("["):
+        return f"; one {table_of(place)} for each"
+    if key in ("from", "to", "unit") and number is not None:
+        return who_has(plan, number)
+    return spn_meant(plan, place, spelled) if key == "signal" else ""
+
+
+def who_has(plan: Source, address: Fraction) -> str:
+    """A hint at the unit that has an address."""
+    if address == 255:
+        return "; did you mean all?"
+    found = [plan.places.texts.get(unit + ("label",), "") for unit in plan.places.elements(("unit",)) if plan.places.number(unit + ("address",)) == address]
+    return f"; {found[0]} has address {address}" if found else ""
+
+
+def spn_meant(plan: Source, need: Place, spn: str) -> str:
+    """A hint at the signal of a need's group that has a number."""
+    group = plan.labelled(("group",), plan.places.texts.get(need + ("group",), ""))
+    for signal in plan.places.elements(group + ("signal",)):
+        if spn.isdecimal() and plan.places.number(signal + ("spn",)) == int(spn):
+            return f"; {plan.places.texts.get(signal + ('label',), '')} has spn {spn}"
+    return ""
+
+
 def value_hint(plan: Source, place: Place, key: str, cause: str) -> str:
     """A hint at the value that may have been meant."""
     words = [word for word in rule_of(plan, place, key).get("enum", []) if isinstance(word, str) and is_known(plan, word)]
     if words:
         return likely(plan.places.texts.get(place + (key,), ""), words)
     if key == "values":
-        return wrong_name(plan, place + (key,))
-    if key == "pgn":
+        return wrong_number(plan, place) or wrong_name(plan, place + (key,))
+    if key == "pgn" and cause != "WrongType":
         return of_identifier(plan.places.number(place + (key,)) or 0)
-    if cause != "WrongType" or key not in ("step", "offset", "per"):
+    if key in ("label", "unit") and place + (key,) in plan.places.texts:
+        return in_ascii(plan.places.texts[place + (key,)], key)
+    if cause != "WrongType":
         return ""
-    return whole_divisor(plan, place) if key == "per" else whole_scale(plan, place)
+    if key in ("step", "offset", "per"):
+        return whole_divisor(plan, place) if key == "per" else whole_scale(plan, place)
+    return other_type(plan, place, key)
 
 
 def value_fault(plan: Source, place: Place, key: str, cause: str) -> Told:
@@ -206,11 +283,12 @@ def label_fault(plan: Source, place: Place, key: str, cause: str) -> Told:
         if plan.labelled(texts, label) != texts:
             return plan.line(place + (key,)), f"key {key}: {label} is a text: leave signal out"
         others = [other for array, other in plan.labels if array == plan.labelled(("group",), group) + ("signal",)]
-        hint = f"key {key}: no signal of {group} is called {label}{likely(label, others)}"
+        hint = f"key {key}: no signal of {group} is called {label}{spn_meant(plan, place, label) or likely(label, others)}"
     else:
         kind = "group" if key == "group" else "unit"
         others = [other for array, other in plan.labels if array == (kind,)] + ["all"] * (key == "to")
-        hint = f"key {key}: no {kind} is called {label}{likely(label, others)}"
+        meant = "; did you mean all?" if key == "to" and label.lower() in EVERYBODY else likely(label, others)
+        hint = f"key {key}: no {kind} is called {label or 'so'}{meant}"
     return plan.line(place + (key,)), hint
 
 

@@ -24,6 +24,20 @@ TRUTHS = {"true": "true", "yes": "true", "on": "true", "false": "false", "no": "
 TWICE = ("Cannot overwrite a value", "Cannot declare", "Cannot mutate")
 BEHIND = "Expected newline or end of document after a statement"
 
+# What else it says, and the same in words of who writes a plan.
+SAID = (
+    ("Unescaped '\\'", r"\ in a text: write \\, or the text between ' and '"), ("Expected ']]' at the end of an array declaration", "[[ is closed by ]]"),
+    ("Expected ']' at the end of a table declaration", "[ is closed by ]"), ("Invalid initial character for a key part", "a key is letters, digits, _ and -"),
+    ("Invalid statement", "neither key = value nor a header in [ ]"),
+)
+
+# What begins a comment in other languages, behind a value; the marks of a merge that isn't finished.
+COMMENT = re.compile(r"\s*(;|--|//)")
+MERGE = re.compile(r"<{7}|={7}|>{7}|\|{7}")
+
+# A text on one line.
+ON_ONE_LINE = re.compile(r"""\"(?:\\.|[^"\\])*"|'[^']*'""")
+
 # So much of a value is shown.
 SHOWN = 50
 
@@ -163,6 +177,8 @@ def repeated_table(statement: Statement) -> Told | None:
         return None
     name, above = header.group(1), HEADER.search(statement.text.split("\n")[first - 1])
     was_list, is_list = (found is not None and found.group().startswith("[[") for found in (above, header))
+    if above is not None and above.group(1).startswith(f"{name}."):
+        return first, f"[[{above.group(1)}]] belongs below a [[{name}]], and the first one is at line {line}"
     if is_list == was_list:
         return line, f"[{name}] stands at line {first} too"
     if was_list:
@@ -195,9 +211,28 @@ def said_by_reader(statement: Statement, line: int, said: str) -> Told:
     if said.startswith("Expected '=' after a key"):
         return line, "a key and its value have = between them"
     if at and said.startswith(("Invalid value", BEHIND)):
+        if mark := COMMENT.match(statement.text.split("\n")[line - 1], int(at.group(1)) - 1):
+            return line, f"a comment begins with #, and not with {mark.group(1)}"
         value = value_at(statement, line, int(at.group(1)))
         return line, value and value_hint(*value) or ("after a value the line ends" if said.startswith(BEHIND) else said)
-    return line, said
+    if MERGE.match(statement.text.split("\n")[line - 1]):
+        return line, "a merge of two versions that isn't finished: keep one of them, without these marks"
+    if said.startswith("Invalid statement") and statement.text.split("\n")[line - 1].lstrip().startswith("{"):
+        return line, "this is JSON, and a plan is TOML: version = 4, [[unit]] and so on"
+    return line, next((words for begin, words in SAID if said.startswith(begin)), said)
+
+
+def missing_comma(statement: Statement) -> Told | None:
+    """A line of an inline table over several lines that lacks a comma at its end."""
+    first, above = statement.line(statement.start), ""
+    at = first
+    for number, line in enumerate(statement.text[statement.start:statement.end].split("\n"), first):
+        code = ON_ONE_LINE.sub("''", line).partition("#")[0].strip()
+        if above and PAIR.match(code) and not above.endswith((",", "{", "[")):
+            return at, "a comma is missing at the end of this line"
+        if code:
+            at, above = number, code
+    return None
 
 
 def is_beyond_64_bits(spelled: str) -> bool:
@@ -224,7 +259,7 @@ def statement_fault(statement: Statement) -> Told:
     for place, spelled in places.spelled.items():
         if first <= places.line(place) <= last and is_beyond_64_bits(spelled):
             return places.line(place), "an integer beyond 64 bits"
-    return first, None
+    return missing_comma(statement) or (first, None)
 
 
 def text_fault(places: Places, data: bytes) -> Told:

@@ -118,10 +118,23 @@ def too_late(ways: Ways, forward: Forward, queued: int | None) -> Hint:
     return "group", f"when {shown(forward.heard.bus, heard)} ends isn't known: load of its plan shows no bound, or the plan has no timing"
 
 
+def unbounded(ways: Ways, forward: Forward, bus: str, heard: Flow) -> str:
+    """Why it isn't known when a flow comes that a forward sends on, maybe over others."""
+    without = next((one for one in ways.feeding(bus, heard) if one.is_direct and not ways.inputs(one)), None)
+    if without is not None:
+        return f"forward {without.number} at line {ways.vehicle.source.line(without.place)}, which feeds {shown(bus, heard)} has no input"
+    slow = next((one for one in dict.fromkeys((forward.heard.bus, bus)) if ways.vehicle.on(one).timing is None), None)
+    if slow is not None:
+        return f"the plan of bus {slow} has no timing"
+    return f"load of bus {bus} shows no bound for {shown(bus, heard)[:-1]}"
+
+
 def too_rare(ways: Ways, forward: Forward) -> str:
     """Why a flow that is sent on directly is silent for longer than its plan says."""
     sent = ways.outputs(forward)[0]
     bus, heard = ways.handed_on(forward.heard.bus, ways.inputs(forward)[0])
+    if sent.pause is not None and heard.pause is not None and heard.pause <= sent.pause:
+        return f"{shown(forward.sent.bus, sent)} isn't shown to keep its pause of {sent.pause} ms: {unbounded(ways, forward, bus, heard)}"
     return (f"{shown(forward.sent.bus, sent)} has {pace(sent, 'pause')}, and what it sends on, {shown(bus, heard)} has {pace(heard, 'pause')}: "
             "give the first no smaller one, or none")
 

@@ -1,14 +1,15 @@
 """Hints at a vehicle's file that the program refuses: the line of the fault, and what is wrong there."""
 
+import contextlib
 import re
 from collections.abc import Iterable, Iterator
 
-from j39plan.plan.hints.refusals import likely
+from j39plan.plan.hints.refusals import OF_VEHICLES, likely
 from j39plan.plan.hints.text_faults import Told, text_fault
 from j39plan.plan.parts import Source
 from j39plan.plan.toml_places import Place, place_of, table_of
-from j39plan.vehicle.files import Vehicle
-from j39plan.vehicle.format import listed, tables_with, wanted
+from j39plan.vehicle.files import Vehicle, plan_file, read
+from j39plan.vehicle.format import OF_PLANS, listed, tables_with, wanted
 from j39plan.vehicle.tables import OnBus, VehicleTables
 
 NAME = re.compile(r"[A-Za-z0-9_]{1,32}\.[A-Za-z0-9_]{1,32}")
@@ -28,6 +29,8 @@ MEANT = {
 def unlisted_key(source: Source, place: Place, key: str) -> Told:
     """Line and hint of a key that isn't listed."""
     table = table_of(place)
+    if not place and key in OF_PLANS and not any((array,) in source.places.lines for array in OF_VEHICLES):
+        return source.line((key,)), "this is the plan of a bus: j39plan check takes it"
     meant, tables = MEANT.get(table, {}).get(key.lower()), tables_with(key)
     if meant:
         hint = f" isn't listed: {meant}"
@@ -68,7 +71,19 @@ def unit_fault(source: Source, gateway: Place, cause: str) -> Told:
     return source.line(gateway + ("unit",)), f"key unit: {wanted('gateway', 'unit')}"
 
 
-def value_fault(source: Source, place: Place, key: str, cause: str) -> Told:
+def on_bus(source: Source, name: str, key: str, text: str) -> str:
+    """A hint at the group or the unit that is named without its bus, of a file by whose name its plans are found."""
+    found = []
+    for bus in source.places.elements(("bus",)) if key in ("group", "as", "unit", "from") and text and "." not in text else ():
+        label, plan = (source.places.texts.get((*bus, part), "") for part in ("label", "plan"))
+        with contextlib.suppress(OSError):
+            tables = read(plan_file(name, plan)).places
+            array = "unit" if key in ("unit", "from") else "group"
+            found += [f"{label}.{text}" for other in tables.elements((array,)) if tables.texts.get((*other, "label")) == text]
+    return f"; did you mean {' or '.join(found)}?" if found else ""
+
+
+def value_fault(source: Source, place: Place, key: str, cause: str, name: str = "") -> Told:
     """Line and hint of a key whose value is refused."""
     table = table_of(place)
     if cause == "TooMany":
@@ -78,7 +93,8 @@ def value_fault(source: Source, place: Place, key: str, cause: str) -> Told:
         return unit_fault(source, place, cause)
     spelled = source.places.spelled.get(place + (key,), "")
     shown = f"{key} = {spelled}" if 0 < len(spelled) < 50 and "\n" not in spelled else f"key {key}"
-    meant = likely(source.places.texts.get(place + (key,), ""), listed(table)[key].get("enum", []))
+    text = source.places.texts.get(place + (key,), "")
+    meant = likely(text, listed(table)[key].get("enum", [])) or on_bus(source, name, key, text)
     return source.line(place + (key,)), f"{shown}: {wanted(table, key)}{meant}"
 
 
@@ -113,6 +129,8 @@ class Unknown:
         """Line and hint of a label of a table that names nothing."""
         if place[0] == "gateway":
             return self._gateway(place)
+        if place[0] == "forward" and key in ("at", "by") and (told := self._unknown_unit(place)):
+            return told
         known = {"forward": self._forward, "need": self._need}[str(place[0])]
         return self._vehicle.source.line(place + (key,)), f"key {key}: {known(place, key)}"
 
@@ -139,6 +157,14 @@ class Unknown:
                 if why := known(unit):
                     return self._vehicle.source.line(place + ("unit", number)), f"key unit: {why}"
         return self._vehicle.source.line(place), None
+
+    def _unknown_unit(self, forward: Place) -> Told | None:
+        """A unit that the gateway of a forward names, and that isn't on its bus: for want of it the forward may name none."""
+        gateways = [gateway for gateway in self._tables.gateways if gateway.label == self._tables.forwards[int(forward[1]) - 1].gateway]
+        for gateway in gateways:
+            if any(self._bus(unit) or self._unit(unit) for unit in gateway.units):
+                return self._gateway(gateway.place)
+        return None
 
     def _forward(self, place: Place, key: str) -> str | None:
         forward = self._tables.forwards[int(place[1]) - 1]
@@ -177,7 +203,9 @@ class Unknown:
         need = self._tables.needs[int(place[1]) - 1]
         if key in ("unit", "from"):
             return self._unit(need.unit if key == "unit" else need.sender)
-        group = OnBus(need.unit.bus, need.group)
+        group = OnBus(need.unit.bus, need.group.rpartition(".")[2])
+        if "." in need.group and key == "group":
+            return self._group(group) or f"{need.group} is {group.label} here: the unit names the bus"
         return self._group(group) if key == "group" else self._in_group(group, need.signal)
 
 
@@ -198,4 +226,4 @@ def refusal(source: Source, name: str, data: bytes, line: str) -> Told:
         return repeated(source, place, key)
     if cause == "UnknownLabel":
         return Unknown(Vehicle(source, name)).hint(place, key)
-    return value_fault(source, place, key, cause)
+    return value_fault(source, place, key, cause, name)
