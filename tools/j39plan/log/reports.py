@@ -168,15 +168,15 @@ class Counts:
             has = f"has {self.frames} of its {self.frames + self.elsewhere} lines"
             raise program.Refused(program.UNREADABLE, f"{log.names[0]} begins with {first}, which {has}: choose one, as --interface {others[0]}")
 
-    def say(self, log: Log) -> None:
-        """Says on standard error what wasn't read, and why this interface is."""
-        for text in self.told(log):
+    def say(self, log: Log, unread: int | None = None) -> None:
+        """Says on standard error what wasn't read, a line of it if one is known, and why this interface is."""
+        for text in self.told(log, unread):
             program.say(text)
 
-    def told(self, log: Log | None = None) -> Iterator[str]:
+    def told(self, log: Log | None = None, unread: int | None = None) -> Iterator[str]:
         """What wasn't read."""
         if self.bad:
-            yield f"{self.bad} lines spell no frame"
+            yield f"{self.bad} lines spell no frame" + (", as {}:{}".format(*log.place(unread)) if log and unread else "")
         if self.elsewhere:
             first, others = log.interfaces() if log else ("", [])
             why = ", as asked for" if log and log.interface else ", the first of the log" if first else ""
