@@ -9,21 +9,23 @@ import argparse
 import json
 import math
 import sys
-from collections.abc import Iterable, Iterator
+from collections.abc import Iterator
 from typing import Any
 
 from j39plan import program
 from j39plan.log.checks.comparison import Comparison, Settings
-from j39plan.log.checks.deviations import Deviation, Found, Place, lines_of, place_text, row_of, spelled_event
+from j39plan.log.checks.deviations import Deviation, Found, Place, place_text, row_of, spelled_event
+from j39plan.log.checks.deviations import lines_of as lines_of_deviation
 from j39plan.log.checks.distances import SILENCE, Distances, Rule, Tolerance
 from j39plan.log.checks.feed import Feed
 from j39plan.log.checks.meter import Meter
+from j39plan.log.checks.reader import Reader
 from j39plan.log.checks.summary import requests_of, summary_tables, units_of
 from j39plan.log.checks.unplanned import bounds_of
 from j39plan.log.checks.watch import watched
 from j39plan.log.clock import SECOND, ends_of, nanoseconds
 from j39plan.log.files import Log, interface_option, named
-from j39plan.log.reports import Counts, Report, follow, tables_of
+from j39plan.log.reports import Counts, lines_of, tables_of
 from j39plan.log.serial_numbers import by_kind
 from j39plan.plan.cut import bare
 from j39plan.plan.files import opened
@@ -110,7 +112,7 @@ class Output:
         if self._is_json:
             yield json.dumps(row_of(found, self._log.place), ensure_ascii=False)
         else:
-            yield from lines_of(found, self._place)
+            yield from lines_of_deviation(found, self._place)
 
     def _place(self, place: Place) -> str:
         """A place, as it stands before a text."""
@@ -143,21 +145,20 @@ def summary_of(log: Log, meter: Meter, comparison: Comparison) -> dict[str, Any]
     return {key: value for key, value in row.items() if value is not None}
 
 
-def compare_all(comparison: Comparison, feed: Feed, reports: Iterable[Report]) -> None:
-    """Compares the reports of a log."""
-    for report in reports:
-        for noted in feed.unheard(report.line):
-            comparison.unheard(noted)
-        comparison.report(report, feed.beside(report.line))
+def compare_all(reader: Reader, _: Comparison, lines: Iterator[str]) -> None:
+    """Compares what `follow` writes of a log."""
+    take = reader.take
+    for line in lines:
+        take(line, lines)
 
 
-def compare_live(comparison: Comparison, feed: Feed, reports: Iterable[Report]) -> None:
-    """Compares the reports of a log that is still to come, as the clock goes by."""
+def compare_live(reader: Reader, comparison: Comparison, lines: Iterator[str]) -> None:
+    """Compares what `follow` writes of a log that is still to come, as the clock goes by."""
     with watched(comparison) as watch:
-        for report in reports:
+        for line in lines:
             watch.came()
             with watch.lock:
-                compare_all(comparison, feed, [report])
+                reader.take(line, lines)
 
 
 def compared(given: argparse.Namespace) -> int:
@@ -172,7 +173,7 @@ def compared(given: argparse.Namespace) -> int:
         if given.live:
             comparison.watches()
         with bare(known, tables) as (shorter, parts):
-            compare(comparison, feed, follow(shorter, log, parts, counts, feed.pieces, given.live))
+            compare(Reader(comparison, feed, parts, counts), comparison, lines_of(shorter, log, counts, feed.pieces, given.live))
         for noted in feed.unheard(math.inf):
             comparison.unheard(noted)
     counts.bad -= comparison.damage.frames + comparison.odd

@@ -386,17 +386,19 @@ class Comparison:
 
     def looks_at_time(self, line: int, at: int) -> None:
         """Time goes by. Where the clock was set, nothing at all came, or the interface was off, what is measured begins anew."""
-        if self.clock.is_set or self.clock.is_back:
+        last, clock = self._at, self.clock
+        if clock.is_set or clock.is_back:
             self.hands.anew(line)
             self.anew(line, at)
         elif self.damage.is_off:
             self.damage.is_off = False
             self.anew(line, at)
-        elif self._at is not None and at - self._at > self._gap and self.distances.alive(self._at) > 1:
-            self.hands.stood_still(line, at, at - self._at)
+        elif last is not None and at - last > self._gap and self.distances.alive(last) > 1:
+            self.hands.stood_still(line, at, at - last)
             self.anew(line, at)
         self._at, self._line = at, line
-        self.goes_by(at)
+        if self._is_watched or self.transfers.waits or self.transfers.refused or self.claims.open or self.hands.ignition.gap:
+            self.goes_by(at)
 
     def watches(self) -> None:
         """From here on what is due is told as soon as it is, by the times of the log, and by `waits`."""

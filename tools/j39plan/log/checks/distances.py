@@ -168,15 +168,23 @@ class Distances:
         if limits is None and self._usual is None:
             return
         before, track.line, track.at, track.waited = track.waited, line, at, waited
-        if number in self._overdue:
+        if self._overdue and number in self._overdue:
             self._comes_again(track, last)
         if last is None:
             self._begins(track, line, at)
             self._is_due(track)
         elif self._usual is not None or limits is None or not limits.least <= at - last <= limits.most:
             self._compare(track, line, at, last, before)
-        if track.often and (last is None or at >= last):
-            self._in_a_row(track, line, at, waited)
+        often = track.often
+        if often is None or last is not None and at < last:
+            return
+        mean = often.came(at, at - waited, 0)
+        if mean is not None:
+            self._tell_row("near", track, self._planned(track.flow), line, at, mean)
+        if track.seldom is not None:
+            mean = track.seldom.came(-at, -at, waited)
+            if mean is not None:
+                self._tell_row("silent", track, self._why(track), line, at, mean)
 
     def touched(self, unit: str, pgns: Mapping[str, int], pgn: int, line: int, at: int | None) -> None:
         """A second box of a unit sends a group: distances of its flows begin anew with that, as far as the group tells which ones."""
@@ -245,17 +253,14 @@ class Distances:
         """What the plan has of how often a flow is sent."""
         return f"its period is {flow.period} ms" + (f" and its jitter {flow.jitter} ms" if flow.jitter else "")
 
-    def _in_a_row(self, track: Track, line: int, at: int, waited: int) -> None:
-        """A message beside all those before it in a row, each of which a wait explains by itself."""
-        assert track.often is not None and track.limits is not None
-        mean = track.often.came(at, at - waited, 0)
-        if mean is not None:
-            text = f"{{}} ms apart in the mean of several in a row, {self._planned(track.flow)}: no wait explains all"
-            self._tell("near", track, text, line, at, mean)
-        mean = track.seldom.came(-at, -at, waited) if track.seldom else None
-        if mean is not None:
-            text = f"{{}} ms apart in the mean of several in a row, {track.limits.why}: no wait explains all"
-            self._tell("silent", track, text, line, at, mean)
+    @staticmethod
+    def _why(track: Track) -> str:
+        """What the plan has of how long a flow may be silent."""
+        return track.limits.why if track.limits else ""
+
+    def _tell_row(self, kind: str, track: Track, planned: str, line: int, at: int, mean: int) -> None:
+        """Messages in a row come too often, or too seldom, though a wait explains each one by itself."""
+        self._tell(kind, track, f"{{}} ms apart in the mean of several in a row, {planned}: no wait explains all", line, at, mean)
 
     def _tell(self, kind: str, track: Track, text: str, line: int, at: int, value: int) -> None:
         """A deviation of a flow."""

@@ -67,6 +67,7 @@ class Feed:
         self._plain: set[bytes] = set()  # identifiers of frames of which nothing is noted
         self._unheard: deque[Noted] = deque()  # of which `follow` says nothing
         self._beside: deque[Noted] = deque()  # of which it says something else
+        self.noted = self._unheard, self._beside
         self._interface: bytes | None = None
         self._last = b""
         self.unread: int | None = None  # a line that spells no frame, the first that was seen

@@ -207,7 +207,7 @@ class Hands:
             self._takes(line, at, who, before, is_defence)
         self._stale.discard(-1 if address is None else address)
         self._is_displaced(box, who)
-        self._is_heard(line, at, key, box, address)
+        self.is_heard(line, at, key, box, address)
         self._told[box] = address
         self._units_told.add(key)
         if at is not None:
@@ -219,7 +219,7 @@ class Hands:
         unit = self._units.get(who.label or "")
         return who if unit is None else who._replace(name=f"{unit.number | (identity or 0):016X}")
 
-    def _is_heard(self, line: int, at: int | None, key: Key, box: Box, address: int | None) -> None:
+    def is_heard(self, line: int, at: int | None, key: Key, box: Box, address: int | None) -> None:
         """Somebody is heard, at an address, None of one that could claim none."""
         self.last[key] = self._heard[box] = line, at, address
         if key not in self.first:
@@ -383,12 +383,24 @@ class Hands:
         left = self._left.get(who.address) if who.address is not None and not who.label and not who.name else None
         return None if left is None or at is not None and left.at is not None and 0 <= at - left.at < CONTEST else left.who
 
+    def source_of(self, who: Who) -> tuple[Key, Box]:
+        """Who sends something, and which box it is, as claims have it now."""
+        holder, key = self._holders.get(who.address) if who.address is not None else None, key_of(who)
+        return key, box_of(holder if holder is not None and key_of(holder) == key else who)
+
+    def is_named(self, who: Who) -> bool:
+        """Whether who sends is known by a claim, or by the plan alone, and not by a contest."""
+        return not who.is_guess or who.address not in self._holders
+
+    @property
+    def is_settled(self) -> bool:
+        """Whether it is known of all claims what comes of them."""
+        return not self._fresh
+
     def sends(self, line: int, at: int | None, who: Who) -> None:
         """Somebody sends something that is no claim."""
-        holder = self._holders.get(who.address) if who.address is not None else None
-        if not who.is_guess or holder is None:  # else only the contest tells who it is
-            key = key_of(who)
-            self._is_heard(line, at, key, box_of(holder if holder is not None and key_of(holder) == key else who), who.address)
+        if self.is_named(who):  # else only the contest tells who it is
+            self.is_heard(line, at, *self.source_of(who), who.address)
         if self._fresh and at is not None:
             self._pass(at)
             self._is_early(line, at, who)
